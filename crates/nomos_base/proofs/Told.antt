@@ -1,0 +1,71 @@
+-- Laws of the bytes that a source or a sink tells.
+use Rattle.std.proofs.Common.{◌≡◌, ℕ, ◌+◌, ◌-◌, ◌<◌, ◌≤◌, length-drop, length, length-append, arith, List, [], ◌∷◌, ◌++◌, take, drop, Option, Some, None, refl, sym, ◌∙◌, ap, append_assoc, append-nil}
+use Rattle.std.proofs.Math.Seq.{take-add}
+use Rattle.std.proofs.lemmas.List.{take_all, take-append-drop, drop-drop}
+use Rattle.nomos_base.specs.Source.{with_front, GetsFront, TakesFront, TakesMoreThan}
+use Rattle.nomos_base.specs.Reading.{PassesLimit}
+use Rattle.nomos_base.specs.Sink.{with_end, Appends}
+
+-- nothing behind what is written
+pub with_end-nothing : (written : Option (List ℕ)) → with_end written [] ≡ written
+with_end-nothing None = refl
+with_end-nothing (Some xs) = ap (λ (ys : List ℕ). Some ys) (append-nil xs)
+
+-- two pieces that were written, one behind the other, are one
+pub with_end-append : (written : Option (List ℕ)) (a b : List ℕ) → with_end (with_end written a) b ≡ with_end written (a ++ b)
+with_end-append None a b = refl
+with_end-append (Some xs) a b = ap (λ (ys : List ℕ). Some ys) (append_assoc xs a b)
+
+-- the first bytes, and behind them the next ones
+pub with_end-take : (written : Option (List ℕ)) (xs : List ℕ) (done count : ℕ) → with_end (with_end written (take done xs)) (take count (drop done xs)) ≡ with_end written (take (done + count) xs)
+with_end-take written xs done count =
+    with_end-append written (take done xs) (take count (drop done xs)) ∙ ap (λ (ys : List ℕ). with_end written ys) (sym (take-add done count xs))
+
+-- the first bytes were written, and then some of the others
+pub record WrittenTo (done : ℕ) (bytes : List ℕ) (start now : Option (List ℕ)) : Type 0 where
+  pub in_range : done ≤ length bytes
+  pub written : now ≡ with_end start (take done bytes)
+
+-- a write of the bytes behind the first ones
+pub WrittenTo-next : (bytes : List ℕ) (done count : ℕ) (start before now : Option (List ℕ)) → WrittenTo done bytes start before → Appends count (take (length bytes - done) (drop done bytes)) before now → WrittenTo (done + count) bytes start now
+WrittenTo-next bytes done count start before now so_far next =
+    let all : take (length bytes - done) (drop done bytes) ≡ drop done bytes = take_all (length bytes - done) (drop done bytes) (omega (arith, length-drop done bytes)) in
+    let fits : count ≤ length (drop done bytes) = rw all at next.fits in
+    let behind : now ≡ with_end before (take count (drop done bytes)) = rw all at next.behind in
+    record {
+      in_range = omega (arith, length-drop done bytes, so_far.in_range);
+      written = rw (behind, so_far.written) (with_end-take start bytes done count)
+    }
+
+-- nothing before what is left
+pub with_front-nothing : (left : Option (List ℕ)) → with_front [] left ≡ left
+with_front-nothing None = refl
+with_front-nothing (Some xs) = refl
+
+-- two pieces that were taken, one behind the other, are one
+pub with_front-append : (a b : List ℕ) (left : Option (List ℕ)) → with_front a (with_front b left) ≡ with_front (a ++ b) left
+with_front-append a b None = refl
+with_front-append a b (Some xs) = ap (λ (ys : List ℕ). Some ys) (sym (append_assoc a b xs))
+
+-- a front that was taken, and then another one
+pub TakesFront-behind : (bytes : List ℕ) (before mid now : Option (List ℕ)) → before ≡ with_front bytes mid → TakesFront mid now → TakesFront before now
+TakesFront-behind bytes before mid now first second =
+    let next : mid ≡ with_front second.0 now = second.1 in
+    (bytes ++ second.0, rw (first, next) (with_front-append bytes second.0 now))
+
+-- a front that was taken, and then a piece with which it passes the limit
+pub TakesMoreThan-behind : (limit : ℕ) (bytes : List ℕ) (before mid now : Option (List ℕ)) → before ≡ with_front bytes mid → PassesLimit limit bytes mid now → TakesMoreThan limit before now
+TakesMoreThan-behind limit bytes before mid now first second =
+    let next : mid ≡ with_front second.piece now = second.taken in
+    (bytes ++ second.piece, rw (length-append bytes second.piece) second.passed, rw (first, next) (with_front-append bytes second.piece now))
+
+-- bytes that were copied from the front of what is left
+pub GetsFront-copied : (bytes buffer : List ℕ) (taken count : ℕ) → 0 < count → count ≤ length buffer → take count buffer ≡ take count (drop taken bytes) → GetsFront count buffer (Some (drop taken bytes)) (Some (drop (taken + count) bytes))
+GetsFront-copied bytes buffer taken count some fits copied =
+    let front : drop taken bytes ≡ take count buffer ++ drop (taken + count) bytes = rw (copied, ← drop-drop count taken bytes) (sym (take-append-drop count (drop taken bytes))) in
+    record { some = some; fits = fits; front = ap (λ (ys : List ℕ). Some ys) front }
+
+-- the first bytes were appended
+pub Appends-copied : (bytes before now : List ℕ) (count : ℕ) → 0 < count → count ≤ length bytes → now ≡ before ++ take count bytes → Appends count bytes (Some before) (Some now)
+Appends-copied bytes before now count some fits appended =
+    record { some = some; fits = fits; behind = ap (λ (ys : List ℕ). Some ys) appended }
