@@ -1,5 +1,5 @@
 -- Laws of the bytes that a source or a sink tells.
-use Rattle.std.proofs.Common.{◌≡◌, ℕ, ◌+◌, ◌-◌, ◌<◌, ◌≤◌, length-drop, length, length-append, arith, List, [], ◌∷◌, ◌++◌, take, drop, Option, Some, None, refl, sym, ◌∙◌, ap, append_assoc, append-nil}
+use Rattle.std.proofs.Common.{◌≡◌, ℕ, ◌+◌, ◌-◌, ◌<◌, ◌≤◌, length-drop, length, length-append, arith, List, [], ◌++◌, take, drop, Option, Some, None, refl, sym, ◌∙◌, ap, append_assoc, append-nil}
 use Rattle.std.proofs.Math.Seq.{take-add}
 use Rattle.std.proofs.lemmas.List.{take_all, take-append-drop, drop-drop}
 use Rattle.nomos_base.specs.Source.{with_front, GetsFront, TakesFront, TakesMoreThan}
@@ -34,7 +34,7 @@ WrittenTo-next bytes done count start before now so_far next =
     let behind : now ≡ with_end before (take count (drop done bytes)) = rw all at next.behind in
     record {
       in_range = omega (arith, length-drop done bytes, so_far.in_range);
-      written = rw (behind, so_far.written) (with_end-take start bytes done count)
+      written = rw (behind, so_far.written) (with_end-take start bytes done count);
     }
 
 -- nothing before what is left

@@ -1,5 +1,5 @@
 -- Sources and sinks over memory, with calls that are to fail.
-use Rattle.std.specs.Prelude.{ℕ, ◌-◌, ◌==◌, ◌||◌, ◌&&◌, nat_lt, nat_le, min, Bool, List, [], length, if◌then◌else◌}
+use Rattle.std.specs.Prelude.{ℕ, ◌-◌, ◌==◌, ◌||◌, ◌&&◌, nat_lt, nat_le, min, Bool, List, length, if◌then◌else◌}
 use Rattle.std.specs.List.{list_any}
 use Rattle.nomos_base.specs.Faults.{last_count, next_count}
 use Rattle.nomos_base.specs.declared.source.Got.{Got}
@@ -27,7 +27,7 @@ abbrev pub after_call : Plan → Bool → Plan
 after_call plan failed = record {
   calls = next_count plan.calls;
   failing = plan.failing;
-  faults = if failed then next_count plan.faults else plan.faults
+  faults = if failed then next_count plan.faults else plan.faults;
 }
 
 -- a source over memory: the bytes that are left, the most that one call gives, and which calls fail

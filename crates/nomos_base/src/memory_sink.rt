@@ -35,7 +35,12 @@ impl MemorySink {
     /// An empty sink with room for `room` bytes, which takes at most `piece` bytes in one call.
     /// `failing` has the numbers of the calls that fail; the first call has the number 1. The
     /// counter of calls stays at its last value, 2^64 - 1, and from then on no call fails by number.
-    pub fn new(alloc: Global, room: usize, piece: usize, failing: Vec<u64>) -> Result<Self, AllocError>
+    pub fn new(
+        alloc: Global,
+        room: usize,
+        piece: usize,
+        failing: Vec<u64>,
+    ) -> Result<Self, AllocError>
         requires { 0 < piece }
         ensures written { IfOk result (λ sink. sink.written ≡ []) }
         ensures room { IfOk result (λ sink. sink.room ≡ room) }
@@ -67,6 +72,7 @@ impl MemorySink {
 
 impl Sink for MemorySink {
     ghost written = { λ sink. Some sink.written };
+
     ghost faults = { λ sink. sink.plan.faults };
 
     fn write(&mut self, from: &[u8]) -> Put

@@ -63,6 +63,7 @@ impl MemorySource {
 
 impl Source for MemorySource {
     ghost left = { λ source. Some source.left };
+
     ghost faults = { λ source. source.plan.faults };
 
     fn read(&mut self, into: &mut [u8]) -> Got

@@ -22,6 +22,7 @@ pub enum ReadError {
 
 impl From<AllocError> for ReadError {
     ghost use Rattle.nomos_base.specs.declared.reading.ReadError.TheVariants.{NoMemory};
+
     ghost from_gives = { λ _ e. e ≡ NoMemory };
 
     fn from(_error: AllocError) -> ReadError {
@@ -35,7 +36,11 @@ const PIECE: usize = 4096;
 /// Reads all the bytes that are left, if they are no more than `limit`. It asks the source for at
 /// most one byte more than that, so that it can tell. Want of memory is the one answer for which no
 /// reason is given.
-pub fn read_all<S: Source>(alloc: Global, source: &mut S, limit: usize) -> Result<Vec<u8>, ReadError>
+pub fn read_all<S: Source>(
+    alloc: Global,
+    source: &mut S,
+    limit: usize,
+) -> Result<Vec<u8>, ReadError>
     ensures within { IfOk result (λ bytes. vec_len bytes ≤ limit) }
     ensures whole { IfOk result (λ bytes. TakesAll bytes.items (S.left source.old) (S.left source.new)) }
     ensures too_long { IsErrOf result ReadError.TooLong → TakesMoreThan limit (S.left source.old) (S.left source.new) }

@@ -59,6 +59,7 @@ impl SureSource {
 
 impl Source for SureSource {
     ghost left = { λ source. Some source };
+
     ghost faults = { λ _. 0 };
 
     fn read(&mut self, into: &mut [u8]) -> Got
@@ -89,6 +90,7 @@ pub struct SureSink;
 
 impl Sink for SureSink {
     ghost written = { λ _. None };
+
     ghost faults = { λ _. 0 };
 
     fn write(&mut self, from: &[u8]) -> Put {

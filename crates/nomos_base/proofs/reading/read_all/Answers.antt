@@ -8,8 +8,8 @@ pub returns-in_err-read_piece-clause-too_long : goal.returns-in_err-read_piece-c
 returns-in_err-read_piece-clause-too_long g c =
     let passed_on = err_from_is_err_and c.from_residual.result c.from_residual.ensures.1 in
     λ too_long.
-      let same : c.read_piece.result ≡ Err TooLong = cc (c.in_err-read_piece.was, passed_on.1, passed_on.2, too_long) in
-      TakesMoreThan-behind c.args.limit c.loop-bytes.bytes.items _ _ _ c.loop-bytes.invariant.taken (c.read_piece.ensures.too_long same)
+    let same : c.read_piece.result ≡ Err TooLong = cc (c.in_err-read_piece.was, passed_on.1, passed_on.2, too_long) in
+    TakesMoreThan-behind c.args.limit c.loop-bytes.bytes.items _ _ _ c.loop-bytes.invariant.taken (c.read_piece.ensures.too_long same)
 
 pub returns-in_err-read_piece-clause-front : goal.returns-in_err-read_piece-clause-front
 returns-in_err-read_piece-clause-front g c =

@@ -6,7 +6,7 @@ abbrev pub invariant-loop-done : goal.invariant-loop-done
 invariant-loop-done g l = record {
   in_range : l.done ≤ length l.bytes;
   written : g.K.Sink.written l.sink ≡ with_end (g.K.Sink.written l.initial.sink) (take l.done l.bytes);
-  never_falls : g.K.Sink.faults l.initial.sink ≤ g.K.Sink.faults l.sink
+  never_falls : g.K.Sink.faults l.initial.sink ≤ g.K.Sink.faults l.sink;
 }
 
 abbrev pub decreases-loop-done : goal.decreases-loop-done

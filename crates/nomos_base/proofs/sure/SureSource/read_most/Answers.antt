@@ -10,9 +10,9 @@ returns-clause-answer c =
     let count : ℕ = c.copy_front-count.result in
     let buffer : List ℕ = c.copy_front-count.new.into in
     let copied : take count buffer ≡ take count (take (length bytes - taken) (drop taken bytes)) =
-      rw c.deref.ensures.value at c.copy_front-count.ensures.copied in
+    rw c.deref.ensures.value at c.copy_front-count.ensures.copied in
     let all : take (length bytes - taken) (drop taken bytes) ≡ drop taken bytes =
-      take_all (length bytes - taken) (drop taken bytes) (omega (arith, length-drop taken bytes)) in
+    take_all (length bytes - taken) (drop taken bytes) (omega (arith, length-drop taken bytes)) in
     let same : take count buffer ≡ take count (drop taken bytes) = rw all at copied in
     let some : 0 < count = omega arith in
     let fits : count ≤ length buffer = omega arith in
