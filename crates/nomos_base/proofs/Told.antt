@@ -2,8 +2,7 @@
 use Rattle.std.proofs.Common.{◌≡◌, ℕ, ◌+◌, ◌-◌, ◌<◌, ◌≤◌, length-drop, length, length-append, arith, List, [], ◌++◌, take, drop, Option, Some, None, refl, sym, ◌∙◌, ap, append_assoc, append-nil}
 use Rattle.std.proofs.Math.Seq.{take-add}
 use Rattle.std.proofs.lemmas.List.{take_all, take-append-drop, drop-drop}
-use Rattle.nomos_base.specs.Source.{with_front, GetsFront, TakesFront, TakesMoreThan}
-use Rattle.nomos_base.specs.Reading.{PassesLimit}
+use Rattle.nomos_base.specs.Source.{with_front, GetsFront, TakesAtMost, TakesExactly}
 use Rattle.nomos_base.specs.Sink.{with_end, Appends}
 
 -- nothing behind what is written
@@ -47,17 +46,24 @@ pub with_front-append : (a b : List ℕ) (left : Option (List ℕ)) → with_fro
 with_front-append a b None = refl
 with_front-append a b (Some xs) = ap (λ (ys : List ℕ). Some ys) (sym (append_assoc a b xs))
 
--- a front that was taken, and then another one
-pub TakesFront-behind : (bytes : List ℕ) (before mid now : Option (List ℕ)) → before ≡ with_front bytes mid → TakesFront mid now → TakesFront before now
-TakesFront-behind bytes before mid now first second =
-    let next : mid ≡ with_front second.0 now = second.1 in
-    (bytes ++ second.0, rw (first, next) (with_front-append bytes second.0 now))
+-- a front that was taken, and then at most so many bytes more
+pub TakesAtMost-behind : (most so_far : ℕ) (bytes : List ℕ) (before mid now : Option (List ℕ)) → so_far ≡ length bytes → so_far ≤ most → before ≡ with_front bytes mid → TakesAtMost (most - so_far + 1) mid now → TakesAtMost (most + 1) before now
+TakesAtMost-behind most so_far bytes before mid now counted within first second =
+    let next : mid ≡ with_front second.0 now = second.2 in
+    (bytes ++ second.0, omega (arith, length-append bytes second.0, second.1), rw (first, next) (with_front-append bytes second.0 now))
 
--- a front that was taken, and then a piece with which it passes the limit
-pub TakesMoreThan-behind : (limit : ℕ) (bytes : List ℕ) (before mid now : Option (List ℕ)) → before ≡ with_front bytes mid → PassesLimit limit bytes mid now → TakesMoreThan limit before now
-TakesMoreThan-behind limit bytes before mid now first second =
-    let next : mid ≡ with_front second.piece now = second.taken in
-    (bytes ++ second.piece, rw (length-append bytes second.piece) second.passed, rw (first, next) (with_front-append bytes second.piece now))
+-- a front that was taken, and then just so many bytes more
+pub TakesExactly-behind : (most so_far : ℕ) (bytes : List ℕ) (before mid now : Option (List ℕ)) → so_far ≡ length bytes → so_far ≤ most → before ≡ with_front bytes mid → TakesExactly (most - so_far + 1) mid now → TakesExactly (most + 1) before now
+TakesExactly-behind most so_far bytes before mid now counted within first second =
+    let next : mid ≡ with_front second.0 now = second.2 in
+    (bytes ++ second.0, omega (arith, length-append bytes second.0, second.1), rw (first, next) (with_front-append bytes second.0 now))
+
+-- where it is told what was left, there were at least as many bytes as were taken
+pub TakesExactly-told : (count : ℕ) (all : List ℕ) (now : Option (List ℕ)) → TakesExactly count (Some all) now → count ≤ length all
+TakesExactly-told count all None taken = cc (taken.2)
+TakesExactly-told count all (Some rest) taken =
+    let same : all ≡ taken.0 ++ rest = cc (taken.2) in
+    rw same (omega (arith, length-append taken.0 rest, taken.1))
 
 -- bytes that were copied from the front of what is left
 pub GetsFront-copied : (bytes buffer : List ℕ) (taken count : ℕ) → 0 < count → count ≤ length buffer → take count buffer ≡ take count (drop taken bytes) → GetsFront count buffer (Some (drop taken bytes)) (Some (drop (taken + count) bytes))

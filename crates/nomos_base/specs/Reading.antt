@@ -1,5 +1,5 @@
 -- One step of reading all bytes.
-use Rattle.std.specs.Prelude.{◌≡◌, ℕ, ◌+◌, ◌<◌, Bool, true, false, List, ◌++◌, length, Option}
+use Rattle.std.specs.Prelude.{◌≡◌, ℕ, ◌<◌, Bool, true, false, List, ◌++◌, length, Option}
 use Rattle.nomos_base.specs.Source.{with_front, HasEnded}
 
 -- a read got a piece, which stands behind the bytes now
@@ -19,9 +19,3 @@ pub record AddsNothing (bytes bytes_now : List ℕ) (before now : Option (List �
 abbrev pub TakesPiece : Bool → List ℕ → List ℕ → Option (List ℕ) → Option (List ℕ) → Type 0
 TakesPiece true bytes bytes_now before now = AddsPiece bytes bytes_now before now
 TakesPiece false bytes bytes_now before now = AddsNothing bytes bytes_now before now
-
--- a read got so many bytes that with those from before they pass the limit
-pub record PassesLimit (limit : ℕ) (bytes : List ℕ) (before now : Option (List ℕ)) : Type 0 where
-  pub piece : List ℕ
-  pub passed : limit < length bytes + length piece
-  pub taken : before ≡ with_front piece now

@@ -36,13 +36,13 @@ Reads (got_bytes count) buffer before now faults_before faults_now = GetsFront c
 Reads End buffer before now faults_before faults_now = FindsEnd before now
 Reads Failed buffer before now faults_before faults_now = FailsToRead before now faults_before faults_now
 
--- some front of what was left was taken, and the rest is left
-abbrev pub TakesFront : Option (List ℕ) → Option (List ℕ) → Type 0
-TakesFront before now = (taken : List ℕ) × (before ≡ with_front taken now)
+-- a front of at most this many bytes was taken
+abbrev pub TakesAtMost : ℕ → Option (List ℕ) → Option (List ℕ) → Type 0
+TakesAtMost most before now = (taken : List ℕ) × (length taken ≤ most) × (before ≡ with_front taken now)
 
--- a front of more than `limit` bytes was taken
-abbrev pub TakesMoreThan : ℕ → Option (List ℕ) → Option (List ℕ) → Type 0
-TakesMoreThan limit before now = (taken : List ℕ) × (limit < length taken) × (before ≡ with_front taken now)
+-- a front of just this many bytes was taken
+abbrev pub TakesExactly : ℕ → Option (List ℕ) → Option (List ℕ) → Type 0
+TakesExactly count before now = (taken : List ℕ) × (length taken ≡ count) × (before ≡ with_front taken now)
 
 -- these bytes are all that was left, and nothing is left now, where that is told
 abbrev pub TakesAll : List ℕ → Option (List ℕ) → Option (List ℕ) → Type 0

@@ -78,7 +78,8 @@ impl Sink for MemorySink {
     fn write(&mut self, from: &[u8]) -> Put
         requires { 0 < length from.now }
         ensures exact { result ≡ next_write self.old (length from.now) }
-        ensures answer { Writes result from.now (Some self.old.written) (Some self.new.written) self.old.plan.faults self.new.plan.faults }
+        ensures answer { Writes result from.now
+            (Some self.old.written) (Some self.new.written) self.old.plan.faults self.new.plan.faults }
         ensures never_falls { self.old.plan.faults ≤ self.new.plan.faults }
         ensures room { self.new.room ≡ self.old.room }
         ensures piece { self.new.piece ≡ self.old.piece }

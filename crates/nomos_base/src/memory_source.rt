@@ -69,7 +69,8 @@ impl Source for MemorySource {
     fn read(&mut self, into: &mut [u8]) -> Got
         requires { 0 < length into.old }
         ensures exact { result ≡ next_read self.old (length into.old) }
-        ensures answer { Reads result into.new (Some self.old.left) (Some self.new.left) self.old.plan.faults self.new.plan.faults }
+        ensures answer { Reads result into.new
+            (Some self.old.left) (Some self.new.left) self.old.plan.faults self.new.plan.faults }
         ensures never_falls { self.old.plan.faults ≤ self.new.plan.faults }
         ensures piece { self.new.piece ≡ self.old.piece }
         ensures plan { self.new.plan ≡ after_call self.old.plan (fails_next self.old.plan) }

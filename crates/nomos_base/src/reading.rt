@@ -1,9 +1,9 @@
 //! All bytes in.
 
-ghost use Rattle.std.specs.Prelude.{◌≡◌, ℕ, ◌≤◌, ◌<◌, length, IfOk, IsErrOf, vec_len};
+ghost use Rattle.std.specs.Prelude.{◌≡◌, ◌+◌, ◌-◌, ℕ, ◌≤◌, ◌<◌, length, IfOk, IsErrOf, vec_len};
 ghost use Rattle.nomos_base.specs.Faults.{Rose};
-ghost use Rattle.nomos_base.specs.Source.{TakesAll, TakesFront, TakesMoreThan};
-ghost use Rattle.nomos_base.specs.Reading.{TakesPiece, PassesLimit};
+ghost use Rattle.nomos_base.specs.Source.{TakesAll, TakesAtMost, TakesExactly};
+ghost use Rattle.nomos_base.specs.Reading.{TakesPiece};
 
 use crate::source::{Got, Source};
 use std::alloc::{AllocError, Global};
@@ -43,9 +43,12 @@ pub fn read_all<S: Source>(
 ) -> Result<Vec<u8>, ReadError>
     ensures within { IfOk result (λ bytes. vec_len bytes ≤ limit) }
     ensures whole { IfOk result (λ bytes. TakesAll bytes.items (S.left source.old) (S.left source.new)) }
-    ensures too_long { IsErrOf result ReadError.TooLong → TakesMoreThan limit (S.left source.old) (S.left source.new) }
+    ensures too_long { IsErrOf result ReadError.TooLong →
+        TakesExactly (limit + 1) (S.left source.old) (S.left source.new) }
     ensures fault_rose { IsErrOf result ReadError.ReadFault → Rose (S.faults source.old) (S.faults source.new) }
-    ensures front { TakesFront (S.left source.old) (S.left source.new) }
+
+    // After every answer the source stands where it was read to.
+    ensures front { TakesAtMost (limit + 1) (S.left source.old) (S.left source.new) }
     ensures never_falls { S.faults source.old ≤ S.faults source.new }
 {
     let mut buffer = [0; PIECE];
@@ -64,10 +67,12 @@ fn read_piece<S: Source>(
     requires room { 0 < length buffer.old }
     requires within { vec_len bytes.old ≤ limit }
     ensures within { IfOk result (λ _. vec_len bytes.new ≤ limit) }
-    ensures piece { IfOk result (λ more. TakesPiece more bytes.old.items bytes.new.items (S.left source.old) (S.left source.new)) }
-    ensures too_long { IsErrOf result ReadError.TooLong → PassesLimit limit bytes.old.items (S.left source.old) (S.left source.new) }
-    ensures front { TakesFront (S.left source.old) (S.left source.new) }
+    ensures piece { IfOk result (λ more.
+        TakesPiece more bytes.old.items bytes.new.items (S.left source.old) (S.left source.new)) }
+    ensures too_long { IsErrOf result ReadError.TooLong →
+        TakesExactly (limit - vec_len bytes.old + 1) (S.left source.old) (S.left source.new) }
     ensures fault_rose { IsErrOf result ReadError.ReadFault → Rose (S.faults source.old) (S.faults source.new) }
+    ensures front { TakesAtMost (limit - vec_len bytes.old + 1) (S.left source.old) (S.left source.new) }
     ensures never_falls { S.faults source.old ≤ S.faults source.new }
 {
     let room = limit - bytes.len();

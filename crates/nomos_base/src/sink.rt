@@ -14,7 +14,8 @@ pub enum Put {
 pub trait Sink {
     ghost use Rattle.nomos_base.specs.Sink.{Writes};
 
-    /// The bytes that were written, or `None` where the sink does not tell.
+    /// The bytes that were written, or `None` where the sink does not tell: a sink tells them after
+    /// every write, or never.
     ghost written: { Self → Option (List ℕ) };
 
     /// How often the sink has failed; the count stays at its last value, 2^64 - 1.

@@ -16,7 +16,8 @@ pub enum Got {
 pub trait Source {
     ghost use Rattle.nomos_base.specs.Source.{Reads};
 
-    /// The bytes that are left, or `None` where the source does not tell.
+    /// The bytes that are left, or `None` where the source does not tell: a source tells them after
+    /// every read, or never.
     ghost left: { Self → Option (List ℕ) };
 
     /// How often the source has failed; the count stays at its last value, 2^64 - 1.

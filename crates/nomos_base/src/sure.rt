@@ -42,7 +42,7 @@ impl SureSource {
     }
 
     /// Reads no more than `most` bytes.
-    pub fn read_most(&mut self, into: &mut [u8], most: usize) -> Got
+    pub(crate) fn read_most(&mut self, into: &mut [u8], most: usize) -> Got
         requires space { 0 < length into.old }
         requires some { 0 < most }
         ensures exact { result ≡ piece_of self.old (min (length into.old) most) }
@@ -66,7 +66,6 @@ impl Source for SureSource {
         requires { 0 < length into.old }
         ensures exact { result ≡ piece_of self.old (length into.old) }
         ensures answer { Reads result into.new (Some self.old) (Some self.new) 0 0 }
-        ensures never_falls { 0 ≤ 0 }
     {
         let most = into.len();
         self.read_most(into, most)

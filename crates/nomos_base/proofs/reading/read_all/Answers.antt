@@ -1,16 +1,18 @@
 use Rattle.std.proofs.Common.{◌≡◌, Err}
 use Rattle.std.proofs.lemmas.Result.{err_from_is_err_and}
 use Rattle.nomos_base.specs.declared.reading.ReadError.TheVariants.{TooLong}
-use Rattle.nomos_base.proofs.Told.{TakesFront-behind, TakesMoreThan-behind}
+use Rattle.nomos_base.proofs.Told.{TakesAtMost-behind, TakesExactly-behind}
 use Rattle.nomos_base.proofs.reading.read_all.Goals as goal
 
 pub returns-in_err-read_piece-clause-too_long : goal.returns-in_err-read_piece-clause-too_long
 returns-in_err-read_piece-clause-too_long g c =
     let passed_on = err_from_is_err_and c.from_residual.result c.from_residual.ensures.1 in
+    let so_far = c.loop-bytes.invariant in
     λ too_long.
     let same : c.read_piece.result ≡ Err TooLong = cc (c.in_err-read_piece.was, passed_on.1, passed_on.2, too_long) in
-    TakesMoreThan-behind c.args.limit c.loop-bytes.bytes.items _ _ _ c.loop-bytes.invariant.taken (c.read_piece.ensures.too_long same)
+    TakesExactly-behind _ _ c.loop-bytes.bytes.items _ _ _ c.loop-bytes.bytes.ok.0 so_far.within so_far.taken (c.read_piece.ensures.too_long same)
 
 pub returns-in_err-read_piece-clause-front : goal.returns-in_err-read_piece-clause-front
 returns-in_err-read_piece-clause-front g c =
-    TakesFront-behind c.loop-bytes.bytes.items _ _ _ c.loop-bytes.invariant.taken c.read_piece.ensures.front
+    let so_far = c.loop-bytes.invariant in
+    TakesAtMost-behind _ _ c.loop-bytes.bytes.items _ _ _ c.loop-bytes.bytes.ok.0 so_far.within so_far.taken c.read_piece.ensures.front
