@@ -1,14 +1,9 @@
 -- Laws of the bytes that a source or a sink tells.
-use Rattle.std.proofs.Common.{◌≡◌, ℕ, ◌+◌, ◌-◌, ◌<◌, ◌≤◌, length-drop, length, length-append, arith, List, [], ◌++◌, take, drop, Option, Some, None, refl, sym, ◌∙◌, ap, append_assoc, append-nil}
+use Rattle.std.proofs.Common.{◌≡◌, ℕ, ◌+◌, ◌-◌, ◌<◌, ◌≤◌, length-drop, length, length-append, arith, List, ◌++◌, take, drop, Option, Some, None, refl, sym, ◌∙◌, ap, append_assoc}
 use Rattle.std.proofs.Math.Seq.{take-add}
 use Rattle.std.proofs.lemmas.List.{take_all, take-append-drop, drop-drop}
 use Rattle.nomos_base.specs.Source.{with_front, GetsFront, TakesAtMost, TakesExactly}
 use Rattle.nomos_base.specs.Sink.{with_end, Appends}
-
--- nothing behind what is written
-pub with_end-nothing : (written : Option (List ℕ)) → with_end written [] ≡ written
-with_end-nothing None = refl
-with_end-nothing (Some xs) = ap (λ (ys : List ℕ). Some ys) (append-nil xs)
 
 -- two pieces that were written, one behind the other, are one
 pub with_end-append : (written : Option (List ℕ)) (a b : List ℕ) → with_end (with_end written a) b ≡ with_end written (a ++ b)
@@ -35,11 +30,6 @@ WrittenTo-next bytes done count start before now so_far next =
       in_range = omega (arith, length-drop done bytes, so_far.in_range);
       written = rw (behind, so_far.written) (with_end-take start bytes done count);
     }
-
--- nothing before what is left
-pub with_front-nothing : (left : Option (List ℕ)) → with_front [] left ≡ left
-with_front-nothing None = refl
-with_front-nothing (Some xs) = refl
 
 -- two pieces that were taken, one behind the other, are one
 pub with_front-append : (a b : List ℕ) (left : Option (List ℕ)) → with_front a (with_front b left) ≡ with_front (a ++ b) left

@@ -20,7 +20,8 @@ fresh_plan failing = record { calls = 0; failing = failing; faults = 0 }
 -- whether the next call is to fail; once the counter of calls stands at its last value, none is
 abbrev pub fails_next : Plan → Bool
 fails_next plan =
-    nat_lt (next_count plan.calls) last_count && list_any (λ number. number == next_count plan.calls) plan.failing
+    nat_lt (next_count plan.calls) last_count &&
+    list_any (λ number. number == next_count plan.calls) plan.failing
 
 -- the plan after one more call, which failed or did not
 abbrev pub after_call : Plan → Bool → Plan
@@ -45,7 +46,7 @@ abbrev pub next_read : Supply → ℕ → Got
 next_read supply space =
     if fails_next supply.plan then read_failed else piece_of supply.left (min space supply.piece)
 
--- a sink over memory: the bytes written, how many it has room for, the most that one call takes, and which calls fail
+-- a sink over memory: the bytes written, its room, the most that one call takes, and which calls fail
 pub record Store : Type 0 where
   pub written : List ℕ
   pub room : ℕ

@@ -20,7 +20,7 @@ pub record FailsToWrite (before now : Option (List ℕ)) (faults_before faults_n
   pub counted : Rose faults_before faults_now
   pub kept : now ≡ before
 
--- what each answer of a write says of the bytes, of what was written and is written, and of the count of faults
+-- what each answer of a write says of what is written and of the count of faults
 abbrev pub Writes : Put → List ℕ → Option (List ℕ) → Option (List ℕ) → ℕ → ℕ → Type 0
 Writes (Wrote count) bytes before now faults_before faults_now = Appends count bytes before now
 Writes Failed bytes before now faults_before faults_now = FailsToWrite before now faults_before faults_now

@@ -30,7 +30,7 @@ pub record FailsToRead (before now : Option (List ℕ)) (faults_before faults_no
   pub counted : Rose faults_before faults_now
   pub kept : now ≡ before
 
--- what each answer of a read says of the buffer, of what was left and is left, and of the count of faults
+-- what each answer of a read says of the buffer, of what is left and of the count of faults
 abbrev pub Reads : Got → List ℕ → Option (List ℕ) → Option (List ℕ) → ℕ → ℕ → Type 0
 Reads (got_bytes count) buffer before now faults_before faults_now = GetsFront count buffer before now
 Reads End buffer before now faults_before faults_now = FindsEnd before now
@@ -42,7 +42,8 @@ TakesAtMost most before now = (taken : List ℕ) × (length taken ≤ most) × (
 
 -- a front of just this many bytes was taken
 abbrev pub TakesExactly : ℕ → Option (List ℕ) → Option (List ℕ) → Type 0
-TakesExactly count before now = (taken : List ℕ) × (length taken ≡ count) × (before ≡ with_front taken now)
+TakesExactly count before now =
+    (taken : List ℕ) × (length taken ≡ count) × (before ≡ with_front taken now)
 
 -- these bytes are all that was left, and nothing is left now, where that is told
 abbrev pub TakesAll : List ℕ → Option (List ℕ) → Option (List ℕ) → Type 0

@@ -10,8 +10,9 @@ use std::alloc::{AllocError, Global};
 use std::marker::Model;
 
 /// A sink that keeps what was written and tells it, takes it in pieces of one size, and fails at the
-/// calls that it is told. It has room for so many bytes and takes no memory when it is written; a
-/// write past that room is a fault and counts as one. A failed call appends nothing.
+/// calls that it is told. It has room for so many bytes and takes no memory when it is written: a
+/// write takes what still fits, and where no room is left it is a fault and counts as one. A failed
+/// call appends nothing.
 #[derive(Drop)]
 pub struct MemorySink {
     bytes: Vec<u8>,
@@ -26,9 +27,15 @@ impl Model for MemorySink {
 
     ghost Value = { Store };
 
-    ghost view = { λ sink. record { written = sink.bytes.items; room = sink.room; piece = sink.piece; plan = sink.plan } };
+    ghost view = { λ sink. record {
+      written = sink.bytes.items;
+      room = sink.room;
+      piece = sink.piece;
+      plan = sink.plan;
+    } };
 
-    ghost invariant = { λ sink. (vec_len sink.bytes ≤ sink.room) × (sink.room ≤ vec_capacity sink.bytes) × (0 < sink.piece) };
+    ghost invariant = { λ sink.
+        (vec_len sink.bytes ≤ sink.room) × (sink.room ≤ vec_capacity sink.bytes) × (0 < sink.piece) };
 }
 
 impl MemorySink {

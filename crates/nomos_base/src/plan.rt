@@ -19,7 +19,11 @@ impl Model for FaultPlan {
 
     ghost Value = { Plan };
 
-    ghost view = { λ plan. record { calls = plan.calls; failing = plan.failing.items; faults = plan.faults } };
+    ghost view = { λ plan. record {
+      calls = plan.calls;
+      failing = plan.failing.items;
+      faults = plan.faults;
+    } };
 }
 
 impl FaultPlan {

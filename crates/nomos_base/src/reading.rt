@@ -42,10 +42,12 @@ pub fn read_all<S: Source>(
     limit: usize,
 ) -> Result<Vec<u8>, ReadError>
     ensures within { IfOk result (λ bytes. vec_len bytes ≤ limit) }
-    ensures whole { IfOk result (λ bytes. TakesAll bytes.items (S.left source.old) (S.left source.new)) }
+    ensures whole { IfOk result (λ bytes.
+        TakesAll bytes.items (S.left source.old) (S.left source.new)) }
     ensures too_long { IsErrOf result ReadError.TooLong →
         TakesExactly (limit + 1) (S.left source.old) (S.left source.new) }
-    ensures fault_rose { IsErrOf result ReadError.ReadFault → Rose (S.faults source.old) (S.faults source.new) }
+    ensures fault_rose { IsErrOf result ReadError.ReadFault →
+        Rose (S.faults source.old) (S.faults source.new) }
 
     // After every answer the source stands where it was read to.
     ensures front { TakesAtMost (limit + 1) (S.left source.old) (S.left source.new) }
@@ -71,7 +73,8 @@ fn read_piece<S: Source>(
         TakesPiece more bytes.old.items bytes.new.items (S.left source.old) (S.left source.new)) }
     ensures too_long { IsErrOf result ReadError.TooLong →
         TakesExactly (limit - vec_len bytes.old + 1) (S.left source.old) (S.left source.new) }
-    ensures fault_rose { IsErrOf result ReadError.ReadFault → Rose (S.faults source.old) (S.faults source.new) }
+    ensures fault_rose { IsErrOf result ReadError.ReadFault →
+        Rose (S.faults source.old) (S.faults source.new) }
     ensures front { TakesAtMost (limit - vec_len bytes.old + 1) (S.left source.old) (S.left source.new) }
     ensures never_falls { S.faults source.old ≤ S.faults source.new }
 {

@@ -24,6 +24,7 @@ pub trait Sink {
     /// Writes some of the bytes, from the front on.
     fn write(&mut self, from: &[u8]) -> Put
         requires { 0 < length from.now }
-        ensures answer { Writes result from.now (written self.old) (written self.new) (faults self.old) (faults self.new) }
+        ensures answer { Writes result from.now
+            (written self.old) (written self.new) (faults self.old) (faults self.new) }
         ensures never_falls { faults self.old ≤ faults self.new };
 }

@@ -27,6 +27,7 @@ pub trait Source {
     /// said, and neither is what stands there after another answer.
     fn read(&mut self, into: &mut [u8]) -> Got
         requires { 0 < length into.old }
-        ensures answer { Reads result into.new (left self.old) (left self.new) (faults self.old) (faults self.new) }
+        ensures answer { Reads result into.new
+            (left self.old) (left self.new) (faults self.old) (faults self.new) }
         ensures never_falls { faults self.old ≤ faults self.new };
 }
