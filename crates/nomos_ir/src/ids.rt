@@ -24,7 +24,7 @@ pub struct FnId(pub u32);
 #[derive(Clone, Copy, PartialEq, Eq, Debug)]
 pub struct ProcId(pub u32);
 
-/// A variable: a number that stands for its name in the text. No list of the program holds it.
+/// A variable: a number that stands for its name. No list of the program has it.
 #[derive(Clone, Copy, PartialEq, Eq, Debug)]
 pub struct VarId(pub u32);
 

@@ -12,6 +12,8 @@ pub mod kind;
 pub mod lists;
 pub mod mode;
 pub mod name;
+pub mod program;
+mod stars;
 pub mod term_node;
 pub mod type_node;
 pub mod word;

@@ -1,11 +1,14 @@
 //! The modes of types and processes.
 
-/// Whether a type or process is private (`R`), shared (`S`), linear within a shared one (`L`), or the
-/// process of a transaction (`T`).
+/// The mode of a type or a process.
 #[derive(Clone, Copy, PartialEq, Eq, Debug)]
 pub enum Mode {
+    /// A linear asset.
     R,
+    /// A shared contract that waits to be acquired.
     S,
+    /// A contract while one client holds it.
     L,
+    /// A transaction.
     T,
 }

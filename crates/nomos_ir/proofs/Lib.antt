@@ -1,0 +1,4 @@
+pub mod NodeLemmas
+pub mod StarLemmas
+pub mod UnfoldLemmas
+pub mod WordTable
