@@ -1,3 +1,5 @@
+pub mod ExampleLemmas
+pub mod NameLemmas
 pub mod NodeLemmas
 pub mod StarLemmas
 pub mod UnfoldLemmas

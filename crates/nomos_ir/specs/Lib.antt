@@ -1,6 +1,7 @@
 pub mod Amounts
 pub mod CodeForm
 pub mod CodeParts
+pub mod Example
 pub mod Ids
 pub mod Kinds
 pub mod Name

@@ -15,5 +15,7 @@ pub mod name;
 pub mod program;
 mod stars;
 pub mod term_node;
+#[cfg(test)]
+mod tests;
 pub mod type_node;
 pub mod word;
