@@ -1,5 +1,5 @@
 -- The small program is one.
-use Rattle.std.proofs.Common.{◌≡◌, ◌≢◌, true, ◌==◌, ◌<◌, ◌≤◌, ℕ, zero, suc, List, [], ◌∷◌, length, All, AllPairs, Some, slice_get, codes, refl, subst, lit<, lit≤, arith, ap, get_or}
+use Rattle.std.proofs.Common.{◌≡◌, ◌≢◌, true, ◌==◌, ◌<◌, ℕ, zero, suc, List, [], ◌∷◌, All, AllPairs, Some, slice_get, codes, refl, subst, lit<, lit≤, arith}
 use Rattle.std.specs.Bool.{⊤}
 use Rattle.std.specs.Str.{bytes_eq}
 use Rattle.std.proofs.lemmas.Slice.Eq.{bytes_eq-Decides}
@@ -13,17 +13,17 @@ use Rattle.nomos_ir.specs.declared.kind.Base.TheVariants as base
 use Rattle.nomos_ir.specs.declared.type_node.TypeAt.{TypeAt}
 use Rattle.nomos_ir.specs.declared.term_node.TermNode.{TermNode}
 use Rattle.nomos_ir.specs.declared.code_node.CodeNode.{CodeNode}
-use Rattle.nomos_ir.specs.TypeParts.{type_parts, type_names, type_labels, type_kinds}
-use Rattle.nomos_ir.specs.TermParts.{term_parts, term_calls, term_kinds}
-use Rattle.nomos_ir.specs.CodeParts.{code_next, code_terms, code_calls, code_labels}
+use Rattle.nomos_ir.specs.TypeParts.{type_parts, type_labels, type_kinds}
+use Rattle.nomos_ir.specs.TermParts.{term_parts, term_kinds}
+use Rattle.nomos_ir.specs.CodeParts.{code_next, code_labels}
 use Rattle.nomos_ir.specs.Parameters.{fn_parameters, proc_parameters}
 use Rattle.nomos_ir.specs.Name.{IsShortName}
 use Rattle.nomos_ir.specs.Ids.{AllBelow, TypeInRange, TermInRange, CodeInRange, ProcInRange, IdsInRange}
-use Rattle.nomos_ir.specs.Order.{PartsAreLower, count_of, type_places, code_places, TypesStandOnce, CodeStandsOnce}
+use Rattle.nomos_ir.specs.Order.{count_of, type_places, code_places}
 use Rattle.nomos_ir.specs.Kinds.{IsShallow, FnIsShallow, KindsAreShallow}
-use Rattle.nomos_ir.specs.Naming.{AllDiffer, NamesAreShort, NamesDiffer, LabelsDiffer, ParametersDiffer}
-use Rattle.nomos_ir.specs.Amounts.{IsAmount, amounts_of, AmountsAreSmall}
-use Rattle.nomos_ir.specs.Program.{IsSmall, IsProgram}
+use Rattle.nomos_ir.specs.Naming.{AllDiffer, NamesAreShort, NamesDiffer}
+use Rattle.nomos_ir.specs.Amounts.{IsAmount, amounts_of}
+use Rattle.nomos_ir.specs.Program.{IsProgram}
 use Rattle.nomos_ir.specs.Example.{example}
 use Rattle.nomos_ir.proofs.NameLemmas.{short_name}
 
