@@ -1,0 +1,6 @@
+pub mod ExampleLemmas
+pub mod NameLemmas
+pub mod NodeLemmas
+pub mod StarLemmas
+pub mod UnfoldLemmas
+pub mod WordTable

@@ -1,0 +1,7 @@
+use Rattle.std.proofs.Common.{◌≡◌, take, map}
+use Rattle.nomos_ir.specs.Amounts.{most_star}
+use Rattle.nomos_ir.proofs.stars.stars_in_procs.Given as goal
+
+-- the greatest of the declarations so far
+abbrev pub invariant-loop-declaration : goal.invariant-loop-declaration
+invariant-loop-declaration l = l.most ≡ most_star (map (λ d. d.amount) (take l.declaration-index l.procs))

@@ -1,0 +1,16 @@
+pub mod Amounts
+pub mod CodeForm
+pub mod CodeParts
+pub mod Example
+pub mod Ids
+pub mod Kinds
+pub mod Name
+pub mod Naming
+pub mod Nodes
+pub mod Order
+pub mod Parameters
+pub mod Program
+pub mod TermParts
+pub mod TypeParts
+pub mod Unfold
+pub mod Word

@@ -1,0 +1,65 @@
+//! The code of processes: the nodes of its trees.
+use crate::amount::Amount;
+use crate::ids::{CodeId, Label, ProcId, TermId, VarId};
+use crate::items::Items;
+use crate::term_node::TermIds;
+
+/// The channel at which an instruction works: the process's own, or one that it holds.
+#[derive(Clone, Copy, PartialEq, Eq, Debug)]
+pub enum Chan {
+    Own,
+    Var(VarId),
+}
+
+/// Variables in order of text.
+pub type VarIds = Items<VarId>;
+
+/// The arguments of a spawned or called process: its values, then its channels.
+#[derive(Drop, Debug)]
+pub struct Args {
+    pub values: TermIds,
+    pub channels: VarIds,
+}
+
+/// A label of a `case`, and the code with which it goes on.
+#[derive(Clone, Copy, PartialEq, Eq, Debug)]
+pub struct Arm {
+    pub label: Label,
+    pub goes: CodeId,
+}
+
+/// The branches of a `case`, in order of text.
+pub type Arms = Items<Arm>;
+
+/// An instruction of a process with the code that follows. The first part is its offset in the text, in
+/// bytes; the others stand in order of text, and the code with which it goes on is last.
+#[derive(Drop, Debug)]
+pub enum CodeNode {
+    Label(u32, Chan, Label, CodeId),
+    Case(u32, Chan, Arms),
+    Send(u32, Chan, VarId, CodeId),
+    Recv(u32, Chan, VarId, CodeId),
+    Put(u32, Chan, TermId, CodeId),
+    Take(u32, Chan, VarId, CodeId),
+    Pay(u32, Chan, Amount, CodeId),
+    Get(u32, Chan, Amount, CodeId),
+    Work(u32, Amount, CodeId),
+    Wait(u32, VarId, CodeId),
+    Accept(u32, CodeId),
+    Detach(u32, CodeId),
+    /// The shared channel that is acquired, and the name of the linear one.
+    Acquire(u32, VarId, VarId, CodeId),
+    /// The linear channel that is released, and the name of the shared one.
+    Release(u32, VarId, VarId, CodeId),
+    Spawn(u32, VarId, ProcId, Args, CodeId),
+    Let(u32, VarId, TermId, CodeId),
+    Emit(u32, TermId, CodeId),
+    /// The test, the code where it is true, and the code where it is false.
+    If(u32, TermId, CodeId, CodeId),
+    Close(u32),
+    Fwd(u32, VarId),
+    Call(u32, ProcId, Args),
+}
+
+/// The code nodes of a program.
+pub type CodeNodes = Items<CodeNode>;

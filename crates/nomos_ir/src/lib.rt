@@ -1,0 +1,21 @@
+//! The program as numbered trees: the types of Nomos programs, and the program with its invariant.
+#![tactic(auto)]
+
+pub mod amount;
+pub mod code_form;
+pub mod code_node;
+pub mod declaration;
+pub mod fault;
+pub mod ids;
+pub mod items;
+pub mod kind;
+pub mod lists;
+pub mod mode;
+pub mod name;
+pub mod program;
+mod stars;
+pub mod term_node;
+#[cfg(test)]
+mod tests;
+pub mod type_node;
+pub mod word;
