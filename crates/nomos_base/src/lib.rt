@@ -5,6 +5,7 @@
 //! [`MemorySink`] fail when they are told to, [`SureSource`] and [`SureSink`] never.
 #![tactic(auto)]
 
+mod gas;
 mod memory_sink;
 mod memory_source;
 mod plan;
@@ -14,6 +15,7 @@ mod source;
 mod sure;
 mod writing;
 
+pub use gas::push_gas;
 pub use memory_sink::MemorySink;
 pub use memory_source::MemorySource;
 pub use reading::{ReadError, read_all};

@@ -3,8 +3,8 @@
 ghost use Rattle.std.specs.Prelude.{◌<◌, IsOk, IsErrOf, Some, None};
 
 use crate::{
-    MemorySink, MemorySource, ReadError, Sink, Source, SureSink, SureSource, WriteError, read_all,
-    write_all,
+    MemorySink, MemorySource, ReadError, Sink, Source, SureSink, SureSource, WriteError, push_gas,
+    read_all, write_all,
 };
 use std::alloc::{AllocError, Global};
 
@@ -129,5 +129,28 @@ fn sure_forms_never_fail(rt: HostRuntime) -> Result<(), AllocError> {
     assert!(rt; read.len() == 9000 && read.iter().all(|byte| *byte == 7));
     assert!(rt; source.left().is_empty());
     assert!(rt; write_sure(&mut SureSink, &read).is_ok());
+    Ok(())
+}
+
+#[test]
+fn writes_gas_as_a_count_or_a_fraction(rt: HostRuntime) -> Result<(), AllocError> {
+    let table: [(u128, u32, &[u8]); 6] = [
+        (0, 1, b"0"),
+        (808, 1, b"808"),
+        (2, 2, b"2/2"),
+        (0, 3, b"0/3"),
+        (
+            36893488147419103230,
+            2147483648,
+            b"36893488147419103230/2147483648",
+        ),
+        (u128::MAX, 1, b"340282366920938463463374607431768211455"),
+    ];
+    for (dths, unit, wanted) in table {
+        let mut text = Vec::from_slice(rt.alloc(), b"= ")?;
+        push_gas(&mut text, dths, unit)?;
+        assert_eq!(rt; &text[..2], b"= ".as_slice(), "{dths} over {unit}");
+        assert_eq!(rt; &text[2..], wanted, "{dths} over {unit}");
+    }
     Ok(())
 }

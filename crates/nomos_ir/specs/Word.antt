@@ -1,5 +1,6 @@
 -- The reserved words of the language.
-use Rattle.std.specs.Prelude.{ℕ, List as Bytes, codes}
+use Rattle.std.specs.Prelude.{ℕ, List as Bytes, [], ◌∷◌, codes, Option, find}
+use Rattle.std.specs.Str.{bytes_eq}
 use Rattle.nomos_ir.specs.declared.word.Word.{Word}
 use Rattle.nomos_ir.specs.declared.word.Word.TheVariants as word
 
@@ -53,3 +54,12 @@ text_of word.Case = codes "case"
 text_of word.Close = codes "close"
 text_of word.Fwd = codes "fwd"
 text_of word.Call = codes "call"
+
+-- every reserved word
+abbrev pub all_words : Bytes Word
+all_words =
+    word.Cost ∷ word.Ticks ∷ word.Sends ∷ word.All ∷ word.«Type» ∷ word.Fn ∷ word.Proc ∷ word.R ∷ word.S ∷ word.L ∷ word.T ∷ word.Int ∷ word.Bool ∷ word.List ∷ word.True ∷ word.False ∷ word.Nil ∷ word.If ∷ word.Then ∷ word.Else ∷ word.Match ∷ word.Not ∷ word.And ∷ word.Or ∷ word.Up ∷ word.Down ∷ word.SelfWord ∷ word.Me ∷ word.Send ∷ word.Recv ∷ word.Put ∷ word.Take ∷ word.Pay ∷ word.Get ∷ word.Work ∷ word.Wait ∷ word.Accept ∷ word.Detach ∷ word.Acquire ∷ word.Release ∷ word.Spawn ∷ word.As ∷ word.Let ∷ word.Emit ∷ word.Case ∷ word.Close ∷ word.Fwd ∷ word.Call ∷ []
+
+-- the reserved word of this text, if there is one
+unfoldable pub reserved_word : Bytes ℕ → Option Word
+reserved_word text = find (λ w. bytes_eq (text_of w) text) all_words

@@ -1,7 +1,6 @@
 //! The reserved words of the language.
-ghost use Rattle.std.specs.Prelude.{◌≡◌, ◌≢◌, IfSome, IfNone};
-ghost use Rattle.nomos_ir.specs.Word.{text_of};
-ghost use Rattle.nomos_ir.specs.declared.word.Word.{Word};
+ghost use Rattle.std.specs.Prelude.{◌≡◌};
+ghost use Rattle.nomos_ir.specs.Word.{text_of, reserved_word};
 
 /// A reserved word: one that is no name and no label.
 #[derive(Clone, Copy, PartialEq, Eq, Debug)]
@@ -165,16 +164,14 @@ impl Word {
         }
     }
 
-    /// The reserved word with this text.
+    /// The reserved word with this text, if there is one.
+    #[tactic(auto, unfolding(crate::specs::Word::reserved_word))]
     pub fn of_text(text: &[u8]) -> Option<Word>
-        ensures some { IfSome result (λ word. text_of word ≡ text.now) }
-        ensures none { IfNone result ((word : Word) → text_of word ≢ text.now) }
+        ensures { result ≡ reserved_word text.now }
     {
-        for word in Word::ALL {
-            if word.text().as_bytes() == text {
-                return Some(word);
-            }
-        }
-        None
+        Word::ALL
+            .iter()
+            .copied()
+            .find(|word| word.text().as_bytes() == text)
     }
 }
