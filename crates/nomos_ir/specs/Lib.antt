@@ -13,4 +13,7 @@ pub mod Program
 pub mod TermParts
 pub mod TypeParts
 pub mod Unfold
+pub mod Value
+pub mod ValueCode
+pub mod ValueNode
 pub mod Word

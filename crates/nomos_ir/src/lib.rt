@@ -18,4 +18,6 @@ pub mod term_node;
 #[cfg(test)]
 mod tests;
 pub mod type_node;
+pub mod value;
+pub mod value_node;
 pub mod word;
