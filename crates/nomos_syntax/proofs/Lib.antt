@@ -1,0 +1,7 @@
+pub mod PieceLemmas
+pub mod SpellingLemmas
+pub mod ScanLemmas
+pub mod WordLemmas
+pub mod NameLemmas
+pub mod OffsetLemmas
+pub mod Examples

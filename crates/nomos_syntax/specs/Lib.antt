@@ -1,0 +1,10 @@
+pub mod Lexeme
+pub mod Naming
+pub mod Spelling
+pub mod Scan
+pub mod Tree
+pub mod Print
+pub mod Limits
+pub mod Spans
+pub mod Found
+pub mod Reading

@@ -1,0 +1,8 @@
+//! What it is for a program to be typed: types behind their names, the tables of modes, derivations, and
+//! the type of accepted programs.
+#![tactic(auto)]
+
+pub mod accepted;
+pub mod contractive;
+pub mod modes;
+pub mod unfolding;
