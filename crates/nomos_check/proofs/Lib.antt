@@ -1,0 +1,11 @@
+pub mod Lookups
+pub mod RowSteps
+pub mod LabelLemmas
+pub mod LabelSteps
+pub mod CaseLemmas
+pub mod CaseLoops
+pub mod CaseSteps
+pub mod SpawnSteps
+pub mod StartSteps
+pub mod StepLemmas
+pub mod CheckingLemmas

@@ -1,0 +1,68 @@
+//! Whether a process has a derivation from where it stands.
+ghost use Rattle.std.specs.Prelude.{◌≡◌, ◌<◌, ◌↔◌, IsTrue, IfOk, MatchOption, Some, length, slice_get};
+ghost use Rattle.nomos_ir.specs.declared.declaration.ProcDecl.{ProcDecl};
+ghost use Rattle.nomos_ir.specs.Unfold.{IsContractive};
+ghost use Rattle.nomos_types.specs.Derivation.{Derives};
+ghost use Rattle.nomos_types.specs.Judgement.{start_of};
+ghost use Rattle.nomos_types.specs.Modes.{ObeysModes};
+ghost use Rattle.nomos_check.specs.Checking.{PartsInto};
+ghost use Rattle.nomos_check.specs.Standing.{judgement_of, whole_units, IsInRange};
+
+use crate::standing::{Standing, Step};
+use crate::start::start;
+use crate::step::step;
+use nomos_ir::ids::ProcId;
+use nomos_ir::program::Program;
+use std::alloc::{AllocError, Global};
+
+/// The branches into which the code parts next, none of them where it ends, and `None` where an
+/// instruction before has no rule that applies.
+fn branches_ahead(
+    alloc: Global,
+    program: &Program,
+    now: Standing,
+) -> Result<Option<Vec<Standing>>, AllocError>
+    requires contractive { IsContractive program.now }
+    requires in_range { IsInRange program.now (judgement_of now) }
+    ensures { IfOk result (λ found. MatchOption found (Derives program.now whole_units (judgement_of now) → ⊥) (λ branches. PartsInto program.now (judgement_of now) branches.items)) }
+{
+    let mut at = now;
+    loop {
+        match step(alloc, program, at)? {
+            Step::Refused => return Ok(None),
+            Step::Done => return Ok(Some(Vec::new(alloc))),
+            Step::Next(next) => at = next,
+            Step::Branches(branches) => return Ok(Some(branches)),
+        }
+    }
+}
+
+/// Whether the process has a derivation from where it stands.
+fn derives(alloc: Global, program: &Program, now: Standing) -> Result<bool, AllocError>
+    requires contractive { IsContractive program.now }
+    requires in_range { IsInRange program.now (judgement_of now) }
+    ensures { IfOk result (λ yes. IsTrue yes ↔ Derives program.now whole_units (judgement_of now)) }
+{
+    let mut branches = match branches_ahead(alloc, program, now)? {
+        Some(branches) => branches,
+        None => return Ok(false),
+    };
+    while let Some(branch) = branches.pop() {
+        if !derives(alloc, program, branch)? {
+            return Ok(false);
+        }
+    }
+    Ok(true)
+}
+
+/// Whether the process declaration has a derivation from its start, with its declared potential in whole
+/// units. An error comes only where memory runs out.
+pub fn check_process(alloc: Global, program: &Program, p: ProcId) -> Result<bool, AllocError>
+    requires in_range { p.0 < length program.now.procs }
+    requires contractive { IsContractive program.now }
+    requires modes { ObeysModes program.now }
+    ensures { IfOk result (λ yes. (d : ProcDecl) → slice_get program.now.procs p.0 ≡ Some d → (IsTrue yes ↔ Derives program.now whole_units (start_of program.now whole_units d))) }
+{
+    let first = start(alloc, program, p)?;
+    derives(alloc, program, first)
+}

@@ -1,0 +1,96 @@
+//! The rule of labels.
+ghost use Rattle.std.specs.Prelude.{◌≡◌, ◌<◌, ℕ, IfOk, MatchOption, length};
+ghost use Rattle.nomos_ir.specs.declared.code_node.CodeNode.{CodeNode};
+ghost use Rattle.nomos_ir.specs.Unfold.{IsContractive};
+ghost use Rattle.nomos_types.specs.Derivation.{StandsAtCode};
+ghost use Rattle.nomos_types.specs.Judgement.{goes_on};
+ghost use Rattle.nomos_check.specs.Labels.{SendsLabel, SendsNoLabel};
+ghost use Rattle.nomos_check.specs.Standing.{judgement_of, IsInRange, StepTells};
+
+use crate::channels::{channel_node, retyped};
+use crate::choices::{goes_by, sent_choice};
+use crate::standing::{Standing, Step};
+use nomos_ir::code_node::Chan;
+use nomos_ir::ids::{CodeId, Label, TypeId};
+use nomos_ir::program::Program;
+use std::alloc::{AllocError, Global};
+
+/// The type with which the channel goes on when the process sends the label on it.
+pub(crate) fn type_after_label(
+    program: &Program,
+    now: &Standing,
+    c: Chan,
+    label: Label,
+) -> Option<TypeId>
+    requires contractive { IsContractive program.now }
+    requires in_range { IsInRange program.now (judgement_of now.now) }
+    ensures { MatchOption result (SendsNoLabel program.now (judgement_of now.now) c label) (SendsLabel program.now (judgement_of now.now) c label) }
+{
+    let u = match channel_node(program, now, c) {
+        Some(u) => u,
+        None => return None,
+    };
+    match sent_choice(c, program.node(u)) {
+        Some(branches) => goes_by(branches.as_slice(), label),
+        None => None,
+    }
+}
+
+/// The process goes on at the instruction, and the channel at the type.
+pub(crate) fn go_on(
+    alloc: Global,
+    now: Standing,
+    c: Chan,
+    t: TypeId,
+    next: CodeId,
+) -> Result<Standing, AllocError>
+    ensures { IfOk result (λ s. judgement_of s ≡ goes_on (judgement_of now) c t next) }
+{
+    match c {
+        Chan::Own => Ok(Standing {
+            mode: now.mode,
+            values: now.values,
+            shared: now.shared,
+            linear: now.linear,
+            potential: now.potential,
+            code: next,
+            offers: t,
+        }),
+        Chan::Var(v) => {
+            let linear = retyped(alloc, now.linear.as_slice(), v, t)?;
+            Ok(Standing {
+                mode: now.mode,
+                values: now.values,
+                shared: now.shared,
+                linear,
+                potential: now.potential,
+                code: next,
+                offers: now.offers,
+            })
+        }
+    }
+}
+
+/// The rule of a label.
+pub(crate) fn at_label(
+    alloc: Global,
+    program: &Program,
+    now: Standing,
+    c: Chan,
+    label: Label,
+    next: CodeId,
+) -> Result<Step, AllocError>
+    requires contractive { IsContractive program.now }
+    requires in_range { IsInRange program.now (judgement_of now) }
+    requires stands { (at : ℕ) × StandsAtCode program.now (judgement_of now) (CodeNode.Label at c label next) }
+    requires later { (next.0 < now.code.0) × (next.0 < length program.now.code) }
+    ensures { IfOk result (StepTells program.now (judgement_of now)) }
+{
+    let lists = program.lists();
+    let t = match type_after_label(program, &now, c, label) {
+        Some(t) => t,
+        None => return Ok(Step::Refused),
+    };
+    let after = go_on(alloc, now, c, t, next)?;
+    Ok(Step::Next(after))
+}
