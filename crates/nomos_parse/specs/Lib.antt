@@ -1,0 +1,15 @@
+pub mod Scope
+pub mod Numbering
+pub mod TypeBuild
+pub mod CodeBuild
+pub mod Build
+pub mod NotYet
+pub mod Elaboration
+pub mod Reader
+pub mod TypeReader
+pub mod CodeReader
+pub mod FileReader
+pub mod ShortNames
+pub mod Gives
+pub mod Loop
+pub mod FileLoop
