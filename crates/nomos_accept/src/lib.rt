@@ -1,0 +1,5 @@
+//! Acceptance of contract texts.
+#![tactic(auto)]
+
+pub mod accepting;
+pub mod refusal;

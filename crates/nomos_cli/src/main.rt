@@ -1,0 +1,61 @@
+//! The program: it hands its words, the file that they name and its standard output to `nomos`.
+#![tactic(auto)]
+
+ghost use Rattle.std.specs.Prelude.{map, string_bytes, IsSome};
+ghost use Rattle.nomos_top.specs.Words.{task_of};
+ghost use Rattle.nomos_cli.specs.Call.{EndsWith};
+
+mod file_source;
+mod stdout_sink;
+
+use file_source::FileSource;
+use nomos_top::{Job, nomos};
+use std::alloc::{AllocError, AllocGlobal};
+use std::env::Env;
+use std::fs::{File, Files};
+use std::io::ErrorKind;
+use std::process::ExitCode;
+use stdout_sink::StdoutSink;
+
+fn main(rt: HostRuntime) -> ExitCode {
+    let Ok(words) = own_words(&rt) else {
+        return ExitCode::from(7);
+    };
+    let mut out = StdoutSink::new(rt.stdout());
+    ExitCode::from(status_of(&rt, &words, &mut out))
+}
+
+// The words after the program's own name. Where one of them is no text, they have no form, and so has
+// the empty list that is given then.
+fn own_words<R: Env + AllocGlobal>(rt: &R) -> Result<Vec<String>, AllocError> {
+    match std::env::args(rt) {
+        Ok(words) => words.skip(1).collect(rt.alloc()),
+        Err(error) if error.kind() == ErrorKind::InvalidData => Ok(Vec::new(rt.alloc())),
+        Err(_) => Err(AllocError),
+    }
+}
+
+// Does what the words say, and gives the status that the program ends with.
+fn status_of<R: Files<File = File> + AllocGlobal>(
+    rt: &R,
+    words: &[String],
+    out: &mut StdoutSink,
+) -> u8
+    ensures { EndsWith (map string_bytes words.now) (record { before = out.old; after = out.new }) result }
+{
+    let mut contract = FileSource::new(contract_file(rt, words));
+    nomos(rt.alloc(), words, &mut contract, out).status
+}
+
+// The file of the contract, opened for reading. None, where the words name none or it cannot be opened.
+fn contract_file<R: Files<File = File>>(rt: &R, words: &[String]) -> Option<File>
+    ensures { IsSome result → IsSome (task_of (map string_bytes words.now)) }
+{
+    match nomos_top::words(words) {
+        Some(Job::Check { file }) => File::open(rt, file).ok(),
+        None => None,
+    }
+}
+
+#[cfg(test)]
+mod tests;

@@ -1,0 +1,7 @@
+-- The task of a job.
+use Rattle.nomos_top.specs.declared.job.Job.{Job}
+use Rattle.nomos_top.specs.declared.job.Job.TheVariants as job
+use Rattle.nomos_top.specs.Words.{Task, check}
+
+abbrev pub task : Job → Task
+task (job.Check file) = check file.now

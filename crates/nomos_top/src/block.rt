@@ -1,0 +1,86 @@
+//! The lines that are printed of an accepted program.
+
+ghost use Rattle.std.specs.Prelude.{◌≡◌, ◌++◌, [], ◌∷◌, ℕ, codes, IfOk, OnOk, Some, slice_get};
+ghost use Rattle.std.specs.List.{flat_map};
+ghost use Rattle.nomos_base.specs.Gas.{gas_text};
+ghost use Rattle.nomos_top.specs.Block.{has_bound, bound_text, bound_lines, unit_line, accepted_block};
+
+use nomos_base::push_gas;
+use nomos_ir::declaration::ProcDecl;
+use nomos_ir::ids::ProcId;
+use nomos_ir::mode::Mode;
+use nomos_types::accepted::Accepted;
+use std::alloc::{AllocError, Global};
+
+/// The lines `accepted`, the unit and the bounds, for an accepted program.
+pub(crate) fn accepted_block(alloc: Global, accepted: &Accepted) -> Result<Vec<u8>, AllocError>
+    ensures { IfOk result (λ text. text.items ≡ accepted_block accepted.now) }
+{
+    let mut text = Vec::from_slice(alloc, b"accepted\n")?;
+    push_unit(&mut text, accepted.unit())?;
+    push_bounds(&mut text, accepted)?;
+    Ok(text)
+}
+
+// Appends the line of the unit.
+fn push_unit(text: &mut Vec<u8>, unit: u32) -> Result<(), AllocError>
+    ensures { OnOk result (text.new.items ≡ text.old.items ++ unit_line unit) }
+{
+    text.extend_from_slice(b"unit ")?;
+    push_gas(text, 1, unit)?;
+    text.push(b'\n')?;
+    Ok(())
+}
+
+// Appends the lines of the bounds, in order of text.
+fn push_bounds(text: &mut Vec<u8>, accepted: &Accepted) -> Result<(), AllocError>
+    ensures { OnOk result (text.new.items ≡ text.old.items ++ flat_map (bound_lines accepted.now.annotations) accepted.now.program.procs) }
+{
+    for (p, declaration) in accepted
+        .program()
+        .lists()
+        .procs
+        .as_slice()
+        .iter()
+        .enumerate()
+    {
+        push_bound_of(text, accepted, ProcId(p as u32), declaration)?;
+    }
+    Ok(())
+}
+
+// Appends the line of the bound of a declaration, where one is printed.
+fn push_bound_of(
+    text: &mut Vec<u8>,
+    accepted: &Accepted,
+    p: ProcId,
+    declaration: &ProcDecl,
+) -> Result<(), AllocError>
+    requires { slice_get accepted.now.program.procs p.0 ≡ Some declaration.now }
+    ensures { OnOk result (text.new.items ≡ text.old.items ++ bound_lines accepted.now.annotations declaration.now) }
+{
+    if !has_bound(declaration.mode) {
+        return Ok(());
+    }
+    let bound = accepted.bound(p);
+    push_bound(text, declaration.name.as_bytes(), bound, accepted.unit())
+}
+
+// Whether the bound of a declaration of this mode is printed.
+fn has_bound(mode: Mode) -> bool
+    ensures { result ≡ has_bound mode }
+{
+    matches!(mode, Mode::S | Mode::T)
+}
+
+// Appends the line of a bound.
+fn push_bound(text: &mut Vec<u8>, name: &[u8], dths: u64, unit: u32) -> Result<(), AllocError>
+    ensures { OnOk result (text.new.items ≡ text.old.items ++ bound_text name.now dths unit) }
+{
+    text.extend_from_slice(b"bound ")?;
+    text.extend_from_slice(name)?;
+    text.extend_from_slice(b" = ")?;
+    push_gas(text, u128::from(dths), unit)?;
+    text.push(b'\n')?;
+    Ok(())
+}

@@ -1,0 +1,383 @@
+//! What no clause says: that the call succeeds where memory is found, and examples from outside.
+
+use crate::{Job, nomos, words};
+use nomos_base::{MemorySink, MemorySource, SureSink, SureSource};
+use nomos_ir::code_node::{Chan, CodeNode};
+use nomos_ir::ids::{CodeId, DefId, Label, ProcId, TypeId, VarId};
+use nomos_ir::type_node::{TypeAt, TypeNode};
+use nomos_syntax::scan::TEXT_LIMIT;
+use std::alloc::{AllocError, Global};
+use std::process::Abort;
+use std::test::Fail;
+
+const EVERYTHING: usize = 4_194_304;
+
+const ACCEPTED: &[u8] = b"accepted\nunit 1\nbound t = 0\n";
+
+const EMPTY_ACCEPTED: &[u8] = b"accepted\nunit 1\n";
+
+const UNTYPED: &[u8] = b"refused Untyped\n";
+
+const UNREAD: &[u8] = b"refused Unread\n";
+
+const NOT_YET: &[u8] = b"refused NotYet\n";
+
+const FLIP: &[u8] = b"type R flip = +{ heads : 1 | tails : 1 };
+proc R toss(;) : flip = self.heads; close;
+proc T t(;) = spawn c = toss(;); case c { tails => wait c; close | heads => wait c; close };
+";
+
+// Words as the program gets them.
+fn words_of(alloc: Global, texts: &[&str]) -> Result<Vec<String>, AllocError> {
+    let mut words = Vec::new(alloc);
+    for text in texts {
+        words.push(String::from_str(alloc, text)?)?;
+    }
+    Ok(words)
+}
+
+// Checks a text, and looks at the status and at what is written.
+fn expect(
+    rt: &(impl Abort + AllocGlobal),
+    text: &[u8],
+    status: u8,
+    written: &[u8],
+) -> Result<(), Fail> {
+    let alloc = rt.alloc();
+    let words = words_of(alloc, &["check", "it.nomos"])?;
+    let text = Vec::from_slice(alloc, text)?;
+    let mut contract = MemorySource::new(text, EVERYTHING, Vec::new(alloc));
+    let mut out = MemorySink::new(alloc, EVERYTHING, EVERYTHING, Vec::new(alloc))?;
+    let ended = nomos(alloc, &words, &mut contract, &mut out);
+    assert_eq!(rt; out.written(), written);
+    assert_eq!(rt; ended.status, status);
+    assert_eq!(rt; ended.accepted.is_some(), status == 0);
+    Ok(())
+}
+
+#[test]
+fn accepts_what_has_a_derivation(rt: HostRuntime) -> Result<(), Fail> {
+    let table: [(&[u8], &[u8]); 13] = [
+        (b"", EMPTY_ACCEPTED),
+        (b"// nothing but a comment", EMPTY_ACCEPTED),
+        (b"type R token = 1;", EMPTY_ACCEPTED),
+        (b"proc T t(;) = close;", ACCEPTED),
+        (
+            b"proc R hidden(;) : 1 = close; proc T t(;) = close;",
+            ACCEPTED,
+        ),
+        (FLIP, ACCEPTED),
+        (
+            b"proc T b(;) = close; proc T a(;) = close;",
+            b"accepted\nunit 1\nbound b = 0\nbound a = 0\n",
+        ),
+        (
+            b"type R tick = +{ go : tock | end : 1 }; type R tock = +{ go : tick };
+            proc R clock(;) : tick = self.go; self.go; self.end; close;",
+            EMPTY_ACCEPTED,
+        ),
+        (
+            b"type R a = +{ l : b | end : 1 }; type R b = +{ l : c }; type R c = +{ l : a };
+            proc R go(;) : a = self.l; self.l; self.l; self.l; self.l; self.l; self.end; close;
+            type R q = &{ l : r | end : 1 }; type R r = &{ l : q };
+            proc R ask(; x : q) : 1 = x.l; x.l; x.l; x.l; x.end; wait x; close;",
+            EMPTY_ACCEPTED,
+        ),
+        (
+            b"proc R loop(;) : 1 = spawn x = loop(;); wait x; close; proc T t(;) = close;",
+            ACCEPTED,
+        ),
+        (
+            b"type R pick = &{ left : 1 | right : 1 };
+            proc R ask(; a : pick, b : pick) : 1 = b.left; a.right; wait b; wait a; close;",
+            EMPTY_ACCEPTED,
+        ),
+        (
+            b"type R pick = &{ go : 1 | stay : 1 }; proc R one(;) : 1 = close;
+            proc R p(;) : pick = case self { stay => close | go => spawn x = one(;); wait x; close };",
+            EMPTY_ACCEPTED,
+        ),
+        (
+            b"proc R one(;) : 1 = close;
+            proc T t(;) = spawn x = one(;); wait x; spawn y = one(;); spawn z = one(;); wait z; wait y; close;",
+            ACCEPTED,
+        ),
+    ];
+    for (text, written) in table {
+        expect(&rt, text, 0, written)?;
+    }
+    Ok(())
+}
+
+// The program of a text, node by node: parts before wholes, each with its offset. Variable 0 is `me`.
+#[test]
+fn reads_the_program_of_a_text(rt: HostRuntime) -> Result<(), Fail> {
+    let alloc = rt.alloc();
+    let text = b"type R bit = +{ one : 1 };
+proc R mk(;) : bit = self.one; close;
+proc T t(;) = spawn x = mk(;); case x { one => wait x; close };
+";
+    let words = words_of(alloc, &["check", "it.nomos"])?;
+    let mut contract = SureSource::new(Vec::from_slice(alloc, text)?);
+    let Some(accepted) = nomos(alloc, &words, &mut contract, &mut SureSink).accepted else {
+        panic!(rt; "the text is accepted");
+    };
+    let lists = accepted.program().lists();
+    assert!(rt;
+        matches!(
+            lists.types.as_slice(),
+            [
+                TypeAt {
+                    node: TypeNode::One,
+                    at: 22
+                },
+                TypeAt {
+                    node: TypeNode::Plus(_),
+                    at: 13
+                },
+                TypeAt {
+                    node: TypeNode::Named(DefId(0)),
+                    at: 42
+                },
+                TypeAt {
+                    node: TypeNode::One,
+                    at: 65
+                },
+            ]
+        )
+    );
+    assert!(rt;
+        matches!(
+            lists.code.as_slice(),
+            [
+                CodeNode::Close(58),
+                CodeNode::Label(48, Chan::Own, Label(0), CodeId(0)),
+                CodeNode::Close(120),
+                CodeNode::Wait(112, VarId(1), CodeId(2)),
+                CodeNode::Case(96, Chan::Var(VarId(1)), _),
+                CodeNode::Spawn(79, VarId(1), ProcId(0), _, CodeId(4)),
+            ]
+        )
+    );
+    let [definition] = lists.defs.as_slice() else {
+        panic!(rt; "one definition");
+    };
+    assert_eq!(rt; definition.body, TypeId(1));
+    let [made, started] = lists.procs.as_slice() else {
+        panic!(rt; "two processes");
+    };
+    assert_eq!(rt; (made.offers, made.first), (TypeId(2), CodeId(1)));
+    assert_eq!(rt; (started.offers, started.first), (TypeId(3), CodeId(5)));
+    Ok(())
+}
+
+#[test]
+fn refuses_what_has_no_derivation(rt: HostRuntime) -> Result<(), Fail> {
+    let table: [&[u8]; 14] = [
+        b"type R coin = 1; proc R bad(; c : coin) : 1 = close;",
+        b"type R coin = 1; proc R bad(; c : coin) : coin = wait c;wait c; close;",
+        b"type R flip = +{ heads : 1 }; proc R toss(;) : flip = self.tails; close;",
+        b"type R flip = +{ heads : 1 }; proc R toss(;) : flip = close;",
+        b"type R pick = &{ go : 1 | stay : 1 }; proc R p(;) : pick = case self { go => close };",
+        b"type R pick = &{ go : 1 }; proc R p(;) : pick = case self { go => close | stay => close };",
+        b"type R pick = &{ go : 1 }; proc R p(;) : pick = self.go; close;",
+        b"type R flip = +{ heads : 1 | tails : 1 };
+        proc R p(; c : flip, d : 1) : 1 = case c { heads => wait c; wait d; close | tails => wait c; close };",
+        b"proc T one(;) = close; proc T t(;) = spawn x = one(;); wait x; close;",
+        b"proc R one(; d : 1) : 1 = wait d; close; proc T t(;) = spawn x = one(;); wait x; close;",
+        b"proc R one(;) : 1 = close; proc R two(;) : 1 = spawn x = one(;); close;",
+        b"proc R good(;) : 1 = close; proc R bad(; c : 1) : 1 = close; proc R best(;) : 1 = close;",
+        b"type R pick = &{ go : 1 }; proc R p(; c : pick) : 1 = case c { go => wait c; close };",
+        b"type R a = +{ l : b | end : 1 }; type R b = +{ l : a }; proc R p(;) : a = self.l; self.end; close;",
+    ];
+    for text in table {
+        expect(&rt, text, 1, UNTYPED)?;
+    }
+    Ok(())
+}
+
+#[test]
+fn refuses_what_does_not_read(rt: HostRuntime) -> Result<(), Fail> {
+    let table: [&[u8]; 14] = [
+        b"type R a = a;",
+        b"type R a = b; type R b = 1;",
+        b"type R a = 1; type R a = 1;",
+        b"type R a = +{ l : 1 | l : 1 };",
+        b"proc T t(;) = close; proc R t(;) : 1 = close;",
+        b"proc R one(;) : 1 = close; proc R two(; x : 1) : 1 = spawn x = one(;); wait x; close;",
+        b"proc R p(;) : 1 = case self { l => close | l => close };",
+        b"proc R p(;) : unknown = close;",
+        b"proc T t(;) = spawn x = unknown(;); wait x; close;",
+        b"proc T t(;) = wait x; close;",
+        b"proc T t(;) = clo",
+        b"type R coin = 1",
+        b"type \xc3",
+        b"\x00",
+    ];
+    for text in table {
+        expect(&rt, text, 1, UNREAD)?;
+    }
+    Ok(())
+}
+
+#[test]
+fn leaves_to_later_what_is_not_built(rt: HostRuntime) -> Result<(), Fail> {
+    let table: [&[u8]; 8] = [
+        b"proc T f(;) {2} = close;",
+        b"type L a = 1;",
+        b"type R a = 1 * 1;",
+        b"type R a = 2;",
+        b"proc R p(x : int;) : 1 = close;",
+        b"proc T t(;) = spawn x = f(1;); wait x; close;",
+        b"proc T t(; c : 1, d : 1) = spawn x = f(; c, d); wait x; close;",
+        b"fn",
+    ];
+    for text in table {
+        expect(&rt, text, 1, NOT_YET)?;
+    }
+    Ok(())
+}
+
+// A text with a piece that is repeated.
+fn repeated(
+    alloc: Global,
+    before: &[u8],
+    piece: &[u8],
+    times: usize,
+    after: &[u8],
+) -> Result<Vec<u8>, AllocError> {
+    let mut text = Vec::from_slice(alloc, before)?;
+    for _ in 0..times {
+        text.extend_from_slice(piece)?;
+    }
+    text.extend_from_slice(after)?;
+    Ok(text)
+}
+
+#[test]
+fn limits_of_texts(rt: HostRuntime) -> Result<(), Fail> {
+    let table: [(usize, u8, &[u8]); 2] = [
+        (TEXT_LIMIT, 0, EMPTY_ACCEPTED),
+        (TEXT_LIMIT + 1, 1, UNREAD),
+    ];
+    for (length, status, written) in table {
+        expect(
+            &rt,
+            &repeated(rt.alloc(), b"", b" ", length, b"")?,
+            status,
+            written,
+        )?;
+    }
+    Ok(())
+}
+
+#[test]
+fn limits_of_names(rt: HostRuntime) -> Result<(), Fail> {
+    let table: [(usize, u8, &[u8]); 2] = [(64, 0, EMPTY_ACCEPTED), (65, 1, UNREAD)];
+    for (length, status, written) in table {
+        let text = repeated(rt.alloc(), b"type R ", b"n", length, b" = 1;")?;
+        expect(&rt, &text, status, written)?;
+    }
+    Ok(())
+}
+
+#[test]
+fn limits_of_nodes(rt: HostRuntime) -> Result<(), Fail> {
+    // two declarations, four places of types, the last two instructions, and one for each label
+    let before: &[u8] = b"type R a = +{ go : a | end : 1 }; proc R p(;) : a = ";
+    let table: [(usize, u8, &[u8]); 2] = [(9_992, 0, EMPTY_ACCEPTED), (9_993, 1, UNREAD)];
+    for (times, status, written) in table {
+        let text = repeated(rt.alloc(), before, b"self.go; ", times, b"self.end; close;")?;
+        expect(&rt, &text, status, written)?;
+    }
+    Ok(())
+}
+
+// A text whose type stands in this many parentheses.
+fn in_parentheses(alloc: Global, depth: usize) -> Result<Vec<u8>, AllocError> {
+    let opened = repeated(alloc, b"type R a = ", b"(", depth, b"1")?;
+    repeated(alloc, &opened, b")", depth, b";")
+}
+
+// A text of cases in a branch of one another.
+fn in_cases(alloc: Global, depth: usize) -> Result<Vec<u8>, AllocError> {
+    let opened = repeated(
+        alloc,
+        b"type R a = &{ l : a | end : 1 }; proc R p(;) : a = ",
+        b"case self { end => close | l => ",
+        depth,
+        b"self.l; close",
+    )?;
+    repeated(alloc, &opened, b" }", depth, b";")
+}
+
+#[test]
+fn limits_of_nesting(rt: HostRuntime) -> Result<(), Fail> {
+    let alloc = rt.alloc();
+    expect(&rt, &in_parentheses(alloc, 63)?, 0, EMPTY_ACCEPTED)?;
+    expect(&rt, &in_parentheses(alloc, 64)?, 1, UNREAD)?;
+    expect(&rt, &in_cases(alloc, 64)?, 1, UNTYPED)?;
+    expect(&rt, &in_cases(alloc, 65)?, 1, UNREAD)?;
+    expect(&rt, &in_cases(alloc, 100)?, 1, UNREAD)
+}
+
+#[test]
+fn words_have_one_form(rt: HostRuntime) -> Result<(), Fail> {
+    let table: [&[&str]; 8] = [
+        &[],
+        &["check"],
+        &["check", ""],
+        &["check", "-v"],
+        &["check", "a", "b"],
+        &["run", "a"],
+        &["Check", "a"],
+        &["check", "-"],
+    ];
+    let alloc = rt.alloc();
+    for texts in table {
+        let given = words_of(alloc, texts)?;
+        assert!(rt; words(&given).is_none());
+        let mut contract = MemorySource::new(Vec::new(alloc), 1, Vec::new(alloc));
+        let mut out = MemorySink::new(alloc, 99, 99, Vec::new(alloc))?;
+        let ended = nomos(alloc, &given, &mut contract, &mut out);
+        assert_eq!(rt; ended.status, 4);
+        assert_eq!(rt; out.written(), b"usage: nomos check FILE\n".as_slice());
+    }
+    let given = words_of(alloc, &["check", "a-file"])?;
+    assert!(rt; matches!(words(&given), Some(Job::Check { file }) if file == "a-file"));
+    Ok(())
+}
+
+#[test]
+fn a_source_that_fails_is_told(rt: HostRuntime) -> Result<(), Fail> {
+    let alloc = rt.alloc();
+    let given = words_of(alloc, &["check", "it.nomos"])?;
+    let failing = vec![in alloc; 3u64]?;
+    let mut contract = MemorySource::new(Vec::from_slice(alloc, FLIP)?, 4, failing);
+    let mut out = MemorySink::new(alloc, 99, 99, Vec::new(alloc))?;
+    let ended = nomos(alloc, &given, &mut contract, &mut out);
+    assert_eq!(rt; ended.status, 5);
+    assert!(rt; ended.accepted.is_none());
+    assert_eq!(rt; out.written(), b"read fault contract\n".as_slice());
+    assert_eq!(rt; contract.faults(), 1);
+    Ok(())
+}
+
+#[test]
+fn a_sink_that_fails_is_told(rt: HostRuntime) -> Result<(), Fail> {
+    let alloc = rt.alloc();
+    let given = words_of(alloc, &["check", "it.nomos"])?;
+    let failing = vec![in alloc; 2u64]?;
+    let mut contract = MemorySource::new(
+        Vec::from_slice(alloc, FLIP)?,
+        EVERYTHING,
+        Vec::new(alloc),
+    );
+    let mut out = MemorySink::new(alloc, 99, 3, failing)?;
+    let ended = nomos(alloc, &given, &mut contract, &mut out);
+    assert_eq!(rt; ended.status, 6);
+    assert!(rt; ended.accepted.is_some());
+    assert_eq!(rt; out.written(), b"acc".as_slice());
+    assert_eq!(rt; out.faults(), 1);
+    Ok(())
+}
