@@ -1,10 +1,7 @@
 //! What no clause says: that the call succeeds where memory is found, and examples from outside.
 
 use crate::{Job, nomos, words};
-use nomos_base::{MemorySink, MemorySource, SureSink, SureSource};
-use nomos_ir::code_node::{Chan, CodeNode};
-use nomos_ir::ids::{CodeId, DefId, Label, ProcId, TypeId, VarId};
-use nomos_ir::type_node::{TypeAt, TypeNode};
+use nomos_base::{MemorySink, MemorySource};
 use nomos_syntax::scan::TEXT_LIMIT;
 use std::alloc::{AllocError, Global};
 use std::process::Abort;
@@ -106,68 +103,6 @@ fn accepts_what_has_a_derivation(rt: HostRuntime) -> Result<(), Fail> {
     for (text, written) in table {
         expect(&rt, text, 0, written)?;
     }
-    Ok(())
-}
-
-// The program of a text, node by node: parts before wholes, each with its offset. Variable 0 is `me`.
-#[test]
-fn reads_the_program_of_a_text(rt: HostRuntime) -> Result<(), Fail> {
-    let alloc = rt.alloc();
-    let text = b"type R bit = +{ one : 1 };
-proc R mk(;) : bit = self.one; close;
-proc T t(;) = spawn x = mk(;); case x { one => wait x; close };
-";
-    let words = words_of(alloc, &["check", "it.nomos"])?;
-    let mut contract = SureSource::new(Vec::from_slice(alloc, text)?);
-    let Some(accepted) = nomos(alloc, &words, &mut contract, &mut SureSink).accepted else {
-        panic!(rt; "the text is accepted");
-    };
-    let lists = accepted.program().lists();
-    assert!(rt;
-        matches!(
-            lists.types.as_slice(),
-            [
-                TypeAt {
-                    node: TypeNode::One,
-                    at: 22
-                },
-                TypeAt {
-                    node: TypeNode::Plus(_),
-                    at: 13
-                },
-                TypeAt {
-                    node: TypeNode::Named(DefId(0)),
-                    at: 42
-                },
-                TypeAt {
-                    node: TypeNode::One,
-                    at: 65
-                },
-            ]
-        )
-    );
-    assert!(rt;
-        matches!(
-            lists.code.as_slice(),
-            [
-                CodeNode::Close(58),
-                CodeNode::Label(48, Chan::Own, Label(0), CodeId(0)),
-                CodeNode::Close(120),
-                CodeNode::Wait(112, VarId(1), CodeId(2)),
-                CodeNode::Case(96, Chan::Var(VarId(1)), _),
-                CodeNode::Spawn(79, VarId(1), ProcId(0), _, CodeId(4)),
-            ]
-        )
-    );
-    let [definition] = lists.defs.as_slice() else {
-        panic!(rt; "one definition");
-    };
-    assert_eq!(rt; definition.body, TypeId(1));
-    let [made, started] = lists.procs.as_slice() else {
-        panic!(rt; "two processes");
-    };
-    assert_eq!(rt; (made.offers, made.first), (TypeId(2), CodeId(1)));
-    assert_eq!(rt; (started.offers, started.first), (TypeId(3), CodeId(5)));
     Ok(())
 }
 
