@@ -106,6 +106,40 @@ fn accepts_what_has_a_derivation(rt: HostRuntime) -> Result<(), Fail> {
     Ok(())
 }
 
+// The program of a text, node by node: parts before wholes, each with its offset. Variable 0 is `me`.
+#[test]
+fn reads_the_program_of_a_text(rt: HostRuntime) -> Result<(), Fail> {
+    let alloc = rt.alloc();
+    let text = b"type R bit = +{ one : 1 };
+proc R mk(;) : bit = self.one; close;
+proc T t(;) = spawn x = mk(;); case x { one => wait x; close };
+";
+    let words = words_of(alloc, &["check", "it.nomos"])?;
+    let text = Vec::from_slice(alloc, text)?;
+    let mut contract = MemorySource::new(text, EVERYTHING, Vec::new(alloc));
+    let mut out = MemorySink::new(alloc, EVERYTHING, EVERYTHING, Vec::new(alloc))?;
+    let ended = nomos(alloc, &words, &mut contract, &mut out);
+    let Some(accepted) = &ended.accepted else {
+        panic!(rt; "the text is accepted");
+    };
+    let lists = accepted.program().lists();
+    let types = format!(in alloc; "{:?}", lists.types.as_slice())?;
+    assert_eq!(rt;
+        types.as_str(),
+        "[TypeAt { node: One, at: 22 }, \
+        TypeAt { node: Plus(Items { items: [Branch { label: Label(0), goes: TypeId(0) }] }), at: 13 }, \
+        TypeAt { node: Named(DefId(0)), at: 42 }, TypeAt { node: One, at: 65 }]"
+    );
+    let code = format!(in alloc; "{:?}", lists.code.as_slice())?;
+    assert_eq!(rt;
+        code.as_str(),
+        "[Close(58), Label(48, Own, Label(0), CodeId(0)), Close(120), Wait(112, VarId(1), CodeId(2)), \
+        Case(96, Var(VarId(1)), Items { items: [Arm { label: Label(0), goes: CodeId(3) }] }), \
+        Spawn(79, VarId(1), ProcId(0), Args { values: Items { items: [] }, channels: Items { items: [] } }, CodeId(4))]"
+    );
+    Ok(())
+}
+
 #[test]
 fn refuses_what_has_no_derivation(rt: HostRuntime) -> Result<(), Fail> {
     let table: [&[u8]; 14] = [
