@@ -1,0 +1,6 @@
+pub mod LineLemmas
+pub mod ScanLemmas
+pub mod FormLemmas
+pub mod LoopLemmas
+pub mod SizeLemmas
+pub mod ReadingLaws

@@ -1,0 +1,64 @@
+-- A text reads as one list of items at most; it reads, or has one first line without a form.
+use Rattle.std.proofs.Common.{◌≡◌, ℕ, Bool, true, false, cond, List, [], ◌∷◌, ◌++◌, refl, sym, ◌∙◌, ap}
+use Rattle.nomos_script.specs.declared.item.ScriptItem.{ScriptItem}
+use Rattle.nomos_script.specs.declared.parsing.ScriptError.{ScriptError}
+use Rattle.nomos_script.specs.declared.parsing.ScriptError.TheVariants as error
+use Rattle.nomos_script.specs.Form.{Form, blank, deposit, exec, print_form, HasForm}
+use Rattle.nomos_script.specs.Item.{items_of}
+use Rattle.nomos_script.specs.Lines.{lines_of}
+use Rattle.nomos_script.specs.Reading.{LinesReadAs, ReadsAs, IsFirstBad, IsSyntaxAt, IsNotYetAt, begins_unbuilt}
+use Rattle.nomos_script.specs.Scan.{tokens_of}
+
+-- what is answered to the first line without a form says its cause
+pub syntax_found : (text line : List ℕ) (number k : ℕ) (answer : ScriptError) → IsFirstBad text number line → (begins : Bool) → begins_unbuilt (tokens_of line) ≡ begins → answer ≡ cond begins (error.NotYet number) (error.Syntax number) → answer ≡ error.Syntax k → IsSyntaxAt text k
+syntax_found text line number k answer first true is chosen wanted = absurd (cc)
+syntax_found text line number k answer first false is chosen wanted =
+    let here : number ≡ k = cc in
+    (line, rw (← here) first, is)
+
+pub not_yet_found : (text line : List ℕ) (number k : ℕ) (answer : ScriptError) → IsFirstBad text number line → (begins : Bool) → begins_unbuilt (tokens_of line) ≡ begins → answer ≡ cond begins (error.NotYet number) (error.Syntax number) → answer ≡ error.NotYet k → IsNotYetAt text k
+not_yet_found text line number k answer first true is chosen wanted =
+    let here : number ≡ k = cc in
+    (line, rw (← here) first, is)
+not_yet_found text line number k answer first false is chosen wanted = absurd (cc)
+
+-- a form is printed as no other is
+print_form-once : (f g : Form) → print_form f ≡ print_form g → f ≡ g
+print_form-once blank blank same = refl
+print_form-once blank (deposit n d) same = absurd (cc)
+print_form-once blank (exec s p) same = absurd (cc)
+print_form-once (deposit n d) blank same = absurd (cc)
+print_form-once (deposit n d) (deposit m e) same = cc
+print_form-once (deposit n d) (exec s p) same = absurd (cc)
+print_form-once (exec s p) blank same = absurd (cc)
+print_form-once (exec s p) (deposit n d) same = absurd (cc)
+print_form-once (exec s p) (exec t q) same = cc
+
+-- lines have one list of forms at most
+forms_once : (lines : List (List ℕ)) (fs gs : List Form) → LinesReadAs lines fs → LinesReadAs lines gs → fs ≡ gs
+forms_once [] [] [] h k = refl
+forms_once [] [] (g ∷ gs) h k = absurd k
+forms_once [] (f ∷ fs) gs h k = absurd h
+forms_once (l ∷ lines) [] gs h k = absurd h
+forms_once (l ∷ lines) (f ∷ fs) [] h k = absurd k
+forms_once (l ∷ lines) (f ∷ fs) (g ∷ gs) h k =
+    let here : f ≡ g = print_form-once f g (sym h.0.printed ∙ k.0.printed) in
+    let there : fs ≡ gs = forms_once lines fs gs h.1 k.1 in
+    cc
+
+-- a text reads as one list of items at most
+pub reads_once : (text : List ℕ) (items others : List ScriptItem) → ReadsAs text items → ReadsAs text others → items ≡ others
+reads_once text items others h k =
+    sym h.stand_for ∙ ap (items_of 1) (forms_once (lines_of text) h.forms k.forms h.lines k.lines) ∙ k.stand_for
+
+-- a line without a form is not among lines that have forms
+bad_among : (before after : List (List ℕ)) (line : List ℕ) (forms : List Form) → LinesReadAs (before ++ line ∷ after) forms → HasForm line
+bad_among [] after line [] h = absurd h
+bad_among [] after line (f ∷ forms) h = (f, h.0)
+bad_among (l ∷ before) after line [] h = absurd h
+bad_among (l ∷ before) after line (f ∷ forms) h = bad_among before after line forms h.1
+
+-- a text that reads has no line without a form
+pub reads_without_bad : (text line : List ℕ) (k : ℕ) (items : List ScriptItem) → ReadsAs text items → ¬ IsFirstBad text k line
+reads_without_bad text line k items h = λ bad.
+    bad.bad (bad_among bad.before bad.after line h.forms (rw bad.split at h.lines))

@@ -1,0 +1,63 @@
+//! Names as they stand in a script.
+ghost use Rattle.std.specs.Prelude.{◌≡◌, ◌↔◌, IsTrue};
+ghost use Rattle.nomos_script.specs.Name.{IsScriptName};
+
+use crate::bytes::{is_letter, is_word_byte};
+use nomos_ir::items::Items;
+use std::marker::Model;
+
+/// The most bytes of a name.
+const NAME_LIMIT: usize = 64;
+
+/// A name of a script, which contracts see as the list of its bytes: a letter or `_`, then letters, digits and
+/// `_`, at most 64 bytes in all. No word is reserved in scripts.
+#[derive(Drop, Debug)]
+pub struct ScriptName {
+    bytes: Vec<u8>,
+}
+
+impl Model for ScriptName {
+    ghost use Rattle.std.specs.Prelude.{List, ℕ};
+    ghost use Rattle.nomos_script.specs.Name.{IsScriptName};
+
+    ghost Value = { List ℕ };
+
+    ghost view = { λ name. name.bytes.items };
+
+    ghost invariant = { λ name. IsScriptName name.bytes.items };
+}
+
+/// Names of a script in a row.
+pub type ScriptNames = Items<ScriptName>;
+
+impl ScriptName {
+    /// The name with these bytes, in the vector's own memory.
+    pub fn of_vec(bytes: Vec<u8>) -> ScriptName
+        requires { IsScriptName bytes.items }
+        ensures { result ≡ bytes.items }
+    {
+        ScriptName { bytes }
+    }
+
+    /// The bytes of the name.
+    pub fn as_bytes(&self) -> &[u8]
+        ensures bytes { result.now ≡ self.now }
+        ensures name { IsScriptName self.now }
+    {
+        self.bytes.as_slice()
+    }
+}
+
+/// Whether the text is a name of a script.
+pub fn is_script_name(text: &[u8]) -> bool
+    ensures { IsTrue result ↔ IsScriptName text.now }
+{
+    match text {
+        [first, ..] => {
+            text.len() <= NAME_LIMIT
+                && is_letter(*first)
+                && text.iter().all(|byte| is_word_byte(*byte))
+        }
+        [] => false,
+    }
+}

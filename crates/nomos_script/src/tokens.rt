@@ -1,0 +1,202 @@
+// The tokens of a line that are left to read.
+ghost use Rattle.std.specs.Prelude.{◌≡◌, ◌≢◌, ◌<◌, ◌≤◌, ℕ, MatchOption, IfSome, SomeIff, IfOk, OnOk, IsErrOf, false, List, [], ◌∷◌, length, drop, slice_index, codes};
+ghost use Rattle.std.specs.List.{prefix_len};
+ghost use Rattle.nomos_ir.specs.Name.{is_digit, is_word_byte};
+ghost use Rattle.std.specs.Str.Parse.{IsNumeral};
+ghost use Rattle.nomos_script.specs.Form.{units_of, max_units};
+ghost use Rattle.nomos_script.specs.Name.{IsScriptName};
+ghost use Rattle.nomos_script.specs.Scan.{Token as Lexeme, word, mark, is_blank, begins_comment, tokens_of};
+ghost use Rattle.nomos_script.specs.Seen.{token_seen, HasDigits, BeginsWithName, BeginsWithUnits};
+
+use crate::bytes::{is_blank, is_digit, is_letter, is_word_byte};
+use crate::name::is_script_name;
+use crate::stop::Stop;
+use std::marker::Model;
+
+/// The most units of one deposit.
+const MAX_UNITS: u64 = 1_000_000_000_000_000_000;
+
+/// What a token says: a word, a number, or any other byte.
+#[derive(Clone, Copy, Debug)]
+pub(crate) enum Token<'a> {
+    Word(&'a [u8]),
+    Number(&'a [u8]),
+    Mark(u8),
+}
+
+/// The tokens of a line that are left to read, which contracts see as the list of them.
+#[derive(Drop)]
+pub(crate) struct Tokens<'a> {
+    left: &'a [u8],
+}
+
+impl<'a> Model for Tokens<'a> {
+    ghost use Rattle.std.specs.Prelude.{List};
+    ghost use Rattle.nomos_script.specs.Scan.{Token as Lexeme, tokens_of};
+
+    ghost Value = { List Lexeme };
+
+    ghost view = { λ t. tokens_of t.left.now };
+}
+
+/// How many blanks stand in front.
+fn blanks_length(bytes: &[u8]) -> usize
+    ensures value { result ≡ prefix_len is_blank bytes.now }
+    ensures within { result ≤ length bytes.now }
+{
+    bytes.iter().take_while(|byte| is_blank(**byte)).count()
+}
+
+/// How many bytes in front belong to one word.
+fn word_length(bytes: &[u8]) -> usize
+    ensures value { result ≡ prefix_len is_word_byte bytes.now }
+    ensures within { result ≤ length bytes.now }
+{
+    bytes.iter().take_while(|byte| is_word_byte(**byte)).count()
+}
+
+/// How many bytes in front are digits.
+fn digits_length(bytes: &[u8]) -> usize
+    ensures value { result ≡ prefix_len is_digit bytes.now }
+    ensures within { result ≤ length bytes.now }
+{
+    bytes.iter().take_while(|byte| is_digit(**byte)).count()
+}
+
+/// Whether a comment begins with this byte, before the others.
+fn begins_comment(first: u8, after: &[u8]) -> bool
+    ensures { result ≡ begins_comment first after.now }
+{
+    first == b'/' && !after.is_empty() && after[0] == b'/'
+}
+
+/// The token that begins this text, which is the first byte and those after it, and the number of its bytes.
+fn token_at<'a>(first: u8, after: &[u8], text: &'a [u8]) -> (Token<'a>, usize)
+    requires split { text.now ≡ first ∷ after.now }
+    requires solid { is_blank first ≡ false }
+    requires code { begins_comment first after.now ≡ false }
+    ensures token { tokens_of text.now ≡ token_seen result.0 ∷ tokens_of (drop result.1 text.now) }
+    ensures digits { HasDigits result.0 }
+    ensures within { result.1 ≤ length text.now }
+{
+    if is_letter(first) {
+        let length = word_length(after) + 1;
+        (Token::Word(&text[..length]), length)
+    } else if is_digit(first) {
+        let length = digits_length(after) + 1;
+        (Token::Number(&text[..length]), length)
+    } else {
+        (Token::Mark(first), 1)
+    }
+}
+
+/// The line without the blanks in front.
+fn after_blanks(line: &[u8]) -> &[u8]
+    ensures same { tokens_of result.now ≡ tokens_of line.now }
+    ensures solid { is_blank (slice_index result.now 0) ≡ false }
+{
+    &line[blanks_length(line)..]
+}
+
+/// The first token of a line, and what comes after it.
+fn split_token(line: &[u8]) -> (Option<Token<'_>>, &[u8])
+    ensures next { MatchOption result.0 ((tokens_of line.now ≡ []) × (tokens_of result.1.now ≡ [])) (λ t. tokens_of line.now ≡ token_seen t ∷ tokens_of result.1.now) }
+    ensures digits { IfSome result.0 HasDigits }
+{
+    let text = after_blanks(line);
+    let [first, after @ ..] = text else {
+        return (None, text);
+    };
+    if begins_comment(*first, after) {
+        return (None, &[]);
+    }
+    let (token, length) = token_at(*first, after, text);
+    (Some(token), &text[length..])
+}
+
+/// The units that a numeral writes, unless they are too many for one deposit.
+fn units_of(digits: &[u8]) -> Option<u64>
+    requires { IsNumeral 10 digits.now }
+    ensures { SomeIff result (units_of digits.now ≤ max_units) (units_of digits.now) }
+{
+    let Ok(text) = str::from_utf8(digits) else {
+        return None;
+    };
+    match text.parse::<u64>() {
+        Ok(units) if units <= MAX_UNITS => Some(units),
+        _ => None,
+    }
+}
+
+impl<'a> Tokens<'a> {
+    /// The tokens of a line.
+    pub(crate) fn new(line: &'a [u8]) -> Tokens<'a>
+        ensures { result ≡ tokens_of line.now }
+    {
+        Tokens { left: line }
+    }
+
+    /// The next token, which is taken.
+    pub(crate) fn next(&mut self) -> Option<Token<'a>>
+        ensures next { MatchOption result ((self.old ≡ []) × (self.new ≡ [])) (λ t. self.old ≡ token_seen t ∷ self.new) }
+        ensures digits { IfSome result HasDigits }
+    {
+        let (token, left) = split_token(self.left);
+        self.left = left;
+        token
+    }
+    /// Takes the next token, which has to be a name.
+    pub(crate) fn name(&mut self) -> Result<&'a [u8], Stop>
+        ensures name { IfOk result (λ n. (self.old ≡ word n.now ∷ self.new) × IsScriptName n.now) }
+        ensures none { IsErrOf result Stop.NoForm → ¬ BeginsWithName self.old }
+    {
+        match self.next() {
+            Some(Token::Word(text)) if is_script_name(text) => Ok(text),
+            _ => Err(Stop::NoForm),
+        }
+    }
+
+    /// Takes the next token, which has to be the number of units of a deposit.
+    pub(crate) fn units(&mut self) -> Result<u64, Stop>
+        ensures units { IfOk result (λ n. BeginsWithUnits n self.old self.new) }
+        ensures none { IsErrOf result Stop.NoForm → (n : ℕ) (rest : List Lexeme) → ¬ BeginsWithUnits n self.old rest }
+    {
+        match self.next() {
+            Some(Token::Number(digits)) => units_of(digits).ok_or(Stop::NoForm),
+            _ => Err(Stop::NoForm),
+        }
+    }
+
+    /// Takes the tokens `(`, `;` and `)`, which have to be the last.
+    pub(crate) fn no_arguments(&mut self) -> Result<(), Stop>
+        ensures marks { OnOk result (self.old ≡ mark (codes "(") ∷ mark (codes ";") ∷ mark (codes ")") ∷ []) }
+        ensures none { IsErrOf result Stop.NoForm → self.old ≢ mark (codes "(") ∷ mark (codes ";") ∷ mark (codes ")") ∷ [] }
+    {
+        self.expect(b'(')?;
+        self.expect(b';')?;
+        self.expect(b')')?;
+        self.end()
+    }
+
+    /// Takes the next token, which has to be this byte.
+    fn expect(&mut self, byte: u8) -> Result<(), Stop>
+        ensures mark { OnOk result (self.old ≡ mark (byte ∷ []) ∷ self.new) }
+        ensures none { IsErrOf result Stop.NoForm → (rest : List Lexeme) → self.old ≢ mark (byte ∷ []) ∷ rest }
+    {
+        match self.next() {
+            Some(Token::Mark(found)) if found == byte => Ok(()),
+            _ => Err(Stop::NoForm),
+        }
+    }
+
+    /// Sees that no token is left.
+    pub(crate) fn end(&mut self) -> Result<(), Stop>
+        ensures end { OnOk result (self.old ≡ []) }
+        ensures none { IsErrOf result Stop.NoForm → self.old ≢ [] }
+    {
+        match self.next() {
+            None => Ok(()),
+            Some(_) => Err(Stop::NoForm),
+        }
+    }
+}
