@@ -4,3 +4,4 @@ pub mod FormLemmas
 pub mod LoopLemmas
 pub mod SizeLemmas
 pub mod ReadingLaws
+pub mod Examples

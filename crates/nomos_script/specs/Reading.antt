@@ -1,7 +1,9 @@
 -- When a text reads as a script, and why another does not.
-use Rattle.std.specs.Prelude.{◌≡◌, ℕ, ◌+◌, ◌≤◌, Bool, false, ◌||◌, List, [], ◌∷◌, ◌++◌, length, All, IsTrue, IsFalse, codes}
+use Rattle.std.specs.Prelude.{◌≡◌, ℕ, ◌+◌, ◌≤◌, Bool, false, ◌||◌, List, [], ◌∷◌, ◌++◌, length, All, IsTrue, IsFalse, codes, ◌⊎◌, Result, IsErrOf}
 use Rattle.std.specs.Str.{bytes_eq}
 use Rattle.nomos_script.specs.declared.item.ScriptItem.{ScriptItem}
+use Rattle.nomos_script.specs.declared.parsing.ScriptError.{ScriptError}
+use Rattle.nomos_script.specs.declared.parsing.ScriptError.TheVariants as error
 use Rattle.nomos_script.specs.Form.{Form, LineReadsAs, HasForm}
 use Rattle.nomos_script.specs.Item.{items_of}
 use Rattle.nomos_script.specs.Lines.{lines_of}
@@ -54,3 +56,7 @@ IsNotYetAt text k = (line : List ℕ) × IsFirstBad text k line × IsTrue (begin
 -- the first line without a form does not begin so
 abbrev pub IsSyntaxAt : List ℕ → ℕ → Type 0
 IsSyntaxAt text k = (line : List ℕ) × IsFirstBad text k line × IsFalse (begins_unbuilt (tokens_of line))
+
+-- the answer is this error, or memory ran out
+abbrev pub IsRefusedAs : {T : Type 0} → ScriptError → Result T ScriptError → Type 0
+IsRefusedAs why answer = IsErrOf answer why ⊎ IsErrOf answer error.NoMemory

@@ -9,4 +9,6 @@ pub mod name;
 pub mod parsing;
 pub mod script;
 mod stop;
+#[cfg(test)]
+mod tests;
 mod tokens;

@@ -2,7 +2,7 @@
 ghost use Rattle.std.specs.Prelude.{◌≡◌, ◌↔◌, ◌<◌, ◌≤◌, ℕ, List, ◌++◌, length, IfOk, OnOk, IsErrOf, IsOkUnless, if◌then◌else◌};
 ghost use Rattle.std.specs.Option.{option_to_list};
 ghost use Rattle.nomos_script.specs.declared.item.ScriptItem.{ScriptItem};
-ghost use Rattle.nomos_script.specs.Reading.{text_limit, ReadsAs, IsSyntaxAt, IsNotYetAt, begins_unbuilt};
+ghost use Rattle.nomos_script.specs.Reading.{text_limit, ReadsAs, IsSyntaxAt, IsNotYetAt, IsRefusedAs, begins_unbuilt};
 ghost use Rattle.nomos_script.specs.Scan.{tokens_of};
 
 use crate::item::{ScriptItem, ScriptItems};
@@ -98,8 +98,11 @@ pub fn parse_script(alloc: Global, bytes: &[u8]) -> Result<Script, ScriptError>
     ensures read { IfOk result (λ script. ReadsAs bytes.now script) }
     ensures readable { (items : List ScriptItem) → ReadsAs bytes.now items → IsOkUnless result ScriptError.NoMemory }
     ensures too_long { IsErrOf result ScriptError.TooLong ↔ (text_limit < length bytes.now) }
+
     ensures syntax { (k : ℕ) → IsErrOf result (ScriptError.Syntax k) → IsSyntaxAt bytes.now k }
+    ensures syntax_refused { (k : ℕ) → IsSyntaxAt bytes.now k → IsRefusedAs (ScriptError.Syntax k) result }
     ensures not_yet { (k : ℕ) → IsErrOf result (ScriptError.NotYet k) → IsNotYetAt bytes.now k }
+    ensures not_yet_refused { (k : ℕ) → IsNotYetAt bytes.now k → IsRefusedAs (ScriptError.NotYet k) result }
 {
     if bytes.len() > TEXT_LIMIT {
         return Err(ScriptError::TooLong);
