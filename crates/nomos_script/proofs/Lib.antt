@@ -5,3 +5,4 @@ pub mod LoopLemmas
 pub mod SizeLemmas
 pub mod ReadingLaws
 pub mod Examples
+pub mod NameLemmas

@@ -46,6 +46,14 @@ impl ScriptName {
     {
         self.bytes.as_slice()
     }
+
+    /// The name as text.
+    pub fn as_str(&self) -> &str
+        ensures text { result.now ≡ self.now }
+        ensures name { IsScriptName self.now }
+    {
+        str::from_utf8(self.as_bytes()).unwrap()
+    }
 }
 
 /// Whether the text is a name of a script.

@@ -96,6 +96,7 @@ fn read_items(alloc: Global, text: &[u8]) -> Result<ScriptItems, ScriptError>
 /// whatever its bytes are. Want of memory is the one answer for which no reason is given.
 pub fn parse_script(alloc: Global, bytes: &[u8]) -> Result<Script, ScriptError>
     ensures read { IfOk result (λ script. ReadsAs bytes.now script) }
+    ensures only { IfOk result (λ script. (items : List ScriptItem) → ReadsAs bytes.now items → items ≡ script) }
     ensures readable { (items : List ScriptItem) → ReadsAs bytes.now items → IsOkUnless result ScriptError.NoMemory }
     ensures too_long { IsErrOf result ScriptError.TooLong ↔ (text_limit < length bytes.now) }
 

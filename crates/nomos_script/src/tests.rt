@@ -13,7 +13,7 @@ enum Wanted {
 }
 
 fn is_name(name: &ScriptName, wanted: &str) -> bool {
-    name.as_bytes() == wanted.as_bytes()
+    name.as_str() == wanted
 }
 
 /// Whether the item is the wanted one.

@@ -145,6 +145,7 @@ impl<'a> Tokens<'a> {
         self.left = left;
         token
     }
+
     /// Takes the next token, which has to be a name.
     pub(crate) fn name(&mut self) -> Result<&'a [u8], Stop>
         ensures name { IfOk result (λ n. (self.old ≡ word n.now ∷ self.new) × IsScriptName n.now) }

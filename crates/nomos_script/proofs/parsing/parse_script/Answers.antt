@@ -1,6 +1,6 @@
 -- What is read is a script; what is refused does not read, and is refused for its cause.
 use Rattle.std.proofs.Common.{rules, inl, inr, ap, Err}
-use Rattle.nomos_script.proofs.ReadingLaws.{SaysCause, syntax_answered, not_yet_answered, reads_without_bad}
+use Rattle.nomos_script.proofs.ReadingLaws.{SaysCause, reads_once, syntax_answered, not_yet_answered, reads_without_bad}
 use Rattle.nomos_script.proofs.SizeLemmas.{reads_within_size}
 use Rattle.nomos_script.proofs.parsing.parse_script.Goals as goal
 use Rattle.nomos_script.proofs.parsing.parse_script.Goals.{In_err-read_items}
@@ -36,3 +36,7 @@ returns-clause-syntax_refused c = λ k h.
 pub returns-clause-not_yet_refused : goal.returns-clause-not_yet_refused
 returns-clause-not_yet_refused c = λ k h.
     absurd (reads_without_bad c.args.bytes.now h.0 k c.in_ok-read_items.field-0 c.in_ok-read_items.ensures.read h.1)
+
+pub returns-clause-only : goal.returns-clause-only
+returns-clause-only c = λ items reads.
+    rw c.of_items.ensures (reads_once c.args.bytes.now items c.in_ok-read_items.field-0 reads c.in_ok-read_items.ensures.read)
