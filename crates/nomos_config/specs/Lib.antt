@@ -1,0 +1,12 @@
+pub mod Channels
+pub mod Objects
+pub mod State
+pub mod Types
+pub mod Moves
+pub mod Step
+pub mod Run
+pub mod Start
+pub mod Standing
+pub mod Views
+pub mod Parts
+pub mod Example
