@@ -4,6 +4,7 @@ ghost use Rattle.nomos_config.specs.State.{State, empty};
 
 use crate::fire::Fire;
 use crate::machine::{ChannelNames, Machine, Results};
+use crate::object::Object;
 use crate::parts::Parts;
 use crate::view::View;
 use nomos_ir::ids::ProcId;
@@ -51,6 +52,13 @@ impl PlainState {
                 outside: Vec::new(alloc),
             },
         }
+    }
+
+    /// The objects, in the order in which they were made.
+    pub fn objects(&self) -> &[Object]
+        ensures { result.now ≡ self.now.objects }
+    {
+        &self.parts.objects
     }
 
     /// A state of the same meaning, in memory of its own.
