@@ -1,4 +1,6 @@
 pub mod NumberLaws
+pub mod NameTables
+pub mod LabelTables
 pub mod Fronts
 pub mod LabelLaws
 pub mod TypeLaws

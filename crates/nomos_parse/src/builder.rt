@@ -5,11 +5,11 @@ ghost use Rattle.nomos_parse.specs.Gives.{Gives, type_added, code_added, label_a
 ghost use Rattle.nomos_parse.specs.Numbering.{number_of};
 ghost use Rattle.nomos_parse.specs.Reader.{counted};
 
-use crate::names::{id_of, number_of, see};
+use crate::name_table::NameTable;
+use crate::names::id_of;
 use crate::stop::Stop;
 use nomos_ir::code_node::CodeNode;
 use nomos_ir::ids::{CodeId, Label, TypeId, VarId};
-use nomos_ir::name::Name;
 use nomos_ir::type_node::{TypeAt, TypeNode};
 use std::alloc::Global;
 use std::marker::Model;
@@ -24,8 +24,8 @@ pub(crate) struct Builder {
     alloc: Global,
     types: Vec<TypeAt>,
     code: Vec<CodeNode>,
-    labels: Vec<Name>,
-    variables: Vec<Name>,
+    labels: NameTable,
+    variables: NameTable,
     nodes: u32,
 }
 
@@ -34,7 +34,7 @@ impl Model for Builder {
 
     ghost Value = { Progress };
 
-    ghost view = { λ b. record { built = record { types = b.types.items; code = b.code.items; labels = b.labels.items; variables = b.variables.items }; nodes = b.nodes } };
+    ghost view = { λ b. record { built = record { types = b.types.items; code = b.code.items; labels = b.labels; variables = b.variables }; nodes = b.nodes } };
 }
 
 impl Builder {
@@ -46,8 +46,8 @@ impl Builder {
             alloc,
             types: Vec::new(alloc),
             code: Vec::new(alloc),
-            labels: Vec::new(alloc),
-            variables: Vec::new(alloc),
+            labels: NameTable::new(alloc),
+            variables: NameTable::new(alloc),
             nodes: 0,
         }
     }
@@ -91,28 +91,28 @@ impl Builder {
     pub(crate) fn see_label(&mut self, text: &[u8]) -> Result<Label, Stop>
         ensures { Gives (λ l. (self.new, l)) result (Some (label_added self.old text.now)) }
     {
-        Ok(Label(see(self.alloc, &mut self.labels, text)?))
+        Ok(Label(self.labels.see(text)?))
     }
 
     /// Sees a variable.
     pub(crate) fn see_variable(&mut self, text: &[u8]) -> Result<VarId, Stop>
         ensures { Gives (λ v. (self.new, v)) result (Some (variable_added self.old text.now)) }
     {
-        Ok(VarId(see(self.alloc, &mut self.variables, text)?))
+        Ok(VarId(self.variables.see(text)?))
     }
 
     /// The number of a variable that was seen.
     pub(crate) fn variable(&self, text: &[u8]) -> Result<VarId, Stop>
         ensures { Gives (λ v. v) result (Some (record { 0 = number_of self.now.built.variables text.now })) }
     {
-        Ok(VarId(id_of(number_of(&self.variables, text))?))
+        Ok(VarId(id_of(self.variables.number_of(text))?))
     }
 
     /// The types, the code and the labels.
-    pub(crate) fn into_parts(self) -> (Vec<TypeAt>, Vec<CodeNode>, Vec<Name>)
+    pub(crate) fn into_parts(self) -> (Vec<TypeAt>, Vec<CodeNode>, NameTable)
         ensures types { result.0.items ≡ self.built.types }
         ensures code { result.1.items ≡ self.built.code }
-        ensures labels { result.2.items ≡ self.built.labels }
+        ensures labels { result.2 ≡ self.built.labels }
     {
         (self.types, self.code, self.labels)
     }

@@ -1,25 +1,26 @@
 // How codes are read.
 ghost use Rattle.std.specs.Prelude.{◌≡◌, [], length, OnOk};
-ghost use Rattle.nomos_parse.specs.CodeReader.{has_arm, read_branches, read_case, read_code};
+ghost use Rattle.nomos_parse.specs.CodeReader.{read_branches, read_case, read_code};
 ghost use Rattle.nomos_parse.specs.Gives.{Gives, read_with};
 ghost use Rattle.nomos_parse.specs.Loop.{Extends, cases_of, read_branch, read_instruction, turn_seen};
 
 use crate::builder::Builder;
+use crate::name_table::NameTable;
+use crate::new_arms::NewArms;
 use crate::scope::Scope;
 use crate::steps::{put_steps, read_chan, read_label, read_spawn, read_wait};
 use crate::stop::Stop;
 use crate::tokens::{Found, Part, Tokens};
 use crate::turn::Turn;
 use nomos_ir::code_node::{Arm, Arms, Chan, CodeNode};
-use nomos_ir::ids::{CodeId, Label};
-use nomos_ir::name::Name;
+use nomos_ir::ids::CodeId;
 use nomos_ir::word::Word;
 use nomos_syntax::symbol::Symbol;
 
 /// Reads a code in which at most this many branches are open. What it binds is bound no more behind it.
 #[cycle(codes)]
 pub(crate) fn read_code(
-    procs: &[Name],
+    procs: &NameTable,
     depth: usize,
     scope: &mut Scope,
     builder: &mut Builder,
@@ -49,7 +50,7 @@ pub(crate) fn read_code(
 #[cycle(codes)]
 #[tactic(auto, unfolding(crate::specs::Loop::instruction_from, crate::specs::CodeReader::step_from))]
 fn read_instruction(
-    procs: &[Name],
+    procs: &NameTable,
     depth: usize,
     scope: &mut Scope,
     builder: &mut Builder,
@@ -89,7 +90,7 @@ fn read_instruction(
 #[cycle(codes)]
 #[tactic(auto, using(crate::proofs::Depths::closed_case, crate::proofs::Depths::open_case))]
 fn read_case(
-    procs: &[Name],
+    procs: &NameTable,
     depth: usize,
     at: u32,
     scope: &mut Scope,
@@ -109,7 +110,7 @@ fn read_case(
 #[cycle(codes)]
 #[tactic(auto, unfolding(crate::specs::CodeReader::read_case))]
 fn read_open_case(
-    procs: &[Name],
+    procs: &NameTable,
     depth: usize,
     at: u32,
     scope: &mut Scope,
@@ -130,7 +131,7 @@ fn read_open_case(
 /// Reads branches, up to one without a `|` behind it.
 #[cycle(codes)]
 fn read_branches(
-    procs: &[Name],
+    procs: &NameTable,
     depth: usize,
     scope: &mut Scope,
     builder: &mut Builder,
@@ -140,45 +141,37 @@ fn read_branches(
         (read_branches (read_code procs.now depth) scope.old (length tokens.old) builder.old [] tokens.old) }
     ensures scope { OnOk result (scope.new ≡ scope.old) }
 {
-    let mut arms = Vec::new(builder.alloc());
+    let mut arms = NewArms::new(builder.alloc());
     for _ in 0..tokens.len() {
         read_branch(procs, depth, scope, &mut arms, builder, tokens)?;
         if !tokens.accept(Symbol::Bar) {
-            return Ok(arms);
+            return arms.into_arms();
         }
     }
     Err(Stop::Unread)
 }
 
-/// Whether one of the branches has the label.
-fn has_arm(arms: &[Arm], label: Label) -> bool
-    ensures { result ≡ has_arm arms.now label.0 }
-{
-    arms.iter().any(|arm| arm.label.0 == label.0)
-}
-
 /// Reads a branch, and puts it behind the others.
 #[cycle(codes)]
 fn read_branch(
-    procs: &[Name],
+    procs: &NameTable,
     depth: usize,
     scope: &mut Scope,
-    arms: &mut Vec<Arm>,
+    arms: &mut NewArms,
     builder: &mut Builder,
     tokens: &mut Tokens<'_>,
 ) -> Result<(), Stop>
-    ensures gives { Gives (λ _. read_with builder.new tokens.new arms.new.items) result
-        (read_branch (read_code procs.now depth) scope.old builder.old arms.old.items tokens.old) }
+    ensures gives { Gives (λ _. read_with builder.new tokens.new arms.new) result
+        (read_branch (read_code procs.now depth) scope.old builder.old arms.old tokens.old) }
     ensures scope { OnOk result (scope.new ≡ scope.old) }
 {
     let name = tokens.name()?;
     builder.count()?;
     let label = builder.see_label(name.text)?;
-    if has_arm(arms, label) {
+    if arms.has(label) {
         return Err(Stop::Unread);
     }
     tokens.expect(Symbol::FatArrow)?;
     let goes = read_code(procs, depth, scope, builder, tokens)?;
-    arms.push(Arm { label, goes })?;
-    Ok(())
+    arms.push(label, goes)
 }

@@ -6,6 +6,7 @@ ghost use Rattle.nomos_parse.specs.Gives.{Gives, lexeme_seen, read_with};
 
 use crate::builder::Builder;
 use crate::codes::read_code;
+use crate::name_table::NameTable;
 use crate::names::name_of;
 use crate::pars::{NESTING_LIMIT, Pars, read_head};
 use crate::scope::Scope;
@@ -16,7 +17,6 @@ use nomos_ir::amount::Amount;
 use nomos_ir::declaration::{ProcDecl, VarKinds, VarTypes};
 use nomos_ir::ids::CodeId;
 use nomos_ir::mode::Mode;
-use nomos_ir::name::Name;
 use nomos_ir::type_node::{Def, TypeNode};
 use nomos_ir::word::Word;
 use nomos_syntax::symbol::Symbol;
@@ -55,7 +55,7 @@ fn is_transaction(mode: Mode) -> bool
 /// Reads a definition, behind its word.
 #[tactic(auto, unfolding(crate::specs::FileReader::read_def))]
 fn read_def(
-    types: &[Name],
+    types: &NameTable,
     declared: &mut Declarations,
     tokens: &mut Tokens<'_>,
 ) -> Result<(), Stop>
@@ -78,7 +78,7 @@ fn read_def(
 /// Reads `=`, a code and `;`.
 #[tactic(auto, unfolding(crate::specs::FileReader::read_body))]
 fn read_body(
-    procs: &[Name],
+    procs: &NameTable,
     scope: &mut Scope,
     builder: &mut Builder,
     tokens: &mut Tokens<'_>,
@@ -94,8 +94,8 @@ fn read_body(
 /// Reads a process that offers a type, behind its name.
 #[tactic(auto, unfolding(crate::specs::FileReader::read_offering))]
 fn read_offering(
-    types: &[Name],
-    procs: &[Name],
+    types: &NameTable,
+    procs: &NameTable,
     mode: Mode,
     name: &[u8],
     builder: &mut Builder,
@@ -126,8 +126,8 @@ fn read_offering(
 /// Reads a transaction at an offset, behind its name.
 #[tactic(auto, unfolding(crate::specs::FileReader::read_transaction))]
 fn read_transaction(
-    types: &[Name],
-    procs: &[Name],
+    types: &NameTable,
+    procs: &NameTable,
     at: u32,
     name: &[u8],
     builder: &mut Builder,
@@ -157,8 +157,8 @@ fn read_transaction(
 
 /// Reads a process of a mode at an offset, behind its name.
 fn read_process(
-    types: &[Name],
-    procs: &[Name],
+    types: &NameTable,
+    procs: &NameTable,
     mode: Mode,
     at: u32,
     name: &[u8],
@@ -179,8 +179,8 @@ fn read_process(
 /// Reads a process at an offset, behind its word.
 #[tactic(auto, unfolding(crate::specs::FileReader::read_proc))]
 fn read_proc(
-    types: &[Name],
-    procs: &[Name],
+    types: &NameTable,
+    procs: &NameTable,
     declared: &mut Declarations,
     at: u32,
     tokens: &mut Tokens<'_>,
@@ -206,8 +206,8 @@ fn read_proc(
 
 /// Reads the declaration that begins with a token at an offset, behind that token.
 pub(crate) fn read_decl(
-    types: &[Name],
-    procs: &[Name],
+    types: &NameTable,
+    procs: &NameTable,
     declared: &mut Declarations,
     found: Found<'_>,
     tokens: &mut Tokens<'_>,

@@ -10,7 +10,8 @@ ghost use Rattle.nomos_syntax.specs.Spans.{LiesIn, placed_of};
 
 use crate::builder::Builder;
 use crate::declarations::{Declarations, read_decl};
-use crate::names::{name_of, names_differ};
+use crate::name_table::NameTable;
+use crate::names::name_of;
 use crate::stop::Stop;
 use crate::tokens::{Found, Part, Tokens};
 use nomos_ir::code_node::CodeNodes;
@@ -32,8 +33,8 @@ pub(crate) struct Heads {
 
 /// Reads declarations up to the end, after those that were read.
 fn read_decls(
-    types: &[Name],
-    procs: &[Name],
+    types: &NameTable,
+    procs: &NameTable,
     declared: &mut Declarations,
     tokens: &mut Tokens<'_>,
 ) -> Result<(), Stop>
@@ -95,8 +96,8 @@ fn read_heads(alloc: Global, tokens: &mut Tokens<'_>) -> Result<Heads, Stop>
 }
 
 /// The lists of what was declared.
-fn lists_of(alloc: Global, declared: Declarations) -> ProgramLists
-    ensures { result ≡ lists_of (declaring declared).declared }
+fn lists_of(alloc: Global, declared: Declarations) -> Result<ProgramLists, Stop>
+    ensures { Gives (λ lists. lists) result (Some (lists_of (declaring declared).declared)) }
 {
     let Declarations {
         defs,
@@ -104,15 +105,15 @@ fn lists_of(alloc: Global, declared: Declarations) -> ProgramLists
         builder,
     } = declared;
     let (types, code, labels) = builder.into_parts();
-    ProgramLists {
+    Ok(ProgramLists {
         defs: Defs::of_vec(defs),
         types: TypeAts::of_vec(types),
         terms: TermNodes::of_vec(Vec::new(alloc)),
         code: CodeNodes::of_vec(code),
         fns: FnDecls::of_vec(Vec::new(alloc)),
         procs: ProcDecls::of_vec(procs),
-        labels: Names::of_vec(labels),
-    }
+        labels: Names::of_vec(labels.into_names()?),
+    })
 }
 
 /// The lists of the program that the tokens of a text are read as.
@@ -122,20 +123,16 @@ fn read_file(alloc: Global, text: &[u8], tokens: &[Token]) -> Result<ProgramList
     ensures { Gives (λ lists. lists) result (option_map lists_of (read_file (map (placed_of text.now) tokens.now))) }
 {
     let heads = read_heads(alloc, &mut Tokens::new(text, tokens))?;
-    if !names_differ(&heads.types) {
-        return Err(Stop::Unread);
-    }
-    if !names_differ(&heads.procs) {
-        return Err(Stop::Unread);
-    }
+    let types = NameTable::of_different(alloc, &heads.types)?;
+    let procs = NameTable::of_different(alloc, &heads.procs)?;
     let mut declared = Declarations {
         defs: Vec::new(alloc),
         procs: Vec::new(alloc),
         builder: Builder::new(alloc),
     };
     let mut rest = Tokens::new(text, tokens);
-    read_decls(&heads.types, &heads.procs, &mut declared, &mut rest)?;
-    Ok(lists_of(alloc, declared))
+    read_decls(&types, &procs, &mut declared, &mut rest)?;
+    lists_of(alloc, declared)
 }
 
 /// The lists of the program that the tokens of a text are read as, or none.

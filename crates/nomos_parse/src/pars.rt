@@ -7,12 +7,12 @@ ghost use Rattle.nomos_parse.specs.Reader.{expect};
 ghost use Rattle.nomos_syntax.specs.declared.symbol.Symbol.TheVariants.{CloseParen};
 
 use crate::builder::Builder;
+use crate::name_table::NameTable;
 use crate::scope::Scope;
 use crate::stop::Stop;
 use crate::tokens::Tokens;
 use crate::types::read_type;
 use nomos_ir::ids::{TypeId, VarId};
-use nomos_ir::name::Name;
 use nomos_syntax::symbol::Symbol;
 use std::alloc::Global;
 
@@ -38,7 +38,7 @@ fn no_pars(alloc: Global) -> Pars
 
 /// Reads a parameter, and puts it behind the others.
 fn read_par(
-    types: &[Name],
+    types: &NameTable,
     pars: &mut Pars,
     builder: &mut Builder,
     tokens: &mut Tokens<'_>,
@@ -47,19 +47,20 @@ fn read_par(
         (read_par types.now builder.old (pars_seen pars.old) tokens.old) }
 {
     let name = tokens.name()?;
-    if pars.scope.has(name.text) {
-        return Err(Stop::Unread);
-    }
+    pars.scope.bind(name.text)?;
     tokens.expect(Symbol::Colon)?;
     let variable = builder.see_variable(name.text)?;
     let goes = read_type(types, NESTING_LIMIT, builder, tokens)?;
-    pars.scope.bind(name.text)?;
     pars.channels.push((variable, goes))?;
     Ok(())
 }
 
 /// Reads parameters, up to one without a `,` behind it.
-fn read_pars(types: &[Name], builder: &mut Builder, tokens: &mut Tokens<'_>) -> Result<Pars, Stop>
+fn read_pars(
+    types: &NameTable,
+    builder: &mut Builder,
+    tokens: &mut Tokens<'_>,
+) -> Result<Pars, Stop>
     ensures { Gives (λ p. read_with builder.new tokens.new (pars_seen p)) result
         (read_pars types.now (length tokens.old) builder.old (record { bound = []; channels = [] }) tokens.old) }
 {
@@ -76,7 +77,7 @@ fn read_pars(types: &[Name], builder: &mut Builder, tokens: &mut Tokens<'_>) -> 
 /// Reads parameters, which may be none, up to the `)` behind them.
 #[tactic(auto, using(crate::proofs::Parameters::no_parameters))]
 fn read_pars_or_none(
-    types: &[Name],
+    types: &NameTable,
     builder: &mut Builder,
     tokens: &mut Tokens<'_>,
 ) -> Result<Pars, Stop>
@@ -92,7 +93,7 @@ fn read_pars_or_none(
 /// Reads `(;`, parameters and `)`.
 #[tactic(auto, unfolding(crate::specs::FileReader::read_head))]
 pub(crate) fn read_head(
-    types: &[Name],
+    types: &NameTable,
     builder: &mut Builder,
     tokens: &mut Tokens<'_>,
 ) -> Result<Pars, Stop>

@@ -1,19 +1,18 @@
 // The names that are bound.
-ghost use Rattle.std.specs.Prelude.{◌≡◌, ◌≤◌, ◌-◌, [], ◌∷◌, length, drop, Some};
+ghost use Rattle.std.specs.Prelude.{◌≡◌, ◌≤◌, ◌-◌, [], ◌∷◌, not, length, drop};
 ghost use Rattle.nomos_parse.specs.Gives.{Gives};
 ghost use Rattle.nomos_parse.specs.Numbering.{is_among};
+ghost use Rattle.nomos_parse.specs.Reader.{when};
 
-use crate::names::{is_among, name_of};
+use crate::name_table::NameTable;
 use crate::stop::Stop;
-use nomos_ir::name::Name;
 use std::alloc::Global;
 use std::marker::Model;
 
 /// The names that are bound, which contracts see with the one that was bound last at the front.
 #[derive(Drop)]
 pub(crate) struct Scope {
-    alloc: Global,
-    names: Vec<Name>,
+    names: NameTable,
 }
 
 impl Model for Scope {
@@ -21,7 +20,7 @@ impl Model for Scope {
 
     ghost Value = { List (List ℕ) };
 
-    ghost view = { λ s. reverse s.names.items };
+    ghost view = { λ s. reverse s.names };
 }
 
 impl Scope {
@@ -30,8 +29,7 @@ impl Scope {
         ensures { result ≡ [] }
     {
         Scope {
-            alloc,
-            names: Vec::new(alloc),
+            names: NameTable::new(alloc),
         }
     }
 
@@ -46,15 +44,14 @@ impl Scope {
     pub(crate) fn has(&self, text: &[u8]) -> bool
         ensures { result ≡ is_among self.now text.now }
     {
-        is_among(&self.names, text)
+        self.names.has(text)
     }
 
-    /// Binds a name.
+    /// Binds a name that is not to be bound yet.
     pub(crate) fn bind(&mut self, text: &[u8]) -> Result<(), Stop>
-        ensures { Gives (λ _. self.new) result (Some (text.now ∷ self.old)) }
+        ensures { Gives (λ _. self.new) result (when (not (is_among self.old text.now)) (text.now ∷ self.old)) }
     {
-        self.names.push(name_of(self.alloc, text)?)?;
-        Ok(())
+        self.names.add(text)
     }
 
     /// Leaves this many names bound, those that were bound first.

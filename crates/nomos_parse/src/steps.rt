@@ -6,14 +6,14 @@ ghost use Rattle.nomos_parse.specs.Loop.{Extends, steps_added};
 ghost use Rattle.nomos_parse.specs.Scope.{Names};
 
 use crate::builder::Builder;
-use crate::names::{id_of, is_among, number_of};
+use crate::name_table::NameTable;
+use crate::names::id_of;
 use crate::scope::Scope;
 use crate::step::Step;
 use crate::stop::Stop;
 use crate::tokens::{Found, Part, Tokens};
 use nomos_ir::code_node::{Args, Chan, CodeNode, VarIds};
 use nomos_ir::ids::{CodeId, ProcId};
-use nomos_ir::name::Name;
 use nomos_ir::term_node::TermIds;
 use nomos_ir::word::Word;
 use nomos_syntax::symbol::Symbol;
@@ -93,7 +93,7 @@ fn read_no_args(tokens: &mut Tokens<'_>) -> Result<(), Stop>
 /// Reads the rest of a `spawn` at an offset, behind its word, and binds its name.
 #[tactic(auto, unfolding(crate::specs::CodeReader::read_spawn))]
 pub(crate) fn read_spawn(
-    procs: &[Name],
+    procs: &NameTable,
     scope: &mut Scope,
     at: u32,
     builder: &mut Builder,
@@ -105,18 +105,15 @@ pub(crate) fn read_spawn(
 {
     builder.count()?;
     let name = tokens.name()?;
-    if scope.has(name.text) {
-        return Err(Stop::Unread);
-    }
+    scope.bind(name.text)?;
     tokens.expect(Symbol::Equals)?;
     let process = tokens.name()?;
-    if !is_among(procs, process.text) {
+    if !procs.has(process.text) {
         return Err(Stop::Unread);
     }
     read_no_args(tokens)?;
     let variable = builder.see_variable(name.text)?;
-    let id = ProcId(id_of(number_of(procs, process.text))?);
-    scope.bind(name.text)?;
+    let id = ProcId(id_of(procs.number_of(process.text))?);
     Ok(Step::Spawn(at, variable, id))
 }
 

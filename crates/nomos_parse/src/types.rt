@@ -2,15 +2,16 @@
 ghost use Rattle.std.specs.Prelude.{◌≡◌, [], length};
 ghost use Rattle.nomos_parse.specs.Gives.{Gives, choice_of, read_with};
 ghost use Rattle.nomos_parse.specs.Loop.{read_lab};
-ghost use Rattle.nomos_parse.specs.TypeReader.{read_choice, read_grouped, has_label, read_labs, read_type, type_of_tokens};
+ghost use Rattle.nomos_parse.specs.TypeReader.{read_choice, read_grouped, read_labs, read_type, type_of_tokens};
 
 use crate::builder::Builder;
-use crate::names::{id_of, is_among, number_of};
+use crate::name_table::NameTable;
+use crate::names::id_of;
+use crate::new_branches::NewBranches;
 use crate::side::Side;
 use crate::stop::Stop;
 use crate::tokens::{Found, Part, Tokens};
-use nomos_ir::ids::{DefId, Label, TypeId};
-use nomos_ir::name::Name;
+use nomos_ir::ids::{DefId, TypeId};
 use nomos_ir::type_node::{Branch, Branches, TypeNode};
 use nomos_syntax::symbol::Symbol;
 
@@ -18,7 +19,7 @@ use nomos_syntax::symbol::Symbol;
 #[cycle(types)]
 #[tactic(auto, using(crate::proofs::Depths::closed_type, crate::proofs::Depths::open_type))]
 pub(crate) fn read_type(
-    types: &[Name],
+    types: &NameTable,
     depth: usize,
     builder: &mut Builder,
     tokens: &mut Tokens<'_>,
@@ -35,7 +36,7 @@ pub(crate) fn read_type(
 #[cycle(types)]
 #[tactic(auto, unfolding(crate::specs::TypeReader::type_from))]
 fn read_open_type(
-    types: &[Name],
+    types: &NameTable,
     depth: usize,
     builder: &mut Builder,
     tokens: &mut Tokens<'_>,
@@ -51,9 +52,9 @@ fn read_open_type(
             builder.count()?;
             builder.put_type(TypeNode::One, at)
         }
-        Part::Name(text) if is_among(types, text) => {
+        Part::Name(text) if types.has(text) => {
             builder.count()?;
-            let def = DefId(id_of(number_of(types, text))?);
+            let def = DefId(id_of(types.number_of(text))?);
             builder.put_type(TypeNode::Named(def), at)
         }
         Part::Mark(Symbol::Plus) => read_choice(types, depth, Side::Provider, at, builder, tokens),
@@ -69,7 +70,7 @@ fn read_open_type(
 #[cycle(types)]
 #[tactic(auto, unfolding(crate::specs::TypeReader::read_grouped))]
 fn read_grouped(
-    types: &[Name],
+    types: &NameTable,
     depth: usize,
     builder: &mut Builder,
     tokens: &mut Tokens<'_>,
@@ -95,7 +96,7 @@ fn choice(side: Side, branches: Branches) -> TypeNode
 #[cycle(types)]
 #[tactic(auto, unfolding(crate::specs::TypeReader::read_choice))]
 fn read_choice(
-    types: &[Name],
+    types: &NameTable,
     depth: usize,
     side: Side,
     at: u32,
@@ -115,7 +116,7 @@ fn read_choice(
 /// Reads labels with their types, up to one without a `|` behind it.
 #[cycle(types)]
 fn read_labs(
-    types: &[Name],
+    types: &NameTable,
     depth: usize,
     builder: &mut Builder,
     tokens: &mut Tokens<'_>,
@@ -123,42 +124,34 @@ fn read_labs(
     ensures { Gives (λ b. read_with builder.new tokens.new b.items) result
         (read_labs (read_type types.now depth) (length tokens.old) builder.old [] tokens.old) }
 {
-    let mut branches = Vec::new(builder.alloc());
+    let mut branches = NewBranches::new(builder.alloc());
     for _ in 0..tokens.len() {
         read_lab(types, depth, &mut branches, builder, tokens)?;
         if !tokens.accept(Symbol::Bar) {
-            return Ok(branches);
+            return branches.into_branches();
         }
     }
     Err(Stop::Unread)
 }
 
-/// Whether one of the branches has the label.
-fn has_label(branches: &[Branch], label: Label) -> bool
-    ensures { result ≡ has_label branches.now label.0 }
-{
-    branches.iter().any(|branch| branch.label.0 == label.0)
-}
-
 /// Reads a label and its type, and puts them behind the branches.
 #[cycle(types)]
 fn read_lab(
-    types: &[Name],
+    types: &NameTable,
     depth: usize,
-    branches: &mut Vec<Branch>,
+    branches: &mut NewBranches,
     builder: &mut Builder,
     tokens: &mut Tokens<'_>,
 ) -> Result<(), Stop>
-    ensures { Gives (λ _. read_with builder.new tokens.new branches.new.items) result
-        (read_lab (read_type types.now depth) builder.old branches.old.items tokens.old) }
+    ensures { Gives (λ _. read_with builder.new tokens.new branches.new) result
+        (read_lab (read_type types.now depth) builder.old branches.old tokens.old) }
 {
     let name = tokens.name()?;
     let label = builder.see_label(name.text)?;
-    if has_label(branches, label) {
+    if branches.has(label) {
         return Err(Stop::Unread);
     }
     tokens.expect(Symbol::Colon)?;
     let goes = read_type(types, depth, builder, tokens)?;
-    branches.push(Branch { label, goes })?;
-    Ok(())
+    branches.push(label, goes)
 }

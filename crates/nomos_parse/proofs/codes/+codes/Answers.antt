@@ -7,38 +7,39 @@ use Rattle.nomos_parse.specs.declared.turn.Turn.{Turn}
 use Rattle.nomos_syntax.specs.declared.symbol.Symbol.TheVariants as sign
 use Rattle.nomos_parse.proofs.Depths.{code_steps}
 use Rattle.nomos_parse.proofs.Instructions.{branches_are_parts, extends_drop, extends_more, finished_none, gives_finished, last_instruction, next_instruction, no_instruction, no_semicolon, on_ok, unread_instruction}
+use Rattle.nomos_parse.proofs.LabelTables.{gives_list}
 use Rattle.nomos_parse.proofs.Loops.{unread_part, last_part, next_part, no_part}
 use Rattle.nomos_parse.proofs.codes.+codes.Goals as goal
 
 pub read_branches-loop-init : goal.read_branches-loop-init
 read_branches-loop-init t c =
     let k : c.len-end.result - 0 ≡ length c.args.tokens.now = omega arith in
-    (rw (k, c.new-arms.ensures.items) (sym (branches_are_parts (read_code c.args.procs.now c.args.depth) c.args.scope.now (length c.args.tokens.now) c.args.builder.now [] c.args.tokens.now)), refl)
+    (rw (k, c.new-arms.ensures) (sym (branches_are_parts (read_code c.args.procs.now c.args.depth) c.args.scope.now (length c.args.tokens.now) c.args.builder.now [] c.args.tokens.now)), refl)
 
 pub read_branches-returns-in_err-read_branch-clause-gives : goal.read_branches-returns-in_err-read_branch-clause-gives
 read_branches-returns-in_err-read_branch-clause-gives t c =
     let p = err_from_is_err_and c.from_residual.result c.from_residual.ensures.1 in
-    rw (p.1, p.2) (unread_part c.in_err-read_branch.field-0.0 (read_branch (read_code c.args.procs.now c.args.depth) c.loop.scope) sign.Bar c.len-end.result c.loop.counter c.loop.builder c.loop.arms.items c.loop.tokens
+    rw (p.1, p.2) (unread_part c.in_err-read_branch.field-0.0 (read_branch (read_code c.args.procs.now c.args.depth) c.loop.scope) sign.Bar c.len-end.result c.loop.counter c.loop.builder c.loop.arms c.loop.tokens
     (read_branches (read_code c.args.procs.now c.args.depth) c.args.scope.now (length c.args.tokens.now) c.args.builder.now [] c.args.tokens.now) c.loop-test.true c.in_err-read_branch.ensures.gives c.loop.invariant.0)
 
 pub read_branches-returns-then-not-accept-clause-gives : goal.read_branches-returns-then-not-accept-clause-gives
 read_branches-returns-then-not-accept-clause-gives t c =
     let e = c.if-not-accept.ensures.no refl in
-    rw e.1 (last_part (read_branch (read_code c.args.procs.now c.args.depth) c.loop.scope) sign.Bar c.len-end.result c.loop.counter c.loop.builder c.loop.arms.items c.loop.tokens
-    (read_with c.read_branch.new.builder c.read_branch.new.tokens c.read_branch.new.arms.items)
-    (read_branches (read_code c.args.procs.now c.args.depth) c.args.scope.now (length c.args.tokens.now) c.args.builder.now [] c.args.tokens.now) c.loop-test.true c.in_ok-read_branch.ensures.gives e.0 c.loop.invariant.0)
+    rw e.1 (gives_list c.into_arms.result _ c.read_branch.new.arms c.read_branch.new.builder c.read_branch.new.tokens _ c.into_arms.ensures (last_part (read_branch (read_code c.args.procs.now c.args.depth) c.loop.scope) sign.Bar c.len-end.result c.loop.counter c.loop.builder c.loop.arms c.loop.tokens
+    (read_with c.read_branch.new.builder c.read_branch.new.tokens c.read_branch.new.arms)
+    (read_branches (read_code c.args.procs.now c.args.depth) c.args.scope.now (length c.args.tokens.now) c.args.builder.now [] c.args.tokens.now) c.loop-test.true c.in_ok-read_branch.ensures.gives e.0 c.loop.invariant.0))
 
 pub read_branches-loop-preserved : goal.read_branches-loop-preserved
 read_branches-loop-preserved t c = (
-  rw c.in_ok-read_branch.ensures.scope (next_part (read_branch (read_code c.args.procs.now c.args.depth) c.loop.scope) sign.Bar c.len-end.result c.loop.counter c.loop.builder c.loop.arms.items c.loop.tokens
-      (read_with c.read_branch.new.builder c.read_branch.new.tokens c.read_branch.new.arms.items) c.accept.new.self
+  rw c.in_ok-read_branch.ensures.scope (next_part (read_branch (read_code c.args.procs.now c.args.depth) c.loop.scope) sign.Bar c.len-end.result c.loop.counter c.loop.builder c.loop.arms c.loop.tokens
+      (read_with c.read_branch.new.builder c.read_branch.new.tokens c.read_branch.new.arms) c.accept.new.self
       (read_branches (read_code c.args.procs.now c.args.depth) c.args.scope.now (length c.args.tokens.now) c.args.builder.now [] c.args.tokens.now) c.loop-test.true c.in_ok-read_branch.ensures.gives (c.if-not-accept.ensures.yes refl) c.loop.invariant.0),
   c.in_ok-read_branch.ensures.scope ∙ c.loop.invariant.1,
 )
 
 pub read_branches-returns-clause-gives : goal.read_branches-returns-clause-gives
 read_branches-returns-clause-gives t c =
-    no_part (read_branch (read_code c.args.procs.now c.args.depth) c.loop.scope) sign.Bar c.len-end.result c.loop.counter c.loop.builder c.loop.arms.items c.loop.tokens
+    no_part (read_branch (read_code c.args.procs.now c.args.depth) c.loop.scope) sign.Bar c.len-end.result c.loop.counter c.loop.builder c.loop.arms c.loop.tokens
     (read_branches (read_code c.args.procs.now c.args.depth) c.args.scope.now (length c.args.tokens.now) c.args.builder.now [] c.args.tokens.now) c.loop-test.false c.loop.invariant.0
 
 pub read_code-loop-init : goal.read_code-loop-init

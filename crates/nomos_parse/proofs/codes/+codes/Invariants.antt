@@ -32,6 +32,6 @@ invariant-read_code-loop l =
 -- the rest of the branches gives what all of them give
 abbrev pub invariant-read_branches-loop : goal.invariant-read_branches-loop
 invariant-read_branches-loop l =
-    (read_parts (read_branch (read_code l.procs l.depth) l.scope) sym.Bar (l.end - l.counter) l.builder l.arms.items l.tokens
+    (read_parts (read_branch (read_code l.procs l.depth) l.scope) sym.Bar (l.end - l.counter) l.builder l.arms l.tokens
     ≡ read_branches (read_code l.procs l.depth) l.fn.scope (length l.fn.tokens) l.fn.builder [] l.fn.tokens)
     × (l.scope ≡ l.fn.scope)

@@ -25,5 +25,5 @@ decreases-read_choice l = 5 * l.depth + 3
 -- the rest of the labels gives what all of them give
 abbrev pub invariant-read_labs-loop : goal.invariant-read_labs-loop
 invariant-read_labs-loop l =
-    read_parts (read_lab (read_type l.types l.depth)) sym.Bar (l.end - l.counter) l.builder l.branches.items l.tokens
+    read_parts (read_lab (read_type l.types l.depth)) sym.Bar (l.end - l.counter) l.builder l.branches l.tokens
     ≡ read_labs (read_type l.types l.depth) (length l.fn.tokens) l.fn.builder [] l.fn.tokens
