@@ -9,3 +9,4 @@ pub mod SpawnSteps
 pub mod StartSteps
 pub mod StepLemmas
 pub mod CheckingLemmas
+pub mod LabelTables

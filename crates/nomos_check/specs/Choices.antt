@@ -1,5 +1,6 @@
 -- Choices and their labels.
-use Rattle.std.specs.Prelude.{◌≡◌, ◌≢◌, List, Option, Some, None, All, Contains}
+use Rattle.std.specs.Prelude.{◌≡◌, ◌≢◌, ℕ, List, Option, Some, None, MatchOption, All, Contains, nat_eq}
+use Rattle.std.specs.HashMap.{HashMap, get}
 use Rattle.nomos_ir.specs.declared.ids.Label.{Label}
 use Rattle.nomos_ir.specs.declared.ids.TypeId.{TypeId}
 use Rattle.nomos_ir.specs.declared.type_node.Branch.{Branch}
@@ -17,3 +18,7 @@ HasNoLabel branches label = All (λ b. b.label.0 ≢ label.0) branches
 -- a branch of the label goes on at the type
 abbrev pub GoesBy : List Branch → Label → TypeId → Type 0
 GoesBy branches label t = (b : Branch) × Contains branches b × (b.label.0 ≡ label.0) × (b.goes ≡ t)
+
+-- the table has a type by which a branch goes on at each label of a branch, and none at other labels
+abbrev pub IsTableOf : {S : Type 0} → List Branch → HashMap ℕ TypeId S → Type 0
+IsTableOf branches types = (label : Label) → MatchOption (get nat_eq types label.0) (HasNoLabel branches label) (GoesBy branches label)

@@ -1,6 +1,8 @@
 //! The rule of `case`.
-ghost use Rattle.std.specs.Prelude.{◌≡◌, ◌<◌, ◌↔◌, ℕ, IsTrue, IfOk, MatchOption, All, length, option_copied};
+ghost use Rattle.std.specs.Prelude.{◌≡◌, ◌<◌, ◌↔◌, ℕ, IsTrue, IfOk, MatchOption, All, length, nat_eq, option_copied};
+ghost use Rattle.std.specs.HashSet.{contains};
 ghost use Rattle.nomos_ir.specs.declared.code_node.CodeNode.{CodeNode};
+ghost use Rattle.nomos_ir.specs.declared.ids.Label.{Label};
 ghost use Rattle.nomos_ir.specs.Unfold.{IsContractive};
 ghost use Rattle.nomos_types.specs.Derivation.{StandsAtCode};
 ghost use Rattle.nomos_types.specs.Judgement.{goes_on};
@@ -8,14 +10,15 @@ ghost use Rattle.nomos_check.specs.Cases.{Awaits, AwaitsNothing, HasArm, HasOddA
 ghost use Rattle.nomos_check.specs.Standing.{judgement_of, IsInRange, StepTells};
 
 use crate::channels::channel_node;
-use crate::choices::{awaited_choice, goes_by};
+use crate::choices::{awaited_choice, type_at, types_by_label};
 use crate::labels::go_on;
 use crate::standing::{Standing, Step};
 use nomos_ir::code_node::{Arm, Chan};
-use nomos_ir::ids::{CodeId, Label, TypeId};
+use nomos_ir::ids::{CodeId, TypeId};
 use nomos_ir::program::Program;
 use nomos_ir::type_node::{Branch, Branches};
 use std::alloc::{AllocError, Global};
+use std::collections::HashSet;
 
 /// The branches of the choice for which the process waits on the channel.
 fn branches_awaited<'p>(program: &'p Program, now: &Standing, c: Chan) -> Option<&'p Branches>
@@ -29,28 +32,24 @@ fn branches_awaited<'p>(program: &'p Program, now: &Standing, c: Chan) -> Option
     }
 }
 
-/// Whether an arm has the label.
-fn has_arm(arms: &[Arm], label: Label) -> bool
-    ensures { IsTrue result ↔ HasArm arms.now label }
+/// The labels of arms.
+fn labels_of(alloc: Global, arms: &[Arm]) -> Result<HashSet<u32>, AllocError>
+    ensures { IfOk result (λ labels. (l : Label) → IsTrue (contains nat_eq labels l.0) ↔ HasArm arms.now l) }
 {
-    for a in arms {
-        if a.label.0 == label.0 {
-            return true;
-        }
-    }
-    false
+    arms.iter().map(|a| a.label.0).collect(alloc)
 }
 
 /// Whether the label of each branch is that of an arm.
-fn all_have_arms(branches: &[Branch], arms: &[Arm]) -> bool
-    ensures { IsTrue result ↔ All (λ b. HasArm arms.now b.label) branches.now }
+fn all_have_arms(alloc: Global, branches: &[Branch], arms: &[Arm]) -> Result<bool, AllocError>
+    ensures { IfOk result (λ yes. IsTrue yes ↔ All (λ b. HasArm arms.now b.label) branches.now) }
 {
+    let labels = labels_of(alloc, arms)?;
     for b in branches {
-        if !has_arm(arms, b.label) {
-            return false;
+        if !labels.contains(&b.label.0) {
+            return Ok(false);
         }
     }
-    true
+    Ok(true)
 }
 
 /// A copy of what the process has in hand.
@@ -95,9 +94,10 @@ fn after_arms(
 ) -> Result<Option<Vec<Standing>>, AllocError>
     ensures { IfOk result (λ found. MatchOption found (HasOddArm arms.now branches.now) (λ made. EachLeads (judgement_of now.now) c branches.now arms.now made.items)) }
 {
+    let types = types_by_label(alloc, branches)?;
     let mut made = Vec::new(alloc);
     for a in arms {
-        let t = match goes_by(branches, a.label) {
+        let t = match type_at(&types, a.label) {
             Some(t) => t,
             None => return Ok(None),
         };
@@ -126,7 +126,8 @@ pub(crate) fn at_case(
         Some(branches) => branches.as_slice(),
         None => return Ok(Step::Refused),
     };
-    if !all_have_arms(branches, arms) {
+    let covered = all_have_arms(alloc, branches, arms)?;
+    if !covered {
         return Ok(Step::Refused);
     }
     let found = after_arms(alloc, &now, c, arms, branches)?;

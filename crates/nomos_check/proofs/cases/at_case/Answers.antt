@@ -10,13 +10,13 @@ pub returns-in-None : goal.returns-in-None
 returns-in-None c =
     case-unawaited c.args.program.now whole_units (judgement_of c.args.now) c.requires.stands.0 c.args.c c.args.arms.now c.requires.stands.1 c.in-None.ensures
 
-pub returns-then-not-all_have_arms : goal.returns-then-not-all_have_arms
-returns-then-not-all_have_arms c =
+pub returns-then-not-covered : goal.returns-then-not-covered
+returns-then-not-covered c =
     let j : Judgement = judgement_of c.args.now in
     let awaits : Awaits c.args.program.now j c.args.c c.as_slice-branches.result.now =
     subst (λ (bs : List Branch). Awaits c.args.program.now j c.args.c bs) (sym c.as_slice-branches.ensures) c.in-Some.ensures in
     case-lacks_arm c.args.program.now whole_units j c.requires.stands.0 c.args.c c.args.arms.now c.as_slice-branches.result.now c.requires.stands.1 awaits
-    (λ all. let h = sym c.if-not-all_have_arms.true ∙ c.all_have_arms.ensures.1 all in cc)
+    (λ all. let h = sym c.if-not-covered.true ∙ c.in_ok-covered.ensures.1 all in cc)
 
 pub returns-in-Some-found : goal.returns-in-Some-found
 returns-in-Some-found c =
@@ -24,7 +24,7 @@ returns-in-Some-found c =
     let awaits : Awaits c.args.program.now j c.args.c c.as_slice-branches.result.now =
     subst (λ (bs : List Branch). Awaits c.args.program.now j c.args.c bs) (sym c.as_slice-branches.ensures) c.in-Some.ensures in
     let leads = rw c.in-Some-found.is at c.in_ok-found.ensures in
-    case-splits c.args.program.now j c.requires.stands.0 c.args.c c.args.arms.now c.as_slice-branches.result.now c.in-Some-found.made.items c.lists-lists.ensures.program c.requires.stands.1 awaits (c.all_have_arms.ensures.0 c.if-not-all_have_arms.false) leads c.requires.in_range c.requires.later
+    case-splits c.args.program.now j c.requires.stands.0 c.args.c c.args.arms.now c.as_slice-branches.result.now c.in-Some-found.made.items c.lists-lists.ensures.program c.requires.stands.1 awaits (c.in_ok-covered.ensures.0 c.if-not-covered.false) leads c.requires.in_range c.requires.later
 
 pub returns : goal.returns
 returns c =
