@@ -1,5 +1,6 @@
 -- Where a `case` leads.
 use Rattle.std.proofs.Common.{◌≡◌, ◌<◌, ◌↔◌, ◌∙◌, ℕ, List, [], ◌∷◌, All, Contains, length, map, get_or, ap, subst, sym, refl, arith}
+use Rattle.std.proofs.lemmas.List.{get_or-map, length-map}
 use Rattle.std.proofs.lemmas.List.Elements.{Contains-get_or}
 use Rattle.nomos_ir.specs.Naming.{AllDiffer}
 use Rattle.nomos_ir.specs.Program.{IsProgram}
@@ -16,9 +17,9 @@ use Rattle.nomos_types.proofs.RowLemmas.{CaseRow, row-at}
 use Rattle.nomos_types.specs.Amount.{Annotations}
 use Rattle.nomos_types.specs.Derivation.{StandsAtCode, HasSameLabels, Derives, case}
 use Rattle.nomos_types.specs.Judgement.{Judgement, goes_on}
-use Rattle.nomos_check.specs.Cases.{Awaits, AwaitsNothing, HasArm, HasOddArm, LeadsBy, EachLeads}
-use Rattle.nomos_check.specs.Standing.{IsInRange, Splits, judgement_of, whole_units}
-use Rattle.nomos_check.specs.declared.standing.Standing.{Standing}
+use Rattle.nomos_check.specs.Cases.{Awaits, AwaitsNothing, HasArm, HasOddArm, LeadsBy, EachGoes, EachLeads}
+use Rattle.nomos_check.specs.Standing.{IsInRange, PartsInto, Splits, way_of, whole_units}
+use Rattle.nomos_check.specs.declared.standing.Way.{Way}
 use Rattle.nomos_check.proofs.CaseLemmas.{awaits-unique, awaits-differs, awaits-in_range}
 use Rattle.nomos_check.proofs.LabelLemmas.{label-unique}
 use Rattle.nomos_check.proofs.LabelSteps.{goes_on-in_range}
@@ -61,7 +62,7 @@ case-odd_arm lists x j at c arms branches there awaits odd derivation =
     odd.2 branch.1.0 branch.0 branch.1.1 (ap (λ (b : Branch). b.label.0) branch.1.2 ∙ ap (λ (l : Label). l.0) branch.2)
 
 -- what each arm and its branch has, the one to which the arm leads has
-arm-forth : (lists : ProgramLists) (x : Annotations) (j : Judgement) (c : Chan) (branches : List Branch) (a : Arm) (s : Standing) → ((b : Branch) → Contains branches b → a.label ≡ b.label → Derives lists x (goes_on j c b.goes a.goes)) → LeadsBy j c branches a s → Derives lists x (judgement_of s)
+arm-forth : (lists : ProgramLists) (x : Annotations) (j : Judgement) (c : Chan) (branches : List Branch) (a : Arm) (s : Judgement) → ((b : Branch) → Contains branches b → a.label ≡ b.label → Derives lists x (goes_on j c b.goes a.goes)) → LeadsBy j c branches a s → Derives lists x s
 arm-forth lists x j c branches a s each leads =
     let by = leads.1 in
     let rest : Derives lists x (goes_on j c by.0.goes a.goes) = each by.0 by.1 (same-label a.label by.0.label (sym by.2)) in
@@ -69,7 +70,7 @@ arm-forth lists x j c branches a s each leads =
     subst (λ (k : Judgement). Derives lists x k) (sym leads.2) moved
 
 -- what the one to which an arm leads has, the arm has with its branch
-arm-back : (lists : ProgramLists) (x : Annotations) (j : Judgement) (c : Chan) (branches : List Branch) (a : Arm) (b : Branch) (s : Standing) → AllDiffer (map (λ y. y.label.0) branches) → Contains branches b → a.label ≡ b.label → LeadsBy j c branches a s → Derives lists x (judgement_of s) → Derives lists x (goes_on j c b.goes a.goes)
+arm-back : (lists : ProgramLists) (x : Annotations) (j : Judgement) (c : Chan) (branches : List Branch) (a : Arm) (b : Branch) (s : Judgement) → AllDiffer (map (λ y. y.label.0) branches) → Contains branches b → a.label ≡ b.label → LeadsBy j c branches a s → Derives lists x s → Derives lists x (goes_on j c b.goes a.goes)
 arm-back lists x j c branches a b s differ held same leads derivation =
     let by = leads.1 in
     let one : by.0 ≡ b = label-unique branches by.0 b differ by.1 held (by.2 ∙ ap (λ (l : Label). l.0) same) in
@@ -78,7 +79,7 @@ arm-back lists x j c branches a b s differ held same leads derivation =
     subst (λ (t : TypeId). Derives lists x (goes_on j c t a.goes)) goes moved
 
 -- where a `case` has a derivation, so has each of those to which its arms lead
-case-forth : (lists : ProgramLists) (x : Annotations) (j : Judgement) (at : ℕ) (c : Chan) (arms : List Arm) (branches : List Branch) (made : List Standing) → StandsAtCode lists j (code.Case at c arms) → Awaits lists j c branches → EachLeads j c branches arms made → Derives lists x j → All (λ s. Derives lists x (judgement_of s)) made
+case-forth : (lists : ProgramLists) (x : Annotations) (j : Judgement) (at : ℕ) (c : Chan) (arms : List Arm) (branches : List Branch) (made : List Judgement) → StandsAtCode lists j (code.Case at c arms) → Awaits lists j c branches → EachLeads j c branches arms made → Derives lists x j → All (Derives lists x) made
 case-forth lists x j at c arms branches made there awaits leads derivation k d inside =
     let row : CaseRow lists x j c arms = row-at lists x j (code.Case at c arms) there derivation in
     let same : branches ≡ row.branches = awaits-unique lists j c branches row.branches awaits row.typed in
@@ -90,21 +91,21 @@ case-forth lists x j at c arms branches made there awaits leads derivation k d i
     (leads.each k other d within)
 
 -- where each of those to which the arms lead has a derivation, so has each arm with its branch
-case-each : (lists : ProgramLists) (x : Annotations) (j : Judgement) (c : Chan) (arms : List Arm) (branches : List Branch) (made : List Standing) → AllDiffer (map (λ y. y.label.0) branches) → EachLeads j c branches arms made → All (λ s. Derives lists x (judgement_of s)) made → (a : Arm) (b : Branch) → Contains arms a → Contains branches b → a.label ≡ b.label → Derives lists x (goes_on j c b.goes a.goes)
+case-each : (lists : ProgramLists) (x : Annotations) (j : Judgement) (c : Chan) (arms : List Arm) (branches : List Branch) (made : List Judgement) → AllDiffer (map (λ y. y.label.0) branches) → EachLeads j c branches arms made → All (Derives lists x) made → (a : Arm) (b : Branch) → Contains arms a → Contains branches b → a.label ≡ b.label → Derives lists x (goes_on j c b.goes a.goes)
 case-each lists x j c arms branches made differ leads all a b (k, inside, is) held same =
     let within : k < length made = subst (λ (n : ℕ). k < n) (sym leads.count) inside in
-    let other : Standing = some-item made k within in
+    let other : Judgement = some-item made k within in
     let led : LeadsBy j c branches a (get_or made k other) =
     subst (λ (y : Arm). LeadsBy j c branches y (get_or made k other)) is (leads.each k a other inside) in
     arm-back lists x j c branches a b (get_or made k other) differ held same led (all k other within)
 
 -- where each branch has an arm and each arm leads on, the labels are the same
-same-labels : (j : Judgement) (c : Chan) (arms : List Arm) (branches : List Branch) (made : List Standing) → All (λ b. HasArm arms b.label) branches → EachLeads j c branches arms made → HasSameLabels arms branches
+same-labels : (j : Judgement) (c : Chan) (arms : List Arm) (branches : List Branch) (made : List Judgement) → All (λ b. HasArm arms b.label) branches → EachLeads j c branches arms made → HasSameLabels arms branches
 same-labels j c arms branches made covered leads = record {
   each_arm =
       λ a held.
       let within : held.0 < length made = subst (λ (n : ℕ). held.0 < n) (sym leads.count) held.1 in
-      let other : Standing = some-item made held.0 within in
+      let other : Judgement = some-item made held.0 within in
       let led : LeadsBy j c branches a (get_or made held.0 other) =
       subst (λ (y : Arm). LeadsBy j c branches y (get_or made held.0 other)) held.2 (leads.each held.0 a other held.1) in
       (led.1.0, led.1.1, same-label led.1.0.label a.label led.1.2);
@@ -121,7 +122,7 @@ goes_on-code j chan.Own t next = refl
 goes_on-code j (chan.Var v) t next = refl
 
 -- the one to which an arm leads is later in the code
-arm-splits : (lists : ProgramLists) (j : Judgement) (c : Chan) (branches : List Branch) (a : Arm) (s : Standing) → IsProgram lists → Awaits lists j c branches → IsInRange lists j → (a.goes.0 < j.code.0) × (a.goes.0 < length lists.code) → LeadsBy j c branches a s → Splits lists j s
+arm-splits : (lists : ProgramLists) (j : Judgement) (c : Chan) (branches : List Branch) (a : Arm) (s : Judgement) → IsProgram lists → Awaits lists j c branches → IsInRange lists j → (a.goes.0 < j.code.0) × (a.goes.0 < length lists.code) → LeadsBy j c branches a s → Splits lists j s
 arm-splits lists j c branches a s is_program awaits in_range later leads =
     let by = leads.1 in
     let P : TypeId → Type 0 = λ t. t.0 < length lists.types in
@@ -137,23 +138,39 @@ arm-splits lists j c branches a s is_program awaits in_range later leads =
     }
 
 -- each of those to which the arms lead is later in the code
-case-later : (lists : ProgramLists) (j : Judgement) (c : Chan) (arms : List Arm) (branches : List Branch) (made : List Standing) → IsProgram lists → Awaits lists j c branches → EachLeads j c branches arms made → IsInRange lists j → All (λ a. (a.goes.0 < j.code.0) × (a.goes.0 < length lists.code)) arms → All (Splits lists j) made
+case-later : (lists : ProgramLists) (j : Judgement) (c : Chan) (arms : List Arm) (branches : List Branch) (made : List Judgement) → IsProgram lists → Awaits lists j c branches → EachLeads j c branches arms made → IsInRange lists j → All (λ a. (a.goes.0 < j.code.0) × (a.goes.0 < length lists.code)) arms → All (Splits lists j) made
 case-later lists j c arms branches made is_program awaits leads in_range later k d inside =
     let within : k < length arms = subst (λ (n : ℕ). k < n) leads.count inside in
     let other : Arm = some-item arms k within in
     arm-splits lists j c branches (get_or arms k other) (get_or made k d) is_program awaits in_range (later k other within) (leads.each k other d within)
 
 -- the rule of `case`
-pub case-row : (lists : ProgramLists) (x : Annotations) (j : Judgement) (at : ℕ) (c : Chan) (arms : List Arm) (branches : List Branch) (made : List Standing) → IsProgram lists → StandsAtCode lists j (code.Case at c arms) → Awaits lists j c branches → All (λ b. HasArm arms b.label) branches → EachLeads j c branches arms made → Derives lists x j ↔ All (λ s. Derives lists x (judgement_of s)) made
+pub case-row : (lists : ProgramLists) (x : Annotations) (j : Judgement) (at : ℕ) (c : Chan) (arms : List Arm) (branches : List Branch) (made : List Judgement) → IsProgram lists → StandsAtCode lists j (code.Case at c arms) → Awaits lists j c branches → All (λ b. HasArm arms b.label) branches → EachLeads j c branches arms made → Derives lists x j ↔ All (Derives lists x) made
 case-row lists x j at c arms branches made is_program there awaits covered leads = (
   λ derivation. case-forth lists x j at c arms branches made there awaits leads derivation,
   λ all. case at c arms branches there awaits (same-labels j c arms branches made covered leads)
       (case-each lists x j c arms branches made (awaits-differs lists j c branches is_program awaits) leads all),
 )
 
+-- along the ways each arm leads on
+ways-lead : (j : Judgement) (c : Chan) (branches : List Branch) (arms : List Arm) (ways : List Way) → EachGoes branches arms ways → EachLeads j c branches arms (map (way_of j c) ways)
+ways-lead j c branches arms ways goes = record {
+  count = length-map ways (way_of j c) ∙ goes.count;
+  each =
+      λ k a s inside.
+      let within : k < length ways = subst (λ (n : ℕ). k < n) (sym goes.count) inside in
+      let other : Way = some-item ways k within in
+      let along = goes.each k a other inside in (
+        (get_or ways k other).goes,
+        along.0,
+        get_or-map (way_of j c) ways k other s within ∙ ap (λ (n : CodeId). goes_on j c (get_or ways k other).goes n) along.1,
+      );
+}
+
 -- a `case` whose labels are those of the awaited choice splits into those to which its arms lead
-pub case-splits : (lists : ProgramLists) (j : Judgement) (at : ℕ) (c : Chan) (arms : List Arm) (branches : List Branch) (made : List Standing) → IsProgram lists → StandsAtCode lists j (code.Case at c arms) → Awaits lists j c branches → All (λ b. HasArm arms b.label) branches → EachLeads j c branches arms made → IsInRange lists j → All (λ a. (a.goes.0 < j.code.0) × (a.goes.0 < length lists.code)) arms → (Derives lists whole_units j ↔ All (λ s. Derives lists whole_units (judgement_of s)) made) × All (Splits lists j) made
-case-splits lists j at c arms branches made is_program there awaits covered leads in_range later = (
-  case-row lists whole_units j at c arms branches made is_program there awaits covered leads,
-  case-later lists j c arms branches made is_program awaits leads in_range later,
-)
+pub case-splits : (lists : ProgramLists) (j : Judgement) (at : ℕ) (c : Chan) (arms : List Arm) (branches : List Branch) (ways : List Way) → IsProgram lists → StandsAtCode lists j (code.Case at c arms) → Awaits lists j c branches → All (λ b. HasArm arms b.label) branches → EachGoes branches arms ways → IsInRange lists j → All (λ a. (a.goes.0 < j.code.0) × (a.goes.0 < length lists.code)) arms → PartsInto lists j (map (way_of j c) ways)
+case-splits lists j at c arms branches ways is_program there awaits covered goes in_range later =
+    let leads : EachLeads j c branches arms (map (way_of j c) ways) = ways-lead j c branches arms ways goes in (
+      case-row lists whole_units j at c arms branches (map (way_of j c) ways) is_program there awaits covered leads,
+      case-later lists j c arms branches (map (way_of j c) ways) is_program awaits leads in_range later,
+    )

@@ -1,5 +1,7 @@
 -- What a look along a list finds.
-use Rattle.std.proofs.Common.{◌≡◌, ◌≢◌, ◌<◌, ℕ, [], ◌∷◌, zero, suc, length, get_or, Some, None, All, subst, inl, inr, refl, arith, eq-eqb}
+use Rattle.std.proofs.Common.{◌≡◌, ◌≢◌, ◌<◌, ◌+◌, ◌==◌, ◌∙◌, ℕ, [], ◌∷◌, ◌++◌, zero, suc, if◌then◌else◌, length, get_or, set, take, drop, Some, None, All, ap, subst, inl, inr, refl, arith, eq-eqb}
+use Rattle.std.proofs.lemmas.List.{get_or_default}
+use Rattle.std.proofs.lemmas.List.Edits.{map_over_more}
 use Rattle.std.proofs.lemmas.Bool.Decides.{eqb_tells}
 use Rattle.std.proofs.lemmas.List.Elements.{All-head, All-tail}
 use Rattle.std.proofs.lemmas.Option.{same_Some}
@@ -9,7 +11,7 @@ use Rattle.nomos_ir.specs.declared.ids.VarId.{VarId}
 use Rattle.nomos_ir.specs.declared.code_node.Chan.{Chan}
 use Rattle.nomos_ir.specs.declared.code_node.Chan.TheVariants as chan
 use Rattle.nomos_ir.specs.declared.lists.ProgramLists.{ProgramLists}
-use Rattle.nomos_types.specs.Judgement.{Channels, Judgement, type_in, channel_type}
+use Rattle.nomos_types.specs.Judgement.{Channels, Judgement, type_in, retyped, channel_type}
 use Rattle.nomos_check.specs.Standing.{IsInRange}
 
 -- the first channel of the variable gives its type
@@ -42,3 +44,11 @@ channel_type-in_range lists j chan.Own t in_range found =
     let P : TypeId → Type 0 = λ u. u.0 < length lists.types in subst P (same_Some j.offers t found) in_range.offers
 channel_type-in_range lists j (chan.Var v) t in_range found =
     let P : TypeId → Type 0 = λ u. u.0 < length lists.types in type_in-all P j.linear v t in_range.linear found
+
+-- one turn of the loop that gives the channels of a variable another type
+pub retype_more : (xs ys : Channels) (i : ℕ) (v : VarId) (t : TypeId) (c d : VarId × TypeId) → i < length xs → length ys ≡ length xs → ys ≡ retyped (take i xs) v t ++ drop i xs
+    → d ≡ (if (get_or ys i c).0.0 == v.0 then ((get_or ys i c).0, t) else get_or ys i c) → set ys i d ≡ retyped (take (i + 1) xs) v t ++ drop (i + 1) xs
+retype_more xs ys i v t c d inside long so_far is =
+    let f : VarId × TypeId → VarId × TypeId = λ e. if e.0.0 == v.0 then (e.0, t) else e in
+    let within : i < length ys = omega arith in
+    ap (set ys i) is ∙ map_over_more f xs ys i (get_or ys i c) inside so_far (get_or_default ys i c (get_or ys i c) within)

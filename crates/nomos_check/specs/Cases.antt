@@ -9,8 +9,7 @@ use Rattle.nomos_ir.specs.declared.type_node.Branch.{Branch}
 use Rattle.nomos_types.specs.Derivation.{HasType, awaits_choice}
 use Rattle.nomos_types.specs.Judgement.{Judgement, goes_on}
 use Rattle.nomos_check.specs.Choices.{GoesBy, HasNoLabel}
-use Rattle.nomos_check.specs.Standing.{judgement_of}
-use Rattle.nomos_check.specs.declared.standing.Standing.{Standing}
+use Rattle.nomos_check.specs.declared.standing.Way.{Way}
 
 -- the process waits on the channel for a choice among the branches
 abbrev pub Awaits : ProgramLists → Judgement → Chan → List Branch → Type 0
@@ -28,11 +27,20 @@ HasArm arms label = (a : Arm) × Contains arms a × (a.label.0 ≡ label.0)
 abbrev pub HasOddArm : List Arm → List Branch → Type 0
 HasOddArm arms branches = (a : Arm) × Contains arms a × HasNoLabel branches a.label
 
+-- the arm goes on along the way
+abbrev pub GoesAlong : List Branch → Arm → Way → Type 0
+GoesAlong branches a way = GoesBy branches a.label way.goes × (way.next ≡ a.goes)
+
+-- each arm goes on along the way in its place
+pub record EachGoes (branches : List Branch) (arms : List Arm) (ways : List Way) : Type 0 where
+  pub count : length ways ≡ length arms
+  pub each : (k : ℕ) (a : Arm) (way : Way) → k < length arms → GoesAlong branches (slice_index_or arms k a) (slice_index_or ways k way)
+
 -- the arm leads to what the process has in hand when the channel goes on by the arm's label
-abbrev pub LeadsBy : Judgement → Chan → List Branch → Arm → Standing → Type 0
-LeadsBy j c branches a s = (t : TypeId) × GoesBy branches a.label t × (judgement_of s ≡ goes_on j c t a.goes)
+abbrev pub LeadsBy : Judgement → Chan → List Branch → Arm → Judgement → Type 0
+LeadsBy j c branches a s = (t : TypeId) × GoesBy branches a.label t × (s ≡ goes_on j c t a.goes)
 
 -- each arm leads to the one in its place
-pub record EachLeads (j : Judgement) (c : Chan) (branches : List Branch) (arms : List Arm) (made : List Standing) : Type 0 where
+pub record EachLeads (j : Judgement) (c : Chan) (branches : List Branch) (arms : List Arm) (made : List Judgement) : Type 0 where
   pub count : length made ≡ length arms
-  pub each : (k : ℕ) (a : Arm) (s : Standing) → k < length arms → LeadsBy j c branches (slice_index_or arms k a) (slice_index_or made k s)
+  pub each : (k : ℕ) (a : Arm) (s : Judgement) → k < length arms → LeadsBy j c branches (slice_index_or arms k a) (slice_index_or made k s)

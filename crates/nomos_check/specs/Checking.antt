@@ -1,12 +1,13 @@
 -- What the check of a process finds along its code.
-use Rattle.std.specs.Prelude.{◌↔◌, List, All}
 use Rattle.nomos_ir.specs.declared.lists.ProgramLists.{ProgramLists}
 use Rattle.nomos_types.specs.Derivation.{Derives}
 use Rattle.nomos_types.specs.Judgement.{Judgement}
-use Rattle.nomos_check.specs.Standing.{Splits, judgement_of, whole_units}
-use Rattle.nomos_check.specs.declared.standing.Standing.{Standing}
+use Rattle.nomos_check.specs.Standing.{PartsInto, forks_of, whole_units}
+use Rattle.nomos_check.specs.declared.standing.Ahead.{Ahead}
+use Rattle.nomos_check.specs.declared.standing.Ahead.TheVariants as ahead
 
--- the judgement has a derivation exactly where each of the branches has, and these are later in the code
-abbrev pub PartsInto : ProgramLists → Judgement → List Standing → Type 0
-PartsInto lists j branches =
-    (Derives lists whole_units j ↔ All (λ s. Derives lists whole_units (judgement_of s)) branches) × All (Splits lists j) branches
+-- what it tells of a judgement's derivations where the code leads
+abbrev pub AheadTells : ProgramLists → Judgement → Ahead → Type 0
+AheadTells lists j ahead.Refused = Derives lists whole_units j → ⊥
+AheadTells lists j ahead.Done = Derives lists whole_units j
+AheadTells lists j (ahead.Branches forks) = PartsInto lists j (forks_of forks)

@@ -5,16 +5,14 @@ ghost use Rattle.nomos_ir.specs.declared.code_node.CodeNode.{CodeNode};
 ghost use Rattle.nomos_ir.specs.declared.ids.Label.{Label};
 ghost use Rattle.nomos_ir.specs.Unfold.{IsContractive};
 ghost use Rattle.nomos_types.specs.Derivation.{StandsAtCode};
-ghost use Rattle.nomos_types.specs.Judgement.{goes_on};
-ghost use Rattle.nomos_check.specs.Cases.{Awaits, AwaitsNothing, HasArm, HasOddArm, EachLeads};
-ghost use Rattle.nomos_check.specs.Standing.{judgement_of, IsInRange, StepTells};
+ghost use Rattle.nomos_check.specs.Cases.{Awaits, AwaitsNothing, HasArm, HasOddArm, EachGoes};
+ghost use Rattle.nomos_check.specs.Standing.{judgement_of, way_of, IsInRange, StepTells};
 
 use crate::channels::channel_node;
 use crate::choices::{awaited_choice, type_at, types_by_label};
 use crate::labels::go_on;
-use crate::standing::{Standing, Step};
+use crate::standing::{Forks, Standing, Step, Way};
 use nomos_ir::code_node::{Arm, Chan};
-use nomos_ir::ids::{CodeId, TypeId};
 use nomos_ir::program::Program;
 use nomos_ir::type_node::{Branch, Branches};
 use std::alloc::{AllocError, Global};
@@ -71,40 +69,32 @@ fn copy_of(alloc: Global, now: &Standing) -> Result<Standing, AllocError>
 }
 
 /// What the process has in hand when it goes on at the instruction, and the channel at the type.
-fn after_arm(
+pub(crate) fn after_way(
     alloc: Global,
     now: &Standing,
     c: Chan,
-    t: TypeId,
-    next: CodeId,
+    way: Way,
 ) -> Result<Standing, AllocError>
-    ensures { IfOk result (λ s. judgement_of s ≡ goes_on (judgement_of now.now) c t next) }
+    ensures { IfOk result (λ s. judgement_of s ≡ way_of (judgement_of now.now) c way) }
 {
     let copy = copy_of(alloc, now)?;
-    go_on(alloc, copy, c, t, next)
+    Ok(go_on(copy, c, way.goes, way.next))
 }
 
 /// Where each arm leads, in order; none where the label of an arm is that of no branch.
-fn after_arms(
-    alloc: Global,
-    now: &Standing,
-    c: Chan,
-    arms: &[Arm],
-    branches: &[Branch],
-) -> Result<Option<Vec<Standing>>, AllocError>
-    ensures { IfOk result (λ found. MatchOption found (HasOddArm arms.now branches.now) (λ made. EachLeads (judgement_of now.now) c branches.now arms.now made.items)) }
+fn ways_of(alloc: Global, arms: &[Arm], branches: &[Branch]) -> Result<Option<Vec<Way>>, AllocError>
+    ensures { IfOk result (λ found. MatchOption found (HasOddArm arms.now branches.now) (λ ways. EachGoes branches.now arms.now ways.items)) }
 {
     let types = types_by_label(alloc, branches)?;
-    let mut made = Vec::new(alloc);
+    let mut ways = Vec::new(alloc);
     for a in arms {
-        let t = match type_at(&types, a.label) {
-            Some(t) => t,
+        let goes = match type_at(&types, a.label) {
+            Some(goes) => goes,
             None => return Ok(None),
         };
-        let after = after_arm(alloc, now, c, t, a.goes)?;
-        made.push(after)?;
+        ways.push(Way { goes, next: a.goes })?;
     }
-    Ok(Some(made))
+    Ok(Some(ways))
 }
 
 /// The rule of `case`.
@@ -130,9 +120,13 @@ pub(crate) fn at_case(
     if !covered {
         return Ok(Step::Refused);
     }
-    let found = after_arms(alloc, &now, c, arms, branches)?;
+    let found = ways_of(alloc, arms, branches)?;
     match found {
-        Some(made) => Ok(Step::Branches(made)),
+        Some(ways) => Ok(Step::Branches(Forks {
+            before: now,
+            channel: c,
+            ways,
+        })),
         None => Ok(Step::Refused),
     }
 }

@@ -1,5 +1,5 @@
 //! Variables and the types of their channels.
-ghost use Rattle.std.specs.Prelude.{◌≡◌, ◌≢◌, ◌<◌, ◌↔◌, IsTrue, IfOk, MatchOption, All, length, slice_get};
+ghost use Rattle.std.specs.Prelude.{◌≡◌, ◌≢◌, ◌<◌, ◌↔◌, IsTrue, MatchOption, All, length, slice_get};
 ghost use Rattle.nomos_ir.specs.Unfold.{IsContractive};
 ghost use Rattle.nomos_types.specs.Judgement.{type_in, retyped, without, channel_type};
 ghost use Rattle.nomos_check.specs.Standing.{judgement_of, IsInRange, HasNodeAt};
@@ -9,7 +9,6 @@ use nomos_ir::code_node::Chan;
 use nomos_ir::ids::{TypeId, VarId};
 use nomos_ir::program::Program;
 use nomos_types::unfolding::unfold;
-use std::alloc::{AllocError, Global};
 
 /// The type of a variable among channels.
 fn type_in(channels: &[(VarId, TypeId)], v: VarId) -> Option<TypeId>
@@ -23,34 +22,22 @@ fn type_in(channels: &[(VarId, TypeId)], v: VarId) -> Option<TypeId>
     None
 }
 
-/// The channels, where the variable's has another type.
-pub(crate) fn retyped(
-    alloc: Global,
-    channels: &[(VarId, TypeId)],
-    v: VarId,
-    t: TypeId,
-) -> Result<Vec<(VarId, TypeId)>, AllocError>
-    ensures { IfOk result (λ made. made.items ≡ retyped channels.now v t) }
+/// Gives the variable's channel another type.
+pub(crate) fn retype(channels: &mut [(VarId, TypeId)], v: VarId, t: TypeId)
+    ensures { channels.new ≡ retyped channels.old v t }
 {
-    channels
-        .iter()
-        .map(|c| if c.0.0 == v.0 { (c.0, t) } else { *c })
-        .collect(alloc)
+    for c in channels {
+        if c.0.0 == v.0 {
+            c.1 = t;
+        }
+    }
 }
 
-/// The channels without the variable's.
-pub(crate) fn without(
-    alloc: Global,
-    channels: &[(VarId, TypeId)],
-    v: VarId,
-) -> Result<Vec<(VarId, TypeId)>, AllocError>
-    ensures { IfOk result (λ made. made.items ≡ without channels.now v) }
+/// Takes the variable's channel away.
+pub(crate) fn give_up(channels: &mut Vec<(VarId, TypeId)>, v: VarId)
+    ensures { channels.new.items ≡ without channels.old.items v }
 {
-    channels
-        .iter()
-        .filter(|c| c.0.0 != v.0)
-        .copied()
-        .collect(alloc)
+    channels.retain(|c| c.0.0 != v.0);
 }
 
 /// The type of the process's own channel, or of one that it holds.

@@ -1,38 +1,35 @@
 //! Whether a process has a derivation from where it stands.
-ghost use Rattle.std.specs.Prelude.{◌≡◌, ◌<◌, ◌↔◌, IsTrue, IfOk, MatchOption, Some, length, slice_get};
+ghost use Rattle.std.specs.Prelude.{◌≡◌, ◌<◌, ◌↔◌, IsTrue, IfOk, Some, length, slice_get};
 ghost use Rattle.nomos_ir.specs.declared.declaration.ProcDecl.{ProcDecl};
 ghost use Rattle.nomos_ir.specs.Unfold.{IsContractive};
 ghost use Rattle.nomos_types.specs.Derivation.{Derives};
 ghost use Rattle.nomos_types.specs.Judgement.{start_of};
 ghost use Rattle.nomos_types.specs.Modes.{ObeysModes};
-ghost use Rattle.nomos_check.specs.Checking.{PartsInto};
+ghost use Rattle.nomos_check.specs.Checking.{AheadTells};
 ghost use Rattle.nomos_check.specs.Standing.{judgement_of, whole_units, IsInRange};
 
-use crate::standing::{Standing, Step};
+use crate::cases::after_way;
+use crate::standing::{Ahead, Forks, Standing, Step};
 use crate::start::start;
 use crate::step::step;
 use nomos_ir::ids::ProcId;
 use nomos_ir::program::Program;
 use std::alloc::{AllocError, Global};
 
-/// The branches into which the code parts next, none of them where it ends, and `None` where an
-/// instruction before has no rule that applies.
-fn branches_ahead(
-    alloc: Global,
-    program: &Program,
-    now: Standing,
-) -> Result<Option<Vec<Standing>>, AllocError>
+/// Where the code leads: into the branches into which it parts next, to its end, or to an instruction that
+/// has no rule that applies.
+fn ahead(alloc: Global, program: &Program, now: Standing) -> Result<Ahead, AllocError>
     requires contractive { IsContractive program.now }
     requires in_range { IsInRange program.now (judgement_of now) }
-    ensures { IfOk result (λ found. MatchOption found (Derives program.now whole_units (judgement_of now) → ⊥) (λ branches. PartsInto program.now (judgement_of now) branches.items)) }
+    ensures { IfOk result (AheadTells program.now (judgement_of now)) }
 {
     let mut at = now;
     loop {
         match step(alloc, program, at)? {
-            Step::Refused => return Ok(None),
-            Step::Done => return Ok(Some(Vec::new(alloc))),
+            Step::Refused => return Ok(Ahead::Refused),
+            Step::Done => return Ok(Ahead::Done),
             Step::Next(next) => at = next,
-            Step::Branches(branches) => return Ok(Some(branches)),
+            Step::Branches(forks) => return Ok(Ahead::Branches(forks)),
         }
     }
 }
@@ -43,11 +40,17 @@ fn derives(alloc: Global, program: &Program, now: Standing) -> Result<bool, Allo
     requires in_range { IsInRange program.now (judgement_of now) }
     ensures { IfOk result (λ yes. IsTrue yes ↔ Derives program.now whole_units (judgement_of now)) }
 {
-    let mut branches = match branches_ahead(alloc, program, now)? {
-        Some(branches) => branches,
-        None => return Ok(false),
+    let Forks {
+        before,
+        channel,
+        mut ways,
+    } = match ahead(alloc, program, now)? {
+        Ahead::Refused => return Ok(false),
+        Ahead::Done => return Ok(true),
+        Ahead::Branches(forks) => forks,
     };
-    while let Some(branch) = branches.pop() {
+    while let Some(way) = ways.pop() {
+        let branch = after_way(alloc, &before, channel, way)?;
         if !derives(alloc, program, branch)? {
             return Ok(false);
         }

@@ -1,5 +1,5 @@
 //! The rule of labels.
-ghost use Rattle.std.specs.Prelude.{◌≡◌, ◌<◌, ℕ, IfOk, MatchOption, length};
+ghost use Rattle.std.specs.Prelude.{◌≡◌, ◌<◌, ℕ, MatchOption, length};
 ghost use Rattle.nomos_ir.specs.declared.code_node.CodeNode.{CodeNode};
 ghost use Rattle.nomos_ir.specs.Unfold.{IsContractive};
 ghost use Rattle.nomos_types.specs.Derivation.{StandsAtCode};
@@ -7,13 +7,12 @@ ghost use Rattle.nomos_types.specs.Judgement.{goes_on};
 ghost use Rattle.nomos_check.specs.Labels.{SendsLabel, SendsNoLabel};
 ghost use Rattle.nomos_check.specs.Standing.{judgement_of, IsInRange, StepTells};
 
-use crate::channels::{channel_node, retyped};
+use crate::channels::{channel_node, retype};
 use crate::choices::{goes_by, sent_choice};
 use crate::standing::{Standing, Step};
 use nomos_ir::code_node::Chan;
 use nomos_ir::ids::{CodeId, Label, TypeId};
 use nomos_ir::program::Program;
-use std::alloc::{AllocError, Global};
 
 /// The type with which the channel goes on when the process sends the label on it.
 pub(crate) fn type_after_label(
@@ -37,60 +36,35 @@ pub(crate) fn type_after_label(
 }
 
 /// The process goes on at the instruction, and the channel at the type.
-pub(crate) fn go_on(
-    alloc: Global,
-    now: Standing,
-    c: Chan,
-    t: TypeId,
-    next: CodeId,
-) -> Result<Standing, AllocError>
-    ensures { IfOk result (λ s. judgement_of s ≡ goes_on (judgement_of now) c t next) }
+pub(crate) fn go_on(now: Standing, c: Chan, t: TypeId, next: CodeId) -> Standing
+    ensures { judgement_of result ≡ goes_on (judgement_of now) c t next }
 {
+    let mut after = now;
     match c {
-        Chan::Own => Ok(Standing {
-            mode: now.mode,
-            values: now.values,
-            shared: now.shared,
-            linear: now.linear,
-            potential: now.potential,
-            code: next,
-            offers: t,
-        }),
-        Chan::Var(v) => {
-            let linear = retyped(alloc, now.linear.as_slice(), v, t)?;
-            Ok(Standing {
-                mode: now.mode,
-                values: now.values,
-                shared: now.shared,
-                linear,
-                potential: now.potential,
-                code: next,
-                offers: now.offers,
-            })
-        }
+        Chan::Own => after.offers = t,
+        Chan::Var(v) => retype(&mut after.linear, v, t),
     }
+    after.code = next;
+    after
 }
 
 /// The rule of a label.
 pub(crate) fn at_label(
-    alloc: Global,
     program: &Program,
     now: Standing,
     c: Chan,
     label: Label,
     next: CodeId,
-) -> Result<Step, AllocError>
+) -> Step
     requires contractive { IsContractive program.now }
     requires in_range { IsInRange program.now (judgement_of now) }
     requires stands { (at : ℕ) × StandsAtCode program.now (judgement_of now) (CodeNode.Label at c label next) }
     requires later { (next.0 < now.code.0) × (next.0 < length program.now.code) }
-    ensures { IfOk result (StepTells program.now (judgement_of now)) }
+    ensures { StepTells program.now (judgement_of now) result }
 {
     let lists = program.lists();
-    let t = match type_after_label(program, &now, c, label) {
-        Some(t) => t,
-        None => return Ok(Step::Refused),
-    };
-    let after = go_on(alloc, now, c, t, next)?;
-    Ok(Step::Next(after))
+    match type_after_label(program, &now, c, label) {
+        Some(t) => Step::Next(go_on(now, c, t, next)),
+        None => Step::Refused,
+    }
 }

@@ -1,5 +1,5 @@
 //! The rules of instructions.
-ghost use Rattle.std.specs.Prelude.{◌≡◌, ◌<◌, ◌↔◌, ℕ, IsTrue, IfOk, [], length};
+ghost use Rattle.std.specs.Prelude.{◌≡◌, ◌<◌, ◌↔◌, ℕ, IsTrue, [], length};
 ghost use Rattle.nomos_ir.specs.declared.code_node.Chan.{Chan};
 ghost use Rattle.nomos_ir.specs.declared.code_node.CodeNode.{CodeNode};
 ghost use Rattle.nomos_ir.specs.declared.type_node.TypeNode.{TypeNode};
@@ -7,14 +7,13 @@ ghost use Rattle.nomos_ir.specs.Unfold.{IsContractive};
 ghost use Rattle.nomos_types.specs.Derivation.{StandsAtCode, HasType, MayClose, Derives};
 ghost use Rattle.nomos_check.specs.Standing.{judgement_of, IsInRange, StepTells, MayEnd, whole_units};
 
-use crate::channels::{channel_node, without};
+use crate::channels::{channel_node, give_up};
 use crate::standing::{Standing, Step};
 use nomos_ir::code_node::{Chan, CodeNode};
 use nomos_ir::ids::{CodeId, VarId};
 use nomos_ir::mode::Mode;
 use nomos_ir::program::Program;
 use nomos_ir::type_node::TypeNode;
-use std::alloc::{AllocError, Global};
 
 /// Whether the node is the end.
 fn is_one(node: &TypeNode) -> bool
@@ -66,30 +65,18 @@ pub(crate) fn at_close(program: &Program, now: &Standing) -> bool
 }
 
 /// The rule of `wait`.
-pub(crate) fn at_wait(
-    alloc: Global,
-    program: &Program,
-    now: Standing,
-    v: VarId,
-    next: CodeId,
-) -> Result<Step, AllocError>
+pub(crate) fn at_wait(program: &Program, now: Standing, v: VarId, next: CodeId) -> Step
     requires contractive { IsContractive program.now }
     requires in_range { IsInRange program.now (judgement_of now) }
     requires stands { (at : ℕ) × StandsAtCode program.now (judgement_of now) (CodeNode.Wait at v next) }
     requires later { (next.0 < now.code.0) × (next.0 < length program.now.code) }
-    ensures { IfOk result (StepTells program.now (judgement_of now)) }
+    ensures { StepTells program.now (judgement_of now) result }
 {
     if !is_end(program, &now, Chan::Var(v)) {
-        return Ok(Step::Refused);
+        return Step::Refused;
     }
-    let linear = without(alloc, now.linear.as_slice(), v)?;
-    Ok(Step::Next(Standing {
-        mode: now.mode,
-        values: now.values,
-        shared: now.shared,
-        linear,
-        potential: now.potential,
-        code: next,
-        offers: now.offers,
-    }))
+    let mut after = now;
+    give_up(&mut after.linear, v);
+    after.code = next;
+    Step::Next(after)
 }

@@ -36,9 +36,9 @@ pub(crate) fn step(alloc: Global, program: &Program, now: Standing) -> Result<St
 {
     let lists = program.lists();
     match program.code(now.code) {
-        CodeNode::Label(_at, c, label, next) => at_label(alloc, program, now, *c, *label, *next),
+        CodeNode::Label(_at, c, label, next) => Ok(at_label(program, now, *c, *label, *next)),
         CodeNode::Case(_at, c, arms) => at_case(alloc, program, now, *c, arms.as_slice()),
-        CodeNode::Wait(_at, v, next) => at_wait(alloc, program, now, *v, *next),
+        CodeNode::Wait(_at, v, next) => Ok(at_wait(program, now, *v, *next)),
         CodeNode::Spawn(_at, v, f, args, next) => {
             at_spawn(alloc, program, now, *v, *f, args, *next)
         }

@@ -24,10 +24,10 @@ returns-in-Some-found c =
     let awaits : Awaits c.args.program.now j c.args.c c.as_slice-branches.result.now =
     subst (λ (bs : List Branch). Awaits c.args.program.now j c.args.c bs) (sym c.as_slice-branches.ensures) c.in-Some.ensures in
     let leads = rw c.in-Some-found.is at c.in_ok-found.ensures in
-    case-splits c.args.program.now j c.requires.stands.0 c.args.c c.args.arms.now c.as_slice-branches.result.now c.in-Some-found.made.items c.lists-lists.ensures.program c.requires.stands.1 awaits (c.in_ok-covered.ensures.0 c.if-not-covered.false) leads c.requires.in_range c.requires.later
+    case-splits c.args.program.now j c.requires.stands.0 c.args.c c.args.arms.now c.as_slice-branches.result.now c.in-Some-found.ways.items c.lists-lists.ensures.program c.requires.stands.1 awaits (c.in_ok-covered.ensures.0 c.if-not-covered.false) leads c.requires.in_range c.requires.later
 
-pub returns : goal.returns
-returns c =
+pub returns-in-None-found : goal.returns-in-None-found
+returns-in-None-found c =
     let j : Judgement = judgement_of c.args.now in
     let awaits : Awaits c.args.program.now j c.args.c c.as_slice-branches.result.now =
     subst (λ (bs : List Branch). Awaits c.args.program.now j c.args.c bs) (sym c.as_slice-branches.ensures) c.in-Some.ensures in

@@ -1,6 +1,6 @@
 use Rattle.nomos_check.specs.Standing.{judgement_of}
 use Rattle.nomos_check.proofs.CheckingLemmas.{Reaches}
-use Rattle.nomos_check.proofs.checking.branches_ahead.Given as goal
+use Rattle.nomos_check.proofs.checking.ahead.Given as goal
 
 -- the code has led here
 abbrev pub invariant-loop-next : goal.invariant-loop-next
