@@ -27,6 +27,11 @@ max_firings = 20000000
 abbrev pub batch_limit : ℕ → ℕ → ℕ
 batch_limit limit made = min limit (max_firings - made)
 
+-- the firings of these entries
+abbrev pub firings_in : List Entry → ℕ
+firings_in [] = 0
+firings_in (entry ∷ entries) = length entry.firings + firings_in entries
+
 -- an end that undoes the batch
 abbrev pub Undoes : End → Type 0
 Undoes end.Committed = ⊥

@@ -13,4 +13,6 @@ pub mod resolved;
 mod resolving;
 mod rest;
 mod stop;
+#[cfg(test)]
+mod tests;
 pub mod world;

@@ -166,12 +166,12 @@ impl World {
     {
         let World {
             alloc: _alloc,
-            origin,
+            origin: before,
             starts: _starts,
             contracts: _contracts,
             firings: _firings,
-            state: _state,
+            state: _left,
         } = self;
-        origin
+        before
     }
 }
