@@ -1,5 +1,5 @@
 -- Legal journals grow item by item, and lead to one ledger.
-use Rattle.std.proofs.Common.{◌≡◌, ◌∙◌, ℕ, ◌+◌, ◌^◌, ◌<◌, ◌≤◌, List, [], ◌∷◌, ◌++◌, length, map, Option, Some, None, Ok, Err, ap, sym, subst, refl, ⊎_elim, arith}
+use Rattle.std.proofs.Common.{◌≡◌, ◌∙◌, ℕ, ◌+◌, ◌^◌, ◌<◌, ◌≤◌, List, [], ◌∷◌, ◌++◌, length, Option, Some, None, Ok, Err, sym, subst, refl, ⊎_elim, arith}
 use Rattle.std.proofs.lemmas.Bool.{cases_lt}
 use Rattle.std.proofs.lemmas.List.{length-map}
 use Rattle.nomos_types.specs.Acceptance.{Acceptance}
@@ -12,7 +12,7 @@ use Rattle.nomos_config.specs.Start.{cleared}
 use Rattle.nomos_config.specs.State.{State}
 use Rattle.nomos_config.specs.Step.{step}
 use Rattle.nomos_ledger.specs.Ending.{EndsAs, IsAllowed}
-use Rattle.nomos_ledger.specs.Ledger.{LedgerState, FitsDeposits, deposited}
+use Rattle.nomos_ledger.specs.Ledger.{LedgerState, FitsDeposits}
 use Rattle.nomos_ledger.specs.Legal.{Leads, done, deposit, no_deposit, refused, stays, undone, shown, RunsTo, Undoes, IsFirst, no_firing, firing, bare, batch_limit, firings_in}
 use Rattle.nomos_ledger.specs.Standing.{Deposits, WorldStandsFor}
 use Rattle.nomos_ledger.specs.Starting.{after_declared, after_start, after_starts, resolve_batch}
@@ -20,9 +20,7 @@ use Rattle.nomos_ledger.specs.World.{WorldState, committed, pids_of, start_of}
 use Rattle.nomos_ledger.specs.declared.journal.End.{End}
 use Rattle.nomos_ledger.specs.declared.journal.End.TheVariants as end
 use Rattle.nomos_ledger.specs.declared.journal.Entry.{Entry}
-use Rattle.nomos_ledger.specs.declared.journal.Firing.{Firing}
 use Rattle.nomos_ledger.specs.declared.refusal.Refusal.{Refusal}
-use Rattle.nomos_ledger.specs.declared.refusal.Refusal.TheVariants as refusal
 use Rattle.nomos_ledger.specs.declared.resolved.Resolved.{Resolved}
 
 -- the same count of firings, written otherwise

@@ -3,5 +3,7 @@ pub mod StandingLaws
 pub mod ResolveLaws
 pub mod LineLaws
 pub mod LegalLaws
+pub mod LegalUnique
+pub mod RoomLaws
 mod RestLemmas
 mod NameLemmas

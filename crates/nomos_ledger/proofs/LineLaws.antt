@@ -1,5 +1,5 @@
 -- The lines of a batch, one after another.
-use Rattle.std.proofs.Common.{◌≡◌, ◌∙◌, ℕ, suc, ◌+◌, ◌-◌, ◌<◌, List, [], ◌∷◌, ◌++◌, length, get_or, drop, set, slice_get, slice_index, Option, Some, None, Ok, Err, ap, sym, subst, refl, arith, add-one, append_assoc, length-append, length-set}
+use Rattle.std.proofs.Common.{◌≡◌, ◌∙◌, ℕ, suc, ◌+◌, ◌-◌, ◌<◌, List, [], ◌∷◌, ◌++◌, length, get_or, drop, slice_get, slice_index, Some, Ok, Err, ap, sym, refl, arith, add-one, append_assoc, length-append, length-set}
 use Rattle.std.proofs.Math.Seq.{drop-cons}
 use Rattle.nomos_ir.specs.declared.declaration.ProcDecl.{ProcDecl}
 use Rattle.nomos_types.specs.Acceptance.{Acceptance}
@@ -7,8 +7,8 @@ use Rattle.nomos_types.specs.Amount.{dths}
 use Rattle.nomos_script.specs.declared.item.Start.{Start}
 use Rattle.nomos_config.specs.Start.{started}
 use Rattle.nomos_config.specs.State.{State, gas_of}
-use Rattle.nomos_ledger.specs.Gives.{Lined, MayStart, left}
-use Rattle.nomos_ledger.specs.Ledger.{AreNamed, LedgerState}
+use Rattle.nomos_ledger.specs.Gives.{Lined, left}
+use Rattle.nomos_ledger.specs.Ledger.{LedgerState}
 use Rattle.nomos_ledger.specs.Starting.{BatchOutcome, after_declared, after_start, after_starts, before_others, named, resolve, resolve_batch, resolve_line}
 use Rattle.nomos_ledger.specs.declared.lines.Lines.{Lines}
 use Rattle.nomos_ledger.specs.declared.refusal.Refusal.{Refusal}

@@ -1,5 +1,5 @@
 -- The numbers of objects stay below the next one, in steps and in starts.
-use Rattle.std.proofs.Common.{◌≡◌, ℕ, suc, ◌+◌, ◌-◌, ◌<◌, ◌≤◌, List, [], ◌∷◌, ◌++◌, set, remove, take, drop, length, All, Some, slice_get, refl, sym, subst, arith}
+use Rattle.std.proofs.Common.{◌≡◌, ℕ, suc, ◌+◌, ◌-◌, ◌<◌, ◌≤◌, List, [], ◌∷◌, ◌++◌, set, remove, take, drop, All, Some, slice_get, refl, sym, subst, arith}
 use Rattle.std.proofs.lemmas.List.Elements.{All-append, All-drop, All-push, All-set, All-take, All-weaker}
 use Rattle.nomos_ir.specs.declared.code_node.Chan.{Chan}
 use Rattle.nomos_ir.specs.declared.code_node.Chan.TheVariants as chan
@@ -11,7 +11,6 @@ use Rattle.nomos_types.specs.Acceptance.{Acceptance}
 use Rattle.nomos_types.specs.Amount.{Annotations, dths}
 use Rattle.nomos_config.specs.Channels.{bound, forgotten}
 use Rattle.nomos_config.specs.Objects.{number_of}
-use Rattle.nomos_config.specs.Standing.{process_at}
 use Rattle.nomos_config.specs.Start.{starting, started}
 use Rattle.nomos_config.specs.State.{State}
 use Rattle.nomos_config.specs.Step.{goes_on, closed, moved, step}

@@ -1,5 +1,5 @@
 -- What a start is resolved to can be made.
-use Rattle.std.proofs.Common.{◌≡◌, ◌≢◌, ◌∙◌, ◌⊎◌, ℕ, suc, ◌+◌, ◌<◌, ◌≤◌, ◌==◌, ◌&&◌, nat_le, Bool, true, false, cond, is_some, List, [], ◌∷◌, length, get_or, position, Option, Some, None, Result, Ok, Err, slice_get, slice_index, inl, inr, ap, sym, subst, refl, arith, eqb-true}
+use Rattle.std.proofs.Common.{◌≡◌, ◌⊎◌, ℕ, ◌<◌, ◌≤◌, ◌==◌, ◌&&◌, nat_le, Bool, true, false, cond, is_some, List, [], ◌∷◌, length, position, Option, Some, None, Ok, Err, slice_get, slice_index, inl, inr, subst, refl, arith, eqb-true}
 use Rattle.std.specs.Option.{ok_or}
 use Rattle.std.specs.Str.{bytes_eq}
 use Rattle.std.proofs.lemmas.List.Quantifiers.{position-Some}

@@ -1,5 +1,5 @@
 -- What stands for a program goes on standing for it.
-use Rattle.std.proofs.Common.{◌≡◌, ◌∙◌, ℕ, ◌+◌, ◌-◌, ◌*◌, ◌^◌, ◌<◌, ◌≤◌, List, [], ◌∷◌, ◌++◌, length, get_or, map, AllPairs, position, Option, Some, None, Result, Ok, IfOk, slice_index, ap, subst, sym, refl, arith}
+use Rattle.std.proofs.Common.{◌≡◌, ◌∙◌, ℕ, ◌+◌, ◌-◌, ◌*◌, ◌^◌, ◌<◌, ◌≤◌, List, [], ◌∷◌, ◌++◌, length, Option, Some, None, Result, Ok, IfOk, slice_index, ap, subst, sym, refl, arith}
 use Rattle.std.proofs.lemmas.List.Quantifiers.{position-Some}
 use Rattle.std.proofs.lemmas.Nat.{mul-le}
 use Rattle.std.proofs.lemmas.Option.{same_Some, option_and_then_some}
@@ -19,7 +19,7 @@ use Rattle.nomos_config.proofs.GasLaws.{gas-credited, gas-opened, gas-started}
 use Rattle.nomos_config.proofs.KeepLaws.{SameOutside, step-keeps, step-same_outside, paid-sound, keeps-little, run_push, sound-cleared, sound-credited, sound-opened, sound-started}
 use Rattle.nomos_config.proofs.ReadyLaws.{ReadyParts, ready-from_parts, ready-is-process}
 use Rattle.nomos_ledger.specs.Ending.{EndsAs}
-use Rattle.nomos_ledger.specs.Ledger.{LedgerState, AreNamed, account_of, accounts_with, deposited, state_with}
+use Rattle.nomos_ledger.specs.Ledger.{LedgerState, account_of, accounts_with, deposited, state_with}
 use Rattle.nomos_ledger.specs.Standing.{IsClosed, StandsFor, WorldStandsFor}
 use Rattle.nomos_ledger.specs.World.{WorldState, committed, pids_of, start_of}
 use Rattle.nomos_ledger.specs.declared.journal.End.TheVariants as end

@@ -1,5 +1,5 @@
 -- Ledgers and worlds that stand for an accepted program, and what the calls on them answer.
-use Rattle.std.specs.Prelude.{◌≡◌, ℕ, ◌+◌, ◌*◌, ◌<◌, ◌≤◌, ◌^◌, List, [], ◌∷◌, ◌++◌, All, Some, Ok, Err}
+use Rattle.std.specs.Prelude.{◌≡◌, ℕ, ◌*◌, ◌<◌, List, [], ◌∷◌, ◌++◌, All, Some, Ok, Err}
 use Rattle.nomos_types.specs.Acceptance.{Acceptance}
 use Rattle.nomos_script.specs.declared.item.Batch.{Batch}
 use Rattle.nomos_config.specs.Objects.{number_of}

@@ -1,5 +1,5 @@
-use Rattle.std.proofs.Common.{ℕ, ◌<◌, true, false, below_more, arith}
-use Rattle.nomos_ledger.specs.Ending.{IsTransaction, NoTransaction}
+use Rattle.std.proofs.Common.{below_more, arith}
+use Rattle.nomos_ledger.specs.Ending.{NoTransaction}
 use Rattle.nomos_ledger.proofs.NumberLaws.{none_left}
 use Rattle.nomos_ledger.proofs.rest.has_transaction.Goals as goal
 

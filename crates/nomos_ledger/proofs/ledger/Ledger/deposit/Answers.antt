@@ -1,4 +1,4 @@
-use Rattle.std.proofs.Common.{◌+◌, ◌*◌, ◌<◌, ◌^◌, arith}
+use Rattle.std.proofs.Common.{◌*◌, ◌<◌, ◌^◌, arith}
 use Rattle.nomos_ledger.proofs.NameLemmas.{deposit-named}
 use Rattle.nomos_ledger.proofs.StandingLaws.{deposited-stands}
 use Rattle.nomos_ledger.proofs.ledger.Ledger.deposit.Goals as goal
