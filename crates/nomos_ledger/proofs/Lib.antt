@@ -5,5 +5,6 @@ pub mod LineLaws
 pub mod LegalLaws
 pub mod LegalUnique
 pub mod RoomLaws
+mod Examples
 mod RestLemmas
 mod NameLemmas
