@@ -1,4 +1,4 @@
-//! The program: it hands its words, the file that they name and its standard output to `nomos`.
+//! The program: it hands its words, the files that they name and its standard output to `nomos`.
 #![tactic(auto)]
 
 ghost use Rattle.std.specs.Prelude.{map, string_bytes, IsSome};
@@ -44,7 +44,8 @@ fn status_of<R: Files<File = File> + AllocGlobal>(
     ensures { EndsWith (map string_bytes words.now) (record { before = out.old; after = out.new }) result }
 {
     let mut contract = FileSource::new(contract_file(rt, words));
-    nomos(rt.alloc(), words, &mut contract, out).status
+    let mut script = FileSource::new(script_file(rt, words));
+    nomos(rt.alloc(), words, &mut contract, &mut script, out).status
 }
 
 // The file of the contract, opened for reading. None, where the words name none or it cannot be opened.
@@ -52,8 +53,18 @@ fn contract_file<R: Files<File = File>>(rt: &R, words: &[String]) -> Option<File
     ensures { IsSome result → IsSome (task_of (map string_bytes words.now)) }
 {
     match nomos_top::words(words) {
-        Some(Job::Check { file }) => File::open(rt, file).ok(),
+        Some(Job::Check { file } | Job::Run { file, script: _ }) => File::open(rt, file).ok(),
         None => None,
+    }
+}
+
+// The file of the script, opened for reading. None, where the words name none or it cannot be opened.
+fn script_file<R: Files<File = File>>(rt: &R, words: &[String]) -> Option<File>
+    ensures { IsSome result → IsSome (task_of (map string_bytes words.now)) }
+{
+    match nomos_top::words(words) {
+        Some(Job::Run { file: _, script }) => File::open(rt, script).ok(),
+        _ => None,
     }
 }
 

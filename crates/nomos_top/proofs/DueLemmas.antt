@@ -1,22 +1,26 @@
 -- What is due, from its parts.
-use Rattle.std.proofs.Common.{◌≡◌, ℕ, ◌<◌, ◌+◌, List, [], length, replicate, Option, Some, None, Result, Ok, Err, IfOk, refl, arith}
+use Rattle.std.proofs.Common.{◌≡◌, ℕ, ◌<◌, ◌+◌, List, [], length, replicate, Option, Some, None, Result, Ok, Err, refl, ap, subst, arith, lit≤}
+use Rattle.std.specs.Prelude.{IfOk, IfErr, IsSome, codes}
 use Rattle.std.proofs.Math.ListN.{length-replicate}
+use Rattle.std.proofs.Math.Seq.{take-length}
+use Rattle.nomos_accept.specs.Acceptance.{IsAcceptedAs, IsRefused}
+use Rattle.nomos_accept.specs.declared.refusal.Why.{Why}
 use Rattle.nomos_base.proofs.Told.{TakesExactly-told}
 use Rattle.nomos_base.specs.Source.{TakesAll, TakesExactly}
-use Rattle.nomos_syntax.specs.Limits.{text_limit}
+use Rattle.nomos_ledger.specs.declared.journal.Journal.{Journal}
+use Rattle.nomos_script.specs.Reading.{ReadsAs}
+use Rattle.nomos_script.specs.declared.item.ScriptItem.{ScriptItem}
+use Rattle.nomos_top.specs.Block.{accepted_block, refusal_line, read_fault_line, usage_line}
+use Rattle.nomos_top.specs.Judging.{FindsText, FindsOrFails, IsDueAs, IsPartAs, IsDueOf, IsPartOf, not_run, run_so_far, HasRunAs, HasRunPart, journal_of}
+use Rattle.nomos_top.specs.Outcome.{Counts, HaveRisen, Input, Reading, input_of, IsTextOf, IsCheck, IsRun, IsDue, usage, read_fault, refused, accepted, ran, IsDueFor, IsPart, nothing, accepted_part, run_part, no_journal}
+use Rattle.nomos_top.specs.Progress.{HasCome}
+use Rattle.nomos_top.specs.Words.{Task, task_of}
+use Rattle.nomos_top.specs.declared.running.Running.{Running}
 use Rattle.nomos_top.specs.declared.top.Due.{Due}
-use Rattle.nomos_top.specs.Outcome.{Counts, IsDue, IsTextOf, IsDueFor}
+use Rattle.nomos_top.specs.declared.top.Found.{Found}
+use Rattle.nomos_top.specs.declared.top.Found.TheVariants as found
+use Rattle.nomos_top.specs.declared.top.Part.{Part}
 use Rattle.nomos_types.specs.Acceptance.{Acceptance}
-
--- what is due stands in the parts of a result
-pub due_of_parts : {E : Type 0} (r : Result Due E) (words : List (List ℕ)) (text : List ℕ) (contract : Counts) (status : ℕ) (bytes : List ℕ) (accepted : Option Acceptance) → IfOk r (λ d. d.status ≡ status) → IfOk r (λ d. d.text.items ≡ bytes) → IfOk r (λ d. d.accepted ≡ accepted) → IsDue words text contract status bytes accepted → IfOk r (λ d. IsDue words text contract d.status d.text.items d.accepted)
-due_of_parts (Ok d) words text contract status bytes accepted s b a due = rw (s, b, a) due
-due_of_parts (Err e) words text contract status bytes accepted s b a due = tt
-
--- what is due for a text is due for the source that has it
-pub due_for : {E : Type 0} (r : Result Due E) (words : List (List ℕ)) (left : Option (List ℕ)) (text : List ℕ) (contract : Counts) → IsTextOf left text → IfOk r (λ d. IsDue words text contract d.status d.text.items d.accepted) → IfOk r (λ d. IsDueFor words left contract d.status d.text.items d.accepted)
-due_for (Ok d) words left text contract told due = record { text = text; told = told; due = due }
-due_for (Err e) words left text contract told due = tt
 
 -- some text that a source may have
 pub some_text : (left : Option (List ℕ)) → (text : List ℕ) × IsTextOf left text
@@ -27,12 +31,127 @@ some_text (Some text) = (text, refl)
 pub some_longer : (n : ℕ) → (text : List ℕ) × (n < length text)
 some_longer n = (replicate (n + 1) 0, rw length-replicate (omega arith))
 
--- a text past the limit, which the source has
-pub long_text : (left now : Option (List ℕ)) → TakesExactly (text_limit + 1) left now → (text : List ℕ) × IsTextOf left text × (text_limit < length text)
-long_text None now h = let longer = some_longer text_limit in (longer.0, tt, longer.1)
-long_text (Some text) now h = (text, refl, omega (arith, TakesExactly-told (text_limit + 1) text now h))
+-- a text past a limit, which the source has
+pub long_text : (limit : ℕ) (left now : Option (List ℕ)) → TakesExactly (limit + 1) left now → (text : List ℕ) × IsTextOf left text × (limit < length text)
+long_text limit None now h = let longer = some_longer limit in (longer.0, tt, longer.1)
+long_text limit (Some text) now h = (text, refl, omega (arith, TakesExactly-told (limit + 1) text now h))
 
 -- all that was taken is what the source had
 pub taken_text : (bytes : List ℕ) (left now : Option (List ℕ)) → TakesAll bytes left now → IsTextOf left bytes
 taken_text bytes None now h = tt
 taken_text bytes (Some all) now h = h.0
+
+-- what holds of a result's value, from what holds of it
+pub if_ok-map : {X E : Type 0} (r : Result X E) (P Q : X → Type 0) → ((x : X) → P x → Q x) → IfOk r P → IfOk r Q
+if_ok-map (Ok x) P Q f h = f x h
+if_ok-map (Err e) P Q f h = tt
+
+-- the same of an error
+pub if_err-map : {X E : Type 0} (r : Result X E) (P Q : E → Type 0) → ((e : E) → P e → Q e) → IfErr r P → IfErr r Q
+if_err-map (Ok x) P Q f h = tt
+if_err-map (Err e) P Q f h = f e h
+
+-- words that have a task
+pub has-task : (words : List (List ℕ)) (t : Task) → Some t ≡ task_of words → IsSome (task_of words)
+has-task words t e =
+    let here : IsSome (Some t) = refl in subst (λ (o : Option Task). IsSome o) e here
+
+-- what is due consists of what is due
+pub due-as : (words : List (List ℕ)) (contract script : Reading) (due : Due) (code : ℕ) (bytes : List ℕ) (given : Option Acceptance) (kept : Journal) → IsDueFor words contract script code bytes given kept → IsDueAs due code bytes given kept → IsDueFor words contract script due.status due.text.items due.accepted due.journal
+due-as words contract script due code bytes given kept is_due parts = rw (parts.status, parts.text, parts.accepted, parts.journal) is_due
+
+-- words without a form
+pub due-usage : (words : List (List ℕ)) (contract script : Reading) → task_of words ≡ None → IsDueFor words contract script 4 usage_line None no_journal
+due-usage words contract script none =
+    let t = some_text contract.left in
+    let s = some_text script.left in
+    record { text = t.0; script_text = s.0; told = t.1; script_told = s.1; due = usage none }
+
+-- a contract that could not be read
+pub due-fault : (words : List (List ℕ)) (contract script : Reading) → IsSome (task_of words) → HaveRisen contract.counts → IsDueFor words contract script 5 (read_fault_line (codes "contract")) None no_journal
+due-fault words contract script some rose =
+    let t = some_text contract.left in
+    let s = some_text script.left in
+    record { text = t.0; script_text = s.0; told = t.1; script_told = s.1; due = read_fault some rose }
+
+-- a contract that is refused
+pub due-refused : (words : List (List ℕ)) (contract script : Reading) (text : List ℕ) (why : Why) → IsSome (task_of words) → IsTextOf contract.left text → IsRefused text why → IsDueFor words contract script 1 (refusal_line why) None no_journal
+due-refused words contract script text why some told is_refused =
+    let s = some_text script.left in
+    record { text = text; script_text = s.0; told = told; script_told = s.1; due = refused why some is_refused }
+
+-- a contract that is checked and accepted
+pub due-accepted : (words : List (List ℕ)) (contract script : Reading) (text : List ℕ) (a : Acceptance) → IsCheck words → IsTextOf contract.left text → IsAcceptedAs text a → IsDueFor words contract script 0 (accepted_block a) (Some a) no_journal
+due-accepted words contract script text a checks told is_accepted =
+    let s = some_text script.left in
+    record { text = text; script_text = s.0; told = told; script_told = s.1; due = accepted a checks is_accepted }
+
+-- a script that is to be run on an accepted contract
+pub due-of : (words : List (List ℕ)) (contract script : Reading) (text : List ℕ) (a : Acceptance) (code : ℕ) (bytes : List ℕ) (given : Option Acceptance) (kept : Journal) → IsRun words → IsTextOf contract.left text → IsAcceptedAs text a → IsDueOf a script.left script.counts code bytes given kept → IsDueFor words contract script code bytes given kept
+due-of words contract script text a code bytes given kept runs told is_accepted is_due = record {
+  text = text;
+  script_text = is_due.0;
+  told = told;
+  script_told = is_due.1;
+  due = is_due.2 words (input_of contract text) runs is_accepted;
+}
+
+-- nothing was done
+pub part-nothing : (words : List (List ℕ)) (contract script : Reading) (part : Part) → IsPartAs part None no_journal → IsPart words contract script part.accepted part.journal
+part-nothing words contract script part parts = rw (parts.accepted, parts.journal) nothing
+
+-- what was done of a run
+pub part-of : (words : List (List ℕ)) (contract script : Reading) (text : List ℕ) (a : Acceptance) (given : Option Acceptance) (kept : Journal) → IsRun words → IsTextOf contract.left text → IsAcceptedAs text a → IsPartOf a script.left given kept → IsPart words contract script given kept
+part-of words contract script text a given kept runs told is_accepted not_run = accepted_part a text runs told is_accepted
+part-of words contract script text a given kept runs told is_accepted (run_so_far script_text items entries script_told reads so_far) =
+    run_part a text script_text items (journal_of entries) so_far.1 runs told is_accepted script_told reads
+    (so_far.0, record { limit = record { some = lit≤ tt; few = lit≤ tt }; leads = so_far.2 })
+
+-- what is found of a script's text is found of the script
+pub finds-text : (text : List ℕ) (counts : Counts) (f : Found) → FindsText text f → FindsOrFails text counts f
+finds-text text counts (found.Script items) h = h
+finds-text text counts found.TooLong h = h
+finds-text text counts (found.Syntax k) h = h
+finds-text text counts (found.NotYet k) h = h
+finds-text text counts found.ReadFault h = absurd h
+finds-text text counts found.NoMemory h = tt
+
+-- what is due where the script can not be run, from its parts
+pub due_of-line : (a : Acceptance) (left : Option (List ℕ)) (counts : Counts) (text : List ℕ) (due : Due) (code : ℕ) (bytes : List ℕ) → IsTextOf left text → ((words : List (List ℕ)) (contract : Input) → IsRun words → IsAcceptedAs contract.text a → IsDue words contract (record { text = text; counts = counts }) code bytes (Some a) no_journal) → IsDueAs due code bytes (Some a) no_journal → IsDueOf a left counts due.status due.text.items due.accepted due.journal
+due_of-line a left counts text due code bytes told is_due parts =
+    (text, told, λ words contract runs is_accepted. rw (parts.status, parts.text, parts.accepted, parts.journal) (is_due words contract runs is_accepted))
+
+-- a run of a script, from its parts
+pub due_of-run : (a : Acceptance) (left : Option (List ℕ)) (counts : Counts) (text : List ℕ) (items : List ScriptItem) (code : ℕ) (bytes : List ℕ) (given : Option Acceptance) (kept : Journal) → IsTextOf left text → ReadsAs text items → HasRunAs a items code bytes given kept → IsDueOf a left counts code bytes given kept
+due_of-run a left counts text items code bytes given kept told reads run = (
+  text,
+  told,
+  λ words contract runs is_accepted.
+      rw
+      (run.status_is, run.told, run.given)
+      (ran a items kept runs is_accepted (record {
+        reads = reads;
+        limit = run.limit;
+        last = run.last;
+        legal = record { limit = rw run.limit (record { some = lit≤ tt; few = lit≤ tt }); leads = rw run.limit run.leads };
+        first = run.first;
+      })),
+)
+
+-- what was done of a script that is not run
+pub part_of-line : (a : Acceptance) (left : Option (List ℕ)) (part : Part) → IsPartAs part (Some a) no_journal → IsPartOf a left part.accepted part.journal
+part_of-line a left part parts = rw (parts.accepted, parts.journal) not_run
+
+-- what was done of a script that is run in part
+pub part_of-run : (a : Acceptance) (left : Option (List ℕ)) (text : List ℕ) (items : List ScriptItem) (given : Option Acceptance) (kept : Journal) → IsTextOf left text → ReadsAs text items → HasRunPart a items given kept → IsPartOf a left given kept
+part_of-run a left text items given kept told reads part =
+    let same : kept ≡ journal_of kept.entries = ap (λ (n : ℕ). record { limit = n; entries = kept.entries }) part.limit in
+    rw part.given (rw same (run_so_far text items kept.entries told reads part.so_far))
+
+-- what was done of a script that was run to its end
+pub ran-part : (a : Acceptance) (items : List ScriptItem) (running : Running) (part : Part) → HasCome a items running → IsPartAs part (Some a) (journal_of running.entries.items) → HasRunPart a items part.accepted part.journal
+ran-part a items running part come parts = record {
+  limit = rw parts.journal refl;
+  so_far = rw (parts.journal) (length items, running.ledger, rw (take-length items) come.leads);
+  given = parts.accepted;
+}

@@ -1,1 +1,4 @@
 pub mod DueLemmas
+pub mod JournalLaws
+pub mod ProgressLaws
+pub mod WorldLaws

@@ -47,7 +47,8 @@ abbrev pub refusal_line : Why → List ℕ
 refusal_line w = line (codes "refused " ++ why_text w)
 
 abbrev pub usage_line : List ℕ
-usage_line = line (codes "usage: nomos check FILE")
+usage_line = line (codes "usage: nomos check FILE | run FILE SCRIPT")
 
-abbrev pub read_fault_line : List ℕ
-read_fault_line = line (codes "read fault contract")
+-- the source that could not be read
+abbrev pub read_fault_line : List ℕ → List ℕ
+read_fault_line source = line (codes "read fault " ++ source)

@@ -1,11 +1,17 @@
 -- How a call ends.
-use Rattle.std.specs.Prelude.{◌≡◌, ℕ, List, Option, Some, None, IsSome, ⊤}
+use Rattle.std.specs.Prelude.{◌≡◌, ℕ, ◌<◌, List, [], length, codes, decimal, ◌++◌, Option, Some, None, IsSome, ⊤}
 use Rattle.nomos_accept.specs.Acceptance.{IsAcceptedAs, IsRefused}
 use Rattle.nomos_accept.specs.declared.refusal.Why.{Why}
 use Rattle.nomos_base.specs.Faults.{Rose}
 use Rattle.nomos_base.specs.Sink.{with_end, AppendsSome}
-use Rattle.nomos_top.specs.Block.{accepted_block, refusal_line, usage_line, read_fault_line}
-use Rattle.nomos_top.specs.Words.{task_of}
+use Rattle.nomos_ledger.specs.Ledger.{LedgerState, empty_ledger}
+use Rattle.nomos_ledger.specs.Legal.{IsLegal, IsLegalSoFar}
+use Rattle.nomos_ledger.specs.declared.journal.Journal.{Journal}
+use Rattle.nomos_script.specs.Reading.{ReadsAs, IsSyntaxAt, IsNotYetAt, text_limit}
+use Rattle.nomos_script.specs.declared.item.ScriptItem.{ScriptItem}
+use Rattle.nomos_top.specs.Block.{line, accepted_block, refusal_line, usage_line, read_fault_line}
+use Rattle.nomos_top.specs.Report.{report, run_status, AllFollowFirst}
+use Rattle.nomos_top.specs.Words.{Task, check, run, task_of}
 use Rattle.nomos_types.specs.Acceptance.{Acceptance}
 
 -- the counts of faults of a source or a sink before a call and after it
@@ -16,33 +22,91 @@ pub record Counts : Type 0 where
 abbrev pub HaveRisen : Counts → Type 0
 HaveRisen c = Rose c.before c.after
 
--- What is due for these words where the contract has this text: a status, what is to be written, and
--- what is accepted.
-pub data IsDue (words : List (List ℕ)) (text : List ℕ) (contract : Counts) : ℕ → List ℕ → Option Acceptance → Type 0 where
-  usage : task_of words ≡ None → IsDue words text contract 4 usage_line None
-  read_fault : IsSome (task_of words) → HaveRisen contract → IsDue words text contract 5 read_fault_line None
-  refused : (why : Why) → IsSome (task_of words) → IsRefused text why → IsDue words text contract 1 (refusal_line why) None
-  accepted : (a : Acceptance) → IsSome (task_of words) → IsAcceptedAs text a → IsDue words text contract 0 (accepted_block a) (Some a)
+-- a text that is read, and the counts of its source
+pub record Input : Type 0 where
+  pub text : List ℕ
+  pub counts : Counts
+
+-- the most firings of one batch
+abbrev pub steps : ℕ
+steps = 1000000
+
+-- the journal without entries
+abbrev pub no_journal : Journal
+no_journal = record { limit = steps; entries = [] }
+
+-- the words ask for a check, or for a run
+abbrev pub IsCheck : List (List ℕ) → Type 0
+IsCheck words = (file : List ℕ) × (task_of words ≡ Some (check file))
+
+abbrev pub IsRun : List (List ℕ) → Type 0
+IsRun words = (file script : List ℕ) × (task_of words ≡ Some (run file script))
+
+-- the cause of a script's refusal
+abbrev pub script_refusal : List ℕ → List ℕ
+script_refusal cause = line (codes "script refused " ++ cause)
+
+-- A run of the script: its items, and a journal of them that is legal, by the lowest ready process each time.
+pub record HasRun (a : Acceptance) (script : List ℕ) (items : List ScriptItem) (journal : Journal) : Type 0 where
+  pub reads : ReadsAs script items
+  pub limit : journal.limit ≡ steps
+  pub last : LedgerState
+  pub legal : IsLegal a items journal last
+  pub first : AllFollowFirst a empty_ledger items journal.entries
+
+-- What is due for these words where contract and script have these texts: a status, what is to be written, what is
+-- accepted, and the journal.
+pub data IsDue (words : List (List ℕ)) (contract script : Input) : ℕ → List ℕ → Option Acceptance → Journal → Type 0 where
+  usage : task_of words ≡ None → IsDue words contract script 4 usage_line None no_journal
+  read_fault : IsSome (task_of words) → HaveRisen contract.counts → IsDue words contract script 5 (read_fault_line (codes "contract")) None no_journal
+  refused : (why : Why) → IsSome (task_of words) → IsRefused contract.text why → IsDue words contract script 1 (refusal_line why) None no_journal
+  accepted : (a : Acceptance) → IsCheck words → IsAcceptedAs contract.text a → IsDue words contract script 0 (accepted_block a) (Some a) no_journal
+  script_fault : (a : Acceptance) → IsRun words → IsAcceptedAs contract.text a → HaveRisen script.counts → IsDue words contract script 5 (read_fault_line (codes "script")) (Some a) no_journal
+  script_too_long : (a : Acceptance) → IsRun words → IsAcceptedAs contract.text a → text_limit < length script.text → IsDue words contract script 2 (script_refusal (codes "TooLong")) (Some a) no_journal
+  script_syntax : (a : Acceptance) (k : ℕ) → IsRun words → IsAcceptedAs contract.text a → IsSyntaxAt script.text k → IsDue words contract script 2 (script_refusal (codes "Syntax " ++ decimal k)) (Some a) no_journal
+  script_not_yet : (a : Acceptance) (k : ℕ) → IsRun words → IsAcceptedAs contract.text a → IsNotYetAt script.text k → IsDue words contract script 2 (script_refusal (codes "NotYet " ++ decimal k)) (Some a) no_journal
+  -- status 0 where each entry was carried out, 3 where one was not
+  ran : (a : Acceptance) (items : List ScriptItem) (journal : Journal) → IsRun words → IsAcceptedAs contract.text a → HasRun a script.text items journal → IsDue words contract script (run_status journal.entries) (report a items journal) (Some a) journal
 
 -- the text is what the source has left, where it tells that
 abbrev pub IsTextOf : Option (List ℕ) → List ℕ → Type 0
 IsTextOf None text = ⊤
 IsTextOf (Some left) text = text ≡ left
 
--- it is due for the text that the source has left, or for some text where the source does not tell
-pub record IsDueFor (words : List (List ℕ)) (left : Option (List ℕ)) (contract : Counts) (status : ℕ) (bytes : List ℕ) (accepted : Option Acceptance) : Type 0 where
+-- what a source has left at the begin of a call, where it tells that, and its counts
+pub record Reading : Type 0 where
+  pub left : Option (List ℕ)
+  pub counts : Counts
+
+abbrev pub input_of : Reading → List ℕ → Input
+input_of source text = record { text = text; counts = source.counts }
+
+-- it is due for the texts that the sources have left, or for some texts where they do not tell
+pub record IsDueFor (words : List (List ℕ)) (contract script : Reading) (status : ℕ) (bytes : List ℕ) (accepted : Option Acceptance) (journal : Journal) : Type 0 where
   pub text : List ℕ
-  pub told : IsTextOf left text
-  pub due : IsDue words text contract status bytes accepted
+  pub script_text : List ℕ
+  pub told : IsTextOf contract.left text
+  pub script_told : IsTextOf script.left script_text
+  pub due : IsDue words (input_of contract text) (input_of script script_text) status bytes accepted journal
+
+-- What is known where memory ran out: nothing is accepted; or a run was asked for and the contract accepted, and the
+-- journal has what was done before, if anything.
+pub data IsPart (words : List (List ℕ)) (contract script : Reading) : Option Acceptance → Journal → Type 0 where
+  nothing : IsPart words contract script None no_journal
+  accepted_part : (a : Acceptance) (text : List ℕ) → IsRun words → IsTextOf contract.left text → IsAcceptedAs text a → IsPart words contract script (Some a) no_journal
+  run_part : (a : Acceptance) (text script_text : List ℕ) (items : List ScriptItem) (journal : Journal) (last : LedgerState) →
+      IsRun words → IsTextOf contract.left text → IsAcceptedAs text a → IsTextOf script.left script_text → ReadsAs script_text items →
+      IsLegalSoFar a items journal last → IsPart words contract script (Some a) journal
 
 -- All that is due was written, or the sink failed and a part of it was.
-pub data IsWritten (status : ℕ) (bytes : List ℕ) (accepted : Option Acceptance) (out : Counts) (before after : Option (List ℕ)) : ℕ → Option Acceptance → Type 0 where
-  whole : after ≡ with_end before bytes → IsWritten status bytes accepted out before after status accepted
-  write_fault : HaveRisen out → AppendsSome bytes before after → IsWritten status bytes accepted out before after 6 accepted
+pub data IsWritten (status : ℕ) (bytes : List ℕ) (out : Counts) (before after : Option (List ℕ)) : ℕ → Type 0 where
+  whole : after ≡ with_end before bytes → IsWritten status bytes out before after status
+  write_fault : HaveRisen out → AppendsSome bytes before after → IsWritten status bytes out before after 6
 
 -- How the call ends: what is due was written, or memory ran out and nothing was.
-pub data EndsFor (words : List (List ℕ)) (left : Option (List ℕ)) (contract out : Counts) (before after : Option (List ℕ)) : ℕ → Option Acceptance → Type 0 where
-  written : {ended : ℕ} {given : Option Acceptance} (status : ℕ) (bytes : List ℕ) (accepted : Option Acceptance)
-      → IsDueFor words left contract status bytes accepted → IsWritten status bytes accepted out before after ended given
-      → EndsFor words left contract out before after ended given
-  no_memory : after ≡ before → EndsFor words left contract out before after 7 None
+pub data EndsFor (words : List (List ℕ)) (contract script : Reading) (out : Counts) (before after : Option (List ℕ)) : ℕ → Option Acceptance → Journal → Type 0 where
+  written : {ended : ℕ} {accepted : Option Acceptance} {journal : Journal} (status : ℕ) (bytes : List ℕ)
+      → IsDueFor words contract script status bytes accepted journal → IsWritten status bytes out before after ended
+      → EndsFor words contract script out before after ended accepted journal
+  no_memory : {accepted : Option Acceptance} {journal : Journal} → after ≡ before → IsPart words contract script accepted journal
+      → EndsFor words contract script out before after 7 accepted journal

@@ -6,14 +6,26 @@ use Rattle.std.specs.Str.{bytes_eq}
 pub data Task : Type 0 where
   -- the contract in this file is checked
   check : (file : List ℕ) → Task
+  -- the script in the second file is run on the contract in the first
+  run : (file script : List ℕ) → Task
 
 -- a file word is not empty and does not begin with `-`
 abbrev pub is_file_word : List ℕ → Bool
 is_file_word [] = false
 is_file_word (b ∷ word) = not (b == 45)
 
--- the task that the words name, if they have its form
-abbrev pub task_of : List (List ℕ) → Option Task
-task_of (command ∷ file ∷ []) =
+-- `check FILE`
+abbrev pub check_of : List ℕ → List ℕ → Option Task
+check_of command file =
     if bytes_eq command (codes "check") && is_file_word file then Some (check file) else None
+
+-- `run FILE SCRIPT`
+abbrev pub run_of : List ℕ → List ℕ → List ℕ → Option Task
+run_of command file script =
+    if bytes_eq command (codes "run") && is_file_word file && is_file_word script then Some (run file script) else None
+
+-- the task that the words name, if they have one of these forms
+abbrev pub task_of : List (List ℕ) → Option Task
+task_of (command ∷ file ∷ []) = check_of command file
+task_of (command ∷ file ∷ script ∷ []) = run_of command file script
 task_of _ = None

@@ -2,7 +2,7 @@
 
 ghost use Rattle.std.specs.Prelude.{◌≡◌, map, string_bytes};
 ghost use Rattle.std.specs.Option.{option_map};
-ghost use Rattle.nomos_top.specs.Words.{is_file_word, task_of};
+ghost use Rattle.nomos_top.specs.Words.{is_file_word, check_of, run_of, task_of};
 ghost use Rattle.nomos_top.specs.Jobs.{task};
 
 /// What is to be done.
@@ -10,6 +10,8 @@ ghost use Rattle.nomos_top.specs.Jobs.{task};
 pub enum Job<'a> {
     /// The contract in this file is to be checked.
     Check { file: &'a str },
+    /// The script in the second file is to be run on the contract in the first.
+    Run { file: &'a str, script: &'a str },
 }
 
 /// The job that the words name, or none where they have no form of the usage line. The words are those
@@ -18,12 +20,31 @@ pub fn words<'a>(words: &'a [String]) -> Option<Job<'a>>
     ensures { option_map task result ≡ task_of (map string_bytes words.now) }
 {
     match words {
-        [command, file] if command.as_str() == "check" && is_file_word(file.as_str()) => {
-            Some(Job::Check {
-                file: file.as_str(),
-            })
-        }
+        [command, file] => check_of(command.as_str(), file.as_str()),
+        [command, file, script] => run_of(command.as_str(), file.as_str(), script.as_str()),
         _ => None,
+    }
+}
+
+// `check FILE`.
+fn check_of<'a>(command: &str, file: &'a str) -> Option<Job<'a>>
+    ensures { option_map task result ≡ check_of command.now file.now }
+{
+    if command == "check" && is_file_word(file) {
+        Some(Job::Check { file })
+    } else {
+        None
+    }
+}
+
+// `run FILE SCRIPT`.
+fn run_of<'a>(command: &str, file: &'a str, script: &'a str) -> Option<Job<'a>>
+    ensures { option_map task result ≡ run_of command.now file.now script.now }
+{
+    if command == "run" && is_file_word(file) && is_file_word(script) {
+        Some(Job::Run { file, script })
+    } else {
+        None
     }
 }
 

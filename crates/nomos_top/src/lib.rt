@@ -3,6 +3,8 @@
 
 mod block;
 mod job;
+mod report;
+mod running;
 mod top;
 
 pub use job::{Job, words};

@@ -1,7 +1,8 @@
 //! What no clause says: that the call succeeds where memory is found, and examples from outside.
 
-use crate::{Job, nomos, words};
+use crate::{Ended, Job, nomos, words};
 use nomos_base::{MemorySink, MemorySource};
+use nomos_script::parsing;
 use nomos_syntax::scan::TEXT_LIMIT;
 use std::alloc::{AllocError, Global};
 use std::process::Abort;
@@ -19,6 +20,8 @@ const UNREAD: &[u8] = b"refused Unread\n";
 
 const NOT_YET: &[u8] = b"refused NotYet\n";
 
+const USAGE: &[u8] = b"usage: nomos check FILE | run FILE SCRIPT\n";
+
 const FLIP: &[u8] = b"type R flip = +{ heads : 1 | tails : 1 };
 proc R toss(;) : flip = self.heads; close;
 proc T t(;) = spawn c = toss(;); case c { tails => wait c; close | heads => wait c; close };
@@ -33,6 +36,28 @@ fn words_of(alloc: Global, texts: &[&str]) -> Result<Vec<String>, AllocError> {
     Ok(words)
 }
 
+// Calls with these words, contract and script, and looks at the status and at what is written.
+fn expect_call(
+    rt: &(impl Abort + AllocGlobal),
+    words: &[&str],
+    text: &[u8],
+    script: &[u8],
+    status: u8,
+    written: &[u8],
+) -> Result<Ended, Fail> {
+    let alloc = rt.alloc();
+    let words = words_of(alloc, words)?;
+    let text = Vec::from_slice(alloc, text)?;
+    let script = Vec::from_slice(alloc, script)?;
+    let mut contract = MemorySource::new(text, EVERYTHING, Vec::new(alloc));
+    let mut script = MemorySource::new(script, EVERYTHING, Vec::new(alloc));
+    let mut out = MemorySink::new(alloc, EVERYTHING, EVERYTHING, Vec::new(alloc))?;
+    let ended = nomos(alloc, &words, &mut contract, &mut script, &mut out);
+    assert_eq!(rt; out.written(), written);
+    assert_eq!(rt; ended.status, status);
+    Ok(ended)
+}
+
 // Checks a text, and looks at the status and at what is written.
 fn expect(
     rt: &(impl Abort + AllocGlobal),
@@ -40,15 +65,9 @@ fn expect(
     status: u8,
     written: &[u8],
 ) -> Result<(), Fail> {
-    let alloc = rt.alloc();
-    let words = words_of(alloc, &["check", "it.nomos"])?;
-    let text = Vec::from_slice(alloc, text)?;
-    let mut contract = MemorySource::new(text, EVERYTHING, Vec::new(alloc));
-    let mut out = MemorySink::new(alloc, EVERYTHING, EVERYTHING, Vec::new(alloc))?;
-    let ended = nomos(alloc, &words, &mut contract, &mut out);
-    assert_eq!(rt; out.written(), written);
-    assert_eq!(rt; ended.status, status);
+    let ended = expect_call(rt, &["check", "it.nomos"], text, b"", status, written)?;
     assert_eq!(rt; ended.accepted.is_some(), status == 0);
+    assert!(rt; ended.journal.entries.is_empty());
     Ok(())
 }
 
@@ -114,11 +133,8 @@ fn reads_the_program_of_a_text(rt: HostRuntime) -> Result<(), Fail> {
 proc R mk(;) : bit = self.one; close;
 proc T t(;) = spawn x = mk(;); case x { one => wait x; close };
 ";
-    let words = words_of(alloc, &["check", "it.nomos"])?;
-    let text = Vec::from_slice(alloc, text)?;
-    let mut contract = MemorySource::new(text, EVERYTHING, Vec::new(alloc));
-    let mut out = MemorySink::new(alloc, EVERYTHING, EVERYTHING, Vec::new(alloc))?;
-    let ended = nomos(alloc, &words, &mut contract, &mut out);
+    let written = b"accepted\nunit 1\nbound t = 0\n";
+    let ended = expect_call(&rt, &["check", "it.nomos"], text, b"", 0, written)?;
     let Some(accepted) = &ended.accepted else {
         panic!(rt; "the text is accepted");
     };
@@ -292,13 +308,14 @@ fn limits_of_nesting(rt: HostRuntime) -> Result<(), Fail> {
 
 #[test]
 fn words_have_one_form(rt: HostRuntime) -> Result<(), Fail> {
-    let table: [&[&str]; 8] = [
+    let table: [&[&str]; 9] = [
         &[],
         &["check"],
         &["check", ""],
         &["check", "-v"],
         &["check", "a", "b"],
         &["run", "a"],
+        &["run", "a", "-b"],
         &["Check", "a"],
         &["check", "-"],
     ];
@@ -306,14 +323,14 @@ fn words_have_one_form(rt: HostRuntime) -> Result<(), Fail> {
     for texts in table {
         let given = words_of(alloc, texts)?;
         assert!(rt; words(&given).is_none());
-        let mut contract = MemorySource::new(Vec::new(alloc), 1, Vec::new(alloc));
-        let mut out = MemorySink::new(alloc, 99, 99, Vec::new(alloc))?;
-        let ended = nomos(alloc, &given, &mut contract, &mut out);
-        assert_eq!(rt; ended.status, 4);
-        assert_eq!(rt; out.written(), b"usage: nomos check FILE\n".as_slice());
+        expect_call(&rt, texts, b"", b"", 4, USAGE)?;
     }
     let given = words_of(alloc, &["check", "a-file"])?;
     assert!(rt; matches!(words(&given), Some(Job::Check { file }) if file == "a-file"));
+    let given = words_of(alloc, &["run", "a", "b"])?;
+    assert!(rt;
+        matches!(words(&given), Some(Job::Run { file, script }) if file == "a" && script == "b")
+    );
     Ok(())
 }
 
@@ -323,8 +340,9 @@ fn a_source_that_fails_is_told(rt: HostRuntime) -> Result<(), Fail> {
     let given = words_of(alloc, &["check", "it.nomos"])?;
     let failing = vec![in alloc; 3u64]?;
     let mut contract = MemorySource::new(Vec::from_slice(alloc, FLIP)?, 4, failing);
+    let mut script = MemorySource::new(Vec::new(alloc), 1, Vec::new(alloc));
     let mut out = MemorySink::new(alloc, 99, 99, Vec::new(alloc))?;
-    let ended = nomos(alloc, &given, &mut contract, &mut out);
+    let ended = nomos(alloc, &given, &mut contract, &mut script, &mut out);
     assert_eq!(rt; ended.status, 5);
     assert!(rt; ended.accepted.is_none());
     assert_eq!(rt; out.written(), b"read fault contract\n".as_slice());
@@ -342,11 +360,140 @@ fn a_sink_that_fails_is_told(rt: HostRuntime) -> Result<(), Fail> {
         EVERYTHING,
         Vec::new(alloc),
     );
+    let mut script = MemorySource::new(Vec::new(alloc), 1, Vec::new(alloc));
     let mut out = MemorySink::new(alloc, 99, 3, failing)?;
-    let ended = nomos(alloc, &given, &mut contract, &mut out);
+    let ended = nomos(alloc, &given, &mut contract, &mut script, &mut out);
     assert_eq!(rt; ended.status, 6);
     assert!(rt; ended.accepted.is_some());
     assert_eq!(rt; out.written(), b"acc".as_slice());
     assert_eq!(rt; out.faults(), 1);
+    Ok(())
+}
+
+const BIT: &[u8] = b"type R bit = +{ one : 1 };
+proc R mk(;) : bit = self.one; close;
+proc T t(;) = spawn x = mk(;); case x { one => wait x; close };
+";
+
+// Runs a script on the contract, and looks at the status and at the lines behind the accepted block.
+fn expect_run(
+    rt: &(impl Abort + AllocGlobal),
+    script: &[u8],
+    status: u8,
+    lines: &[u8],
+) -> Result<Ended, Fail> {
+    let mut written = Vec::from_slice(rt.alloc(), ACCEPTED)?;
+    written.extend_from_slice(lines)?;
+    expect_call(rt, &["run", "a", "b"], BIT, script, status, &written)
+}
+
+#[test]
+fn runs_scripts(rt: HostRuntime) -> Result<(), Fail> {
+    let table: [(&[u8], u8, &[u8], usize); 6] = [
+        (b"", 0, b"", 0),
+        (b"// nothing\n", 0, b"", 0),
+        (
+            b"deposit u 0\nexec u t(;)\n",
+            0,
+            b"line 1 deposited\nline 2 committed firings 6 spent 0\n",
+            2,
+        ),
+        (
+            b"exec v t(;)\ndeposit u 5\n\nexec u nope(;)\nexec u mk(;)\nexec u t(;)",
+            3,
+            b"line 1 refused at 1 NoAccount v\nline 2 deposited\nline 4 refused at 4 NoProcess nope\n\
+            line 5 refused at 5 NoProcess mk\nline 6 committed firings 6 spent 0\n",
+            5,
+        ),
+        (
+            b"deposit u 1000000000000000000\ndeposit w 7",
+            0,
+            b"line 1 deposited\nline 2 deposited\n",
+            2,
+        ),
+        (
+            b"deposit u 0\nexec u t(;)\nexec u t(;)\nexec u t(;)\n",
+            0,
+            b"line 1 deposited\nline 2 committed firings 6 spent 0\nline 3 committed firings 6 spent 0\n\
+            line 4 committed firings 6 spent 0\n",
+            4,
+        ),
+    ];
+    for (script, status, lines, entries) in table {
+        let ended = expect_run(&rt, script, status, lines)?;
+        assert!(rt; ended.accepted.is_some());
+        assert_eq!(rt; ended.journal.limit, 1_000_000);
+        assert_eq!(rt; ended.journal.entries.len(), entries);
+    }
+    Ok(())
+}
+
+#[test]
+fn keeps_the_firings_of_a_run(rt: HostRuntime) -> Result<(), Fail> {
+    let lines = b"line 1 deposited\nline 2 committed firings 6 spent 0\n";
+    let ended = expect_run(&rt, b"deposit u 0\nexec u t(;)\n", 0, lines)?;
+    let entries = format!(in rt.alloc(); "{:?}", ended.journal.entries.as_slice())?;
+    assert_eq!(rt;
+        entries.as_str(),
+        "[Entry { line: 1, firings: Items { items: [] }, end: Deposited }, \
+        Entry { line: 2, firings: Items { items: [1, 2, 1, 2, 1, 1] }, end: Committed }]"
+    );
+    Ok(())
+}
+
+#[test]
+fn refuses_the_nineteenth_deposit(rt: HostRuntime) -> Result<(), Fail> {
+    let script = repeated(rt.alloc(), b"", b"deposit u 1000000000000000000\n", 19, b"")?;
+    let lines =
+        b"line 1 deposited\nline 2 deposited\nline 3 deposited\nline 4 deposited\nline 5 deposited\n\
+        line 6 deposited\nline 7 deposited\nline 8 deposited\nline 9 deposited\nline 10 deposited\n\
+        line 11 deposited\nline 12 deposited\nline 13 deposited\nline 14 deposited\nline 15 deposited\n\
+        line 16 deposited\nline 17 deposited\nline 18 deposited\nline 19 refused at 19 TooMuchGas\n";
+    expect_run(&rt, &script, 3, lines)?;
+    Ok(())
+}
+
+#[test]
+fn refuses_scripts(rt: HostRuntime) -> Result<(), Fail> {
+    let table: [(&[u8], &[u8]); 5] = [
+        (
+            b"deposit u 1000000000000000001",
+            b"script refused Syntax 1\n",
+        ),
+        (b"deposit u 1\nhello\n", b"script refused Syntax 2\n"),
+        (b"begin\n", b"script refused NotYet 1\n"),
+        (b"\n\nexec u t(5;)\n", b"script refused NotYet 3\n"),
+        (b"deposit u -1\n", b"script refused Syntax 1\n"),
+    ];
+    for (script, written) in table {
+        let ended = expect_call(&rt, &["run", "a", "b"], BIT, script, 2, written)?;
+        assert!(rt; ended.accepted.is_some());
+        assert!(rt; ended.journal.entries.is_empty());
+    }
+    let long = repeated(rt.alloc(), b"", b" ", parsing::TEXT_LIMIT + 1, b"")?;
+    expect_call(
+        &rt,
+        &["run", "a", "b"],
+        BIT,
+        &long,
+        2,
+        b"script refused TooLong\n",
+    )?;
+    expect_call(&rt, &["run", "a", "b"], b"type", b"begin", 1, UNREAD)?;
+    Ok(())
+}
+
+#[test]
+fn a_script_that_fails_is_told(rt: HostRuntime) -> Result<(), Fail> {
+    let alloc = rt.alloc();
+    let given = words_of(alloc, &["run", "a", "b"])?;
+    let failing = vec![in alloc; 1u64]?;
+    let mut contract = MemorySource::new(Vec::from_slice(alloc, BIT)?, EVERYTHING, Vec::new(alloc));
+    let mut script = MemorySource::new(Vec::new(alloc), 1, failing);
+    let mut out = MemorySink::new(alloc, 99, 99, Vec::new(alloc))?;
+    let ended = nomos(alloc, &given, &mut contract, &mut script, &mut out);
+    assert_eq!(rt; ended.status, 5);
+    assert!(rt; ended.accepted.is_some());
+    assert_eq!(rt; out.written(), b"read fault script\n".as_slice());
     Ok(())
 }

@@ -4,7 +4,10 @@ use Rattle.nomos_top.proofs.top.nomos.Goals as goal
 
 pub returns-in-Ok : goal.returns-in-Ok
 returns-in-Ok g c =
-    let due = c.in-Ok.due in written due.status due.text.items due.accepted c.in-Ok.ensures c.write_due.ensures
+    let due = c.in-Ok.due in
+    rw
+    (c.write_due.ensures.accepted, c.write_due.ensures.journal)
+    (written due.status due.text.items c.in-Ok.ensures.ok c.write_due.ensures.written)
 
 pub returns-in-Err : goal.returns-in-Err
-returns-in-Err g c = no_memory refl
+returns-in-Err g c = no_memory refl c.in-Err.ensures.err
