@@ -134,6 +134,7 @@ due_of-run a left counts text items code bytes given kept told reads run = (
         limit = run.limit;
         last = run.last;
         legal = record { limit = rw run.limit (record { some = lit≤ tt; few = lit≤ tt }); leads = rw run.limit run.leads };
+        stands = run.stands;
         first = run.first;
       })),
 )

@@ -3,6 +3,7 @@ use Rattle.std.specs.Prelude.{◌≡◌, ℕ, ◌<◌, ◌⊎◌, List, length, 
 use Rattle.nomos_accept.specs.Acceptance.{IsAcceptedAs, IsRefused}
 use Rattle.nomos_ledger.specs.Ledger.{LedgerState, empty_ledger}
 use Rattle.nomos_ledger.specs.Legal.{Leads}
+use Rattle.nomos_ledger.specs.Standing.{StandsFor}
 use Rattle.nomos_ledger.specs.declared.journal.Entry.{Entry}
 use Rattle.nomos_ledger.specs.declared.journal.Journal.{Journal}
 use Rattle.nomos_script.specs.Reading.{ReadsAs, IsSyntaxAt, IsNotYetAt, text_limit}
@@ -67,6 +68,7 @@ pub record HasRunAs (a : Acceptance) (items : List ScriptItem) (status : ℕ) (b
   pub last : LedgerState
   pub limit : journal.limit ≡ steps
   pub leads : Leads a steps 0 empty_ledger items journal.entries last
+  pub stands : StandsFor a last
   pub first : AllFollowFirst a empty_ledger items journal.entries
   pub status_is : status ≡ run_status journal.entries
   pub told : bytes ≡ report a items journal

@@ -6,6 +6,7 @@ use Rattle.nomos_base.specs.Faults.{Rose}
 use Rattle.nomos_base.specs.Sink.{with_end, AppendsSome}
 use Rattle.nomos_ledger.specs.Ledger.{LedgerState, empty_ledger}
 use Rattle.nomos_ledger.specs.Legal.{IsLegal, IsLegalSoFar}
+use Rattle.nomos_ledger.specs.Standing.{StandsFor}
 use Rattle.nomos_ledger.specs.declared.journal.Journal.{Journal}
 use Rattle.nomos_script.specs.Reading.{ReadsAs, IsSyntaxAt, IsNotYetAt, text_limit}
 use Rattle.nomos_script.specs.declared.item.ScriptItem.{ScriptItem}
@@ -46,12 +47,14 @@ IsRun words = (file script : List ℕ) × (task_of words ≡ Some (run file scri
 abbrev pub script_refusal : List ℕ → List ℕ
 script_refusal cause = line (codes "script refused " ++ cause)
 
--- A run of the script: its items, and a journal of them that is legal, by the lowest ready process each time.
+-- A run of the script: its items, and a journal of them that is legal, by the lowest ready process each time. The ledger
+-- that it leads to stands for the program: its gas, in accounts, in purses and spent, is what was deposited.
 pub record HasRun (a : Acceptance) (script : List ℕ) (items : List ScriptItem) (journal : Journal) : Type 0 where
   pub reads : ReadsAs script items
   pub limit : journal.limit ≡ steps
   pub last : LedgerState
   pub legal : IsLegal a items journal last
+  pub stands : StandsFor a last
   pub first : AllFollowFirst a empty_ledger items journal.entries
 
 -- What is due for these words where contract and script have these texts: a status, what is to be written, what is
