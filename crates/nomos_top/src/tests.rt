@@ -497,3 +497,52 @@ fn a_script_that_fails_is_told(rt: HostRuntime) -> Result<(), Fail> {
     assert_eq!(rt; out.written(), b"read fault script\n".as_slice());
     Ok(())
 }
+
+// The number of a call that is never made.
+const NEVER: u64 = 1_000_000;
+
+// Runs a script on the contract, with sources and a sink that move four bytes at most and fail at these calls.
+fn run_with_faults(
+    rt: &(impl Abort + AllocGlobal),
+    contract_fault: u64,
+    script_fault: u64,
+    out_fault: u64,
+) -> Result<(u8, Vec<u8>), Fail> {
+    let alloc = rt.alloc();
+    let given = words_of(alloc, &["run", "a", "b"])?;
+    let contract_faults = vec![in alloc; contract_fault]?;
+    let script_faults = vec![in alloc; script_fault]?;
+    let out_faults = vec![in alloc; out_fault]?;
+    let script = b"deposit u 0\nexec u t(;)\n";
+    let mut contract = MemorySource::new(Vec::from_slice(alloc, BIT)?, 4, contract_faults);
+    let mut script = MemorySource::new(Vec::from_slice(alloc, script)?, 4, script_faults);
+    let mut out = MemorySink::new(alloc, EVERYTHING, 4, out_faults)?;
+    let ended = nomos(alloc, &given, &mut contract, &mut script, &mut out);
+    Ok((ended.status, Vec::from_slice(alloc, out.written())?))
+}
+
+#[test]
+fn each_call_of_a_run_may_fail(rt: HostRuntime) -> Result<(), Fail> {
+    let whole =
+        b"accepted\nunit 1\nbound t = 0\nline 1 deposited\nline 2 committed firings 6 spent 0\n";
+    for call in 1..34u64 {
+        let (status, written) = run_with_faults(&rt, call, NEVER, NEVER)?;
+        assert_eq!(rt; status, 5);
+        assert_eq!(rt; written.as_slice(), b"read fault contract\n".as_slice());
+    }
+    for call in 1..8u64 {
+        let (status, written) = run_with_faults(&rt, NEVER, call, NEVER)?;
+        assert_eq!(rt; status, 5);
+        assert_eq!(rt; written.as_slice(), b"read fault script\n".as_slice());
+    }
+    for done in 0..20u64 {
+        let (status, written) = run_with_faults(&rt, NEVER, NEVER, done + 1)?;
+        assert_eq!(rt; status, 6);
+        assert_eq!(rt; written.len() as u64, 4 * done);
+        assert!(rt; whole.starts_with(&written));
+    }
+    let (status, written) = run_with_faults(&rt, NEVER, NEVER, NEVER)?;
+    assert_eq!(rt; status, 0);
+    assert_eq!(rt; written.as_slice(), whole.as_slice());
+    Ok(())
+}
