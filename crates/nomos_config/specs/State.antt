@@ -6,7 +6,7 @@ use Rattle.nomos_config.specs.Objects.{purse_of}
 use Rattle.nomos_config.specs.declared.object.Object.{Object}
 
 pub record State : Type 0 where
-  -- in ascending order of their numbers
+  -- each new one last, with the next number
   pub objects : List Object
   -- the numbers that the next object and the next name will have
   pub next_object : ℕ
