@@ -9,6 +9,7 @@ pub mod fault;
 pub mod ids;
 pub mod items;
 pub mod kind;
+pub mod letters;
 pub mod lists;
 pub mod mode;
 pub mod name;

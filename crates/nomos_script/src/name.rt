@@ -2,8 +2,8 @@
 ghost use Rattle.std.specs.Prelude.{◌≡◌, ◌↔◌, IsTrue};
 ghost use Rattle.nomos_script.specs.Name.{IsScriptName};
 
-use crate::bytes::{is_letter, is_word_byte};
 use nomos_ir::items::Items;
+use nomos_ir::letters::{is_letter, is_word_byte};
 use std::marker::Model;
 
 /// The most bytes of a name.

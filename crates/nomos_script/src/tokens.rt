@@ -1,16 +1,16 @@
 // The tokens of a line that are left to read.
 ghost use Rattle.std.specs.Prelude.{◌≡◌, ◌≢◌, ◌<◌, ◌≤◌, ℕ, MatchOption, IfSome, SomeIff, IfOk, OnOk, IsErrOf, false, List, [], ◌∷◌, length, drop, slice_index, codes};
 ghost use Rattle.std.specs.List.{prefix_len};
-ghost use Rattle.nomos_ir.specs.Name.{is_digit, is_word_byte};
 ghost use Rattle.std.specs.Str.Parse.{IsNumeral};
 ghost use Rattle.nomos_script.specs.Form.{units_of, max_units};
 ghost use Rattle.nomos_script.specs.Name.{IsScriptName};
 ghost use Rattle.nomos_script.specs.Scan.{Token as Lexeme, word, mark, is_blank, begins_comment, tokens_of};
 ghost use Rattle.nomos_script.specs.Seen.{token_seen, HasDigits, BeginsWithName, BeginsWithUnits};
 
-use crate::bytes::{is_blank, is_digit, is_letter, is_word_byte};
+use crate::bytes::is_blank;
 use crate::name::is_script_name;
 use crate::stop::Stop;
+use nomos_ir::letters::{digits_length, is_digit, is_letter, word_length};
 use std::marker::Model;
 
 /// The most units of one deposit.
@@ -45,22 +45,6 @@ fn blanks_length(bytes: &[u8]) -> usize
     ensures within { result ≤ length bytes.now }
 {
     bytes.iter().take_while(|byte| is_blank(**byte)).count()
-}
-
-/// How many bytes in front belong to one word.
-fn word_length(bytes: &[u8]) -> usize
-    ensures value { result ≡ prefix_len is_word_byte bytes.now }
-    ensures within { result ≤ length bytes.now }
-{
-    bytes.iter().take_while(|byte| is_word_byte(**byte)).count()
-}
-
-/// How many bytes in front are digits.
-fn digits_length(bytes: &[u8]) -> usize
-    ensures value { result ≡ prefix_len is_digit bytes.now }
-    ensures within { result ≤ length bytes.now }
-{
-    bytes.iter().take_while(|byte| is_digit(**byte)).count()
 }
 
 /// Whether a comment begins with this byte, before the others.

@@ -1,15 +1,15 @@
 // What begins at a place of a text: a token, a blank or a comment.
 ghost use Rattle.std.specs.Prelude.{◌≡◌, ◌<◌, ◌≤◌, ◌+◌, ◌∷◌, length};
 ghost use Rattle.std.specs.List.{prefix_len};
-ghost use Rattle.nomos_ir.specs.Name.{is_digit, is_word_byte};
 ghost use Rattle.nomos_ir.specs.Word.{reserved_word};
 ghost use Rattle.nomos_syntax.specs.Scan.{is_comment_byte, double_symbol, single_symbol, begins_lollipop, begins_comment, longest_symbol, word_lexeme, symbol_piece, piece_at};
 ghost use Rattle.nomos_syntax.specs.Spans.{lexeme_of};
 ghost use Rattle.nomos_syntax.specs.Found.{Finds, first_piece};
 
-use crate::bytes::{is_blank, is_comment_byte, is_digit, is_letter, is_word_byte};
+use crate::bytes::{is_blank, is_comment_byte};
 use crate::symbol::Symbol;
 use crate::token::TokenKind;
+use nomos_ir::letters::{digits_length, is_digit, is_letter, is_word_byte, word_length};
 use nomos_ir::word::Word;
 
 /// A piece of a text: a token of this kind, or a blank or a comment, with the number of its bytes after
@@ -18,22 +18,6 @@ use nomos_ir::word::Word;
 pub(crate) struct Piece {
     pub(crate) kind: Option<TokenKind>,
     pub(crate) more: usize,
-}
-
-/// How many bytes in front belong to one word.
-fn word_length(bytes: &[u8]) -> usize
-    ensures value { result ≡ prefix_len is_word_byte bytes.now }
-    ensures within { result ≤ length bytes.now }
-{
-    bytes.iter().take_while(|byte| is_word_byte(**byte)).count()
-}
-
-/// How many bytes in front are digits.
-fn digits_length(bytes: &[u8]) -> usize
-    ensures value { result ≡ prefix_len is_digit bytes.now }
-    ensures within { result ≤ length bytes.now }
-{
-    bytes.iter().take_while(|byte| is_digit(**byte)).count()
 }
 
 /// How many bytes stand before the end of the line.
