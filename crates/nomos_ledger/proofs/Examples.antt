@@ -1,5 +1,5 @@
 -- Small ledgers and batches, computed.
-use Rattle.std.proofs.Common.{◌≡◌, ℕ, List, [], ◌∷◌, Some, None, Ok, Err, codes, refl}
+use Rattle.std.proofs.Common.{◌≡◌, ℕ, List, [], ◌∷◌, None, Ok, Err, codes, refl}
 use Rattle.nomos_ir.specs.declared.amount.Amount.TheVariants as amount
 use Rattle.nomos_ir.specs.declared.declaration.ProcDecl.{ProcDecl}
 use Rattle.nomos_ir.specs.declared.mode.Mode.TheVariants as mode

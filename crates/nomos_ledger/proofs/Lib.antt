@@ -1,3 +1,4 @@
+pub mod AccountLemmas
 pub mod NumberLaws
 pub mod StandingLaws
 pub mod ResolveLaws

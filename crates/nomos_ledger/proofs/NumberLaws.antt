@@ -1,5 +1,5 @@
 -- The numbers of objects stay below the next one, in steps and in starts.
-use Rattle.std.proofs.Common.{◌≡◌, ℕ, suc, ◌+◌, ◌-◌, ◌<◌, ◌≤◌, List, [], ◌∷◌, ◌++◌, set, remove, take, drop, All, Some, slice_get, refl, sym, subst, arith}
+use Rattle.std.proofs.Common.{◌≡◌, ℕ, suc, ◌+◌, ◌-◌, ◌<◌, List, [], ◌∷◌, ◌++◌, set, remove, take, drop, All, Some, slice_get, refl, sym, subst, arith}
 use Rattle.std.proofs.lemmas.List.Elements.{All-append, All-drop, All-push, All-set, All-take, All-weaker}
 use Rattle.nomos_ir.specs.declared.code_node.Chan.{Chan}
 use Rattle.nomos_ir.specs.declared.code_node.Chan.TheVariants as chan
@@ -20,8 +20,7 @@ use Rattle.nomos_config.specs.declared.object.Object.{Object}
 use Rattle.nomos_config.specs.declared.object.Object.TheVariants as object
 use Rattle.nomos_config.specs.declared.object.Process.{Process}
 use Rattle.nomos_config.proofs.KeepLaws.{All-there}
-use Rattle.nomos_config.proofs.MoveLaws.{StepParts, step-parts, process_at-stands, process_at-number}
-use Rattle.nomos_ledger.specs.Ending.{IsTransaction, NoTransaction}
+use Rattle.nomos_config.proofs.MoveLaws.{StepParts, step-parts}
 
 -- a process goes on with its number
 goes_on-pid : (p : Process) (c : Chan) (name : ℕ) (next : CodeId) → (goes_on p c name next).pid ≡ p.pid
@@ -87,17 +86,3 @@ below-step a s t pid e all =
 pub below-started : (x : Annotations) (s : State) (d : ProcDecl) (payer : ℕ) → AreBelow s → AreBelow (started x s d payer)
 below-started x s d payer all =
     below-push s.next_object s.objects (object.Process (starting s d (dths x d.amount) payer)) refl all
-
--- the number of a transaction is below the next one
-pub transaction-below : (s : State) (pid : ℕ) → AreBelow s → IsTransaction s pid → pid < s.next_object
-transaction-below s pid below t =
-    let at = process_at-stands s pid t.0 t.1 in
-    let inside : t.0.pid < s.next_object =
-    All-there (λ o. number_of o < s.next_object) s.objects at.0 (object.Process t.0) at.2 below in
-    let same : t.0.pid ≡ pid = process_at-number s pid t.0 t.1 in
-    omega arith
-
--- where no number below the next one is a transaction's, none is left
-pub none_left : (s : State) (n : ℕ) → AreBelow s → s.next_object ≤ n → ((k : ℕ) → k < n → ¬ IsTransaction s k) → NoTransaction s
-none_left s n below all none pid t =
-    let inside : pid < s.next_object = transaction-below s pid below t in none pid (omega arith) t

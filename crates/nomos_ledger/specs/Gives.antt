@@ -1,4 +1,4 @@
--- What the code that resolves a line returns, beside what the definitions say. Private clauses alone cite it.
+-- What private code returns, beside what the definitions say. Private clauses alone cite it.
 use Rattle.std.specs.Prelude.{◌≡◌, ◌⊎◌, ◌+◌, ◌<◌, ◌≤◌, List, [], ◌∷◌, ◌++◌, length, slice_get, slice_index, Option, Some, None, Result, Ok, Err}
 use Rattle.nomos_ir.specs.declared.declaration.ProcDecl.{ProcDecl}
 use Rattle.nomos_ir.specs.declared.mode.Mode.TheVariants as mode
@@ -6,6 +6,9 @@ use Rattle.nomos_types.specs.Acceptance.{Acceptance}
 use Rattle.nomos_types.specs.Amount.{dths}
 use Rattle.nomos_config.specs.Start.{Fits}
 use Rattle.nomos_config.specs.State.{State, gas_of}
+use Rattle.nomos_config.specs.declared.object.Object.{Object}
+use Rattle.nomos_config.specs.declared.object.Object.TheVariants as object
+use Rattle.nomos_ledger.specs.Ending.{IsTransaction}
 use Rattle.nomos_ledger.specs.Ledger.{LedgerState, AreNamed}
 use Rattle.nomos_ledger.specs.Standing.{IsClosed}
 use Rattle.nomos_ledger.specs.declared.lines.Lines.{Lines}
@@ -66,3 +69,8 @@ StartsLine a l before start (Err stop.NoMemory) after = Unit {0}
 abbrev pub StartsAll : Acceptance → LedgerState → List Start → Started → Type 0
 StartsAll a l starts (started.All lines) = (resolve_batch a l starts ≡ Ok lines.starts.items) × Lined a l lines
 StartsAll a l starts (started.Refused line cause) = resolve_batch a l starts ≡ Err (line, cause)
+
+-- an object is a process with the number of a transaction
+abbrev pub IsLeft : State → Object → Type 0
+IsLeft s (object.Process p) = IsTransaction s p.pid
+IsLeft s (object.Message m) = ⊥

@@ -1,5 +1,5 @@
 -- Which journals of a script are legal.
-use Rattle.std.specs.Prelude.{◌≡◌, ℕ, ◌+◌, ◌-◌, ◌≤◌, min, List, [], ◌∷◌, length, take, Some, Ok, Err}
+use Rattle.std.specs.Prelude.{◌≡◌, ℕ, ◌+◌, ◌-◌, ◌≤◌, min, List, [], ◌∷◌, length, Some, Ok, Err}
 use Rattle.nomos_types.specs.Acceptance.{Acceptance}
 use Rattle.nomos_script.specs.declared.item.Batch.{Batch}
 use Rattle.nomos_script.specs.declared.item.ScriptItem.{ScriptItem}
@@ -94,10 +94,6 @@ pub record IsLimit (limit : ℕ) : Type 0 where
 pub record IsLegal (a : Acceptance) (items : List ScriptItem) (journal : Journal) (last : LedgerState) : Type 0 where
   pub limit : IsLimit journal.limit
   pub leads : Leads a journal.limit 0 empty_ledger items journal.entries last
-
--- the journal is one of the first of these items, and has no more
-abbrev pub IsLegalSoFar : Acceptance → List ScriptItem → Journal → LedgerState → Type 0
-IsLegalSoFar a items journal last = (n : ℕ) × IsLegal a (take n items) journal last
 
 -- each firing is that of the lowest process that is ready there
 pub data IsFirst (a : Acceptance) : State → List ℕ → Type 0 where

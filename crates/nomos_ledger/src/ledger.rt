@@ -1,5 +1,5 @@
 //! Ledgers.
-ghost use Rattle.std.specs.Prelude.{◌≡◌, ◌+◌, ◌*◌, ◌-◌, ◌<◌, ◌≤◌, ◌^◌, ◌++◌, ◌∷◌, [], IfOk, OnOk, OnErr, length, slice_get};
+ghost use Rattle.std.specs.Prelude.{◌≡◌, ◌+◌, ◌*◌, ◌-◌, ◌<◌, ◌≤◌, ◌^◌, ◌++◌, ◌∷◌, [], None, IfOk, OnOk, OnErr, length, slice_get};
 ghost use Rattle.std.specs.Option.{option_map};
 ghost use Rattle.nomos_types.specs.Acceptance.{Acceptance};
 ghost use Rattle.nomos_config.specs.Start.{opened};
@@ -7,8 +7,7 @@ ghost use Rattle.nomos_config.specs.State.{gas_of};
 ghost use Rattle.nomos_ledger.specs.Ledger.{empty_ledger, account_of, accounts_with, state_with};
 ghost use Rattle.nomos_ledger.specs.Standing.{StandsFor, Deposits};
 
-use crate::copies::copy_name;
-use crate::finds::account_of;
+use crate::account_names::AccountNames;
 use crate::journal::End;
 use crate::refusal::Refusal;
 use nomos_config::machine::Machine;
@@ -23,7 +22,7 @@ use std::marker::Model;
 #[derive(Drop, Debug)]
 pub struct Ledger {
     pub(crate) alloc: Global,
-    pub(crate) accounts: Vec<ScriptName>,
+    pub(crate) accounts: AccountNames,
     pub(crate) contracts: Vec<(ScriptName, u32)>,
     pub(crate) deposits: u64,
     pub(crate) state: PlainState,
@@ -38,28 +37,28 @@ impl Model for Ledger {
 
     ghost coded = { Prim.hlevel (codes, value_code) };
 
-    ghost view = { λ l. record { accounts = l.accounts.items; contracts = l.contracts.items; deposits = l.deposits; state = l.state } };
+    ghost view = { λ l. record { accounts = l.accounts; contracts = l.contracts.items; deposits = l.deposits; state = l.state } };
 
-    ghost invariant = { λ l. AreNamed l.accounts.items l.contracts.items l.state.balances };
+    ghost invariant = { λ l. AreNamed l.accounts l.contracts.items l.state.balances };
 }
 
 // Makes the next account, with this name and this balance in Dths. Want of memory changes nothing.
 fn open(
-    alloc: Global,
-    accounts: &mut Vec<ScriptName>,
+    accounts: &mut AccountNames,
     state: &mut PlainState,
     name: &ScriptName,
     dths: u128,
 ) -> Result<(), AllocError>
+    requires new { account_of accounts.old name.now ≡ None }
     requires few { length state.old.balances < 2 ^ 32 - 1 }
     requires gas { gas_of state.old + dths < 2 ^ 96 }
-    ensures ok { OnOk result ((accounts.new.items ≡ accounts.old.items ++ name.now ∷ []) × (state.new ≡ opened state.old dths)) }
-    ensures err { OnErr result ((accounts.new.items ≡ accounts.old.items) × (state.new ≡ state.old)) }
+    ensures ok { OnOk result ((accounts.new ≡ accounts.old ++ name.now ∷ []) × (state.new ≡ opened state.old dths)) }
+    ensures err { OnErr result ((accounts.new ≡ accounts.old) × (state.new ≡ state.old)) }
 {
-    accounts.push(copy_name(alloc, name)?)?;
+    accounts.add(name)?;
     let opened = state.open_account(dths);
     if opened.is_err() {
-        accounts.pop();
+        accounts.drop_last();
     }
     opened?;
     Ok(())
@@ -67,22 +66,21 @@ fn open(
 
 // Adds Dths to the account of this name, and makes the account where there is none. Want of memory changes nothing.
 fn add(
-    alloc: Global,
-    accounts: &mut Vec<ScriptName>,
+    accounts: &mut AccountNames,
     state: &mut PlainState,
     name: &ScriptName,
     dths: u128,
 ) -> Result<(), AllocError>
     requires few { length state.old.balances < 2 ^ 32 - 1 }
-    requires each { length accounts.old.items ≡ length state.old.balances }
+    requires each { length accounts.old ≡ length state.old.balances }
     requires gas { gas_of state.old + dths < 2 ^ 96 }
-    ensures accounts { OnOk result (accounts.new.items ≡ accounts_with accounts.old.items name.now (account_of accounts.old.items name.now)) }
-    ensures state { OnOk result (state.new ≡ state_with state.old dths (account_of accounts.old.items name.now)) }
-    ensures err { OnErr result ((accounts.new.items ≡ accounts.old.items) × (state.new ≡ state.old)) }
+    ensures accounts { OnOk result (accounts.new ≡ accounts_with accounts.old name.now (account_of accounts.old name.now)) }
+    ensures state { OnOk result (state.new ≡ state_with state.old dths (account_of accounts.old name.now)) }
+    ensures err { OnErr result ((accounts.new ≡ accounts.old) × (state.new ≡ state.old)) }
 {
-    match account_of(accounts.as_slice(), name) {
+    match accounts.number_of(name) {
         Some(account) => state.credit(account, dths),
-        None => open(alloc, accounts, state, name, dths)?,
+        None => open(accounts, state, name, dths)?,
     }
     Ok(())
 }
@@ -95,7 +93,7 @@ impl Ledger {
     {
         Ledger {
             alloc,
-            accounts: Vec::new(alloc),
+            accounts: AccountNames::new(alloc),
             contracts: Vec::new(alloc),
             deposits: 0,
             state: PlainState::empty(alloc),
@@ -122,7 +120,7 @@ impl Ledger {
             return Ok(End::Refused(line, Refusal::TooMuchGas));
         };
         let dths = u128::from(units) * u128::from(accepted.unit());
-        add(self.alloc, &mut self.accounts, &mut self.state, name, dths)?;
+        add(&mut self.accounts, &mut self.state, name, dths)?;
         self.deposits = deposits;
         Ok(End::Deposited)
     }
@@ -138,7 +136,7 @@ impl Ledger {
     pub fn account(&self, n: u32) -> Option<&str>
         ensures { option_map (λ name. name.now) result ≡ slice_get self.now.accounts n }
     {
-        self.accounts.get(n as usize).map(|name| name.as_str())
+        self.accounts.name(n)
     }
 
     /// The sum of the accepted deposits, in whole units.

@@ -2,6 +2,7 @@
 //! journals of a script are legal.
 #![tactic(auto)]
 
+mod account_names;
 pub mod begun;
 mod copies;
 mod finds;

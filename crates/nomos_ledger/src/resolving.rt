@@ -4,8 +4,9 @@ ghost use Rattle.nomos_ledger.specs.Gives.{Gives, Passes, left};
 ghost use Rattle.nomos_ledger.specs.Starting.{payer_of, has_mode, is_wanted, declaration_of, fits, argument_refusal, name_refusal, gas_refusal, and_then, declared_at, resolve_at, resolve};
 ghost use Rattle.nomos_ledger.specs.Ledger.{AreNamed};
 
+use crate::account_names::AccountNames;
 use crate::copies::{copy_contract, copy_name};
-use crate::finds::{account_of, is_taken};
+use crate::finds::is_taken;
 use crate::ledger::Ledger;
 use crate::lines::Lines;
 use crate::refusal::Refusal;
@@ -23,11 +24,11 @@ use nomos_types::accepted::Accepted;
 use std::alloc::Global;
 
 // The account that pays.
-fn payer_of(alloc: Global, accounts: &[ScriptName], start: &Start) -> Result<u32, Stop>
+fn payer_of(alloc: Global, accounts: &AccountNames, start: &Start) -> Result<u32, Stop>
     requires { length accounts.now < 2 ^ 32 }
     ensures { Gives (λ n. n) result (payer_of accounts.now start.now) }
 {
-    match account_of(accounts, &start.sender) {
+    match accounts.number_of(&start.sender) {
         Some(account) => Ok(account),
         None => Err(Stop::Refused(Refusal::NoAccount(copy_name(alloc, &start.sender)?))),
     }
@@ -153,7 +154,7 @@ pub(crate) fn resolve(
     ensures { Gives (λ r. r) result (resolve accepted.now (left ledger.now lines.now) start.now) }
 {
     let alloc = ledger.alloc;
-    let payer = payer_of(alloc, ledger.accounts.as_slice(), start)?;
+    let payer = payer_of(alloc, &ledger.accounts, start)?;
     let procs = accepted.program().lists().procs.as_slice();
     let proc = declaration_of(alloc, procs, start)?;
     resolve_at(alloc, accepted, lines, start, payer, ProcId(proc))

@@ -1,11 +1,12 @@
 //! States at rest, and transactions that are left in them.
-ghost use Rattle.std.specs.Prelude.{◌≡◌, ◌<◌, ◌↔◌, All, IsTrue};
-ghost use Rattle.nomos_config.specs.Objects.{number_of};
+ghost use Rattle.std.specs.Prelude.{◌≡◌, ◌↔◌, IsTrue};
 ghost use Rattle.nomos_config.specs.Run.{IsQuiet};
 ghost use Rattle.nomos_config.specs.Standing.{IsSound};
 ghost use Rattle.nomos_ledger.specs.Ending.{IsTransaction, HasTransaction};
+ghost use Rattle.nomos_ledger.specs.Gives.{IsLeft};
 
 use nomos_config::machine::Machine;
+use nomos_config::object::Object;
 use nomos_config::plain::PlainState;
 use nomos_ir::mode::Mode;
 use nomos_types::accepted::Accepted;
@@ -18,7 +19,7 @@ pub(crate) fn is_quiet(state: &PlainState, accepted: &Accepted) -> bool
     state.next_ready(accepted, 0).is_none()
 }
 
-/// Whether the process of this number is a transaction.
+// Whether the process of this number is a transaction.
 fn is_transaction(state: &PlainState, pid: u32) -> bool
     ensures { IsTrue result ↔ IsTransaction state.now pid }
 {
@@ -28,13 +29,22 @@ fn is_transaction(state: &PlainState, pid: u32) -> bool
     }
 }
 
+// Whether an object is a process with the number of a transaction.
+fn is_left(state: &PlainState, object: &Object) -> bool
+    ensures { IsTrue result ↔ IsLeft state.now object.now }
+{
+    match object {
+        Object::Process(process) => is_transaction(state, process.pid),
+        Object::Message(_) => false,
+    }
+}
+
 /// Whether a transaction is left.
 pub(crate) fn has_transaction(state: &PlainState) -> bool
-    requires { All (λ o. number_of o < state.now.next_object) state.now.objects }
     ensures { IsTrue result ↔ HasTransaction state.now }
 {
-    for pid in 0..state.next_object() {
-        if is_transaction(state, pid) {
+    for object in state.objects() {
+        if is_left(state, object) {
             return true;
         }
     }

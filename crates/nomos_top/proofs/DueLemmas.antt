@@ -1,5 +1,5 @@
 -- What is due, from its parts.
-use Rattle.std.proofs.Common.{◌≡◌, ℕ, ◌<◌, ◌+◌, List, [], length, replicate, Option, Some, None, Result, Ok, Err, refl, ap, subst, arith, lit≤}
+use Rattle.std.proofs.Common.{◌≡◌, ℕ, ◌<◌, ◌+◌, List, [], length, replicate, Option, Some, None, Result, Ok, Err, refl, subst, arith, lit≤}
 use Rattle.std.specs.Prelude.{IfOk, IfErr, IsSome, codes}
 use Rattle.std.proofs.Math.ListN.{length-replicate}
 use Rattle.std.proofs.Math.Seq.{take-length}
@@ -12,7 +12,7 @@ use Rattle.nomos_script.specs.Reading.{ReadsAs}
 use Rattle.nomos_script.specs.declared.item.ScriptItem.{ScriptItem}
 use Rattle.nomos_top.specs.Block.{accepted_block, refusal_line, read_fault_line, usage_line}
 use Rattle.nomos_top.specs.Judging.{FindsText, FindsOrFails, IsDueAs, IsPartAs, IsDueOf, IsPartOf, not_run, run_so_far, HasRunAs, HasRunPart, journal_of}
-use Rattle.nomos_top.specs.Outcome.{Counts, HaveRisen, Input, Reading, input_of, IsTextOf, IsCheck, IsRun, IsDue, usage, read_fault, refused, accepted, ran, IsDueFor, IsPart, nothing, accepted_part, run_part, no_journal}
+use Rattle.nomos_top.specs.Outcome.{Counts, HaveRisen, Input, Reading, input_of, IsTextOf, IsCheck, IsRun, IsDue, usage, read_fault, refused, accepted, ran, IsDueFor, IsPart, nothing, accepted_part, run_part, no_journal, steps}
 use Rattle.nomos_top.specs.Progress.{HasCome}
 use Rattle.nomos_top.specs.Words.{Task, task_of}
 use Rattle.nomos_top.specs.declared.running.Running.{Running}
@@ -20,6 +20,7 @@ use Rattle.nomos_top.specs.declared.top.Due.{Due}
 use Rattle.nomos_top.specs.declared.top.Found.{Found}
 use Rattle.nomos_top.specs.declared.top.Found.TheVariants as found
 use Rattle.nomos_top.specs.declared.top.Part.{Part}
+use Rattle.nomos_top.proofs.ProgressLaws.{so_far-at}
 use Rattle.nomos_types.specs.Acceptance.{Acceptance}
 
 -- some text that a source may have
@@ -103,9 +104,8 @@ part-nothing words contract script part parts = rw (parts.accepted, parts.journa
 -- what was done of a run
 pub part-of : (words : List (List ℕ)) (contract script : Reading) (text : List ℕ) (a : Acceptance) (given : Option Acceptance) (kept : Journal) → IsRun words → IsTextOf contract.left text → IsAcceptedAs text a → IsPartOf a script.left given kept → IsPart words contract script given kept
 part-of words contract script text a given kept runs told is_accepted not_run = accepted_part a text runs told is_accepted
-part-of words contract script text a given kept runs told is_accepted (run_so_far script_text items entries script_told reads so_far) =
-    run_part a text script_text items (journal_of entries) so_far.1 runs told is_accepted script_told reads
-    (so_far.0, record { limit = record { some = lit≤ tt; few = lit≤ tt }; leads = so_far.2 })
+part-of words contract script text a given kept runs told is_accepted (run_so_far script_text items count journal script_told reads run) =
+    run_part a text script_text items count journal runs told is_accepted script_told reads run
 
 -- what is found of a script's text is found of the script
 pub finds-text : (text : List ℕ) (counts : Counts) (f : Found) → FindsText text f → FindsOrFails text counts f
@@ -129,8 +129,7 @@ due_of-run a left counts text items code bytes given kept told reads run = (
   λ words contract runs is_accepted.
       rw
       (run.status_is, run.told, run.given)
-      (ran a items kept runs is_accepted (record {
-        reads = reads;
+      (ran a items kept runs is_accepted reads (record {
         limit = run.limit;
         last = run.last;
         legal = record { limit = rw run.limit (record { some = lit≤ tt; few = lit≤ tt }); leads = rw run.limit run.leads };
@@ -146,13 +145,19 @@ part_of-line a left part parts = rw (parts.accepted, parts.journal) not_run
 -- what was done of a script that is run in part
 pub part_of-run : (a : Acceptance) (left : Option (List ℕ)) (text : List ℕ) (items : List ScriptItem) (given : Option Acceptance) (kept : Journal) → IsTextOf left text → ReadsAs text items → HasRunPart a items given kept → IsPartOf a left given kept
 part_of-run a left text items given kept told reads part =
-    let same : kept ≡ journal_of kept.entries = ap (λ (n : ℕ). record { limit = n; entries = kept.entries }) part.limit in
-    rw part.given (rw same (run_so_far text items kept.entries told reads part.so_far))
+    let so_far = part.so_far in
+    rw part.given (run_so_far text items so_far.count kept told reads (record {
+      limit = part.limit;
+      last = so_far.last;
+      legal = record { limit = rw part.limit (record { some = lit≤ tt; few = lit≤ tt }); leads = rw part.limit so_far.leads };
+      stands = so_far.stands;
+      first = so_far.first;
+    }))
 
 -- what was done of a script that was run to its end
-pub ran-part : (a : Acceptance) (items : List ScriptItem) (running : Running) (part : Part) → HasCome a items running → IsPartAs part (Some a) (journal_of running.entries.items) → HasRunPart a items part.accepted part.journal
+pub ran-part : (a : Acceptance) (items : List ScriptItem) (running : Running) (part : Part) → HasCome a steps items running → IsPartAs part (Some a) (journal_of running.entries.items) → HasRunPart a items part.accepted part.journal
 ran-part a items running part come parts = record {
   limit = rw parts.journal refl;
-  so_far = rw (parts.journal) (length items, running.ledger, rw (take-length items) come.leads);
+  so_far = rw (parts.journal) (so_far-at a steps items (length items) running running.entries.items (rw (take-length items) come) refl);
   given = parts.accepted;
 }

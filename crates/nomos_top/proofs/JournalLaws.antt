@@ -1,6 +1,5 @@
 -- Laws of legal journals and of their reports.
-use Rattle.std.proofs.Common.{◌≡◌, ◌∙◌, ℕ, ◌+◌, ◌*◌, ◌≤◌, List, [], ◌∷◌, ◌++◌, length, Option, Some, None, Ok, Err, option_and_then, ap, subst, sym, refl, arith, append_assoc, length-append, slice_get}
-use Rattle.std.proofs.lemmas.List.Sums.{sum_by-cons}
+use Rattle.std.proofs.Common.{◌≡◌, ◌∙◌, ℕ, ◌+◌, ◌*◌, ◌≤◌, List, [], ◌∷◌, ◌++◌, length, Option, Some, None, Ok, Err, ap, subst, sym, refl, arith, append_assoc, length-append, slice_get}
 use Rattle.std.proofs.lemmas.Option.{option_and_then_some, same_Some}
 use Rattle.nomos_ir.specs.declared.declaration.ProcDecl.{ProcDecl}
 use Rattle.nomos_ir.specs.declared.mode.Mode.{Mode}
@@ -11,7 +10,7 @@ use Rattle.nomos_script.specs.declared.item.Batch.{Batch}
 use Rattle.nomos_script.specs.declared.item.ScriptItem.{ScriptItem}
 use Rattle.nomos_script.specs.declared.item.ScriptItem.TheVariants as item
 use Rattle.nomos_script.specs.declared.item.Start.{Start}
-use Rattle.nomos_config.specs.Run.{IsNextReady, run}
+use Rattle.nomos_config.specs.Run.{run}
 use Rattle.nomos_config.specs.Start.{cleared}
 use Rattle.nomos_config.specs.State.{State}
 use Rattle.nomos_config.specs.Step.{closed, moved, step}
@@ -19,7 +18,7 @@ use Rattle.nomos_config.specs.declared.moves.Move.{Move}
 use Rattle.nomos_config.specs.declared.moves.Move.TheVariants as move
 use Rattle.nomos_config.specs.declared.object.Process.{Process}
 use Rattle.nomos_config.proofs.MoveLaws.{StepParts, step-parts}
-use Rattle.nomos_ledger.specs.Legal.{Leads, IsFirst, Undoes, max_firings, bare, done, deposit, no_deposit, refused, stays, undone, shown, no_firing, firing}
+use Rattle.nomos_ledger.specs.Legal.{Leads, Undoes, firings_in, max_firings, bare, done, deposit, no_deposit, refused, stays, undone, shown}
 use Rattle.nomos_ledger.specs.Ledger.{LedgerState, account_of, accounts_with, deposited, state_with}
 use Rattle.nomos_ledger.specs.Starting.{BatchOutcome, Outcome, after_declared, after_start, after_starts, before_others, resolve, resolve_line, resolve_batch}
 use Rattle.nomos_ledger.specs.declared.journal.End.{End}
@@ -27,46 +26,12 @@ use Rattle.nomos_ledger.specs.declared.journal.End.TheVariants as end
 use Rattle.nomos_ledger.specs.declared.journal.Entry.{Entry}
 use Rattle.nomos_ledger.specs.declared.refusal.Refusal.TheVariants as refusal
 use Rattle.nomos_ledger.specs.declared.resolved.Resolved.{Resolved}
-use Rattle.nomos_top.specs.Progress.{firings_of, entry_of}
+use Rattle.nomos_top.specs.Progress.{entry_of}
 use Rattle.nomos_top.specs.Report.{AllFollowFirst, after_batch, after_item, batch_start, item_lines, reached, report_lines, started_ledger, state_or}
 
 -- the firings of an entry and of those after it
-pub firings-cons : (e : Entry) (es : List Entry) → firings_of (e ∷ es) ≡ length e.firings + firings_of es
-firings-cons e es = sum_by-cons (λ (x : Entry). length x.firings) e es
-
--- the firings of an entry are counted with those before it, or with those after it
-made-more : (made now : ℕ) (e : Entry) (es : List Entry) → now ≡ made + firings_of (e ∷ es) → now ≡ made + length e.firings + firings_of es
-made-more made now e es is = omega (arith, is, firings-cons e es)
-
--- A journal of these items, and one of others from the ledger to which it leads, with its firings made before, are one
--- of all of them.
-pub leads-onto : (a : Acceptance) (limit made : ℕ) (l mid last : LedgerState) (xs ys : List ScriptItem) (es fs : List Entry) (now : ℕ) → Leads a limit made l xs es mid → now ≡ made + firings_of es → Leads a limit now mid ys fs last → Leads a limit made l (xs ++ ys) (es ++ fs) last
-leads-onto a limit _ _ _ last _ ys _ fs now (done made l) is then =
-    let same : now ≡ made = omega (arith, is) in subst (λ (n : ℕ). Leads a limit n l ys fs last) same then
-leads-onto a limit _ _ _ last _ ys _ fs now (deposit made l mid line units name items entries fits rest) is then =
-    deposit made l last line units name (items ++ ys) (entries ++ fs) fits
-    (leads-onto a limit made _ mid last items ys entries fs now rest (omega (arith, is)) then)
-leads-onto a limit _ _ _ last _ ys _ fs now (no_deposit made l mid line units name items entries fits rest) is then =
-    no_deposit made l last line units name (items ++ ys) (entries ++ fs) fits
-    (leads-onto a limit made l mid last items ys entries fs now rest (omega (arith, is)) then)
-leads-onto a limit _ _ _ last _ ys _ fs now (refused made l mid batch line cause items entries resolved rest) is then =
-    refused made l last batch line cause (items ++ ys) (entries ++ fs) resolved
-    (leads-onto a limit made l mid last items ys entries fs now rest (omega (arith, is)) then)
-leads-onto a limit _ _ _ last _ ys _ fs now (stays made l mid batch starts pids s items entries resolved runs rest) is then =
-    stays made l last batch starts pids s (items ++ ys) (entries ++ fs) resolved runs
-    (leads-onto a limit (made + length pids) _ mid last items ys entries fs now rest
-    (made-more made now (entry_of batch.line pids end.Committed) entries is) then)
-leads-onto a limit _ _ _ last _ ys _ fs now (undone made l mid batch starts pids s answer items entries resolved runs undoes rest) is then =
-    undone made l last batch starts pids s answer (items ++ ys) (entries ++ fs) resolved runs undoes
-    (leads-onto a limit (made + length pids) l mid last items ys entries fs now rest
-    (made-more made now (entry_of batch.line pids answer) entries is) then)
-leads-onto a limit _ _ _ last _ ys _ fs now (shown made l mid line items entries rest) is then =
-    shown made l last line (items ++ ys) (entries ++ fs)
-    (leads-onto a limit made l mid last items ys entries fs now rest is then)
-
-pub leads-join : (a : Acceptance) (limit made : ℕ) (l mid last : LedgerState) (xs ys : List ScriptItem) (es fs : List Entry) → Leads a limit made l xs es mid → Leads a limit (made + firings_of es) mid ys fs last → Leads a limit made l (xs ++ ys) (es ++ fs) last
-leads-join a limit made l mid last xs ys es fs one two =
-    leads-onto a limit made l mid last xs ys es fs (made + firings_of es) one refl two
+pub firings-cons : (e : Entry) (es : List Entry) → firings_in (e ∷ es) ≡ length e.firings + firings_in es
+firings-cons e es = refl
 
 -- a batch whose lines are resolved starts from the ledger after its starts
 pub start-is : (a : Acceptance) (l : LedgerState) (batch : Batch) (starts : List Resolved) → resolve_batch a l batch.starts ≡ Ok starts → batch_start a l batch ≡ after_starts a l starts
@@ -154,16 +119,6 @@ report-join a limit _ _ _ _ ys _ fs (undone made l mid batch starts pids s answe
     (report-join a limit (made + length pids) l mid items ys entries fs rest)
 report-join a limit _ _ _ _ ys _ fs (shown made l mid line items entries rest) =
     report-join a limit made l mid items ys entries fs rest
-
--- one more firing of the lowest ready process follows the policy still
-pub first_push : (a : Acceptance) (s t u : State) (pids : List ℕ) (pid : ℕ) → IsFirst a s pids → run a s pids ≡ Some t → IsNextReady a t 0 pid → step a t pid ≡ Some u → IsFirst a s (pids ++ pid ∷ [])
-first_push a _ t u _ pid (no_firing s) ran next stepped =
-    let same : t ≡ s = sym (same_Some s t ran) in
-    firing s u pid [] (subst (λ (r : State). IsNextReady a r 0 pid) same next)
-    (subst (λ (r : State). step a r pid ≡ Some u) same stepped) (no_firing u)
-first_push a _ t u _ pid (firing s r one others lowest fired rest) ran next stepped =
-    let ran_on : run a r others ≡ Some t = sym (ap (option_and_then (λ (n : State). run a n others)) fired) ∙ ran in
-    firing s r one (others ++ pid ∷ []) lowest fired (first_push a r t u others pid rest ran_on next stepped)
 
 -- how far the next numbers of a state rise
 pub record RisesBy (n : ℕ) (before after : State) : Type 0 where
@@ -294,21 +249,21 @@ leads-accounts a limit _ _ _ _ _ (shown made l last line items entries rest) =
     leads-accounts a limit made l last items entries rest
 
 -- A journal raises each of the next numbers by one for each start and each firing at most.
-pub leads-rise : (a : Acceptance) (limit made : ℕ) (l last : LedgerState) (xs : List ScriptItem) (es : List Entry) → Leads a limit made l xs es last → RisesBy (start_count xs + firings_of es) l.state last.state
+pub leads-rise : (a : Acceptance) (limit made : ℕ) (l last : LedgerState) (xs : List ScriptItem) (es : List Entry) → Leads a limit made l xs es last → RisesBy (start_count xs + firings_in es) l.state last.state
 leads-rise a limit _ _ _ _ _ (done made l) = record { objects = omega arith; names = omega arith }
 leads-rise a limit _ _ _ _ _ (deposit made l last line units name items entries fits rest) =
     let next : LedgerState = deposited a.annotations.unit l name units in
     let e : Entry = bare line end.Deposited in
     let one = deposit-rises l.state (units * a.annotations.unit) (account_of l.accounts name) in
-    rises-more 0 (start_count items + firings_of entries) (start_count items + firings_of (e ∷ entries)) l.state next.state last.state one
+    rises-more 0 (start_count items + firings_in entries) (start_count items + firings_in (e ∷ entries)) l.state next.state last.state one
     (leads-rise a limit made next last items entries rest) (omega (arith, firings-cons e entries))
 leads-rise a limit _ _ _ _ _ (no_deposit made l last line units name items entries fits rest) =
     let e : Entry = bare line (end.Refused line refusal.TooMuchGas) in
-    rises-more 0 (start_count items + firings_of entries) (start_count items + firings_of (e ∷ entries)) l.state l.state last.state
+    rises-more 0 (start_count items + firings_in entries) (start_count items + firings_in (e ∷ entries)) l.state l.state last.state
     (rises-none l.state l.state refl) (leads-rise a limit made l last items entries rest) (omega (arith, firings-cons e entries))
 leads-rise a limit _ _ _ _ _ (refused made l last batch line cause items entries resolved rest) =
     let e : Entry = bare batch.line (end.Refused line cause) in
-    rises-more 0 (start_count items + firings_of entries) (length batch.starts + start_count items + firings_of (e ∷ entries)) l.state l.state last.state
+    rises-more 0 (start_count items + firings_in entries) (length batch.starts + start_count items + firings_in (e ∷ entries)) l.state l.state last.state
     (rises-none l.state l.state refl) (leads-rise a limit made l last items entries rest) (omega (arith, firings-cons e entries))
 leads-rise a limit _ _ _ _ _ (stays made l last batch starts pids s items entries resolved runs rest) =
     let start : LedgerState = after_starts a l starts in
@@ -321,19 +276,19 @@ leads-rise a limit _ _ _ _ _ (stays made l last batch starts pids s items entrie
     rises-more (length starts) (length pids) (length starts + length pids) l.state start.state s keeps.rises ran (omega arith) in
     let here : RisesBy (length starts + length pids) l.state next.state =
     record { objects = batch_rises.objects; names = batch_rises.names } in
-    rises-more (length starts + length pids) (start_count items + firings_of entries)
-    (length batch.starts + start_count items + firings_of (e ∷ entries)) l.state next.state last.state here
+    rises-more (length starts + length pids) (start_count items + firings_in entries)
+    (length batch.starts + start_count items + firings_in (e ∷ entries)) l.state next.state last.state here
     (leads-rise a limit (made + length pids) next last items entries rest) (omega (arith, same, firings-cons e entries))
 leads-rise a limit _ _ _ _ _ (undone made l last batch starts pids s answer items entries resolved runs undoes rest) =
     let e : Entry = entry_of batch.line pids answer in
-    rises-more 0 (start_count items + firings_of entries) (length batch.starts + start_count items + firings_of (e ∷ entries)) l.state l.state last.state
+    rises-more 0 (start_count items + firings_in entries) (length batch.starts + start_count items + firings_in (e ∷ entries)) l.state l.state last.state
     (rises-none l.state l.state refl) (leads-rise a limit (made + length pids) l last items entries rest)
     (omega (arith, firings-cons e entries))
 leads-rise a limit _ _ _ _ _ (shown made l last line items entries rest) =
     leads-rise a limit made l last items entries rest
 
 -- Where few firings were made before, few are made with those of a journal.
-pub leads-few : (a : Acceptance) (limit made : ℕ) (l last : LedgerState) (xs : List ScriptItem) (es : List Entry) → Leads a limit made l xs es last → made ≤ max_firings → made + firings_of es ≤ max_firings
+pub leads-few : (a : Acceptance) (limit made : ℕ) (l last : LedgerState) (xs : List ScriptItem) (es : List Entry) → Leads a limit made l xs es last → made ≤ max_firings → made + firings_in es ≤ max_firings
 leads-few a limit _ _ _ _ _ (done made l) few = omega arith
 leads-few a limit _ _ _ _ _ (deposit made l last line units name items entries fits rest) few =
     omega (arith, firings-cons (bare line end.Deposited) entries, leads-few a limit made _ last items entries rest few)

@@ -1,6 +1,5 @@
 -- Worlds that fire by the policy, and what they add to a run.
-use Rattle.std.proofs.Common.{◌≡◌, ◌∙◌, ℕ, ◌+◌, ◌<◌, ◌≤◌, ◌^◌, List, [], ◌∷◌, ◌++◌, length, Some, Ok, ap, subst, sym, refl, arith, inl, inr, if◌then◌else◌, length-append}
-use Rattle.std.specs.Prelude.{◌-◌}
+use Rattle.std.proofs.Common.{◌≡◌, ◌∙◌, ℕ, ◌+◌, ◌≤◌, [], ◌∷◌, ◌++◌, length, Some, Ok, ap, sym, refl, if◌then◌else◌, length-append}
 use Rattle.std.proofs.lemmas.List.{map-append}
 use Rattle.std.proofs.lemmas.Option.{same_Some}
 use Rattle.nomos_types.specs.Acceptance.{Acceptance}
@@ -9,22 +8,19 @@ use Rattle.nomos_script.specs.declared.item.ScriptItem.TheVariants as item
 use Rattle.nomos_config.proofs.ReadyLaws.{quiet-from_none_ready}
 use Rattle.nomos_config.specs.Run.{IsNextReady, NoneReady, IsQuiet, run}
 use Rattle.nomos_config.specs.State.{State}
-use Rattle.nomos_config.specs.Step.{step}
 use Rattle.nomos_config.specs.declared.fire.Fire.TheVariants as fire
+use Rattle.nomos_ledger.proofs.LegalLaws.{first-push}
 use Rattle.nomos_ledger.proofs.StandingLaws.{world-closed, commit-stands}
 use Rattle.nomos_ledger.specs.Ending.{EndsAs}
 use Rattle.nomos_ledger.specs.Legal.{IsFirst, no_firing, batch_limit}
 use Rattle.nomos_ledger.specs.Ledger.{LedgerState}
 use Rattle.nomos_ledger.specs.Standing.{StandsFor, WorldStandsFor, FiresIn}
-use Rattle.nomos_ledger.specs.Starting.{after_starts, resolve_batch}
+use Rattle.nomos_ledger.specs.Starting.{resolve_batch}
 use Rattle.nomos_ledger.specs.World.{WorldState, start_of, committed, pids_of}
 use Rattle.nomos_ledger.specs.declared.journal.End.{End}
 use Rattle.nomos_ledger.specs.declared.journal.End.TheVariants as end
 use Rattle.nomos_ledger.specs.declared.journal.Firing.{Firing}
-use Rattle.nomos_ledger.specs.declared.resolved.Resolved.{Resolved}
-use Rattle.nomos_top.proofs.JournalLaws.{first_push, rises-step, starts-keep, resolved-length}
 use Rattle.nomos_top.proofs.ProgressLaws.{Closes, Enters, adds-committed, adds-undone, adds-from, pids-length}
-use Rattle.nomos_top.specs.Outcome.{steps}
 use Rattle.nomos_top.specs.Progress.{Adds, Fires, HasSpace, entry_of, is_committed}
 use Rattle.nomos_top.specs.Report.{end_lines}
 use Rattle.nomos_top.specs.declared.running.Running.{Running}
@@ -56,7 +52,7 @@ fires-more a v w u pid fires next stands fired =
     let firings : u.firings ≡ w.firings ++ firing_of pid ∷ [] = ap (λ (x : WorldState). x.firings) is in
     let same : start_of a w ≡ start_of a v = same-start a v w fires.origin fires.starts in
     let reached : run a start (pids_of w.firings) ≡ Some w.state = rw same at fires.stands.reached in
-    let pushed : IsFirst a start (pids_of w.firings ++ pid ∷ []) = first_push a start w.state u.state (pids_of w.firings) pid fires.first reached next fired.0 in
+    let pushed : IsFirst a start (pids_of w.firings ++ pid ∷ []) = first-push a w.state u.state pid fires.first reached next fired.0 in
     let pids : pids_of u.firings ≡ pids_of w.firings ++ pid ∷ [] = ap pids_of firings ∙ map-append (λ (f : Firing). f.pid) w.firings (firing_of pid ∷ []) in
     record {
       stands = stands;
@@ -82,13 +78,13 @@ fresh-start a w stands fresh =
     sym (same_Some (start_of a w).state w.state at)
 
 -- what an end adds
-pub world-enters : (a : Acceptance) (made : ℕ) (b : Batch) (w : WorldState) (answer : End) → Closes a made b w answer → Enters a made w.origin (item.Batch b) (entry_of b.line (pids_of w.firings) answer) (end_lines a.annotations.unit b.line (length w.firings) (start_of a w).state.spent w.state answer) (if is_committed answer then committed w else w.origin)
-world-enters a made b w end.Committed closes = adds-committed a made b w closes
-world-enters a made b w end.Blocked closes = adds-undone a made b w end.Blocked closes tt
-world-enters a made b w (end.Steps n) closes = adds-undone a made b w (end.Steps n) closes tt
-world-enters a made b w end.Deposited closes = absurd closes.ends
-world-enters a made b w (end.Aborted pid f) closes = absurd closes.ends
-world-enters a made b w (end.Refused line cause) closes = absurd closes.ends
+pub world-enters : (a : Acceptance) (limit made : ℕ) (b : Batch) (w : WorldState) (answer : End) → Closes a limit made b w answer → Enters a limit made w.origin (item.Batch b) (entry_of b.line (pids_of w.firings) answer) (end_lines a.annotations.unit b.line (length w.firings) (start_of a w).state.spent w.state answer) (if is_committed answer then committed w else w.origin)
+world-enters a limit made b w end.Committed closes = adds-committed a limit made b w closes
+world-enters a limit made b w end.Blocked closes = adds-undone a limit made b w end.Blocked closes tt
+world-enters a limit made b w (end.Steps n) closes = adds-undone a limit made b w (end.Steps n) closes tt
+world-enters a limit made b w end.Deposited closes = absurd closes.ends
+world-enters a limit made b w (end.Aborted pid f) closes = absurd closes.ends
+world-enters a limit made b w (end.Refused line cause) closes = absurd closes.ends
 
 -- the ledger that a batch leaves stands
 pub settled-stands : (a : Acceptance) (limit : ℕ) (w : WorldState) (answer : End) → WorldStandsFor a w → EndsAs a w.state (length w.firings) limit answer → StandsFor a (if is_committed answer then committed w else w.origin)
@@ -100,27 +96,28 @@ settled-stands a limit w (end.Aborted pid f) stands ends = stands.origin
 settled-stands a limit w (end.Refused line cause) stands ends = stands.origin
 
 -- what a batch adds that started as the world v and came to w
-pub world-adds : (a : Acceptance) (b : Batch) (before after : Running) (v w : WorldState) (answer : End) → before.ledger ≡ v.origin → WorldStandsFor a v → v.firings ≡ [] → resolve_batch a v.origin b.starts ≡ Ok v.starts → Fires a v w → length w.firings ≤ batch_limit steps before.made → EndsAs a w.state (length w.firings) (batch_limit steps before.made) answer
+pub world-adds : (a : Acceptance) (limit : ℕ) (b : Batch) (before after : Running) (v w : WorldState) (answer : End) → before.ledger ≡ v.origin → WorldStandsFor a v → v.firings ≡ [] → resolve_batch a v.origin b.starts ≡ Ok v.starts → Fires a v w → length w.firings ≤ batch_limit limit before.made → EndsAs a w.state (length w.firings) (batch_limit limit before.made) answer
     → after.ledger ≡ (if is_committed answer then committed w else w.origin)
     → after.entries.items ≡ before.entries.items ++ entry_of b.line (pids_of w.firings) answer ∷ []
     → after.text.items ≡ before.text.items ++ end_lines a.annotations.unit b.line (length w.firings) v.state.spent w.state answer
     → after.made ≡ before.made + length w.firings
-    → Adds a (item.Batch b) before after
-world-adds a b before after v w answer ledger stands fresh resolved fires within ends left entries text made =
+    → Adds a limit (item.Batch b) before after
+world-adds a limit b before after v w answer ledger stands fresh resolved fires within ends left entries text made =
     let same : start_of a w ≡ start_of a v = same-start a v w fires.origin fires.starts in
-    let closes : Closes a before.made b w answer = record {
+    let closes : Closes a limit before.made b w answer = record {
       stands = fires.stands;
       resolved = rw (fires.origin, fires.starts) resolved;
       first = rw same fires.first;
       ends = ends;
       within = within;
     } in
-    let enters = world-enters a before.made b w answer closes in
+    let enters = world-enters a limit before.made b w answer closes in
     let spent : v.state.spent ≡ (start_of a w).state.spent = ap (λ (s : State). s.spent) (fresh-start a v stands fresh) ∙ sym (ap (λ (l : LedgerState). l.state.spent) same) in
     let origin : before.ledger ≡ w.origin = ledger ∙ sym fires.origin in
     let counted : length (pids_of w.firings) ≡ length w.firings = pids-length w.firings in
     adds-from
     a
+    limit
     (item.Batch b)
     before
     after
@@ -130,7 +127,7 @@ world-adds a b before after v w answer ledger stands fresh resolved fires within
     entries
     (rw spent at text)
     (rw counted made)
-    (rw left (settled-stands a (batch_limit steps before.made) w answer fires.stands ends))
+    (rw left (settled-stands a (batch_limit limit before.made) w answer fires.stands ends))
 
 -- the room of a run is that of a batch which begins
 pub space-world : (before : Running) (o : LedgerState) (n m : ℕ) → o ≡ before.ledger → n ≡ m → HasSpace before m → HasSpace (record before { ledger = o }) n

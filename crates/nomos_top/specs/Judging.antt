@@ -1,5 +1,5 @@
 -- What the code of the top call finds and makes. Private clauses alone cite it.
-use Rattle.std.specs.Prelude.{◌≡◌, ℕ, ◌<◌, ◌⊎◌, List, length, Option, Some, ◌++◌}
+use Rattle.std.specs.Prelude.{◌≡◌, ℕ, ◌<◌, List, length, take, Option, Some}
 use Rattle.nomos_accept.specs.Acceptance.{IsAcceptedAs, IsRefused}
 use Rattle.nomos_ledger.specs.Ledger.{LedgerState, empty_ledger}
 use Rattle.nomos_ledger.specs.Legal.{Leads}
@@ -8,7 +8,7 @@ use Rattle.nomos_ledger.specs.declared.journal.Entry.{Entry}
 use Rattle.nomos_ledger.specs.declared.journal.Journal.{Journal}
 use Rattle.nomos_script.specs.Reading.{ReadsAs, IsSyntaxAt, IsNotYetAt, text_limit}
 use Rattle.nomos_script.specs.declared.item.ScriptItem.{ScriptItem}
-use Rattle.nomos_top.specs.Outcome.{Counts, HaveRisen, Input, Reading, input_of, IsTextOf, IsRun, IsDue, no_journal, steps}
+use Rattle.nomos_top.specs.Outcome.{Counts, HaveRisen, Input, IsTextOf, IsRun, HasRun, IsDue, no_journal, steps}
 use Rattle.nomos_top.specs.Progress.{IsSoFar}
 use Rattle.nomos_top.specs.Report.{report, run_status, AllFollowFirst}
 use Rattle.nomos_top.specs.declared.top.Due.{Due}
@@ -77,7 +77,7 @@ pub record HasRunAs (a : Acceptance) (items : List ScriptItem) (status : ℕ) (b
 -- what was done of such a script before memory ran out
 pub record HasRunPart (a : Acceptance) (items : List ScriptItem) (accepted : Option Acceptance) (journal : Journal) : Type 0 where
   pub limit : journal.limit ≡ steps
-  pub so_far : IsSoFar a items journal.entries
+  pub so_far : IsSoFar a steps items journal.entries
   pub given : accepted ≡ Some a
 
 -- what is due where a script is to be run on a contract that is accepted
@@ -90,4 +90,4 @@ IsDueOf a left counts status bytes accepted journal =
 -- what was done of it before memory ran out
 pub data IsPartOf (a : Acceptance) (left : Option (List ℕ)) : Option Acceptance → Journal → Type 0 where
   not_run : IsPartOf a left (Some a) no_journal
-  run_so_far : (text : List ℕ) (items : List ScriptItem) (entries : List Entry) → IsTextOf left text → ReadsAs text items → IsSoFar a items entries → IsPartOf a left (Some a) (journal_of entries)
+  run_so_far : (text : List ℕ) (items : List ScriptItem) (count : ℕ) (journal : Journal) → IsTextOf left text → ReadsAs text items → HasRun a (take count items) journal → IsPartOf a left (Some a) journal

@@ -1,18 +1,18 @@
 -- How a call ends.
-use Rattle.std.specs.Prelude.{◌≡◌, ℕ, ◌<◌, List, [], length, codes, decimal, ◌++◌, Option, Some, None, IsSome, ⊤}
+use Rattle.std.specs.Prelude.{◌≡◌, ℕ, ◌<◌, List, [], length, codes, decimal, ◌++◌, take, Option, Some, None, IsSome, ⊤}
 use Rattle.nomos_accept.specs.Acceptance.{IsAcceptedAs, IsRefused}
 use Rattle.nomos_accept.specs.declared.refusal.Why.{Why}
 use Rattle.nomos_base.specs.Faults.{Rose}
 use Rattle.nomos_base.specs.Sink.{with_end, AppendsSome}
 use Rattle.nomos_ledger.specs.Ledger.{LedgerState, empty_ledger}
-use Rattle.nomos_ledger.specs.Legal.{IsLegal, IsLegalSoFar}
+use Rattle.nomos_ledger.specs.Legal.{IsLegal}
 use Rattle.nomos_ledger.specs.Standing.{StandsFor}
 use Rattle.nomos_ledger.specs.declared.journal.Journal.{Journal}
 use Rattle.nomos_script.specs.Reading.{ReadsAs, IsSyntaxAt, IsNotYetAt, text_limit}
 use Rattle.nomos_script.specs.declared.item.ScriptItem.{ScriptItem}
 use Rattle.nomos_top.specs.Block.{line, accepted_block, refusal_line, usage_line, read_fault_line}
 use Rattle.nomos_top.specs.Report.{report, run_status, AllFollowFirst}
-use Rattle.nomos_top.specs.Words.{Task, check, run, task_of}
+use Rattle.nomos_top.specs.Words.{check, run, task_of}
 use Rattle.nomos_types.specs.Acceptance.{Acceptance}
 
 -- the counts of faults of a source or a sink before a call and after it
@@ -47,10 +47,9 @@ IsRun words = (file script : List ℕ) × (task_of words ≡ Some (run file scri
 abbrev pub script_refusal : List ℕ → List ℕ
 script_refusal cause = line (codes "script refused " ++ cause)
 
--- A run of the script: its items, and a journal of them that is legal, by the lowest ready process each time. The ledger
--- that it leads to stands for the program: its gas, in accounts, in purses and spent, is what was deposited.
-pub record HasRun (a : Acceptance) (script : List ℕ) (items : List ScriptItem) (journal : Journal) : Type 0 where
-  pub reads : ReadsAs script items
+-- A run of items: a journal of them that is legal, by the lowest ready process each time. The ledger that it leads to
+-- stands for the program: its gas, in accounts, in purses and spent, is what was deposited.
+pub record HasRun (a : Acceptance) (items : List ScriptItem) (journal : Journal) : Type 0 where
   pub limit : journal.limit ≡ steps
   pub last : LedgerState
   pub legal : IsLegal a items journal last
@@ -69,7 +68,7 @@ pub data IsDue (words : List (List ℕ)) (contract script : Input) : ℕ → Lis
   script_syntax : (a : Acceptance) (k : ℕ) → IsRun words → IsAcceptedAs contract.text a → IsSyntaxAt script.text k → IsDue words contract script 2 (script_refusal (codes "Syntax " ++ decimal k)) (Some a) no_journal
   script_not_yet : (a : Acceptance) (k : ℕ) → IsRun words → IsAcceptedAs contract.text a → IsNotYetAt script.text k → IsDue words contract script 2 (script_refusal (codes "NotYet " ++ decimal k)) (Some a) no_journal
   -- status 0 where each entry was carried out, 3 where one was not
-  ran : (a : Acceptance) (items : List ScriptItem) (journal : Journal) → IsRun words → IsAcceptedAs contract.text a → HasRun a script.text items journal → IsDue words contract script (run_status journal.entries) (report a items journal) (Some a) journal
+  ran : (a : Acceptance) (items : List ScriptItem) (journal : Journal) → IsRun words → IsAcceptedAs contract.text a → ReadsAs script.text items → HasRun a items journal → IsDue words contract script (run_status journal.entries) (report a items journal) (Some a) journal
 
 -- the text is what the source has left, where it tells that
 abbrev pub IsTextOf : Option (List ℕ) → List ℕ → Type 0
@@ -92,14 +91,14 @@ pub record IsDueFor (words : List (List ℕ)) (contract script : Reading) (statu
   pub script_told : IsTextOf script.left script_text
   pub due : IsDue words (input_of contract text) (input_of script script_text) status bytes accepted journal
 
--- What is known where memory ran out: nothing is accepted; or a run was asked for and the contract accepted, and the
--- journal has what was done before, if anything.
+-- What is known where memory ran out: nothing is accepted; or a run was asked for and the contract accepted, and nothing
+-- was run yet; or the journal is that of a run of the first items of the script.
 pub data IsPart (words : List (List ℕ)) (contract script : Reading) : Option Acceptance → Journal → Type 0 where
   nothing : IsPart words contract script None no_journal
   accepted_part : (a : Acceptance) (text : List ℕ) → IsRun words → IsTextOf contract.left text → IsAcceptedAs text a → IsPart words contract script (Some a) no_journal
-  run_part : (a : Acceptance) (text script_text : List ℕ) (items : List ScriptItem) (journal : Journal) (last : LedgerState) →
+  run_part : (a : Acceptance) (text script_text : List ℕ) (items : List ScriptItem) (count : ℕ) (journal : Journal) →
       IsRun words → IsTextOf contract.left text → IsAcceptedAs text a → IsTextOf script.left script_text → ReadsAs script_text items →
-      IsLegalSoFar a items journal last → IsPart words contract script (Some a) journal
+      HasRun a (take count items) journal → IsPart words contract script (Some a) journal
 
 -- All that is due was written, or the sink failed and a part of it was.
 pub data IsWritten (status : ℕ) (bytes : List ℕ) (out : Counts) (before after : Option (List ℕ)) : ℕ → Type 0 where

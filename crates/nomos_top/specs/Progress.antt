@@ -1,34 +1,28 @@
 -- How a run of a script gets on, item by item. Private clauses alone cite it.
-use Rattle.std.specs.Prelude.{◌≡◌, ℕ, ◌+◌, ◌<◌, ◌≤◌, ◌^◌, List, [], ◌∷◌, ◌++◌, length, sum_by, take, ◌⊎◌, Bool, true, false}
+use Rattle.std.specs.Prelude.{◌≡◌, ℕ, ◌+◌, ◌<◌, ◌≤◌, ◌^◌, List, [], ◌∷◌, ◌++◌, length, take, ◌⊎◌, Bool, true, false}
 use Rattle.nomos_types.specs.Acceptance.{Acceptance}
 use Rattle.nomos_script.specs.declared.item.ScriptItem.{ScriptItem}
-use Rattle.nomos_script.specs.declared.item.ScriptItem.TheVariants as item
 use Rattle.nomos_script.specs.Size.{entry_count, start_count}
 use Rattle.nomos_config.specs.Run.{IsQuiet}
-use Rattle.nomos_config.specs.State.{State}
 use Rattle.nomos_ledger.specs.Ledger.{LedgerState, empty_ledger}
-use Rattle.nomos_ledger.specs.Legal.{Leads, IsFirst, max_firings}
+use Rattle.nomos_ledger.specs.Legal.{Leads, IsFirst, firings_in, max_firings}
 use Rattle.nomos_ledger.specs.Standing.{StandsFor, WorldStandsFor}
 use Rattle.nomos_ledger.specs.World.{WorldState, start_of, pids_of}
 use Rattle.nomos_ledger.specs.declared.journal.End.{End}
 use Rattle.nomos_ledger.specs.declared.journal.End.TheVariants as end
 use Rattle.nomos_ledger.specs.declared.journal.Entry.{Entry}
-use Rattle.nomos_top.specs.Outcome.{steps}
 use Rattle.nomos_top.specs.Report.{report_lines, AllFollowFirst}
 use Rattle.nomos_top.specs.declared.running.Running.{Running}
 
--- all firings of entries
-abbrev pub firings_of : List Entry → ℕ
-firings_of entries = sum_by (λ e. length e.firings) entries
-
--- What an item adds to a run: entries that are legal, by the policy, and the lines of these entries.
-pub record Adds (a : Acceptance) (i : ScriptItem) (before after : Running) : Type 0 where
+-- What an item adds to a run whose batches may make so many firings each: entries that are legal, by the policy, and the
+-- lines of these entries.
+pub record Adds (a : Acceptance) (limit : ℕ) (i : ScriptItem) (before after : Running) : Type 0 where
   pub entries : List Entry
-  pub leads : Leads a steps before.made before.ledger (i ∷ []) entries after.ledger
+  pub leads : Leads a limit before.made before.ledger (i ∷ []) entries after.ledger
   pub first : AllFollowFirst a before.ledger (i ∷ []) entries
   pub kept : after.entries.items ≡ before.entries.items ++ entries
   pub told : after.text.items ≡ before.text.items ++ report_lines a before.ledger (i ∷ []) entries
-  pub made : after.made ≡ before.made + firings_of entries
+  pub made : after.made ≡ before.made + firings_in entries
   pub stands : StandsFor a after.ledger
 
 -- there is room for what an item may need: accounts, objects and names, and firings
@@ -39,11 +33,11 @@ pub record HasSpace (r : Running) (starts : ℕ) : Type 0 where
   pub made : r.made ≤ max_firings
 
 -- What a run has come to after these items.
-pub record HasCome (a : Acceptance) (items : List ScriptItem) (r : Running) : Type 0 where
-  pub leads : Leads a steps 0 empty_ledger items r.entries.items r.ledger
+pub record HasCome (a : Acceptance) (limit : ℕ) (items : List ScriptItem) (r : Running) : Type 0 where
+  pub leads : Leads a limit 0 empty_ledger items r.entries.items r.ledger
   pub first : AllFollowFirst a empty_ledger items r.entries.items
   pub told : r.text.items ≡ report_lines a empty_ledger items r.entries.items
-  pub made : r.made ≡ firings_of r.entries.items
+  pub made : r.made ≡ firings_in r.entries.items
   pub few : r.made ≤ max_firings
   pub stands : StandsFor a r.ledger
   pub accounts : length r.ledger.accounts ≤ entry_count items
@@ -65,9 +59,13 @@ pub record Fires (a : Acceptance) (before after : WorldState) : Type 0 where
 abbrev pub entry_of : ℕ → List ℕ → End → Entry
 entry_of line pids answer = record { line = line; firings = pids; end = answer }
 
--- the entries are those of the first items
-abbrev pub IsSoFar : Acceptance → List ScriptItem → List Entry → Type 0
-IsSoFar a items entries = (n : ℕ) × (last : LedgerState) × Leads a steps 0 empty_ledger (take n items) entries last
+-- The entries are those of the first items: they are legal, by the policy, and the ledger to which they lead stands.
+pub record IsSoFar (a : Acceptance) (limit : ℕ) (items : List ScriptItem) (entries : List Entry) : Type 0 where
+  pub count : ℕ
+  pub last : LedgerState
+  pub leads : Leads a limit 0 empty_ledger (take count items) entries last
+  pub stands : StandsFor a last
+  pub first : AllFollowFirst a empty_ledger (take count items) entries
 
 -- whether a batch that ends so stays
 abbrev pub is_committed : End → Bool

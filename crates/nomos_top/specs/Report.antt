@@ -1,5 +1,5 @@
 -- The report of a journal: its lines, item by item of the script.
-use Rattle.std.specs.Prelude.{ℕ, ◌-◌, ◌==◌, Bool, true, false, List, [], ◌∷◌, ◌++◌, length, codes, decimal, Option, Some, None, Result, Ok, Err, All, option_and_then, if◌then◌else◌}
+use Rattle.std.specs.Prelude.{ℕ, ◌-◌, Bool, true, false, List, [], ◌∷◌, ◌++◌, length, codes, decimal, Option, Some, None, Ok, Err, if◌then◌else◌}
 use Rattle.std.specs.List.{flat_map, list_all}
 use Rattle.nomos_base.specs.Gas.{gas_text}
 use Rattle.nomos_ir.specs.declared.fault.Fault.{Fault}
@@ -24,7 +24,6 @@ use Rattle.nomos_ledger.specs.declared.journal.Entry.{Entry}
 use Rattle.nomos_ledger.specs.declared.journal.Journal.{Journal}
 use Rattle.nomos_ledger.specs.declared.refusal.Refusal.{Refusal}
 use Rattle.nomos_ledger.specs.declared.refusal.Refusal.TheVariants as refusal
-use Rattle.nomos_ledger.specs.declared.resolved.Resolved.{Resolved}
 use Rattle.nomos_top.specs.Block.{line, accepted_block}
 
 -- why a line could not be carried out; amounts have so many Dths to the unit

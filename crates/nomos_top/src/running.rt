@@ -1,6 +1,6 @@
-//! Runs scripts: each batch by firing the lowest ready process, within the limit of firings.
+//! Runs scripts: each batch by firing the lowest ready process, within the limits on firings.
 
-ghost use Rattle.std.specs.Prelude.{◌≡◌, ◌+◌, ◌-◌, ◌<◌, ◌≤◌, ◌^◌, [], ◌∷◌, ◌++◌, IfOk, IfErr, Ok, OnOk, OnErr, length, if◌then◌else◌};
+ghost use Rattle.std.specs.Prelude.{◌≡◌, ℕ, ◌+◌, ◌-◌, ◌<◌, ◌≤◌, ◌^◌, [], ◌∷◌, ◌++◌, IfOk, IfErr, Ok, OnOk, OnErr, length, if◌then◌else◌};
 ghost use Rattle.nomos_ledger.specs.Legal.{batch_limit, max_firings};
 ghost use Rattle.nomos_ledger.specs.Standing.{StandsFor, WorldStandsFor};
 ghost use Rattle.nomos_ledger.specs.World.{committed, pids_of};
@@ -9,7 +9,6 @@ ghost use Rattle.nomos_script.specs.Size.{IsScriptSize, start_count};
 ghost use Rattle.nomos_script.specs.declared.item.Batch.{Batch};
 ghost use Rattle.nomos_script.specs.declared.item.ScriptItem.{ScriptItem};
 ghost use Rattle.nomos_types.specs.Acceptance.{Acceptance};
-ghost use Rattle.nomos_top.specs.Outcome.{steps};
 ghost use Rattle.nomos_top.specs.Progress.{Adds, HasSpace, HasCome, IsSoFar, Stops, Fires, entry_of, is_committed};
 ghost use Rattle.nomos_top.specs.Report.{end_lines};
 
@@ -77,20 +76,19 @@ fn pids(alloc: Global, firings: &Firings) -> Result<Pids, AllocError>
     Ok(Items::of_vec(pids))
 }
 
-// The most firings of the next batch.
-fn batch_limit(made: u32) -> u32
+// The most firings of the next batch, where one batch may make so many and so many were made already.
+fn batch_limit(limit: u32, made: u32) -> u32
     requires { made ≤ max_firings }
-    ensures limit { result ≡ batch_limit steps made }
-    ensures small { result ≤ 1000000 }
+    ensures limit { result ≡ batch_limit limit made }
     ensures sum { made + result ≤ max_firings }
 {
-    STEPS.min(FIRINGS - made)
+    limit.min(FIRINGS - made)
 }
 
 impl Running {
     /// A run of which nothing was done yet.
     fn new(alloc: Global) -> Running
-        ensures { (a : Acceptance) → HasCome a [] result }
+        ensures { (a : Acceptance) (limit : ℕ) → HasCome a limit [] result }
     {
         Running {
             ledger: Ledger::empty(alloc),
@@ -98,6 +96,37 @@ impl Running {
             text: Vec::new(alloc),
             made: 0,
         }
+    }
+
+    // Keeps an entry without firings, and appends its lines.
+    fn keep_bare(
+        &mut self,
+        alloc: Global,
+        accepted: &Accepted,
+        line: u32,
+        end: End,
+    ) -> Result<(), AllocError>
+        ensures entries { OnOk result (self.new.entries.items ≡ self.old.entries.items ++ entry_of line [] end ∷ []) }
+        ensures text { OnOk result (self.new.text.items ≡ self.old.text.items ++ end_lines accepted.now.annotations.unit line 0 self.old.ledger.state.spent self.old.ledger.state end) }
+        ensures kept { (self.new.ledger ≡ self.old.ledger) × (self.new.made ≡ self.old.made) }
+        ensures err { OnErr result (self.new.entries.items ≡ self.old.entries.items) }
+    {
+        let state = self.ledger.state();
+        let course = Course {
+            line,
+            count: 0,
+            spent_before: state.spent(),
+            last: state,
+        };
+        let firings = Items::of_vec(Vec::new(alloc));
+        keep(
+            &mut self.entries,
+            &mut self.text,
+            accepted.unit(),
+            &course,
+            firings,
+            end,
+        )
     }
 
     // Carries out a deposit.
@@ -111,48 +140,32 @@ impl Running {
     ) -> Result<(), AllocError>
         requires stands { StandsFor accepted.now self.old.ledger }
         requires space { HasSpace self.old 0 }
-        ensures ok { OnOk result (Adds accepted.now (ScriptItem.Deposit line name.now units) self.old self.new) }
+        ensures ok { (limit : ℕ) → OnOk result (Adds accepted.now limit (ScriptItem.Deposit line name.now units) self.old self.new) }
         ensures err { OnErr result (self.new.entries.items ≡ self.old.entries.items) }
     {
         let end = self.ledger.deposit(accepted, line, name, units)?;
-        let state = self.ledger.state();
-        let course = Course {
-            line,
-            count: 0,
-            spent_before: state.spent(),
-            last: state,
-        };
-        let firings = Items::of_vec(Vec::new(alloc));
-        let unit = accepted.unit();
-        keep(
-            &mut self.entries,
-            &mut self.text,
-            unit,
-            &course,
-            firings,
-            end,
-        )?;
-        Ok(())
+        self.keep_bare(alloc, accepted, line, end)
     }
 
-    // Runs a batch that has started.
+    // Runs a batch that has started, and may make so many firings.
     fn run_world(
         &mut self,
         alloc: Global,
         accepted: &Accepted,
+        limit: u32,
         line: u32,
         mut world: World,
     ) -> Result<(), AllocError>
         requires stands { WorldStandsFor accepted.now world }
         requires fresh { world.firings ≡ [] }
         requires space { HasSpace (record self.old { ledger = world.origin }) (length world.starts) }
-        ensures ok { (b : Batch) → b.line ≡ line → resolve_batch accepted.now world.origin b.starts ≡ Ok world.starts → OnOk result (Adds accepted.now (ScriptItem.Batch b) (record self.old { ledger = world.origin }) self.new) }
+        ensures ok { (b : Batch) → b.line ≡ line → resolve_batch accepted.now world.origin b.starts ≡ Ok world.starts → OnOk result (Adds accepted.now limit (ScriptItem.Batch b) (record self.old { ledger = world.origin }) self.new) }
         ensures err { OnErr result (self.new.entries.items ≡ self.old.entries.items) }
     {
-        let limit = batch_limit(self.made);
+        let most = batch_limit(limit, self.made);
         let spent_before = world.state().spent();
-        fire_all(accepted, &mut world, limit)?;
-        let Some(end) = world.end(accepted, limit) else {
+        fire_all(accepted, &mut world, most)?;
+        let Some(end) = world.end(accepted, most) else {
             unreachable!()
         };
         let count = world.firings().len() as u32;
@@ -178,59 +191,48 @@ impl Running {
         Ok(())
     }
 
-    // Carries out a batch.
-    fn batch(&mut self, alloc: Global, accepted: &Accepted, b: &Batch) -> Result<(), AllocError>
+    // Carries out a batch, which may make so many firings.
+    fn batch(
+        &mut self,
+        alloc: Global,
+        accepted: &Accepted,
+        limit: u32,
+        b: &Batch,
+    ) -> Result<(), AllocError>
         requires stands { StandsFor accepted.now self.old.ledger }
         requires space { HasSpace self.old (length b.now.starts) }
-        ensures ok { OnOk result (Adds accepted.now (ScriptItem.Batch b.now) self.old self.new) }
+        ensures ok { OnOk result (Adds accepted.now limit (ScriptItem.Batch b.now) self.old self.new) }
         ensures err { OnErr result (self.new.entries.items ≡ self.old.entries.items) }
     {
         let ledger = mem::replace(&mut self.ledger, Ledger::empty(alloc));
         match ledger.begin(accepted, b) {
-            Begun::World(world) => self.run_world(alloc, accepted, b.line, world),
+            Begun::World(world) => self.run_world(alloc, accepted, limit, b.line, world),
             Begun::Refused(ledger, line, cause) => {
                 self.ledger = ledger;
-                let state = self.ledger.state();
-                let course = Course {
-                    line: b.line,
-                    count: 0,
-                    spent_before: state.spent(),
-                    last: state,
-                };
-                let firings = Items::of_vec(Vec::new(alloc));
-                let end = End::Refused(line, cause);
-                let unit = accepted.unit();
-                keep(
-                    &mut self.entries,
-                    &mut self.text,
-                    unit,
-                    &course,
-                    firings,
-                    end,
-                )?;
-                Ok(())
+                self.keep_bare(alloc, accepted, b.line, End::Refused(line, cause))
             }
             Begun::NoMemory(_) => Err(AllocError),
         }
     }
 
-    // Carries out an item.
+    // Carries out an item. A batch may make so many firings.
     fn item(
         &mut self,
         alloc: Global,
         accepted: &Accepted,
+        limit: u32,
         item: &ScriptItem,
     ) -> Result<(), AllocError>
         requires stands { StandsFor accepted.now self.old.ledger }
         requires space { HasSpace self.old (start_count (item.now ∷ [])) }
-        ensures ok { OnOk result (Adds accepted.now item.now self.old self.new) }
+        ensures ok { OnOk result (Adds accepted.now limit item.now self.old self.new) }
         ensures err { OnErr result (self.new.entries.items ≡ self.old.entries.items) }
     {
         match item {
             ScriptItem::Deposit { line, name, units } => {
                 self.deposit(alloc, accepted, *line, name, *units)
             }
-            ScriptItem::Batch(b) => self.batch(alloc, accepted, b),
+            ScriptItem::Batch(b) => self.batch(alloc, accepted, limit, b),
             ScriptItem::Show { line: _ } => Ok(()),
         }
     }
@@ -272,19 +274,21 @@ fn keep(
     Ok(())
 }
 
-/// Runs the items of a script from the empty ledger. Where memory runs out, the entries that were kept before.
+/// Runs the items of a script from the empty ledger, where one batch may make so many firings. Where memory runs out, the
+/// entries that were kept before.
 pub(crate) fn run_items(
     alloc: Global,
     accepted: &Accepted,
+    limit: u32,
     items: &[ScriptItem],
 ) -> Result<Running, Entries>
     requires { IsScriptSize items.now }
-    ensures ok { IfOk result (λ running. HasCome accepted.now items.now running) }
-    ensures err { IfErr result (λ entries. IsSoFar accepted.now items.now entries) }
+    ensures ok { IfOk result (λ running. HasCome accepted.now limit items.now running) }
+    ensures err { IfErr result (λ entries. IsSoFar accepted.now limit items.now entries) }
 {
     let mut running = Running::new(alloc);
     for item in items {
-        match running.item(alloc, accepted, item) {
+        match running.item(alloc, accepted, limit, item) {
             Ok(()) => {}
             Err(_) => return Err(Items::of_vec(running.entries)),
         }

@@ -1,8 +1,11 @@
 //! What no clause says: that the call succeeds where memory is found, and examples from outside.
 
+use crate::running::run_items;
 use crate::{Ended, Job, nomos, words};
+use nomos_accept::accepting::accept;
 use nomos_base::{MemorySink, MemorySource};
-use nomos_script::parsing;
+use nomos_config::machine::Machine;
+use nomos_script::parsing::{self, parse_script};
 use nomos_syntax::scan::TEXT_LIMIT;
 use std::alloc::{AllocError, Global};
 use std::process::Abort;
@@ -438,6 +441,32 @@ fn keeps_the_firings_of_a_run(rt: HostRuntime) -> Result<(), Fail> {
         "[Entry { line: 1, firings: Items { items: [] }, end: Deposited }, \
         Entry { line: 2, firings: Items { items: [1, 2, 1, 2, 1, 1] }, end: Committed }]"
     );
+    Ok(())
+}
+
+const ENDLESS: &[u8] = b"proc R p(;) : 1 = spawn x = p(;); wait x; close;
+proc T t(;) = spawn x = p(;); wait x; close;
+";
+
+// Processes that spawn one another without end, where a batch may make so many firings.
+#[test]
+fn ends_a_batch_at_its_limit(rt: HostRuntime) -> Result<(), Fail> {
+    let alloc = rt.alloc();
+    let Ok(accepted) = accept(alloc, ENDLESS) else {
+        panic!(rt; "the contract is accepted");
+    };
+    let Ok(script) = parse_script(alloc, b"deposit u 0\nexec u t(;)\n") else {
+        panic!(rt; "the script reads");
+    };
+    for limit in [1, 2, 10u32] {
+        let Ok(running) = run_items(alloc, &accepted, limit, script.items().as_slice()) else {
+            panic!(rt; "memory is found");
+        };
+        let lines = format!(in alloc; "line 1 deposited\nline 2 steps {limit}\n")?;
+        assert_eq!(rt; running.text.as_slice(), lines.as_bytes());
+        assert_eq!(rt; running.made, limit);
+        assert_eq!(rt; running.ledger.state().next_object(), 1);
+    }
     Ok(())
 }
 

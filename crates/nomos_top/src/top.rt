@@ -332,7 +332,7 @@ fn ran_due(alloc: Global, accepted: Accepted, script: &Script) -> Result<Due, Pa
     ensures ok { IfOk result (λ due. HasRunAs accepted script.now due.status due.text.items due.accepted due.journal) }
     ensures err { IfErr result (λ part. HasRunPart accepted script.now part.accepted part.journal) }
 {
-    match run_items(alloc, &accepted, script.items().as_slice()) {
+    match run_items(alloc, &accepted, STEPS, script.items().as_slice()) {
         Ok(running) => report_due(alloc, accepted, running),
         Err(entries) => Err(Part {
             accepted: Some(accepted),

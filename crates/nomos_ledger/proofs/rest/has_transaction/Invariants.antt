@@ -1,7 +1,7 @@
-use Rattle.std.proofs.Common.{ℕ, ◌<◌}
-use Rattle.nomos_ledger.specs.Ending.{IsTransaction}
+use Rattle.std.proofs.Common.{All, take}
+use Rattle.nomos_ledger.specs.Gives.{IsLeft}
 use Rattle.nomos_ledger.proofs.rest.has_transaction.Given as goal
 
--- no number so far is a transaction's
-abbrev pub invariant-loop-pid : goal.invariant-loop-pid
-invariant-loop-pid l = (k : ℕ) → k < l.pid → ¬ IsTransaction l.state k
+-- no object so far is a transaction
+abbrev pub invariant-loop-object : goal.invariant-loop-object
+invariant-loop-object l = All (λ o. ¬ IsLeft l.state o) (take l.object-index l.state.objects)

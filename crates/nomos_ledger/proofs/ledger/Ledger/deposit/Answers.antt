@@ -7,7 +7,7 @@ pub invariant_of-self-2 : goal.invariant_of-self-2
 invariant_of-self-2 c =
     let few = rw (← c.self.view_is) at c.requires.accounts in
     rw (c.in_ok-add.ensures.accounts, c.in_ok-add.ensures.state)
-    (deposit-named c.self.inside.accounts.items c.self.inside.contracts.items c.self.inside.state c.args.name.now (c.from.result * c.from-2.result) few c.self.invariant)
+    (deposit-named c.self.inside.accounts c.self.inside.contracts.items c.self.inside.state c.args.name.now (c.from.result * c.from-2.result) few c.self.invariant)
 
 pub returns-clause-stands : goal.returns-clause-stands
 returns-clause-stands c =

@@ -6,10 +6,6 @@ pub is_quiet-requires : goal.is_quiet-requires
 is_quiet-requires c =
     let stands = rw (← c.self.view_is) at c.requires in (world-closed _ _ stands).closed.sound
 
-pub has_transaction-requires : goal.has_transaction-requires
-has_transaction-requires c =
-    let stands = rw (← c.self.view_is) at c.requires in (world-closed _ _ stands).closed.numbers
-
 pub returns-then-made-limit : goal.returns-then-made-limit
 returns-then-made-limit c =
     rw (← c.self.view_is)

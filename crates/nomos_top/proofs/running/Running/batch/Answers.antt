@@ -1,11 +1,12 @@
-use Rattle.std.proofs.Common.{◌≡◌, ◌∙◌, ap, subst, arith, length, refl}
+use Rattle.std.proofs.Common.{◌≡◌, ◌∙◌, arith, length}
 use Rattle.nomos_script.specs.declared.item.ScriptItem.TheVariants as item
+use Rattle.nomos_config.specs.State.{State}
 use Rattle.nomos_ledger.specs.Ledger.{LedgerState}
 use Rattle.nomos_ledger.specs.declared.journal.End.TheVariants as end
 use Rattle.nomos_top.specs.Progress.{entry_of}
 use Rattle.nomos_top.specs.Report.{end_lines}
 use Rattle.nomos_top.proofs.JournalLaws.{resolved-length}
-use Rattle.nomos_top.proofs.ProgressLaws.{Enters, adds-refused, adds-from}
+use Rattle.nomos_top.proofs.ProgressLaws.{adds-refused, adds-from, on_ok-both}
 use Rattle.nomos_top.proofs.WorldLaws.{space-world}
 use Rattle.nomos_top.proofs.running.Running.batch.Goals as goal
 
@@ -27,22 +28,15 @@ returns-in-Refused-clause-ok c =
     let a = c.args.accepted.now in
     let b = c.args.b.now in
     let before = c.args.self.now in
-    let answer = end.Refused c.in-Refused.line c.in-Refused.cause in
+    let cause = c.in-Refused.cause in
+    let answer = end.Refused c.in-Refused.line cause in
+    let last : LedgerState = c.in-Refused.ledger in
+    let s : State = last.state in
     let begins = c.in-Refused.ensures.begins in
     let value = c.replace-ledger.ensures.value in
-    let none = c.of_vec-firings.ensures ∙ c.new.ensures.items in
-    let lines = end_lines a.annotations.unit b.line 0 c.spent.result c.state-state.result.now answer in
-    let enters = adds-refused a before.made before.ledger b c.in-Refused.line c.in-Refused.cause c.spent.result c.state-state.result.now (rw value at begins.0) in
-    let same : c.in-Refused.ledger ≡ before.ledger = begins.1 ∙ value in
-    adds-from
-    a
-    (item.Batch b)
-    before
-    _
-    (entry_of b.line _ answer)
-    lines
-    (rw same enters)
-    (rw none at c.in_ok-keep-in-Refused.ensures.entries)
-    (rw c.unit-unit.ensures at c.in_ok-keep-in-Refused.ensures.text)
-    (omega arith)
-    c.in-Refused.ensures.stands
+    let kept = c.keep_bare.ensures.kept in
+    let enters = adds-refused a c.args.limit before.made before.ledger b c.in-Refused.line cause s.spent s (rw value at begins.0) in
+    let same : c.keep_bare.new.self.ledger ≡ before.ledger = kept.0 ∙ begins.1 ∙ value in
+    on_ok-both c.keep_bare.result _ _ _
+    (λ entries text. adds-from a c.args.limit (item.Batch b) before c.keep_bare.new.self (entry_of b.line _ answer) (end_lines a.annotations.unit b.line 0 s.spent s answer) (rw same enters) entries text (omega (arith, kept.1)) (rw kept.0 c.in-Refused.ensures.stands))
+    c.keep_bare.ensures.entries c.keep_bare.ensures.text

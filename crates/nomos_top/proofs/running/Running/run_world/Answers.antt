@@ -1,4 +1,4 @@
-use Rattle.std.proofs.Common.{◌≡◌, ◌+◌, ap, arith, length, refl}
+use Rattle.std.proofs.Common.{◌≡◌, ap, arith, length, refl}
 use Rattle.nomos_config.specs.State.{State}
 use Rattle.nomos_ledger.specs.World.{pids_of}
 use Rattle.nomos_top.proofs.JournalLaws.{starts-keep}
@@ -11,7 +11,7 @@ fire_all-requires-clause-objects c =
     let w = c.args.world in
     let at = ap (λ (s : State). s.next_object) (fresh-start a w c.requires.stands c.requires.fresh) in
     let rises = (starts-keep a w.origin w.starts).rises in
-    omega (arith, at, rises.objects, c.requires.space.objects, c.batch_limit-limit.ensures.small)
+    omega (arith, at, rises.objects, c.requires.space.objects, c.batch_limit-most.ensures.sum)
 
 pub fire_all-requires-clause-names : goal.fire_all-requires-clause-names
 fire_all-requires-clause-names c =
@@ -19,13 +19,13 @@ fire_all-requires-clause-names c =
     let w = c.args.world in
     let at = ap (λ (s : State). s.next_name) (fresh-start a w c.requires.stands c.requires.fresh) in
     let rises = (starts-keep a w.origin w.starts).rises in
-    omega (arith, at, rises.names, c.requires.space.names, c.batch_limit-limit.ensures.small)
+    omega (arith, at, rises.names, c.requires.space.names, c.batch_limit-most.ensures.sum)
 
 pub returns-clause-ok : goal.returns-clause-ok
 returns-clause-ok c = λ b line resolved.
     let a = c.args.accepted.now in
     let w = c.fire_all.new.world in
-    let limit = c.batch_limit-limit.ensures.limit in
+    let most = c.batch_limit-most.ensures.limit in
     let pids : c.in_ok-firings.firings ≡ pids_of w.firings = rw (c.in_ok-firings.ensures, c.firings-2.ensures) refl in
     let count : c.len-count.result ≡ length w.firings = rw (c.len-count.ensures, c.firings.ensures) refl in
     let long : c.from.result ≡ length w.firings = rw (c.from.ensures, count) refl in
@@ -34,6 +34,7 @@ returns-clause-ok c = λ b line resolved.
     let stays = c.is_committed-stays.ensures in
     world-adds
     a
+    c.args.limit
     b
     (record c.args.self.now { ledger = c.args.world.origin })
     _
@@ -45,8 +46,8 @@ returns-clause-ok c = λ b line resolved.
     c.requires.fresh
     resolved
     c.in_ok-fire_all.ensures.fires
-    (rw limit at c.in_ok-fire_all.ensures.within)
-    (rw limit at c.in-Some.ensures)
+    (rw most at c.in_ok-fire_all.ensures.within)
+    (rw most at c.in-Some.ensures)
     (rw stays at c.settle.ensures)
     (rw (← line, pids) at c.in_ok-keep.ensures.entries)
     (rw (← line, long, spent, last, c.unit-unit.ensures) at c.in_ok-keep.ensures.text)
