@@ -1,6 +1,8 @@
 pub mod Amounts
+pub mod Bindings
 pub mod CodeForm
 pub mod CodeParts
+pub mod Evaluation
 pub mod Example
 pub mod Ids
 pub mod Kinds
@@ -10,10 +12,13 @@ pub mod Nodes
 pub mod Order
 pub mod Parameters
 pub mod Program
+pub mod TermExample
+pub mod TermKind
 pub mod TermParts
 pub mod TypeParts
 pub mod Unfold
 pub mod Value
 pub mod ValueCode
 pub mod ValueNode
+pub mod Weight
 pub mod Word
