@@ -10,7 +10,7 @@ use Rattle.nomos_ir.specs.Value.{Value, int, truth, list, ValueList, no_values, 
 
 -- the evaluation of a term, whose parts are among those before it
 abbrev value_at : List TermNode → ℕ → Environment → Evaluation
-value_at terms t env = term_evaluation (program_of terms []) env t
+value_at terms t env = term_evaluation (program_of terms []) env (term_id t)
 
 -- 0 - 7, and then 2
 abbrev minus_seven : List TermNode
@@ -150,11 +150,11 @@ unfolding term_evaluation evaluation
 first_of_number = refl
 
 -- f(5), as f(n - 1) where n is 6
-fifth_sum : term_evaluation sums ((variable 0, int (pos 6)) ∷ []) 5 ≡ ends (int (pos 5)) 135
+fifth_sum : term_evaluation sums ((variable 0, int (pos 6)) ∷ []) (term_id 5) ≡ ends (int (pos 5)) 135
 unfolding term_evaluation evaluation
 fifth_sum = refl
 
 -- spin(n) opens a thousand calls, and enters two nodes for each
-spinning : term_evaluation spins ((variable 0, int (pos 6)) ∷ []) 1 ≡ faults fault.Depth
+spinning : term_evaluation spins ((variable 0, int (pos 6)) ∷ []) (term_id 1) ≡ faults fault.Depth
 unfolding term_evaluation evaluation
 spinning = refl

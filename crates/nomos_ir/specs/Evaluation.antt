@@ -131,22 +131,22 @@ bind_arguments f values = zip (map (λ par. par.0) f.pars) values
 
 -- how terms are evaluated: with how many open calls, among which variables, which term
 abbrev pub Evaluator : Type 0
-Evaluator = ℕ → Environment → ℕ → Counted
+Evaluator = ℕ → Environment → TermId → Counted
 
 -- terms from left to right
-abbrev pub each_of : (ℕ → Counted) → List TermId → (List Value → Counted) → Counted
+abbrev pub each_of : (TermId → Counted) → List TermId → (List Value → Counted) → Counted
 each_of part [] next n = next [] n
-each_of part (t ∷ ts) next n = go_on (part t.0 n) (λ v. each_of part ts (λ vs. next (v ∷ vs)))
+each_of part (t ∷ ts) next n = go_on (part t n) (λ v. each_of part ts (λ vs. next (v ∷ vs)))
 
 -- two terms from left to right
-abbrev pub two_of : (ℕ → Counted) → TermId → TermId → (Value → Value → Counted) → Counted
-two_of part a b next n = go_on (part a.0 n) (λ v m. go_on (part b.0 m) (next v))
+abbrev pub two_of : (TermId → Counted) → TermId → TermId → (Value → Value → Counted) → Counted
+two_of part a b next n = go_on (part a n) (λ v m. go_on (part b m) (next v))
 
 -- the body of a function, with its arguments
 abbrev pub body_evaluation : Evaluator → ℕ → Option FnDecl → List Value → Counted
 body_evaluation part calls None values n = ends nought n
 body_evaluation part calls (Some f) values n =
-    if nat_lt calls max_calls then part (calls + 1) (bind_arguments f values) f.body.0 n else faults fault.Depth
+    if nat_lt calls max_calls then part (calls + 1) (bind_arguments f values) f.body n else faults fault.Depth
 
 -- a node that was entered
 abbrev pub node_evaluation : ProgramLists → Evaluator → ℕ → Environment → TermNode → Counted
@@ -169,15 +169,15 @@ node_evaluation lists part calls env (node.Less at a b) n =
 node_evaluation lists part calls env (node.Equal at a b) n =
     two_of (part calls env) a b (on_numbers (λ x y. ends (truth (same_number x y)))) n
 node_evaluation lists part calls env (node.And at a b) n =
-    go_on (part calls env a.0 n) (λ v. both v (part calls env b.0))
+    go_on (part calls env a n) (λ v. both v (part calls env b))
 node_evaluation lists part calls env (node.Or at a b) n =
-    go_on (part calls env a.0 n) (λ v. either v (part calls env b.0))
+    go_on (part calls env a n) (λ v. either v (part calls env b))
 node_evaluation lists part calls env (node.Cons at a b) n = two_of (part calls env) a b put_before n
-node_evaluation lists part calls env (node.Not at a) n = go_on (part calls env a.0 n) (λ v. ends (opposite v))
+node_evaluation lists part calls env (node.Not at a) n = go_on (part calls env a n) (λ v. ends (opposite v))
 node_evaluation lists part calls env (node.If at test a b) n =
-    go_on (part calls env test.0 n) (λ v. chosen v (part calls env a.0) (part calls env b.0))
+    go_on (part calls env test n) (λ v. chosen v (part calls env a) (part calls env b))
 node_evaluation lists part calls env (node.Match at taken empty head tail full) n =
-    go_on (part calls env taken.0 n) (λ v. taken_apart v (part calls env empty.0) (λ w ws. part calls (bind_parts head tail w ws env) full.0) (part calls env full.0))
+    go_on (part calls env taken n) (λ v. taken_apart v (part calls env empty) (λ w ws. part calls (bind_parts head tail w ws env) full) (part calls env full))
 
 -- a term that was entered
 abbrev pub entered : ProgramLists → Evaluator → ℕ → Environment → Option TermNode → Counted
@@ -193,9 +193,9 @@ counted false next n = faults fault.TermSteps
 unfoldable pub evaluation : ProgramLists → ℕ → Evaluator
 evaluation lists zero calls env t n = faults fault.TermSteps
 evaluation lists (suc inside) calls env t n =
-    counted (nat_lt n max_nodes) (entered lists (evaluation lists inside) calls env (slice_get lists.terms t)) n
+    counted (nat_lt n max_nodes) (entered lists (evaluation lists inside) calls env (slice_get lists.terms t.0)) n
 
 -- the evaluation of a term by itself: no node is entered before it, and no call is open. A node inside others is entered after
 -- them, so no more nodes than may be entered are inside one another
-unfoldable pub term_evaluation : ProgramLists → Environment → ℕ → Evaluation
+unfoldable pub term_evaluation : ProgramLists → Environment → TermId → Evaluation
 term_evaluation lists env t = evaluation lists (max_nodes + 1) 0 env t 0

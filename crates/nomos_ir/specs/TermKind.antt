@@ -31,9 +31,9 @@ with_parts head tail kind vars = (tail, list_kind kind) ∷ (head, kind) ∷ var
 
 mutual
   -- the term has this kind where the variables have those
-  pub data HasKind (lists : ProgramLists) : VariableKinds → ℕ → Kind → Type 0 where
-    term : (vars : VariableKinds) (t : ℕ) (kind : Kind) (n : TermNode)
-        → slice_get lists.terms t ≡ Some n → NodeHasKind lists vars n kind
+  pub data HasKind (lists : ProgramLists) : VariableKinds → TermId → Kind → Type 0 where
+    term : (vars : VariableKinds) (t : TermId) (kind : Kind) (n : TermNode)
+        → slice_get lists.terms t.0 ≡ Some n → NodeHasKind lists vars n kind
         → HasKind lists vars t kind
 
   pub data NodeHasKind (lists : ProgramLists) : VariableKinds → TermNode → Kind → Type 0 where
@@ -48,53 +48,53 @@ mutual
     nil : (vars : VariableKinds) (at : ℕ) (kind : Kind)
         → NodeHasKind lists vars (node.Nil at kind) (list_kind kind)
     plus : (vars : VariableKinds) (at : ℕ) (a b : TermId)
-        → HasKind lists vars a.0 int_kind → HasKind lists vars b.0 int_kind
+        → HasKind lists vars a int_kind → HasKind lists vars b int_kind
         → NodeHasKind lists vars (node.Add at a b) int_kind
     minus : (vars : VariableKinds) (at : ℕ) (a b : TermId)
-        → HasKind lists vars a.0 int_kind → HasKind lists vars b.0 int_kind
+        → HasKind lists vars a int_kind → HasKind lists vars b int_kind
         → NodeHasKind lists vars (node.Sub at a b) int_kind
     times : (vars : VariableKinds) (at : ℕ) (a b : TermId)
-        → HasKind lists vars a.0 int_kind → HasKind lists vars b.0 int_kind
+        → HasKind lists vars a int_kind → HasKind lists vars b int_kind
         → NodeHasKind lists vars (node.Mul at a b) int_kind
     quotient : (vars : VariableKinds) (at : ℕ) (a b : TermId)
-        → HasKind lists vars a.0 int_kind → HasKind lists vars b.0 int_kind
+        → HasKind lists vars a int_kind → HasKind lists vars b int_kind
         → NodeHasKind lists vars (node.Div at a b) int_kind
     remainder : (vars : VariableKinds) (at : ℕ) (a b : TermId)
-        → HasKind lists vars a.0 int_kind → HasKind lists vars b.0 int_kind
+        → HasKind lists vars a int_kind → HasKind lists vars b int_kind
         → NodeHasKind lists vars (node.Rem at a b) int_kind
     less : (vars : VariableKinds) (at : ℕ) (a b : TermId)
-        → HasKind lists vars a.0 int_kind → HasKind lists vars b.0 int_kind
+        → HasKind lists vars a int_kind → HasKind lists vars b int_kind
         → NodeHasKind lists vars (node.Less at a b) bool_kind
     equal : (vars : VariableKinds) (at : ℕ) (a b : TermId)
-        → HasKind lists vars a.0 int_kind → HasKind lists vars b.0 int_kind
+        → HasKind lists vars a int_kind → HasKind lists vars b int_kind
         → NodeHasKind lists vars (node.Equal at a b) bool_kind
     and : (vars : VariableKinds) (at : ℕ) (a b : TermId)
-        → HasKind lists vars a.0 bool_kind → HasKind lists vars b.0 bool_kind
+        → HasKind lists vars a bool_kind → HasKind lists vars b bool_kind
         → NodeHasKind lists vars (node.And at a b) bool_kind
     or : (vars : VariableKinds) (at : ℕ) (a b : TermId)
-        → HasKind lists vars a.0 bool_kind → HasKind lists vars b.0 bool_kind
+        → HasKind lists vars a bool_kind → HasKind lists vars b bool_kind
         → NodeHasKind lists vars (node.Or at a b) bool_kind
     cons : (vars : VariableKinds) (at : ℕ) (a b : TermId) (kind : Kind)
-        → HasKind lists vars a.0 kind → HasKind lists vars b.0 (list_kind kind)
+        → HasKind lists vars a kind → HasKind lists vars b (list_kind kind)
         → NodeHasKind lists vars (node.Cons at a b) (list_kind kind)
     not : (vars : VariableKinds) (at : ℕ) (a : TermId)
-        → HasKind lists vars a.0 bool_kind
+        → HasKind lists vars a bool_kind
         → NodeHasKind lists vars (node.Not at a) bool_kind
     choice : (vars : VariableKinds) (at : ℕ) (test a b : TermId) (kind : Kind)
-        → HasKind lists vars test.0 bool_kind → HasKind lists vars a.0 kind → HasKind lists vars b.0 kind
+        → HasKind lists vars test bool_kind → HasKind lists vars a kind → HasKind lists vars b kind
         → NodeHasKind lists vars (node.If at test a b) kind
     parts : (vars : VariableKinds) (at : ℕ) (list empty full : TermId) (head tail : VarId) (element kind : Kind)
-        → HasKind lists vars list.0 (list_kind element) → HasKind lists vars empty.0 kind
-        → HasKind lists (with_parts head tail element vars) full.0 kind
+        → HasKind lists vars list (list_kind element) → HasKind lists vars empty kind
+        → HasKind lists (with_parts head tail element vars) full kind
         → NodeHasKind lists vars (node.Match at list empty head tail full) kind
 
   -- the arguments have the kinds of the parameters, one by one
   pub data HaveKinds (lists : ProgramLists) : VariableKinds → List TermId → VariableKinds → Type 0 where
     none : (vars : VariableKinds) → HaveKinds lists vars [] []
     more : (vars : VariableKinds) (a : TermId) (values : List TermId) (par : VarId × Kind) (pars : VariableKinds)
-        → HasKind lists vars a.0 par.1 → HaveKinds lists vars values pars
+        → HasKind lists vars a par.1 → HaveKinds lists vars values pars
         → HaveKinds lists vars (a ∷ values) (par ∷ pars)
 
 -- the body of each function has the declared kind among the parameters
 abbrev pub FunctionsAreTyped : ProgramLists → Type 0
-FunctionsAreTyped lists = All (λ f. HasKind lists f.pars f.body.0 f.gives) lists.fns
+FunctionsAreTyped lists = All (λ f. HasKind lists f.pars f.body f.gives) lists.fns
