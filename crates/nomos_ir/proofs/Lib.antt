@@ -1,6 +1,6 @@
 pub mod ExampleLemmas
 pub mod NameLemmas
-pub mod NodeLemmas
+pub mod NodeLaws
 pub mod StarLemmas
-pub mod UnfoldLemmas
+pub mod UnfoldLaws
 pub mod WordTable
