@@ -1,7 +1,7 @@
 -- The choice for which a process waits.
 use Rattle.std.proofs.Common.{◌≡◌, ◌<◌, ◌∙◌, ℕ, List, Option, Some, None, Contains, MatchOption, length, map, get_or, subst, sym, refl, arith}
 use Rattle.std.proofs.lemmas.Option.{same_Some, slice_get_within}
-use Rattle.nomos_ir.proofs.NodeLemmas.{All-at, type_node-at}
+use Rattle.nomos_ir.proofs.NodeLaws.{All-at, type_node-at}
 use Rattle.nomos_ir.specs.Naming.{AllDiffer}
 use Rattle.nomos_ir.specs.Nodes.{type_node}
 use Rattle.nomos_ir.specs.Program.{IsProgram}

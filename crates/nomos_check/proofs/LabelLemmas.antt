@@ -4,7 +4,7 @@ use Rattle.std.proofs.lemmas.Bool.{cases_lt}
 use Rattle.std.proofs.lemmas.List.{get_or-map, length-map, get_or_default}
 use Rattle.std.proofs.Math.Nat.{eq-or-lt_of_le}
 use Rattle.std.proofs.lemmas.Option.{same_Some}
-use Rattle.nomos_ir.proofs.NodeLemmas.{All-at, type_node-at}
+use Rattle.nomos_ir.proofs.NodeLaws.{All-at, type_node-at}
 use Rattle.nomos_ir.specs.Naming.{AllDiffer}
 use Rattle.nomos_ir.specs.Nodes.{type_node}
 use Rattle.nomos_ir.specs.Program.{IsProgram}

@@ -12,7 +12,7 @@ use Rattle.nomos_ir.specs.declared.ids.VarId.{VarId}
 use Rattle.nomos_ir.specs.declared.lists.ProgramLists.{ProgramLists}
 use Rattle.nomos_ir.specs.declared.type_node.Branch.{Branch}
 use Rattle.nomos_ir.specs.declared.type_node.TypeNode.TheVariants as node
-use Rattle.nomos_ir.proofs.NodeLemmas.{type_node-at}
+use Rattle.nomos_ir.proofs.NodeLaws.{type_node-at}
 use Rattle.std.proofs.lemmas.Option.{slice_get_within}
 use Rattle.nomos_types.proofs.RowLemmas.{LabelRow, row-at}
 use Rattle.nomos_types.proofs.StandsLemmas.{branch-lower}

@@ -13,7 +13,7 @@ use Rattle.nomos_ir.specs.Nodes.{type_node}
 use Rattle.nomos_check.specs.declared.standing.Standing.{Standing}
 use Rattle.nomos_check.specs.Standing.{HasNodeAt, IsInRange, MayEnd, Leads, judgement_of, whole_units}
 use Rattle.nomos_ir.specs.Unfold.{Unfolds}
-use Rattle.nomos_ir.proofs.UnfoldLemmas.{Unfolds-unique}
+use Rattle.nomos_ir.proofs.UnfoldLaws.{Unfolds-unique}
 use Rattle.nomos_types.specs.Amount.{Annotations}
 use Rattle.nomos_types.specs.Derivation.{StandsAtCode, HasType, MayClose, Derives, wait, close}
 use Rattle.nomos_types.specs.Judgement.{Judgement, Channels, channel_type, gives_up}

@@ -2,7 +2,7 @@
 use Rattle.std.proofs.Common.{◌≡◌, ◌<◌, ◌↔◌, ◌∙◌, ℕ, List, [], ◌∷◌, ◌++◌, Some, All, length, slice_get, ap, subst, sym, refl}
 use Rattle.std.proofs.lemmas.Option.{same_Some}
 use Rattle.std.proofs.lemmas.List.Elements.{All-append, All-cons, All-nil}
-use Rattle.nomos_ir.proofs.NodeLemmas.{All-at}
+use Rattle.nomos_ir.proofs.NodeLaws.{All-at}
 use Rattle.nomos_ir.specs.Ids.{ProcInRange}
 use Rattle.nomos_ir.specs.Program.{IsProgram}
 use Rattle.nomos_ir.specs.declared.code_node.Args.{Args}

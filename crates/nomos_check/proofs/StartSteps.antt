@@ -1,7 +1,7 @@
 -- What is in range where a declaration starts.
 use Rattle.std.proofs.Common.{◌≡◌, ◌<◌, ℕ, not, Some, All, length, slice_get, subst, sym}
 use Rattle.std.proofs.lemmas.List.Elements.{All-filter}
-use Rattle.nomos_ir.proofs.NodeLemmas.{All-at}
+use Rattle.nomos_ir.proofs.NodeLaws.{All-at}
 use Rattle.nomos_ir.specs.Ids.{ProcInRange}
 use Rattle.nomos_ir.specs.Program.{IsProgram}
 use Rattle.nomos_ir.specs.declared.declaration.ProcDecl.{ProcDecl}

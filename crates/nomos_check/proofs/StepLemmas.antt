@@ -1,7 +1,7 @@
 -- What a program's invariant says of the code that follows an instruction.
 use Rattle.std.proofs.Common.{◌≡◌, ◌<◌, ℕ, List, [], ◌∷◌, All, length, map, get_or, subst, arith}
 use Rattle.std.proofs.lemmas.List.{get_or-map, length-map}
-use Rattle.nomos_ir.proofs.NodeLemmas.{All-at}
+use Rattle.nomos_ir.proofs.NodeLaws.{All-at}
 use Rattle.nomos_ir.specs.CodeParts.{code_next}
 use Rattle.nomos_ir.specs.Ids.{AllBelow, CodeInRange}
 use Rattle.nomos_ir.specs.Program.{IsProgram}

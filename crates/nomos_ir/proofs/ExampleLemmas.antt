@@ -1,5 +1,5 @@
 -- The small program is one.
-use Rattle.std.proofs.Common.{◌≡◌, ◌≢◌, true, ◌==◌, ◌<◌, ℕ, zero, suc, List, [], ◌∷◌, All, AllPairs, Some, slice_get, codes, refl, subst, lit<, lit≤, arith}
+use Rattle.std.proofs.Common.{◌≡◌, ◌≢◌, ◌↔◌, IsSome, true, ◌==◌, ◌<◌, ℕ, zero, suc, List, [], ◌∷◌, All, AllPairs, Some, slice_get, codes, refl, subst, lit<, lit≤, arith}
 use Rattle.std.specs.Bool.{⊤}
 use Rattle.std.specs.Str.{bytes_eq}
 use Rattle.std.proofs.lemmas.Slice.Eq.{bytes_eq-Decides}
@@ -10,12 +10,13 @@ use Rattle.std.proofs.lemmas.List.Sums.{count_by-le-length}
 use Rattle.nomos_ir.specs.declared.ids.VarId.{VarId}
 use Rattle.nomos_ir.specs.declared.kind.Kind.{Kind}
 use Rattle.nomos_ir.specs.declared.kind.Base.TheVariants as base
+use Rattle.nomos_ir.specs.declared.mode.Mode.TheVariants as mode
 use Rattle.nomos_ir.specs.declared.type_node.TypeAt.{TypeAt}
 use Rattle.nomos_ir.specs.declared.term_node.TermNode.{TermNode}
 use Rattle.nomos_ir.specs.declared.code_node.CodeNode.{CodeNode}
 use Rattle.nomos_ir.specs.TypeParts.{type_parts, type_labels, type_kinds}
 use Rattle.nomos_ir.specs.TermParts.{term_parts, term_kinds}
-use Rattle.nomos_ir.specs.CodeParts.{code_next, code_labels}
+use Rattle.nomos_ir.specs.CodeParts.{code_next, code_labels, code_kinds}
 use Rattle.nomos_ir.specs.Parameters.{fn_parameters, proc_parameters}
 use Rattle.nomos_ir.specs.Name.{IsShortName}
 use Rattle.nomos_ir.specs.Ids.{AllBelow, TypeInRange, TermInRange, CodeInRange, ProcInRange, IdsInRange}
@@ -122,7 +123,8 @@ kinds =
           FnIsShallow
           example.fns
           (record { pars = each (λ par. IsShallow par.1) (parameter ∷ []) (lit≤ tt, tt); gives = lit≤ tt }, tt);
-      procs = each (λ d. All (λ par. IsShallow par.1) d.values) example.procs (All-nil _, tt);
+      code = each (λ node. All IsShallow (code_kinds node)) example.code (All-nil _, tt);
+      procs = each (λ d. All (λ par. IsShallow par.kind) d.values) example.procs (All-nil _, tt);
     }
 
 -- the names are names
@@ -189,6 +191,7 @@ example-is_program =
             fns = each (λ f. AllDiffer (fn_parameters f)) example.fns (one_once 0, tt);
             procs = each (λ d. AllDiffer (proc_parameters d)) example.procs (none_twice, tt);
           };
+      payers = each (λ d. IsSome d.me ↔ (d.mode ≡ mode.T)) example.procs ((λ there. cc, λ same. cc), tt);
       amounts = each IsAmount (amounts_of example) ((lit≤ tt, lit≤ tt), tt);
       size = record { code = lit≤ tt; declarations = lit≤ tt };
     }

@@ -1,7 +1,7 @@
 pub mod ExampleLemmas
 pub mod NameLemmas
-pub mod NodeLemmas
+pub mod NodeLaws
 pub mod StarLemmas
 pub mod TermExamples
-pub mod UnfoldLemmas
+pub mod UnfoldLaws
 pub mod WordTable

@@ -1,8 +1,12 @@
 -- What a code node has in it.
 use Rattle.std.specs.Prelude.{ℕ, List, [], ◌∷◌, map}
+use Rattle.std.specs.List.{flat_map}
 use Rattle.nomos_ir.specs.declared.amount.Amount.{Amount}
 use Rattle.nomos_ir.specs.declared.code_node.CodeNode.{CodeNode}
 use Rattle.nomos_ir.specs.declared.code_node.CodeNode.TheVariants as node
+use Rattle.nomos_ir.specs.declared.code_node.ValueArg.{ValueArg}
+use Rattle.nomos_ir.specs.declared.code_node.ValueArg.TheVariants as arg
+use Rattle.nomos_ir.specs.declared.kind.Kind.{Kind}
 
 -- the code nodes with which it goes on, in order of text
 abbrev pub code_next : CodeNode → List ℕ
@@ -27,15 +31,24 @@ code_next (node.If at e then_next else_next) = then_next.0 ∷ else_next.0 ∷ [
 code_next (node.Close at) = []
 code_next (node.Fwd at x) = []
 code_next (node.Call at f args) = []
+code_next (node.Empty at v amount kind next) = next.0 ∷ []
+code_next (node.Add at v e w next) = next.0 ∷ []
+code_next (node.Match at w empty_next head tail full_next) = empty_next.0 ∷ full_next.0 ∷ []
+
+-- the term of an argument that is one
+abbrev pub arg_terms : ValueArg → List ℕ
+arg_terms (arg.Term e) = e.0 ∷ []
+arg_terms (arg.List w) = []
 
 -- the terms in it, in order of text
 abbrev pub code_terms : CodeNode → List ℕ
 code_terms (node.Put at x e next) = e.0 ∷ []
-code_terms (node.Spawn at x f args next) = map (λ e. e.0) args.values
+code_terms (node.Spawn at x f args next) = flat_map arg_terms args.values
 code_terms (node.Let at v e next) = e.0 ∷ []
 code_terms (node.Emit at e next) = e.0 ∷ []
 code_terms (node.If at e then_next else_next) = e.0 ∷ []
-code_terms (node.Call at f args) = map (λ e. e.0) args.values
+code_terms (node.Call at f args) = flat_map arg_terms args.values
+code_terms (node.Add at v e w next) = e.0 ∷ []
 code_terms _ = []
 
 -- the process declaration that it spawns or calls
@@ -55,4 +68,10 @@ abbrev pub code_amounts : CodeNode → List Amount
 code_amounts (node.Pay at x amount next) = amount ∷ []
 code_amounts (node.Get at x amount next) = amount ∷ []
 code_amounts (node.Work at amount next) = amount ∷ []
+code_amounts (node.Empty at v amount kind next) = amount ∷ []
 code_amounts _ = []
+
+-- the kind that it names
+abbrev pub code_kinds : CodeNode → List Kind
+code_kinds (node.Empty at v amount kind next) = kind ∷ []
+code_kinds _ = []

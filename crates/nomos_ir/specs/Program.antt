@@ -5,6 +5,7 @@ use Rattle.nomos_ir.specs.Ids.{IdsInRange}
 use Rattle.nomos_ir.specs.Order.{PartsAreLower, TypesStandOnce, CodeStandsOnce}
 use Rattle.nomos_ir.specs.Kinds.{KindsAreShallow}
 use Rattle.nomos_ir.specs.Naming.{NamesAreShort, NamesDiffer, LabelsDiffer, ParametersDiffer}
+use Rattle.nomos_ir.specs.Parameters.{TransactionsHavePayers}
 use Rattle.nomos_ir.specs.Amounts.{AmountsAreSmall}
 
 -- at most 20,000 code nodes, and 10,000 definitions, functions and process declarations together
@@ -23,5 +24,6 @@ pub record IsProgram (lists : ProgramLists) : Type 0 where
   pub spaces : NamesDiffer lists
   pub labels : LabelsDiffer lists
   pub parameters : ParametersDiffer lists
+  pub payers : TransactionsHavePayers lists
   pub amounts : AmountsAreSmall lists
   pub size : IsSmall lists

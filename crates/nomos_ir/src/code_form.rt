@@ -26,6 +26,9 @@ pub enum CodeForm {
     Close,
     Fwd,
     Call,
+    Empty,
+    Add,
+    Match,
 }
 
 impl CodeForm {
@@ -55,6 +58,9 @@ impl CodeForm {
             CodeForm::Close => "close",
             CodeForm::Fwd => "fwd",
             CodeForm::Call => "call",
+            CodeForm::Empty => "empty",
+            CodeForm::Add => "add",
+            CodeForm::Match => "match",
         }
     }
 }

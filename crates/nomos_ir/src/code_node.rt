@@ -2,7 +2,7 @@
 use crate::amount::Amount;
 use crate::ids::{CodeId, Label, ProcId, TermId, VarId};
 use crate::items::Items;
-use crate::term_node::TermIds;
+use crate::kind::Kind;
 
 /// The channel at which an instruction works: the process's own, or one that it holds.
 #[derive(Clone, Copy, PartialEq, Eq, Debug)]
@@ -14,10 +14,20 @@ pub enum Chan {
 /// Variables in order of text.
 pub type VarIds = Items<VarId>;
 
-/// The arguments of a spawned or called process: its values, then its channels.
+/// An argument that is no channel: a term, or a list variable, whose list goes over with its potential.
+#[derive(Clone, Copy, PartialEq, Eq, Debug)]
+pub enum ValueArg {
+    Term(TermId),
+    List(VarId),
+}
+
+/// Arguments that are no channels, in order of text.
+pub type ValueArgs = Items<ValueArg>;
+
+/// The arguments of a spawned or called process: its values and lists, then its channels.
 #[derive(Drop, Debug)]
 pub struct Args {
-    pub values: TermIds,
+    pub values: ValueArgs,
     pub channels: VarIds,
 }
 
@@ -59,6 +69,13 @@ pub enum CodeNode {
     Close(u32),
     Fwd(u32, VarId),
     Call(u32, ProcId, Args),
+    /// The name of the empty list, the amount that each element carries, and the kind of elements.
+    Empty(u32, VarId, Amount, Kind, CodeId),
+    /// The name of the longer list, its first element, and the list that goes behind it.
+    Add(u32, VarId, TermId, VarId, CodeId),
+    /// The list, the code where it is empty, the names of its head and its tail, and the code where it
+    /// has them.
+    Match(u32, VarId, CodeId, VarId, VarId, CodeId),
 }
 
 /// The code nodes of a program.

@@ -28,13 +28,25 @@ pub struct FnDecl {
 /// The functions of a program.
 pub type FnDecls = Items<FnDecl>;
 
+/// A parameter of a process that is no channel. With an amount it is a list, each of whose elements carries
+/// that amount and has the kind; without one it is a value of the kind.
+#[derive(Clone, Copy, PartialEq, Eq, Debug)]
+pub struct Par {
+    pub var: VarId,
+    pub kind: Kind,
+    pub amount: Option<Amount>,
+}
+
+/// Parameters that are no channels, in order of text.
+pub type Pars = Items<Par>;
+
 /// The declaration of a process. `me` is there exactly at mode T.
 #[derive(Drop, Debug)]
 pub struct ProcDecl {
     pub name: Name,
     pub mode: Mode,
     pub me: Option<VarId>,
-    pub values: VarKinds,
+    pub values: Pars,
     pub channels: VarTypes,
     pub amount: Amount,
     pub offers: TypeId,

@@ -1,12 +1,12 @@
 //! The stars of a program.
-ghost use Rattle.std.specs.Prelude.{◌≡◌, map};
+ghost use Rattle.std.specs.Prelude.{◌≡◌};
 ghost use Rattle.std.specs.List.{flat_map};
-ghost use Rattle.nomos_ir.specs.Amounts.{most_star};
+ghost use Rattle.nomos_ir.specs.Amounts.{most_star, par_amounts, proc_amounts};
 ghost use Rattle.nomos_ir.specs.TypeParts.{type_amounts};
 ghost use Rattle.nomos_ir.specs.CodeParts.{code_amounts};
 
 use crate::code_node::CodeNode;
-use crate::declaration::ProcDecl;
+use crate::declaration::{Par, ProcDecl};
 use crate::type_node::{TypeAt, TypeNode};
 
 fn star_in_type(node: &TypeNode) -> u16
@@ -24,7 +24,8 @@ fn star_in_code(node: &CodeNode) -> u16
     match node {
         CodeNode::Pay(_, _, amount, _)
         | CodeNode::Get(_, _, amount, _)
-        | CodeNode::Work(_, amount, _) => { amount.star() }
+        | CodeNode::Work(_, amount, _)
+        | CodeNode::Empty(_, _, amount, _, _) => { amount.star() }
         _ => 0,
     }
 }
@@ -51,13 +52,38 @@ pub fn stars_in_code(code: &[CodeNode]) -> u16
     most
 }
 
-/// The greatest star number in what process declarations declare.
+fn star_in_par(par: &Par) -> u16
+    ensures { result ≡ most_star (par_amounts par.now) }
+{
+    match par.amount {
+        Some(amount) => amount.star(),
+        None => 0,
+    }
+}
+
+fn star_in_pars(pars: &[Par]) -> u16
+    ensures { result ≡ most_star (flat_map par_amounts pars.now) }
+{
+    let mut most = 0u16;
+    for par in pars {
+        most = most.max(star_in_par(par));
+    }
+    most
+}
+
+fn star_in_proc(declaration: &ProcDecl) -> u16
+    ensures { result ≡ most_star (proc_amounts declaration.now) }
+{
+    star_in_pars(declaration.values.as_slice()).max(declaration.amount.star())
+}
+
+/// The greatest star number in process declarations.
 pub fn stars_in_procs(procs: &[ProcDecl]) -> u16
-    ensures { result ≡ most_star (map (λ d. d.amount) procs.now) }
+    ensures { result ≡ most_star (flat_map proc_amounts procs.now) }
 {
     let mut most = 0u16;
     for declaration in procs {
-        most = most.max(declaration.amount.star());
+        most = most.max(star_in_proc(declaration));
     }
     most
 }

@@ -172,6 +172,9 @@ fn forms_have_names(rt: HostRuntime) {
         (CodeForm::Close, "close"),
         (CodeForm::Fwd, "fwd"),
         (CodeForm::Call, "call"),
+        (CodeForm::Empty, "empty"),
+        (CodeForm::Add, "add"),
+        (CodeForm::Match, "match"),
     ];
     for (form, name) in names {
         assert_eq!(rt; form.name(), name);

@@ -1,7 +1,7 @@
 -- What a program's invariant says of one node.
 use Rattle.std.proofs.Common.{◌≡◌, ◌<◌, ℕ, List, [], ◌∷◌, length, zero, suc, Some, slice_get, subst, ap, refl, arith}
 use Rattle.std.specs.Option.{option_map}
-use Rattle.nomos_ir.proofs.NodeLemmas.{All-at, type_node-at}
+use Rattle.nomos_ir.proofs.NodeLaws.{All-at, type_node-at}
 use Rattle.nomos_ir.specs.declared.ids.DefId.{DefId}
 use Rattle.nomos_ir.specs.declared.lists.ProgramLists.{ProgramLists}
 use Rattle.nomos_ir.specs.declared.type_node.Def.{Def}

@@ -10,7 +10,7 @@ use Rattle.nomos_ir.specs.declared.type_node.Branch.{Branch}
 use Rattle.nomos_ir.specs.declared.type_node.Def.{Def}
 use Rattle.nomos_ir.specs.declared.type_node.TypeNode.{TypeNode}
 use Rattle.nomos_ir.specs.declared.type_node.TypeNode.TheVariants as node
-use Rattle.nomos_ir.proofs.NodeLemmas.{type_node-at}
+use Rattle.nomos_ir.proofs.NodeLaws.{type_node-at}
 use Rattle.nomos_ir.specs.Ids.{AllBelow}
 use Rattle.nomos_ir.specs.Nodes.{type_node}
 use Rattle.nomos_ir.specs.Program.{IsProgram}
