@@ -15,8 +15,8 @@ use Rattle.nomos_ir.specs.declared.lists.ProgramLists.{ProgramLists}
 use Rattle.nomos_ir.specs.declared.type_node.Branch.{Branch}
 use Rattle.nomos_ir.specs.declared.type_node.TypeNode.TheVariants as node
 use Rattle.nomos_types.specs.Amount.{Annotations, dths}
-use Rattle.nomos_types.specs.Derivation.{StandsAtCode, HasType, sends_choice, awaits_choice, HasSameLabels, ArgumentsFit, after_spawn, MayClose, Derives, label, case, wait, spawn, close}
-use Rattle.nomos_types.specs.Judgement.{Judgement, goes_on, gives_up, binds, IsFree}
+use Rattle.nomos_types.specs.Fragment.Derivation.{StandsAtCode, HasType, sends_choice, awaits_choice, HasSameLabels, ArgumentsFit, after_spawn, MayClose, Derives, label, case, wait, spawn, close}
+use Rattle.nomos_types.specs.Fragment.Judgement.{Judgement, goes_on, gives_up, binds, IsFree}
 use Rattle.nomos_types.specs.Modes.{may_spawn}
 
 -- what a label needs

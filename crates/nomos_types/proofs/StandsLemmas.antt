@@ -15,8 +15,8 @@ use Rattle.nomos_ir.specs.Ids.{AllBelow}
 use Rattle.nomos_ir.specs.Nodes.{type_node}
 use Rattle.nomos_ir.specs.Program.{IsProgram}
 use Rattle.nomos_ir.specs.TypeParts.{type_parts}
-use Rattle.nomos_types.specs.Branches.{branches_of, IsEndMode, IsModeOf}
-use Rattle.nomos_types.specs.Modes.{IsChoiceMode, StandsAt, one, one_of_transaction, plus, with, named}
+use Rattle.nomos_types.specs.Fragment.Branches.{branches_of, IsEndMode, IsModeOf}
+use Rattle.nomos_types.specs.Fragment.Modes.{IsChoiceMode, StandsAt, one, one_of_transaction, plus, with, named}
 
 -- every branch stands at the mode
 abbrev pub BranchesStand : ProgramLists → Mode → List Branch → Type 0

@@ -3,7 +3,7 @@ use Rattle.std.specs.Prelude.{◌≡◌, ◌<◌, ◌≤◌, ◌^◌, ℕ, List,
 use Rattle.nomos_ir.specs.Amounts.{star_count}
 use Rattle.nomos_ir.specs.declared.lists.ProgramLists.{ProgramLists}
 use Rattle.nomos_types.specs.Amount.{Annotations}
-use Rattle.nomos_types.specs.Typed.{IsTyped}
+use Rattle.nomos_types.specs.Fragment.Typed.{IsTyped}
 
 -- a program with an amount for each of its stars
 pub record Acceptance : Type 0 where
