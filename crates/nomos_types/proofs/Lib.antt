@@ -1,6 +1,8 @@
-pub mod Nodes
-pub mod StandsLemmas
-pub mod ListLemmas
+pub mod BranchLemmas
 pub mod Declared
-pub mod RowLemmas
+pub mod EqualityLaws
 pub mod Examples
+pub mod ListLemmas
+pub mod Nodes
+pub mod RowLemmas
+pub mod StandsLemmas
