@@ -1,3 +1,4 @@
+pub mod BindingLaws
 pub mod ExampleLemmas
 pub mod NameLemmas
 pub mod NodeLaws

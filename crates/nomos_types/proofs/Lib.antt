@@ -1,6 +1,11 @@
-pub mod Nodes
-pub mod StandsLemmas
-pub mod ListLemmas
+pub mod AlikeLaws
+pub mod BranchLemmas
 pub mod Declared
-pub mod RowLemmas
+pub mod EqualityLaws
 pub mod Examples
+pub mod ListLemmas
+pub mod ModeLaws
+pub mod Nodes
+pub mod OccurrenceLemmas
+pub mod RowLemmas
+pub mod StandsLemmas
