@@ -1,5 +1,5 @@
 -- Laws of types and judgements that may stand for one another.
-use Rattle.std.proofs.Common.{◌≡◌, ℕ, ◌==◌, Bool, true, false, cond, List, [], ◌∷◌, All, Option, Some, None, Ordering, Less, Equal, Greater, subst, sym, refl, ◌∙◌}
+use Rattle.std.proofs.Common.{◌≡◌, ◌⊎◌, inl, inr, arith, zero, suc, ℕ, ◌==◌, Bool, true, false, cond, List, [], ◌∷◌, All, Contains, Option, Some, None, Ordering, Less, Equal, Greater, subst, sym, refl, ◌∙◌}
 use Rattle.std.proofs.lemmas.List.Elements.{All-head, All-tail}
 use Rattle.std.specs.Ordering.{match_ordering}
 use Rattle.nomos_ir.specs.declared.ids.TypeId.{TypeId}
@@ -9,13 +9,17 @@ use Rattle.nomos_ir.specs.declared.mode.Mode.{Mode}
 use Rattle.nomos_ir.specs.declared.mode.Mode.TheVariants as mode
 use Rattle.nomos_ir.specs.Bindings.{bound_to, bind, unbind, by_number}
 use Rattle.nomos_ir.specs.Program.{IsProgram}
-use Rattle.nomos_ir.specs.Unfold.{IsContractive}
+use Rattle.nomos_ir.specs.declared.type_node.TypeNode.{TypeNode}
+use Rattle.nomos_ir.specs.Nodes.{type_node}
+use Rattle.nomos_ir.specs.Unfold.{IsContractive, Unfolds}
+use Rattle.nomos_ir.proofs.UnfoldLaws.{Unfolds-unique}
 use Rattle.nomos_types.specs.Alike.{Alike, AlikeChannels, none, channel, AlikeTypes}
 use Rattle.nomos_types.specs.Amount.{Annotations}
 use Rattle.nomos_types.specs.Judgement.{Judgement, IsJudgement}
-use Rattle.nomos_types.specs.Modes.{HasMode}
-use Rattle.nomos_types.proofs.EqualityLaws.{equal-same, equal-back, equal-through}
-use Rattle.nomos_types.proofs.ModeLaws.{mode-unique, mode-in_range}
+use Rattle.nomos_types.specs.Equality.{BothOrNeither, both, neither, SameHead, one, plus, with, tensor, lolli, value_out, value_in, pot_out, pot_in, up, down, SameUnfolding, Agree, EqualTypes}
+use Rattle.nomos_types.specs.Modes.{HasMode, ObeysModes, Allows, IsLinearMode, as_carried, carried_mode, part_modes, head_mode}
+use Rattle.nomos_types.proofs.EqualityLaws.{equal-same, equal-back, equal-through, equal-unfolded}
+use Rattle.nomos_types.proofs.ModeLaws.{mode-unique, mode-in_range, unfolding-keeps_mode, part-has_mode, plus-branch-has_mode, with-branch-has_mode}
 
 -- ---- types
 
@@ -167,3 +171,128 @@ alike-through is_program first second =
       code = first.code ∙ second.code;
       offers = alike_types-through is_program first.offers second.offers;
     }
+
+-- ---- unfolding
+
+-- the modes at which something is carried
+abbrev IsCarriedMode : Mode → Type 0
+IsCarriedMode k = (k ≡ mode.S) ⊎ (k ≡ mode.R)
+
+as_carried-is_carried : (o : Option Mode) → IsCarriedMode (as_carried o)
+as_carried-is_carried (Some mode.S) = inl refl
+as_carried-is_carried o = inr refl
+
+carried-is_carried : (lists : ProgramLists) (m : Mode) (a : TypeId) → IsCarriedMode (carried_mode lists m a)
+carried-is_carried lists mode.R a = inr refl
+carried-is_carried lists m a = as_carried-is_carried (head_mode lists (type_node lists a.0))
+
+-- what stands at R or T, or at R or L, and is carried stands at R
+end-carried : (k : Mode) → (k ≡ mode.R) ⊎ (k ≡ mode.T) → IsCarriedMode k → k ≡ mode.R
+end-carried k (inl at_r) carried = at_r
+end-carried k (inr at_t) (inl at_s) = absurd cc
+end-carried k (inr at_t) (inr at_r) = at_r
+
+linear-carried : (k : Mode) → IsLinearMode k → IsCarriedMode k → k ≡ mode.R
+linear-carried k (inl at_r) carried = at_r
+linear-carried k (inr at_l) (inl at_s) = absurd cc
+linear-carried k (inr at_l) (inr at_r) = at_r
+
+-- nothing that stands at L is carried
+down-carried : (k : Mode) → k ≡ mode.L → IsCarriedMode k → ⊥
+down-carried k at_l (inl at_s) = absurd cc
+down-carried k at_l (inr at_r) = absurd cc
+
+-- the modes of carried types show at their heads: an `up` is at S, every other head at R
+heads-modes : {x : Annotations} {R : TypeId → TypeId → Type 0} {p q : TypeNode} → (lists : ProgramLists) (k i : Mode) → SameHead x R p q → Allows lists k p → Allows lists i q → IsCarriedMode k → IsCarriedMode i → k ≡ i
+heads-modes lists k i one a b c d = end-carried k a c ∙ sym (end-carried i b d)
+heads-modes lists k i (plus _ _ _) a b c d = linear-carried k a c ∙ sym (linear-carried i b d)
+heads-modes lists k i (with _ _ _) a b c d = linear-carried k a c ∙ sym (linear-carried i b d)
+heads-modes lists k i (tensor _ _ _ _ _ _) a b c d = linear-carried k a c ∙ sym (linear-carried i b d)
+heads-modes lists k i (lolli _ _ _ _ _ _) a b c d = linear-carried k a c ∙ sym (linear-carried i b d)
+heads-modes lists k i (value_out _ _ _ _) a b c d = linear-carried k a c ∙ sym (linear-carried i b d)
+heads-modes lists k i (value_in _ _ _ _) a b c d = linear-carried k a c ∙ sym (linear-carried i b d)
+heads-modes lists k i (pot_out _ _ _ _ _ _) a b c d = linear-carried k a c ∙ sym (linear-carried i b d)
+heads-modes lists k i (pot_in _ _ _ _ _ _) a b c d = linear-carried k a c ∙ sym (linear-carried i b d)
+heads-modes lists k i (up _ _ _) a b c d = a ∙ sym b
+heads-modes lists k i (down _ _ _) a b c d = absurd (down-carried k a c)
+
+-- types that are equal at the same mode are alike
+alike-at : {lists : ProgramLists} {a b : TypeId} {k : Mode} → (x : Annotations) → EqualTypes lists x a b → HasMode lists a k → HasMode lists b k → AlikeTypes lists x a b
+alike-at {k = k} x equal left right = record { equal = equal; mode = k; left_mode = left; right_mode = right }
+
+both-alike : {lists : ProgramLists} {x : Annotations} {o r : Option TypeId} → (k : Mode) → ((a : TypeId) → o ≡ Some a → HasMode lists a k) → ((b : TypeId) → r ≡ Some b → HasMode lists b k) → BothOrNeither (EqualTypes lists x) o r → BothOrNeither (AlikeTypes lists x) o r
+both-alike {x = x} k left right (both a b equal) = both a b (alike-at x equal (left a refl) (right b refl))
+both-alike k left right neither = neither
+
+module _ {lists : ProgramLists} (x : Annotations) (is_program : IsProgram lists) (contractive : IsContractive lists) (obeys : ObeysModes lists) where
+  -- carried types that are equal have the same mode
+  carried-same : (a b : TypeId) (k i : Mode) → EqualTypes lists x a b → HasMode lists a k → HasMode lists b i → IsCarriedMode k → IsCarriedMode i → k ≡ i
+  carried-same a b k i equal a_mode b_mode k_carried i_carried =
+      let first : SameUnfolding lists x (Agree lists x zero) a b = equal (suc zero) in
+      let left = unfolding-keeps_mode is_program contractive obeys a_mode first.left_unfolds in
+      let right = unfolding-keeps_mode is_program contractive obeys b_mode first.right_unfolds in
+      let left_allowed = obeys.allowed left.0 k first.left left.2 left.1 in
+      let right_allowed = obeys.allowed right.0 i first.right right.2 right.1 in
+      heads-modes lists k i first.same left_allowed right_allowed k_carried i_carried
+
+  -- so they are alike
+  carried-alike : (m : Mode) (a b : TypeId) → EqualTypes lists x a b → HasMode lists a (carried_mode lists m a) → HasMode lists b (carried_mode lists m b) → AlikeTypes lists x a b
+  carried-alike m a b equal a_mode b_mode =
+      let a_carried = carried-is_carried lists m a in
+      let b_carried = carried-is_carried lists m b in
+      let same : carried_mode lists m b ≡ carried_mode lists m a =
+      sym (carried-same a b (carried_mode lists m a) (carried_mode lists m b) equal a_mode b_mode a_carried b_carried)
+      in
+      alike-at x equal a_mode (subst (λ (k : Mode). HasMode lists b k) same b_mode)
+
+  -- equal parts that stand at the same mode are alike
+  part-alike : {t u a b : TypeId} {m : Mode} {p q : TypeNode} → (k : Mode) → HasMode lists t m → HasMode lists u m → Unfolds lists t.0 p → Unfolds lists u.0 q → Contains (part_modes lists m p) (a, k) → Contains (part_modes lists m q) (b, k) → EqualTypes lists x a b → AlikeTypes lists x a b
+  part-alike k t_mode u_mode left right a_among b_among equal =
+      alike-at x equal (part-has_mode {k = k} is_program contractive obeys t_mode left a_among) (part-has_mode {k = k} is_program contractive obeys u_mode right b_among)
+
+  -- the same of parts that are carried
+  carried-part : {t u a b : TypeId} {m : Mode} {p q : TypeNode} → HasMode lists t m → HasMode lists u m → Unfolds lists t.0 p → Unfolds lists u.0 q → Contains (part_modes lists m p) (a, carried_mode lists m a) → Contains (part_modes lists m q) (b, carried_mode lists m b) → EqualTypes lists x a b → AlikeTypes lists x a b
+  carried-part {a = a} {b = b} {m = m} t_mode u_mode left right a_among b_among equal =
+      carried-alike m a b equal
+      (part-has_mode {k = carried_mode lists m a} is_program contractive obeys t_mode left a_among)
+      (part-has_mode {k = carried_mode lists m b} is_program contractive obeys u_mode right b_among)
+
+  -- the parts of heads that are equal, at types of the same mode, are alike
+  heads-alike : {t u : TypeId} {p q : TypeNode} → (m : Mode) → HasMode lists t m → HasMode lists u m → Unfolds lists t.0 p → Unfolds lists u.0 q → SameHead x (EqualTypes lists x) p q → SameHead x (AlikeTypes lists x) p q
+  heads-alike m t_mode u_mode left right one = one
+  heads-alike m t_mode u_mode left right (plus bs cs same) =
+      plus bs cs (λ l. both-alike m
+      (λ a goes. plus-branch-has_mode bs l is_program contractive obeys t_mode left goes)
+      (λ b goes. plus-branch-has_mode cs l is_program contractive obeys u_mode right goes)
+      (same l))
+  heads-alike m t_mode u_mode left right (with bs cs same) =
+      with bs cs (λ l. both-alike m
+      (λ a goes. with-branch-has_mode bs l is_program contractive obeys t_mode left goes)
+      (λ b goes. with-branch-has_mode cs l is_program contractive obeys u_mode right goes)
+      (same l))
+  heads-alike m t_mode u_mode left right (tensor a b c d h k) =
+      tensor a b c d (carried-part t_mode u_mode left right (0, omega arith, refl) (0, omega arith, refl) h)
+      (part-alike m t_mode u_mode left right (1, omega arith, refl) (1, omega arith, refl) k)
+  heads-alike m t_mode u_mode left right (lolli a b c d h k) =
+      lolli a b c d (carried-part t_mode u_mode left right (0, omega arith, refl) (0, omega arith, refl) h)
+      (part-alike m t_mode u_mode left right (1, omega arith, refl) (1, omega arith, refl) k)
+  heads-alike m t_mode u_mode left right (value_out kind a b h) =
+      value_out kind a b (part-alike m t_mode u_mode left right (0, omega arith, refl) (0, omega arith, refl) h)
+  heads-alike m t_mode u_mode left right (value_in kind a b h) =
+      value_in kind a b (part-alike m t_mode u_mode left right (0, omega arith, refl) (0, omega arith, refl) h)
+  heads-alike m t_mode u_mode left right (pot_out q r a b e h) =
+      pot_out q r a b e (part-alike m t_mode u_mode left right (0, omega arith, refl) (0, omega arith, refl) h)
+  heads-alike m t_mode u_mode left right (pot_in q r a b e h) =
+      pot_in q r a b e (part-alike m t_mode u_mode left right (0, omega arith, refl) (0, omega arith, refl) h)
+  heads-alike m t_mode u_mode left right (up a b h) =
+      up a b (part-alike mode.L t_mode u_mode left right (0, omega arith, refl) (0, omega arith, refl) h)
+  heads-alike m t_mode u_mode left right (down a b h) =
+      down a b (part-alike mode.S t_mode u_mode left right (0, omega arith, refl) (0, omega arith, refl) h)
+
+-- types that are alike unfold to the same head, and the parts are alike
+pub alike_types-unfolded : {lists : ProgramLists} {x : Annotations} {t u : TypeId} {p q : TypeNode} → IsProgram lists → IsContractive lists → ObeysModes lists → AlikeTypes lists x t u → Unfolds lists t.0 p → Unfolds lists u.0 q → SameHead x (AlikeTypes lists x) p q
+alike_types-unfolded {lists = lists} {x = x} {t = t} {u = u} {p = p} {q = q} is_program contractive obeys alike left right =
+    let unfolded = equal-unfolded lists x t u p alike.equal left in
+    let same : unfolded.0 ≡ q = Unfolds-unique lists u.0 unfolded.0 q unfolded.1 right in
+    let heads : SameHead x (EqualTypes lists x) p q = subst (λ (n : TypeNode). SameHead x (EqualTypes lists x) p n) same unfolded.2 in
+    heads-alike x is_program contractive obeys alike.mode alike.left_mode alike.right_mode left right heads
