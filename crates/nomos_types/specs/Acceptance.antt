@@ -1,6 +1,7 @@
 -- Programs that are typed, with the amounts that were found.
 use Rattle.std.specs.Prelude.{◌≡◌, ◌<◌, ◌≤◌, ◌^◌, ℕ, List, length, All}
 use Rattle.nomos_ir.specs.Amounts.{star_count}
+use Rattle.nomos_ir.specs.Program.{IsProgram}
 use Rattle.nomos_ir.specs.declared.lists.ProgramLists.{ProgramLists}
 use Rattle.nomos_types.specs.Amount.{Annotations}
 use Rattle.nomos_types.specs.Fragment.Typed.{IsTyped}
@@ -14,8 +15,9 @@ pub record Acceptance : Type 0 where
 abbrev pub acceptance : ProgramLists → List ℕ → ℕ → Acceptance
 acceptance lists stars unit = record { program = lists; annotations = record { stars = stars; unit = unit } }
 
--- The program is typed under its amounts, of which there is one for each star; all numbers fit.
+-- The program is one, and typed under its amounts, of which there is one for each star; all numbers fit.
 pub record IsAccepted (a : Acceptance) : Type 0 where
+  pub is_program : IsProgram a.program
   pub some_unit : 1 ≤ a.annotations.unit
   pub small_unit : a.annotations.unit ≤ 2 ^ 31
   pub each_star : length a.annotations.stars ≡ star_count a.program
