@@ -10,6 +10,8 @@ pub mod FollowingLaws
 pub mod HeadLaws
 pub mod ListLemmas
 pub mod ModeLaws
+pub mod ModeSettingLemmas
+pub mod ModeTableLaws
 pub mod Nodes
 pub mod OccurrenceLemmas
 pub mod RowLaws

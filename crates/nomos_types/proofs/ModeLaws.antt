@@ -126,7 +126,7 @@ whole-in_range lists t is_program among =
     All-contains P (def_places lists ++ channel_places lists ++ offer_places lists) t all there
 
 -- the numbers of types that stand as parts are parts
-part-number : (lists : ProgramLists) (m k : Mode) (n : TypeNode) (t : TypeId) → Contains (part_modes lists m n) (t, k) → Contains (type_parts n) t.0
+pub part-number : (lists : ProgramLists) (m k : Mode) (n : TypeNode) (t : TypeId) → Contains (part_modes lists m n) (t, k) → Contains (type_parts n) t.0
 part-number lists m k n t among =
     subst (λ (xs : List ℕ). Contains xs t.0) (part-numbers lists m n) (contains-map number_of (part_modes lists m n) (t, k) t.0 among refl)
 

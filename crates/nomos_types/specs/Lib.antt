@@ -8,8 +8,10 @@ pub mod Equality
 pub mod Fragment
 pub mod Judgement
 pub mod Lines
+pub mod ModeTable
 pub mod Modes
 pub mod Row
 pub mod Synchronizing
 pub mod Typed
 pub mod Unfolding
+pub mod mirror

@@ -4,5 +4,6 @@
 
 pub mod accepted;
 pub mod contractive;
+pub mod mode_table;
 pub mod modes;
 pub mod unfolding;
