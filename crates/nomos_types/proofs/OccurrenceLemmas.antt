@@ -14,12 +14,14 @@ one_at n k = cond (k == n) 1 0
 
 -- ---- elements
 
+-- the first is an element, and so is each of the others
 contains-head : {X : Type 0} (x y : X) (xs : List X) → x ≡ y → Contains (x ∷ xs) y
 contains-head x y xs same = (zero, omega arith, same)
 
 contains-tail : {X : Type 0} (x y : X) (xs : List X) → Contains xs y → Contains (x ∷ xs) y
 contains-tail x y xs there = (suc there.0, omega arith, there.2)
 
+-- an element is the first or one of the others, by its place
 contains-at : {X : Type 0} (x y : X) (xs : List X) (k : ℕ) → k < length (x ∷ xs) → get_or (x ∷ xs) k y ≡ y → (x ≡ y) ⊎ Contains xs y
 contains-at x y xs zero inside at = inl at
 contains-at x y xs (suc k) inside at = inr (k, omega arith, at)
@@ -65,6 +67,7 @@ all-flat {X = X} P g (x ∷ xs) all =
 
 -- ---- counts
 
+-- the first counts where it is the number, and not where it is another one
 count-here : (n x : ℕ) (xs : List ℕ) → x ≡ n → count_of n (x ∷ xs) ≡ 1 + count_of n xs
 count-here n x xs same =
     sum_by-cons (one_at n) x xs ∙ ap (λ (t : Bool). cond t 1 0 + count_of n xs) (eq-eqb x n same)
@@ -83,9 +86,11 @@ count-append n xs ys = sum_by-append (one_at n) xs ys
 -- an element occurs
 pub counted : (n : ℕ) (xs : List ℕ) → Contains xs n → 1 ≤ count_of n xs
 counted n xs there =
-    let one : one_at n (get_or xs there.0 n) ≡ 1 = ap (one_at n) there.2 ∙ ap (λ (t : Bool). cond t 1 0) (eq-eqb n n refl) in
+    let itself : one_at n n ≡ 1 = ap (λ (t : Bool). cond t 1 0) (eq-eqb n n refl) in
+    let one : one_at n (get_or xs there.0 n) ≡ 1 = ap (one_at n) there.2 ∙ itself in
     omega (arith, get_or-le-sum_by (one_at n) xs there.0 n there.1)
 
+-- the same, where the test of the first is known
 contained-at : (n x : ℕ) (xs : List ℕ) (t : Bool) → (x == n) ≡ t → 1 ≤ count_of n (x ∷ xs) → (1 ≤ count_of n xs → Contains xs n) → Contains (x ∷ xs) n
 contained-at n x xs true here occurs rest = contains-head x n xs (eqb-true x n here)
 contained-at n x xs false here occurs rest =
@@ -126,7 +131,8 @@ pub count-part : {X : Type 0} (g : X → List ℕ) (n : ℕ) (xs : List X) (i : 
 count-part g n [] i x found = absurd cc
 count-part g n (y ∷ xs) zero x found =
     let same : y ≡ x = cc in
-    subst (λ z. count_of n (g z) ≤ count_of n (flat_map g (y ∷ xs))) same (omega (arith, count-append n (g y) (flat_map g xs)))
+    let first : count_of n (g y) ≤ count_of n (flat_map g (y ∷ xs)) = omega (arith, count-append n (g y) (flat_map g xs)) in
+    subst (λ z. count_of n (g z) ≤ count_of n (flat_map g (y ∷ xs))) same first
 count-part g n (y ∷ xs) (suc i) x found =
     omega (arith, count-append n (g y) (flat_map g xs), count-part g n xs i x found)
 
@@ -150,6 +156,7 @@ one-part g n (z ∷ xs) (suc i) (suc j) x y once x_found y_found x_has y_has =
 abbrev pub PartWith : {X : Type 0} → (X → List ℕ) → ℕ → List X → Type 0
 PartWith {X} g n xs = (i : ℕ) × (x : X) × (slice_get xs i ≡ Some x) × Contains (g x) n
 
+-- an item of the others is an item
 later-part : {X : Type 0} (g : X → List ℕ) (n : ℕ) (x : X) (xs : List X) → PartWith g n xs → PartWith g n (x ∷ xs)
 later-part g n x xs there = (suc there.0, there.1, there.2, there.3)
 
