@@ -2,6 +2,7 @@
 #![tactic(auto)]
 
 pub mod amount;
+pub mod bindings;
 pub mod code_form;
 pub mod code_node;
 pub mod declaration;
@@ -14,6 +15,7 @@ pub mod lists;
 pub mod mode;
 pub mod name;
 pub mod program;
+pub mod stack;
 mod stars;
 pub mod term_node;
 #[cfg(test)]

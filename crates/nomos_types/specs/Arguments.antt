@@ -20,7 +20,7 @@ use Rattle.nomos_types.specs.Judgement.{Judgement}
 -- so neither passes twice, and each passes only for a type of its own mode.
 pub data PassesChannel (lists : ProgramLists) (x : Annotations) : Judgement → VarId → TypeId → Judgement → Type 0 where
   shared : {j : Judgement} {v : VarId} {t : TypeId} → (own : TypeId) → bound_to v.0 j.shared ≡ Some own → AlikeTypes lists x own t → PassesChannel lists x j v t j
-  linear : {j : Judgement} {v : VarId} {t : TypeId} → (own : TypeId) → bound_to v.0 j.linear ≡ Some own → AlikeTypes lists x own t → PassesChannel lists x j v t (record j { linear = unbind v.0 j.linear })
+  linear : {j : Judgement} {v : VarId} {t : TypeId} → (own : TypeId) → bound_to v.0 j.shared ≡ None → bound_to v.0 j.linear ≡ Some own → AlikeTypes lists x own t → PassesChannel lists x j v t (record j { linear = unbind v.0 j.linear })
 
 -- channels pass one after another for parameters, of which there are as many
 pub data PassesChannels (lists : ProgramLists) (x : Annotations) : Judgement → List VarId → List (VarId × TypeId) → Judgement → Type 0 where
