@@ -178,7 +178,7 @@ alike-through is_program first second =
 -- ---- unfolding
 
 -- the modes at which something is carried
-abbrev IsCarriedMode : Mode → Type 0
+abbrev pub IsCarriedMode : Mode → Type 0
 IsCarriedMode k = (k ≡ mode.S) ⊎ (k ≡ mode.R)
 
 -- as what something is carried is such a mode
@@ -187,7 +187,7 @@ as_carried-is_carried (Some mode.S) = inl refl
 as_carried-is_carried o = inr refl
 
 -- so is the mode of what is carried
-carried-is_carried : (lists : ProgramLists) (m : Mode) (a : TypeId) → IsCarriedMode (carried_mode lists m a)
+pub carried-is_carried : (lists : ProgramLists) (m : Mode) (a : TypeId) → IsCarriedMode (carried_mode lists m a)
 carried-is_carried lists mode.R a = inr refl
 carried-is_carried lists m a = as_carried-is_carried (head_mode lists (type_node lists a.0))
 

@@ -219,7 +219,7 @@ part-has_mode {m = m} {n = n} is_program contractive obeys there unfolds among =
     part head.0 m n head.2 head.1 among
 
 -- each branch is a part with the mode of the choice
-branch-among : (m : Mode) (branches : List Branch) (l : Label) (u : TypeId) → goes_by branches l ≡ Some u → Contains {X = TypeId × Mode} (map (λ b. (b.goes, m)) branches) (u, m)
+pub branch-among : (m : Mode) (branches : List Branch) (l : Label) (u : TypeId) → goes_by branches l ≡ Some u → Contains {X = TypeId × Mode} (map (λ b. (b.goes, m)) branches) (u, m)
 branch-among m branches l u goes =
     let place : Branch → TypeId × Mode = λ b. (b.goes, m) in
     let each : All (λ b. Contains (map place branches) (place b)) branches =

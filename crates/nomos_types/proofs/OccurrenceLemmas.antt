@@ -6,10 +6,11 @@ use Rattle.std.proofs.lemmas.List.Elements.{All-nil, All-head, All-tail, All-app
 use Rattle.std.proofs.lemmas.List.Sums.{sum_by-cons, sum_by-append, get_or-le-sum_by}
 use Rattle.std.proofs.lemmas.Option.{slice_get_within, get_or_from_slice_get}
 use Rattle.std.specs.List.{flat_map}
+use Rattle.nomos_ir.specs.Naming.{AllDiffer}
 use Rattle.nomos_ir.specs.Order.{count_of}
 
 -- whether a number is this one, as a number
-abbrev one_at : ℕ → ℕ → ℕ
+abbrev pub one_at : ℕ → ℕ → ℕ
 one_at n k = cond (k == n) 1 0
 
 -- ---- elements
@@ -68,11 +69,11 @@ all-flat {X = X} P g (x ∷ xs) all =
 -- ---- counts
 
 -- the first counts where it is the number, and not where it is another one
-count-here : (n x : ℕ) (xs : List ℕ) → x ≡ n → count_of n (x ∷ xs) ≡ 1 + count_of n xs
+pub count-here : (n x : ℕ) (xs : List ℕ) → x ≡ n → count_of n (x ∷ xs) ≡ 1 + count_of n xs
 count-here n x xs same =
     sum_by-cons (one_at n) x xs ∙ ap (λ (t : Bool). cond t 1 0 + count_of n xs) (eq-eqb x n same)
 
-count-elsewhere : (n x : ℕ) (xs : List ℕ) → (x == n) ≡ false → count_of n (x ∷ xs) ≡ count_of n xs
+pub count-elsewhere : (n x : ℕ) (xs : List ℕ) → (x == n) ≡ false → count_of n (x ∷ xs) ≡ count_of n xs
 count-elsewhere n x xs other =
     sum_by-cons (one_at n) x xs ∙ ap (λ (t : Bool). cond t 1 0 + count_of n xs) other ∙ omega arith
 
@@ -123,6 +124,24 @@ one-place f n (x ∷ xs) p q p_is q_is once p_there q_there =
             one-place f n xs p q p_is q_is fewer p_further q_further
       ]
     ]
+
+once-at : (n x : ℕ) (xs : List ℕ) (t : Bool) → (x == n) ≡ t → AllDiffer (x ∷ xs) → count_of n xs ≤ 1 → count_of n (x ∷ xs) ≤ 1
+once-at n x xs true here differ rest =
+    let first : x ≡ n = eqb-true x n here in
+    elim (cases_lt 0 (count_of n xs)) [
+      | inl again ↦
+          let there = contained n xs again in
+          absurd (differ 0 (suc there.0) n (omega arith) (omega (arith, there.1)) (first ∙ sym there.2))
+      | inr never ↦ omega (arith, count-here n x xs first)
+    ]
+once-at n x xs false here differ rest = omega (arith, count-elsewhere n x xs here)
+
+-- of numbers that differ each occurs at most once
+pub differ-once : (n : ℕ) (xs : List ℕ) → AllDiffer xs → count_of n xs ≤ 1
+differ-once n [] differ = omega arith
+differ-once n (x ∷ xs) differ =
+    let others : AllDiffer xs = λ i j d before inside. differ (suc i) (suc j) d (omega arith) (omega arith) in
+    once-at n x xs (x == n) refl differ (differ-once n xs others)
 
 -- ---- lists of lists
 
