@@ -1,5 +1,5 @@
 -- What a row goes on with are judgements.
-use Rattle.std.proofs.Common.{◌≡◌, ◌≢◌, ◌-◌, ◌⊎◌, inl, inr, ℕ, ◌+◌, IsTrue, List, [], ◌∷◌, map, All, Contains, Option, Some, slice_get, subst, ap, sym, refl, arith}
+use Rattle.std.proofs.Common.{◌≡◌, ◌≢◌, ◌-◌, ◌⊎◌, inl, inr, ℕ, ◌+◌, IsTrue, List, [], ◌∷◌, All, Contains, Option, Some, slice_get, subst, ap, sym, refl, arith}
 use Rattle.std.proofs.lemmas.List.Elements.{All-nil, All-cons, All-contains}
 use Rattle.nomos_ir.specs.declared.code_node.Arm.{Arm}
 use Rattle.nomos_ir.specs.declared.code_node.Chan.{Chan}
@@ -123,9 +123,10 @@ module _ {lists : ProgramLists} (formed : IsWellFormed lists) where
   arms-keep : {j : Judgement} → (c : Chan) (branches : List Branch) → IsJudgement lists j → HasType lists j c (by_side c (node.With branches) (node.Plus branches)) → {arms : List Arm} {after : List Judgement} → ArmsGoOn j c branches arms after → All (IsJudgement lists) after
   arms-keep c branches h channel none = All-nil (IsJudgement lists)
   arms-keep {j} c branches h channel (arm {a = a} {after = after} t goes rest) =
-      let among : (m : Mode) → Contains {X = TypeId × Mode} (map (λ b. (b.goes, m)) branches) (t, m) = λ m. branch-among m branches a.label t goes in
+      let among = λ (m : Mode). branch-among m branches a.label t goes in
       let may : MayGoOn lists j c t = may-go_on h c (node.With branches) (node.Plus branches) t channel among among in
-      All-cons (IsJudgement lists) (goes_on j c t a.goes) after (gone-on h c t a.goes may) (arms-keep c branches h channel rest)
+      let others = arms-keep c branches h channel rest in
+      All-cons (IsJudgement lists) (goes_on j c t a.goes) after (gone-on h c t a.goes may) others
 
   -- the type of `self` has the mode of the process
   offers-mode : {j : Judgement} {s : TypeId} → IsJudgement lists j → channel_type j chan.Own ≡ Some s → HasMode lists s j.mode
@@ -137,36 +138,49 @@ module _ {lists : ProgramLists} (formed : IsWellFormed lists) where
   pub row-keeps_judgement : {x : Annotations} {j : Judgement} {after : List Judgement} → IsJudgement lists j → Row lists x j after → All (IsJudgement lists) after
   row-keeps_judgement {j = j} h (label {c = c} {l = l} {next = next} stands t says) =
       let bs = says.branches in
-      let among : (m : Mode) → Contains {X = TypeId × Mode} (map (λ b. (b.goes, m)) bs) (t, m) = λ m. branch-among m bs l t says.goes in
-      only (goes_on j c t next) (gone-on h c t next (may-go_on h c (node.Plus bs) (node.With bs) t says.channel among among))
+      let among = λ (m : Mode). branch-among m bs l t says.goes in
+      let may = may-go_on h c (node.Plus bs) (node.With bs) t says.channel among among in
+      only (goes_on j c t next) (gone-on h c t next may)
   row-keeps_judgement h (case {c = c} stands after says) = arms-keep c says.branches h says.channel says.each_arm
   row-keeps_judgement h (send {c = c} {next = next} stands left t says) =
-      let may = may-go_on h c (node.Tensor says.carried t) (node.Lolli says.carried t) t says.channel (λ m. (1, omega arith, refl)) (λ m. (1, omega arith, refl)) in
+      let own = node.Tensor says.carried t in
+      let client = node.Lolli says.carried t in
+      let may = may-go_on h c own client t says.channel (λ m. (1, omega arith, refl)) (λ m. (1, omega arith, refl)) in
       let after = passes-channel_left h says.passes in
       only (goes_on left c t next) (gone-on after.judgement c t next (left-goes_on after c t may))
   row-keeps_judgement {j = j} h (recv {c = c} {y = y} {next = next} stands m carried t says) =
       let own = node.Lolli carried t in
       let client = node.Tensor carried t in
       let may = may-go_on h c own client t says.channel (λ m. (1, omega arith, refl)) (λ m. (1, omega arith, refl)) in
-      let carried_at = carried-over h c own client carried m says.channel (λ m. (0, omega arith, refl)) (λ m. (0, omega arith, refl)) says.mode in
+      let carried_at =
+      carried-over h c own client carried m says.channel (λ m. (0, omega arith, refl)) (λ m. (0, omega arith, refl)) says.mode
+      in
       let after = goes_on j c t next in
       let free = free-gone_on h c says.channel.0 t next y says.channel.1 says.free in
       let comes = carried-comes after.mode m carried_at in
       only (binds_channel after y m carried) (channel-bound (gone-on h c t next may) y m carried free says.mode comes)
   row-keeps_judgement {j = j} h (put {c = c} {next = next} stands t says) =
-      let may = may-go_on h c (node.ValueOut says.kind t) (node.ValueIn says.kind t) t says.channel (λ m. (0, omega arith, refl)) (λ m. (0, omega arith, refl)) in
+      let own = node.ValueOut says.kind t in
+      let client = node.ValueIn says.kind t in
+      let may = may-go_on h c own client t says.channel (λ m. (0, omega arith, refl)) (λ m. (0, omega arith, refl)) in
       only (goes_on j c t next) (gone-on h c t next may)
   row-keeps_judgement {j = j} h (take {c = c} {v = v} {next = next} stands kind t says) =
-      let may = may-go_on h c (node.ValueIn kind t) (node.ValueOut kind t) t says.channel (λ m. (0, omega arith, refl)) (λ m. (0, omega arith, refl)) in
+      let own = node.ValueIn kind t in
+      let client = node.ValueOut kind t in
+      let may = may-go_on h c own client t says.channel (λ m. (0, omega arith, refl)) (λ m. (0, omega arith, refl)) in
       let free = free-gone_on h c says.channel.0 t next v says.channel.1 says.free in
       only (binds_value (goes_on j c t next) v kind) (value-bound (gone-on h c t next may) v kind free)
   row-keeps_judgement {x = x} {j = j} h (pay {c = c} {r = r} {next = next} stands t says) =
-      let may = may-go_on h c (node.PotOut says.amount t) (node.PotIn says.amount t) t says.channel (λ m. (0, omega arith, refl)) (λ m. (0, omega arith, refl)) in
+      let own = node.PotOut says.amount t in
+      let client = node.PotIn says.amount t in
+      let may = may-go_on h c own client t says.channel (λ m. (0, omega arith, refl)) (λ m. (0, omega arith, refl)) in
       let after = goes_on j c t next in
       let q = j.q - dths x r in
       only (with_potential after q) (moved (gone-on h c t next may) q after.code)
   row-keeps_judgement {x = x} {j = j} h (get {c = c} {r = r} {next = next} stands t says) =
-      let may = may-go_on h c (node.PotIn says.amount t) (node.PotOut says.amount t) t says.channel (λ m. (0, omega arith, refl)) (λ m. (0, omega arith, refl)) in
+      let own = node.PotIn says.amount t in
+      let client = node.PotOut says.amount t in
+      let may = may-go_on h c own client t says.channel (λ m. (0, omega arith, refl)) (λ m. (0, omega arith, refl)) in
       let after = goes_on j c t next in
       let q = j.q + dths x r in
       only (with_potential after q) (moved (gone-on h c t next may) q after.code)
@@ -185,29 +199,36 @@ module _ {lists : ProgramLists} (formed : IsWellFormed lists) where
   row-keeps_judgement {j = j} h (detach {next = next} stands t says) =
       let (s, found, unfolds) = says.channel in
       let its_mode = part-mode mode.S (offers-mode h found) unfolds (0, omega arith, refl) in
-      let held : All (λ b. MayBeHeld lists mode.S b.1) j.linear = λ k d inside. (mode.R, says.nothing_held k d inside, inl refl, refl) in
+      let held : All (λ b. MayBeHeld lists mode.S b.1) j.linear =
+      λ k d inside. (mode.R, says.nothing_held k d inside, inl refl, refl)
+      in
       only (record j { mode = mode.S; offers = t; code = next }) (moved (taken-over h mode.S t its_mode held) j.q next)
   row-keeps_judgement {j = j} h (acquire {a = a} {v = v} {next = next} stands t says) =
-      let shared = all-bound (λ (s : TypeId). HasMode lists s mode.S) a.0 says.own j.shared h.shared_modes says.reference in
+      let AtS : TypeId → Type 0 = λ s. HasMode lists s mode.S in
+      let shared = all-bound AtS a.0 says.own j.shared h.shared_modes says.reference in
       let its_mode = part-mode mode.L shared says.unfolds (0, omega arith, refl) in
       let comes = acquired-comes j.mode says.mode in
-      only (binds_channel (at_code j next) v mode.L t) (channel-bound (moved h j.q next) v mode.L t says.free its_mode comes)
+      let bound = channel-bound (moved h j.q next) v mode.L t says.free its_mode comes in
+      only (binds_channel (at_code j next) v mode.L t) bound
   row-keeps_judgement {j = j} h (release {v = v} {a = a} {next = next} stands t says) =
       let (s, found, unfolds) = says.channel in
       let held = (channel-held h v s found).1 in
       let its_mode = part-mode mode.S held.1 unfolds (0, omega arith, refl) in
       let after = at_code (gives_up j v) next in
       let free : IsFree after a = omega (arith, count-unbind a.0 v.0 j.linear h.linear, says.free) in
-      only (binds_channel after a mode.S t) (channel-bound (moved (linear-unbound h v.0) j.q next) a mode.S t free its_mode tt)
+      let there : IsJudgement lists after = moved (linear-unbound h v.0) j.q next in
+      only (binds_channel after a mode.S t) (channel-bound there a mode.S t free its_mode tt)
   row-keeps_judgement {x = x} {j = j} h (spawn {v = v} {f = f} {next = next} stands d left says) =
       let rest = arguments-left h says.arguments in
       let q = j.q - dths x d.amount in
       let after = with_potential (at_code left next) q in
       let free : IsFree after v = omega (arith, rest.parts v.0, says.free) in
-      let may : IsTrue (may_spawn left.mode d.mode) = subst (λ (m : Mode). IsTrue (may_spawn m d.mode)) (sym rest.mode) says.mode in
+      let MaySpawn : Mode → Type 0 = λ m. IsTrue (may_spawn m d.mode) in
+      let may : MaySpawn left.mode = subst MaySpawn (sym rest.mode) says.mode in
       let its_mode = offered-has_mode lists f.0 d says.declared in
       let comes = spawned-comes left.mode d.mode may in
-      only (binds_channel after v d.mode d.offers) (channel-bound (moved rest.judgement q next) v d.mode d.offers free its_mode comes)
+      let there : IsJudgement lists after = moved rest.judgement q next in
+      only (binds_channel after v d.mode d.offers) (channel-bound there v d.mode d.offers free its_mode comes)
   row-keeps_judgement {j = j} h («let» {v = v} {next = next} stands kind says free) =
       only (binds_value (at_code j next) v kind) (value-bound (moved h j.q next) v kind free)
   row-keeps_judgement {j = j} h (emit {next = next} stands kind says) = only (at_code j next) (moved h j.q next)
@@ -230,12 +251,13 @@ module _ {lists : ProgramLists} (formed : IsWellFormed lists) where
       let ended : Judgement = record (at_code j empty_next) { lists = unbind w.0 j.lists } in
       let after : Judgement = record (at_code j full_next) { lists = unbind w.0 j.lists } in
       let there : IsJudgement lists after = moved (list-unbound h w.0) j.q full_next in
-      let tail_free : IsFree after tail = omega (arith, count-unbind tail.0 w.0 j.lists h.lists_ascend, says.tail_free) in
+      let tail_kept = count-unbind tail.0 w.0 j.lists h.lists_ascend in
+      let tail_free : IsFree after tail = omega (arith, says.tail_free) in
       let with_tail : IsJudgement lists (binds_list after tail list) = list-bound there tail list tail_free in
       let other : head.0 ≢ tail.0 = λ same. says.differ (ap (λ (n : ℕ). let v : VarId = record { 0 = n } in v) same) in
-      let head_free : IsFree (binds_list after tail list) head =
-      omega (arith, count-other head.0 tail list (unbind w.0 j.lists) other, count-unbind head.0 w.0 j.lists h.lists_ascend, says.head_free)
-      in
+      let head_kept = count-unbind head.0 w.0 j.lists h.lists_ascend in
+      let head_other = count-other head.0 tail list (unbind w.0 j.lists) other in
+      let head_free : IsFree (binds_list after tail list) head = omega (arith, says.head_free) in
       let q = j.q + list.amount in
       let full : Judgement = with_potential (binds_value (binds_list after tail list) head list.kind) q in
       let full_there : IsJudgement lists full = moved (value-bound with_tail head list.kind head_free) q full_next in

@@ -1,5 +1,5 @@
--- What keeps a judgement a judgement: another instruction or potential, another type offered, a variable bound or unbound
--- in one of its maps.
+-- What keeps a judgement a judgement: another instruction or potential, another type offered, a variable bound or
+-- unbound in one of its maps.
 use Rattle.std.proofs.Common.{◌≡◌, ◌≢◌, ◌≤◌, inl, inr, ℕ, ◌+◌, IsTrue, List, All, Option, Some, None, subst, ap, sym, arith}
 use Rattle.std.proofs.lemmas.Bool.{cases_eq}
 use Rattle.nomos_ir.specs.declared.code_node.Chan.{Chan}
@@ -33,7 +33,8 @@ pub count-unbind : {X : Type 0} (w v : ℕ) (b : List (VarId × X)) → IsAscend
 count-unbind {X = X} w v b ascending =
     elim (cases_eq w v) [
       | inl same ↦
-          let none : bound_to w (unbind v b) ≡ None = subst (λ (u : ℕ). bound_to u (unbind v b) ≡ None) (sym same) (bound-after_unbind v b ascending) in
+          let IsUnbound : ℕ → Type 0 = λ u. bound_to u (unbind v b) ≡ None in
+          let none : IsUnbound w = subst IsUnbound (sym same) (bound-after_unbind v b ascending) in
           omega (arith, ap (λ (o : Option X). count_one o) none)
       | inr other ↦ omega (arith, ap (λ (o : Option X). count_one o) (bound-after_unbind_other w v b other))
     ]
@@ -92,7 +93,9 @@ module _ {lists : ProgramLists} {j : Judgement} (h : IsJudgement lists j) where
   linear-bound v t free held =
       let after : Judgement = record j { linear = bind v t j.linear } in
       let here : parts_with after v.0 ≤ 1 = omega (arith, count-bound v t j.linear) in
-      let others : (w : ℕ) → w ≢ v.0 → parts_with after w ≤ 1 = λ w other. omega (arith, count-other w v t j.linear other, h.apart w) in
+      let others : (w : ℕ) → w ≢ v.0 → parts_with after w ≤ 1 =
+      λ w other. omega (arith, count-other w v t j.linear other, h.apart w)
+      in
       record {
         kinds = h.kinds;
         lists_ascend = h.lists_ascend;
@@ -109,7 +112,9 @@ module _ {lists : ProgramLists} {j : Judgement} (h : IsJudgement lists j) where
   shared-bound v t free its_mode =
       let after : Judgement = record j { shared = bind v t j.shared } in
       let here : parts_with after v.0 ≤ 1 = omega (arith, count-bound v t j.shared) in
-      let others : (w : ℕ) → w ≢ v.0 → parts_with after w ≤ 1 = λ w other. omega (arith, count-other w v t j.shared other, h.apart w) in
+      let others : (w : ℕ) → w ≢ v.0 → parts_with after w ≤ 1 =
+      λ w other. omega (arith, count-other w v t j.shared other, h.apart w)
+      in
       record {
         kinds = h.kinds;
         lists_ascend = h.lists_ascend;
@@ -126,7 +131,9 @@ module _ {lists : ProgramLists} {j : Judgement} (h : IsJudgement lists j) where
   value-bound v kind free =
       let after : Judgement = binds_value j v kind in
       let here : parts_with after v.0 ≤ 1 = omega (arith, count-bound v kind j.kinds) in
-      let others : (w : ℕ) → w ≢ v.0 → parts_with after w ≤ 1 = λ w other. omega (arith, count-other w v kind j.kinds other, h.apart w) in
+      let others : (w : ℕ) → w ≢ v.0 → parts_with after w ≤ 1 =
+      λ w other. omega (arith, count-other w v kind j.kinds other, h.apart w)
+      in
       record {
         kinds = bind-ascending v kind j.kinds h.kinds;
         lists_ascend = h.lists_ascend;
@@ -143,7 +150,9 @@ module _ {lists : ProgramLists} {j : Judgement} (h : IsJudgement lists j) where
   list-bound v list free =
       let after : Judgement = binds_list j v list in
       let here : parts_with after v.0 ≤ 1 = omega (arith, count-bound v list j.lists) in
-      let others : (w : ℕ) → w ≢ v.0 → parts_with after w ≤ 1 = λ w other. omega (arith, count-other w v list j.lists other, h.apart w) in
+      let others : (w : ℕ) → w ≢ v.0 → parts_with after w ≤ 1 =
+      λ w other. omega (arith, count-other w v list j.lists other, h.apart w)
+      in
       record {
         kinds = h.kinds;
         lists_ascend = bind-ascending v list j.lists h.lists_ascend;

@@ -150,7 +150,8 @@ pub count-part : {X : Type 0} (g : X → List ℕ) (n : ℕ) (xs : List X) (i : 
 count-part g n [] i x found = absurd cc
 count-part g n (y ∷ xs) zero x found =
     let same : y ≡ x = cc in
-    let first : count_of n (g y) ≤ count_of n (flat_map g (y ∷ xs)) = omega (arith, count-append n (g y) (flat_map g xs)) in
+    let both = count-append n (g y) (flat_map g xs) in
+    let first : count_of n (g y) ≤ count_of n (flat_map g (y ∷ xs)) = omega arith in
     subst (λ z. count_of n (g z) ≤ count_of n (flat_map g (y ∷ xs))) same first
 count-part g n (y ∷ xs) (suc i) x found =
     omega (arith, count-append n (g y) (flat_map g xs), count-part g n xs i x found)

@@ -34,6 +34,7 @@ use Rattle.nomos_types.proofs.OccurrenceLemmas.{one_at, count-here, count-elsewh
 abbrev variables_of : {X : Type 0} → List (VarId × X) → List ℕ
 variables_of ps = map (λ e. e.0.0) ps
 
+-- a variable that is bound occurs, where the test of the first one is known
 bound-once_at : {X : Type 0} (v : ℕ) (e : VarId × X) (ps : List (VarId × X)) (t : Bool) → (e.0.0 == v) ≡ t → count_one (bound_to v ps) ≤ count_of v (variables_of ps) → count_one (cond t (Some e.1) (bound_to v ps)) ≤ count_of v (variables_of (e ∷ ps))
 bound-once_at v e ps true here rest = omega (arith, count-here v e.0.0 (variables_of ps) (eqb-true e.0.0 v here))
 bound-once_at v e ps false here rest = omega (arith, count-elsewhere v e.0.0 (variables_of ps) here)
@@ -51,6 +52,7 @@ map-occurs {X} v ps =
 -- ---- values and lists, references and other channels
 
 module _ (x : Annotations) (v : ℕ) where
+  -- one more parameter is a value or a list
   value-or_list : (var : VarId) (kind : Kind) (amount : Option Amount) (ks : List (VarId × Kind)) (ls : List (VarId × ListType)) (ns : List ℕ) → count_of v (variables_of ks) + count_of v (variables_of ls) ≡ count_of v ns → count_of v (variables_of (value_par var kind amount ++ ks)) + count_of v (variables_of (list_par x var kind amount ++ ls)) ≡ count_of v (var.0 ∷ ns)
   value-or_list var kind None ks ls ns rest =
       omega (arith, sum_by-cons (one_at v) var.0 (variables_of ks), sum_by-cons (one_at v) var.0 ns)
@@ -66,6 +68,7 @@ module _ (x : Annotations) (v : ℕ) where
       value-or_list par.var par.kind par.amount ks ls (map (λ (q : Par). q.var.0) pars) (values-and_lists pars)
 
 module _ (p : VarId × TypeId → Bool) (v : ℕ) where
+  -- one more channel passes or does not
   passing-or_not : (e : VarId × TypeId) (ks ls : List (VarId × TypeId)) (ns : List ℕ) (t : Bool) → count_of v (variables_of ks) + count_of v (variables_of ls) ≡ count_of v ns → count_of v (variables_of (cond t (e ∷ ks) ks)) + count_of v (variables_of (cond (not t) (e ∷ ls) ls)) ≡ count_of v (e.0.0 ∷ ns)
   passing-or_not e ks ls ns true rest =
       omega (arith, sum_by-cons (one_at v) e.0.0 (variables_of ks), sum_by-cons (one_at v) e.0.0 ns)
@@ -129,13 +132,15 @@ start-is_judgement {lists = lists} {d = d} x p formed found =
     let is_used_once : VarId × TypeId → Bool = λ par. not (is_shared lists par) in
     let HasItsMode : VarId × TypeId → Type 0 = λ par. HasMode lists par.1 (parameter_mode lists par.1) in
     let IsHeld : VarId × TypeId → Type 0 = λ par. IsTrue (may_hold d.mode (parameter_mode lists par.1)) in
-    let differ = All-at (λ (e : ProcDecl). AllDiffer (proc_parameters e)) lists.procs p d formed.program.parameters.procs found in
+    let Differ : ProcDecl → Type 0 = λ e. AllDiffer (proc_parameters e) in
+    let differ = All-at Differ lists.procs p d formed.program.parameters.procs found in
     let have_modes : All HasItsMode d.channels =
     λ k e inside.
     let par = get_or d.channels k e in
     parameter-has_mode lists p d par.0 par.1 found (Contains-get_or d.channels k e inside)
     in
-    let held : All IsHeld d.channels = All-at (λ (e : ProcDecl). All (λ par. IsTrue (may_hold e.mode (parameter_mode lists par.1))) e.channels) lists.procs p d formed.modes.held found in
+    let MayHold : ProcDecl → Type 0 = λ e. All (λ par. IsTrue (may_hold e.mode (parameter_mode lists par.1))) e.channels in
+    let held : All IsHeld d.channels = All-at MayHold lists.procs p d formed.modes.held found in
     let references_have = All-filter is_reference HasItsMode d.channels have_modes in
     let references_are = filter_passes is_reference d.channels in
     let used_have = All-filter is_used_once HasItsMode d.channels have_modes in
@@ -153,13 +158,15 @@ start-is_judgement {lists = lists} {d = d} x p formed found =
     let linear = parameter-linear (head_mode lists (type_node lists par.1.0)) (used_are k e inside) in
     (parameter_mode lists par.1, used_have k e inside, linear, used_held k e inside)
     in
+    let AtS : TypeId → Type 0 = λ t. HasMode lists t mode.S in
+    let values = flat_map (λ (par : Par). value_par par.var par.kind par.amount) d.values in
     record {
-      kinds = bindings_of-ascending (payer_kinds d.me ++ flat_map (λ par. value_par par.var par.kind par.amount) d.values);
+      kinds = bindings_of-ascending (payer_kinds d.me ++ values);
       lists_ascend = bindings_of-ascending (flat_map (λ par. list_par x par.var par.kind par.amount) d.values);
       shared = bindings_of-ascending (filter is_reference d.channels);
       linear = bindings_of-ascending (filter is_used_once d.channels);
       apart = λ v. start-apart lists x d v differ;
-      shared_modes = all-in_bindings_of (λ (t : TypeId). HasMode lists t mode.S) (filter is_reference d.channels) references_at_s;
+      shared_modes = all-in_bindings_of AtS (filter is_reference d.channels) references_at_s;
       linear_modes = all-in_bindings_of (MayBeHeld lists d.mode) (filter is_used_once d.channels) used_may;
       offers = offered-has_mode lists p d found;
     }
