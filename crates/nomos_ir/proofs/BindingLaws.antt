@@ -25,6 +25,7 @@ module _ {X : Type 0} (v : VarId) (x : X) (e : VarId × X) (b : List (VarId × X
   abbrev placed : Ordering → List (VarId × X)
   placed o = match_ordering o ((v, x) ∷ e ∷ b) ((e.0, x) ∷ b) (e ∷ bind v x b)
 
+  -- the variable is bound to x there
   placed-bound : (o : Ordering) → o ≡ by_number v e.0 → bound_to v.0 (bind v x b) ≡ Some x → bound_to v.0 (placed o) ≡ Some x
   placed-bound Less order rest = bound-first v.0 (v, x) (e ∷ b) refl
   placed-bound Equal order rest = bound-first v.0 (e.0, x) b (sym (ranked v.0 e.0.0 Equal order))
@@ -32,6 +33,7 @@ module _ {X : Type 0} (v : VarId) (x : X) (e : VarId × X) (b : List (VarId × X
       let above : e.0.0 < v.0 = ranked v.0 e.0.0 Greater order in
       bound-further v.0 e (bind v x b) (omega arith) ∙ rest
 
+  -- each other variable is bound to what it was bound to
   placed-other : (w : ℕ) (o : Ordering) → w ≢ v.0 → o ≡ by_number v e.0 → bound_to w (bind v x b) ≡ bound_to w b → bound_to w (placed o) ≡ bound_to w (e ∷ b)
   placed-other w Less other order rest = bound-further w (v, x) (e ∷ b) (λ same. other (sym same))
   placed-other w Equal other order rest =
@@ -40,6 +42,7 @@ module _ {X : Type 0} (v : VarId) (x : X) (e : VarId × X) (b : List (VarId × X
       bound-further w (e.0, x) b elsewhere ∙ sym (bound-further w e b elsewhere)
   placed-other w Greater other order rest = ap (λ r. cond (e.0.0 == w) (Some e.1) r) rest
 
+  -- what holds of all that was bound, and of x, holds of all that is bound there
   placed-all : (P : X → Type 0) (o : Ordering) → All (λ p. P p.1) (e ∷ b) → P x → All (λ p. P p.1) (bind v x b) → All (λ p. P p.1) (placed o)
   placed-all P Less all here rest = All-cons (λ p. P p.1) (v, x) (e ∷ b) here all
   placed-all P Equal all here rest = All-cons (λ p. P p.1) (e.0, x) b here (All-tail (λ p. P p.1) e b all)
@@ -65,6 +68,7 @@ ascending-cons : {X : Type 0} (e : VarId × X) (b : List (VarId × X)) → AllAb
 unfolding IsStrictlySortedBy
 ascending-cons e b above ascending = (above, ascending)
 
+-- nothing bound is a map
 ascending-nil : (X : Type 0) → IsAscending {X = X} []
 unfolding IsStrictlySortedBy
 ascending-nil X = tt
@@ -86,6 +90,7 @@ above-unbound v w (e ∷ b) same above =
 abbrev dropped : {X : Type 0} → ℕ → VarId × X → List (VarId × X) → Bool → List (VarId × X)
 dropped v e b t = cond t b (e ∷ unbind v b)
 
+-- a variable that was unbound is bound to nothing, where the test of the first variable is known
 dropped-unbound : {X : Type 0} (v : ℕ) (e : VarId × X) (b : List (VarId × X)) (t : Bool) → (e.0.0 == v) ≡ t → AllAbove e.0 b → bound_to v (unbind v b) ≡ None → bound_to v (dropped v e b t) ≡ None
 dropped-unbound v e b true here above rest = above-unbound e.0 v b (sym (eqb-true e.0.0 v here)) above
 dropped-unbound v e b false here above rest = bound-further v e (unbind v b) (eqb-false e.0.0 v here) ∙ rest
@@ -97,6 +102,7 @@ bound-after_unbind v (e ∷ b) ascending =
     let rest = bound-after_unbind v b (sorted_tail by_number e.0 (keys_of b) ascending) in
     dropped-unbound v e b (e.0.0 == v) refl (sorted_head by_number e.0 (keys_of b) ascending) rest
 
+-- each other variable is bound to the same, where the test of the first variable is known
 dropped-other : {X : Type 0} (w v : ℕ) (e : VarId × X) (b : List (VarId × X)) (t : Bool) → w ≢ v → (e.0.0 == v) ≡ t → bound_to w (unbind v b) ≡ bound_to w b → bound_to w (dropped v e b t) ≡ bound_to w (e ∷ b)
 dropped-other w v e b true other here rest =
     let same : e.0.0 ≡ v = eqb-true e.0.0 v here in
@@ -109,6 +115,7 @@ bound-after_unbind_other w v [] other = refl
 bound-after_unbind_other w v (e ∷ b) other =
     dropped-other w v e b (e.0.0 == v) other refl (bound-after_unbind_other w v b other)
 
+-- what is above a lower variable stays so when the variable is bound
 placed-above : {X : Type 0} (k v : VarId) (x : X) (e : VarId × X) (b : List (VarId × X)) (o : Ordering) → by_number k v ≡ Less → AllAbove k (e ∷ b) → AllAbove k (bind v x b) → AllAbove k (placed v x e b o)
 placed-above k v x e b Less lower above rest = (lower, above)
 placed-above k v x e b Equal lower above rest = above
@@ -119,6 +126,7 @@ bind-above k v x [] lower above = (lower, tt)
 bind-above k v x (e ∷ b) lower above =
     placed-above k v x e b (by_number v e.0) lower above (bind-above k v x b lower above.1)
 
+-- a map stays a map, by where the variable stands beside the first one
 placed-ascending : {X : Type 0} (v : VarId) (x : X) (e : VarId × X) (b : List (VarId × X)) (o : Ordering) → o ≡ by_number v e.0 → IsAscending (e ∷ b) → IsAscending (bind v x b) → IsAscending (placed v x e b o)
 placed-ascending v x e b Less order ascending rest =
     let above : AllAbove e.0 b = sorted_head by_number e.0 (keys_of b) ascending in
@@ -136,6 +144,7 @@ bind-ascending v x (e ∷ b) ascending =
     let rest = bind-ascending v x b (sorted_tail by_number e.0 (keys_of b) ascending) in
     placed-ascending v x e b (by_number v e.0) refl ascending rest
 
+-- what is above a variable stays so when some other one is unbound
 dropped-above : {X : Type 0} (k : VarId) (v : ℕ) (e : VarId × X) (b : List (VarId × X)) (t : Bool) → AllAbove k (e ∷ b) → AllAbove k (unbind v b) → AllAbove k (dropped v e b t)
 dropped-above k v e b true above rest = above.1
 dropped-above k v e b false above rest = (above.0, rest)
@@ -144,6 +153,7 @@ unbind-above : {X : Type 0} (k : VarId) (v : ℕ) (b : List (VarId × X)) → Al
 unbind-above k v [] above = tt
 unbind-above k v (e ∷ b) above = dropped-above k v e b (e.0.0 == v) above (unbind-above k v b above.1)
 
+-- a map stays a map, where the test of the first variable is known
 dropped-ascending : {X : Type 0} (v : ℕ) (e : VarId × X) (b : List (VarId × X)) (t : Bool) → IsAscending (e ∷ b) → IsAscending (unbind v b) → IsAscending (dropped v e b t)
 dropped-ascending v e b true ascending rest = sorted_tail by_number e.0 (keys_of b) ascending
 dropped-ascending v e b false ascending rest =
@@ -161,10 +171,12 @@ pub bindings_of-ascending : {X : Type 0} (ps : List (VarId × X)) → IsAscendin
 bindings_of-ascending {X = X} [] = ascending-nil X
 bindings_of-ascending (p ∷ ps) = bind-ascending p.0 p.1 (bindings_of ps) (bindings_of-ascending ps)
 
+-- the pairs and their map bind alike, where the test of the first variable is known
 bound-in_first : {X : Type 0} (v : ℕ) (p : VarId × X) (ps : List (VarId × X)) (t : Bool) → (p.0.0 == v) ≡ t → bound_to v (bindings_of ps) ≡ bound_to v ps → bound_to v (bind p.0 p.1 (bindings_of ps)) ≡ cond t (Some p.1) (bound_to v ps)
 bound-in_first v p ps true here rest =
     let same : p.0.0 ≡ v = eqb-true p.0.0 v here in
-    subst (λ (w : ℕ). bound_to w (bind p.0 p.1 (bindings_of ps)) ≡ Some p.1) same (bound-after_bind p.0 p.1 (bindings_of ps))
+    let others = bindings_of ps in
+    subst (λ (w : ℕ). bound_to w (bind p.0 p.1 others) ≡ Some p.1) same (bound-after_bind p.0 p.1 others)
 bound-in_first v p ps false here rest =
     let other : p.0.0 ≢ v = eqb-false p.0.0 v here in
     bound-after_bind_other v p.0 p.1 (bindings_of ps) (λ same. other (sym same)) ∙ rest
@@ -181,6 +193,7 @@ all-after_bind P v x (e ∷ b) all here =
     let rest = all-after_bind P v x b (All-tail (λ p. P p.1) e b all) here in
     placed-all v x e b P (by_number v e.0) all here rest
 
+-- what holds of all that is bound still holds, where the test of the first variable is known
 dropped-all : {X : Type 0} (P : X → Type 0) (v : ℕ) (e : VarId × X) (b : List (VarId × X)) (t : Bool) → All (λ p. P p.1) (e ∷ b) → All (λ p. P p.1) (unbind v b) → All (λ p. P p.1) (dropped v e b t)
 dropped-all P v e b true all rest = All-tail (λ p. P p.1) e b all
 dropped-all P v e b false all rest = All-cons (λ p. P p.1) e (unbind v b) (All-head (λ p. P p.1) e b all) rest
@@ -221,6 +234,7 @@ module _ {X : Type 0} (e f : VarId × X) (a b : List (VarId × X)) (e_first : Al
       let pair : ℕ → X → VarId × X = λ n x. (record { 0 = n }, x) in
       ap₂ pair variable value
 
+  -- the others bind each variable to the same, where the test of the first variable is known
   tails-at : (v : ℕ) (t : Bool) → e.0.0 ≡ f.0.0 → (e.0.0 == v) ≡ t → bound_to v a ≡ bound_to v b
   tails-at v true variable here =
       let found : e.0.0 ≡ v = eqb-true e.0.0 v here in
@@ -252,8 +266,10 @@ ascending-same (e ∷ a) (f ∷ b) a_ascending b_ascending same =
     let e_first : AllAbove e.0 a = sorted_head by_number e.0 (keys_of a) a_ascending in
     let f_first : AllAbove f.0 b = sorted_head by_number f.0 (keys_of b) b_ascending in
     let variable : e.0.0 ≡ f.0.0 = first-same e f a b (by_number e.0 f.0) refl e_first f_first same in
-    let rest : a ≡ b =
-    ascending-same a b (sorted_tail by_number e.0 (keys_of a) a_ascending) (sorted_tail by_number f.0 (keys_of b) b_ascending)
-    (λ v. tails-at e f a b e_first f_first same v (e.0.0 == v) variable refl)
+    let a_rest = sorted_tail by_number e.0 (keys_of a) a_ascending in
+    let b_rest = sorted_tail by_number f.0 (keys_of b) b_ascending in
+    let rest_same : (v : ℕ) → bound_to v a ≡ bound_to v b =
+    λ v. tails-at e f a b e_first f_first same v (e.0.0 == v) variable refl
     in
+    let rest : a ≡ b = ascending-same a b a_rest b_rest rest_same in
     ap₂ ◌∷◌ (same_first e f a b e_first f_first same variable) rest

@@ -90,6 +90,7 @@ alike_channels-bound v a none found = absurd cc
 alike_channels-bound v a (channel w b c cs ds types rest) found =
     bound-at a (bound_to v cs) (bound_to v ds) (w.0 == v) types (alike_channels-bound v a rest) found
 
+-- the same of what is bound to nothing
 free-at : (b c : TypeId) (o r : Option TypeId) (t : Bool) → (o ≡ None → r ≡ None) → cond t (Some b) o ≡ None → cond t (Some c) r ≡ None
 free-at b c o r true rest free = absurd cc
 free-at b c o r false rest free = rest free
@@ -113,6 +114,7 @@ alike_channels-bind {a = a} {b = b} v none types = channel v a b [] [] types non
 alike_channels-bind {a = a} {b = b} v (channel w c d cs ds first rest) types =
     placed-alike v w a b c d cs ds types first rest (by_number v w) (alike_channels-bind v rest types)
 
+-- the same, where the test of the first variable is known
 dropped-alike : {lists : ProgramLists} {x : Annotations} → (v : ℕ) (w : VarId) (c d : TypeId) (cs ds : List (VarId × TypeId)) (t : Bool) → AlikeTypes lists x c d → AlikeChannels lists x cs ds → AlikeChannels lists x (unbind v cs) (unbind v ds) → AlikeChannels lists x (cond t cs ((w, c) ∷ unbind v cs)) (cond t ds ((w, d) ∷ unbind v ds))
 dropped-alike v w c d cs ds true first others rest = others
 dropped-alike v w c d cs ds false first others rest = channel w c d (unbind v cs) (unbind v ds) first rest
@@ -136,7 +138,8 @@ alike-same {lists = lists} {j = j} x is_program contractive is_judgement =
       mode = refl;
       kinds = refl;
       same_lists = refl;
-      shared = alike_channels-same x j.shared is_program contractive (λ k d inside. (mode.S, is_judgement.shared_modes k d inside));
+      shared = alike_channels-same x j.shared is_program contractive
+          (λ k d inside. (mode.S, is_judgement.shared_modes k d inside));
       linear = alike_channels-same x j.linear is_program contractive
           (λ k d inside. let there = is_judgement.linear_modes k d inside in (there.0, there.1));
       q = refl;
@@ -175,23 +178,26 @@ alike-through is_program first second =
 -- ---- unfolding
 
 -- the modes at which something is carried
-abbrev IsCarriedMode : Mode → Type 0
+abbrev pub IsCarriedMode : Mode → Type 0
 IsCarriedMode k = (k ≡ mode.S) ⊎ (k ≡ mode.R)
 
+-- as what something is carried is such a mode
 as_carried-is_carried : (o : Option Mode) → IsCarriedMode (as_carried o)
 as_carried-is_carried (Some mode.S) = inl refl
 as_carried-is_carried o = inr refl
 
-carried-is_carried : (lists : ProgramLists) (m : Mode) (a : TypeId) → IsCarriedMode (carried_mode lists m a)
+-- so is the mode of what is carried
+pub carried-is_carried : (lists : ProgramLists) (m : Mode) (a : TypeId) → IsCarriedMode (carried_mode lists m a)
 carried-is_carried lists mode.R a = inr refl
 carried-is_carried lists m a = as_carried-is_carried (head_mode lists (type_node lists a.0))
 
--- what stands at R or T, or at R or L, and is carried stands at R
+-- what stands at R or T and is carried stands at R
 end-carried : (k : Mode) → (k ≡ mode.R) ⊎ (k ≡ mode.T) → IsCarriedMode k → k ≡ mode.R
 end-carried k (inl at_r) carried = at_r
 end-carried k (inr at_t) (inl at_s) = absurd cc
 end-carried k (inr at_t) (inr at_r) = at_r
 
+-- the same at R or L
 linear-carried : (k : Mode) → IsLinearMode k → IsCarriedMode k → k ≡ mode.R
 linear-carried k (inl at_r) carried = at_r
 linear-carried k (inr at_l) (inl at_s) = absurd cc
@@ -220,6 +226,7 @@ heads-modes lists k i (down _ _ _) a b c d = absurd (down-carried k a c)
 alike-at : {lists : ProgramLists} {a b : TypeId} {k : Mode} → (x : Annotations) → EqualTypes lists x a b → HasMode lists a k → HasMode lists b k → AlikeTypes lists x a b
 alike-at {k = k} x equal left right = record { equal = equal; mode = k; left_mode = left; right_mode = right }
 
+-- the same of what stands after a label in two choices
 both-alike : {lists : ProgramLists} {x : Annotations} {o r : Option TypeId} → (k : Mode) → ((a : TypeId) → o ≡ Some a → HasMode lists a k) → ((b : TypeId) → r ≡ Some b → HasMode lists b k) → BothOrNeither (EqualTypes lists x) o r → BothOrNeither (AlikeTypes lists x) o r
 both-alike {x = x} k left right (both a b equal) = both a b (alike-at x equal (left a refl) (right b refl))
 both-alike k left right neither = neither
@@ -248,7 +255,9 @@ module _ {lists : ProgramLists} (x : Annotations) (is_program : IsProgram lists)
   -- equal parts that stand at the same mode are alike
   part-alike : {t u a b : TypeId} {m : Mode} {p q : TypeNode} → (k : Mode) → HasMode lists t m → HasMode lists u m → Unfolds lists t.0 p → Unfolds lists u.0 q → Contains (part_modes lists m p) (a, k) → Contains (part_modes lists m q) (b, k) → EqualTypes lists x a b → AlikeTypes lists x a b
   part-alike k t_mode u_mode left right a_among b_among equal =
-      alike-at x equal (part-has_mode {k = k} is_program contractive obeys t_mode left a_among) (part-has_mode {k = k} is_program contractive obeys u_mode right b_among)
+      alike-at x equal
+      (part-has_mode {k = k} is_program contractive obeys t_mode left a_among)
+      (part-has_mode {k = k} is_program contractive obeys u_mode right b_among)
 
   -- the same of parts that are carried
   carried-part : {t u a b : TypeId} {m : Mode} {p q : TypeNode} → HasMode lists t m → HasMode lists u m → Unfolds lists t.0 p → Unfolds lists u.0 q → Contains (part_modes lists m p) (a, carried_mode lists m a) → Contains (part_modes lists m q) (b, carried_mode lists m b) → EqualTypes lists x a b → AlikeTypes lists x a b
@@ -294,5 +303,7 @@ pub alike_types-unfolded : {lists : ProgramLists} {x : Annotations} {t u : TypeI
 alike_types-unfolded {lists = lists} {x = x} {t = t} {u = u} {p = p} {q = q} is_program contractive obeys alike left right =
     let unfolded = equal-unfolded lists x t u p alike.equal left in
     let same : unfolded.0 ≡ q = Unfolds-unique lists u.0 unfolded.0 q unfolded.1 right in
-    let heads : SameHead x (EqualTypes lists x) p q = subst (λ (n : TypeNode). SameHead x (EqualTypes lists x) p n) same unfolded.2 in
+    let heads : SameHead x (EqualTypes lists x) p q =
+    subst (λ (n : TypeNode). SameHead x (EqualTypes lists x) p n) same unfolded.2
+    in
     heads-alike x is_program contractive obeys alike.mode alike.left_mode alike.right_mode left right heads

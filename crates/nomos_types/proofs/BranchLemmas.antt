@@ -17,5 +17,6 @@ first-branch P b others t false here rest found = rest found
 pub goes-all : (P : TypeId → Type 0) (branches : List Branch) (l : Label) (t : TypeId) → All (λ b. P b.goes) branches → goes_by branches l ≡ Some t → P t
 goes-all P [] l t all found = absurd cc
 goes-all P (b ∷ branches) l t all found =
-    first-branch P b (find (λ c. c.label.0 == l.0) branches) t (b.label.0 == l.0) (All-head (λ c. P c.goes) b branches all)
-    (goes-all P branches l t (All-tail (λ c. P c.goes) b branches all)) found
+    let others = find (λ (c : Branch). c.label.0 == l.0) branches in
+    let rest = goes-all P branches l t (All-tail (λ c. P c.goes) b branches all) in
+    first-branch P b others t (b.label.0 == l.0) (All-head (λ c. P c.goes) b branches all) rest found

@@ -24,6 +24,7 @@ use Rattle.nomos_types.proofs.Nodes.{type_node-in_range, named-below, element-th
 
 -- ---- both or neither
 
+-- what is related stays so under a wider relation; relations go back and through
 both-map : {X : Type 0} {R S : X → X → Type 0} {o r : Option X} → ((a b : X) → R a b → S a b) → BothOrNeither R o r → BothOrNeither S o r
 both-map wider (both a b related) = both a b (wider a b related)
 both-map wider neither = neither
@@ -36,6 +37,7 @@ both-through : {X : Type 0} {R : X → X → Type 0} {o r s : Option X} → ((a 
 both-through through (both a b first) (both _ c second) = both a c (through a b c first second)
 both-through through neither neither = neither
 
+-- two that are there are related
 both-related : {X : Type 0} {R : X → X → Type 0} {a b : X} → BothOrNeither R (Some a) (Some b) → R a b
 both-related (both _ _ related) = related
 
@@ -46,6 +48,7 @@ both-every R (Some a) None every = elim (every 0) [ ]
 both-every R None (Some b) every = elim (every 0) [ ]
 both-every R None None every = neither
 
+-- what is related to itself where it is there
 both-same : {X : Type 0} (R : X → X → Type 0) (o : Option X) → ((a : X) → o ≡ Some a → R a a) → BothOrNeither R o o
 both-same R (Some a) same = both a a (same a refl)
 both-same R None same = neither
@@ -70,6 +73,7 @@ same_head-change amounts wider (down a b h) = down a b (wider a b h)
 pub same_head-map : {x : Annotations} {R S : TypeId → TypeId → Type 0} {p q : TypeNode} → ((a b : TypeId) → R a b → S a b) → SameHead x R p q → SameHead x S p q
 same_head-map wider same = same_head-change (λ q r e. e) wider same
 
+-- heads go back
 same_head-back : {x : Annotations} {R S : TypeId → TypeId → Type 0} {p q : TypeNode} → ((a b : TypeId) → R a b → S b a) → SameHead x R p q → SameHead x S q p
 same_head-back back one = one
 same_head-back back (plus bs cs same) = plus cs bs (λ l. both-back back (same l))
@@ -83,12 +87,17 @@ same_head-back back (pot_in q r a b e h) = pot_in r q b a (sym e) (back a b h)
 same_head-back back (up a b h) = up b a (back a b h)
 same_head-back back (down a b h) = down b a (back a b h)
 
+-- heads go through
 same_head-through : {x : Annotations} {R : TypeId → TypeId → Type 0} {p q r : TypeNode} → ((a b c : TypeId) → R a b → R b c → R a c) → SameHead x R p q → SameHead x R q r → SameHead x R p r
 same_head-through through one one = one
-same_head-through through (plus bs cs same) (plus _ ds same2) = plus bs ds (λ l. both-through through (same l) (same2 l))
-same_head-through through (with bs cs same) (with _ ds same2) = with bs ds (λ l. both-through through (same l) (same2 l))
-same_head-through through (tensor a b c d h k) (tensor _ _ e f i j) = tensor a b e f (through a c e h i) (through b d f k j)
-same_head-through through (lolli a b c d h k) (lolli _ _ e f i j) = lolli a b e f (through a c e h i) (through b d f k j)
+same_head-through through (plus bs cs same) (plus _ ds same2) =
+    plus bs ds (λ l. both-through through (same l) (same2 l))
+same_head-through through (with bs cs same) (with _ ds same2) =
+    with bs ds (λ l. both-through through (same l) (same2 l))
+same_head-through through (tensor a b c d h k) (tensor _ _ e f i j) =
+    tensor a b e f (through a c e h i) (through b d f k j)
+same_head-through through (lolli a b c d h k) (lolli _ _ e f i j) =
+    lolli a b e f (through a c e h i) (through b d f k j)
 same_head-through through (value_out kind a b h) (value_out _ _ c i) = value_out kind a c (through a b c h i)
 same_head-through through (value_in kind a b h) (value_in _ _ c i) = value_in kind a c (through a b c h i)
 same_head-through through (pot_out q r a b e h) (pot_out _ s _ c f i) = pot_out q s a c (e ∙ f) (through a b c h i)
@@ -210,6 +219,7 @@ type-unfolds lists t is_program contractive inside =
     let there = type_node-there lists t inside in
     node-unfolds lists t there.0 is_program contractive there.1
 
+-- a type agrees with itself to every depth
 agree-same : (lists : ProgramLists) (x : Annotations) (n : ℕ) (t : TypeId) → IsProgram lists → IsContractive lists → t.0 < length lists.types → Agree lists x n t t
 agree-same lists x zero t is_program contractive inside = tt
 agree-same lists x (suc n) t is_program contractive inside =
@@ -231,6 +241,7 @@ equal-same lists x t is_program contractive inside = λ n. agree-same lists x n 
 
 -- ---- back and through
 
+-- agreement to a depth goes back
 agree-back : (lists : ProgramLists) (x : Annotations) (n : ℕ) (a b : TypeId) → Agree lists x n a b → Agree lists x n b a
 agree-back lists x zero a b agree = tt
 agree-back lists x (suc n) a b agree =
@@ -254,10 +265,11 @@ head-at {lists = lists} {x = x} {R = R} {a = a} {b = b} {p = p} {q = q} u left r
     let at_left : SameHead x R p u.right = subst (λ (m : TypeNode). SameHead x R m u.right) same_left u.same in
     subst (λ (m : TypeNode). SameHead x R p m) same_right at_left
 
+-- agreement to a depth goes through
 agree-through : (lists : ProgramLists) (x : Annotations) (n : ℕ) (a b c : TypeId) → Agree lists x n a b → Agree lists x n b c → Agree lists x n a c
 agree-through lists x zero a b c first second = tt
 agree-through lists x (suc n) a b c first second =
-    let same : SameHead x (Agree lists x n) first.right second.right = head-at second first.right_unfolds second.right_unfolds in
+    let same = head-at second first.right_unfolds second.right_unfolds in
     record {
       left = first.left;
       right = second.right;
@@ -281,6 +293,7 @@ equal-unfolded lists x a b p equal unfolds =
     let every : (n : ℕ) → SameHead x (Agree lists x n) p q = λ n. head-at (equal (suc n)) unfolds first.right_unfolds in
     (q, first.right_unfolds, same_head-every (λ n. Agree lists x n) here every)
 
+-- types that unfold to the same head with equal parts agree to every depth
 agree-from_unfolded : (lists : ProgramLists) (x : Annotations) (n : ℕ) (a b : TypeId) (p q : TypeNode) → Unfolds lists a.0 p → Unfolds lists b.0 q → SameHead x (EqualTypes lists x) p q → Agree lists x n a b
 agree-from_unfolded lists x zero a b p q left right same = tt
 agree-from_unfolded lists x (suc n) a b p q left right same =
@@ -297,6 +310,7 @@ no_dths : (q : Amount) → dths no_amounts q ≡ 0
 no_dths (amount.Written units) = mul-zero units
 no_dths (amount.Star star) = refl
 
+-- types that agree to a depth agree to it where amounts are ignored
 agree-shapes : (lists : ProgramLists) (x : Annotations) (n : ℕ) (a b : TypeId) → Agree lists x n a b → Agree lists no_amounts n a b
 agree-shapes lists x zero a b agree = tt
 agree-shapes lists x (suc n) a b agree =

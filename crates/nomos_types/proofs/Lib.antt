@@ -1,4 +1,5 @@
 pub mod AlikeLaws
+pub mod ArgumentsLaws
 pub mod BranchLemmas
 pub mod Covering
 pub mod CoveringRows
@@ -8,6 +9,8 @@ pub mod EqualityLaws
 pub mod Examples
 pub mod FollowingLaws
 pub mod HeadLaws
+pub mod JudgementLaws
+pub mod JudgementParts
 pub mod ListLemmas
 pub mod ModeLaws
 pub mod ModeSettingLemmas
@@ -17,4 +20,5 @@ pub mod OccurrenceLemmas
 pub mod RowLaws
 pub mod RowLemmas
 pub mod StandsLemmas
+pub mod StartLaws
 pub mod UniqueRows

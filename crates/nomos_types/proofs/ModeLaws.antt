@@ -18,7 +18,6 @@ use Rattle.nomos_ir.specs.declared.type_node.TypeAt.{TypeAt}
 use Rattle.nomos_ir.specs.declared.type_node.TypeNode.{TypeNode}
 use Rattle.nomos_ir.specs.declared.type_node.TypeNode.TheVariants as node
 use Rattle.nomos_ir.proofs.NodeLaws.{type_node-at}
-use Rattle.nomos_ir.specs.Ids.{AllBelow}
 use Rattle.nomos_ir.specs.Nodes.{type_node}
 use Rattle.nomos_ir.specs.Order.{count_of, type_places}
 use Rattle.nomos_ir.specs.Program.{IsProgram}
@@ -41,6 +40,7 @@ map-twice : {X Y Z : Type 0} (f : Y → Z) (g : X → Y) (xs : List X) → map f
 map-twice f g [] = refl
 map-twice f g (x ∷ xs) = ap (λ ys. f (g x) ∷ ys) (map-twice f g xs)
 
+-- the same over the lists of many items
 map-flat : {X Y Z W : Type 0} (f : Y → Z) (g : W → Y) (h : X → List W) (xs : List X) → map f (flat_map (λ x. map g (h x)) xs) ≡ flat_map (λ x. map (λ w. f (g w)) (h x)) xs
 map-flat f g h [] = refl
 map-flat f g h (x ∷ xs) =
@@ -56,6 +56,7 @@ channel_places lists = flat_map (λ d. map (λ par. par.1.0) d.channels) lists.p
 abbrev offer_places : ProgramLists → List ℕ
 offer_places lists = map (λ d. d.offers.0) lists.procs
 
+-- the parts of a node beside its offset
 abbrev node_parts : TypeAt → List ℕ
 node_parts at = type_parts at.node
 
@@ -102,7 +103,7 @@ stands-once lists t is_program inside =
     let before_channels = count-append t defs parts in
     let wholes = count-append t (defs ++ channels) offers in
     let whole_before = count-append t defs channels in
-    let numbers : count_of t (map number_of (whole_modes lists)) ≡ count_of t (defs ++ channels ++ offers) = ap (count_of t) (whole-numbers lists) in
+    let numbers = ap (count_of t) (whole-numbers lists) in
     let once : count_of t (type_places lists) ≡ 1 = is_program.types t inside in
     omega arith
 
@@ -114,32 +115,38 @@ whole-in_range lists t is_program among =
     let n = length lists.types in
     let P : ℕ → Type 0 = λ k. k < n in
     let defs : All P (def_places lists) = All-map P (λ (d : Def). d.body.0) lists.defs is_program.ids.defs in
-    let channels : All P (channel_places lists) =
-    all-flat P (λ (d : ProcDecl). map (λ (par : VarId × TypeId). par.1.0) d.channels) lists.procs
-    (λ k d inside. All-map P (λ (par : VarId × TypeId). par.1.0) (get_or lists.procs k d).channels (is_program.ids.procs k d inside).channels)
+    let number : VarId × TypeId → ℕ = λ par. par.1.0 in
+    let numbers : ProcDecl → List ℕ = λ d. map number d.channels in
+    let each : All (λ d. All P (numbers d)) lists.procs =
+    λ k d inside. All-map P number (get_or lists.procs k d).channels (is_program.ids.procs k d inside).channels
     in
+    let channels : All P (channel_places lists) = all-flat P numbers lists.procs each in
     let offers : All P (offer_places lists) =
     All-map P (λ (d : ProcDecl). d.offers.0) lists.procs (λ k d inside. (is_program.ids.procs k d inside).offers)
     in
-    let all = All-append P (def_places lists ++ channel_places lists) (offer_places lists) (All-append P (def_places lists) (channel_places lists) defs channels) offers in
-    let there : Contains (def_places lists ++ channel_places lists ++ offer_places lists) t = subst (λ (xs : List ℕ). Contains xs t) (whole-numbers lists) among in
-    All-contains P (def_places lists ++ channel_places lists ++ offer_places lists) t all there
+    let before = def_places lists ++ channel_places lists in
+    let all_before : All P before = All-append P (def_places lists) (channel_places lists) defs channels in
+    let all = All-append P before (offer_places lists) all_before offers in
+    let there = subst (λ (xs : List ℕ). Contains xs t) (whole-numbers lists) among in
+    All-contains P (before ++ offer_places lists) t all there
 
 -- the numbers of types that stand as parts are parts
 pub part-number : (lists : ProgramLists) (m k : Mode) (n : TypeNode) (t : TypeId) → Contains (part_modes lists m n) (t, k) → Contains (type_parts n) t.0
 part-number lists m k n t among =
-    subst (λ (xs : List ℕ). Contains xs t.0) (part-numbers lists m n) (contains-map number_of (part_modes lists m n) (t, k) t.0 among refl)
+    let numbered = contains-map number_of (part_modes lists m n) (t, k) t.0 among refl in
+    subst (λ (xs : List ℕ). Contains xs t.0) (part-numbers lists m n) numbered
 
 -- what has a mode is a type node
 pub mode-in_range : {lists : ProgramLists} {t : TypeId} {m : Mode} → IsProgram lists → HasMode lists t m → t.0 < length lists.types
 mode-in_range {lists = lists} {t = t} {m = m} is_program (whole among) =
     whole-in_range lists t.0 is_program (contains-map number_of (whole_modes lists) (t, m) t.0 among refl)
 mode-in_range {lists = lists} {t = t} {m = m} is_program (part outer k n _ there among) =
-    let parts : AllBelow (length lists.types) (type_parts n) = (type_node-in_range lists outer.0 n is_program there).parts in
-    All-contains (λ (i : ℕ). i < length lists.types) (type_parts n) t.0 parts (part-number lists k m n t among)
+    let in_range = type_node-in_range lists outer.0 n is_program there in
+    All-contains (λ (i : ℕ). i < length lists.types) (type_parts n) t.0 in_range.parts (part-number lists k m n t among)
 
 -- ---- places whose modes are known
 
+-- the whole types with their modes: the body of a definition, a channel parameter, an offered type
 abbrev of_def : Def → TypeId × Mode
 of_def d = (d.body, d.mode)
 
@@ -158,8 +165,10 @@ body-has_mode lists k d found =
     let defs = map of_def lists.defs in
     let channels = flat_map (of_channels lists) lists.procs in
     let offers = map of_offer lists.procs in
-    let here : Contains defs (of_def d) = contains-map of_def lists.defs d (of_def d) (contains-found lists.defs k d found) refl in
-    whole (Contains-append_left (defs ++ channels) offers (of_def d) (Contains-append_left defs channels (of_def d) here))
+    let among : Contains lists.defs d = contains-found lists.defs k d found in
+    let here : Contains defs (of_def d) = contains-map of_def lists.defs d (of_def d) among refl in
+    let before = Contains-append_left defs channels (of_def d) here in
+    whole (Contains-append_left (defs ++ channels) offers (of_def d) before)
 
 -- a channel parameter has the mode that its type shows
 pub parameter-has_mode : (lists : ProgramLists) (p : ℕ) (d : ProcDecl) (v : VarId) (t : TypeId) → slice_get lists.procs p ≡ Some d → Contains d.channels (v, t) → HasMode lists t (parameter_mode lists t)
@@ -168,7 +177,7 @@ parameter-has_mode lists p d v t found among =
     let channels = flat_map (of_channels lists) lists.procs in
     let offers = map of_offer lists.procs in
     let place : TypeId × Mode = (t, parameter_mode lists t) in
-    let one : Contains (of_channels lists d) place = contains-map (of_channel lists) d.channels (v, t) place among refl in
+    let one = contains-map (of_channel lists) d.channels (v, t) place among refl in
     let here : Contains channels place = contains-part (of_channels lists) lists.procs p d place found one in
     whole (Contains-append_left (defs ++ channels) offers place (Contains-append_right defs channels place here))
 
@@ -178,11 +187,13 @@ offered-has_mode lists p d found =
     let defs = map of_def lists.defs in
     let channels = flat_map (of_channels lists) lists.procs in
     let offers = map of_offer lists.procs in
-    let here : Contains offers (of_offer d) = contains-map of_offer lists.procs d (of_offer d) (contains-found lists.procs p d found) refl in
+    let among : Contains lists.procs d = contains-found lists.procs p d found in
+    let here : Contains offers (of_offer d) = contains-map of_offer lists.procs d (of_offer d) among refl in
     whole (Contains-append_right (defs ++ channels) offers (of_offer d) here)
 
 -- ---- unfolding
 
+-- the type with this number
 abbrev type_at : ℕ → TypeId
 type_at n = record { 0 = n }
 
@@ -193,7 +204,8 @@ keeps-mode {lists = lists} m obeys there (name t id def n named found rest) =
     let shown = (obeys.allowed (type_at t) m (node.Named id) there named).0 in
     let its_mode = ap (option_map (λ (d : Def). d.mode)) found in
     let same : def.mode ≡ m = cc in
-    let body : HasMode lists def.body m = subst (λ (k : Mode). HasMode lists def.body k) same (body-has_mode lists id.0 def found) in
+    let its_own = body-has_mode lists id.0 def found in
+    let body : HasMode lists def.body m = subst (λ (k : Mode). HasMode lists def.body k) same its_own in
     keeps-mode m obeys body rest
 
 -- what a type unfolds to stands at a type of the same mode
@@ -207,7 +219,7 @@ part-has_mode {m = m} {n = n} is_program contractive obeys there unfolds among =
     part head.0 m n head.2 head.1 among
 
 -- each branch is a part with the mode of the choice
-branch-among : (m : Mode) (branches : List Branch) (l : Label) (u : TypeId) → goes_by branches l ≡ Some u → Contains {X = TypeId × Mode} (map (λ b. (b.goes, m)) branches) (u, m)
+pub branch-among : (m : Mode) (branches : List Branch) (l : Label) (u : TypeId) → goes_by branches l ≡ Some u → Contains {X = TypeId × Mode} (map (λ b. (b.goes, m)) branches) (u, m)
 branch-among m branches l u goes =
     let place : Branch → TypeId × Mode = λ b. (b.goes, m) in
     let each : All (λ b. Contains (map place branches) (place b)) branches =
@@ -242,7 +254,8 @@ part-stands lists t outer m k n there among =
 whole-or-part : (lists : ProgramLists) (t outer : TypeId) (m j k : Mode) (n : TypeNode) → IsProgram lists → t.0 < length lists.types → Contains (whole_modes lists) (t, m) → type_node lists outer.0 ≡ Some n → Contains (part_modes lists k n) (t, j) → ⊥
 whole-or-part lists t outer m j k n is_program inside among there part_among =
     let wholes = map number_of (whole_modes lists) in
-    let as_whole : 1 ≤ count_of t.0 wholes = counted t.0 wholes (contains-map number_of (whole_modes lists) (t, m) t.0 among refl) in
+    let numbered = contains-map number_of (whole_modes lists) (t, m) t.0 among refl in
+    let as_whole : 1 ≤ count_of t.0 wholes = counted t.0 wholes numbered in
     let at = part-stands lists t outer j k n there part_among in
     let as_part = count-part node_parts t.0 lists.types outer.0 at.0 at.1 in
     omega (arith, stands-once lists t.0 is_program inside, at.2)
@@ -252,42 +265,45 @@ same-part : (lists : ProgramLists) (t outer : TypeId) (m j k : Mode) (n : TypeNo
 same-part lists t outer m j k n is_program inside there m_among j_among =
     let at = part-stands lists t outer m k n there m_among in
     let as_part = count-part node_parts t.0 lists.types outer.0 at.0 at.1 in
-    let numbers : map number_of (part_modes lists k n) ≡ node_parts at.0 = part-numbers lists k n ∙ ap type_parts (sym at.3) in
-    let once : count_of t.0 (map number_of (part_modes lists k n)) ≤ 1 =
-    omega (arith, stands-once lists t.0 is_program inside, ap (count_of t.0) numbers)
-    in
-    ap (λ (p : TypeId × Mode). p.1) (one-place number_of t.0 (part_modes lists k n) (t, m) (t, j) refl refl once m_among j_among)
+    let numbers = part-numbers lists k n ∙ ap type_parts (sym at.3) in
+    let stands = stands-once lists t.0 is_program inside in
+    let counts = ap (count_of t.0) numbers in
+    let once : count_of t.0 (map number_of (part_modes lists k n)) ≤ 1 = omega arith in
+    let same = one-place number_of t.0 (part_modes lists k n) (t, m) (t, j) refl refl once m_among j_among in
+    ap (λ (p : TypeId × Mode). p.1) same
 
 -- a part has one outer type
 same-outer : (lists : ProgramLists) (t o p : TypeId) (m j k i : Mode) (n q : TypeNode) → IsProgram lists → t.0 < length lists.types → type_node lists o.0 ≡ Some n → Contains (part_modes lists k n) (t, m) → type_node lists p.0 ≡ Some q → Contains (part_modes lists i q) (t, j) → o ≡ p
 same-outer lists t o p m j k i n q is_program inside o_there m_among p_there j_among =
     let o_at = part-stands lists t o m k n o_there m_among in
     let p_at = part-stands lists t p j i q p_there j_among in
-    let once : count_of t.0 (flat_map node_parts lists.types) ≤ 1 = omega (arith, stands-once lists t.0 is_program inside) in
+    let stands = stands-once lists t.0 is_program inside in
+    let once : count_of t.0 (flat_map node_parts lists.types) ≤ 1 = omega arith in
     ap type_at (one-part node_parts t.0 lists.types o.0 p.0 o_at.0 p_at.0 once o_at.1 p_at.1 o_at.2 p_at.2)
 
 -- a type has one mode
 pub mode-unique : {lists : ProgramLists} {t : TypeId} {m n : Mode} → IsProgram lists → HasMode lists t m → HasMode lists t n → m ≡ n
 mode-unique {lists = lists} {t = t} {m = m} {n = n} is_program (whole m_among) (whole n_among) =
     let inside : t.0 < length lists.types = mode-in_range is_program (whole m_among) in
-    let once : count_of t.0 (map number_of (whole_modes lists)) ≤ 1 = omega (arith, stands-once lists t.0 is_program inside) in
-    ap (λ (p : TypeId × Mode). p.1) (one-place number_of t.0 (whole_modes lists) (t, m) (t, n) refl refl once m_among n_among)
+    let stands = stands-once lists t.0 is_program inside in
+    let once : count_of t.0 (map number_of (whole_modes lists)) ≤ 1 = omega arith in
+    let same = one-place number_of t.0 (whole_modes lists) (t, m) (t, n) refl refl once m_among n_among in
+    ap (λ (p : TypeId × Mode). p.1) same
 mode-unique {lists = lists} {t = t} {m = m} {n = n} is_program (whole m_among) (part outer k node _ there n_among) =
     let inside : t.0 < length lists.types = mode-in_range is_program (whole m_among) in
     absurd (whole-or-part lists t outer m n k node is_program inside m_among there n_among)
 mode-unique {lists = lists} {t = t} {m = m} {n = n} is_program (part outer k node _ there m_among) (whole n_among) =
     let inside : t.0 < length lists.types = mode-in_range is_program (whole n_among) in
     absurd (whole-or-part lists t outer n m k node is_program inside n_among there m_among)
-mode-unique {lists = lists} {t = t} {m = m} {n = n} is_program (part outer k node outer_mode there m_among) (part outer2 k2 node2 outer_mode2 there2 n_among) =
-    let inside : t.0 < length lists.types = mode-in_range is_program (part outer k node outer_mode there m_among) in
-    let outers : outer ≡ outer2 = same-outer lists t outer outer2 m n k k2 node node2 is_program inside there m_among there2 n_among in
-    let nodes : node ≡ node2 = cc in
-    let mode2 : HasMode lists outer k2 = subst (λ (o : TypeId). HasMode lists o k2) (sym outers) outer_mode2 in
-    let modes : k ≡ k2 = mode-unique is_program outer_mode mode2 in
-    let among : Contains (part_modes lists k node) (t, n) =
-    subst₂ (λ (i : Mode) (o : TypeNode). Contains (part_modes lists i o) (t, n)) (sym modes) (sym nodes) n_among
-    in
-    same-part lists t outer m n k node is_program inside there m_among among
+mode-unique {lists = lists} {t = t} {m = m} {n = n} is_program (part o k a o_mode there m_among) (part p i b p_mode there2 n_among) =
+    let inside : t.0 < length lists.types = mode-in_range is_program (part o k a o_mode there m_among) in
+    let outers : o ≡ p = same-outer lists t o p m n k i a b is_program inside there m_among there2 n_among in
+    let nodes : a ≡ b = cc in
+    let mode2 : HasMode lists o i = subst (λ (q : TypeId). HasMode lists q i) (sym outers) p_mode in
+    let modes : k ≡ i = mode-unique is_program o_mode mode2 in
+    let Among : Mode → TypeNode → Type 0 = λ j c. Contains (part_modes lists j c) (t, n) in
+    let among : Among k a = subst₂ Among (sym modes) (sym nodes) n_among in
+    same-part lists t o m n k a is_program inside there m_among among
 
 -- ---- a mode for each type
 
@@ -302,7 +318,8 @@ whole-exists lists t among =
 part-exists : (lists : ProgramLists) (t outer : TypeId) (k : Mode) (n : TypeNode) → HasMode lists outer k → type_node lists outer.0 ≡ Some n → Contains (type_parts n) t.0 → (m : Mode) × HasMode lists t m
 part-exists lists t outer k n outer_mode there among =
     let parts = part_modes lists k n in
-    let numbered : Contains (map number_of parts) t.0 = subst (λ (xs : List ℕ). Contains xs t.0) (sym (part-numbers lists k n)) among in
+    let numbers = sym (part-numbers lists k n) in
+    let numbered : Contains (map number_of parts) t.0 = subst (λ (xs : List ℕ). Contains xs t.0) numbers among in
     let p = contains-unmap number_of parts t.0 numbered in
     let place : p.0 ≡ (t, p.0.1) = ap (λ (m : ℕ). let q : TypeId × Mode = (type_at m, p.0.1) in q) p.2 in
     (p.0.1, part outer k n outer_mode there (subst (λ (q : TypeId × Mode). Contains parts q) place p.1))
@@ -315,13 +332,16 @@ exists-from lists (suc left) t is_program inside enough =
     elim (cases_lt 0 (count_of t.0 wholes)) [
       | inl as_whole ↦ whole-exists lists t (contained t.0 wholes (omega arith))
       | inr not_whole ↦
-          let as_part : 1 ≤ count_of t.0 (flat_map node_parts lists.types) = omega (arith, stands-once lists t.0 is_program inside) in
+          let stands = stands-once lists t.0 is_program inside in
+          let as_part : 1 ≤ count_of t.0 (flat_map node_parts lists.types) = omega arith in
           let p = part-with node_parts t.0 lists.types as_part in
           let outer = type_at p.0 in
-          let lower : t.0 < outer.0 = All-contains (λ (i : ℕ). i < outer.0) (node_parts p.1) t.0 (is_program.parts.types p.0 p.1 p.2) p.3 in
+          let below = is_program.parts.types p.0 p.1 p.2 in
+          let lower : t.0 < outer.0 = All-contains (λ (i : ℕ). i < outer.0) (node_parts p.1) t.0 below p.3 in
           let outer_inside : outer.0 < length lists.types = slice_get_within lists.types p.0 p.1 p.2 in
           let outer_mode = exists-from lists left outer is_program outer_inside (omega arith) in
-          part-exists lists t outer outer_mode.0 p.1.node outer_mode.1 (ap (option_map (λ (a : TypeAt). a.node)) p.2) p.3
+          let there = ap (option_map (λ (a : TypeAt). a.node)) p.2 in
+          part-exists lists t outer outer_mode.0 p.1.node outer_mode.1 there p.3
     ]
 
 -- each type node has a mode

@@ -6,20 +6,23 @@ use Rattle.std.proofs.lemmas.List.Elements.{All-nil, All-head, All-tail, All-app
 use Rattle.std.proofs.lemmas.List.Sums.{sum_by-cons, sum_by-append, get_or-le-sum_by}
 use Rattle.std.proofs.lemmas.Option.{slice_get_within, get_or_from_slice_get}
 use Rattle.std.specs.List.{flat_map}
+use Rattle.nomos_ir.specs.Naming.{AllDiffer}
 use Rattle.nomos_ir.specs.Order.{count_of}
 
 -- whether a number is this one, as a number
-abbrev one_at : ℕ → ℕ → ℕ
+abbrev pub one_at : ℕ → ℕ → ℕ
 one_at n k = cond (k == n) 1 0
 
 -- ---- elements
 
+-- the first is an element, and so is each of the others
 contains-head : {X : Type 0} (x y : X) (xs : List X) → x ≡ y → Contains (x ∷ xs) y
 contains-head x y xs same = (zero, omega arith, same)
 
 contains-tail : {X : Type 0} (x y : X) (xs : List X) → Contains xs y → Contains (x ∷ xs) y
 contains-tail x y xs there = (suc there.0, omega arith, there.2)
 
+-- an element is the first or one of the others, by its place
 contains-at : {X : Type 0} (x y : X) (xs : List X) (k : ℕ) → k < length (x ∷ xs) → get_or (x ∷ xs) k y ≡ y → (x ≡ y) ⊎ Contains xs y
 contains-at x y xs zero inside at = inl at
 contains-at x y xs (suc k) inside at = inr (k, omega arith, at)
@@ -65,11 +68,12 @@ all-flat {X = X} P g (x ∷ xs) all =
 
 -- ---- counts
 
-count-here : (n x : ℕ) (xs : List ℕ) → x ≡ n → count_of n (x ∷ xs) ≡ 1 + count_of n xs
+-- the first counts where it is the number, and not where it is another one
+pub count-here : (n x : ℕ) (xs : List ℕ) → x ≡ n → count_of n (x ∷ xs) ≡ 1 + count_of n xs
 count-here n x xs same =
     sum_by-cons (one_at n) x xs ∙ ap (λ (t : Bool). cond t 1 0 + count_of n xs) (eq-eqb x n same)
 
-count-elsewhere : (n x : ℕ) (xs : List ℕ) → (x == n) ≡ false → count_of n (x ∷ xs) ≡ count_of n xs
+pub count-elsewhere : (n x : ℕ) (xs : List ℕ) → (x == n) ≡ false → count_of n (x ∷ xs) ≡ count_of n xs
 count-elsewhere n x xs other =
     sum_by-cons (one_at n) x xs ∙ ap (λ (t : Bool). cond t 1 0 + count_of n xs) other ∙ omega arith
 
@@ -83,9 +87,11 @@ count-append n xs ys = sum_by-append (one_at n) xs ys
 -- an element occurs
 pub counted : (n : ℕ) (xs : List ℕ) → Contains xs n → 1 ≤ count_of n xs
 counted n xs there =
-    let one : one_at n (get_or xs there.0 n) ≡ 1 = ap (one_at n) there.2 ∙ ap (λ (t : Bool). cond t 1 0) (eq-eqb n n refl) in
+    let itself : one_at n n ≡ 1 = ap (λ (t : Bool). cond t 1 0) (eq-eqb n n refl) in
+    let one : one_at n (get_or xs there.0 n) ≡ 1 = ap (one_at n) there.2 ∙ itself in
     omega (arith, get_or-le-sum_by (one_at n) xs there.0 n there.1)
 
+-- the same, where the test of the first is known
 contained-at : (n x : ℕ) (xs : List ℕ) (t : Bool) → (x == n) ≡ t → 1 ≤ count_of n (x ∷ xs) → (1 ≤ count_of n xs → Contains xs n) → Contains (x ∷ xs) n
 contained-at n x xs true here occurs rest = contains-head x n xs (eqb-true x n here)
 contained-at n x xs false here occurs rest =
@@ -119,6 +125,24 @@ one-place f n (x ∷ xs) p q p_is q_is once p_there q_there =
       ]
     ]
 
+once-at : (n x : ℕ) (xs : List ℕ) (t : Bool) → (x == n) ≡ t → AllDiffer (x ∷ xs) → count_of n xs ≤ 1 → count_of n (x ∷ xs) ≤ 1
+once-at n x xs true here differ rest =
+    let first : x ≡ n = eqb-true x n here in
+    elim (cases_lt 0 (count_of n xs)) [
+      | inl again ↦
+          let there = contained n xs again in
+          absurd (differ 0 (suc there.0) n (omega arith) (omega (arith, there.1)) (first ∙ sym there.2))
+      | inr never ↦ omega (arith, count-here n x xs first)
+    ]
+once-at n x xs false here differ rest = omega (arith, count-elsewhere n x xs here)
+
+-- of numbers that differ each occurs at most once
+pub differ-once : (n : ℕ) (xs : List ℕ) → AllDiffer xs → count_of n xs ≤ 1
+differ-once n [] differ = omega arith
+differ-once n (x ∷ xs) differ =
+    let others : AllDiffer xs = λ i j d before inside. differ (suc i) (suc j) d (omega arith) (omega arith) in
+    once-at n x xs (x == n) refl differ (differ-once n xs others)
+
 -- ---- lists of lists
 
 -- a number occurs in the list of one item at most as often as in those of all
@@ -126,7 +150,9 @@ pub count-part : {X : Type 0} (g : X → List ℕ) (n : ℕ) (xs : List X) (i : 
 count-part g n [] i x found = absurd cc
 count-part g n (y ∷ xs) zero x found =
     let same : y ≡ x = cc in
-    subst (λ z. count_of n (g z) ≤ count_of n (flat_map g (y ∷ xs))) same (omega (arith, count-append n (g y) (flat_map g xs)))
+    let both = count-append n (g y) (flat_map g xs) in
+    let first : count_of n (g y) ≤ count_of n (flat_map g (y ∷ xs)) = omega arith in
+    subst (λ z. count_of n (g z) ≤ count_of n (flat_map g (y ∷ xs))) same first
 count-part g n (y ∷ xs) (suc i) x found =
     omega (arith, count-append n (g y) (flat_map g xs), count-part g n xs i x found)
 
@@ -150,6 +176,7 @@ one-part g n (z ∷ xs) (suc i) (suc j) x y once x_found y_found x_has y_has =
 abbrev pub PartWith : {X : Type 0} → (X → List ℕ) → ℕ → List X → Type 0
 PartWith {X} g n xs = (i : ℕ) × (x : X) × (slice_get xs i ≡ Some x) × Contains (g x) n
 
+-- an item of the others is an item
 later-part : {X : Type 0} (g : X → List ℕ) (n : ℕ) (x : X) (xs : List X) → PartWith g n xs → PartWith g n (x ∷ xs)
 later-part g n x xs there = (suc there.0, there.1, there.2, there.3)
 
