@@ -1,0 +1,7 @@
+pub mod HistoryLaws
+pub mod SeatLists
+pub mod TicketParts
+pub mod NumberParts
+pub mod TurnMoves
+pub mod PassMoves
+pub mod Ends
