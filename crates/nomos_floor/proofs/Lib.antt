@@ -1,4 +1,5 @@
 pub mod HistoryLaws
+pub mod PlaceLaws
 pub mod SeatLists
 pub mod TicketParts
 pub mod NumberParts

@@ -1,5 +1,5 @@
 -- The steps of a turn keep the invariant: draw, look, count and serve.
-use Rattle.std.proofs.Common.{◌≡◌, ◌≢◌, ◌⊎◌, ℕ, Bool, true, false, not, eqb, MatchBool, eq-eqb, ne_eqb, ◌+◌, ◌%◌, ◌^◌, ◌<◌, Option, Some, None, List, [], ◌∷◌, ◌++◌, length, get_or, set, slice_index, refl, ap, sym, ◌∙◌, subst, inl, inr, ⊎_elim, arith, length-set, get_or-set_same, get_or-set_other, append-nil}
+use Rattle.std.proofs.Common.{◌≡◌, ◌≢◌, ◌⊎◌, ℕ, ◌+◌, ◌%◌, ◌^◌, ◌<◌, Option, Some, None, List, [], ◌∷◌, ◌++◌, length, get_or, set, slice_index, refl, ap, sym, ◌∙◌, subst, inl, inr, ⊎_elim, arith, length-set, get_or-set_same, get_or-set_other, append-nil}
 use Rattle.std.proofs.Math.Nat.{mod-add-mod}
 use Rattle.std.proofs.lemmas.List.{set-get_or, length_push}
 use mathlib.Core.Option as home
@@ -12,9 +12,8 @@ use Rattle.atomic_table.proofs.Lists.{set_again, one_turn}
 use Rattle.nomos_floor.specs.OwnEntries.{mine}
 use Rattle.nomos_floor.specs.FloorView.{ticket_of, IsLive}
 use Rattle.nomos_floor.specs.FloorInvariant.{Sits, Slot, Invariant}
-use Rattle.nomos_floor.specs.FloorPass.{AddsAtMostOne}
 use Rattle.nomos_floor.specs.FloorSteps.{Holder, draw, look, count, serve, at_stage, at_turn, adding}
-use Rattle.nomos_floor.specs.mirror.TurnSeats.{IsNew, HasCounted}
+use Rattle.nomos_floor.specs.mirror.TurnSeats.{HasCounted}
 use Rattle.nomos_floor.specs.declared.view.View.{View}
 use Rattle.nomos_floor.specs.declared.view.Stage.TheVariants.{Idle, Waiting, Serving}
 use Rattle.nomos_floor.proofs.HistoryLaws.{mine_push_own}
@@ -241,39 +240,26 @@ module _ {W S E : Type 0} (start : W → S) (history : W → List (ℕ × E)) (o
   looks_at slots id t m one waiting = subst (λ (n : ℕ). Allows Holds n id m 1 (λ k. k) (look start history (step n 1 0 0 home.none) m)) (sym one) (looks id t m waiting)
 
 -- once its entry is counted, if there is one, the pass has seen the history of the work that it holds, and has just its own entries
-pub is_ready : {W E : Type 0} (history : W → List (ℕ × E)) (is_new : Bool) (t : ℕ) (m n : Holder W E) (work : W) → m.0.stage ≡ Serving t → m.1 ≡ (0, Some work) ∷ [] → m.0.own ≡ mine m.0.number m.0.seen
-    → IsNew history is_new m → HasCounted history is_new m n → (n.0.stage ≡ Serving t) × (n.1 ≡ (0, Some work) ∷ []) × (history work ≡ n.0.seen) × (n.0.own ≡ mine m.0.number (history work))
-is_ready {W} {E} history true t m n work turn holds own new counted =
+pub is_ready : {W E : Type 0} (history : W → List (ℕ × E)) (t : ℕ) (m n : Holder W E) (work : W) → m.0.stage ≡ Serving t → m.1 ≡ (0, Some work) ∷ [] → m.0.own ≡ mine m.0.number m.0.seen
+    → HasCounted history m n → (n.0.stage ≡ Serving t) × (n.1 ≡ (0, Some work) ∷ []) × (history work ≡ n.0.seen) × (n.0.own ≡ mine m.0.number (history work))
+is_ready {W} {E} history t m n work turn holds own counted = ⊎_elim
+    (λ (added : (entry : E) × (n ≡ (adding entry m.0, m.1))).
     let v : View W E = m.0 in
-    let e : E = counted.0 in
-    let after : n ≡ (adding e v, m.1) = counted.1 in
-    let longer : history work ≡ v.seen ++ (v.number, e) ∷ [] = counted.2 work holds ∙ ap (λ (k : Holder W E). k.0.seen) after in (
+    let e : E = added.0 in
+    let after : n ≡ (adding e v, m.1) = added.1 in
+    let longer : history work ≡ v.seen ++ (v.number, e) ∷ [] = counted.1 work holds ∙ ap (λ (k : Holder W E). k.0.seen) after in (
       ap (λ (k : Holder W E). k.0.stage) after ∙ turn,
       ap (λ (k : Holder W E). k.1) after ∙ holds,
-      counted.2 work holds,
+      counted.1 work holds,
       ap (λ (k : Holder W E). k.0.own) after ∙ (ap (λ (l : List E). l ++ e ∷ []) own ∙ (sym (mine_push_own v.number v.seen e) ∙ ap (mine v.number) (sym longer))),
-    )
-is_ready {W} {E} history false t m n work turn holds own new counted =
-    let same : history work ≡ m.0.seen = new work holds in (
-      ap (λ (k : Holder W E). k.0.stage) counted ∙ turn,
-      ap (λ (k : Holder W E). k.1) counted ∙ holds,
-      same ∙ sym (ap (λ (k : Holder W E). k.0.seen) counted),
-      ap (λ (k : Holder W E). k.0.own) counted ∙ (own ∙ ap (mine m.0.number) (sym same)),
-    )
-
--- a history that grew by one entry has another length modulo 2 ^ 64, and one that did not has the same
-pub tells_new : {W E : Type 0} (history : W → List (ℕ × E)) (m : Holder W E) (work : W) (found kept : ℕ) → m.1 ≡ (0, Some work) ∷ [] → found ≡ length (history work) % 2 ^ 64 → kept ≡ length m.0.seen % 2 ^ 64
-    → AddsAtMostOne m.0.number m.0.seen (history work) → IsNew history (not (eqb found kept)) m
-tells_new {W} {E} history m work found kept holds is was adds other is_held =
-    let same : other ≡ work = one_held other work (sym is_held ∙ holds) in
-    let P : W → Bool → Type 0 = λ w b. MatchBool b ((entry : E) × (history w ≡ m.0.seen ++ (m.0.number, entry) ∷ [])) (history w ≡ m.0.seen) in
-    subst (λ w. P w (not (eqb found kept))) (sym same) (⊎_elim
-    (λ (stays : history work ≡ m.0.seen). subst (λ b. P work (not b)) (sym (eq-eqb found kept (is ∙ (ap (λ (l : List (ℕ × E)). length l % 2 ^ 64) stays ∙ sym was)))) stays)
-    (λ (grows : (entry : E) × (history work ≡ m.0.seen ++ (m.0.number, entry) ∷ [])).
-    let n : ℕ = length m.0.seen in
-    let more : length (history work) ≡ n + 1 = ap (λ (l : List (ℕ × E)). length l) grows.1 ∙ length_push m.0.seen (m.0.number, grows.0) in
-    let apart : found ≢ kept = λ e. let one : n ≡ n + 1 = one_turn n (n + 1) (2 ^ 64) (omega arith) (omega arith) (sym was ∙ (sym e ∙ (is ∙ ap (λ (k : ℕ). k % 2 ^ 64) more))) in omega arith in
-    subst (λ b. P work (not b)) (sym (ne_eqb found kept apart)) grows) adds)
+    ))
+    (λ (same : n ≡ m).
+    let seen : history work ≡ m.0.seen = counted.1 work holds ∙ ap (λ (k : Holder W E). k.0.seen) same in (
+      ap (λ (k : Holder W E). k.0.stage) same ∙ turn,
+      ap (λ (k : Holder W E). k.1) same ∙ holds,
+      counted.1 work holds,
+      ap (λ (k : Holder W E). k.0.own) same ∙ (own ∙ ap (mine m.0.number) (sym seen)),
+    )) counted.0
 
 module _ {W E : Type 0} (v : View W E) (held : List (ℕ × Option W)) (m : Holder W E) (work : W) where
   -- the seat after the work was put into the slot
@@ -284,16 +270,13 @@ module _ {W E : Type 0} (v : View W E) (held : List (ℕ × Option W)) (m : Hold
   puts_work t put turn = (ap (λ (k : Holder W E). k.0.stage) put.0 ∙ turn, ap (λ (k : Holder W E). k.1) put.0 ∙ ap (λ (l : List (ℕ × Option W)). (0, Some work) ∷ rest l) put.1)
 
   -- and after its entry was counted, if there is one
-  pub counts_work : (history : W → List (ℕ × E)) (t found kept number : ℕ) (n : Holder W E) → Puts → v.stage ≡ Serving t → v.number ≡ number → found ≡ length (history work) % 2 ^ 64 → kept ≡ length v.seen % 2 ^ 64
-      → v.own ≡ mine number v.seen → AddsAtMostOne number v.seen (history work) → HasCounted history (not (eqb found kept)) m n
+  pub counts_work : (history : W → List (ℕ × E)) (t number : ℕ) (n : Holder W E) → Puts → v.stage ≡ Serving t → v.number ≡ number → v.own ≡ mine number v.seen → HasCounted history m n
       → (n.0.stage ≡ Serving t) × (n.1 ≡ (0, Some work) ∷ []) × (history work ≡ n.0.seen) × (n.0.own ≡ mine number (history work))
-  counts_work history t found kept number n put turn number_is is was own adds counted =
+  counts_work history t number n put turn number_is own counted =
       let p = puts_work t put turn in
       let view : v ≡ m.0 = ap (λ (k : Holder W E). k.0) (sym put.0) in
       let number_here : number ≡ m.0.number = sym number_is ∙ ap (λ (u : View W E). u.number) view in
-      let adds_here : AddsAtMostOne m.0.number m.0.seen (history work) =
-      subst (λ (k : ℕ). AddsAtMostOne k m.0.seen (history work)) number_here (subst (λ (u : View W E). AddsAtMostOne number u.seen (history work)) view adds) in
       let own_here : m.0.own ≡ mine m.0.number m.0.seen =
       subst (λ (k : ℕ). m.0.own ≡ mine k m.0.seen) number_here (subst (λ (u : View W E). u.own ≡ mine number u.seen) view own) in
-      let ready = is_ready history (not (eqb found kept)) t m n work p.0 p.1 own_here (tells_new history m work found kept p.1 is (was ∙ ap (λ (u : View W E). length u.seen % 2 ^ 64) view) adds_here) counted in
+      let ready = is_ready history t m n work p.0 p.1 own_here counted in
       (ready.0, ready.1, ready.2, ready.3 ∙ ap (λ (k : ℕ). mine k (history work)) (sym number_here))

@@ -155,7 +155,7 @@ impl<W: Shared> Floor<W> {
         requires turn { HoldsWork seat.old.me }
         requires new { IsNew W.history is_new seat.old.me }
         ensures table { seat.new.table_id ≡ seat.old.table_id }
-        ensures counted { HasCounted W.history is_new seat.old.me seat.new.me }
+        ensures counted { HasCounted W.history seat.old.me seat.new.me }
     {
         if is_new {
             self.table.shared.fetch_add::<Count<W>>(seat, COUNT, 1);

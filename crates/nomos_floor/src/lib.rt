@@ -4,4 +4,6 @@
 pub mod floor;
 mod rule;
 pub mod shared;
+#[cfg(test)]
+mod tests;
 mod view;

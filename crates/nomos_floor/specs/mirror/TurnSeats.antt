@@ -1,5 +1,5 @@
 -- A mirror of the code: what the parts of a turn tell one another. Private clauses alone cite it.
-use Rattle.std.specs.Prelude.{◌≡◌, ℕ, ◌%◌, ◌^◌, Bool, MatchBool, Some, List, [], ◌∷◌, ◌++◌}
+use Rattle.std.specs.Prelude.{◌≡◌, ◌⊎◌, ℕ, ◌%◌, ◌^◌, Bool, MatchBool, Some, List, [], ◌∷◌, ◌++◌}
 use Rattle.nomos_floor.specs.FloorSteps.{Holder, Continues, at_turn, adding}
 use Rattle.nomos_floor.specs.declared.view.Stage.TheVariants.{Waiting, Serving}
 
@@ -17,9 +17,9 @@ module _ {W E : Type 0} where
   IsNew history is_new m = (work : W) → m.1 ≡ (0, Some work) ∷ []
       → MatchBool is_new ((entry : E) × (history work ≡ m.0.seen ++ (m.0.number, entry) ∷ [])) (history work ≡ m.0.seen)
 
-  -- the entry, if there is one, is seen and its own
-  abbrev pub HasCounted : (W → List (ℕ × E)) → Bool → Holder W E → Holder W E → Type 0
-  HasCounted history is_new m n = MatchBool is_new ((entry : E) × (n ≡ (adding entry m.0, m.1)) × ((work : W) → m.1 ≡ (0, Some work) ∷ [] → history work ≡ n.0.seen)) (n ≡ m)
+  -- an entry was added, or none; the history of the work that it holds is seen
+  abbrev pub HasCounted : (W → List (ℕ × E)) → Holder W E → Holder W E → Type 0
+  HasCounted history m n = (((entry : E) × (n ≡ (adding entry m.0, m.1))) ⊎ (n ≡ m)) × ((work : W) → m.1 ≡ (0, Some work) ∷ [] → history work ≡ n.0.seen)
 
   -- the seat has its turn, and the work is out with it
   abbrev pub GetsTurn : {S : Type 0} → (W → S) → (W → List (ℕ × E)) → Holder W E → Holder W E → Type 0

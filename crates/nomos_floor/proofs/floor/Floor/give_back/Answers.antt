@@ -16,8 +16,8 @@ fetch_add-requires g c =
     let taken = c.args.turn in
     let old = taken.pass.seat in
     let turn = c.requires.of_floor in
-    let ready = counts_work old.me.0 old.me.1 c.exchange.new.seat.me taken.work g.W.Shared.history turn.served.0 c.entries.result taken.entries taken.pass.number seat.me (c.exchange.ensures.3, turn.holds) turn.served.1
-    turn.of_floor.number c.entries.ensures turn.entries turn.own c.requires.history c.count_new.ensures.counted in
+    let ready = counts_work old.me.0 old.me.1 c.exchange.new.seat.me taken.work g.W.Shared.history turn.served.0 taken.pass.number seat.me (c.exchange.ensures.3, turn.holds) turn.served.1
+    turn.of_floor.number turn.own c.count_new.ensures.counted in
     let table : seat.table_id ≡ floor.table.shared.table_id = cc (c.count_new.ensures.table, c.exchange.ensures.0, turn.of_floor.table) in (
       table,
       omega (arith, floor.sized.0),
@@ -29,6 +29,6 @@ returns-clause-own g c =
     let taken = c.args.turn in
     let old = taken.pass.seat in
     let turn = c.requires.of_floor in
-    let ready = counts_work old.me.0 old.me.1 c.exchange.new.seat.me taken.work g.W.Shared.history turn.served.0 c.entries.result taken.entries taken.pass.number c.count_new.new.seat.me (c.exchange.ensures.3, turn.holds) turn.served.1
-    turn.of_floor.number c.entries.ensures turn.entries turn.own c.requires.history c.count_new.ensures.counted in
+    let ready = counts_work old.me.0 old.me.1 c.exchange.new.seat.me taken.work g.W.Shared.history turn.served.0 taken.pass.number c.count_new.new.seat.me (c.exchange.ensures.3, turn.holds) turn.served.1
+    turn.of_floor.number turn.own c.count_new.ensures.counted in
     ap (λ m. m.0.own) c.fetch_add.ensures.2 ∙ ready.3
