@@ -14,6 +14,7 @@ pub mod Parameters
 pub mod Program
 pub mod TermExample
 pub mod TermKind
+pub mod TermOffset
 pub mod TermParts
 pub mod TypeParts
 pub mod Unfold
