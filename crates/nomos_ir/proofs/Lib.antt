@@ -1,3 +1,6 @@
+pub mod AgreeLemmas
+pub mod EvaluationLaws
+pub mod EvaluationLemmas
 pub mod ExampleLemmas
 pub mod NameLemmas
 pub mod NodeLaws

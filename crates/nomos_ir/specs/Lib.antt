@@ -9,6 +9,7 @@ pub mod Kinds
 pub mod Name
 pub mod Naming
 pub mod Nodes
+pub mod Occurrence
 pub mod Order
 pub mod Parameters
 pub mod Program
@@ -20,6 +21,7 @@ pub mod TypeParts
 pub mod Unfold
 pub mod Value
 pub mod ValueCode
+pub mod ValueKind
 pub mod ValueNode
 pub mod Weight
 pub mod Word
