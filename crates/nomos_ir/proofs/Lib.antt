@@ -7,5 +7,6 @@ pub mod NodeLaws
 pub mod StarLemmas
 pub mod TermExamples
 pub mod TermKindLaws
+pub mod TypedLaws
 pub mod UnfoldLaws
 pub mod WordTable
