@@ -4,6 +4,7 @@ pub mod EvaluationLemmas
 pub mod ExampleLemmas
 pub mod NameLemmas
 pub mod NodeLaws
+pub mod OccurrenceLaws
 pub mod StarLemmas
 pub mod TermExamples
 pub mod TermKindLaws
