@@ -1,9 +1,14 @@
+pub mod AgreeLemmas
 pub mod BindingLaws
+pub mod EvaluationLaws
+pub mod EvaluationLemmas
 pub mod ExampleLemmas
 pub mod NameLemmas
 pub mod NodeLaws
+pub mod OccurrenceLaws
 pub mod StarLemmas
 pub mod TermExamples
 pub mod TermKindLaws
+pub mod TypedLaws
 pub mod UnfoldLaws
 pub mod WordTable

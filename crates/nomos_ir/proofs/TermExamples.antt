@@ -5,7 +5,6 @@ use Rattle.nomos_ir.specs.declared.term_node.TermNode.{TermNode}
 use Rattle.nomos_ir.specs.declared.term_node.TermNode.TheVariants as node
 use Rattle.nomos_ir.specs.Evaluation.{Environment, Evaluation, ends, faults, evaluation, term_evaluation}
 use Rattle.nomos_ir.specs.TermExample.{term_id, variable, sums, spins, program_of}
-use Rattle.nomos_ir.specs.TermKind.{int_kind}
 use Rattle.nomos_ir.specs.Value.{Value, int, truth, list, ValueList, no_values, value}
 
 -- the evaluation of a term, whose parts are among those before it

@@ -1,6 +1,5 @@
 -- A term has one kind at most.
-use Rattle.std.proofs.Common.{◌≡◌, ℕ, List, Some, slice_get, refl, subst}
-use Rattle.nomos_ir.specs.declared.declaration.FnDecl.{FnDecl}
+use Rattle.std.proofs.Common.{◌≡◌, refl, subst}
 use Rattle.nomos_ir.specs.declared.ids.TermId.{TermId}
 use Rattle.nomos_ir.specs.declared.kind.Kind.{Kind}
 use Rattle.nomos_ir.specs.declared.lists.ProgramLists.{ProgramLists}

@@ -9,7 +9,7 @@ use Rattle.nomos_ir.specs.declared.lists.ProgramLists.{ProgramLists}
 use Rattle.nomos_ir.specs.declared.term_node.TermNode.{TermNode}
 use Rattle.nomos_ir.specs.declared.term_node.TermNode.TheVariants as node
 use Rattle.nomos_ir.specs.Bindings.{bound_to}
-use Rattle.nomos_ir.specs.Value.{Value, int, truth, list, ValueList, no_values, value}
+use Rattle.nomos_ir.specs.Value.{Value, int, truth, list, no_values, value}
 use Rattle.nomos_ir.specs.Weight.{list_weight, max_weight}
 
 -- variables, each with its value

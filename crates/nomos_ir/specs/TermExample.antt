@@ -1,9 +1,8 @@
 -- A few terms and functions, by which kinds and evaluation are tried.
-use Rattle.std.specs.Prelude.{ℕ, List, [], ◌∷◌, codes, true}
+use Rattle.std.specs.Prelude.{ℕ, List, [], ◌∷◌, codes}
 use Rattle.nomos_ir.specs.declared.declaration.FnDecl.{FnDecl}
 use Rattle.nomos_ir.specs.declared.ids.TermId.{TermId}
 use Rattle.nomos_ir.specs.declared.ids.VarId.{VarId}
-use Rattle.nomos_ir.specs.declared.kind.Kind.{Kind}
 use Rattle.nomos_ir.specs.declared.lists.ProgramLists.{ProgramLists}
 use Rattle.nomos_ir.specs.declared.term_node.TermNode.{TermNode}
 use Rattle.nomos_ir.specs.declared.term_node.TermNode.TheVariants as node

@@ -7,6 +7,7 @@ pub mod code_form;
 pub mod code_node;
 pub mod declaration;
 pub mod fault;
+pub mod find;
 pub mod ids;
 pub mod items;
 pub mod kind;

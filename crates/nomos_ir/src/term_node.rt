@@ -34,5 +34,36 @@ pub enum TermNode {
     Match(u32, TermId, TermId, VarId, VarId, TermId),
 }
 
+impl TermNode {
+    ghost use Rattle.std.specs.Prelude.{◌≡◌};
+    ghost use Rattle.nomos_ir.specs.TermOffset.{term_offset};
+
+    /// The offset of the term in the text, in bytes.
+    pub fn offset(&self) -> u32
+        ensures { result ≡ term_offset self.now }
+    {
+        match self {
+            TermNode::Number(at, _)
+            | TermNode::Truth(at, _)
+            | TermNode::Var(at, _)
+            | TermNode::Call(at, _, _)
+            | TermNode::Nil(at, _)
+            | TermNode::Add(at, _, _)
+            | TermNode::Sub(at, _, _)
+            | TermNode::Mul(at, _, _)
+            | TermNode::Div(at, _, _)
+            | TermNode::Rem(at, _, _)
+            | TermNode::Less(at, _, _)
+            | TermNode::Equal(at, _, _)
+            | TermNode::And(at, _, _)
+            | TermNode::Or(at, _, _)
+            | TermNode::Cons(at, _, _)
+            | TermNode::Not(at, _)
+            | TermNode::If(at, _, _, _)
+            | TermNode::Match(at, _, _, _, _, _) => *at,
+        }
+    }
+}
+
 /// The term nodes of a program.
 pub type TermNodes = Items<TermNode>;

@@ -1,0 +1,21 @@
+//! Terms and functions by their numbers, where there are such.
+ghost use Rattle.std.specs.Prelude.{◌≡◌, slice_get, option_copied};
+
+use crate::declaration::FnDecl;
+use crate::ids::{FnId, TermId};
+use crate::lists::ProgramLists;
+use crate::term_node::TermNode;
+
+/// The term node with this number, if there is one.
+pub fn find_term(lists: &ProgramLists, t: TermId) -> Option<&TermNode>
+    ensures { option_copied result ≡ slice_get lists.now.terms t.0 }
+{
+    lists.terms.as_slice().get(t.0 as usize)
+}
+
+/// The function with this number, if there is one.
+pub fn find_function(lists: &ProgramLists, f: FnId) -> Option<&FnDecl>
+    ensures { option_copied result ≡ slice_get lists.now.fns f.0 }
+{
+    lists.fns.as_slice().get(f.0 as usize)
+}

@@ -1,0 +1,9 @@
+-- The tasks behind are put on the top.
+use Rattle.std.proofs.Common.{◌≡◌, ◌≤◌, ◌++◌, drop, length}
+use Rattle.nomos_terms.proofs.search.plan.Given as goal
+
+abbrev pub invariant-loop-left : goal.invariant-loop-left
+invariant-loop-left l = (l.left ≤ length l.tasks) × (l.todo ≡ drop l.left l.tasks ++ l.initial.todo)
+
+abbrev pub decreases-loop-left : goal.decreases-loop-left
+decreases-loop-left l = l.left

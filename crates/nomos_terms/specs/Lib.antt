@@ -1,0 +1,2 @@
+pub mod KindAnswer
+pub mod mirror

@@ -1,0 +1,201 @@
+//! How the kind of a term is searched for: the tasks to which each form of term leads.
+ghost use Rattle.std.specs.Prelude.{◌≡◌, ◌∷◌, [], ◌++◌, ◌≤◌, length, OnOk, IsErrOf, option_copied, slice_get};
+ghost use Rattle.nomos_ir.specs.Bindings.{bound_to};
+ghost use Rattle.nomos_ir.specs.Program.{IsProgram};
+ghost use Rattle.nomos_ir.specs.TermKind.{list_kind};
+ghost use Rattle.nomos_terms.specs.declared.search.Task.TheVariants as task;
+ghost use Rattle.nomos_terms.specs.declared.stop.Stop.TheVariants.{NoKind};
+ghost use Rattle.nomos_terms.specs.mirror.Left.{IsDone, IsVain, IsCalled, argument_tasks};
+
+use crate::search::{Search, Task, plan};
+use crate::stop::Stop;
+use nomos_ir::bindings::{bound_first, bound_last};
+use nomos_ir::declaration::FnDecl;
+use nomos_ir::find::{find_function, find_term};
+use nomos_ir::ids::{FnId, TermId, VarId};
+use nomos_ir::kind::{Base, Kind};
+use nomos_ir::program::Program;
+use nomos_ir::stack::Stack;
+use nomos_ir::term_node::TermNode;
+use std::alloc::AllocError;
+
+/// The kind of numbers.
+const INT: Kind = Kind {
+    lists: 0,
+    base: Base::Int,
+};
+
+/// The kind of truth values.
+const BOOL: Kind = Kind {
+    lists: 0,
+    base: Base::Bool,
+};
+
+/// The kind of lists of values of a kind.
+fn list_of(kind: Kind) -> Kind
+    requires { kind.lists ≤ 64 }
+    ensures { result ≡ list_kind kind }
+{
+    Kind {
+        lists: kind.lists + 1,
+        base: kind.base,
+    }
+}
+
+/// Both sides of an operator are to have one kind, and then it has another.
+fn operate(
+    todo: &mut Stack<Task>,
+    a: TermId,
+    b: TermId,
+    takes: Kind,
+    gives: Kind,
+) -> Result<(), AllocError>
+    ensures { OnOk result
+        (todo.new ≡ task.Term a ∷ task.Expect takes ∷ task.Term b ∷ task.Expect takes ∷ task.Give gives ∷ todo.old) }
+{
+    let tasks = [
+        Task::Term(a),
+        Task::Expect(takes),
+        Task::Term(b),
+        Task::Expect(takes),
+        Task::Give(gives),
+    ];
+    plan(todo, &tasks)
+}
+
+/// The kind of a variable.
+fn kind_of(outer: &[(VarId, Kind)], bound: &Stack<(VarId, Kind)>, v: VarId) -> Option<Kind>
+    ensures { result ≡ bound_to v.0 (bound.now ++ outer.now) }
+{
+    match bound_last(bound.as_slice(), v) {
+        Some(kind) => Some(kind),
+        None => bound_first(outer, v),
+    }
+}
+
+/// The arguments of a call are to have the kinds of the parameters.
+fn arguments(
+    todo: &mut Stack<Task>,
+    values: &[TermId],
+    pars: &[(VarId, Kind)],
+) -> Result<(), AllocError>
+    requires { length values.now ≡ length pars.now }
+    ensures { OnOk result (todo.new ≡ argument_tasks values.now pars.now ++ todo.old) }
+{
+    let mut left = values.len();
+    while left > 0 {
+        left -= 1;
+        todo.push(Task::Expect(pars[left].1))?;
+        todo.push(Task::Term(values[left]))?;
+    }
+    Ok(())
+}
+
+/// The function that a call names, where the call has as many arguments as it has parameters.
+fn called(program: &Program, f: FnId, count: usize) -> Option<&FnDecl>
+    ensures { IsCalled program.now f count (option_copied result) }
+{
+    let function = find_function(program.lists(), f)?;
+    if function.pars.len() != count {
+        return None;
+    }
+    Some(function)
+}
+
+/// Does the task to find the kind of a term: finds it, or plans what leads to it.
+pub(crate) fn enter(
+    program: &Program,
+    outer: &[(VarId, Kind)],
+    search: &mut Search,
+    t: TermId,
+) -> Result<(), Stop>
+    ensures done { OnOk result (IsDone program.now outer.now (task.Term t) search.old search.new) }
+    ensures vain { IsErrOf result NoKind → IsVain program.now outer.now (task.Term t) search.old }
+{
+    match find_term(program.lists(), t) {
+        Some(node) => enter_node(program, outer, search, t, node),
+        None => Err(Stop::NoKind),
+    }
+}
+
+// Does this for the node of the term.
+fn enter_node(
+    program: &Program,
+    outer: &[(VarId, Kind)],
+    search: &mut Search,
+    t: TermId,
+    node: &TermNode,
+) -> Result<(), Stop>
+    requires there { slice_get program.now.terms t.0 ≡ Some node.now }
+    requires program { IsProgram program.now }
+    ensures done { OnOk result (IsDone program.now outer.now (task.Term t) search.old search.new) }
+    ensures vain { IsErrOf result NoKind → IsVain program.now outer.now (task.Term t) search.old }
+{
+    match node {
+        TermNode::Number(_, _) => Ok(search.kinds.push(INT)?),
+        TermNode::Truth(_, _) => Ok(search.kinds.push(BOOL)?),
+        TermNode::Var(_, v) => {
+            let Some(kind) = kind_of(outer, &search.bound, *v) else {
+                return Err(Stop::NoKind);
+            };
+            Ok(search.kinds.push(kind)?)
+        }
+        TermNode::Call(_, f, values) => {
+            let Some(function) = called(program, *f, values.len()) else {
+                return Err(Stop::NoKind);
+            };
+            search.todo.push(Task::Give(function.gives))?;
+            Ok(arguments(
+                &mut search.todo,
+                values.as_slice(),
+                function.pars.as_slice(),
+            )?)
+        }
+        TermNode::Nil(_, kind) => Ok(search.kinds.push(list_of(*kind))?),
+        TermNode::Add(_, a, b)
+        | TermNode::Sub(_, a, b)
+        | TermNode::Mul(_, a, b)
+        | TermNode::Div(_, a, b)
+        | TermNode::Rem(_, a, b) => Ok(operate(&mut search.todo, *a, *b, INT, INT)?),
+        TermNode::Less(_, a, b) | TermNode::Equal(_, a, b) => Ok(operate(
+            &mut search.todo,
+            *a,
+            *b,
+            INT,
+            BOOL,
+        )?),
+        TermNode::And(_, a, b) | TermNode::Or(_, a, b) => Ok(operate(
+            &mut search.todo,
+            *a,
+            *b,
+            BOOL,
+            BOOL,
+        )?),
+        TermNode::Cons(_, a, b) => Ok(plan(
+            &mut search.todo,
+            &[Task::Term(*a), Task::Term(*b), Task::Cons],
+        )?),
+        TermNode::Not(_, a) => {
+            Ok(plan(
+                &mut search.todo,
+                &[Task::Term(*a), Task::Expect(BOOL), Task::Give(BOOL)],
+            )?)
+        }
+        TermNode::If(_, test, a, b) => {
+            let tasks = [
+                Task::Term(*test),
+                Task::Expect(BOOL),
+                Task::Term(*a),
+                Task::Term(*b),
+                Task::Same,
+            ];
+            Ok(plan(&mut search.todo, &tasks)?)
+        }
+        TermNode::Match(_, list, empty, head, tail, full) => {
+            Ok(plan(
+                &mut search.todo,
+                &[Task::Term(*list), Task::Part(*empty, *head, *tail, *full)],
+            )?)
+        }
+    }
+}

@@ -1,0 +1,123 @@
+//! How the tasks of a search are done, other than to find the kind of a term.
+ghost use Rattle.std.specs.Prelude.{◌≡◌, IsSome, OnOk, IsErrOf, MatchOption};
+ghost use Rattle.nomos_ir.specs.declared.lists.ProgramLists.{ProgramLists};
+ghost use Rattle.nomos_ir.specs.TermKind.{VariableKinds, list_kind};
+ghost use Rattle.nomos_terms.specs.declared.search.Task.TheVariants as task;
+ghost use Rattle.nomos_terms.specs.declared.stop.Stop.TheVariants.{NoKind};
+ghost use Rattle.nomos_terms.specs.mirror.Left.{IsDone, IsVain};
+
+use crate::search::{Search, Task, plan};
+use crate::stop::Stop;
+use nomos_ir::ids::{TermId, VarId};
+use nomos_ir::kind::Kind;
+
+/// The kind of a list's elements, where the kind is that of a list.
+fn element_of(kind: Kind) -> Option<Kind>
+    ensures { MatchOption result ((element : Kind) → kind ≡ list_kind element → ⊥) (λ element. kind ≡ list_kind element) }
+{
+    if kind.lists == 0 {
+        return None;
+    }
+    Some(Kind {
+        lists: kind.lists - 1,
+        base: kind.base,
+    })
+}
+
+/// The kind found last is to be this one.
+pub(crate) fn expect(search: &mut Search, wanted: Kind) -> Result<(), Stop>
+    ensures done { (lists : ProgramLists) (outer : VariableKinds) → OnOk result (IsDone lists outer (task.Expect wanted) search.old search.new) }
+    ensures vain { (lists : ProgramLists) (outer : VariableKinds) → IsErrOf result NoKind → IsVain lists outer (task.Expect wanted) search.old }
+{
+    let Some(kind) = search.kinds.pop() else {
+        return Err(Stop::NoKind);
+    };
+    if kind != wanted {
+        return Err(Stop::NoKind);
+    }
+    Ok(())
+}
+
+/// The kind found last is to be that of lists of the kind found before it.
+pub(crate) fn put_before(search: &mut Search) -> Result<(), Stop>
+    ensures done { (lists : ProgramLists) (outer : VariableKinds) → OnOk result (IsDone lists outer task.Cons search.old search.new) }
+    ensures vain { (lists : ProgramLists) (outer : VariableKinds) → IsErrOf result NoKind → IsVain lists outer task.Cons search.old }
+{
+    let Some(list) = search.kinds.pop() else {
+        return Err(Stop::NoKind);
+    };
+    let Some(element) = search.kinds.pop() else {
+        return Err(Stop::NoKind);
+    };
+    let Some(wanted) = element_of(list) else {
+        return Err(Stop::NoKind);
+    };
+    if element != wanted {
+        return Err(Stop::NoKind);
+    }
+    search.kinds.push(list)?;
+    Ok(())
+}
+
+/// The two kinds found last are to be the same one.
+pub(crate) fn compare(search: &mut Search) -> Result<(), Stop>
+    ensures done { (lists : ProgramLists) (outer : VariableKinds) → OnOk result (IsDone lists outer task.Same search.old search.new) }
+    ensures vain { (lists : ProgramLists) (outer : VariableKinds) → IsErrOf result NoKind → IsVain lists outer task.Same search.old }
+{
+    let Some(second) = search.kinds.pop() else {
+        return Err(Stop::NoKind);
+    };
+    let Some(first) = search.kinds.pop() else {
+        return Err(Stop::NoKind);
+    };
+    if second != first {
+        return Err(Stop::NoKind);
+    }
+    search.kinds.push(second)?;
+    Ok(())
+}
+
+/// The two variables bound last are no longer in scope.
+pub(crate) fn unbind(search: &mut Search) -> Result<(), Stop>
+    ensures done { (lists : ProgramLists) (outer : VariableKinds) → OnOk result (IsDone lists outer task.Unbind search.old search.new) }
+    ensures vain { (lists : ProgramLists) (outer : VariableKinds) → IsErrOf result NoKind → IsVain lists outer task.Unbind search.old }
+{
+    if search.bound.pop().is_none() {
+        return Err(Stop::NoKind);
+    }
+    if search.bound.pop().is_none() {
+        return Err(Stop::NoKind);
+    }
+    Ok(())
+}
+
+/// The kind found last is to be that of a list, and the two parts are to have one kind.
+pub(crate) fn take_apart(
+    search: &mut Search,
+    empty: TermId,
+    head: VarId,
+    tail: VarId,
+    full: TermId,
+) -> Result<(), Stop>
+    ensures done { (lists : ProgramLists) (outer : VariableKinds) → OnOk result (IsDone lists outer (task.Part empty head tail full) search.old search.new) }
+    ensures vain { (lists : ProgramLists) (outer : VariableKinds) → IsErrOf result NoKind → IsVain lists outer (task.Part empty head tail full) search.old }
+{
+    let Some(list) = search.kinds.pop() else {
+        return Err(Stop::NoKind);
+    };
+    let Some(element) = element_of(list) else {
+        return Err(Stop::NoKind);
+    };
+    search.bound.push((head, element))?;
+    search.bound.push((tail, list))?;
+    plan(
+        &mut search.todo,
+        &[
+            Task::Term(full),
+            Task::Unbind,
+            Task::Term(empty),
+            Task::Same,
+        ],
+    )?;
+    Ok(())
+}
