@@ -14,15 +14,15 @@ use Rattle.nomos_types.proofs.ListLemmas.{greatest-above}
 all-last : {X : Type 0} (P : X → Type 0) (xs ys : List X) → All P (xs ++ ys) → All P ys
 all-last P xs ys all =
     λ k d inside.
-      let in_both : length xs + k < length (xs ++ ys) = simp length-append (omega arith) in
-      subst P (get_or-append-add xs ys k d) (all (length xs + k) d in_both)
+    let in_both : length xs + k < length (xs ++ ys) = simp length-append (omega arith) in
+    subst P (get_or-append-add xs ys k d) (all (length xs + k) d in_both)
 
 -- the same of the first
 all-first : {X : Type 0} (P : X → Type 0) (xs ys : List X) → All P (xs ++ ys) → All P xs
 all-first P xs ys all =
     λ k d inside.
-      let in_both : k < length (xs ++ ys) = simp length-append (omega arith) in
-      subst P (get_or_append_left xs ys d k inside) (all k d in_both)
+    let in_both : k < length (xs ++ ys) = simp length-append (omega arith) in
+    subst P (get_or_append_left xs ys d k inside) (all k d in_both)
 
 -- what holds of the items of all lists holds of those of one
 all-within : {X Y : Type 0} (P : Y → Type 0) (f : X → List Y) (xs : List X) (k : ℕ) (d : X) → All P (flat_map f xs) → k < length xs → All P (f (get_or xs k d))
@@ -43,9 +43,9 @@ declared-all P lists p d all inside =
 star-within : (amounts : List Amount) → All (λ a. star_of a ≤ most_star amounts) amounts
 star-within amounts =
     λ k d inside.
-      let there : k < length (map star_of amounts) = rw (length-map amounts star_of) inside in
-      let e : get_or (map star_of amounts) k 0 ≡ star_of (get_or amounts k d) = get_or-map star_of amounts k d 0 inside in
-      subst (λ (n : ℕ). n ≤ greatest (map star_of amounts)) e (greatest-above (map star_of amounts) k 0 there)
+    let there : k < length (map star_of amounts) = rw (length-map amounts star_of) inside in
+    let e : get_or (map star_of amounts) k 0 ≡ star_of (get_or amounts k d) = get_or-map star_of amounts k d 0 inside in
+    subst (λ (n : ℕ). n ≤ greatest (map star_of amounts)) e (greatest-above (map star_of amounts) k 0 there)
 
 -- the declared amount of a process is an amount
 pub declared-is_amount : (lists : ProgramLists) (p : ℕ) (d : ProcDecl) → AmountsAreSmall lists → p < length lists.procs → IsAmount (get_or lists.procs p d).amount

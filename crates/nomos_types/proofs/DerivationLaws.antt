@@ -38,7 +38,7 @@ module _ {lists : ProgramLists} {x : Annotations} where
   -- each of those that cover others has a derivation where those have
   each-derives : {js ks : List Judgement} (l : Judgement) → IsWellFormed lists → CoversEach lists x js ks → ((k : Judgement) → Contains ks k → Derives lists x k) → Contains js l → Derives lists x l
   each-derives l formed none each (i, inside, is) = absurd (omega arith)
-  each-derives l formed (more {j} {k} {js} {ks} covers others) each (zero, inside, is) = 
+  each-derives l formed (more {j} {k} {js} {ks} covers others) each (zero, inside, is) =
       subst (Derives lists x) is (derives-covers formed covers (each k (0, omega arith, refl)))
   each-derives l formed (more {j} {k} {js} {ks} covers others) each (suc i, inside, is) =
       each-derives l formed others (λ m (at, within, there). each m (suc at, omega arith, there)) (i, omega arith, is)

@@ -11,12 +11,15 @@ pub mod FollowingLaws
 pub mod HeadLaws
 pub mod JudgementLaws
 pub mod JudgementParts
+pub mod LeastLemmas
 pub mod ListLemmas
 pub mod ModeLaws
 pub mod ModeSettingLemmas
 pub mod ModeTableLaws
 pub mod Nodes
 pub mod OccurrenceLemmas
+pub mod OffenceLaws
+pub mod OffenceLemmas
 pub mod RowLaws
 pub mod RowLemmas
 pub mod StandsLemmas

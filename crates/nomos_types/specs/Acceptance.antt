@@ -3,7 +3,7 @@ use Rattle.std.specs.Prelude.{◌≡◌, ◌<◌, ◌≤◌, ◌^◌, ℕ, List,
 use Rattle.nomos_ir.specs.Amounts.{star_count}
 use Rattle.nomos_ir.specs.Program.{IsProgram}
 use Rattle.nomos_ir.specs.declared.lists.ProgramLists.{ProgramLists}
-use Rattle.nomos_types.specs.Amount.{Annotations}
+use Rattle.nomos_types.specs.Amount.{Annotations, HasUnit}
 use Rattle.nomos_types.specs.Fragment.Typed.{IsTyped}
 
 -- a program with an amount for each of its stars
@@ -18,7 +18,7 @@ acceptance lists stars unit = record { program = lists; annotations = record { s
 -- The program is one, and typed under its amounts, of which there is one for each star; all numbers fit.
 pub record IsAccepted (a : Acceptance) : Type 0 where
   pub is_program : IsProgram a.program
-  pub some_unit : 1 ≤ a.annotations.unit
+  pub some_unit : HasUnit a.annotations
   pub small_unit : a.annotations.unit ≤ 2 ^ 31
   pub each_star : length a.annotations.stars ≡ star_count a.program
   pub small_stars : All (λ q. q < 2 ^ 62) a.annotations.stars

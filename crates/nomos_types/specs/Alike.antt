@@ -17,9 +17,11 @@ pub record AlikeTypes (lists : ProgramLists) (x : Annotations) (a b : TypeId) : 
   pub right_mode : HasMode lists b mode
 
 -- the same variables, with types that are alike
-pub data AlikeChannels (lists : ProgramLists) (x : Annotations) : List (VarId × TypeId) → List (VarId × TypeId) → Type 0 where
+pub data AlikeChannels (lists : ProgramLists) (x : Annotations) : List (VarId × TypeId) → List (VarId × TypeId)
+    → Type 0 where
   none : AlikeChannels lists x [] []
-  channel : (v : VarId) (a b : TypeId) (channels others : List (VarId × TypeId)) → AlikeTypes lists x a b → AlikeChannels lists x channels others → AlikeChannels lists x ((v, a) ∷ channels) ((v, b) ∷ others)
+  channel : (v : VarId) (a b : TypeId) (channels others : List (VarId × TypeId)) → AlikeTypes lists x a b
+      → AlikeChannels lists x channels others → AlikeChannels lists x ((v, a) ∷ channels) ((v, b) ∷ others)
 
 -- the judgements differ only in types that are alike
 pub record Alike (lists : ProgramLists) (x : Annotations) (j k : Judgement) : Type 0 where

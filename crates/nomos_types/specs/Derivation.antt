@@ -11,14 +11,16 @@ use Rattle.nomos_types.specs.Row.{Row}
 -- A judgement has a derivation where one that is alike, with at most its potential, stands in a row, and each judgement with
 -- which that row goes on has a derivation.
 pub data Derives (lists : ProgramLists) (x : Annotations) : Judgement → Type 0 where
-  by_row : {j : Judgement} → (k : Judgement) (q : ℕ) (after : List Judgement) → Alike lists x j k → q ≤ k.q → Row lists x (with_potential k q) after
+  by_row : {j : Judgement} → (k : Judgement) (q : ℕ) (after : List Judgement) → Alike lists x j k → q ≤ k.q
+      → Row lists x (with_potential k q) after
       → ((next : Judgement) → Contains after next → Derives lists x next)
       → Derives lists x j
 
 -- The judgement follows from a first one by rows alone, without any replacement.
 pub data Follows (lists : ProgramLists) (x : Annotations) (first : Judgement) : Judgement → Type 0 where
   first : Follows lists x first first
-  next : {j k : Judgement} → (after : List Judgement) → Follows lists x first j → Row lists x j after → Contains after k → Follows lists x first k
+  next : {j k : Judgement} → (after : List Judgement) → Follows lists x first j → Row lists x j after
+      → Contains after k → Follows lists x first k
 
 -- A declaration has a skeleton: a derivation in which amounts are ignored.
 abbrev pub HasSkeleton : ProgramLists → ProcDecl → Type 0

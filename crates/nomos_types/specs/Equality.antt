@@ -24,13 +24,16 @@ SameBranches R branches others = (l : Label) → BothOrNeither R (goes_by branch
 -- Two nodes have the same constructor, labels, kind and amount, and their parts are related.
 pub data SameHead (x : Annotations) (R : TypeId → TypeId → Type 0) : TypeNode → TypeNode → Type 0 where
   one : SameHead x R node.One node.One
-  plus : (branches others : List Branch) → SameBranches R branches others → SameHead x R (node.Plus branches) (node.Plus others)
-  with : (branches others : List Branch) → SameBranches R branches others → SameHead x R (node.With branches) (node.With others)
+  plus : (branches others : List Branch) → SameBranches R branches others
+      → SameHead x R (node.Plus branches) (node.Plus others)
+  with : (branches others : List Branch) → SameBranches R branches others
+      → SameHead x R (node.With branches) (node.With others)
   tensor : (a b c d : TypeId) → R a c → R b d → SameHead x R (node.Tensor a b) (node.Tensor c d)
   lolli : (a b c d : TypeId) → R a c → R b d → SameHead x R (node.Lolli a b) (node.Lolli c d)
   value_out : (kind : Kind) (a b : TypeId) → R a b → SameHead x R (node.ValueOut kind a) (node.ValueOut kind b)
   value_in : (kind : Kind) (a b : TypeId) → R a b → SameHead x R (node.ValueIn kind a) (node.ValueIn kind b)
-  pot_out : (q r : Amount) (a b : TypeId) → dths x q ≡ dths x r → R a b → SameHead x R (node.PotOut q a) (node.PotOut r b)
+  pot_out : (q r : Amount) (a b : TypeId) → dths x q ≡ dths x r → R a b
+      → SameHead x R (node.PotOut q a) (node.PotOut r b)
   pot_in : (q r : Amount) (a b : TypeId) → dths x q ≡ dths x r → R a b → SameHead x R (node.PotIn q a) (node.PotIn r b)
   up : (a b : TypeId) → R a b → SameHead x R (node.Up a) (node.Up b)
   down : (a b : TypeId) → R a b → SameHead x R (node.Down a) (node.Down b)
@@ -52,7 +55,8 @@ Agree lists x (suc n) a b = SameUnfolding lists x (Agree lists x n) a b
 abbrev pub EqualTypes : ProgramLists → Annotations → TypeId → TypeId → Type 0
 EqualTypes lists x a b = (n : ℕ) → Agree lists x n a b
 
--- Amounts that are all 0. Under them equality is equality of shape, and no condition on a potential bites.
+-- Amounts that are all 0. Under them equality is equality of shape, and no condition on a potential bites in what follows
+-- from a start. They are over no unit.
 abbrev pub no_amounts : Annotations
 no_amounts = record { stars = []; unit = 0 }
 

@@ -54,7 +54,8 @@ parts_with j v =
 abbrev pub IsFree : Judgement → VarId → Type 0
 IsFree j v = parts_with j v.0 ≡ 0
 
--- Each part is a map, no variable stands in two, and each channel has a mode that the process may hold or offer.
+-- Each part is a map, and no variable stands in two. References have mode S; channels that are used exactly once have a mode
+-- of such channels that the process may hold; `self` has the mode of the process.
 pub record IsJudgement (lists : ProgramLists) (j : Judgement) : Type 0 where
   pub kinds : IsAscending j.kinds
   pub lists_ascend : IsAscending j.lists

@@ -5,6 +5,7 @@ pub mod Arguments
 pub mod Branches
 pub mod Derivation
 pub mod Equality
+pub mod Forming
 pub mod Fragment
 pub mod Judgement
 pub mod Lines

@@ -50,7 +50,8 @@ pub record SendsLabel (lists : ProgramLists) (j : Judgement) (c : Chan) (l : Lab
 -- the arms go on, each at the type of its label, in order
 pub data ArmsGoOn (j : Judgement) (c : Chan) (branches : List Branch) : List Arm → List Judgement → Type 0 where
   none : ArmsGoOn j c branches [] []
-  arm : {a : Arm} {arms : List Arm} {after : List Judgement} → (t : TypeId) → goes_by branches a.label ≡ Some t → ArmsGoOn j c branches arms after → ArmsGoOn j c branches (a ∷ arms) (goes_on j c t a.goes ∷ after)
+  arm : {a : Arm} {arms : List Arm} {after : List Judgement} → (t : TypeId) → goes_by branches a.label ≡ Some t
+      → ArmsGoOn j c branches arms after → ArmsGoOn j c branches (a ∷ arms) (goes_on j c t a.goes ∷ after)
 
 -- A label is awaited: a choice that is made at the other end, whose labels are exactly those of the arms.
 pub record AwaitsLabel (lists : ProgramLists) (j : Judgement) (c : Chan) (arms : List Arm) (after : List Judgement) : Type 0 where

@@ -86,7 +86,8 @@ whole_modes lists =
 -- the mode of a type node, by its place
 pub data HasMode (lists : ProgramLists) : TypeId → Mode → Type 0 where
   whole : {t : TypeId} {m : Mode} → Contains (whole_modes lists) (t, m) → HasMode lists t m
-  part : {t : TypeId} {m : Mode} → (outer : TypeId) (n : Mode) (node : TypeNode) → HasMode lists outer n → type_node lists outer.0 ≡ Some node → Contains (part_modes lists n node) (t, m) → HasMode lists t m
+  part : {t : TypeId} {m : Mode} → (outer : TypeId) (n : Mode) (node : TypeNode) → HasMode lists outer n
+      → type_node lists outer.0 ≡ Some node → Contains (part_modes lists n node) (t, m) → HasMode lists t m
 
 -- the modes of channels that are used exactly once
 abbrev pub IsLinearMode : Mode → Type 0
@@ -103,7 +104,8 @@ Allows lists m _ = IsLinearMode m
 -- A program obeys the tables of modes.
 pub record ObeysModes (lists : ProgramLists) : Type 0 where
   -- each node is allowed at its mode
-  pub allowed : (t : TypeId) (m : Mode) (node : TypeNode) → HasMode lists t m → type_node lists t.0 ≡ Some node → Allows lists m node
+  pub allowed : (t : TypeId) (m : Mode) (node : TypeNode) → HasMode lists t m → type_node lists t.0 ≡ Some node
+      → Allows lists m node
   -- a process may hold its channel parameters
   pub held : All (λ d. All (λ par. IsTrue (may_hold d.mode (parameter_mode lists par.1))) d.channels) lists.procs
   -- no definition has the mode of transactions
@@ -111,8 +113,10 @@ pub record ObeysModes (lists : ProgramLists) : Type 0 where
 
 -- A type node stands where the tables of modes forbid it.
 pub data Offends (lists : ProgramLists) : TypeId → Type 0 where
-  forbidden : {t : TypeId} → (m : Mode) (node : TypeNode) → HasMode lists t m → type_node lists t.0 ≡ Some node → ¬ (Allows lists m node) → Offends lists t
+  forbidden : {t : TypeId} → (m : Mode) (node : TypeNode) → HasMode lists t m → type_node lists t.0 ≡ Some node
+      → ¬ (Allows lists m node) → Offends lists t
   -- the type of a channel parameter that its process may not hold
-  not_held : (d : ProcDecl) (k : VarId) (t : TypeId) → Contains lists.procs d → Contains d.channels (k, t) → ¬ (IsTrue (may_hold d.mode (parameter_mode lists t))) → Offends lists t
+  not_held : (d : ProcDecl) (k : VarId) (t : TypeId) → Contains lists.procs d → Contains d.channels (k, t)
+      → ¬ (IsTrue (may_hold d.mode (parameter_mode lists t))) → Offends lists t
   -- the body of a definition that has the mode of transactions
   of_transactions : (d : Def) → Contains lists.defs d → d.mode ≡ mode.T → Offends lists d.body

@@ -42,7 +42,8 @@ abbrev pub gives_up : Judgement → VarId → Judgement
 gives_up j v = record j { linear = unbind v.0 j.linear }
 
 pub data Row (lists : ProgramLists) (x : Annotations) : Judgement → List Judgement → Type 0 where
-  label : {j : Judgement} {at : ℕ} {c : Chan} {l : Label} {next : CodeId} → StandsAtCode lists j (code.Label at c l next)
+  label : {j : Judgement} {at : ℕ} {c : Chan} {l : Label} {next : CodeId}
+      → StandsAtCode lists j (code.Label at c l next)
       → (t : TypeId) → SendsLabel lists j c l t
       → Row lists x j (goes_on j c t next ∷ [])
   case : {j : Judgement} {at : ℕ} {c : Chan} {arms : List Arm} → StandsAtCode lists j (code.Case at c arms)
@@ -84,16 +85,19 @@ pub data Row (lists : ProgramLists) (x : Annotations) : Judgement → List Judge
   release : {j : Judgement} {at : ℕ} {v a : VarId} {next : CodeId} → StandsAtCode lists j (code.Release at v a next)
       → (t : TypeId) → Releases lists j v a t
       → Row lists x j (binds_channel (at_code (gives_up j v) next) a mode.S t ∷ [])
-  spawn : {j : Judgement} {at : ℕ} {v : VarId} {f : ProcId} {args : Args} {next : CodeId} → StandsAtCode lists j (code.Spawn at v f args next)
+  spawn : {j : Judgement} {at : ℕ} {v : VarId} {f : ProcId} {args : Args} {next : CodeId}
+      → StandsAtCode lists j (code.Spawn at v f args next)
       → (d : ProcDecl) (left : Judgement) → Spawns lists x j v f args d left
       → Row lists x j (binds_channel (with_potential (at_code left next) (j.q - dths x d.amount)) v d.mode d.offers ∷ [])
-  «let» : {j : Judgement} {at : ℕ} {v : VarId} {e : TermId} {next : CodeId} → StandsAtCode lists j (code.Let at v e next)
+  «let» : {j : Judgement} {at : ℕ} {v : VarId} {e : TermId} {next : CodeId}
+      → StandsAtCode lists j (code.Let at v e next)
       → (kind : Kind) → HasKind lists j.kinds e kind → IsFree j v
       → Row lists x j (binds_value (at_code j next) v kind ∷ [])
   emit : {j : Judgement} {at : ℕ} {e : TermId} {next : CodeId} → StandsAtCode lists j (code.Emit at e next)
       → (kind : Kind) → HasKind lists j.kinds e kind
       → Row lists x j (at_code j next ∷ [])
-  choose : {j : Judgement} {at : ℕ} {e : TermId} {then_next else_next : CodeId} → StandsAtCode lists j (code.If at e then_next else_next)
+  choose : {j : Judgement} {at : ℕ} {e : TermId} {then_next else_next : CodeId}
+      → StandsAtCode lists j (code.If at e then_next else_next)
       → HasKind lists j.kinds e bool_kind
       → Row lists x j (at_code j then_next ∷ at_code j else_next ∷ [])
   close : {j : Judgement} {at : ℕ} → StandsAtCode lists j (code.Close at)
@@ -105,12 +109,15 @@ pub data Row (lists : ProgramLists) (x : Annotations) : Judgement → List Judge
   call : {j : Judgement} {at : ℕ} {f : ProcId} {args : Args} → StandsAtCode lists j (code.Call at f args)
       → Calls lists x j f args
       → Row lists x j []
-  empty : {j : Judgement} {at : ℕ} {v : VarId} {r : Amount} {kind : Kind} {next : CodeId} → StandsAtCode lists j (code.Empty at v r kind next)
+  empty : {j : Judgement} {at : ℕ} {v : VarId} {r : Amount} {kind : Kind} {next : CodeId}
+      → StandsAtCode lists j (code.Empty at v r kind next)
       → IsFree j v
       → Row lists x j (binds_list (at_code j next) v (record { kind = kind; amount = dths x r }) ∷ [])
-  add : {j : Judgement} {at : ℕ} {v : VarId} {e : TermId} {w : VarId} {next : CodeId} → StandsAtCode lists j (code.Add at v e w next)
+  add : {j : Judgement} {at : ℕ} {v : VarId} {e : TermId} {w : VarId} {next : CodeId}
+      → StandsAtCode lists j (code.Add at v e w next)
       → (list : ListType) → Adds lists j v e w list
       → Row lists x j (with_potential (binds_list (record (at_code j next) { lists = unbind w.0 j.lists }) v list) (j.q - list.amount) ∷ [])
-  match : {j : Judgement} {at : ℕ} {w head tail : VarId} {empty_next full_next : CodeId} → StandsAtCode lists j (code.Match at w empty_next head tail full_next)
+  match : {j : Judgement} {at : ℕ} {w head tail : VarId} {empty_next full_next : CodeId}
+      → StandsAtCode lists j (code.Match at w empty_next head tail full_next)
       → (list : ListType) → TakesApart j w head tail list
       → Row lists x j (record (at_code j empty_next) { lists = unbind w.0 j.lists } ∷ with_potential (binds_value (binds_list (record (at_code j full_next) { lists = unbind w.0 j.lists }) tail list) head list.kind) (j.q + list.amount) ∷ [])

@@ -24,7 +24,8 @@ continuations _ = []
 -- a path of continuations leads from the first type to the second; it crosses no `up` and no `down`
 pub data Reaches (lists : ProgramLists) (from : TypeId) : TypeId → Type 0 where
   here : Reaches lists from from
-  further : {t u : TypeId} → (node : TypeNode) → Reaches lists from t → Unfolds lists t.0 node → Contains (continuations node) u → Reaches lists from u
+  further : {t u : TypeId} → (node : TypeNode) → Reaches lists from t → Unfolds lists t.0 node
+      → Contains (continuations node) u → Reaches lists from u
 
 -- every `down` at the end of a path from the first type goes back to the second
 abbrev pub IsSynchronizingAt : ProgramLists → Annotations → TypeId → TypeId → Type 0

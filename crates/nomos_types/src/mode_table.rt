@@ -107,7 +107,9 @@ fn set_parts(program: &Program, node: &TypeNode, mode: Mode, modes: &mut [Mode])
 {
     match node {
         TypeNode::One | TypeNode::Named(_) => {}
-        TypeNode::Plus(branches) | TypeNode::With(branches) => { set_branches(branches.as_slice(), mode, modes) }
+        TypeNode::Plus(branches) | TypeNode::With(branches) => {
+            set_branches(branches.as_slice(), mode, modes)
+        }
         TypeNode::Tensor(carried, rest) | TypeNode::Lolli(carried, rest) => {
             set_carrying(program, *carried, *rest, mode, modes)
         }

@@ -15,10 +15,10 @@ branches-below n branches count (inr is) below = subst (λ m. AllBelow count (ty
 pub set_branches-requires : goal.set_branches-requires
 set_branches-requires c =
     λ k d inside.
-      let branches = c.in-Plus.branches in
-      let same = c.as_slice.ensures in
-      let within : k < length branches = rw (← same) inside in
-      let there : k < length (map (λ (b : Branch). b.goes.0) branches) = rw (length-map branches (λ (b : Branch). b.goes.0)) within in
-      let below = branches-below c.args.node.now branches (length c.args.program.now.types) c.in-Plus.is c.requires.parts k d.goes.0 there in
-      let at = get_or-map (λ (b : Branch). b.goes.0) branches k d d.goes.0 within in
-      rw (same, c.requires.types, ← at) below
+    let branches = c.in-Plus.branches in
+    let same = c.as_slice.ensures in
+    let within : k < length branches = rw (← same) inside in
+    let there : k < length (map (λ (b : Branch). b.goes.0) branches) = rw (length-map branches (λ (b : Branch). b.goes.0)) within in
+    let below = branches-below c.args.node.now branches (length c.args.program.now.types) c.in-Plus.is c.requires.parts k d.goes.0 there in
+    let at = get_or-map (λ (b : Branch). b.goes.0) branches k d d.goes.0 within in
+    rw (same, c.requires.types, ← at) below
