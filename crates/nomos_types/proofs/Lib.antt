@@ -1,4 +1,5 @@
 pub mod AlikeLaws
+pub mod ArgumentsExamples
 pub mod ArgumentsLaws
 pub mod BranchLemmas
 pub mod Covering
@@ -15,6 +16,8 @@ pub mod ListLemmas
 pub mod ModeLaws
 pub mod Nodes
 pub mod OccurrenceLemmas
+pub mod RowExampleProgram
+pub mod RowExamples
 pub mod RowLaws
 pub mod RowLemmas
 pub mod StandsLemmas

@@ -57,7 +57,7 @@ abbrev offer_places : ProgramLists → List ℕ
 offer_places lists = map (λ d. d.offers.0) lists.procs
 
 -- the parts of a node beside its offset
-abbrev node_parts : TypeAt → List ℕ
+abbrev pub node_parts : TypeAt → List ℕ
 node_parts at = type_parts at.node
 
 -- the whole types with modes are the whole types in their places
@@ -131,7 +131,7 @@ whole-in_range lists t is_program among =
     All-contains P (before ++ offer_places lists) t all there
 
 -- the numbers of types that stand as parts are parts
-part-number : (lists : ProgramLists) (m k : Mode) (n : TypeNode) (t : TypeId) → Contains (part_modes lists m n) (t, k) → Contains (type_parts n) t.0
+pub part-number : (lists : ProgramLists) (m k : Mode) (n : TypeNode) (t : TypeId) → Contains (part_modes lists m n) (t, k) → Contains (type_parts n) t.0
 part-number lists m k n t among =
     let numbered = contains-map number_of (part_modes lists m n) (t, k) t.0 among refl in
     subst (λ (xs : List ℕ). Contains xs t.0) (part-numbers lists m n) numbered
