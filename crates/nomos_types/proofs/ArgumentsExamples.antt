@@ -1,5 +1,6 @@
 -- The typing rules where channels, values and lists are passed on: small judgements to which they apply, and near misses.
-use Rattle.std.proofs.Common.{◌≡◌, List, [], ◌∷◌, Some, None, subst, ap, refl, lit≤, lit<, arith}
+use Rattle.std.proofs.Common.{◌≡◌, ℕ, List, [], ◌∷◌, Some, None, slice_get, subst, ap, refl, lit≤, lit<, arith}
+use Rattle.nomos_ir.specs.declared.code_node.Args.{Args}
 use Rattle.nomos_ir.specs.declared.code_node.ValueArg.{ValueArg}
 use Rattle.nomos_ir.specs.declared.code_node.ValueArg.TheVariants as arg
 use Rattle.nomos_ir.specs.declared.declaration.Par.{Par}
@@ -23,10 +24,17 @@ use Rattle.nomos_types.proofs.RowLaws.{row-inverted}
 
 -- ---- what passing says
 
--- no values leave everything
-no-values : {j k : Judgement} → PassesValues tried units j [] [] k → k ≡ j
-no-values passes.none = refl
+-- the declaration is the one that stands there
+declared-fit : {j : Judgement} {args : Args} {left : Judgement} (f : ℕ) (d e : ProcDecl) → slice_get tried.procs f ≡ Some d → slice_get tried.procs f ≡ Some e → ArgumentsFit tried units j d args left → ArgumentsFit tried units j e args left
+declared-fit {j} {args} {left} f d e d_there e_there fit =
+    let same : d ≡ e = cc in
+    subst (λ (p : ProcDecl). ArgumentsFit tried units j p args left) same fit
 
+-- where no values pass, channels pass from the start
+channels-alone : {j k left : Judgement} {vs : List VarId} {pars : List (VarId × TypeId)} → PassesValues tried units j [] [] k → PassesChannels tried units k vs pars left → PassesChannels tried units j vs pars left
+channels-alone passes.none channels = channels
+
+-- no channels leave everything
 no-more_channels : {j k : Judgement} → PassesChannels tried units j [] [] k → k ≡ j
 no-more_channels passes.none = refl
 
@@ -76,15 +84,14 @@ spawn-too_little after applied =
 spawn-contract : IsRefused (holding 24 (bare mode.L 1 21 22))
 spawn-contract after applied =
     let (d, left, says, goes) = row-inverted _ refl applied in
-    let declared = says.declared in
-    let same : d ≡ one_channel = cc in
-    let fit = subst (λ (e : ProcDecl). ArgumentsFit tried units (holding 24 (bare mode.L 1 21 22)) e (record { values = []; channels = var_id 1 ∷ [] }) left) same says.arguments in
-    let channels = subst (λ (i : Judgement). PassesChannels tried units i (var_id 1 ∷ []) one_channel.channels left) (no-values fit.values) fit.channels in
-    let (k, first, others) = first-channel channels in
+    let fit = declared-fit 0 d one_channel says.declared refl says.arguments in
+    let (k, first, others) = first-channel (channels-alone fit.values fit.channels) in
     let (own, found, alike, used) = channel-used first refl in
     let its_own : own ≡ type_id 24 = cc in
-    let equal = subst (λ (t : TypeId). AlikeTypes tried units t (type_id 26)) its_own alike in
-    not-equal (type_id 24) (type_id 26) (node.Down (type_id 25)) node.One (constructor 24 (node.Down (type_id 25)) refl tt) (ends 26 refl) (λ h. elim h [ ]) equal.equal
+    let equal = subst (λ (t : TypeId). AlikeTypes tried units t (type_id 26)) {x = own} its_own alike in
+    let held = node.Down (type_id 25) in
+    let there = constructor 24 held refl tt in
+    not-equal (type_id 24) (type_id 26) held node.One there (ends 26 refl) (λ h. elim h [ ]) equal.equal
 
 -- a reference passes twice
 spawn-references : Applies (referring 28 (bare mode.R 1 22 27))
@@ -105,11 +112,8 @@ spawn-references =
 spawn-twice : IsRefused (holding 31 (bare mode.R 1 23 27))
 spawn-twice after applied =
     let (d, left, says, goes) = row-inverted _ refl applied in
-    let declared = says.declared in
-    let same : d ≡ two_channels = cc in
-    let fit = subst (λ (e : ProcDecl). ArgumentsFit tried units (holding 31 (bare mode.R 1 23 27)) e (record { values = []; channels = var_id 1 ∷ var_id 1 ∷ [] }) left) same says.arguments in
-    let channels = subst (λ (i : Judgement). PassesChannels tried units i (var_id 1 ∷ var_id 1 ∷ []) two_channels.channels left) (no-values fit.values) fit.channels in
-    let (k, first, others) = first-channel channels in
+    let fit = declared-fit 2 d two_channels says.declared refl says.arguments in
+    let (k, first, others) = first-channel (channels-alone fit.values fit.channels) in
     let (own, found, alike, used) = channel-used first refl in
     let (i, second, rest) = first-channel others in
     let again = subst (λ (l : Judgement). PassesChannel tried units l (var_id 1) (type_id 32) i) used second in
@@ -143,11 +147,8 @@ and_another j = record j { linear = (var_id 1, type_id 31) ∷ (var_id 2, type_i
 call-holding : IsRefused (and_another (bare mode.R 1 30 27))
 call-holding after applied =
     let (says, goes) = row-inverted _ refl applied in
-    let declared = says.declared in
-    let same : says.d ≡ one_channel = cc in
-    let fit = subst (λ (e : ProcDecl). ArgumentsFit tried units (and_another (bare mode.R 1 30 27)) e (record { values = []; channels = var_id 1 ∷ [] }) says.left) same says.arguments in
-    let channels = subst (λ (i : Judgement). PassesChannels tried units i (var_id 1 ∷ []) one_channel.channels says.left) (no-values fit.values) fit.channels in
-    let (k, first, others) = first-channel channels in
+    let fit = declared-fit 0 says.d one_channel says.declared refl says.arguments in
+    let (k, first, others) = first-channel (channels-alone fit.values fit.channels) in
     let (own, found, alike, used) = channel-used first refl in
     let left_is = no-more_channels others in
     let linear = ap (λ (j : Judgement). j.linear) used in
@@ -177,9 +178,7 @@ spawn-lists = (
 spawn-list_twice : IsRefused (listing (bare mode.R 1 24 27))
 spawn-list_twice after applied =
     let (d, left, says, goes) = row-inverted _ refl applied in
-    let declared = says.declared in
-    let same : d ≡ two_lists = cc in
-    let fit = subst (λ (e : ProcDecl). ArgumentsFit tried units (listing (bare mode.R 1 24 27)) e (record { values = arg.List (var_id 1) ∷ arg.List (var_id 1) ∷ []; channels = [] }) left) same says.arguments in
+    let fit = declared-fit 3 d two_lists says.declared refl says.arguments in
     let (k, first, others) = first-value fit.values in
     let (list, found, used) = list-used first in
     let (i, second, rest) = first-value others in

@@ -6,6 +6,7 @@ pub mod Covering
 pub mod CoveringRows
 pub mod Declared
 pub mod DerivationLaws
+pub mod EqualityExamples
 pub mod EqualityLaws
 pub mod Examples
 pub mod FollowingLaws

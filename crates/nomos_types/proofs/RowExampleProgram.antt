@@ -1,4 +1,4 @@
--- Lists of types, declarations and instructions, on which the typing rules are tried, and judgements at the instructions.
+-- Types, declarations and instructions, on which the typing rules are tried, and judgements at the instructions.
 use Rattle.std.proofs.Common.{ℕ, List, [], ◌∷◌, true, None, Some}
 use Rattle.std.specs.Prelude.{codes}
 use Rattle.nomos_ir.specs.declared.amount.Amount.TheVariants.{Written}
@@ -210,7 +210,7 @@ abbrev pub bare : Mode → ℕ → ℕ → ℕ → Judgement
 bare m q c t =
     record { mode = m; kinds = []; lists = []; shared = []; linear = []; q = q; code = code_id c; offers = type_id t }
 
--- with a channel that is used exactly once; with a reference; with a list of numbers, each of which carries 2; with a number
+-- with a channel that is used exactly once; with a reference; with a list of numbers that each carry 2; with a number
 abbrev pub holding : ℕ → Judgement → Judgement
 holding t j = record j { linear = (var_id 1, type_id t) ∷ [] }
 

@@ -54,12 +54,15 @@ IsRefused j = (after : List Judgement) → ¬ (Row tried units j after)
 -- types that end, by the name of their definition
 pub ends : (t : ℕ) → type_node tried t ≡ Some (node.Named (record { 0 = 0 })) → Unfolds tried t node.One
 ends t there =
-    name t (record { 0 = 0 }) (record { name = _; mode = mode.R; body = type_id 0 }) node.One there refl (constructor 0 node.One refl tt)
+    let body = constructor 0 node.One refl tt in
+    name t (record { 0 = 0 }) (record { name = _; mode = mode.R; body = type_id 0 }) node.One there refl body
 
 -- a type that is a name of the shared definition
 pub shares : (t : ℕ) → type_node tried t ≡ Some (node.Named (record { 0 = 9 })) → Unfolds tried t (node.Up (type_id 22))
 shares t there =
-    name t (record { 0 = 9 }) (record { name = _; mode = mode.S; body = type_id 21 }) (node.Up (type_id 22)) there refl (constructor 21 (node.Up (type_id 22)) refl tt)
+    let up_node = node.Up (type_id 22) in
+    let body = constructor 21 up_node refl tt in
+    name t (record { 0 = 9 }) (record { name = _; mode = mode.S; body = type_id 21 }) up_node there refl body
 
 -- the node to which the type of `self` unfolds, and that of a held channel, is the one that stands there
 own-type : (m : Mode) (q c t : ℕ) (n : TypeNode) → type_node tried t ≡ Some n → IsConstructor n → HasType tried (bare m q c t) chan.Own n
@@ -151,7 +154,8 @@ shared-alike t there its_mode =
 
 label-applies : Applies (bare mode.R 0 1 1)
 label-applies =
-    (_, row.label refl (type_id 2) (record { branches = plus_branches; channel = own-type mode.R 0 1 1 (node.Plus plus_branches) refl tt; goes = refl }))
+    let channel = own-type mode.R 0 1 1 (node.Plus plus_branches) refl tt in
+    (_, row.label refl (type_id 2) (record { branches = plus_branches; channel = channel; goes = refl }))
 
 -- the client of that choice does not make it
 label-by_client : IsRefused (holding 1 (bare mode.R 0 2 27))
@@ -253,20 +257,23 @@ recv-taken after applied =
 
 put-applies : Applies (bare mode.R 0 9 13)
 put-applies =
-    (_, row.put refl (type_id 14) (record { kind = int_kind; channel = own-type mode.R 0 9 13 (node.ValueOut int_kind (type_id 14)) refl tt; value = seven [] }))
+    let channel = own-type mode.R 0 9 13 (node.ValueOut int_kind (type_id 14)) refl tt in
+    (_, row.put refl (type_id 14) (record { kind = int_kind; channel = channel; value = seven [] }))
 
 -- the value has another kind
 put-other_kind : IsRefused (bare mode.R 0 10 13)
 put-other_kind after applied =
     let (t, says, goes) = row-inverted _ refl applied in
-    let same = own-is mode.R 0 10 13 (node.ValueOut int_kind (type_id 14)) (node.ValueOut says.kind t) refl tt says.channel in
-    let kinds : bool_kind ≡ says.kind = HasKind-unique tried [] (record { 0 = 1 }) bool_kind says.kind (truth []) says.value in
+    let out = node.ValueOut int_kind (type_id 14) in
+    let same = own-is mode.R 0 10 13 out (node.ValueOut says.kind t) refl tt says.channel in
+    let kinds = HasKind-unique tried [] (record { 0 = 1 }) bool_kind says.kind (truth []) says.value in
     let clash : bool_kind ≡ int_kind = cc in
     bool-not_int clash
 
 take-applies : Applies (bare mode.R 0 11 15)
 take-applies =
-    (_, row.take refl int_kind (type_id 16) (record { channel = own-type mode.R 0 11 15 (node.ValueIn int_kind (type_id 16)) refl tt; free = refl }))
+    let channel = own-type mode.R 0 11 15 (node.ValueIn int_kind (type_id 16)) refl tt in
+    (_, row.take refl int_kind (type_id 16) (record { channel = channel; free = refl }))
 
 -- the provider of a value does not take it
 take-by_provider : IsRefused (bare mode.R 0 11 13)
@@ -299,7 +306,8 @@ choose-number after applied =
 
 pay-applies : Applies (bare mode.R 3 12 17)
 pay-applies =
-    (_, row.pay refl (type_id 18) (record { amount = _; channel = own-type mode.R 3 12 17 (node.PotOut (Written 3) (type_id 18)) refl tt; same = refl; enough = lit≤ tt }))
+    let channel = own-type mode.R 3 12 17 (node.PotOut (Written 3) (type_id 18)) refl tt in
+    (_, row.pay refl (type_id 18) (record { amount = Written 3; channel = channel; same = refl; enough = lit≤ tt }))
 
 -- more is paid than there is
 pay-too_much : IsRefused (bare mode.R 2 12 17)
@@ -309,13 +317,15 @@ pay-too_much after applied =
 
 get-applies : Applies (bare mode.R 0 13 19)
 get-applies =
-    (_, row.get refl (type_id 20) (record { amount = _; channel = own-type mode.R 0 13 19 (node.PotIn (Written 3) (type_id 20)) refl tt; same = refl }))
+    let channel = own-type mode.R 0 13 19 (node.PotIn (Written 3) (type_id 20)) refl tt in
+    (_, row.get refl (type_id 20) (record { amount = Written 3; channel = channel; same = refl }))
 
 -- the type has another amount
 get-other_amount : IsRefused (bare mode.R 0 14 19)
 get-other_amount after applied =
     let (t, says, goes) = row-inverted _ refl applied in
-    let same = own-is mode.R 0 14 19 (node.PotIn (Written 3) (type_id 20)) (node.PotIn says.amount t) refl tt says.channel in
+    let asks = node.PotIn (Written 3) (type_id 20) in
+    let same = own-is mode.R 0 14 19 asks (node.PotIn says.amount t) refl tt says.channel in
     let its_own : Written 3 ≡ says.amount = cc in
     let worth : 3 ≡ dths units says.amount = ap (dths units) its_own in
     omega (arith, says.same)
@@ -342,7 +352,8 @@ wait-early after applied =
 
 close-applies : Applies (bare mode.R 0 0 0)
 close-applies =
-    (_, row.close refl (record { channel = own-type mode.R 0 0 0 node.One refl tt; mode = inl refl; nothing_held = refl }))
+    let channel = own-type mode.R 0 0 0 node.One refl tt in
+    (_, row.close refl (record { channel = channel; mode = inl refl; nothing_held = refl }))
 
 -- a channel is left
 close-holding : IsRefused (holding 31 (bare mode.R 0 0 0))
@@ -352,7 +363,8 @@ close-holding after applied =
 
 fwd-applies : Applies (holding 31 (bare mode.R 0 29 27))
 fwd-applies =
-    (_, row.fwd refl (record { mode = refl; own = type_id 31; only = refl; alike = ended-alike 27 31 refl refl (whole (16, lit< tt, refl)) (whole (14, lit< tt, refl)) }))
+    let alike = ended-alike 27 31 refl refl (whole (16, lit< tt, refl)) (whole (14, lit< tt, refl)) in
+    (_, row.fwd refl (record { mode = refl; own = type_id 31; only = refl; alike = alike }))
 
 -- only a process at R forwards
 fwd-by_client : IsRefused (holding 31 (bare mode.L 0 29 27))
@@ -364,7 +376,9 @@ fwd-by_client after applied =
 -- ---- shared contracts
 
 accept-applies : Applies (bare mode.S 0 17 21)
-accept-applies = (_, row.accept refl (type_id 22) (record { mode = refl; channel = own-type mode.S 0 17 21 (node.Up (type_id 22)) refl tt }))
+accept-applies =
+    let channel = own-type mode.S 0 17 21 (node.Up (type_id 22)) refl tt in
+    (_, row.accept refl (type_id 22) (record { mode = refl; channel = channel }))
 
 -- a process that is held does not accept
 accept-held : IsRefused (bare mode.L 0 17 21)
@@ -402,7 +416,7 @@ held-not_private (part outer k n _ there among) =
     let number = part-number tried k mode.R n (type_id 24) among in
     let (at, found, same) = type_node-at tried outer.0 n there in
     let here : Contains (node_parts at) 24 = subst (λ (o : TypeNode). Contains (type_parts o) 24) (sym same) number in
-    let part_of : Contains (flat_map node_parts tried.types) 24 = contains-part node_parts tried.types outer.0 at 24 found here in
+    let part_of = contains-part node_parts tried.types outer.0 at 24 found here in
     none-there (λ i. i == 24) (flat_map node_parts tried.types) 24 refl refl part_of
 
 -- a contract is held
@@ -431,7 +445,8 @@ acquire-private after applied =
 
 release-applies : Applies (holding 22 (bare mode.T 0 20 27))
 release-applies =
-    (_, row.release refl (type_id 23) (record { channel = held-type (bare mode.T 0 20 27) 22 (node.Down (type_id 23)) refl tt; free = refl }))
+    let channel = held-type (bare mode.T 0 20 27) 22 (node.Down (type_id 23)) refl tt in
+    (_, row.release refl (type_id 23) (record { channel = channel; free = refl }))
 
 -- the talk has not come to its end
 release-early : IsRefused (holding 1 (bare mode.T 0 20 27))
