@@ -1,10 +1,12 @@
 pub mod AlikeLaws
+pub mod ArgumentsExamples
 pub mod ArgumentsLaws
 pub mod BranchLemmas
 pub mod Covering
 pub mod CoveringRows
 pub mod Declared
 pub mod DerivationLaws
+pub mod EqualityExamples
 pub mod EqualityLaws
 pub mod Examples
 pub mod FollowingLaws
@@ -20,6 +22,8 @@ pub mod Nodes
 pub mod OccurrenceLemmas
 pub mod OffenceLaws
 pub mod OffenceLemmas
+pub mod RowExampleProgram
+pub mod RowExamples
 pub mod RowLaws
 pub mod RowLemmas
 pub mod StandsLemmas

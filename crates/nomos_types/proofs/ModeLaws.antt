@@ -57,7 +57,7 @@ abbrev offer_places : ProgramLists → List ℕ
 offer_places lists = map (λ d. d.offers.0) lists.procs
 
 -- the parts of a node beside its offset
-abbrev node_parts : TypeAt → List ℕ
+abbrev pub node_parts : TypeAt → List ℕ
 node_parts at = type_parts at.node
 
 -- the whole types with modes are the whole types in their places
