@@ -162,7 +162,8 @@ impl<W: Shared> Floor<W> {
         }
     }
 
-    /// Ends a turn, and gives the pass back. The work has the entries that it had when it was taken, or one more, of this pass.
+    /// Ends a turn, and gives the pass back. The work has the entries that it had when it was taken, or one more, which is
+    /// of this pass.
     pub fn give_back(&self, turn: Turn<W>) -> Pass<W>
         requires of_floor { IsTurnOf self.now turn }
         requires start { W.start turn.work ≡ W.start (opened_work self.now) }
