@@ -1,10 +1,10 @@
 -- Small histories and floors, and what the definitions say of them.
-use Rattle.std.proofs.Common.{◌≡◌, ◌≢◌, ℕ, suc, ◌+◌, Option, List, [], ◌∷◌, refl, arith}
+use Rattle.std.proofs.Common.{◌≡◌, ℕ, Option, List, [], ◌∷◌, refl, arith}
 use mathlib.Core.Option as home
 use Rattle.nomos_floor.specs.OwnEntries.{mine, kept_of, longer, without_number, numbers_below, SameNumbers}
 use Rattle.nomos_floor.specs.FloorView.{IsLive, opening_view, ended_view, live_numbers}
 use Rattle.nomos_floor.specs.FloorSteps.{adding, split_off, newcomer, joined, learned}
-use Rattle.nomos_floor.specs.FloorInvariant.{Sits, Slot, Numbers}
+use Rattle.nomos_floor.specs.FloorInvariant.{Slot, Numbers}
 use Rattle.nomos_floor.specs.declared.view.View.{View}
 use Rattle.nomos_floor.specs.declared.view.Stage.TheVariants.{Serving}
 use Rattle.nomos_floor.proofs.NumberParts.{live_apart}
