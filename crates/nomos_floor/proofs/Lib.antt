@@ -6,3 +6,4 @@ pub mod NumberParts
 pub mod TurnMoves
 pub mod PassMoves
 pub mod Ends
+pub mod Examples

@@ -121,3 +121,7 @@ module _ {W S E : Type 0} (start : W → S) (history : W → List (ℕ × E)) (o
         },
         (refl, b.0, b.1),
       )
+
+  -- the same of a seat that is known by a view and what it holds
+  pub learns_at : (slots id : ℕ) (m : Holder W E) (v : View W E) (held : List (ℕ × Option W)) → m ≡ (v, held) → v.stage ≡ Idle → Allows (Holds start history opened) slots id m 0 (λ n. n) (learn (step slots 0 0 0 home.none) m)
+  learns_at slots id m v held is idle = learns slots id m (ap (λ (k : Holder W E). k.0.stage) is ∙ idle)

@@ -54,7 +54,8 @@ module _ {W S E : Type 0} where
   abbrev pub taken_history : Turn W S E → List (ℕ × E)
   taken_history turn = seen_by turn.pass
 
-  -- The seat is one at the floor's table, and knows with which work the floor was opened; the pass keeps the numbers that it knows
+  -- The seat is one at the floor's table, and knows with which work the floor was opened; the pass keeps the numbers
+  -- that it knows
   pub record IsOfFloor (floor : Floor W S E) (pass : Pass W S E) : Type 0 where
     pub table : pass.seat.table_id ≡ floor.table.shared.table_id
     pub opened : pass.seat.me.0.opened ≡ Some (opened_work floor)
@@ -88,4 +89,5 @@ module _ {W S E : Type 0} where
 
   -- the places have passes of this floor, whose numbers ascend by one from this one on
   abbrev pub HoldPasses : Floor W S E → ℕ → List (Option (Pass W S E)) → Type 0
-  HoldPasses floor first places = (k : ℕ) (d : Option (Pass W S E)) → k < length places → HoldsPass floor (first + k) (slice_index_or places k d)
+  HoldPasses floor first places =
+      (k : ℕ) (d : Option (Pass W S E)) → k < length places → HoldsPass floor (first + k) (slice_index_or places k d)

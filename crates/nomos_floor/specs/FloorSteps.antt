@@ -1,6 +1,7 @@
--- The atomic steps of a floor, in the order in which a turn makes them, then those by which passes come and go. A step on a word
--- sees the seat before it, the number that it finds, and the seat after it; a seat is a view, and the slot if the work is out with it.
--- `take` and `put` change no word: they move the work out of the slot and into it, while the slot is out with the seat.
+-- The atomic steps of a floor, in the order in which a turn makes them, then those by which passes come and go. A step
+-- on a word sees the seat before it, the number that it finds, and the seat after it; a seat is a view, and the slot if
+-- it is out with it. `take` and `put` change no word: they move the work out of the slot and into it, while the slot is
+-- out with the seat; the work is put back before its entry is counted.
 use Rattle.std.specs.Prelude.{◌≡◌, ◌≢◌, ℕ, ◌+◌, ◌%◌, ◌^◌, Option, Some, List, [], ◌∷◌, ◌++◌}
 use mathlib.Core.List.{IsPrefix}
 use Rattle.atomic_table.specs.Table.{Me, Step}
@@ -28,14 +29,20 @@ module _ {W E : Type 0} where
   at_turn ticket history v = record v { stage = Serving ticket; seen = history }
 
   module _ {S : Type 0} (start : W → S) (history : W → List (ℕ × E)) where
-    -- the work has the start of the opened one, and a history that begins with what the pass had seen and has of it just its own entries
+    -- The work has the start of the opened one, and a history that begins with what the pass had seen and has of it just
+    -- its own entries
     abbrev pub Continues : View W E → W → Type 0
-    Continues v work = ((opened : W) → v.opened ≡ Some opened → start work ≡ start opened) × IsPrefix v.seen (history work) × (v.own ≡ mine v.number (history work))
+    Continues v work =
+        ((opened : W) → v.opened ≡ Some opened → start work ≡ start opened)
+        × IsPrefix v.seen (history work)
+        × (v.own ≡ mine v.number (history work))
 
-    -- `look`, a load of `serving`: where the number found is its ticket it has its turn, and the slot with the work is out with it
+    -- `look`, a load of `serving`: where the number found is its ticket it has its turn, and the slot with the work is
+    -- out with it
     abbrev pub look : AtomicStep W E
     look step m found n = (ticket : ℕ) → m.0.stage ≡ Waiting ticket
-        → (found ≡ ticket % 2 ^ 64 → (work : W) × (n ≡ (at_turn ticket (history work) m.0, (0, Some work) ∷ m.1)) × Continues m.0 work)
+        → (found ≡ ticket % 2 ^ 64
+        → (work : W) × (n ≡ (at_turn ticket (history work) m.0, (0, Some work) ∷ m.1)) × Continues m.0 work)
         × (found ≢ ticket % 2 ^ 64 → n ≡ m)
 
   -- it has added an entry
@@ -44,7 +51,10 @@ module _ {W E : Type 0} where
 
   -- `count`, 1 is added to `count`: the firing. The work that the seat holds has the entry as its last
   abbrev pub count : (W → List (ℕ × E)) → AtomicStep W E
-  count history step m found n = (entry : E) × (n ≡ (adding entry m.0, m.1)) × ((work : W) → m.1 ≡ (0, Some work) ∷ [] → history work ≡ n.0.seen)
+  count history step m found n =
+      (entry : E)
+      × (n ≡ (adding entry m.0, m.1))
+      × ((work : W) → m.1 ≡ (0, Some work) ∷ [] → history work ≡ n.0.seen)
 
   -- `serve`, 1 is added to `serving`: the slot goes home with the work in it
   abbrev pub serve : AtomicStep W E
@@ -56,11 +66,25 @@ module _ {W E : Type 0} where
 
   -- and what the new one knows
   abbrev pub newcomer : View W E → View W E
-  newcomer v = record { stage = Idle; opened = v.opened; number = v.next; seen = v.seen; own = []; told = []; next = 0; out = []; ended = [] }
+  newcomer v = record {
+    stage = Idle;
+    opened = v.opened;
+    number = v.next;
+    seen = v.seen;
+    own = [];
+    told = [];
+    next = 0;
+    out = [];
+    ended = [];
+  }
 
   -- `join`, of another seat into the opening one: what the opening pass knows then. The other pass has ended
   abbrev pub joined : View W E → View W E → View W E
-  joined v w = record v { told = w.seen; out = without_number w.number v.out; ended = v.ended ++ (w.number, w.own) ∷ [] }
+  joined v w = record v {
+    told = w.seen;
+    out = without_number w.number v.out;
+    ended = v.ended ++ (w.number, w.own) ∷ [];
+  }
 
   -- it has seen the longer of the two histories
   abbrev pub learned : View W E → View W E

@@ -28,11 +28,31 @@ if_live _ live ended = live
 module _ {W E : Type 0} where
   -- the opening pass, before the first step
   abbrev pub opening_view : W → View W E
-  opening_view work = record { stage = Idle; opened = Some work; number = 0; seen = []; own = []; told = []; next = 1; out = []; ended = [] }
+  opening_view work = record {
+    stage = Idle;
+    opened = Some work;
+    number = 0;
+    seen = [];
+    own = [];
+    told = [];
+    next = 1;
+    out = [];
+    ended = [];
+  }
 
   -- what a pass that was joined leaves behind
   abbrev pub ended_view : View W E
-  ended_view = record { stage = Ended; opened = None; number = 0; seen = []; own = []; told = []; next = 0; out = []; ended = [] }
+  ended_view = record {
+    stage = Ended;
+    opened = None;
+    number = 0;
+    seen = [];
+    own = [];
+    told = [];
+    next = 0;
+    out = [];
+    ended = [];
+  }
 
   -- the numbers of the live passes
   abbrev pub live_numbers : List (View W E) → List ℕ

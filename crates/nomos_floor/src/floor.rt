@@ -21,14 +21,15 @@ const COUNT: usize = 2;
 // The slot of the work.
 const WORK: usize = 0;
 
-/// A work that passes take in turns.
+/// A work that passes take in turns. `docs/FLOOR.md` has its steps, and what holds between any two.
 #[derive(Drop)]
 pub struct Floor<W: Shared> {
     table: Table<Option<W>, View<W, W::Entry>, Snapshot<W>, FloorRule<W>, Global>,
     ghost sized: { (table.shared.table_id.words ≡ 3) × (table.shared.table_id.slots ≡ 1) },
 }
 
-/// The right to take turns, under a number of its own. It can go to another thread.
+/// The right to take turns, under a number of its own, which never changes. It can go to another thread. One that is
+/// dropped stays out: the floor can then be dropped, and not closed.
 #[derive(Drop)]
 pub struct Pass<W: Shared> {
     number: u32,
@@ -36,7 +37,7 @@ pub struct Pass<W: Shared> {
     seat: Seat<Option<W>, View<W, W::Entry>>,
 }
 
-/// A turn: the work, which goes back by `give_back`.
+/// A turn: the work, out of its place until it goes back by `give_back`. It has no `Drop`, so that it can't be lost.
 pub struct Turn<W: Shared> {
     /// The work, to which the turn may add one entry.
     pub work: W,
@@ -85,7 +86,7 @@ impl<W: Shared> Floor<W> {
         }
     }
 
-    /// Splits a pass off the opening one, which has seen the same history and has no entry.
+    /// Splits a pass off the opening one. The new pass has the next number and no entry, and has seen the same history.
     pub fn split(&self, pass: &mut Pass<W>) -> Pass<W>
         requires of_floor { IsPassOf self.now pass.old }
         requires opening { IsOpening pass.old }
@@ -123,7 +124,7 @@ impl<W: Shared> Floor<W> {
         unreachable!()
     }
 
-    /// Waits for the pass's turn, and takes the work.
+    /// Waits until the pass has its turn, and takes the work. Nothing says when the turn comes.
     pub fn take_turn<R: Wait>(&self, rt: &R, pass: Pass<W>) -> Turn<W>
         requires { IsPassOf self.now pass }
         ensures of_floor { IsTurnOf self.now result }
@@ -162,7 +163,8 @@ impl<W: Shared> Floor<W> {
         }
     }
 
-    /// Ends a turn, and gives the pass back. The work has the entries that it had when it was taken, or one more, of this pass.
+    /// Ends a turn, and gives the pass back. The work has the entries that it had when it was taken, or one more, which is
+    /// of this pass.
     pub fn give_back(&self, turn: Turn<W>) -> Pass<W>
         requires of_floor { IsTurnOf self.now turn }
         requires start { W.start turn.work ≡ W.start (opened_work self.now) }
@@ -191,7 +193,7 @@ impl<W: Shared> Floor<W> {
         Pass { number, next, seat }
     }
 
-    /// Ends another pass, which the opening one takes in.
+    /// Ends another pass. The opening one keeps its number with its entries, and has seen the longer of their histories.
     pub fn join(&self, pass: &mut Pass<W>, other: Pass<W>)
         requires of_floor { IsPassOf self.now pass.old × IsPassOf self.now other }
         requires opening { IsOpening pass.old }
@@ -212,7 +214,8 @@ impl<W: Shared> Floor<W> {
         shared.load::<Learn>(&mut pass.seat, TICKET);
     }
 
-    /// Ends the floor, once no number is out, and gives the work.
+    /// Ends the floor, once no number is out, and gives the work. Its history has of each number just the entries that the
+    /// opening pass has for it.
     pub fn close(self, pass: Pass<W>) -> W
         requires of_floor { IsPassOf self pass }
         requires opening { IsOpening pass }

@@ -1,8 +1,9 @@
 //! Threads that add their numbers to one row, and what the row has then.
-ghost use Rattle.std.specs.Prelude.{◌≡◌, ℕ, ◌+◌, ◌%◌, ◌^◌, ◌<◌, ◌≤◌, List, [], length, vec_len, slice_index_or, IfOk, OnOk};
+ghost use Rattle.std.specs.Prelude.{◌≡◌, ℕ, ◌+◌, ◌%◌, ◌^◌, ◌<◌, ◌≤◌, List, [], length, vec_len, IfOk, OnOk};
 ghost use Rattle.std.specs.List.{range_with_len};
 ghost use Rattle.nomos_floor.specs.OwnEntries.{without_number};
-ghost use Rattle.nomos_floor.specs.FloorPass.{IsPassOf, IsOpening, KeepsNumbers, AddsAtMostOne, HoldsPass, HoldPasses, next_of, out_of};
+ghost use Rattle.nomos_floor.specs.FloorPass.{IsPassOf, IsOpening, KeepsNumbers, AddsAtMostOne};
+ghost use Rattle.nomos_floor.specs.FloorPass.{HoldsPass, HoldPasses, next_of, out_of};
 
 use crate::floor::{Floor, OpenError, Pass};
 use crate::shared::Shared;
@@ -12,19 +13,27 @@ use std::test::Fail;
 use std::thread;
 use std::thread::Threads;
 
+/// A work to which a number can be added.
+trait Adds: Shared {
+    /// Adds an entry, if there is memory.
+    fn add(&mut self, number: u32, entry: u32)
+        ensures start { Self.start self.new ≡ Self.start self.old }
+        ensures history { AddsAtMostOne number (Self.history self.old) (Self.history self.new) };
+}
+
 /// A row of entries, each with the number of the pass that added it.
 #[derive(Drop)]
-struct Row {
-    label: u32,
+struct Row<'a> {
+    label: &'a u32,
     entries: Vec<(u32, u32)>,
 }
 
-impl Shared for Row {
+impl<'a> Shared for Row<'a> {
     type Start = u32;
 
     type Entry = u32;
 
-    ghost start = { λ row. row.label };
+    ghost start = { λ row. row.label.now };
 
     ghost history = { λ row. row.entries.items };
 
@@ -33,18 +42,14 @@ impl Shared for Row {
     }
 }
 
-impl Row {
-    // Adds an entry, if there is memory.
-    fn add(&mut self, number: u32, entry: u32)
-        ensures label { self.new.label ≡ self.old.label }
-        ensures entries { AddsAtMostOne number self.old.entries.items self.new.entries.items }
-    {
+impl<'a> Adds for Row<'a> {
+    fn add(&mut self, number: u32, entry: u32) {
         let _ = self.entries.push((number, entry));
     }
 }
 
 // Adds so many entries, each in a turn of its own.
-fn add_all<R: Wait>(rt: &R, floor: &Floor<Row>, mut pass: Pass<Row>, count: u32) -> Pass<Row>
+fn add_all<W: Adds, R: Wait>(rt: &R, floor: &Floor<W>, mut pass: Pass<W>, count: u32) -> Pass<W>
     requires { IsPassOf floor.now pass }
     ensures { IsPassOf floor.now result × KeepsNumbers pass result }
 {
@@ -58,7 +63,7 @@ fn add_all<R: Wait>(rt: &R, floor: &Floor<Row>, mut pass: Pass<Row>, count: u32)
 }
 
 // The same, for the pass of a place.
-fn work_at<R: Wait>(rt: &R, floor: &Floor<Row>, place: &mut Option<Pass<Row>>, count: u32)
+fn work_at<W: Adds, R: Wait>(rt: &R, floor: &Floor<W>, place: &mut Option<Pass<W>>, count: u32)
     requires { (number : ℕ) × HoldsPass floor.now number place.old }
     ensures { (number : ℕ) → HoldsPass floor.now number place.old → HoldsPass floor.now number place.new }
 {
@@ -68,12 +73,12 @@ fn work_at<R: Wait>(rt: &R, floor: &Floor<Row>, place: &mut Option<Pass<Row>>, c
 }
 
 // Splits a pass off into each place of a new row of places.
-fn split_all(
+fn split_all<W: Adds>(
     alloc: Global,
-    floor: &Floor<Row>,
-    opening: &mut Pass<Row>,
+    floor: &Floor<W>,
+    opening: &mut Pass<W>,
     threads: u32,
-) -> Result<Vec<Option<Pass<Row>>>, AllocError>
+) -> Result<Vec<Option<Pass<W>>>, AllocError>
     requires floor { IsPassOf floor.now opening.old }
     requires fresh { IsOpening opening.old × (next_of opening.old ≡ 1) × (out_of opening.old ≡ []) }
     requires few { threads < 1000 }
@@ -90,11 +95,12 @@ fn split_all(
 }
 
 // Joins the pass of a place.
-fn join_place(floor: &Floor<Row>, opening: &mut Pass<Row>, place: Option<Pass<Row>>)
+fn join_place<W: Adds>(floor: &Floor<W>, opening: &mut Pass<W>, place: Option<Pass<W>>)
     requires floor { IsPassOf floor.now opening.old × IsOpening opening.old }
     requires place { (number : ℕ) × HoldsPass floor.now number place }
     ensures floor { IsPassOf floor.now opening.new × IsOpening opening.new }
-    ensures out { (number : ℕ) → HoldsPass floor.now number place → out_of opening.new ≡ without_number number (out_of opening.old) }
+    ensures out { (number : ℕ) → HoldsPass floor.now number place
+        → out_of opening.new ≡ without_number number (out_of opening.old) }
 {
     if let Some(pass) = place {
         floor.join(opening, pass);
@@ -102,7 +108,7 @@ fn join_place(floor: &Floor<Row>, opening: &mut Pass<Row>, place: Option<Pass<Ro
 }
 
 // Joins the passes of all places, in their order.
-fn join_all(floor: &Floor<Row>, opening: &mut Pass<Row>, mut places: Vec<Option<Pass<Row>>>)
+fn join_all<W: Adds>(floor: &Floor<W>, opening: &mut Pass<W>, mut places: Vec<Option<Pass<W>>>)
     requires floor { IsPassOf floor.now opening.old × IsOpening opening.old }
     requires out { out_of opening.old ≡ range_with_len 1 (vec_len places) }
     requires places { HoldPasses floor.now 1 places.items }
@@ -113,22 +119,19 @@ fn join_all(floor: &Floor<Row>, opening: &mut Pass<Row>, mut places: Vec<Option<
     }
 }
 
-// The row of so many threads, which add so many entries each; then the opening pass adds as many.
-fn row_of<R: Threads + Wait + Sync>(
+// The work after so many threads, which add so many entries each, and then the opening pass, which adds as many.
+fn after_all<W: Adds + Send, R: Threads + Wait + Sync>(
     rt: &R,
     alloc: Global,
-    label: u32,
+    work: W,
     threads: u32,
     count: u32,
-) -> Result<Row, AllocError>
-    requires { (0 < threads) × (threads < 1000) }
-    ensures { IfOk result (λ row. row.label ≡ label) }
+) -> Result<W, AllocError>
+    requires empty { W.history work ≡ [] }
+    requires few { (0 < threads) × (threads < 1000) }
+    ensures { IfOk result (λ last. W.start last ≡ W.start work) }
 {
-    let row = Row {
-        label,
-        entries: Vec::new(alloc),
-    };
-    let (floor, mut opening) = match Floor::open(alloc, row) {
+    let (floor, mut opening) = match Floor::open(alloc, work) {
         Ok(opened) => opened,
         Err(OpenError::NoMemory(_)) => return Err(AllocError),
     };
@@ -150,7 +153,11 @@ fn row_of<R: Threads + Wait + Sync>(
 fn each_thread_has_its_entries_once_in_order(rt: HostRuntime) -> Result<(), Fail> {
     let label = 7;
     for threads in [2u32, 16] {
-        let row = row_of(&rt, rt.alloc(), label, threads, 1000)?;
+        let row = Row {
+            label: &label,
+            entries: Vec::new(rt.alloc()),
+        };
+        let row = after_all(&rt, rt.alloc(), row, threads, 1000)?;
         let mut next = [0u32; 17];
         for (number, entry) in row.entries.as_slice() {
             let number = *number as usize;

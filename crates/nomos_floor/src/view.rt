@@ -1,4 +1,4 @@
-//! What a pass knows. No value of these types is made: they stand in proofs alone.
+//! What a pass knows, in types of which no value is made: they stand in proofs alone.
 use std::collections::LinkedList;
 
 /// Where a pass stands with its turn. A ticket is known by the number of tickets that were drawn before it.

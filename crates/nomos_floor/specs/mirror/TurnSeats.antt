@@ -19,8 +19,12 @@ module _ {W E : Type 0} where
 
   -- an entry was added, or none; the history of the work that it holds is seen
   abbrev pub HasCounted : (W → List (ℕ × E)) → Holder W E → Holder W E → Type 0
-  HasCounted history m n = (((entry : E) × (n ≡ (adding entry m.0, m.1))) ⊎ (n ≡ m)) × ((work : W) → m.1 ≡ (0, Some work) ∷ [] → history work ≡ n.0.seen)
+  HasCounted history m n =
+      (((entry : E) × (n ≡ (adding entry m.0, m.1))) ⊎ (n ≡ m))
+      × ((work : W) → m.1 ≡ (0, Some work) ∷ [] → history work ≡ n.0.seen)
 
   -- the seat has its turn, and the work is out with it
   abbrev pub GetsTurn : {S : Type 0} → (W → S) → (W → List (ℕ × E)) → Holder W E → Holder W E → Type 0
-  GetsTurn start history m n = (work : W) × (ticket : ℕ) × (n ≡ (at_turn ticket (history work) m.0, (0, Some work) ∷ m.1)) × Continues start history m.0 work
+  GetsTurn start history m n =
+      (work : W) × (ticket : ℕ) × (n ≡ (at_turn ticket (history work) m.0, (0, Some work) ∷ m.1))
+      × Continues start history m.0 work

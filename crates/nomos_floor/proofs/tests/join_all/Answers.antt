@@ -6,7 +6,7 @@ use Rattle.nomos_floor.proofs.PlaceLaws.{without_number-first}
 use Rattle.nomos_floor.proofs.tests.join_all.Goals as goal
 
 pub loop-i-preserved : goal.loop-i-preserved
-loop-i-preserved c =
+loop-i-preserved g c =
     let old = c.loop-i.invariant in
     let joined = c.join_place.ensures in
     let floor = c.args.floor.now in
@@ -23,6 +23,6 @@ loop-i-preserved c =
     }
 
 pub returns : goal.returns
-returns c =
+returns g c =
     let old = c.loop-i.invariant in
     (old.of_floor, old.opening, old.out 0 (omega (arith, c.loop-i-test.false, c.loop-i.auto.i-end)))

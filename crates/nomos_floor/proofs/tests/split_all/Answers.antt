@@ -5,7 +5,7 @@ use Rattle.nomos_floor.proofs.PlaceLaws.{HoldPasses-push, range_with_len-push}
 use Rattle.nomos_floor.proofs.tests.split_all.Goals as goal
 
 pub loop-preserved : goal.loop-preserved
-loop-preserved c =
+loop-preserved g c =
     let old = c.loop.invariant in
     let split = c.split-pass.ensures in
     let made = c.push_reserved.ensures in

@@ -4,7 +4,7 @@ use Rattle.nomos_floor.specs.FloorPass.{IsPassOf, IsOpening, HoldPasses, next_of
 use Rattle.nomos_floor.proofs.tests.split_all.Given as goal
 
 abbrev pub invariant-loop : goal.invariant-loop
-invariant-loop l = record {
+invariant-loop g l = record {
   of_floor : IsPassOf l.floor l.opening;
   opening : IsOpening l.opening;
   next : next_of l.opening ≡ l.counter + 1;

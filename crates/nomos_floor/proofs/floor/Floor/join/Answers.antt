@@ -1,7 +1,6 @@
-use Rattle.std.proofs.Common.{◌≡◌, ◌∙◌, ap, arith}
-use Rattle.nomos_floor.specs.FloorSteps.{Holder}
-use Rattle.nomos_floor.specs.declared.view.Stage.TheVariants.{Idle}
-use Rattle.nomos_floor.proofs.PassMoves.{joins, learns}
+use Rattle.std.proofs.Common.{◌≡◌, ◌∙◌, arith}
+use Rattle.nomos_floor.specs.FloorSteps.{joined}
+use Rattle.nomos_floor.proofs.PassMoves.{joins, learns_at}
 use Rattle.nomos_floor.proofs.floor.Floor.join.Goals as goal
 
 pub join_seat-requires : goal.join_seat-requires
@@ -22,10 +21,10 @@ pub load-requires : goal.load-requires
 load-requires g c =
     let floor = c.args.self.now in
     let seat = c.join_seat.new.seat in
+    let old = c.args.pass.now.seat in
     let pass = c.requires.of_floor.0 in
-    let idle : seat.me.0.stage ≡ Idle = ap (λ (m : Holder g.row.W.Denot g.row.W-Entry.Denot). m.0.stage) c.join_seat.ensures.2 ∙ pass.idle in
     let table : seat.table_id ≡ floor.table.shared.table_id = cc (c.join_seat.ensures.0, pass.of_floor.table) in (
       table,
       omega (arith, floor.sized.0),
-      learns g.W.Shared.start g.W.Shared.history floor.table.shared.key.value floor.table.shared.table_id.slots seat.id seat.me idle,
+      learns_at g.W.Shared.start g.W.Shared.history floor.table.shared.key.value floor.table.shared.table_id.slots seat.id seat.me (joined old.me.0 c.args.other.seat.me.0) old.me.1 c.join_seat.ensures.2 pass.idle,
     )
