@@ -18,8 +18,8 @@ use Rattle.nomos_types.specs.Arguments as passes
 use Rattle.nomos_types.specs.Judgement.{Judgement, ListType}
 use Rattle.nomos_types.specs.Modes.{whole}
 use Rattle.nomos_types.specs.Row as row
-use Rattle.nomos_types.proofs.RowExampleProgram.{type_id, var_id, one_channel, two_references, two_channels, two_lists, tried, units, bare, holding, referring, two_each, listing}
-use Rattle.nomos_types.proofs.RowExamples.{Applies, IsRefused, ends, seven, not-equal, ended-alike, shared-alike, no-channels}
+use Rattle.nomos_types.proofs.RowExampleProgram.{type_id, var_id, one_channel, two_references, two_channels, two_lists, tried, units, empty_handed, holding, referring, two_each, listing}
+use Rattle.nomos_types.proofs.RowExamples.{LineApplies, NoLineApplies, end-unfolds, seven, not-equal, ended-alike, shared-alike, no-channels}
 use Rattle.nomos_types.proofs.RowLaws.{row-inverted}
 
 -- ---- what passing says
@@ -56,7 +56,7 @@ list-used (passes.list amount _ found) = (_, found, refl)
 
 -- ---- channels
 
-spawn-applies : Applies (holding 31 (bare mode.R 1 21 27))
+spawn-applies : LineApplies (holding 31 (empty_handed mode.R 1 21 27))
 spawn-applies = (
   _,
   row.spawn refl one_channel _ (record {
@@ -73,7 +73,7 @@ spawn-applies = (
 )
 
 -- more potential is needed than there is
-spawn-too_little : IsRefused (holding 31 (bare mode.R 0 21 27))
+spawn-too_little : NoLineApplies (holding 31 (empty_handed mode.R 0 21 27))
 spawn-too_little after applied =
     let (d, left, says, goes) = row-inverted _ refl applied in
     let same : one_channel ≡ d = cc in
@@ -81,7 +81,7 @@ spawn-too_little after applied =
     omega (arith, says.enough)
 
 -- a held contract does not pass for a private channel
-spawn-contract : IsRefused (holding 24 (bare mode.L 1 21 22))
+spawn-contract : NoLineApplies (holding 24 (empty_handed mode.L 1 21 22))
 spawn-contract after applied =
     let (d, left, says, goes) = row-inverted _ refl applied in
     let fit = declared-fit 0 d one_channel says.declared refl says.arguments in
@@ -91,10 +91,10 @@ spawn-contract after applied =
     let equal = subst (λ (t : TypeId). AlikeTypes tried units t (type_id 26)) {x = own} its_own alike in
     let held = node.Down (type_id 25) in
     let there = constructor 24 held refl tt in
-    not-equal (type_id 24) (type_id 26) held node.One there (ends 26 refl) (λ h. elim h [ ]) equal.equal
+    not-equal (type_id 24) (type_id 26) held node.One there (end-unfolds 26 refl) (λ h. elim h [ ]) equal.equal
 
 -- a reference passes twice
-spawn-references : Applies (referring 28 (bare mode.R 1 22 27))
+spawn-references : LineApplies (referring 28 (empty_handed mode.R 1 22 27))
 spawn-references =
     let first = passes.shared (type_id 28) refl (shared-alike 28 refl (whole (12, lit< tt, refl))) in
     let second = passes.shared (type_id 28) refl (shared-alike 29 refl (whole (13, lit< tt, refl))) in (
@@ -109,7 +109,7 @@ spawn-references =
     )
 
 -- a private channel does not
-spawn-twice : IsRefused (holding 31 (bare mode.R 1 23 27))
+spawn-twice : NoLineApplies (holding 31 (empty_handed mode.R 1 23 27))
 spawn-twice after applied =
     let (d, left, says, goes) = row-inverted _ refl applied in
     let fit = declared-fit 2 d two_channels says.declared refl says.arguments in
@@ -120,7 +120,7 @@ spawn-twice after applied =
     let (other, there, alike2, used2) = channel-used again refl in
     cc
 
-call-applies : Applies (holding 31 (bare mode.R 1 30 27))
+call-applies : LineApplies (holding 31 (empty_handed mode.R 1 30 27))
 call-applies = (
   _,
   row.call refl (record {
@@ -144,7 +144,7 @@ abbrev and_another : Judgement → Judgement
 and_another j = record j { linear = (var_id 1, type_id 31) ∷ (var_id 2, type_id 32) ∷ [] }
 
 -- a channel is left behind
-call-holding : IsRefused (and_another (bare mode.R 1 30 27))
+call-holding : NoLineApplies (and_another (empty_handed mode.R 1 30 27))
 call-holding after applied =
     let (says, goes) = row-inverted _ refl applied in
     let fit = declared-fit 0 says.d one_channel says.declared refl says.arguments in
@@ -162,7 +162,7 @@ call-holding after applied =
 abbrev two_listed : Judgement → Judgement
 two_listed j = record j { lists = (var_id 1, two_each) ∷ (var_id 3, two_each) ∷ [] }
 
-spawn-lists : Applies (two_listed (bare mode.R 1 35 27))
+spawn-lists : LineApplies (two_listed (empty_handed mode.R 1 35 27))
 spawn-lists = (
   _,
   row.spawn refl two_lists _ (record {
@@ -175,7 +175,7 @@ spawn-lists = (
 )
 
 -- a list is used twice
-spawn-list_twice : IsRefused (listing (bare mode.R 1 24 27))
+spawn-list_twice : NoLineApplies (listing (empty_handed mode.R 1 24 27))
 spawn-list_twice after applied =
     let (d, left, says, goes) = row-inverted _ refl applied in
     let fit = declared-fit 3 d two_lists says.declared refl says.arguments in
@@ -186,19 +186,19 @@ spawn-list_twice after applied =
     let lists = ap (λ (j : Judgement). bound_to 1 j.lists) used in
     cc
 
-empty-applies : Applies (bare mode.R 0 31 27)
+empty-applies : LineApplies (empty_handed mode.R 0 31 27)
 empty-applies = (_, row.empty refl refl)
 
-empty-taken : IsRefused (listing (bare mode.R 0 31 27))
+empty-taken : NoLineApplies (listing (empty_handed mode.R 0 31 27))
 empty-taken after applied =
     let (free, goes) = row-inverted _ refl applied in
     omega (arith, free)
 
-add-applies : Applies (listing (bare mode.R 2 32 27))
+add-applies : LineApplies (listing (empty_handed mode.R 2 32 27))
 add-applies = (_, row.add refl two_each (record { there = refl; element = seven []; enough = lit≤ tt; free = refl }))
 
 -- the element lacks the amount that it is to carry
-add-too_little : IsRefused (listing (bare mode.R 1 32 27))
+add-too_little : NoLineApplies (listing (empty_handed mode.R 1 32 27))
 add-too_little after applied =
     let (list, says, goes) = row-inverted _ refl applied in
     let there = says.there in
@@ -206,7 +206,7 @@ add-too_little after applied =
     let carries = ap (λ (l : ListType). l.amount) same in
     omega (arith, says.enough)
 
-match-applies : Applies (listing (bare mode.R 0 33 27))
+match-applies : LineApplies (listing (empty_handed mode.R 0 33 27))
 match-applies = (
   _,
   row.match refl two_each (record {
@@ -218,7 +218,7 @@ match-applies = (
 )
 
 -- head and tail have one name
-match-one_name : IsRefused (listing (bare mode.R 0 34 27))
+match-one_name : NoLineApplies (listing (empty_handed mode.R 0 34 27))
 match-one_name after applied =
     let (list, says, goes) = row-inverted _ refl applied in
     says.differ refl

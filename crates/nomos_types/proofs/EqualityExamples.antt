@@ -103,8 +103,8 @@ towers =
     ∷ [])
 
 -- one more choice over types that agree agrees to one more depth
-higher : (n t u c d : ℕ) → type_node towers t ≡ Some (choice c) → type_node towers u ≡ Some (choice d) → Agree towers units n (type_id c) (type_id d) → Agree towers units (suc n) (type_id t) (type_id u)
-higher n t u c d t_there u_there agree =
+one-higher : (n t u c d : ℕ) → type_node towers t ≡ Some (choice c) → type_node towers u ≡ Some (choice d) → Agree towers units n (type_id c) (type_id d) → Agree towers units (suc n) (type_id t) (type_id u)
+one-higher n t u c d t_there u_there agree =
     let R : TypeId → TypeId → Type 0 = λ a b. Agree towers units n a b in
     record {
       left = choice c;
@@ -117,16 +117,16 @@ higher n t u c d t_there u_there agree =
 -- the towers agree to depth 8
 towers-agree : Agree towers units 8 (type_id 16) (type_id 17)
 towers-agree =
-    higher 7 16 17 14 15 refl refl (higher 6 14 15 12 13 refl refl (higher 5 12 13 10 11 refl refl (higher 4 10 11 8 9 refl refl
-    (higher 3 8 9 6 7 refl refl (higher 2 6 7 4 5 refl refl (higher 1 4 5 2 3 refl refl (higher 0 2 3 0 1 refl refl tt)))))))
+    one-higher 7 16 17 14 15 refl refl (one-higher 6 14 15 12 13 refl refl (one-higher 5 12 13 10 11 refl refl (one-higher 4 10 11 8 9 refl refl
+    (one-higher 3 8 9 6 7 refl refl (one-higher 2 6 7 4 5 refl refl (one-higher 1 4 5 2 3 refl refl (one-higher 0 2 3 0 1 refl refl tt)))))))
 
 -- related choices have related branches
 branches-of : {R : TypeId → TypeId → Type 0} {bs cs : List Branch} → SameHead units R (node.Plus bs) (node.Plus cs) → SameBranches R bs cs
 branches-of (plus _ _ same) = same
 
 -- where the choices are equal, so is what is one lower
-lower : (t u c d : ℕ) → type_node towers t ≡ Some (choice c) → type_node towers u ≡ Some (choice d) → EqualTypes towers units (type_id t) (type_id u) → EqualTypes towers units (type_id c) (type_id d)
-lower t u c d t_there u_there equal =
+one-lower : (t u c d : ℕ) → type_node towers t ≡ Some (choice c) → type_node towers u ≡ Some (choice d) → EqualTypes towers units (type_id t) (type_id u) → EqualTypes towers units (type_id c) (type_id d)
+one-lower t u c d t_there u_there equal =
     let R : TypeId → TypeId → Type 0 = EqualTypes towers units in
     let (q, unfolds, heads) = equal-unfolded towers units (type_id t) (type_id u) (choice c) equal (constructor t (choice c) t_there tt) in
     let there : q ≡ choice d = Unfolds-unique towers u q (choice d) unfolds (constructor u (choice d) u_there tt) in
@@ -144,5 +144,5 @@ ends-differ equal =
 -- so the towers are not equal
 towers-differ : EqualTypes towers units (type_id 16) (type_id 17) → ⊥
 towers-differ equal =
-    ends-differ (lower 2 3 0 1 refl refl (lower 4 5 2 3 refl refl (lower 6 7 4 5 refl refl (lower 8 9 6 7 refl refl
-    (lower 10 11 8 9 refl refl (lower 12 13 10 11 refl refl (lower 14 15 12 13 refl refl (lower 16 17 14 15 refl refl equal))))))))
+    ends-differ (one-lower 2 3 0 1 refl refl (one-lower 4 5 2 3 refl refl (one-lower 6 7 4 5 refl refl (one-lower 8 9 6 7 refl refl
+    (one-lower 10 11 8 9 refl refl (one-lower 12 13 10 11 refl refl (one-lower 14 15 12 13 refl refl (one-lower 16 17 14 15 refl refl equal))))))))

@@ -59,8 +59,8 @@ module _ {lists : ProgramLists} {j : Judgement} (h : IsJudgement lists j) where
   -- ---- another place, another type offered
 
   -- at another instruction, with another potential
-  pub moved : (q : ℕ) (next : CodeId) → IsJudgement lists (record j { q = q; code = next })
-  moved q next =
+  pub placed-elsewhere : (q : ℕ) (next : CodeId) → IsJudgement lists (record j { q = q; code = next })
+  placed-elsewhere q next =
       record {
         kinds = h.kinds;
         lists_ascend = h.lists_ascend;
@@ -210,8 +210,8 @@ MayGoOn lists j (chan.Var v) t = (others_with j v.0 ≡ 0) × MayBeHeld lists j.
 
 -- it goes on
 pub gone-on : {lists : ProgramLists} {j : Judgement} → IsJudgement lists j → (c : Chan) (t : TypeId) (next : CodeId) → MayGoOn lists j c t → IsJudgement lists (goes_on j c t next)
-gone-on {j = j} h chan.Own t next may = moved (taken-over h j.mode t may h.linear_modes) j.q next
-gone-on {j = j} h (chan.Var v) t next may = moved (linear-bound h v t may.0 may.1) j.q next
+gone-on {j = j} h chan.Own t next may = placed-elsewhere (taken-over h j.mode t may h.linear_modes) j.q next
+gone-on {j = j} h (chan.Var v) t next may = placed-elsewhere (linear-bound h v t may.0 may.1) j.q next
 
 -- a variable that is free stays free when a channel goes on
 pub free-gone_on : {lists : ProgramLists} {j : Judgement} → IsJudgement lists j → (c : Chan) (s t : TypeId) (next : CodeId) (y : VarId) → channel_type j c ≡ Some s → IsFree j y → IsFree (goes_on j c t next) y

@@ -32,8 +32,8 @@ use Rattle.nomos_types.proofs.OccurrenceLemmas.{all-flat, contains-found, contai
 -- ---- places with their modes
 
 -- the number of a type that stands with a mode
-abbrev number_of : TypeId × Mode → ℕ
-number_of p = p.0.0
+abbrev type_number : TypeId × Mode → ℕ
+type_number p = p.0.0
 
 -- one map after another
 map-twice : {X Y Z : Type 0} (f : Y → Z) (g : X → Y) (xs : List X) → map f (map g xs) ≡ map (λ x. f (g x)) xs
@@ -61,7 +61,7 @@ abbrev pub node_parts : TypeAt → List ℕ
 node_parts at = type_parts at.node
 
 -- the whole types with modes are the whole types in their places
-whole-numbers : (lists : ProgramLists) → map number_of (whole_modes lists) ≡ def_places lists ++ channel_places lists ++ offer_places lists
+whole-numbers : (lists : ProgramLists) → map type_number (whole_modes lists) ≡ def_places lists ++ channel_places lists ++ offer_places lists
 whole-numbers lists =
     let of_def : Def → TypeId × Mode = λ d. (d.body, d.mode) in
     let of_channel : VarId × TypeId → TypeId × Mode = λ par. (par.1, parameter_mode lists par.1) in
@@ -70,17 +70,17 @@ whole-numbers lists =
     let channels = flat_map (λ (d : ProcDecl). map of_channel d.channels) lists.procs in
     let offers = map of_offer lists.procs in
     let defs = map of_def lists.defs in
-    map-append number_of (defs ++ channels) offers
+    map-append type_number (defs ++ channels) offers
     ∙ ap₂ ◌++◌
-    (map-append number_of defs channels
-    ∙ ap₂ ◌++◌ (map-twice number_of of_def lists.defs) (map-flat number_of of_channel channels_of lists.procs))
-    (map-twice number_of of_offer lists.procs)
+    (map-append type_number defs channels
+    ∙ ap₂ ◌++◌ (map-twice type_number of_def lists.defs) (map-flat type_number of_channel channels_of lists.procs))
+    (map-twice type_number of_offer lists.procs)
 
 -- the parts with modes are the parts
-part-numbers : (lists : ProgramLists) (m : Mode) (n : TypeNode) → map number_of (part_modes lists m n) ≡ type_parts n
+part-numbers : (lists : ProgramLists) (m : Mode) (n : TypeNode) → map type_number (part_modes lists m n) ≡ type_parts n
 part-numbers lists m node.One = refl
-part-numbers lists m (node.Plus bs) = map-twice number_of (λ (b : Branch). (b.goes, m)) bs
-part-numbers lists m (node.With bs) = map-twice number_of (λ (b : Branch). (b.goes, m)) bs
+part-numbers lists m (node.Plus bs) = map-twice type_number (λ (b : Branch). (b.goes, m)) bs
+part-numbers lists m (node.With bs) = map-twice type_number (λ (b : Branch). (b.goes, m)) bs
 part-numbers lists m (node.Tensor a b) = refl
 part-numbers lists m (node.Lolli a b) = refl
 part-numbers lists m (node.ValueOut kind a) = refl
@@ -92,7 +92,7 @@ part-numbers lists m (node.Down a) = refl
 part-numbers lists m (node.Named d) = refl
 
 -- a type stands once: either as a whole type or as a part
-stands-once : (lists : ProgramLists) (t : ℕ) → IsProgram lists → t < length lists.types → count_of t (map number_of (whole_modes lists)) + count_of t (flat_map node_parts lists.types) ≡ 1
+stands-once : (lists : ProgramLists) (t : ℕ) → IsProgram lists → t < length lists.types → count_of t (map type_number (whole_modes lists)) + count_of t (flat_map node_parts lists.types) ≡ 1
 stands-once lists t is_program inside =
     let defs = def_places lists in
     let parts = flat_map node_parts lists.types in
@@ -110,7 +110,7 @@ stands-once lists t is_program inside =
 -- ---- ranges
 
 -- what stands whole is a type node
-whole-in_range : (lists : ProgramLists) (t : ℕ) → IsProgram lists → Contains (map number_of (whole_modes lists)) t → t < length lists.types
+whole-in_range : (lists : ProgramLists) (t : ℕ) → IsProgram lists → Contains (map type_number (whole_modes lists)) t → t < length lists.types
 whole-in_range lists t is_program among =
     let n = length lists.types in
     let P : ℕ → Type 0 = λ k. k < n in
@@ -133,13 +133,13 @@ whole-in_range lists t is_program among =
 -- the numbers of types that stand as parts are parts
 pub part-number : (lists : ProgramLists) (m k : Mode) (n : TypeNode) (t : TypeId) → Contains (part_modes lists m n) (t, k) → Contains (type_parts n) t.0
 part-number lists m k n t among =
-    let numbered = contains-map number_of (part_modes lists m n) (t, k) t.0 among refl in
+    let numbered = contains-map type_number (part_modes lists m n) (t, k) t.0 among refl in
     subst (λ (xs : List ℕ). Contains xs t.0) (part-numbers lists m n) numbered
 
 -- what has a mode is a type node
 pub mode-in_range : {lists : ProgramLists} {t : TypeId} {m : Mode} → IsProgram lists → HasMode lists t m → t.0 < length lists.types
 mode-in_range {lists = lists} {t = t} {m = m} is_program (whole among) =
-    whole-in_range lists t.0 is_program (contains-map number_of (whole_modes lists) (t, m) t.0 among refl)
+    whole-in_range lists t.0 is_program (contains-map type_number (whole_modes lists) (t, m) t.0 among refl)
 mode-in_range {lists = lists} {t = t} {m = m} is_program (part outer k n _ there among) =
     let in_range = type_node-in_range lists outer.0 n is_program there in
     All-contains (λ (i : ℕ). i < length lists.types) (type_parts n) t.0 in_range.parts (part-number lists k m n t among)
@@ -194,14 +194,14 @@ offered-has_mode lists p d found =
 -- ---- unfolding
 
 -- the type with this number
-abbrev type_at : ℕ → TypeId
-type_at n = record { 0 = n }
+abbrev type_with : ℕ → TypeId
+type_with n = record { 0 = n }
 
 -- the same, by the number of the type
-keeps-mode : {lists : ProgramLists} {t : ℕ} {n : TypeNode} → (m : Mode) → ObeysModes lists → HasMode lists (type_at t) m → Unfolds lists t n → (u : TypeId) × (type_node lists u.0 ≡ Some n) × HasMode lists u m
-keeps-mode m obeys there (constructor t n found no_name) = (type_at t, found, there)
+keeps-mode : {lists : ProgramLists} {t : ℕ} {n : TypeNode} → (m : Mode) → ObeysModes lists → HasMode lists (type_with t) m → Unfolds lists t n → (u : TypeId) × (type_node lists u.0 ≡ Some n) × HasMode lists u m
+keeps-mode m obeys there (constructor t n found no_name) = (type_with t, found, there)
 keeps-mode {lists = lists} m obeys there (name t id def n named found rest) =
-    let shown = (obeys.allowed (type_at t) m (node.Named id) there named).0 in
+    let shown = (obeys.allowed (type_with t) m (node.Named id) there named).0 in
     let its_mode = ap (option_map (λ (d : Def). d.mode)) found in
     let same : def.mode ≡ m = cc in
     let its_own = body-has_mode lists id.0 def found in
@@ -253,8 +253,8 @@ part-stands lists t outer m k n there among =
 -- a type does not stand both whole and as a part
 whole-or-part : (lists : ProgramLists) (t outer : TypeId) (m j k : Mode) (n : TypeNode) → IsProgram lists → t.0 < length lists.types → Contains (whole_modes lists) (t, m) → type_node lists outer.0 ≡ Some n → Contains (part_modes lists k n) (t, j) → ⊥
 whole-or-part lists t outer m j k n is_program inside among there part_among =
-    let wholes = map number_of (whole_modes lists) in
-    let numbered = contains-map number_of (whole_modes lists) (t, m) t.0 among refl in
+    let wholes = map type_number (whole_modes lists) in
+    let numbered = contains-map type_number (whole_modes lists) (t, m) t.0 among refl in
     let as_whole : 1 ≤ count_of t.0 wholes = counted t.0 wholes numbered in
     let at = part-stands lists t outer j k n there part_among in
     let as_part = count-part node_parts t.0 lists.types outer.0 at.0 at.1 in
@@ -268,8 +268,8 @@ same-part lists t outer m j k n is_program inside there m_among j_among =
     let numbers = part-numbers lists k n ∙ ap type_parts (sym at.3) in
     let stands = stands-once lists t.0 is_program inside in
     let counts = ap (count_of t.0) numbers in
-    let once : count_of t.0 (map number_of (part_modes lists k n)) ≤ 1 = omega arith in
-    let same = one-place number_of t.0 (part_modes lists k n) (t, m) (t, j) refl refl once m_among j_among in
+    let once : count_of t.0 (map type_number (part_modes lists k n)) ≤ 1 = omega arith in
+    let same = one-place type_number t.0 (part_modes lists k n) (t, m) (t, j) refl refl once m_among j_among in
     ap (λ (p : TypeId × Mode). p.1) same
 
 -- a part has one outer type
@@ -279,15 +279,15 @@ same-outer lists t o p m j k i n q is_program inside o_there m_among p_there j_a
     let p_at = part-stands lists t p j i q p_there j_among in
     let stands = stands-once lists t.0 is_program inside in
     let once : count_of t.0 (flat_map node_parts lists.types) ≤ 1 = omega arith in
-    ap type_at (one-part node_parts t.0 lists.types o.0 p.0 o_at.0 p_at.0 once o_at.1 p_at.1 o_at.2 p_at.2)
+    ap type_with (one-part node_parts t.0 lists.types o.0 p.0 o_at.0 p_at.0 once o_at.1 p_at.1 o_at.2 p_at.2)
 
 -- a type has one mode
 pub mode-unique : {lists : ProgramLists} {t : TypeId} {m n : Mode} → IsProgram lists → HasMode lists t m → HasMode lists t n → m ≡ n
 mode-unique {lists = lists} {t = t} {m = m} {n = n} is_program (whole m_among) (whole n_among) =
     let inside : t.0 < length lists.types = mode-in_range is_program (whole m_among) in
     let stands = stands-once lists t.0 is_program inside in
-    let once : count_of t.0 (map number_of (whole_modes lists)) ≤ 1 = omega arith in
-    let same = one-place number_of t.0 (whole_modes lists) (t, m) (t, n) refl refl once m_among n_among in
+    let once : count_of t.0 (map type_number (whole_modes lists)) ≤ 1 = omega arith in
+    let same = one-place type_number t.0 (whole_modes lists) (t, m) (t, n) refl refl once m_among n_among in
     ap (λ (p : TypeId × Mode). p.1) same
 mode-unique {lists = lists} {t = t} {m = m} {n = n} is_program (whole m_among) (part outer k node _ there n_among) =
     let inside : t.0 < length lists.types = mode-in_range is_program (whole m_among) in
@@ -308,10 +308,10 @@ mode-unique {lists = lists} {t = t} {m = m} {n = n} is_program (part o k a o_mod
 -- ---- a mode for each type
 
 -- a type that stands whole has a mode
-whole-exists : (lists : ProgramLists) (t : TypeId) → Contains (map number_of (whole_modes lists)) t.0 → (m : Mode) × HasMode lists t m
+whole-exists : (lists : ProgramLists) (t : TypeId) → Contains (map type_number (whole_modes lists)) t.0 → (m : Mode) × HasMode lists t m
 whole-exists lists t among =
-    let p = contains-unmap number_of (whole_modes lists) t.0 among in
-    let place : p.0 ≡ (t, p.0.1) = ap (λ (n : ℕ). let q : TypeId × Mode = (type_at n, p.0.1) in q) p.2 in
+    let p = contains-unmap type_number (whole_modes lists) t.0 among in
+    let place : p.0 ≡ (t, p.0.1) = ap (λ (n : ℕ). let q : TypeId × Mode = (type_with n, p.0.1) in q) p.2 in
     (p.0.1, whole (subst (λ (q : TypeId × Mode). Contains (whole_modes lists) q) place p.1))
 
 -- a part of a type that has a mode has a mode
@@ -319,23 +319,23 @@ part-exists : (lists : ProgramLists) (t outer : TypeId) (k : Mode) (n : TypeNode
 part-exists lists t outer k n outer_mode there among =
     let parts = part_modes lists k n in
     let numbers = sym (part-numbers lists k n) in
-    let numbered : Contains (map number_of parts) t.0 = subst (λ (xs : List ℕ). Contains xs t.0) numbers among in
-    let p = contains-unmap number_of parts t.0 numbered in
-    let place : p.0 ≡ (t, p.0.1) = ap (λ (m : ℕ). let q : TypeId × Mode = (type_at m, p.0.1) in q) p.2 in
+    let numbered : Contains (map type_number parts) t.0 = subst (λ (xs : List ℕ). Contains xs t.0) numbers among in
+    let p = contains-unmap type_number parts t.0 numbered in
+    let place : p.0 ≡ (t, p.0.1) = ap (λ (m : ℕ). let q : TypeId × Mode = (type_with m, p.0.1) in q) p.2 in
     (p.0.1, part outer k n outer_mode there (subst (λ (q : TypeId × Mode). Contains parts q) place p.1))
 
 -- by the number of types from this one on: an outer type has a higher number
 exists-from : (lists : ProgramLists) (left : ℕ) (t : TypeId) → IsProgram lists → t.0 < length lists.types → length lists.types ≤ t.0 + left → (m : Mode) × HasMode lists t m
 exists-from lists zero t is_program inside enough = absurd (omega arith)
 exists-from lists (suc left) t is_program inside enough =
-    let wholes = map number_of (whole_modes lists) in
+    let wholes = map type_number (whole_modes lists) in
     elim (cases_lt 0 (count_of t.0 wholes)) [
       | inl as_whole ↦ whole-exists lists t (contained t.0 wholes (omega arith))
       | inr not_whole ↦
           let stands = stands-once lists t.0 is_program inside in
           let as_part : 1 ≤ count_of t.0 (flat_map node_parts lists.types) = omega arith in
           let p = part-with node_parts t.0 lists.types as_part in
-          let outer = type_at p.0 in
+          let outer = type_with p.0 in
           let below = is_program.parts.types p.0 p.1 p.2 in
           let lower : t.0 < outer.0 = All-contains (λ (i : ℕ). i < outer.0) (node_parts p.1) t.0 below p.3 in
           let outer_inside : outer.0 < length lists.types = slice_get_within lists.types p.0 p.1 p.2 in

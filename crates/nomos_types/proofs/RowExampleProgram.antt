@@ -50,15 +50,15 @@ proc_id n = record { 0 = n }
 
 -- ---- types
 
-abbrev branch : ℕ → ℕ → Branch
-branch l t = record { label = label_id l; goes = type_id t }
+abbrev branch_to : ℕ → ℕ → Branch
+branch_to l t = record { label = label_id l; goes = type_id t }
 
 -- the branches of the two choices
 abbrev pub plus_branches : List Branch
-plus_branches = branch 0 2 ∷ branch 1 3 ∷ []
+plus_branches = branch_to 0 2 ∷ branch_to 1 3 ∷ []
 
 abbrev pub with_branches : List Branch
-with_branches = branch 0 5 ∷ branch 1 6 ∷ []
+with_branches = branch_to 0 5 ∷ branch_to 1 6 ∷ []
 
 -- the definition of the closed channel, and of the shared one
 abbrev end : TypeNode
@@ -70,8 +70,8 @@ market = node.Named (record { 0 = 9 })
 abbrev type_of : TypeNode → TypeAt
 type_of n = record { node = n; at = 0 }
 
-abbrev types : List TypeAt
-types =
+abbrev tried_types : List TypeAt
+tried_types =
     type_of node.One
     ∷ type_of (node.Plus plus_branches) ∷ type_of end ∷ type_of end
     ∷ type_of (node.With with_branches) ∷ type_of end ∷ type_of end
@@ -92,8 +92,8 @@ types =
 abbrev def : Mode → ℕ → Def
 def m body = record { name = codes "d"; mode = m; body = type_id body }
 
-abbrev defs : List Def
-defs =
+abbrev tried_defs : List Def
+tried_defs =
     def mode.R 0 ∷ def mode.R 1 ∷ def mode.R 4 ∷ def mode.R 7 ∷ def mode.R 10 ∷ def mode.R 13 ∷ def mode.R 15 ∷ def mode.R 17
     ∷ def mode.R 19 ∷ def mode.S 21 ∷ def mode.L 24
     ∷ []
@@ -114,8 +114,8 @@ proc_of values channels offers =
     }
 
 -- a parameter that is a list of numbers, each of which carries 2
-abbrev list_par : ℕ → Par
-list_par v = record { var = var_id v; kind = int_kind; amount = Some (Written 2) }
+abbrev list_parameter : ℕ → Par
+list_parameter v = record { var = var_id v; kind = int_kind; amount = Some (Written 2) }
 
 -- with one channel; with two references; with two channels; with two lists
 abbrev pub one_channel : ProcDecl
@@ -128,26 +128,26 @@ abbrev pub two_channels : ProcDecl
 two_channels = proc_of [] ((var_id 0, type_id 31) ∷ (var_id 1, type_id 32) ∷ []) 33
 
 abbrev pub two_lists : ProcDecl
-two_lists = proc_of (list_par 0 ∷ list_par 1 ∷ []) [] 34
+two_lists = proc_of (list_parameter 0 ∷ list_parameter 1 ∷ []) [] 34
 
 -- ---- instructions; each goes on at instruction 0
 
 abbrev arm_of : ℕ → Arm
 arm_of l = record { label = label_id l; goes = code_id 0 }
 
-abbrev variables : List ℕ → List VarId
-variables [] = []
-variables (v ∷ vs) = var_id v ∷ variables vs
+abbrev var_ids : List ℕ → List VarId
+var_ids [] = []
+var_ids (v ∷ vs) = var_id v ∷ var_ids vs
 
 abbrev list_args : List ℕ → List ValueArg
 list_args [] = []
 list_args (v ∷ vs) = arg.List (var_id v) ∷ list_args vs
 
 abbrev spawns : ℕ → List ℕ → List ℕ → CodeNode
-spawns p lists channels = code.Spawn 0 (var_id 2) (proc_id p) (record { values = list_args lists; channels = variables channels }) (code_id 0)
+spawns p lists channels = code.Spawn 0 (var_id 2) (proc_id p) (record { values = list_args lists; channels = var_ids channels }) (code_id 0)
 
-abbrev instructions : List CodeNode
-instructions =
+abbrev tried_code : List CodeNode
+tried_code =
     code.Close 0
     ∷ code.Label 0 chan.Own (label_id 0) (code_id 0)
     ∷ code.Label 0 (chan.Var (var_id 1)) (label_id 0) (code_id 0)
@@ -190,10 +190,10 @@ instructions =
 abbrev pub tried : ProgramLists
 tried =
     record {
-      defs = defs;
-      types = types;
+      defs = tried_defs;
+      types = tried_types;
       terms = term.Number 0 7 ∷ term.Truth 0 true ∷ [];
-      code = instructions;
+      code = tried_code;
       fns = [];
       procs = one_channel ∷ two_references ∷ two_channels ∷ two_lists ∷ [];
       labels = codes "a" ∷ codes "b" ∷ codes "c" ∷ [];
@@ -206,8 +206,8 @@ abbrev pub units : Annotations
 units = record { stars = []; unit = 1 }
 
 -- a process with nothing in hand: its mode, its potential, where it stands, and what it offers
-abbrev pub bare : Mode → ℕ → ℕ → ℕ → Judgement
-bare m q c t =
+abbrev pub empty_handed : Mode → ℕ → ℕ → ℕ → Judgement
+empty_handed m q c t =
     record { mode = m; kinds = []; lists = []; shared = []; linear = []; q = q; code = code_id c; offers = type_id t }
 
 -- with a channel that is used exactly once; with a reference; with a list of numbers that each carry 2; with a number

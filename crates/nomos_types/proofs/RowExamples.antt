@@ -37,41 +37,41 @@ use Rattle.std.proofs.lemmas.List.Elements.{All-cons, All-nil}
 use Rattle.nomos_types.specs.Row.{Row}
 use Rattle.nomos_types.specs.Row as row
 use Rattle.nomos_types.proofs.EqualityLaws.{equal-from_unfolded, equal-unfolded}
-use Rattle.nomos_types.proofs.RowExampleProgram.{type_id, var_id, label_id, plus_branches, tried, units, bare, holding, referring, knowing}
+use Rattle.nomos_types.proofs.RowExampleProgram.{type_id, var_id, label_id, plus_branches, tried, units, empty_handed, holding, referring, knowing}
 use Rattle.nomos_types.proofs.ModeLaws.{part-number, node_parts}
 use Rattle.nomos_types.proofs.OccurrenceLemmas.{contains-part}
 use Rattle.nomos_types.proofs.RowLaws.{row-inverted}
 
 -- a line applies to the judgement; no line does
-abbrev pub Applies : Judgement → Type 0
-Applies j = (after : List Judgement) × Row tried units j after
+abbrev pub LineApplies : Judgement → Type 0
+LineApplies j = (after : List Judgement) × Row tried units j after
 
-abbrev pub IsRefused : Judgement → Type 0
-IsRefused j = (after : List Judgement) → ¬ (Row tried units j after)
+abbrev pub NoLineApplies : Judgement → Type 0
+NoLineApplies j = (after : List Judgement) → ¬ (Row tried units j after)
 
 -- ---- types and terms
 
 -- types that end, by the name of their definition
-pub ends : (t : ℕ) → type_node tried t ≡ Some (node.Named (record { 0 = 0 })) → Unfolds tried t node.One
-ends t there =
+pub end-unfolds : (t : ℕ) → type_node tried t ≡ Some (node.Named (record { 0 = 0 })) → Unfolds tried t node.One
+end-unfolds t there =
     let body = constructor 0 node.One refl tt in
     name t (record { 0 = 0 }) (record { name = _; mode = mode.R; body = type_id 0 }) node.One there refl body
 
 -- a type that is a name of the shared definition
-pub shares : (t : ℕ) → type_node tried t ≡ Some (node.Named (record { 0 = 9 })) → Unfolds tried t (node.Up (type_id 22))
-shares t there =
+pub market-unfolds : (t : ℕ) → type_node tried t ≡ Some (node.Named (record { 0 = 9 })) → Unfolds tried t (node.Up (type_id 22))
+market-unfolds t there =
     let up_node = node.Up (type_id 22) in
     let body = constructor 21 up_node refl tt in
     name t (record { 0 = 9 }) (record { name = _; mode = mode.S; body = type_id 21 }) up_node there refl body
 
 -- the node to which the type of `self` unfolds, and that of a held channel, is the one that stands there
-own-type : (m : Mode) (q c t : ℕ) (n : TypeNode) → type_node tried t ≡ Some n → IsConstructor n → HasType tried (bare m q c t) chan.Own n
+own-type : (m : Mode) (q c t : ℕ) (n : TypeNode) → type_node tried t ≡ Some n → IsConstructor n → HasType tried (empty_handed m q c t) chan.Own n
 own-type m q c t n there no_name = (type_id t, refl, constructor t n there no_name)
 
 held-type : (j : Judgement) (t : ℕ) (n : TypeNode) → type_node tried t ≡ Some n → IsConstructor n → HasType tried (holding t j) (chan.Var (var_id 1)) n
 held-type j t n there no_name = (type_id t, refl, constructor t n there no_name)
 
-own-is : (m : Mode) (q c t : ℕ) (k n : TypeNode) → type_node tried t ≡ Some k → IsConstructor k → HasType tried (bare m q c t) chan.Own n → k ≡ n
+own-is : (m : Mode) (q c t : ℕ) (k n : TypeNode) → type_node tried t ≡ Some k → IsConstructor k → HasType tried (empty_handed m q c t) chan.Own n → k ≡ n
 own-is m q c t k n there no_name channel =
     let (s, found, unfolds) = channel in
     let same : s ≡ type_id t = cc in
@@ -111,7 +111,7 @@ truth vars = kind.term vars (record { 0 = 1 }) bool_kind _ refl (kind.truth vars
 pub ended-alike : (t u : ℕ) → type_node tried t ≡ Some (node.Named (record { 0 = 0 })) → type_node tried u ≡ Some (node.Named (record { 0 = 0 })) → HasMode tried (type_id t) mode.R → HasMode tried (type_id u) mode.R → AlikeTypes tried units (type_id t) (type_id u)
 ended-alike t u t_there u_there t_mode u_mode =
     record {
-      equal = equal-from_unfolded tried units (type_id t) (type_id u) node.One node.One (ends t t_there) (ends u u_there) one;
+      equal = equal-from_unfolded tried units (type_id t) (type_id u) node.One node.One (end-unfolds t t_there) (end-unfolds u u_there) one;
       mode = mode.R;
       left_mode = t_mode;
       right_mode = u_mode;
@@ -138,13 +138,13 @@ mutual
         right = node.Down (type_id 23);
         left_unfolds = constructor 22 (node.Down (type_id 23)) refl tt;
         right_unfolds = constructor 22 (node.Down (type_id 23)) refl tt;
-        same = down (type_id 23) (type_id 23) (agree-shared n (type_id 23) (type_id 23) (shares 23 refl) (shares 23 refl));
+        same = down (type_id 23) (type_id 23) (agree-shared n (type_id 23) (type_id 23) (market-unfolds 23 refl) (market-unfolds 23 refl));
       }
 
 pub shared-alike : (t : ℕ) → type_node tried t ≡ Some (node.Named (record { 0 = 9 })) → HasMode tried (type_id t) mode.S → AlikeTypes tried units (type_id 28) (type_id t)
 shared-alike t there its_mode =
     record {
-      equal = λ n. agree-shared n (type_id 28) (type_id t) (shares 28 refl) (shares t there);
+      equal = λ n. agree-shared n (type_id 28) (type_id t) (market-unfolds 28 refl) (market-unfolds t there);
       mode = mode.S;
       left_mode = whole (12, lit< tt, refl);
       right_mode = its_mode;
@@ -152,16 +152,16 @@ shared-alike t there its_mode =
 
 -- ---- labels
 
-label-applies : Applies (bare mode.R 0 1 1)
+label-applies : LineApplies (empty_handed mode.R 0 1 1)
 label-applies =
     let channel = own-type mode.R 0 1 1 (node.Plus plus_branches) refl tt in
     (_, row.label refl (type_id 2) (record { branches = plus_branches; channel = channel; goes = refl }))
 
 -- the client of that choice does not make it
-label-by_client : IsRefused (holding 1 (bare mode.R 0 2 27))
+label-by_client : NoLineApplies (holding 1 (empty_handed mode.R 0 2 27))
 label-by_client after applied =
     let (t, says, goes) = row-inverted _ refl applied in
-    let same = held-is (bare mode.R 0 2 27) 1 (node.Plus plus_branches) (node.With says.branches) refl tt says.channel in
+    let same = held-is (empty_handed mode.R 0 2 27) 1 (node.Plus plus_branches) (node.With says.branches) refl tt says.channel in
     cc
 
 -- the label of a type to which a choice goes on is one of its labels
@@ -176,12 +176,12 @@ goes-label [] l t found = absurd cc
 goes-label (b ∷ bs) l t found =
     goes-label_at b l (find (λ (c : Branch). c.label.0 == l.0) bs) t bs (b.label.0 == l.0) refl (goes-label bs l t) found
 
-case-applies : Applies (holding 1 (bare mode.R 0 3 27))
+case-applies : LineApplies (holding 1 (empty_handed mode.R 0 3 27))
 case-applies = (
   _,
   row.case refl _ (record {
     branches = plus_branches;
-    channel = held-type (bare mode.R 0 3 27) 1 (node.Plus plus_branches) refl tt;
+    channel = held-type (empty_handed mode.R 0 3 27) 1 (node.Plus plus_branches) refl tt;
     each_label = goes-label plus_branches;
     each_arm = lines.arm (type_id 2) refl (lines.arm (type_id 3) refl lines.none);
   }),
@@ -193,10 +193,10 @@ no-label zero inside found = omega (arith, ap (λ (l : Label). l.0) found)
 no-label (suc k) inside found = omega arith
 
 -- an arm is missing
-case-missing_arm : IsRefused (holding 1 (bare mode.R 0 4 27))
+case-missing_arm : NoLineApplies (holding 1 (empty_handed mode.R 0 4 27))
 case-missing_arm after applied =
     let says = row-inverted _ refl applied in
-    let same = held-is (bare mode.R 0 4 27) 1 (node.Plus plus_branches) (node.Plus says.branches) refl tt says.channel in
+    let same = held-is (empty_handed mode.R 0 4 27) 1 (node.Plus plus_branches) (node.Plus says.branches) refl tt says.channel in
     let its_own : plus_branches ≡ says.branches = cc in
     let goes = sym (ap (λ (bs : List Branch). goes_by bs (label_id 1)) its_own) in
     let (k, inside, found) = says.each_label (label_id 1) (type_id 3) goes in
@@ -206,10 +206,10 @@ case-missing_arm after applied =
 third-arm : {j : Judgement} {c : Chan} {bs : List Branch} {a b d : Arm} {after : List Judgement} → ArmsGoOn j c bs (a ∷ b ∷ d ∷ []) after → (t : TypeId) × (goes_by bs d.label ≡ Some t)
 third-arm (lines.arm _ _ (lines.arm _ _ (lines.arm t goes _))) = (t, goes)
 
-case-odd_arm : IsRefused (holding 1 (bare mode.R 0 5 27))
-case-odd_arm after applied =
+case-extra_arm : NoLineApplies (holding 1 (empty_handed mode.R 0 5 27))
+case-extra_arm after applied =
     let says = row-inverted _ refl applied in
-    let same = held-is (bare mode.R 0 5 27) 1 (node.Plus plus_branches) (node.Plus says.branches) refl tt says.channel in
+    let same = held-is (empty_handed mode.R 0 5 27) 1 (node.Plus plus_branches) (node.Plus says.branches) refl tt says.channel in
     let its_own : plus_branches ≡ says.branches = cc in
     let none = ap (λ (bs : List Branch). goes_by bs (label_id 2)) its_own in
     let (t, goes) = third-arm says.each_arm in
@@ -220,7 +220,7 @@ case-odd_arm after applied =
 pair-carries : HasMode tried (type_id 8) mode.R
 pair-carries = part (type_id 7) mode.R (node.Tensor (type_id 8) (type_id 9)) (whole (3, lit< tt, refl)) refl (0, lit< tt, refl)
 
-send-applies : Applies (holding 31 (bare mode.R 0 6 7))
+send-applies : LineApplies (holding 31 (empty_handed mode.R 0 6 7))
 send-applies = (
   _,
   row.send refl _ (type_id 9) (record {
@@ -232,12 +232,12 @@ send-applies = (
 )
 
 -- a channel is not sent over itself
-send-itself : IsRefused (holding 10 (bare mode.R 0 7 27))
+send-itself : NoLineApplies (holding 10 (empty_handed mode.R 0 7 27))
 send-itself after applied =
     let (left, t, says, goes) = row-inverted _ refl applied in
     says.other refl
 
-recv-applies : Applies (bare mode.R 0 8 10)
+recv-applies : LineApplies (empty_handed mode.R 0 8 10)
 recv-applies = (
   _,
   row.recv refl mode.R (type_id 11) (type_id 12) (record {
@@ -248,20 +248,20 @@ recv-applies = (
 )
 
 -- the variable is taken
-recv-taken : IsRefused (knowing (bare mode.R 0 8 10))
+recv-taken : NoLineApplies (knowing (empty_handed mode.R 0 8 10))
 recv-taken after applied =
     let (m, carried, t, says, goes) = row-inverted _ refl applied in
     omega (arith, says.free)
 
 -- ---- values
 
-put-applies : Applies (bare mode.R 0 9 13)
+put-applies : LineApplies (empty_handed mode.R 0 9 13)
 put-applies =
     let channel = own-type mode.R 0 9 13 (node.ValueOut int_kind (type_id 14)) refl tt in
     (_, row.put refl (type_id 14) (record { kind = int_kind; channel = channel; value = seven [] }))
 
 -- the value has another kind
-put-other_kind : IsRefused (bare mode.R 0 10 13)
+put-other_kind : NoLineApplies (empty_handed mode.R 0 10 13)
 put-other_kind after applied =
     let (t, says, goes) = row-inverted _ refl applied in
     let out = node.ValueOut int_kind (type_id 14) in
@@ -270,58 +270,58 @@ put-other_kind after applied =
     let clash : bool_kind ≡ int_kind = cc in
     bool-not_int clash
 
-take-applies : Applies (bare mode.R 0 11 15)
+take-applies : LineApplies (empty_handed mode.R 0 11 15)
 take-applies =
     let channel = own-type mode.R 0 11 15 (node.ValueIn int_kind (type_id 16)) refl tt in
     (_, row.take refl int_kind (type_id 16) (record { channel = channel; free = refl }))
 
 -- the provider of a value does not take it
-take-by_provider : IsRefused (bare mode.R 0 11 13)
+take-by_provider : NoLineApplies (empty_handed mode.R 0 11 13)
 take-by_provider after applied =
     let (k, t, says, goes) = row-inverted _ refl applied in
     let same = own-is mode.R 0 11 13 (node.ValueOut int_kind (type_id 14)) (node.ValueIn k t) refl tt says.channel in
     cc
 
-let-applies : Applies (bare mode.R 0 25 27)
+let-applies : LineApplies (empty_handed mode.R 0 25 27)
 let-applies = (_, row.«let» refl int_kind (seven []) refl)
 
-let-taken : IsRefused (holding 31 (bare mode.R 0 25 27))
+let-taken : NoLineApplies (holding 31 (empty_handed mode.R 0 25 27))
 let-taken after applied =
     let (k, value, free, goes) = row-inverted _ refl applied in
     omega (arith, free)
 
-emit-applies : Applies (bare mode.T 0 26 27)
+emit-applies : LineApplies (empty_handed mode.T 0 26 27)
 emit-applies = (_, row.emit refl int_kind (seven []))
 
-choose-applies : Applies (bare mode.R 0 27 27)
+choose-applies : LineApplies (empty_handed mode.R 0 27 27)
 choose-applies = (_, row.choose refl (truth []))
 
 -- a number is no test
-choose-number : IsRefused (bare mode.R 0 28 27)
+choose-number : NoLineApplies (empty_handed mode.R 0 28 27)
 choose-number after applied =
     let (test, goes) = row-inverted _ refl applied in
     bool-not_int (HasKind-unique tried [] (record { 0 = 0 }) bool_kind int_kind test (seven []))
 
 -- ---- potential
 
-pay-applies : Applies (bare mode.R 3 12 17)
+pay-applies : LineApplies (empty_handed mode.R 3 12 17)
 pay-applies =
     let channel = own-type mode.R 3 12 17 (node.PotOut (Written 3) (type_id 18)) refl tt in
     (_, row.pay refl (type_id 18) (record { amount = Written 3; channel = channel; same = refl; enough = lit≤ tt }))
 
 -- more is paid than there is
-pay-too_much : IsRefused (bare mode.R 2 12 17)
+pay-too_much : NoLineApplies (empty_handed mode.R 2 12 17)
 pay-too_much after applied =
     let (t, says, goes) = row-inverted _ refl applied in
     omega (arith, says.enough)
 
-get-applies : Applies (bare mode.R 0 13 19)
+get-applies : LineApplies (empty_handed mode.R 0 13 19)
 get-applies =
     let channel = own-type mode.R 0 13 19 (node.PotIn (Written 3) (type_id 20)) refl tt in
     (_, row.get refl (type_id 20) (record { amount = Written 3; channel = channel; same = refl }))
 
 -- the type has another amount
-get-other_amount : IsRefused (bare mode.R 0 14 19)
+get-other_amount : NoLineApplies (empty_handed mode.R 0 14 19)
 get-other_amount after applied =
     let (t, says, goes) = row-inverted _ refl applied in
     let asks = node.PotIn (Written 3) (type_id 20) in
@@ -330,44 +330,44 @@ get-other_amount after applied =
     let worth : 3 ≡ dths units says.amount = ap (dths units) its_own in
     omega (arith, says.same)
 
-work-applies : Applies (bare mode.R 3 15 27)
+work-applies : LineApplies (empty_handed mode.R 3 15 27)
 work-applies = (_, row.work refl (lit≤ tt))
 
-work-too_much : IsRefused (bare mode.R 2 15 27)
+work-too_much : NoLineApplies (empty_handed mode.R 2 15 27)
 work-too_much after applied =
     let (enough, goes) = row-inverted _ refl applied in
     omega (arith, enough)
 
 -- ---- ends
 
-wait-applies : Applies (holding 0 (bare mode.R 0 16 27))
-wait-applies = (_, row.wait refl (held-type (bare mode.R 0 16 27) 0 node.One refl tt))
+wait-applies : LineApplies (holding 0 (empty_handed mode.R 0 16 27))
+wait-applies = (_, row.wait refl (held-type (empty_handed mode.R 0 16 27) 0 node.One refl tt))
 
 -- the channel has not ended
-wait-early : IsRefused (holding 1 (bare mode.R 0 16 27))
+wait-early : NoLineApplies (holding 1 (empty_handed mode.R 0 16 27))
 wait-early after applied =
     let (channel, goes) = row-inverted _ refl applied in
-    let same = held-is (bare mode.R 0 16 27) 1 (node.Plus plus_branches) node.One refl tt channel in
+    let same = held-is (empty_handed mode.R 0 16 27) 1 (node.Plus plus_branches) node.One refl tt channel in
     cc
 
-close-applies : Applies (bare mode.R 0 0 0)
+close-applies : LineApplies (empty_handed mode.R 0 0 0)
 close-applies =
     let channel = own-type mode.R 0 0 0 node.One refl tt in
     (_, row.close refl (record { channel = channel; mode = inl refl; nothing_held = refl }))
 
 -- a channel is left
-close-holding : IsRefused (holding 31 (bare mode.R 0 0 0))
+close-holding : NoLineApplies (holding 31 (empty_handed mode.R 0 0 0))
 close-holding after applied =
     let (says, goes) = row-inverted _ refl applied in
     no-channels (var_id 1, type_id 31) says.nothing_held
 
-fwd-applies : Applies (holding 31 (bare mode.R 0 29 27))
+fwd-applies : LineApplies (holding 31 (empty_handed mode.R 0 29 27))
 fwd-applies =
     let alike = ended-alike 27 31 refl refl (whole (16, lit< tt, refl)) (whole (14, lit< tt, refl)) in
     (_, row.fwd refl (record { mode = refl; own = type_id 31; only = refl; alike = alike }))
 
 -- only a process at R forwards
-fwd-by_client : IsRefused (holding 31 (bare mode.L 0 29 27))
+fwd-by_client : NoLineApplies (holding 31 (empty_handed mode.L 0 29 27))
 fwd-by_client after applied =
     let (says, goes) = row-inverted _ refl applied in
     let at_r = says.mode in
@@ -375,19 +375,19 @@ fwd-by_client after applied =
 
 -- ---- shared contracts
 
-accept-applies : Applies (bare mode.S 0 17 21)
+accept-applies : LineApplies (empty_handed mode.S 0 17 21)
 accept-applies =
     let channel = own-type mode.S 0 17 21 (node.Up (type_id 22)) refl tt in
     (_, row.accept refl (type_id 22) (record { mode = refl; channel = channel }))
 
 -- a process that is held does not accept
-accept-held : IsRefused (bare mode.L 0 17 21)
+accept-held : NoLineApplies (empty_handed mode.L 0 17 21)
 accept-held after applied =
     let (t, says, goes) = row-inverted _ refl applied in
     let at_s = says.mode in
     cc
 
-detach-applies : Applies (holding 31 (bare mode.L 0 18 22))
+detach-applies : LineApplies (holding 31 (empty_handed mode.L 0 18 22))
 detach-applies = (
   _,
   row.detach refl (type_id 23) (record {
@@ -420,12 +420,12 @@ held-not_private (part outer k n _ there among) =
     none-there (λ i. i == 24) (flat_map node_parts tried.types) 24 refl refl part_of
 
 -- a contract is held
-detach-holding : IsRefused (holding 24 (bare mode.L 0 18 22))
+detach-holding : NoLineApplies (holding 24 (empty_handed mode.L 0 18 22))
 detach-holding after applied =
     let (t, says, goes) = row-inverted _ refl applied in
     held-not_private (says.nothing_held 0 (var_id 1, type_id 24) (omega arith))
 
-acquire-applies : Applies (referring 21 (bare mode.T 0 19 27))
+acquire-applies : LineApplies (referring 21 (empty_handed mode.T 0 19 27))
 acquire-applies = (
   _,
   row.acquire refl (type_id 22) (record {
@@ -438,19 +438,19 @@ acquire-applies = (
 )
 
 -- a private process acquires nothing
-acquire-private : IsRefused (referring 21 (bare mode.R 0 19 27))
+acquire-private : NoLineApplies (referring 21 (empty_handed mode.R 0 19 27))
 acquire-private after applied =
     let (t, says, goes) = row-inverted _ refl applied in
     elim says.mode [ inl at_l ↦ cc | inr at_t ↦ cc ]
 
-release-applies : Applies (holding 22 (bare mode.T 0 20 27))
+release-applies : LineApplies (holding 22 (empty_handed mode.T 0 20 27))
 release-applies =
-    let channel = held-type (bare mode.T 0 20 27) 22 (node.Down (type_id 23)) refl tt in
+    let channel = held-type (empty_handed mode.T 0 20 27) 22 (node.Down (type_id 23)) refl tt in
     (_, row.release refl (type_id 23) (record { channel = channel; free = refl }))
 
 -- the talk has not come to its end
-release-early : IsRefused (holding 1 (bare mode.T 0 20 27))
+release-early : NoLineApplies (holding 1 (empty_handed mode.T 0 20 27))
 release-early after applied =
     let (t, says, goes) = row-inverted _ refl applied in
-    let same = held-is (bare mode.T 0 20 27) 1 (node.Plus plus_branches) (node.Down t) refl tt says.channel in
+    let same = held-is (empty_handed mode.T 0 20 27) 1 (node.Plus plus_branches) (node.Down t) refl tt says.channel in
     cc
