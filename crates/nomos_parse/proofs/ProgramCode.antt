@@ -30,7 +30,8 @@ step-holds : (procs bound : Names) (s : Built) (step : StepTree) (next : CodeId)
 step-holds procs bound s (label x l) next names =
     let t = with_label s l.text in
     record {
-      terms = refl; kinds = refl;
+      terms = refl;
+      kinds = refl;
       calls = none_below (length procs);
       labels = All-cons (λ k. k < length t.labels) (number_of t.labels l.text) [] (number_of-below t.labels l.text (Contains-seen s.labels l.text)) (none_below (length t.labels));
       differ = one_differs (number_of t.labels l.text);
@@ -38,7 +39,8 @@ step-holds procs bound s (label x l) next names =
 step-holds procs bound s (wait at x) next names =
     record { terms = refl; kinds = refl; calls = none_below (length procs); labels = none_below (length s.labels); differ = none_differ }
 step-holds procs bound s (spawn at x f no_args) next names = record {
-  terms = refl; kinds = refl;
+  terms = refl;
+  kinds = refl;
   calls = All-cons (λ k. k < length procs) (number_of procs f.text) [] (number_of-below procs f.text names.0) (none_below (length procs));
   labels = none_below (length s.labels);
   differ = none_differ;
@@ -76,7 +78,8 @@ mutual
       let arms = (build_branches procs s branches).1 in
       Sound-put_code n (length procs) types waiting t (form.Case at (chan_of s x) arms)
       (record {
-        terms = refl; kinds = refl;
+        terms = refl;
+        kinds = refl;
         calls = none_below (length procs);
         labels = Numbers-below t.labels (map (λ a. a.label.0) arms) (case_labels branches) (branches-numbers procs s branches);
         differ = Numbers-differ t.labels (map (λ a. a.label.0) arms) (case_labels branches) (branches-numbers procs s branches) names.1;

@@ -1,13 +1,9 @@
 -- A judgement covers another one where they are alike, but that the first may have more potential. Each row keeps this.
-use Rattle.std.proofs.Common.{◌≡◌, ◌≤◌, ◌+◌, ◌-◌, ℕ, List, [], ◌∷◌, Option, Some, None, slice_get, refl, subst, sym, ap, ◌∙◌, arith}
-use Rattle.nomos_ir.proofs.TermKindLaws.{HasKind-unique}
-use Rattle.nomos_ir.specs.declared.amount.Amount.{Amount}
+use Rattle.std.proofs.Common.{◌≡◌, ◌≤◌, ℕ, List, [], ◌∷◌, Some, refl, subst, sym, ap}
 use Rattle.nomos_ir.specs.declared.code_node.Args.{Args}
 use Rattle.nomos_ir.specs.declared.code_node.Arm.{Arm}
 use Rattle.nomos_ir.specs.declared.code_node.Chan.{Chan}
 use Rattle.nomos_ir.specs.declared.code_node.Chan.TheVariants as chan
-use Rattle.nomos_ir.specs.declared.code_node.CodeNode.{CodeNode}
-use Rattle.nomos_ir.specs.declared.code_node.CodeNode.TheVariants as code
 use Rattle.nomos_ir.specs.declared.code_node.ValueArg.{ValueArg}
 use Rattle.nomos_ir.specs.declared.declaration.Par.{Par}
 use Rattle.nomos_ir.specs.declared.declaration.ProcDecl.{ProcDecl}
@@ -20,19 +16,15 @@ use Rattle.nomos_ir.specs.declared.mode.Mode.{Mode}
 use Rattle.nomos_ir.specs.declared.mode.Mode.TheVariants as mode
 use Rattle.nomos_ir.specs.declared.type_node.Branch.{Branch}
 use Rattle.nomos_ir.specs.declared.type_node.TypeNode.{TypeNode}
-use Rattle.nomos_ir.specs.Bindings.{bound_to, bind, unbind}
-use Rattle.nomos_types.proofs.AlikeLaws.{alike_types-same, alike_types-unfolded, alike_channels-bound, alike_channels-free, alike_channels-bind, alike_channels-unbind}
-use Rattle.nomos_types.proofs.HeadLaws.{both-there, sent-branches, awaited-branches, sent-parts, received-parts, sent-value, received-value, paid-rest, got-rest, up-rest, down-rest}
-use Rattle.nomos_types.proofs.ModeLaws.{mode-unique, offered-has_mode}
-use Rattle.nomos_types.proofs.RowLaws.{RowAt}
-use Rattle.nomos_types.specs.Alike.{Alike, AlikeChannels, AlikeTypes}
-use Rattle.nomos_types.specs.Amount.{Annotations, dths}
+use Rattle.nomos_ir.specs.Bindings.{bind, unbind}
+use Rattle.nomos_types.proofs.AlikeLaws.{alike_types-unfolded, alike_channels-bound, alike_channels-free, alike_channels-bind, alike_channels-unbind}
+use Rattle.nomos_types.proofs.HeadLaws.{both-there}
+use Rattle.nomos_types.specs.Alike.{AlikeChannels, AlikeTypes}
+use Rattle.nomos_types.specs.Amount.{Annotations}
 use Rattle.nomos_types.specs.Arguments.{PassesChannel, shared, linear, PassesChannels, PassesValue, term, list, PassesValues, ArgumentsFit}
-use Rattle.nomos_types.specs.Branches.{goes_by}
 use Rattle.nomos_types.specs.Equality.{SameBranches, SameHead}
 use Rattle.nomos_types.specs.Judgement.{Judgement, ListType, channel_type, at_code, goes_on, with_potential, binds_value, binds_list, binds_channel}
-use Rattle.nomos_types.specs.Lines.{HasType, by_side, ArmsGoOn}
-use Rattle.nomos_types.specs.Modes.{HasMode}
+use Rattle.nomos_types.specs.Lines.{HasType, ArmsGoOn}
 use Rattle.nomos_types.specs.Typed.{IsWellFormed}
 
 -- the first judgement is like the second one, and has at least its potential

@@ -1,5 +1,5 @@
 -- What covers another judgement goes on by the same line to judgements that cover those with which the other goes on.
-use Rattle.std.proofs.Common.{◌≡◌, ◌≤◌, ◌+◌, ◌-◌, ℕ, List, [], ◌∷◌, Some, slice_get, refl, subst, sym, ap, ◌∙◌, arith}
+use Rattle.std.proofs.Common.{◌≡◌, ◌+◌, ◌-◌, ℕ, List, [], ◌∷◌, Some, refl, subst, sym, ap, ◌∙◌, arith}
 use Rattle.nomos_ir.proofs.TermKindLaws.{HasKind-unique}
 use Rattle.nomos_ir.specs.declared.code_node.Chan.TheVariants as chan
 use Rattle.nomos_ir.specs.declared.code_node.CodeNode.{CodeNode}
@@ -15,21 +15,18 @@ use Rattle.nomos_ir.specs.declared.kind.Kind.{Kind}
 use Rattle.nomos_ir.specs.declared.lists.ProgramLists.{ProgramLists}
 use Rattle.nomos_ir.specs.declared.mode.Mode.{Mode}
 use Rattle.nomos_ir.specs.declared.mode.Mode.TheVariants as mode
-use Rattle.nomos_ir.specs.declared.type_node.TypeNode.{TypeNode}
-use Rattle.nomos_ir.specs.declared.type_node.TypeNode.TheVariants as node
 use Rattle.nomos_ir.specs.Bindings.{bound_to, unbind}
 use Rattle.nomos_ir.specs.TermKind.{HasKind}
 use Rattle.nomos_types.proofs.AlikeLaws.{alike_types-same, alike_types-unfolded, alike_channels-bound}
-use Rattle.nomos_types.proofs.Covering.{Covers, CoversEach, none, more, single, pair, nothing, heads, goes_on-covers, at_code-covers, potential-covers, unbound-covers, list-unbound-covers, value-covers, list-covers, channel-covers, passing-covers, arguments-cover, arms-cover}
+use Rattle.nomos_types.proofs.Covering.{Covers, CoversEach, single, pair, nothing, heads, goes_on-covers, at_code-covers, potential-covers, unbound-covers, list-unbound-covers, value-covers, list-covers, channel-covers, passing-covers, arguments-cover, arms-cover}
 use Rattle.nomos_types.proofs.HeadLaws.{both-there, sent-branches, awaited-branches, sent-parts, received-parts, sent-value, received-value, paid-rest, got-rest, up-rest, down-rest}
 use Rattle.nomos_types.proofs.ModeLaws.{mode-unique, offered-has_mode}
 use Rattle.nomos_types.proofs.RowLaws.{RowAt}
 use Rattle.nomos_types.specs.Alike.{AlikeTypes}
 use Rattle.nomos_types.specs.Amount.{Annotations, dths}
 use Rattle.nomos_types.specs.Judgement.{Judgement, ListType, at_code, goes_on, with_potential, binds_value, binds_list, binds_channel}
-use Rattle.nomos_types.specs.Lines.{HasType, Adds, TakesApart, Acquires, Spawns}
+use Rattle.nomos_types.specs.Lines.{Acquires, Spawns}
 use Rattle.nomos_types.specs.Modes.{HasMode}
-use Rattle.nomos_types.specs.Row.{gives_up}
 use Rattle.nomos_types.specs.Typed.{IsWellFormed}
 
 module _ {lists : ProgramLists} {x : Annotations} (formed : IsWellFormed lists) where

@@ -1,5 +1,5 @@
 -- What a program's invariant says of the amount of a declaration.
-use Rattle.std.proofs.Common.{◌≡◌, ◌<◌, ◌≤◌, ℕ, zero, suc, ◌+◌, List, [], ◌∷◌, ◌++◌, length, get_or, map, All, subst, ap, sym, arith, ◌∙◌, length-append}
+use Rattle.std.proofs.Common.{◌≡◌, ◌<◌, ◌≤◌, ℕ, zero, suc, ◌+◌, List, [], ◌∷◌, ◌++◌, length, get_or, map, All, subst, arith, length-append}
 use Rattle.std.proofs.lemmas.List.{get_or-map, length-map, get_or-append-add, get_or_append_left}
 use Rattle.std.specs.List.{flat_map}
 use Rattle.nomos_ir.specs.Amounts.{AmountsAreSmall, IsAmount, amounts_of, par_amounts, proc_amounts, star_of, star_count, greatest, most_star}

@@ -1,11 +1,11 @@
 -- Laws of derivations: they are kept by judgements that are alike and by more potential, and lead to each place that follows.
-use Rattle.std.proofs.Common.{◌≡◌, ◌≤◌, ◌<◌, ℕ, zero, suc, List, [], ◌∷◌, length, get_or, Contains, slice_get, refl, subst, sym, ap, ◌∙◌, arith}
+use Rattle.std.proofs.Common.{◌≤◌, ℕ, zero, suc, List, Contains, slice_get, refl, subst, ap, ◌∙◌, arith}
 use Rattle.nomos_ir.specs.declared.code_node.CodeNode.{CodeNode}
 use Rattle.nomos_ir.specs.declared.lists.ProgramLists.{ProgramLists}
 use Rattle.nomos_types.proofs.AlikeLaws.{alike-through}
 use Rattle.nomos_types.proofs.Covering.{Covers, CoversEach, none, more}
 use Rattle.nomos_types.proofs.CoveringRows.{rows-cover}
-use Rattle.nomos_types.proofs.RowLaws.{RowAt, row-at, row-inverted}
+use Rattle.nomos_types.proofs.RowLaws.{row-at, row-inverted}
 use Rattle.nomos_types.specs.Alike.{Alike}
 use Rattle.nomos_types.specs.Amount.{Annotations}
 use Rattle.nomos_types.specs.Derivation.{Derives, by_row, Follows}

@@ -1,5 +1,5 @@
 -- At a place one judgement follows from a start.
-use Rattle.std.proofs.Common.{◌≡◌, ◌≤◌, ◌<◌, ◌+◌, ℕ, List, [], ◌∷◌, ◌++◌, map, length, Contains, Some, slice_get, refl, subst, sym, ap, ◌∙◌, arith}
+use Rattle.std.proofs.Common.{◌≡◌, ◌≤◌, ℕ, List, [], ◌∷◌, ◌++◌, map, Contains, Some, slice_get, refl, subst, sym, ap, ◌∙◌, arith}
 use Rattle.std.specs.List.{flat_map}
 use Rattle.nomos_ir.specs.declared.code_node.Arm.{Arm}
 use Rattle.nomos_ir.specs.declared.code_node.Chan.{Chan}
@@ -22,7 +22,7 @@ use Rattle.nomos_types.proofs.RowLaws.{RowAt, row-at}
 use Rattle.nomos_types.proofs.UniqueRows.{row-unique}
 use Rattle.nomos_types.specs.Amount.{Annotations}
 use Rattle.nomos_types.specs.Derivation.{Follows}
-use Rattle.nomos_types.specs.Judgement.{Judgement, goes_on, binds_channel, start_of}
+use Rattle.nomos_types.specs.Judgement.{Judgement, goes_on, binds_channel}
 use Rattle.nomos_types.specs.Lines.{ArmsGoOn}
 use Rattle.nomos_types.specs.Row.{Row, StandsAtCode}
 

@@ -1,15 +1,14 @@
 -- What is alike in the parts of two nodes of the same head, by the side from which a process sees its channel.
-use Rattle.std.proofs.Common.{◌≡◌, List, Option, Some, None, refl, subst}
+use Rattle.std.proofs.Common.{◌≡◌, List, Option, Some, refl, subst}
 use Rattle.nomos_ir.specs.declared.amount.Amount.{Amount}
 use Rattle.nomos_ir.specs.declared.code_node.Chan.{Chan}
 use Rattle.nomos_ir.specs.declared.code_node.Chan.TheVariants as chan
 use Rattle.nomos_ir.specs.declared.ids.TypeId.{TypeId}
 use Rattle.nomos_ir.specs.declared.kind.Kind.{Kind}
 use Rattle.nomos_ir.specs.declared.type_node.Branch.{Branch}
-use Rattle.nomos_ir.specs.declared.type_node.TypeNode.{TypeNode}
 use Rattle.nomos_ir.specs.declared.type_node.TypeNode.TheVariants as node
-use Rattle.nomos_types.specs.Amount.{Annotations, dths}
-use Rattle.nomos_types.specs.Equality.{BothOrNeither, both, neither, SameBranches, SameHead, one, plus, with, tensor, lolli, value_out, value_in, pot_out, pot_in, up, down}
+use Rattle.nomos_types.specs.Amount.{Annotations}
+use Rattle.nomos_types.specs.Equality.{BothOrNeither, both, neither, SameBranches, SameHead, plus, with, tensor, lolli, value_out, value_in, pot_out, pot_in, up, down}
 use Rattle.nomos_types.specs.Lines.{by_side}
 
 -- what is there on both sides is related

@@ -1,14 +1,12 @@
 -- A program obeys the tables of modes where no type node offends, and the first that offends is the least of the three kinds.
-use Rattle.std.proofs.Common.{◌≡◌, ◌≢◌, ◌<◌, ◌≤◌, ◌⊎◌, inl, inr, ℕ, zero, suc, Bool, true, false, IsTrue, List, [], ◌∷◌, Option, Some, None, All, MatchOption, Contains, length, get_or, slice_get, refl, subst, sym, ap, ◌∙◌, arith}
+use Rattle.std.proofs.Common.{◌≡◌, ◌≢◌, ◌<◌, ◌⊎◌, inl, inr, ℕ, zero, suc, Bool, true, false, IsTrue, List, [], ◌∷◌, Option, Some, None, MatchOption, Contains, length, get_or, slice_get, refl, ap, ◌∙◌, arith}
 use Rattle.std.specs.Option.{option_map}
-use Rattle.nomos_ir.proofs.NodeLaws.{type_node-at}
 use Rattle.nomos_ir.specs.declared.ids.TypeId.{TypeId}
 use Rattle.nomos_ir.specs.declared.lists.ProgramLists.{ProgramLists}
 use Rattle.nomos_ir.specs.declared.mode.Mode.{Mode}
 use Rattle.nomos_ir.specs.declared.mode.Mode.TheVariants as mode
 use Rattle.nomos_ir.specs.declared.type_node.TypeNode.{TypeNode}
 use Rattle.nomos_ir.specs.declared.type_node.TypeNode.TheVariants as node
-use Rattle.nomos_ir.specs.Nodes.{type_node}
 use Rattle.std.proofs.lemmas.Option.{slice_get-get_or}
 use Rattle.nomos_ir.specs.declared.ids.VarId.{VarId}
 use Rattle.nomos_ir.specs.declared.type_node.TypeAt.{TypeAt}
@@ -17,7 +15,7 @@ use Rattle.nomos_types.proofs.LeastLemmas.{least-of_two}
 use Rattle.nomos_types.proofs.ModeLaws.{mode-in_range}
 use Rattle.nomos_types.proofs.OccurrenceLemmas.{contains-found}
 use Rattle.nomos_types.specs.Forming.{OffendsAt, StandsAtOffset, IsFirstOffence}
-use Rattle.nomos_types.specs.Modes.{HasMode, Allows, ObeysModes, Offends, forbidden, not_held, of_transactions, head_mode, may_hold, parameter_mode}
+use Rattle.nomos_types.specs.Modes.{Allows, ObeysModes, forbidden, not_held, of_transactions, head_mode, may_hold, parameter_mode}
 use Rattle.nomos_types.specs.mirror.Least.{IsLeast, lesser}
 use Rattle.nomos_types.specs.mirror.Offences.{ForbiddenBelow, NotHeldBelow, NotHeldInBelow, OfTransactionsBelow}
 

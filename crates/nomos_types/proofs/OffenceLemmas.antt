@@ -1,8 +1,7 @@
 -- One more place at which an offence may stand.
-use Rattle.std.proofs.Common.{◌≡◌, ◌≢◌, ◌<◌, ◌⊎◌, inl, inr, ℕ, ◌+◌, ◌==◌, Bool, true, false, IsTrue, List, [], ◌∷◌, Option, Some, None, MatchOption, length, slice_get, refl, subst, sym, ap, ◌∙◌, arith, eqb-true}
+use Rattle.std.proofs.Common.{◌≡◌, ◌≢◌, ◌<◌, ◌⊎◌, inl, inr, ℕ, ◌+◌, ◌==◌, Bool, true, false, IsTrue, List, Option, Some, None, MatchOption, length, slice_get, refl, subst, sym, ap, ◌∙◌, arith, eqb-true}
 use Rattle.std.proofs.lemmas.Bool.{eqb-false}
 use Rattle.std.proofs.lemmas.Option.{slice_get_within}
-use Rattle.nomos_ir.proofs.NodeLaws.{type_node-at}
 use Rattle.nomos_ir.specs.declared.declaration.ProcDecl.{ProcDecl}
 use Rattle.nomos_ir.specs.declared.ids.TypeId.{TypeId}
 use Rattle.nomos_ir.specs.declared.ids.VarId.{VarId}
@@ -15,7 +14,7 @@ use Rattle.nomos_ir.specs.declared.type_node.TypeNode.{TypeNode}
 use Rattle.std.specs.Option.{option_map}
 use Rattle.nomos_ir.specs.Nodes.{type_node}
 use Rattle.nomos_ir.specs.Program.{IsProgram}
-use Rattle.nomos_types.proofs.LeastLemmas.{least-one, least-same, least-of_two}
+use Rattle.nomos_types.proofs.LeastLemmas.{least-one, least-of_two}
 use Rattle.nomos_types.proofs.ModeLaws.{mode-exists}
 use Rattle.nomos_types.specs.Forming.{StandsAtOffset}
 use Rattle.nomos_types.specs.ModeTable.{AreModesOf}

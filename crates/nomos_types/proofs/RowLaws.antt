@@ -1,37 +1,20 @@
 -- Inversion: at an instruction the node fixes the line of the rules and its parts.
-use Rattle.std.proofs.Common.{◌≡◌, ◌≤◌, ◌+◌, ◌-◌, ℕ, List, [], ◌∷◌, Some, Contains, map, slice_get, refl, subst, ap, ◌∙◌}
-use Rattle.nomos_ir.specs.declared.amount.Amount.{Amount}
-use Rattle.nomos_ir.specs.declared.code_node.Args.{Args}
-use Rattle.nomos_ir.specs.declared.code_node.Arm.{Arm}
-use Rattle.nomos_ir.specs.declared.code_node.Chan.{Chan}
+use Rattle.std.proofs.Common.{◌≡◌, ◌≤◌, ◌+◌, ◌-◌, List, [], ◌∷◌, refl, subst}
 use Rattle.nomos_ir.specs.declared.code_node.Chan.TheVariants as chan
 use Rattle.nomos_ir.specs.declared.code_node.CodeNode.{CodeNode}
 use Rattle.nomos_ir.specs.declared.code_node.CodeNode.TheVariants as code
 use Rattle.nomos_ir.specs.declared.declaration.ProcDecl.{ProcDecl}
-use Rattle.nomos_ir.specs.declared.ids.CodeId.{CodeId}
-use Rattle.nomos_ir.specs.declared.ids.Label.{Label}
-use Rattle.nomos_ir.specs.declared.ids.ProcId.{ProcId}
-use Rattle.nomos_ir.specs.declared.ids.TermId.{TermId}
 use Rattle.nomos_ir.specs.declared.ids.TypeId.{TypeId}
-use Rattle.nomos_ir.specs.declared.ids.VarId.{VarId}
 use Rattle.nomos_ir.specs.declared.kind.Kind.{Kind}
 use Rattle.nomos_ir.specs.declared.lists.ProgramLists.{ProgramLists}
 use Rattle.nomos_ir.specs.declared.mode.Mode.{Mode}
 use Rattle.nomos_ir.specs.declared.mode.Mode.TheVariants as mode
-use Rattle.nomos_ir.specs.declared.type_node.Branch.{Branch}
-use Rattle.nomos_ir.specs.declared.type_node.TypeNode.{TypeNode}
 use Rattle.nomos_ir.specs.declared.type_node.TypeNode.TheVariants as node
-use Rattle.nomos_ir.specs.Bindings.{bound_to, bind, unbind}
+use Rattle.nomos_ir.specs.Bindings.{unbind}
 use Rattle.nomos_ir.specs.TermKind.{HasKind, bool_kind}
-use Rattle.nomos_ir.specs.Unfold.{Unfolds}
-use Rattle.nomos_types.specs.Alike.{AlikeTypes}
 use Rattle.nomos_types.specs.Amount.{Annotations, dths}
-use Rattle.nomos_types.specs.Arguments.{PassesChannel, ArgumentsFit}
-use Rattle.nomos_types.specs.Branches.{goes_by}
-use Rattle.nomos_types.specs.Judgement.{Judgement, ListType, IsFree, channel_type, at_code, goes_on, with_potential, binds_value, binds_list, binds_channel}
-use Rattle.nomos_types.specs.Modes.{HasMode, may_spawn}
+use Rattle.nomos_types.specs.Judgement.{Judgement, ListType, IsFree, at_code, goes_on, with_potential, binds_value, binds_list, binds_channel}
 use Rattle.nomos_types.specs.Lines.{HasType, SendsLabel, AwaitsLabel, SendsChannel, ReceivesChannel, SendsValue, ReceivesValue, Pays, Gets, Accepts, Detaches, Acquires, Releases, Spawns, Closes, Forwards, Calls, Adds, TakesApart}
-use Rattle.nomos_ir.specs.CodeParts.{code_next}
 use Rattle.nomos_types.specs.Row.{StandsAtCode, gives_up, Row, label, case, send, recv, put, take, pay, get, work, wait, accept, detach, acquire, release, spawn, «let», emit, choose, close, fwd, call, empty, add, match}
 
 -- what a row says where this node stands

@@ -1,5 +1,5 @@
 -- A judgement goes on in one way: two rows at it lead to the same judgements.
-use Rattle.std.proofs.Common.{◌≡◌, ◌+◌, ◌-◌, ℕ, List, [], ◌∷◌, Some, None, slice_get, refl, subst, sym, ap, ◌∙◌}
+use Rattle.std.proofs.Common.{◌≡◌, ◌+◌, ◌-◌, List, [], ◌∷◌, Some, refl, subst, sym, ap, ◌∙◌}
 use Rattle.nomos_ir.proofs.TermKindLaws.{HasKind-unique}
 use Rattle.nomos_ir.proofs.UnfoldLaws.{Unfolds-unique}
 use Rattle.nomos_ir.specs.declared.amount.Amount.{Amount}
@@ -12,7 +12,6 @@ use Rattle.nomos_ir.specs.declared.code_node.CodeNode.TheVariants as code
 use Rattle.nomos_ir.specs.declared.code_node.ValueArg.{ValueArg}
 use Rattle.nomos_ir.specs.declared.declaration.Par.{Par}
 use Rattle.nomos_ir.specs.declared.declaration.ProcDecl.{ProcDecl}
-use Rattle.nomos_ir.specs.declared.ids.CodeId.{CodeId}
 use Rattle.nomos_ir.specs.declared.ids.Label.{Label}
 use Rattle.nomos_ir.specs.declared.ids.TypeId.{TypeId}
 use Rattle.nomos_ir.specs.declared.ids.VarId.{VarId}
@@ -23,7 +22,7 @@ use Rattle.nomos_ir.specs.declared.mode.Mode.TheVariants as mode
 use Rattle.nomos_ir.specs.declared.type_node.Branch.{Branch}
 use Rattle.nomos_ir.specs.declared.type_node.TypeNode.{TypeNode}
 use Rattle.nomos_ir.specs.declared.type_node.TypeNode.TheVariants as node
-use Rattle.nomos_ir.specs.Bindings.{bound_to, unbind}
+use Rattle.nomos_ir.specs.Bindings.{unbind}
 use Rattle.nomos_ir.specs.Program.{IsProgram}
 use Rattle.nomos_ir.specs.Unfold.{Unfolds}
 use Rattle.nomos_types.proofs.ModeLaws.{mode-unique}
@@ -31,7 +30,7 @@ use Rattle.nomos_types.proofs.RowLaws.{RowAt, row-at, row-inverted}
 use Rattle.nomos_types.specs.Amount.{Annotations, dths}
 use Rattle.nomos_types.specs.Arguments.{PassesChannel, shared, linear, PassesChannels, PassesValue, term, list, PassesValues, ArgumentsFit}
 use Rattle.nomos_types.specs.Branches.{goes_by}
-use Rattle.nomos_types.specs.Judgement.{Judgement, ListType, channel_type, at_code, goes_on, with_potential, binds_value, binds_list, binds_channel}
+use Rattle.nomos_types.specs.Judgement.{Judgement, ListType, at_code, goes_on, with_potential, binds_value, binds_list, binds_channel}
 use Rattle.nomos_types.specs.Lines.{HasType, by_side, ArmsGoOn, Spawns}
 use Rattle.nomos_types.specs.Modes.{HasMode}
 use Rattle.nomos_types.specs.Row.{Row, gives_up}

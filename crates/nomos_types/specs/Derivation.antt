@@ -1,5 +1,5 @@
 -- When a judgement has a derivation; which judgements follow from a start; where an instruction is stuck.
-use Rattle.std.specs.Prelude.{◌≡◌, ◌≤◌, ℕ, List, Contains}
+use Rattle.std.specs.Prelude.{◌≤◌, ℕ, List, Contains}
 use Rattle.nomos_ir.specs.declared.declaration.ProcDecl.{ProcDecl}
 use Rattle.nomos_ir.specs.declared.lists.ProgramLists.{ProgramLists}
 use Rattle.nomos_types.specs.Alike.{Alike}

@@ -1,5 +1,5 @@
 -- Why a program is not well formed, and where.
-use Rattle.std.specs.Prelude.{◌≡◌, ◌≤◌, ◌<◌, ℕ, Option, Some, None, slice_get}
+use Rattle.std.specs.Prelude.{◌≡◌, ◌≤◌, ◌<◌, ℕ, Some, slice_get}
 use Rattle.std.specs.Option.{option_map}
 use Rattle.nomos_ir.specs.Nodes.{type_node}
 use Rattle.nomos_ir.specs.Unfold.{IsConstructor, IsContractive}
@@ -9,7 +9,7 @@ use Rattle.nomos_ir.specs.declared.lists.ProgramLists.{ProgramLists}
 use Rattle.nomos_ir.specs.declared.type_node.Def.{Def}
 use Rattle.nomos_ir.specs.declared.type_node.TypeNode.{TypeNode}
 use Rattle.nomos_ir.specs.declared.type_node.TypeNode.TheVariants as node
-use Rattle.nomos_types.specs.Modes.{ObeysModes, Offends}
+use Rattle.nomos_types.specs.Modes.{Offends}
 use Rattle.nomos_types.specs.declared.forming.FormError.{FormError}
 use Rattle.nomos_types.specs.declared.forming.FormError.TheVariants as error
 

@@ -1,15 +1,12 @@
 -- What each instruction asks of the judgement at which it stands: one record for each line of the typing rules. The premises
 -- stand in the order of the rule; what is last, if anything, is what the instruction leaves.
-use Rattle.std.specs.Prelude.{◌≡◌, ◌≢◌, ◌≤◌, ◌+◌, ◌-◌, ◌⊎◌, IsTrue, List, [], ◌∷◌, map, All, Contains, Some, slice_get}
+use Rattle.std.specs.Prelude.{◌≡◌, ◌≢◌, ◌≤◌, ◌⊎◌, IsTrue, List, [], ◌∷◌, map, All, Contains, Some, slice_get}
 use Rattle.nomos_ir.specs.declared.amount.Amount.{Amount}
 use Rattle.nomos_ir.specs.declared.code_node.Args.{Args}
 use Rattle.nomos_ir.specs.declared.code_node.Arm.{Arm}
 use Rattle.nomos_ir.specs.declared.code_node.Chan.{Chan}
 use Rattle.nomos_ir.specs.declared.code_node.Chan.TheVariants as chan
-use Rattle.nomos_ir.specs.declared.code_node.CodeNode.{CodeNode}
-use Rattle.nomos_ir.specs.declared.code_node.CodeNode.TheVariants as code
 use Rattle.nomos_ir.specs.declared.declaration.ProcDecl.{ProcDecl}
-use Rattle.nomos_ir.specs.declared.ids.CodeId.{CodeId}
 use Rattle.nomos_ir.specs.declared.ids.Label.{Label}
 use Rattle.nomos_ir.specs.declared.ids.ProcId.{ProcId}
 use Rattle.nomos_ir.specs.declared.ids.TermId.{TermId}
@@ -22,14 +19,14 @@ use Rattle.nomos_ir.specs.declared.mode.Mode.TheVariants as modes
 use Rattle.nomos_ir.specs.declared.type_node.Branch.{Branch}
 use Rattle.nomos_ir.specs.declared.type_node.TypeNode.{TypeNode}
 use Rattle.nomos_ir.specs.declared.type_node.TypeNode.TheVariants as node
-use Rattle.nomos_ir.specs.Bindings.{bound_to, bind, unbind}
+use Rattle.nomos_ir.specs.Bindings.{bound_to}
 use Rattle.nomos_ir.specs.TermKind.{HasKind}
 use Rattle.nomos_ir.specs.Unfold.{Unfolds}
 use Rattle.nomos_types.specs.Alike.{AlikeTypes}
 use Rattle.nomos_types.specs.Amount.{Annotations, dths}
 use Rattle.nomos_types.specs.Arguments.{PassesChannel, ArgumentsFit}
 use Rattle.nomos_types.specs.Branches.{goes_by}
-use Rattle.nomos_types.specs.Judgement.{Judgement, ListType, IsFree, channel_type, at_code, goes_on, with_potential, binds_value, binds_list, binds_channel}
+use Rattle.nomos_types.specs.Judgement.{Judgement, ListType, IsFree, channel_type, goes_on}
 use Rattle.nomos_types.specs.Modes.{HasMode, may_spawn}
 
 -- the node to which the type of a channel has to unfold: one where the process provides the channel, the dual one where it is the client

@@ -9,7 +9,6 @@ use Rattle.nomos_ir.specs.declared.ids.VarId.{VarId}
 use Rattle.nomos_ir.specs.declared.lists.ProgramLists.{ProgramLists}
 use Rattle.nomos_ir.specs.declared.mode.Mode.{Mode}
 use Rattle.nomos_ir.specs.declared.mode.Mode.TheVariants as mode
-use Rattle.nomos_ir.specs.declared.type_node.Branch.{Branch}
 use Rattle.nomos_ir.specs.declared.type_node.Def.{Def}
 use Rattle.nomos_ir.specs.declared.type_node.TypeNode.{TypeNode}
 use Rattle.nomos_ir.specs.declared.type_node.TypeNode.TheVariants as node

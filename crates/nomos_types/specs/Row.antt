@@ -19,18 +19,11 @@ use Rattle.nomos_ir.specs.declared.kind.Kind.{Kind}
 use Rattle.nomos_ir.specs.declared.lists.ProgramLists.{ProgramLists}
 use Rattle.nomos_ir.specs.declared.mode.Mode.{Mode}
 use Rattle.nomos_ir.specs.declared.mode.Mode.TheVariants as mode
-use Rattle.nomos_ir.specs.declared.type_node.Branch.{Branch}
-use Rattle.nomos_ir.specs.declared.type_node.TypeNode.{TypeNode}
 use Rattle.nomos_ir.specs.declared.type_node.TypeNode.TheVariants as node
-use Rattle.nomos_ir.specs.Bindings.{bound_to, bind, unbind}
+use Rattle.nomos_ir.specs.Bindings.{unbind}
 use Rattle.nomos_ir.specs.TermKind.{HasKind, bool_kind}
-use Rattle.nomos_ir.specs.Unfold.{Unfolds}
-use Rattle.nomos_types.specs.Alike.{AlikeTypes}
 use Rattle.nomos_types.specs.Amount.{Annotations, dths}
-use Rattle.nomos_types.specs.Arguments.{PassesChannel, ArgumentsFit}
-use Rattle.nomos_types.specs.Branches.{goes_by}
-use Rattle.nomos_types.specs.Judgement.{Judgement, ListType, IsFree, channel_type, at_code, goes_on, with_potential, binds_value, binds_list, binds_channel}
-use Rattle.nomos_types.specs.Modes.{HasMode, may_spawn}
+use Rattle.nomos_types.specs.Judgement.{Judgement, ListType, IsFree, at_code, goes_on, with_potential, binds_value, binds_list, binds_channel}
 use Rattle.nomos_types.specs.Lines.{HasType, SendsLabel, AwaitsLabel, SendsChannel, ReceivesChannel, SendsValue, ReceivesValue, Pays, Gets, Accepts, Detaches, Acquires, Releases, Spawns, Closes, Forwards, Calls, Adds, TakesApart}
 
 -- the instruction at which the judgement stands

@@ -5,7 +5,7 @@ use Rattle.nomos_ir.specs.Program.{IsProgram}
 use Rattle.nomos_ir.specs.TermKind.{FunctionsAreTyped}
 use Rattle.nomos_ir.specs.Unfold.{IsContractive}
 use Rattle.nomos_types.specs.Amount.{Annotations}
-use Rattle.nomos_types.specs.Derivation.{Derives, HasSkeleton}
+use Rattle.nomos_types.specs.Derivation.{Derives}
 use Rattle.nomos_types.specs.Equality.{no_amounts}
 use Rattle.nomos_types.specs.Judgement.{start_of}
 use Rattle.nomos_types.specs.Modes.{ObeysModes}

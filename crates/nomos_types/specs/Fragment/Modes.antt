@@ -1,5 +1,5 @@
 -- The mode tables of the first fragment: where a type may stand.
-use Rattle.std.specs.Prelude.{◌≡◌, ◌≢◌, ℕ, ◌⊎◌, Bool, true, false, IsTrue, List, All, Contains, Option, Some, None, slice_get}
+use Rattle.std.specs.Prelude.{◌≡◌, ◌≢◌, ℕ, ◌⊎◌, IsTrue, List, All, Contains, Option, Some, None, slice_get}
 use Rattle.nomos_ir.specs.declared.declaration.ProcDecl.{ProcDecl}
 use Rattle.nomos_ir.specs.declared.ids.DefId.{DefId}
 use Rattle.nomos_ir.specs.declared.ids.TypeId.{TypeId}

@@ -1,4 +1,4 @@
-use Rattle.std.proofs.Common.{ℕ, ◌≡◌, ◌<◌, ◌⊎◌, inl, inr, List, length, map, All, subst, sym, arith, get_or}
+use Rattle.std.proofs.Common.{ℕ, ◌≡◌, ◌<◌, ◌⊎◌, inl, inr, List, length, map, subst}
 use Rattle.std.proofs.lemmas.List.{get_or-map, length-map}
 use Rattle.nomos_ir.specs.Ids.{AllBelow}
 use Rattle.nomos_ir.specs.TypeParts.{type_parts}

@@ -1,4 +1,4 @@
-use Rattle.std.proofs.Common.{get_or, subst}
+use Rattle.std.proofs.Common.{subst}
 use Rattle.nomos_ir.specs.declared.declaration.ProcDecl.{ProcDecl}
 use Rattle.nomos_types.specs.Fragment.Modes.{ProcObeys}
 use Rattle.nomos_types.proofs.ListLemmas.{all_below_more}
