@@ -1,9 +1,8 @@
 -- What holds of the values that an evaluation can end with, and of how many nodes it enters.
-use Rattle.std.proofs.Common.{◌≡◌, ◌+◌, ◌<◌, ◌≤◌, ℕ, zero, suc, ℤ, pos, negsuc, Bool, true, false, cond, ◌==◌, nat_lt, nat_le, List, [], ◌∷◌, map, Option, Some, None, unwrap_or, slice_get, ◌+ℤ◌, ◌-ℤ◌, ◌*ℤ◌, refl, sym, ap, ◌∙◌, subst, arith}
+use Rattle.std.proofs.Common.{◌≡◌, ◌+◌, ◌≤◌, ℕ, zero, suc, ℤ, pos, negsuc, Bool, true, false, cond, ◌==◌, nat_lt, nat_le, List, [], ◌∷◌, map, Option, Some, None, unwrap_or, slice_get, ◌+ℤ◌, ◌-ℤ◌, ◌*ℤ◌, refl, subst, arith}
 use Rattle.std.specs.Prelude.{int_div, int_lt}
 use Rattle.std.specs.List.{AllByRecursion, zip}
 use Rattle.nomos_ir.specs.declared.declaration.FnDecl.{FnDecl}
-use Rattle.nomos_ir.specs.declared.fault.Fault.{Fault}
 use Rattle.nomos_ir.specs.declared.fault.Fault.TheVariants as fault
 use Rattle.nomos_ir.specs.declared.ids.TermId.{TermId}
 use Rattle.nomos_ir.specs.declared.ids.VarId.{VarId}
