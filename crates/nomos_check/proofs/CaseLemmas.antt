@@ -14,7 +14,7 @@ use Rattle.nomos_ir.specs.declared.type_node.Branch.{Branch}
 use Rattle.nomos_ir.specs.declared.type_node.TypeAt.{TypeAt}
 use Rattle.nomos_ir.specs.declared.type_node.TypeNode.{TypeNode}
 use Rattle.nomos_ir.specs.declared.type_node.TypeNode.TheVariants as node
-use Rattle.nomos_types.proofs.StandsLemmas.{branch-lower}
+use Rattle.nomos_types.proofs.FragmentModeLaws.{branch-lower}
 use Rattle.nomos_types.specs.Fragment.Branches.{branches_of}
 use Rattle.nomos_types.specs.Fragment.Derivation.{HasType, awaits_choice}
 use Rattle.nomos_types.specs.Fragment.Judgement.{Judgement}

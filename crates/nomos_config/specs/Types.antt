@@ -1,14 +1,9 @@
 -- The types of names, and where they go on.
-use Rattle.std.specs.Prelude.{ℕ, ◌==◌, List, find, Option, Some, None, option_and_then, slice_get}
+use Rattle.std.specs.Prelude.{ℕ, ◌==◌, List, find, Option, option_and_then}
 use Rattle.std.specs.Option.{option_map}
-use Rattle.nomos_ir.specs.Nodes.{type_node}
 use Rattle.nomos_ir.specs.declared.ids.Label.{Label}
 use Rattle.nomos_ir.specs.declared.ids.TypeId.{TypeId}
 use Rattle.nomos_ir.specs.declared.lists.ProgramLists.{ProgramLists}
-use Rattle.nomos_ir.specs.declared.type_node.Branch.{Branch}
-use Rattle.nomos_ir.specs.declared.type_node.Def.{Def}
-use Rattle.nomos_ir.specs.declared.type_node.TypeNode.{TypeNode}
-use Rattle.nomos_ir.specs.declared.type_node.TypeNode.TheVariants as node
 use Rattle.nomos_ir.specs.Unfold.{unfolded}
 use Rattle.nomos_types.specs.Branches.{goes_by}
 use Rattle.nomos_types.specs.Fragment.Branches.{branches_of}

@@ -31,24 +31,6 @@ const NO_FAULTS: Faults = (NEVER, NEVER, NEVER);
 
 const EVERYTHING: usize = 4_194_304;
 
-<<<<<<< HEAD
-// A source over a text in pieces, of which one read fails.
-fn source(
-    alloc: Global,
-    text: &[u8],
-    piece: usize,
-    fault: u64,
-) -> Result<MemorySource, AllocError> {
-    let bytes = Vec::from_slice(alloc, text)?;
-    let failing = vec![in alloc; fault]?;
-    Ok(MemorySource::new(bytes, piece.max(1), failing))
-}
-
-// A sink that takes pieces, of which one write fails.
-fn sink(alloc: Global, piece: usize, fault: u64) -> Result<MemorySink, AllocError> {
-    let failing = vec![in alloc; fault]?;
-    MemorySink::new(alloc, EVERYTHING, piece.max(1), failing)
-=======
 // A source over a text, of which one read fails.
 fn source(alloc: Global, text: &[u8], piece: u16, fault: u64) -> Result<MemorySource, AllocError> {
     let bytes = Vec::from_slice(alloc, text)?;
@@ -60,7 +42,6 @@ fn source(alloc: Global, text: &[u8], piece: u16, fault: u64) -> Result<MemorySo
 fn sink(alloc: Global, piece: u16, fault: u64) -> Result<MemorySink, AllocError> {
     let failing = vec![in alloc; fault]?;
     MemorySink::new(alloc, EVERYTHING, usize::from(piece) + 1, failing)
->>>>>>> 97f1c373d7af538cc5b5947d516600a3d1cf54bc
 }
 
 // What a call works on.
@@ -71,19 +52,11 @@ struct Outside {
     out: MemorySink,
 }
 
-<<<<<<< HEAD
-// A contract and a script in pieces, and nothing written.
-fn outside_of(
-    alloc: Global,
-    texts: (&[u8], &[u8]),
-    piece: usize,
-=======
 // A contract and a script, where each read and write moves at most one byte more than the piece.
 fn outside_of(
     alloc: Global,
     texts: (&[u8], &[u8]),
     piece: u16,
->>>>>>> 97f1c373d7af538cc5b5947d516600a3d1cf54bc
     faults: Faults,
 ) -> Result<Outside, AllocError> {
     Ok(Outside {
@@ -116,11 +89,7 @@ fn answer_in_pieces(
     alloc: Global,
     line: &str,
     texts: (&[u8], &[u8]),
-<<<<<<< HEAD
-    piece: usize,
-=======
     piece: u16,
->>>>>>> 97f1c373d7af538cc5b5947d516600a3d1cf54bc
     faults: Faults,
 ) -> Result<String, Fail> {
     let words = words_of(alloc, line)?;
@@ -132,11 +101,7 @@ fn answer_in_pieces(
 
 // What is answered where no read and no write fails.
 fn answer(alloc: Global, line: &str, contract: &[u8], script: &[u8]) -> Result<String, Fail> {
-<<<<<<< HEAD
-    answer_in_pieces(alloc, line, (contract, script), EVERYTHING, NO_FAULTS)
-=======
     answer_in_pieces(alloc, line, (contract, script), 8191, NO_FAULTS)
->>>>>>> 97f1c373d7af538cc5b5947d516600a3d1cf54bc
 }
 
 const ACCEPTED: &str = "0 true 0 (0, 0, 0)\naccepted\nunit 1\nbound t = 0\n";
@@ -571,11 +536,7 @@ fn ends_a_batch_at_its_limit(rt: HostRuntime) -> Result<(), Fail> {
 // A run of which one call fails, where each moves four bytes at most.
 fn faulty(alloc: Global, faults: Faults) -> Result<String, Fail> {
     let texts = (BIT.as_bytes(), "deposit u 0\nexec u t(;)\n".as_bytes());
-<<<<<<< HEAD
-    answer_in_pieces(alloc, "run a b", texts, 4, faults)
-=======
     answer_in_pieces(alloc, "run a b", texts, 3, faults)
->>>>>>> 97f1c373d7af538cc5b5947d516600a3d1cf54bc
 }
 
 #[test]
@@ -627,31 +588,19 @@ fn a_call_that_fails_is_told(rt: HostRuntime) -> Result<(), Fail> {
     let table = [
         (
             "check it.nomos",
-<<<<<<< HEAD
-            4,
-=======
             3,
->>>>>>> 97f1c373d7af538cc5b5947d516600a3d1cf54bc
             (3, NEVER, NEVER),
             "5 false 0 (1, 0, 0)\nread fault contract\n",
         ),
         (
             "check it.nomos",
-<<<<<<< HEAD
-            3,
-=======
             2,
->>>>>>> 97f1c373d7af538cc5b5947d516600a3d1cf54bc
             (NEVER, NEVER, 2),
             "6 true 0 (0, 0, 1)\nacc",
         ),
         (
             "run a b",
-<<<<<<< HEAD
-            1,
-=======
             0,
->>>>>>> 97f1c373d7af538cc5b5947d516600a3d1cf54bc
             (NEVER, 1, NEVER),
             "5 true 0 (0, 1, 0)\nread fault script\n",
         ),

@@ -29,7 +29,7 @@ use Rattle.nomos_types.specs.Fragment.Derivation.{HasSameLabels, Derives, label,
 use Rattle.nomos_types.specs.Fragment.Judgement.{Judgement, start_of, goes_on}
 use Rattle.nomos_types.specs.Fragment.Modes.{StandsAt, one, one_of_transaction, plus, named, DefObeys, ProcObeys, ObeysModes}
 use Rattle.nomos_types.specs.Fragment.Typed.{IsTyped}
-use Rattle.nomos_types.proofs.RowLemmas.{CloseRow, row-at}
+use Rattle.nomos_types.proofs.FragmentRowLaws.{CloseRow, row-at}
 
 abbrev type_id : ℕ → TypeId
 type_id n = record { 0 = n }

@@ -25,7 +25,7 @@ pub mod OffenceLemmas
 pub mod RowExampleProgram
 pub mod RowExamples
 pub mod RowLaws
-pub mod RowLemmas
-pub mod StandsLemmas
+pub mod FragmentRowLaws
+pub mod FragmentModeLaws
 pub mod StartLaws
 pub mod UniqueRows

@@ -1,6 +1,6 @@
 use Rattle.std.proofs.Common.{◌≡◌, ◌∙◌, Some, None, ap}
 use Rattle.nomos_types.proofs.Nodes.{named-below}
-use Rattle.nomos_types.proofs.StandsLemmas.{stands-node, leaf-refused, end-rule, name-rule}
+use Rattle.nomos_types.proofs.FragmentModeLaws.{stands-node, leaf-refused, end-rule, name-rule}
 use Rattle.nomos_types.specs.Fragment.Branches.{branches_of}
 use Rattle.nomos_types.proofs.modes.leaf_stands.Goals as goal
 
