@@ -24,7 +24,7 @@ use Rattle.nomos_types.specs.Amount.{Annotations}
 use Rattle.nomos_types.specs.Arguments.{PassesChannel, shared, linear, PassesChannels, PassesValue, term, list, PassesValues, ArgumentsFit}
 use Rattle.nomos_types.specs.Equality.{SameBranches, SameHead}
 use Rattle.nomos_types.specs.Judgement.{Judgement, ListType, channel_type, at_code, goes_on, with_potential, binds_value, binds_list, binds_channel}
-use Rattle.nomos_types.specs.Lines.{HasType, ArmsGoOn}
+use Rattle.nomos_types.specs.Premises.{HasType, ArmsGoOn}
 use Rattle.nomos_types.specs.Typed.{IsWellFormed}
 
 -- the first judgement is like the second one, and has at least its potential

@@ -25,7 +25,7 @@ use Rattle.nomos_types.proofs.RowLaws.{RowAt}
 use Rattle.nomos_types.specs.Alike.{AlikeTypes}
 use Rattle.nomos_types.specs.Amount.{Annotations, dths}
 use Rattle.nomos_types.specs.Judgement.{Judgement, ListType, at_code, goes_on, with_potential, binds_value, binds_list, binds_channel}
-use Rattle.nomos_types.specs.Lines.{Acquires, Spawns}
+use Rattle.nomos_types.specs.Premises.{Acquires, Spawns}
 use Rattle.nomos_types.specs.Modes.{HasMode}
 use Rattle.nomos_types.specs.Typed.{IsWellFormed}
 

@@ -23,7 +23,7 @@ use Rattle.nomos_types.proofs.UniqueRows.{row-unique}
 use Rattle.nomos_types.specs.Amount.{Annotations}
 use Rattle.nomos_types.specs.Derivation.{Follows}
 use Rattle.nomos_types.specs.Judgement.{Judgement, goes_on, binds_channel}
-use Rattle.nomos_types.specs.Lines.{ArmsGoOn}
+use Rattle.nomos_types.specs.Premises.{ArmsGoOn}
 use Rattle.nomos_types.specs.Row.{Row, StandsAtCode}
 
 -- the number of the instruction at which a judgement stands

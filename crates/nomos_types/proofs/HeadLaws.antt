@@ -9,7 +9,7 @@ use Rattle.nomos_ir.specs.declared.type_node.Branch.{Branch}
 use Rattle.nomos_ir.specs.declared.type_node.TypeNode.TheVariants as node
 use Rattle.nomos_types.specs.Amount.{Annotations}
 use Rattle.nomos_types.specs.Equality.{BothOrNeither, both, neither, SameBranches, SameHead, plus, with, tensor, lolli, value_out, value_in, pot_out, pot_in, up, down}
-use Rattle.nomos_types.specs.Lines.{by_side}
+use Rattle.nomos_types.specs.Premises.{by_side}
 
 -- what is there on both sides is related
 pub both-there : {X : Type 0} {R : X → X → Type 0} {o p : Option X} → (a b : X) → BothOrNeither R o p → o ≡ Some a → p ≡ Some b → R a b

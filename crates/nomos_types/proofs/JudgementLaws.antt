@@ -20,7 +20,7 @@ use Rattle.nomos_types.specs.Amount.{Annotations, dths}
 use Rattle.nomos_types.specs.Derivation.{Follows}
 use Rattle.nomos_types.specs.Derivation as derivation
 use Rattle.nomos_types.specs.Judgement.{Judgement, start_of, count_one, IsFree, IsJudgement, channel_type, ListType, at_code, goes_on, with_potential, binds_value, binds_list, binds_channel}
-use Rattle.nomos_types.specs.Lines.{by_side, HasType, ArmsGoOn, none, arm}
+use Rattle.nomos_types.specs.Premises.{by_side, HasType, ArmsGoOn, none, arm}
 use Rattle.nomos_types.specs.Modes.{HasMode, IsLinearMode, may_hold, may_spawn, part_modes, carried_mode}
 use Rattle.nomos_types.specs.Row.{gives_up, Row, label, case, send, recv, put, take, pay, get, work, wait, accept, detach, acquire, release, spawn, «let», emit, choose, close, fwd, call, empty, add, match}
 use Rattle.nomos_types.specs.Typed.{IsWellFormed}

@@ -27,8 +27,8 @@ use Rattle.nomos_types.specs.Arguments as passes
 use Rattle.nomos_types.specs.Branches.{goes_by}
 use Rattle.nomos_types.specs.Equality.{SameHead, one, up, down, Agree, EqualTypes}
 use Rattle.nomos_types.specs.Judgement.{Judgement}
-use Rattle.nomos_types.specs.Lines as lines
-use Rattle.nomos_types.specs.Lines.{HasType, ArmsGoOn}
+use Rattle.nomos_types.specs.Premises as lines
+use Rattle.nomos_types.specs.Premises.{HasType, ArmsGoOn}
 use Rattle.nomos_types.specs.Modes.{HasMode, whole, part, whole_modes}
 use Rattle.nomos_types.specs.Amount.{dths}
 use Rattle.nomos_ir.specs.declared.amount.Amount.TheVariants.{Written}

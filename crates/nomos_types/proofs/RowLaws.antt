@@ -14,7 +14,7 @@ use Rattle.nomos_ir.specs.Bindings.{unbind}
 use Rattle.nomos_ir.specs.TermKind.{HasKind, bool_kind}
 use Rattle.nomos_types.specs.Amount.{Annotations, dths}
 use Rattle.nomos_types.specs.Judgement.{Judgement, ListType, IsFree, at_code, goes_on, with_potential, binds_value, binds_list, binds_channel}
-use Rattle.nomos_types.specs.Lines.{HasType, SendsLabel, AwaitsLabel, SendsChannel, ReceivesChannel, SendsValue, ReceivesValue, Pays, Gets, Accepts, Detaches, Acquires, Releases, Spawns, Closes, Forwards, Calls, Adds, TakesApart}
+use Rattle.nomos_types.specs.Premises.{HasType, SendsLabel, AwaitsLabel, SendsChannel, ReceivesChannel, SendsValue, ReceivesValue, Pays, Gets, Accepts, Detaches, Acquires, Releases, Spawns, Closes, Forwards, Calls, Adds, TakesApart}
 use Rattle.nomos_types.specs.Row.{StandsAtCode, gives_up, Row, label, case, send, recv, put, take, pay, get, work, wait, accept, detach, acquire, release, spawn, «let», emit, choose, close, fwd, call, empty, add, match}
 
 -- what a row says where this node stands

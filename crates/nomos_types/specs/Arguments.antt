@@ -16,8 +16,8 @@ use Rattle.nomos_types.specs.Alike.{AlikeTypes}
 use Rattle.nomos_types.specs.Amount.{Annotations, dths}
 use Rattle.nomos_types.specs.Judgement.{Judgement}
 
--- The channel of a variable passes as one of a type. A reference stays, and may pass again; a channel that is used exactly
--- once is used up, and so passes only once. Each passes only for a type of its own mode.
+-- The channel of a variable passes as one of a type. A reference stays, and may pass again; a channel that is used
+-- exactly once is used up, and so passes only once. Each passes only for a type of its own mode.
 pub data PassesChannel (lists : ProgramLists) (x : Annotations) : Judgement → VarId → TypeId → Judgement → Type 0 where
   shared : {j : Judgement} {v : VarId} {t : TypeId} → (own : TypeId) → bound_to v.0 j.shared ≡ Some own
       → AlikeTypes lists x own t → PassesChannel lists x j v t j
@@ -51,7 +51,8 @@ pub data PassesValues (lists : ProgramLists) (x : Annotations) : Judgement → L
       → PassesValues lists x j (a ∷ args) (par ∷ pars) left
 
 -- The arguments fit the declaration, and leave this of the judgement.
-pub record ArgumentsFit (lists : ProgramLists) (x : Annotations) (j : Judgement) (d : ProcDecl) (args : Args) (left : Judgement) : Type 0 where
+pub record ArgumentsFit (lists : ProgramLists) (x : Annotations) (j : Judgement) (d : ProcDecl) (args : Args)
+    (left : Judgement) : Type 0 where
   pub between : Judgement
   pub values : PassesValues lists x j args.values d.values between
   pub channels : PassesChannels lists x between args.channels d.channels left

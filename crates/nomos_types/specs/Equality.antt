@@ -39,7 +39,8 @@ pub data SameHead (x : Annotations) (R : TypeId → TypeId → Type 0) : TypeNod
   down : (a b : TypeId) → R a b → SameHead x R (node.Down a) (node.Down b)
 
 -- the two types unfold to nodes of the same head, with related parts
-pub record SameUnfolding (lists : ProgramLists) (x : Annotations) (R : TypeId → TypeId → Type 0) (a b : TypeId) : Type 0 where
+pub record SameUnfolding (lists : ProgramLists) (x : Annotations) (R : TypeId → TypeId → Type 0) (a b : TypeId)
+    : Type 0 where
   pub left : TypeNode
   pub right : TypeNode
   pub left_unfolds : Unfolds lists a.0 left
@@ -55,8 +56,8 @@ Agree lists x (suc n) a b = SameUnfolding lists x (Agree lists x n) a b
 abbrev pub EqualTypes : ProgramLists → Annotations → TypeId → TypeId → Type 0
 EqualTypes lists x a b = (n : ℕ) → Agree lists x n a b
 
--- Amounts that are all 0. Under them equality is equality of shape, and no condition on a potential bites in what follows
--- from a start. They are over no unit.
+-- Amounts that are all 0. Under them equality is equality of shape, and no condition on a potential bites in what
+-- follows from a start. They are over no unit.
 abbrev pub no_amounts : Annotations
 no_amounts = record { stars = []; unit = 0 }
 

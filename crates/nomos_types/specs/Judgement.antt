@@ -47,14 +47,17 @@ count_one None = 0
 -- in how many parts of the judgement the variable is bound
 abbrev pub parts_with : Judgement → ℕ → ℕ
 parts_with j v =
-    count_one (bound_to v j.kinds) + count_one (bound_to v j.lists) + count_one (bound_to v j.shared) + count_one (bound_to v j.linear)
+    count_one (bound_to v j.kinds)
+    + count_one (bound_to v j.lists)
+    + count_one (bound_to v j.shared)
+    + count_one (bound_to v j.linear)
 
 -- no part of the judgement has the variable
 abbrev pub IsFree : Judgement → VarId → Type 0
 IsFree j v = parts_with j v.0 ≡ 0
 
--- Each part is a map, and no variable stands in two. References have mode S; channels that are used exactly once have a mode
--- of such channels that the process may hold; `self` has the mode of the process.
+-- Each part is a map, and no variable stands in two. References have mode S; channels that are used exactly once
+-- have a mode of such channels that the process may hold; `self` has the mode of the process.
 pub record IsJudgement (lists : ProgramLists) (j : Judgement) : Type 0 where
   pub kinds : IsAscending j.kinds
   pub lists_ascend : IsAscending j.lists

@@ -8,9 +8,9 @@ pub mod Equality
 pub mod Forming
 pub mod Fragment
 pub mod Judgement
-pub mod Lines
 pub mod ModeTable
 pub mod Modes
+pub mod Premises
 pub mod Row
 pub mod Synchronizing
 pub mod Typed

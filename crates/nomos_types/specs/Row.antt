@@ -1,5 +1,5 @@
--- The typing rules: one constructor for each line of the table. It relates a judgement to those with which the instruction
--- goes on.
+-- The typing rules: one constructor for each line of the table. It relates a judgement to those with which the
+-- instruction goes on.
 use Rattle.std.specs.Prelude.{◌≡◌, ◌≤◌, ◌+◌, ◌-◌, ℕ, List, [], ◌∷◌, Some, slice_get}
 use Rattle.nomos_ir.specs.declared.amount.Amount.{Amount}
 use Rattle.nomos_ir.specs.declared.code_node.Args.{Args}
@@ -24,11 +24,19 @@ use Rattle.nomos_ir.specs.Bindings.{unbind}
 use Rattle.nomos_ir.specs.TermKind.{HasKind, bool_kind}
 use Rattle.nomos_types.specs.Amount.{Annotations, dths}
 use Rattle.nomos_types.specs.Judgement.{Judgement, ListType, IsFree, at_code, goes_on, with_potential, binds_value, binds_list, binds_channel}
-use Rattle.nomos_types.specs.Lines.{HasType, SendsLabel, AwaitsLabel, SendsChannel, ReceivesChannel, SendsValue, ReceivesValue, Pays, Gets, Accepts, Detaches, Acquires, Releases, Spawns, Closes, Forwards, Calls, Adds, TakesApart}
+use Rattle.nomos_types.specs.Premises.{HasType, SendsLabel, AwaitsLabel, SendsChannel, ReceivesChannel, SendsValue, ReceivesValue, Pays, Gets, Accepts, Detaches, Acquires, Releases, Spawns, Closes, Forwards, Calls, Adds, TakesApart}
 
 -- the instruction at which the judgement stands
 abbrev pub StandsAtCode : ProgramLists → Judgement → CodeNode → Type 0
 StandsAtCode lists j n = slice_get lists.code j.code.0 ≡ Some n
+
+-- the judgement without a list that is used up, at the next instruction
+abbrev pub without_list : Judgement → VarId → CodeId → Judgement
+without_list j w next = record (at_code j next) { lists = unbind w.0 j.lists }
+
+-- the judgement in which a list was taken apart into its head and its tail
+abbrev pub takes_parts : Judgement → VarId → VarId → VarId → ListType → CodeId → Judgement
+takes_parts j w head tail list next = binds_value (binds_list (without_list j w next) tail list) head list.kind
 
 -- the judgement without a channel that is used up
 abbrev pub gives_up : Judgement → VarId → Judgement
@@ -109,8 +117,8 @@ pub data Row (lists : ProgramLists) (x : Annotations) : Judgement → List Judge
   add : {j : Judgement} {at : ℕ} {v : VarId} {e : TermId} {w : VarId} {next : CodeId}
       → StandsAtCode lists j (code.Add at v e w next)
       → (list : ListType) → Adds lists j v e w list
-      → Row lists x j (with_potential (binds_list (record (at_code j next) { lists = unbind w.0 j.lists }) v list) (j.q - list.amount) ∷ [])
+      → Row lists x j (with_potential (binds_list (without_list j w next) v list) (j.q - list.amount) ∷ [])
   match : {j : Judgement} {at : ℕ} {w head tail : VarId} {empty_next full_next : CodeId}
       → StandsAtCode lists j (code.Match at w empty_next head tail full_next)
       → (list : ListType) → TakesApart j w head tail list
-      → Row lists x j (record (at_code j empty_next) { lists = unbind w.0 j.lists } ∷ with_potential (binds_value (binds_list (record (at_code j full_next) { lists = unbind w.0 j.lists }) tail list) head list.kind) (j.q + list.amount) ∷ [])
+      → Row lists x j (without_list j w empty_next ∷ with_potential (takes_parts j w head tail list full_next) (j.q + list.amount) ∷ [])

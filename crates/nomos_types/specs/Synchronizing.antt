@@ -9,7 +9,8 @@ use Rattle.nomos_ir.specs.Unfold.{Unfolds}
 use Rattle.nomos_types.specs.Amount.{Annotations}
 use Rattle.nomos_types.specs.Equality.{EqualTypes}
 
--- the types with which a talk of this type goes on: what is carried is none of them, and behind an `up` or a `down` there is none
+-- the types with which a talk of this type goes on: what is carried is none of them, and behind an `up` or a
+-- `down` there is none
 abbrev pub continuations : TypeNode → List TypeId
 continuations (node.Plus branches) = map (λ b. b.goes) branches
 continuations (node.With branches) = map (λ b. b.goes) branches

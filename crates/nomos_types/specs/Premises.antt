@@ -1,5 +1,5 @@
--- What each instruction asks of the judgement at which it stands: one record for each line of the typing rules. The premises
--- stand in the order of the rule; what is last, if anything, is what the instruction leaves.
+-- What each instruction asks of the judgement at which it stands: one record for each line of the typing rules.
+-- The premises stand in the order of the rule; what is last, if anything, is what the instruction leaves.
 use Rattle.std.specs.Prelude.{◌≡◌, ◌≢◌, ◌≤◌, ◌⊎◌, IsTrue, List, [], ◌∷◌, map, All, Contains, Some, slice_get}
 use Rattle.nomos_ir.specs.declared.amount.Amount.{Amount}
 use Rattle.nomos_ir.specs.declared.code_node.Args.{Args}
@@ -29,7 +29,8 @@ use Rattle.nomos_types.specs.Branches.{goes_by}
 use Rattle.nomos_types.specs.Judgement.{Judgement, ListType, IsFree, channel_type, goes_on}
 use Rattle.nomos_types.specs.Modes.{HasMode, may_spawn}
 
--- the node to which the type of a channel has to unfold: one where the process provides the channel, the dual one where it is the client
+-- the node to which the type of a channel has to unfold: one where the process provides the channel, the dual one
+-- where it is the client
 abbrev pub by_side : Chan → TypeNode → TypeNode → TypeNode
 by_side chan.Own own client = own
 by_side (chan.Var v) own client = client
@@ -51,21 +52,24 @@ pub data ArmsGoOn (j : Judgement) (c : Chan) (branches : List Branch) : List Arm
       → ArmsGoOn j c branches arms after → ArmsGoOn j c branches (a ∷ arms) (goes_on j c t a.goes ∷ after)
 
 -- A label is awaited: a choice that is made at the other end, whose labels are exactly those of the arms.
-pub record AwaitsLabel (lists : ProgramLists) (j : Judgement) (c : Chan) (arms : List Arm) (after : List Judgement) : Type 0 where
+pub record AwaitsLabel (lists : ProgramLists) (j : Judgement) (c : Chan) (arms : List Arm)
+    (after : List Judgement) : Type 0 where
   pub branches : List Branch
   pub channel : HasType lists j c (by_side c (node.With branches) (node.Plus branches))
   pub each_label : (l : Label) (t : TypeId) → goes_by branches l ≡ Some t → Contains (map (λ a. a.label) arms) l
   pub each_arm : ArmsGoOn j c branches arms after
 
 -- A channel is sent, over another one, which goes on at t.
-pub record SendsChannel (lists : ProgramLists) (x : Annotations) (j : Judgement) (c : Chan) (y : VarId) (left : Judgement) (t : TypeId) : Type 0 where
+pub record SendsChannel (lists : ProgramLists) (x : Annotations) (j : Judgement) (c : Chan) (y : VarId)
+    (left : Judgement) (t : TypeId) : Type 0 where
   pub carried : TypeId
   pub channel : HasType lists j c (by_side c (node.Tensor carried t) (node.Lolli carried t))
   pub other : c ≢ chan.Var y
   pub passes : PassesChannel lists x j y carried left
 
 -- A channel of this mode and type is received, over one that goes on at t.
-pub record ReceivesChannel (lists : ProgramLists) (j : Judgement) (c : Chan) (y : VarId) (m : Mode) (carried t : TypeId) : Type 0 where
+pub record ReceivesChannel (lists : ProgramLists) (j : Judgement) (c : Chan) (y : VarId) (m : Mode)
+    (carried t : TypeId) : Type 0 where
   pub channel : HasType lists j c (by_side c (node.Lolli carried t) (node.Tensor carried t))
   pub mode : HasMode lists carried m
   pub free : IsFree j y
@@ -77,19 +81,22 @@ pub record SendsValue (lists : ProgramLists) (j : Judgement) (c : Chan) (e : Ter
   pub value : HasKind lists j.kinds e kind
 
 -- A value of this kind is received.
-pub record ReceivesValue (lists : ProgramLists) (j : Judgement) (c : Chan) (v : VarId) (kind : Kind) (t : TypeId) : Type 0 where
+pub record ReceivesValue (lists : ProgramLists) (j : Judgement) (c : Chan) (v : VarId) (kind : Kind)
+    (t : TypeId) : Type 0 where
   pub channel : HasType lists j c (by_side c (node.ValueIn kind t) (node.ValueOut kind t))
   pub free : IsFree j v
 
 -- Potential is paid.
-pub record Pays (lists : ProgramLists) (x : Annotations) (j : Judgement) (c : Chan) (r : Amount) (t : TypeId) : Type 0 where
+pub record Pays (lists : ProgramLists) (x : Annotations) (j : Judgement) (c : Chan) (r : Amount) (t : TypeId)
+    : Type 0 where
   pub amount : Amount
   pub channel : HasType lists j c (by_side c (node.PotOut amount t) (node.PotIn amount t))
   pub same : dths x r ≡ dths x amount
   pub enough : dths x r ≤ j.q
 
 -- Potential is got.
-pub record Gets (lists : ProgramLists) (x : Annotations) (j : Judgement) (c : Chan) (r : Amount) (t : TypeId) : Type 0 where
+pub record Gets (lists : ProgramLists) (x : Annotations) (j : Judgement) (c : Chan) (r : Amount) (t : TypeId)
+    : Type 0 where
   pub amount : Amount
   pub channel : HasType lists j c (by_side c (node.PotIn amount t) (node.PotOut amount t))
   pub same : dths x r ≡ dths x amount
@@ -119,7 +126,8 @@ pub record Releases (lists : ProgramLists) (j : Judgement) (v : VarId) (a : VarI
   pub free : IsFree j a
 
 -- A process is spawned.
-pub record Spawns (lists : ProgramLists) (x : Annotations) (j : Judgement) (v : VarId) (f : ProcId) (args : Args) (d : ProcDecl) (left : Judgement) : Type 0 where
+pub record Spawns (lists : ProgramLists) (x : Annotations) (j : Judgement) (v : VarId) (f : ProcId)
+    (args : Args) (d : ProcDecl) (left : Judgement) : Type 0 where
   pub declared : slice_get lists.procs f.0 ≡ Some d
   pub mode : IsTrue (may_spawn j.mode d.mode)
   pub arguments : ArgumentsFit lists x j d args left
@@ -151,7 +159,8 @@ pub record Calls (lists : ProgramLists) (x : Annotations) (j : Judgement) (f : P
   pub enough : dths x d.amount ≤ j.q
 
 -- An element is put before a list; it takes the amount of the list along.
-pub record Adds (lists : ProgramLists) (j : Judgement) (v : VarId) (e : TermId) (w : VarId) (list : ListType) : Type 0 where
+pub record Adds (lists : ProgramLists) (j : Judgement) (v : VarId) (e : TermId) (w : VarId) (list : ListType)
+    : Type 0 where
   pub there : bound_to w.0 j.lists ≡ Some list
   pub element : HasKind lists j.kinds e list.kind
   pub enough : list.amount ≤ j.q
