@@ -1,0 +1,5 @@
+pub mod CertificateLaws
+pub mod LinearLemmas
+pub mod OrderLaws
+pub mod RowLemmas
+pub mod WholeLaws
