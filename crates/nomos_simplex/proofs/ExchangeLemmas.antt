@@ -16,8 +16,8 @@ use Rattle.nomos_simplex.specs.Exchange.{coef_at, solved_for, eliminated, put_in
 use Rattle.nomos_simplex.specs.Tables.{sum_at, HoldsAt, Holds}
 use Rattle.nomos_simplex.specs.declared.table.Line.{Line}
 use Rattle.nomos_simplex.specs.declared.table.Table.{Table}
-use Rattle.nomos_simplex.proofs.DivisorLemmas.{common_divides, common_divides_each, exact, abs_signed, quotient_over_zero}
-use Rattle.nomos_simplex.proofs.ListLemmas.{All-remove, All-from_remove, All-from_map, All-front, All-last}
+use Rattle.nomos_simplex.proofs.GcdLemmas.{common_divides, common_divides_each, exact, abs_signed, quotient_over_zero}
+use Rattle.nomos_simplex.proofs.CountLemmas.{All-remove, All-from_remove, All-from_map, All-front, All-last}
 use Rattle.nomos_simplex.proofs.SumLemmas.{sum_set, sum_neg, sum_eliminated, sum_scaled, times_minus, get_or-eliminated, length-eliminated}
 
 -- ---- what is not 0

@@ -1,8 +1,10 @@
-pub mod DivisorLemmas
+pub mod AmountLemmas
+pub mod CountLemmas
 pub mod ExchangeLemmas
 pub mod FirstLemmas
-pub mod ListLemmas
-pub mod LowestLemmas
+pub mod GcdLemmas
+pub mod PlaceLemmas
+pub mod RunLaws
 pub mod SumLemmas
 pub mod VariableLemmas
 pub mod VerdictLemmas

@@ -1,15 +1,13 @@
 -- The verdict of a line: its weights add up to what the line says of the variables.
-use Rattle.std.proofs.Common.{◌≡◌, ◌==◌, ℕ, zero, suc, ◌+◌, ◌-◌, ◌<◌, ◌≤◌, Bool, true, false, cond, List, [], ◌∷◌, length, map, get_or, ap, sym, refl, subst, ◌∙◌, arith, ℤ, pos, negsuc, ◌+ℤ◌, ◌-ℤ◌, ◌*ℤ◌, neg_ℤ, ◌≤ℤ◌, ◌<ℤ◌, unsigned_abs, All, Contains, Option, Some, None, ◌⊎◌, ⊎_elim}
+use Rattle.std.proofs.Common.{◌≡◌, ◌==◌, ℕ, zero, suc, ◌+◌, ◌-◌, ◌<◌, ◌≤◌, Bool, true, false, cond, List, [], ◌∷◌, length, map, get_or, ap, sym, refl, subst, ◌∙◌, arith, ℤ, pos, negsuc, ◌+ℤ◌, ◌-ℤ◌, ◌*ℤ◌, neg_ℤ, ◌≤ℤ◌, ◌<ℤ◌, unsigned_abs, All, Option, Some, None, ⊎_elim}
 use Rattle.std.specs.Prelude.{int_lt, nat_lt, nat_le, slice_get}
 use Rattle.std.specs.List.{range_with_len}
 use Rattle.std.proofs.lemmas.Int.{ints}
-use Rattle.std.proofs.lemmas.Bool.{cond-true, cond-false, le-leb, lt-leb, leb-true, leb-false, cases_lt, ne_eqb, eq-eqb}
-use Rattle.std.proofs.lemmas.Bool.Decides.{eqb_tells}
-use Rattle.std.proofs.lemmas.List.{get_or_past}
+use Rattle.std.proofs.lemmas.Bool.{cond-true, cond-false, le-leb, lt-leb, cases_lt, ne_eqb, eq-eqb}
 use Rattle.std.proofs.lemmas.List.Elements.{All-nil, All-cons, All-head, All-tail, Contains-get_or}
 use Rattle.std.proofs.lemmas.Option.{slice_get-get_or}
-use Rattle.std.proofs.Math.IntN.{*ℤ-zero, *ℤ_comm, +ℤ_idl}
-use borrow.Author.Differences.{lt_out, le_out, lt-true, lt-false}
+use Rattle.std.proofs.Math.IntN.{*ℤ-zero, *ℤ_comm}
+use borrow.Author.Differences.{lt_out, le_out, lt-false}
 use Rattle.nomos_forms.specs.Refuting.{coef_in, least_in, weighted, IsOneOf}
 use Rattle.nomos_forms.specs.declared.row.Row.{Row}
 use Rattle.nomos_forms.specs.declared.row_list.RowList.{RowList}
@@ -18,7 +16,7 @@ use Rattle.nomos_forms.specs.declared.verdict.Of.TheVariants as of
 use Rattle.nomos_forms.specs.declared.verdict.Weight.{Weight}
 use Rattle.nomos_forms.proofs.WholeLaws.{neg_times}
 use Rattle.nomos_simplex.specs.Exits.{with_weight, weights_below, row_or_star, of_variable, weight_of}
-use Rattle.nomos_simplex.specs.Tables.{least_or_zero, bound_of, sum_at, HoldsAt, Holds, lines_from, first_table}
+use Rattle.nomos_simplex.specs.Tables.{least_or_zero, bound_of, sum_at, HoldsAt, Holds, first_table}
 use Rattle.nomos_simplex.specs.declared.table.Line.{Line}
 use Rattle.nomos_simplex.proofs.FirstLemmas.{All-lines_from}
 
@@ -44,10 +42,10 @@ row-of_variable rows k e h =
 pub variable-is_one_of : (rows : RowList) (v : ℕ) → 1 ≤ v → v ≤ rows.stars + length rows.rows → IsOneOf rows.stars rows.rows (of_variable rows v)
 variable-is_one_of rows v low high = ⊎_elim
     (λ more. let k = v - rows.stars - 1 in
-        let place : rows.stars + 1 + k ≡ v = omega arith in
-        let row : Row = record { coefs = []; least = pos 0 } in
-        let in' : k < length rows.rows = omega arith in
-        subst (λ n. IsOneOf rows.stars rows.rows (of_variable rows n)) place (subst (IsOneOf rows.stars rows.rows) (sym (row-of_variable rows k row in')) (Contains-get_or rows.rows k row in')))
+    let place : rows.stars + 1 + k ≡ v = omega arith in
+    let row : Row = record { coefs = []; least = pos 0 } in
+    let in' : k < length rows.rows = omega arith in
+    subst (λ n. IsOneOf rows.stars rows.rows (of_variable rows n)) place (subst (IsOneOf rows.stars rows.rows) (sym (row-of_variable rows k row in')) (Contains-get_or rows.rows k row in')))
     (λ few. subst (IsOneOf rows.stars rows.rows) (sym (star-of_variable rows v few)) (low, few))
     (cases_lt rows.stars v)
 
@@ -110,6 +108,7 @@ weighted-weights_below rows part (v ∷ vs) (c ∷ cs) h = by_test (weighted-wei
   where
     low : c ≤ℤ pos 0
     low = All-head (λ c. c ≤ℤ pos 0) c cs h
+
     by_test : weighted part (map (weight_of rows) (weights_below vs cs)) ≡ neg_ℤ (sum_at (λ v. part (of_variable rows v)) vs cs) → (t : Bool) → int_lt c (pos 0) ≡ t → weighted part (map (weight_of rows) (cond t (with_weight (v, unsigned_abs c) (weights_below vs cs)) (weights_below vs cs))) ≡ neg_ℤ (c *ℤ part (of_variable rows v) +ℤ sum_at (λ v. part (of_variable rows v)) vs cs)
     by_test rest true e = weighted-with_weight rows part (v, unsigned_abs c) (weights_below vs cs)
         ∙ less_each (pos (unsigned_abs c) *ℤ part (of_variable rows v)) (c *ℤ part (of_variable rows v)) (weighted part (map (weight_of rows) (weights_below vs cs))) (sum_at (λ v. part (of_variable rows v)) vs cs)
@@ -159,17 +158,18 @@ unit_sum z star a zero cs i j w h = absurd (omega arith)
 unit_sum z star a (suc n) [] i j w h = absurd (omega arith)
 unit_sum z star a (suc n) (c ∷ cs) i j w h = ⊎_elim
     (λ less. let none : z a ≡ pos 0 = h a (omega arith) (omega arith) ∙ ap (λ t. cond t (pos 1) (pos 0)) (ne_eqb a star (λ e. omega arith)) in
-        let rest = unit_sum z star (a + 1) n cs (omega arith) (omega arith) (omega arith) (λ v k l. h v (omega arith) (omega arith)) in
-        let place : star - a ≡ suc (star - (a + 1)) = omega arith in
-        (λ p. c *ℤ none p +ℤ rest p) ∙ only_rest c (get_or cs (star - (a + 1)) (pos 0)) ∙ ap (λ k. get_or (c ∷ cs) k (pos 0)) (sym place))
+    let rest = unit_sum z star (a + 1) n cs (omega arith) (omega arith) (omega arith) (λ v k l. h v (omega arith) (omega arith)) in
+    let place : star - a ≡ suc (star - (a + 1)) = omega arith in
+    (λ p. c *ℤ none p +ℤ rest p) ∙ only_rest c (get_or cs (star - (a + 1)) (pos 0)) ∙ ap (λ k. get_or (c ∷ cs) k (pos 0)) (sym place))
     (λ more. let one : z a ≡ pos 1 = h a (omega arith) (omega arith) ∙ ap (λ t. cond t (pos 1) (pos 0)) (eq-eqb a star (omega arith)) in
-        let rest = unit_past z star (a + 1) n cs (omega arith) (λ v k l. h v (omega arith) (omega arith)) in
-        let place : star - a ≡ 0 = omega arith in
-        (λ p. c *ℤ one p +ℤ rest p) ∙ only_first c ∙ ap (λ k. get_or (c ∷ cs) k (pos 0)) (sym place))
+    let rest = unit_past z star (a + 1) n cs (omega arith) (λ v k l. h v (omega arith) (omega arith)) in
+    let place : star - a ≡ 0 = omega arith in
+    (λ p. c *ℤ one p +ℤ rest p) ∙ only_first c ∙ ap (λ k. get_or (c ∷ cs) k (pos 0)) (sym place))
     (cases_lt a star)
   where
     only_rest : (c r : ℤ) → c *ℤ pos 0 +ℤ r ≡ r
     only_rest c r = omega (arith, ints)
+
     only_first : (c : ℤ) → c *ℤ pos 1 +ℤ pos 0 ≡ c
     only_first c = omega (arith, ints)
 
@@ -182,6 +182,6 @@ unit_holds rows star low high width =
     let z = λ (v : ℕ). coef_in star (of_variable rows v) in
     All-lines_from (HoldsAt z (range_with_len 1 rows.stars)) (rows.stars + 1) rows.rows
     (λ k e h.
-        let cs = (get_or rows.rows k e).coefs in
-        one_times (z (rows.stars + 1 + k)) (sum_at z (range_with_len 1 rows.stars) cs)
-        (ap (coef_in star) (row-of_variable rows k e h) ∙ sym (unit_sum z star 1 rows.stars cs low (omega arith) (width k e h) (λ v i j. ap (coef_in star) (star-of_variable rows v (omega arith))))))
+    let cs = (get_or rows.rows k e).coefs in
+    one_times (z (rows.stars + 1 + k)) (sum_at z (range_with_len 1 rows.stars) cs)
+    (ap (coef_in star) (row-of_variable rows k e h) ∙ sym (unit_sum z star 1 rows.stars cs low (omega arith) (width k e h) (λ v i j. ap (coef_in star) (star-of_variable rows v (omega arith))))))
