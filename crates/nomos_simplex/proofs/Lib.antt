@@ -1,0 +1,3 @@
+pub mod DivisorLemmas
+pub mod LineLemmas
+pub mod NumberLemmas
