@@ -1,6 +1,6 @@
 -- Laws of whole numbers: products over sums, order, and dividing by what is not 0.
 use Rattle.std.proofs.Common.{◌≡◌, ℕ, zero, suc, ◌+◌, ◌*◌, ◌<◌, ◌≤◌, arith, pos, negsuc, ℤ, ◌+ℤ◌, ◌*ℤ◌, neg_ℤ, ◌≤ℤ◌, ◌<ℤ◌, ap, sym, refl, ◌∙◌}
-use Rattle.std.proofs.lemmas.Int.{ints}
+use Rattle.std.proofs.lemmas.Int.{ints, by_lt_z}
 use borrow.Author.Differences.{up, down, sum_is_lem, product_is, neg_is, le_out, lt_out}
 use Rattle.std.proofs.Math.IntN.{*ℤ_comm}
 use Rattle.std.proofs.Math.Nat.{mul-le-mul_left}
@@ -47,3 +47,14 @@ no_product_zero (pos (suc a)) (negsuc b) n h = absurd (omega (arith, ints))
 no_product_zero (negsuc a) (pos zero) n h = refl
 no_product_zero (negsuc a) (pos (suc b)) n h = absurd (omega (arith, ints))
 no_product_zero (negsuc a) (negsuc b) n h = absurd (omega (arith, ints))
+
+-- a count over 0 is taken off both sides
+pub count_cancel : (t : ℕ) (a b : ℤ) → 0 < t → pos t *ℤ a ≡ pos t *ℤ b → a ≡ b
+count_cancel t a b h e = by_lt_z a b
+    (λ lt. absurd (apart (pos t *ℤ a) (pos t *ℤ b) (count_times_lt t a b h lt) e))
+    (λ le. by_lt_z b a (λ lt. absurd (apart (pos t *ℤ b) (pos t *ℤ a) (count_times_lt t b a h lt) (sym e))) (λ ge. both a b ge le))
+  where
+    apart : (x y : ℤ) → x <ℤ y → x ≡ y → ⊥
+    apart x y lt same = omega (arith, ints)
+    both : (x y : ℤ) → x ≤ℤ y → y ≤ℤ x → x ≡ y
+    both x y le ge = omega (arith, ints)

@@ -1,8 +1,11 @@
 pub mod AmountLemmas
 pub mod CountLemmas
+pub mod DivisorLemmas
 pub mod ExchangeLemmas
 pub mod FirstLemmas
 pub mod GcdLemmas
+pub mod LineLemmas
+pub mod NumberLemmas
 pub mod PlaceLemmas
 pub mod RunLaws
 pub mod SumLemmas

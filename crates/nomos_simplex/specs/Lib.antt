@@ -4,4 +4,5 @@ pub mod Exchange
 pub mod Exits
 pub mod Lowest
 pub mod PivotRun
+pub mod Sizes
 pub mod Tables
