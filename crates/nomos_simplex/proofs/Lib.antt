@@ -2,6 +2,8 @@ pub mod AmountLemmas
 pub mod CountLemmas
 pub mod DivisorLemmas
 pub mod ExchangeLemmas
+pub mod ExchangedLemmas
+pub mod ExitLemmas
 pub mod FirstLemmas
 pub mod GcdLemmas
 pub mod LineLemmas
@@ -9,5 +11,6 @@ pub mod NumberLemmas
 pub mod PlaceLemmas
 pub mod RunLaws
 pub mod SumLemmas
+pub mod TableLaws
 pub mod VariableLemmas
 pub mod VerdictLemmas
