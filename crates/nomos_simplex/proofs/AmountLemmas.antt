@@ -19,8 +19,9 @@ use Rattle.nomos_simplex.specs.Exits.{fraction_in, fraction_of, denominator, com
 use Rattle.nomos_simplex.specs.Tables.{least_or_zero, bound_of, sum_at, Holds}
 use Rattle.nomos_simplex.specs.declared.table.Line.{Line}
 use Rattle.nomos_simplex.specs.declared.table.Table.{Table}
-use Rattle.nomos_simplex.proofs.DivisorLemmas.{gcd_is}
 use Rattle.nomos_simplex.proofs.CountLemmas.{counted}
+use Rattle.nomos_simplex.proofs.DivisorLemmas.{gcd_is}
+use Rattle.nomos_simplex.proofs.SignLemmas.{abs_over, abs_positive}
 use Rattle.nomos_simplex.proofs.SumLemmas.{sum_times_all}
 use Rattle.nomos_simplex.proofs.VariableLemmas.{HasEachOnce, not_found, finds}
 
@@ -88,14 +89,6 @@ product-divided (line ∷ lines) =
     (λ other. unsigned_abs other.times ∣ unsigned_abs line.times * times_product lines)
     (λ other h. dvd-mul_left_of_dvd (unsigned_abs other.times) h (unsigned_abs line.times)) lines
     (product-divided lines))
-
-pub abs_over : (t : ℤ) → pos 0 <ℤ t → pos (unsigned_abs t) ≡ t
-abs_over (pos t) h = refl
-abs_over (negsuc t) h = absurd (omega (arith, lt_out (pos 0) (negsuc t) h))
-
-abs_positive : (t : ℤ) → pos 0 <ℤ t → 0 < unsigned_abs t
-abs_positive (pos t) h = omega (arith, lt_out (pos 0) (pos t) h)
-abs_positive (negsuc t) h = absurd (omega (arith, lt_out (pos 0) (negsuc t) h))
 
 pub product_positive : (lines : List Line) → All (λ line. pos 0 <ℤ line.times) lines → 0 < times_product lines
 product_positive [] h = omega arith

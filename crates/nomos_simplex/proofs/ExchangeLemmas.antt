@@ -7,22 +7,19 @@ use Rattle.std.proofs.lemmas.List.{get_or-map, length-map, length-set}
 use Rattle.std.proofs.lemmas.List.Elements.{All-weaker}
 use Rattle.std.proofs.Math.IntN.{*ℤ-zero, *ℤ_comm}
 use native.Mathlib.Nat.{pos_of_dvd_of_pos, mul-dvd-mul_right, dvd_of_mul-dvd-mul_right, eq-one_of_dvd-one}
-use borrow.Author.Differences.{lt_out}
 use Rattle.nomos_forms.proofs.WholeLaws.{times_assoc, neg_times, no_product_zero}
 use Rattle.nomos_simplex.specs.Divisors.{common, signed_like, divided_by, in_lowest_terms}
 use Rattle.nomos_simplex.specs.Exchange.{coef_at, solved_for, eliminated, put_into}
 use Rattle.nomos_simplex.specs.Sizes.{IsLowest}
 use Rattle.nomos_simplex.specs.Tables.{sum_at, HoldsAt}
 use Rattle.nomos_simplex.specs.declared.table.Line.{Line}
+use Rattle.nomos_simplex.proofs.CountLemmas.{All-from_map}
 use Rattle.nomos_simplex.proofs.DivisorLemmas.{common_divides_first}
 use Rattle.nomos_simplex.proofs.GcdLemmas.{common_divides_each, divides_common, exact_whole, abs_signed, quotient_over_zero}
-use Rattle.nomos_simplex.proofs.CountLemmas.{All-from_map}
+use Rattle.nomos_simplex.proofs.SignLemmas.{minus_itself}
 use Rattle.nomos_simplex.proofs.SumLemmas.{sum_set, sum_neg, sum_eliminated, sum_scaled, times_minus, get_or-eliminated, length-eliminated}
 
 -- ---- what is not 0
-minus_itself : (a b : ℤ) → a ≡ b → a -ℤ b ≡ pos 0
-minus_itself a b h = omega (arith, ints)
-
 same_from_minus : (a b : ℤ) → a -ℤ b ≡ pos 0 → a ≡ b
 same_from_minus a b h = omega (arith, ints)
 
@@ -32,9 +29,6 @@ cancel d a b n h =
 
 pub not_zero_product : (a b : ℤ) → ¬ (a ≡ pos 0) → ¬ (b ≡ pos 0) → ¬ (a *ℤ b ≡ pos 0)
 not_zero_product a b n m h = m (no_product_zero a b n h)
-
-pub not_zero_over : (a : ℤ) → pos 0 <ℤ a → ¬ (a ≡ pos 0)
-not_zero_over a h e = omega (arith, ints, lt_out (pos 0) a h)
 
 abs_over_zero : (a : ℤ) → ¬ (a ≡ pos 0) → 0 < unsigned_abs a
 abs_over_zero (pos zero) n = absurd (n refl)

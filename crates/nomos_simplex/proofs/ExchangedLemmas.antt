@@ -12,7 +12,8 @@ use Rattle.nomos_simplex.specs.Tables.{HoldsAt, Holds}
 use Rattle.nomos_simplex.specs.declared.table.Line.{Line}
 use Rattle.nomos_simplex.specs.declared.table.Table.{Table}
 use Rattle.nomos_simplex.proofs.CountLemmas.{All-remove, All-from_remove, All-from_map, All-front, All-last}
-use Rattle.nomos_simplex.proofs.ExchangeLemmas.{not_zero_product, not_zero_over, lowest_holds, lowest_over_zero, lowest-is_lowest, lowest_width, solved_holds, put_holds, put_width}
+use Rattle.nomos_simplex.proofs.ExchangeLemmas.{not_zero_product, lowest_holds, lowest_over_zero, lowest-is_lowest, lowest_width, solved_holds, put_holds, put_width}
+use Rattle.nomos_simplex.proofs.SignLemmas.{not_zero_over}
 
 -- lines as wide as the table, with a number over 0 before the basic variable
 pub record IsLineIn (table : Table) (line : Line) : Type 0 where

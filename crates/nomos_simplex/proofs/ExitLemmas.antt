@@ -27,11 +27,12 @@ use Rattle.nomos_simplex.specs.declared.solved.Solved.{Solved}
 use Rattle.nomos_simplex.specs.declared.solved.Stop.TheVariants as stop
 use Rattle.nomos_simplex.specs.declared.table.Line.{Line}
 use Rattle.nomos_simplex.specs.declared.table.Table.{Table}
-use Rattle.nomos_simplex.proofs.AmountLemmas.{NoneBelow, value_of, times_product, product_positive, values_hold, values_high, amount_of, amounts_scaled, fraction_over_zero, common-divided_by_each, common_over_zero, dot_scaled, less_by_times, abs_over}
+use Rattle.nomos_simplex.proofs.AmountLemmas.{NoneBelow, value_of, times_product, product_positive, values_hold, values_high, amount_of, amounts_scaled, fraction_over_zero, common-divided_by_each, common_over_zero, dot_scaled, less_by_times}
 use Rattle.nomos_simplex.proofs.CountLemmas.{All-from_map}
 use Rattle.nomos_simplex.proofs.ExchangedLemmas.{IsLineIn, at_place}
 use Rattle.nomos_simplex.proofs.FirstLemmas.{at_lines_from}
 use Rattle.nomos_simplex.proofs.PlaceLemmas.{none_passes}
+use Rattle.nomos_simplex.proofs.SignLemmas.{abs_over, abs_positive, minus_itself}
 use Rattle.nomos_simplex.proofs.TableLaws.{all_false, all_true, small_line, IsTableOfRows, are_over_zero}
 use Rattle.nomos_simplex.proofs.VariableLemmas.{nonbasic-is_variable, basic-is_variable}
 use Rattle.nomos_simplex.proofs.VerdictLemmas.{least-of_variable, row-of_variable, variable-is_one_of, All-with_weight, All-weights_below, length-with_weight, length-weights_below, weighted_line, unit_holds}
@@ -158,15 +159,8 @@ abs_of_below : (c : ℤ) → int_lt c (pos 0) ≡ true → 0 < unsigned_abs c
 abs_of_below (pos c) e = absurd (omega (arith, lt-true (pos c) (pos 0) e))
 abs_of_below (negsuc c) e = omega arith
 
-minus_same : (a b : ℤ) → a ≡ b → a -ℤ b ≡ pos 0
-minus_same a b h = omega (arith, ints)
-
 minus_over : (a b : ℤ) → a <ℤ b → pos 0 <ℤ (b -ℤ a)
 minus_over a b h = below_in (pos 0) (b -ℤ a) (omega (arith, ints, lt_out a b h))
-
-abs_of_over : (t : ℤ) → pos 0 <ℤ t → 0 < unsigned_abs t
-abs_of_over (pos t) h = omega (arith, lt_out (pos 0) (pos t) h)
-abs_of_over (negsuc t) h = absurd (omega (arith, lt_out (pos 0) (negsuc t) h))
 
 -- what is known of the line that ends the run
 pub record EndsAt (rows : RowList) (table : Table) (i : ℕ) (line : Line) : Type 0 where
@@ -218,7 +212,7 @@ weights_of rows table i line t h =
 weights_positive : (rows : RowList) (table : Table) (line : Line) → IsLastLine table line →
     All (λ w. 0 < w.times) (verdict_of rows table line).weights
 weights_positive rows table line own =
-    weights_are (λ w. 0 < w.times) rows table line own (abs_of_over line.times own.over)
+    weights_are (λ w. 0 < w.times) rows table line own (abs_positive line.times own.over)
     (λ k l e. abs_of_below (get_or line.coefs k (pos 0)) e)
 
 -- the line holds where each variable has what it has of a star: so nothing of the star is left
@@ -228,7 +222,7 @@ weights_cancel rows table i line t h star from to =
     let own = last_line rows table i line t h in
     let y = λ (v : ℕ). coef_in star (of_variable rows v) in
     weighted_line rows (coef_in star) table.nonbasic line own.over own.none
-    ∙ minus_same (line.times *ℤ y line.basic) (sum_at y table.nonbasic line.coefs)
+    ∙ minus_itself (line.times *ℤ y line.basic) (sum_at y table.nonbasic line.coefs)
     (at_place (HoldsAt y table.nonbasic) table.lines i line h.place
     (t.true_of y (unit_holds rows star from to (λ k e l. (rows.each k e l).width))))
 
@@ -252,7 +246,7 @@ verdict-refutes rows table i line t h =
       positive = weights_positive rows table line own;
       no_star = weights_cancel rows table i line t h;
       gives = weights_give rows table line own h.below;
-      over_zero = abs_of_over gap (gap_over_zero rows table line h.below);
+      over_zero = abs_positive gap (gap_over_zero rows table line h.below);
     }
 
 pub verdict-is_verdict : (rows : RowList) (table : Table) (i : ℕ) (line : Line) → IsTableOfRows rows table →

@@ -10,6 +10,7 @@ pub mod LineLemmas
 pub mod NumberLemmas
 pub mod PlaceLemmas
 pub mod RunLaws
+pub mod SignLemmas
 pub mod SumLemmas
 pub mod TableLaws
 pub mod VariableLemmas

@@ -7,7 +7,6 @@ use Rattle.std.proofs.lemmas.List.Elements.{All-weaker}
 use Rattle.std.proofs.lemmas.List.FromFn.{length-range_with_len}
 use Rattle.std.proofs.lemmas.List.Folds.{list_any_none, list_any_at, list_all_at}
 use Rattle.std.proofs.Math.IntN.{*ℤ_comm}
-use Rattle.std.proofs.lemmas.Int.{ints}
 use borrow.Author.Differences.{below_in}
 use Rattle.nomos_forms.specs.Bounds.{IsSmall}
 use Rattle.nomos_forms.specs.Linear.{dot}
@@ -23,6 +22,7 @@ use Rattle.nomos_simplex.proofs.AmountLemmas.{AreOverZero}
 use Rattle.nomos_simplex.proofs.DivisorLemmas.{common_one}
 use Rattle.nomos_simplex.proofs.ExchangedLemmas.{IsLineIn, MayExchange, exchanged_holds, held_before_exchange, exchanged_lines, exchanged_lowest}
 use Rattle.nomos_simplex.proofs.FirstLemmas.{All-lines_from}
+use Rattle.nomos_simplex.proofs.SignLemmas.{one_times}
 use Rattle.nomos_simplex.proofs.VariableLemmas.{HasEachOnce, first-has_each_once, exchanged-has_each_once, nonbasic-is_variable, basic-is_variable}
 use Rattle.nomos_simplex.proofs.VerdictLemmas.{row-of_variable, star-of_variable}
 
@@ -137,9 +137,6 @@ sum_of_stars z a (x ∷ xs) (c ∷ cs) w h =
     let next : (i : ℕ) → a + 1 + i ≡ a + suc i = λ i. omega arith in
     let rest = sum_of_stars z (a + 1) xs cs (omega arith) (λ i l. ap z (next i) ∙ h (suc i) (omega arith)) in
     λ p. one p +ℤ rest p
-
-one_times : (a b : ℤ) → a ≡ b → pos 1 *ℤ a ≡ b
-one_times a b h = omega (arith, ints)
 
 pub rows-hold : (rows : RowList) (xs : List ℕ) → length xs ≡ rows.stars → Holds (variable_at rows xs) (first_table rows)
 rows-hold rows xs w =

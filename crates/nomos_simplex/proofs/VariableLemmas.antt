@@ -13,8 +13,8 @@ use Rattle.nomos_simplex.specs.Sizes.{IsVariable}
 use Rattle.nomos_simplex.specs.Tables.{lines_from, first_table}
 use Rattle.nomos_simplex.specs.declared.table.Line.{Line}
 use Rattle.nomos_simplex.specs.declared.table.Table.{Table}
-use Rattle.nomos_simplex.proofs.ExchangedLemmas.{MayExchange}
 use Rattle.nomos_simplex.proofs.CountLemmas.{sum_by-map, counted}
+use Rattle.nomos_simplex.proofs.ExchangedLemmas.{MayExchange}
 
 -- how often a variable is nonbasic, and how often basic
 abbrev pub nonbasic_times : ℕ → List ℕ → ℕ

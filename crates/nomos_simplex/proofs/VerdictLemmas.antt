@@ -7,18 +7,19 @@ use Rattle.std.proofs.lemmas.Bool.{cond-true, cond-false, le-leb, lt-leb, cases_
 use Rattle.std.proofs.lemmas.List.Elements.{All-nil, All-cons, All-head, All-tail, Contains-get_or}
 use Rattle.std.proofs.lemmas.Option.{slice_get-get_or}
 use Rattle.std.proofs.Math.IntN.{*ℤ-zero, *ℤ_comm}
-use borrow.Author.Differences.{lt_out, le_out, lt-false}
+use borrow.Author.Differences.{le_out, lt-false}
 use Rattle.nomos_forms.specs.Refuting.{coef_in, least_in, weighted, IsOneOf}
 use Rattle.nomos_forms.specs.declared.row.Row.{Row}
 use Rattle.nomos_forms.specs.declared.row_list.RowList.{RowList}
-use Rattle.nomos_forms.specs.declared.verdict.Of.{Of}
 use Rattle.nomos_forms.specs.declared.verdict.Of.TheVariants as of
+use Rattle.nomos_forms.specs.declared.verdict.Of.{Of}
 use Rattle.nomos_forms.specs.declared.verdict.Weight.{Weight}
 use Rattle.nomos_forms.proofs.WholeLaws.{neg_times}
 use Rattle.nomos_simplex.specs.Exits.{with_weight, weights_below, row_or_star, of_variable, weight_of}
 use Rattle.nomos_simplex.specs.Tables.{least_or_zero, bound_of, sum_at, HoldsAt, Holds, first_table}
 use Rattle.nomos_simplex.specs.declared.table.Line.{Line}
 use Rattle.nomos_simplex.proofs.FirstLemmas.{All-lines_from}
+use Rattle.nomos_simplex.proofs.SignLemmas.{abs_over, one_times}
 
 -- ---- what a variable stands for
 least_of_test : (v : ℕ) (t : Bool) (o : Option Row) →
@@ -167,10 +168,6 @@ All-weights_below P rows (v ∷ vs) (c ∷ cs) w h =
     by_test rest true e = All-with_weight P rows (v, unsigned_abs c) (weights_below vs cs) (h zero (omega arith) e) rest
     by_test rest false e = rest
 
-abs_over : (t : ℤ) → pos 0 <ℤ t → pos (unsigned_abs t) ≡ t
-abs_over (pos t) h = refl
-abs_over (negsuc t) h = absurd (omega (arith, lt_out (pos 0) (negsuc t) h))
-
 minus_is : (a b c d : ℤ) → a ≡ c → b ≡ neg_ℤ d → a +ℤ b ≡ c -ℤ d
 minus_is a b c d h i = omega (arith, ints)
 
@@ -229,9 +226,6 @@ unit_sum z star a (suc n) (c ∷ cs) i j w h = ⊎_elim
 
     only_first : (c : ℤ) → c *ℤ pos 1 +ℤ pos 0 ≡ c
     only_first c = omega (arith, ints)
-
-one_times : (a b : ℤ) → a ≡ b → pos 1 *ℤ a ≡ b
-one_times a b h = omega (arith, ints)
 
 -- it is true of the first table
 pub unit_holds : (rows : RowList) (star : ℕ) → 1 ≤ star → star ≤ rows.stars →
