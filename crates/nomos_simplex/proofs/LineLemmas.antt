@@ -1,9 +1,11 @@
 -- Lines, coefficient by coefficient.
-use Rattle.std.proofs.Common.{◌≡◌, ℕ, zero, suc, ◌+◌, ◌<◌, ◌≤◌, map, drop, List, [], ◌∷◌, ◌++◌, length, get_or, take, refl, ap, sym, ◌∙◌, arith, ℤ, pos, negsuc, ◌*ℤ◌, ◌-ℤ◌, ◌<ℤ◌, unsigned_abs, add-one, set}
-use Rattle.std.specs.Prelude.{slice_set}
+use Rattle.std.proofs.Common.{◌≡◌, ℕ, zero, suc, ◌+◌, ◌<◌, ◌≤◌, map, drop, List, [], ◌∷◌, ◌++◌, length, get_or, take, refl, ap, sym, ◌∙◌, arith, ℤ, pos, negsuc, ◌+ℤ◌, ◌*ℤ◌, ◌-ℤ◌, ◌<ℤ◌, unsigned_abs, add-one, set}
+use Rattle.std.specs.Prelude.{slice_set, All, remove}
+use Rattle.std.proofs.lemmas.List.Elements.{All-append, All-take, All-drop}
 use Rattle.std.proofs.lemmas.Int.{ints}
 use Rattle.std.proofs.lemmas.List.{length-map, get_or-map}
-use Rattle.std.proofs.Math.IntN.{zero-*ℤ, *ℤ-zero}
+use Rattle.std.proofs.Math.IntN.{zero-*ℤ, *ℤ-zero, +ℤ_assoc}
+use Rattle.nomos_simplex.specs.Tables.{sum_at}
 use Rattle.nomos_simplex.specs.Divisors.{common, in_lowest_terms}
 use Rattle.nomos_simplex.specs.Exchange.{coef_at, eliminated, put_into}
 use Rattle.nomos_simplex.specs.declared.table.Line.{Line}
@@ -57,3 +59,16 @@ skipped j left line low width over positive none lowest =
     count_is : (z : ℤ) → pos 0 <ℤ z → z ≡ pos (unsigned_abs z)
     count_is (pos n) h = refl
     count_is (negsuc n) h = absurd (omega (arith, ints))
+
+-- ---- sums, one place more
+pub sum_at_more : (y : ℕ → ℤ) (vs : List ℕ) (cs : List ℤ) (k : ℕ) → k < length vs → k < length cs → sum_at y (take (k + 1) vs) (take (k + 1) cs) ≡ sum_at y (take k vs) (take k cs) +ℤ get_or cs k (pos 0) *ℤ y (get_or vs k 0)
+sum_at_more y [] cs k h i = absurd (omega arith)
+sum_at_more y (v ∷ vs) [] k h i = absurd (omega arith)
+sum_at_more y (v ∷ vs) (c ∷ cs) zero h i = one_only (c *ℤ y v)
+  where
+    one_only : (z : ℤ) → z +ℤ pos 0 ≡ pos 0 +ℤ z
+    one_only z = omega (arith, ints)
+sum_at_more y (v ∷ vs) (c ∷ cs) (suc k) h i = rw add-one (ap (λ z. c *ℤ y v +ℤ z) (rw add-one at (sum_at_more y vs cs k (omega arith) (omega arith))) ∙ sym (+ℤ_assoc (c *ℤ y v) (sum_at y (take k vs) (take k cs)) (get_or cs k (pos 0) *ℤ y (get_or vs k 0))))
+
+pub All-remove : {X : Type 0} (P : X → Type 0) (xs : List X) (i : ℕ) → All P xs → All P (remove xs i)
+All-remove P xs i h = All-append P (take i xs) (drop (suc i) xs) (All-take P i xs h) (All-drop P (suc i) xs h)

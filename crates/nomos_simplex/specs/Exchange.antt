@@ -30,13 +30,17 @@ put_into j left line = record line {
   coefs = slice_set (eliminated (coef_at j left) (coef_at j line) line.coefs left.coefs) j (coef_at j line *ℤ left.times);
 }
 
--- the line i, which is left, and the nonbasic variable in column j are exchanged: each line in lowest terms
+-- The line i is left for column j, where e is: e is put into the other lines, and the line solved for it stands at
+-- the end, all in lowest terms.
+abbrev pub lines_exchanged : ℕ → ℕ → ℕ → Line → List Line → List Line
+lines_exchanged i j e left lines =
+    map (λ line. in_lowest_terms (put_into j left line)) (remove lines i) ++ in_lowest_terms (solved_for j e left) ∷ []
+
+-- the basic variable of line i, which is left, and the nonbasic variable of column j are exchanged
 abbrev pub exchanged : ℕ → ℕ → Line → Table → Table
 exchanged i j left table = record {
   nonbasic = slice_set table.nonbasic j left.basic;
-  lines =
-      map (λ line. in_lowest_terms (put_into j left line)) (remove table.lines i) ++
-      in_lowest_terms (solved_for j (slice_index table.nonbasic j) left) ∷ [];
+  lines = lines_exchanged i j (slice_index table.nonbasic j) left table.lines;
 }
 
 -- some number of the table has an absolute value of 2^62 or more

@@ -1,6 +1,7 @@
 -- The exits of the run: amounts that were found, and the verdict of a line.
-use Rattle.std.specs.Prelude.{ℕ, ◌*◌, ◌/◌, ◌-◌, ◌^◌, nat_le, nat_lt, ◌==◌, Bool, ◌&&◌, ℤ, pos, ◌*ℤ◌, ◌-ℤ◌, unsigned_abs, int_lt, List, [], ◌∷◌, map, Option, Some, None, slice_get, find, if◌then◌else◌}
+use Rattle.std.specs.Prelude.{◌≡◌, ◌<◌, ◌≤◌, true, false, Vec, ℕ, ◌*◌, ◌/◌, ◌-◌, ◌^◌, nat_le, nat_lt, ◌==◌, Bool, ◌&&◌, ℤ, pos, ◌*ℤ◌, ◌-ℤ◌, unsigned_abs, int_lt, List, [], ◌∷◌, map, Option, Some, None, slice_get, find, if◌then◌else◌}
 use Rattle.std.specs.List.{list_all, range_with_len}
+use Rattle.std.specs.Global.{Global}
 use Rattle.nomos_forms.specs.declared.row.Row.{Row}
 use Rattle.nomos_forms.specs.declared.row_list.RowList.{RowList}
 use Rattle.nomos_forms.specs.declared.verdict.Of.{Of}
@@ -38,6 +39,15 @@ common_denominator unit (f ∷ fs) = common_denominator (lcm unit (denominator f
 -- fractions, counted in parts of which one has `unit`
 abbrev pub amounts_over : ℕ → List (ℕ × ℕ) → List ℕ
 amounts_over unit fs = map (λ f. unit * f.0 / f.1) fs
+
+-- so large that products stay below 2^128, with a part that is over 0
+abbrev pub IsFraction : ℕ × ℕ → Type 0
+IsFraction f = (f.0 ≤ 2 ^ 113) × (0 < f.1) × (f.1 < 2 ^ 62)
+
+-- the amounts, where none is 2^62 or more, and otherwise nothing
+abbrev pub AreAmounts : ℕ → List (ℕ × ℕ) → Option (Vec ℕ Global) → Type 0
+AreAmounts unit fs (Some v) = (v.items ≡ amounts_over unit fs) × (list_all (λ x. nat_lt x (2 ^ 62)) (amounts_over unit fs) ≡ true)
+AreAmounts unit fs None = list_all (λ x. nat_lt x (2 ^ 62)) (amounts_over unit fs) ≡ false
 
 -- the amounts, where they and the unit are not too large
 abbrev pub found_or_large : ℕ → List (ℕ × ℕ) → Solved

@@ -58,7 +58,11 @@ fn divided(line: Line, by: i128) -> Line
     requires { pos 0 <ℤ by }
     ensures { result ≡ divided_by by line }
 {
-    let Line { times, basic, coefs } = line;
+    let Line {
+        times,
+        basic,
+        coefs,
+    } = line;
     let mut coefs = coefs.into_vec();
     divide_all(&mut coefs, by);
     Line {

@@ -56,12 +56,7 @@ fn eliminate(
 }
 
 /// A line multiplied by the coefficient of the entering variable in the line that is left, with that variable put in.
-fn with_entered(
-    alloc: Global,
-    column: usize,
-    left: &Line,
-    line: &Line,
-) -> Result<Line, AllocError>
+fn with_entered(alloc: Global, column: usize, left: &Line, line: &Line) -> Result<Line, AllocError>
     requires column { column < length left.now.coefs }
     requires left { IsLine (length left.now.coefs) left.now }
     requires line { IsLine (length left.now.coefs) line.now }
@@ -81,12 +76,7 @@ fn with_entered(
 }
 
 /// Puts the entering variable into a line. A line without it stays as it is.
-pub fn enter(
-    alloc: Global,
-    column: usize,
-    left: &Line,
-    line: &mut Line,
-) -> Result<(), AllocError>
+pub fn enter(alloc: Global, column: usize, left: &Line, line: &mut Line) -> Result<(), AllocError>
     requires column { column < length left.now.coefs }
     requires left { IsLine (length left.now.coefs) left.now }
     requires over_zero { pos 0 <ℤ coef_at column left.now }

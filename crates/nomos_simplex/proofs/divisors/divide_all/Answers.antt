@@ -16,7 +16,7 @@ loop-i-preserved c =
     let fits_x : FitsSigned w128 x = search rules in
     let fits_q : FitsSigned w128 c.quotient.result = search rules in
     let value : to_z w128 (of_z w128 c.quotient.result) ≡ int_div x by =
-        to_z-of_z w128 c.quotient.result fits_q ∙ c.quotient.ensures ∙ ap (λ z. int_div z by) (to_z-of_z w128 x fits_x) in
+    to_z-of_z w128 c.quotient.result fits_q ∙ c.quotient.ensures ∙ ap (λ z. int_div z by) (to_z-of_z w128 x fits_x) in
     ap (set now i) value ∙ map_over_more (λ z. int_div z by) c.args.numbers.now now i x c.loop-i-test.true c.loop-i.invariant (get_or_default now i (pos 0) x (omega (arith, c.loop-i.auto.numbers)))
 
 pub returns : goal.returns
