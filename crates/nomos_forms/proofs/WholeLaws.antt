@@ -6,23 +6,28 @@ use Rattle.std.proofs.Math.IntN.{*ℤ_comm}
 use Rattle.std.proofs.Math.Nat.{mul-le-mul_left}
 
 pub times_sum : (a b c : ℤ) → a *ℤ (b +ℤ c) ≡ a *ℤ b +ℤ a *ℤ c
-times_sum a b c = let s = sum_is_lem b c in let x = ap (λ n. up a * n) s in let y = ap (λ n. down a * n) s in omega (arith, ints)
+times_sum a b c = let s = sum_is_lem b c in let x = ap (λ n. up a * n) s in let y = ap (λ n. down a * n) s in
+    omega (arith, ints)
 
 pub sum_times : (a b c : ℤ) → (a +ℤ b) *ℤ c ≡ a *ℤ c +ℤ b *ℤ c
-sum_times a b c = let s = sum_is_lem a b in let x = ap (λ n. n * up c) s in let y = ap (λ n. n * down c) s in omega (arith, ints)
+sum_times a b c = let s = sum_is_lem a b in let x = ap (λ n. n * up c) s in let y = ap (λ n. n * down c) s in
+    omega (arith, ints)
 
 pub times_assoc : (a b c : ℤ) → (a *ℤ b) *ℤ c ≡ a *ℤ (b *ℤ c)
 times_assoc a b c =
     let s = product_is a b in
-    let s1 = ap (λ n. n * up c) s.0 in let s2 = ap (λ n. n * down c) s.0 in let s3 = ap (λ n. n * up c) s.1 in let s4 = ap (λ n. n * down c) s.1 in
+    let s1 = ap (λ n. n * up c) s.0 in let s2 = ap (λ n. n * down c) s.0 in let s3 = ap (λ n. n * up c) s.1 in
+    let s4 = ap (λ n. n * down c) s.1 in
     let t = product_is b c in
-    let t1 = ap (λ n. up a * n) t.0 in let t2 = ap (λ n. down a * n) t.0 in let t3 = ap (λ n. up a * n) t.1 in let t4 = ap (λ n. down a * n) t.1 in
+    let t1 = ap (λ n. up a * n) t.0 in let t2 = ap (λ n. down a * n) t.0 in let t3 = ap (λ n. up a * n) t.1 in
+    let t4 = ap (λ n. down a * n) t.1 in
     omega (arith, ints)
 
 pub times_neg : (a b : ℤ) → a *ℤ neg_ℤ b ≡ neg_ℤ (a *ℤ b)
 times_neg a b =
     let s = neg_is b in
-    let s1 = ap (λ n. up a * n) s.0 in let s2 = ap (λ n. down a * n) s.0 in let s3 = ap (λ n. up a * n) s.1 in let s4 = ap (λ n. down a * n) s.1 in
+    let s1 = ap (λ n. up a * n) s.0 in let s2 = ap (λ n. down a * n) s.0 in let s3 = ap (λ n. up a * n) s.1 in
+    let s4 = ap (λ n. down a * n) s.1 in
     omega (arith, ints)
 
 pub neg_times : (a b : ℤ) → neg_ℤ a *ℤ b ≡ neg_ℤ (a *ℤ b)
@@ -37,7 +42,8 @@ count_times_le t a b h = let le = le_out a b h in let more = mul-le-mul_left t l
 
 -- and a count over 0 keeps and shows it
 pub count_times_lt : (t : ℕ) (a b : ℤ) → 0 < t → a <ℤ b → (pos t *ℤ a) <ℤ (pos t *ℤ b)
-count_times_lt t a b p h = let le : suc (up a + down b) ≤ up b + down a = lt_out a b h in let more = mul-le-mul_left t le in omega (arith, ints)
+count_times_lt t a b p h = let le : suc (up a + down b) ≤ up b + down a = lt_out a b h in
+    let more = mul-le-mul_left t le in omega (arith, ints)
 
 pub no_product_zero : (a b : ℤ) → ¬ (a ≡ pos 0) → a *ℤ b ≡ pos 0 → b ≡ pos 0
 no_product_zero (pos zero) b n h = absurd (n refl)
@@ -52,9 +58,11 @@ no_product_zero (negsuc a) (negsuc b) n h = absurd (omega (arith, ints))
 pub count_cancel : (t : ℕ) (a b : ℤ) → 0 < t → pos t *ℤ a ≡ pos t *ℤ b → a ≡ b
 count_cancel t a b h e = by_lt_z a b
     (λ lt. absurd (apart (pos t *ℤ a) (pos t *ℤ b) (count_times_lt t a b h lt) e))
-    (λ le. by_lt_z b a (λ lt. absurd (apart (pos t *ℤ b) (pos t *ℤ a) (count_times_lt t b a h lt) (sym e))) (λ ge. both a b ge le))
+    (λ le. by_lt_z b a (λ lt. absurd (apart (pos t *ℤ b) (pos t *ℤ a) (count_times_lt t b a h lt) (sym e)))
+    (λ ge. both a b ge le))
   where
     apart : (x y : ℤ) → x <ℤ y → x ≡ y → ⊥
     apart x y lt same = omega (arith, ints)
+
     both : (x y : ℤ) → x ≤ℤ y → y ≤ℤ x → x ≡ y
     both x y le ge = omega (arith, ints)

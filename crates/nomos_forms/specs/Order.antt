@@ -16,7 +16,9 @@ row_eq = eq_of_both (on (λ row. row.coefs) (pointwise int_eq)) (on (λ row. row
 
 -- the order is total, and it ties exactly the rows with the same numbers
 pub row_total : IsTotalOrder row_cmp
-row_total = then_total (on_total (λ row. row.coefs) (lists_total int_cmp_total)) (on_total (λ row. row.least) int_cmp_total)
+row_total = then_total (on_total (λ row. row.coefs) (lists_total int_cmp_total)) (on_total (λ row. row.least)
+    int_cmp_total)
 
 pub row_ties : (x y : Row) → row_eq x y ≡ eq_by_cmp row_cmp x y
-row_ties x y = both_tied (pointwise int_eq x.coefs y.coefs) (int_eq x.least y.least) (slice_cmp int_cmp x.coefs y.coefs) (int_cmp x.least y.least) (lists_ties int_cmp (λ a b. refl) x.coefs y.coefs) refl
+row_ties x y = both_tied (pointwise int_eq x.coefs y.coefs) (int_eq x.least y.least) (slice_cmp int_cmp x.coefs
+    y.coefs) (int_cmp x.least y.least) (lists_ties int_cmp (λ a b. refl) x.coefs y.coefs) refl

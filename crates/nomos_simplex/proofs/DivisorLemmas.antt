@@ -37,22 +37,26 @@ gcd_times p a b h =
     let factor : p ∣ gcd (p * a) (p * b) = whole.2 p (dvd-mul_right p a) (dvd-mul_right p b) in
     let k = gcd (p * a) (p * b) / p in
     let is : p * k ≡ gcd (p * a) (p * b) = mul-div_cancel' p factor in
-    let below : k ∣ gcd a b = part.2 k (dvd_of_mul-dvd-mul_left k h (subst (λ z. z ∣ p * a) (sym is) whole.0)) (dvd_of_mul-dvd-mul_left k h (subst (λ z. z ∣ p * b) (sym is) whole.1)) in
-    dvd_antisymm (subst (λ z. z ∣ p * gcd a b) is (mul-dvd-mul_left k p below)) (whole.2 (p * gcd a b) (mul-dvd-mul_left (gcd a b) p part.0) (mul-dvd-mul_left (gcd a b) p part.1))
+    let below : k ∣ gcd a b = part.2 k (dvd_of_mul-dvd-mul_left k h (subst (λ z. z ∣ p * a) (sym is) whole.0))
+    (dvd_of_mul-dvd-mul_left k h (subst (λ z. z ∣ p * b) (sym is) whole.1)) in
+    dvd_antisymm (subst (λ z. z ∣ p * gcd a b) is (mul-dvd-mul_left k p below)) (whole.2 (p * gcd a b)
+    (mul-dvd-mul_left (gcd a b) p part.0) (mul-dvd-mul_left (gcd a b) p part.1))
 
 -- ---- of a list
 pub common_one : (cs : List ℤ) → common 1 cs ≡ 1
 common_one [] = refl
 common_one (c ∷ cs) = ap (λ g. common g cs) (gcd_one (unsigned_abs c)) ∙ common_one cs
 
-pub common_more : (g : ℕ) (cs : List ℤ) (k : ℕ) → k < length cs → common g (take (k + 1) cs) ≡ gcd (common g (take k cs)) (unsigned_abs (get_or cs k (pos 0)))
+pub common_more : (g : ℕ) (cs : List ℤ) (k : ℕ) → k < length cs → common g (take (k + 1) cs) ≡ gcd (common g
+    (take k cs)) (unsigned_abs (get_or cs k (pos 0)))
 common_more g [] k h = absurd (omega arith)
 common_more g (c ∷ cs) zero h = refl
 common_more g (c ∷ cs) (suc k) h = rw add-one (rw add-one at (common_more (gcd g (unsigned_abs c)) cs k (omega arith)))
 
 pub common_divides_first : (g : ℕ) (cs : List ℤ) → common g cs ∣ g
 common_divides_first g [] = dvd_refl g
-common_divides_first g (c ∷ cs) = dvd_trans (common (gcd g (unsigned_abs c)) cs) (common_divides_first (gcd g (unsigned_abs c)) cs) (gcd_is g (unsigned_abs c)).0
+common_divides_first g (c ∷ cs) = dvd_trans (common (gcd g (unsigned_abs c)) cs) (common_divides_first (gcd g
+    (unsigned_abs c)) cs) (gcd_is g (unsigned_abs c)).0
 
 -- ---- exact quotients
 pub exact : (g : ℕ) (z : ℤ) → 0 < g → g ∣ unsigned_abs z → pos g *ℤ int_div z (pos g) ≡ z
@@ -80,14 +84,18 @@ div_one_all (c ∷ cs) = λ p. div_one c p ∷ div_one_all cs p
 pub divided_by_one : (line : Line) → divided_by (pos 1) line ≡ line
 divided_by_one line = λ p. record line { times = div_one line.times p; coefs = div_one_all line.coefs p }
 
-pub lowest_is : (line : Line) (g : ℕ) → pos 0 <ℤ line.times → g ≡ common (unsigned_abs line.times) line.coefs → in_lowest_terms line ≡ divided_by (pos g) line
-lowest_is line g h e = ap (λ d. divided_by d line) (signed_positive line.times (common (unsigned_abs line.times) line.coefs) h ∙ ap pos (sym e))
+pub lowest_is : (line : Line) (g : ℕ) → pos 0 <ℤ line.times → g ≡ common (unsigned_abs line.times) line.coefs →
+    in_lowest_terms line ≡ divided_by (pos g) line
+lowest_is line g h e = ap (λ d. divided_by d line) (signed_positive line.times (common (unsigned_abs line.times)
+    line.coefs) h ∙ ap pos (sym e))
 
 -- the divisor is over 0, and no larger than the number in front
-pub divisor_size : (line : Line) (g : ℕ) → pos 0 <ℤ line.times → g ≡ common (unsigned_abs line.times) line.coefs → (0 < g) × (g ≤ unsigned_abs line.times)
+pub divisor_size : (line : Line) (g : ℕ) → pos 0 <ℤ line.times → g ≡ common (unsigned_abs line.times) line.coefs →
+    (0 < g) × (g ≤ unsigned_abs line.times)
 divisor_size line g h e =
     let over : 0 < unsigned_abs line.times = over_zero line.times h in
-    let divides = subst (λ d. d ∣ unsigned_abs line.times) (sym e) (common_divides_first (unsigned_abs line.times) line.coefs) in
+    let divides = subst (λ d. d ∣ unsigned_abs line.times) (sym e) (common_divides_first (unsigned_abs line.times)
+    line.coefs) in
     (pos_of_dvd_of_pos divides over, le_of_dvd over divides)
   where
     over_zero : (z : ℤ) → pos 0 <ℤ z → 0 < unsigned_abs z
@@ -98,11 +106,13 @@ divisor_size line g h e =
 pub common_times : (n g : ℕ) (cs : List ℤ) → 0 < n → common (n * g) (map (λ c. pos n *ℤ c) cs) ≡ n * common g cs
 common_times n g [] h = refl
 common_times n g (c ∷ cs) h =
-    ap (λ d. common d (map (λ c. pos n *ℤ c) cs)) (ap (gcd (n * g)) (unsigned_abs-mul (pos n) c) ∙ gcd_times n g (unsigned_abs c) h) ∙ common_times n (gcd g (unsigned_abs c)) cs h
+    ap (λ d. common d (map (λ c. pos n *ℤ c) cs)) (ap (gcd (n * g)) (unsigned_abs-mul (pos n) c)
+    ∙ gcd_times n g (unsigned_abs c) h) ∙ common_times n (gcd g (unsigned_abs c)) cs h
 
 pub div_times : (n : ℕ) (z : ℤ) → 0 < n → int_div (pos n *ℤ z) (pos n) ≡ z
 div_times n z h =
-    let divides : n ∣ unsigned_abs (pos n *ℤ z) = subst (λ k. n ∣ k) (sym (unsigned_abs-mul (pos n) z)) (dvd-mul_right n (unsigned_abs z)) in
+    let divides : n ∣ unsigned_abs (pos n *ℤ z) = subst (λ k. n ∣ k) (sym (unsigned_abs-mul (pos n) z)) (dvd-mul_right
+    n (unsigned_abs z)) in
     count_cancel n (int_div (pos n *ℤ z) (pos n)) z h (exact n (pos n *ℤ z) h divides)
 
 div_times_all : (n : ℕ) (cs : List ℤ) → 0 < n → map (λ c. int_div c (pos n)) (map (λ c. pos n *ℤ c) cs) ≡ cs
@@ -110,11 +120,15 @@ div_times_all n [] h = refl
 div_times_all n (c ∷ cs) h = λ p. div_times n c h p ∷ div_times_all n cs h p
 
 -- a line without common divisor, multiplied by a number over 0, is itself in lowest terms
-pub lowest_times : (n : ℕ) (line : Line) → 0 < n → pos 0 <ℤ line.times → common (unsigned_abs line.times) line.coefs ≡ 1 → in_lowest_terms (record line { times = pos n *ℤ line.times; coefs = map (λ c. pos n *ℤ c) line.coefs }) ≡ line
+pub lowest_times : (n : ℕ) (line : Line) → 0 < n → pos 0 <ℤ line.times → common (unsigned_abs line.times) line.coefs ≡
+    1 → in_lowest_terms (record line { times = pos n *ℤ line.times; coefs = map (λ c. pos n *ℤ c) line.coefs }) ≡ line
 lowest_times n line h over lowest =
     let many = record line { times = pos n *ℤ line.times; coefs = map (λ c. pos n *ℤ c) line.coefs } in
-    let divisor : n ≡ common (unsigned_abs many.times) many.coefs = sym (ap (λ g. common g many.coefs) (unsigned_abs-mul (pos n) line.times) ∙ common_times n (unsigned_abs line.times) line.coefs h ∙ ap (λ k. n * k) lowest ∙ omega arith) in
-    lowest_is many n (count_times_over n line.times h over) divisor ∙ λ p. record line { times = div_times n line.times h p; coefs = div_times_all n line.coefs h p }
+    let divisor : n ≡ common (unsigned_abs many.times) many.coefs = sym (ap (λ g. common g many.coefs)
+    (unsigned_abs-mul (pos n) line.times) ∙ common_times n (unsigned_abs line.times) line.coefs h
+    ∙ ap (λ k. n * k) lowest ∙ omega arith) in
+    lowest_is many n (count_times_over n line.times h over) divisor
+    ∙ λ p. record line { times = div_times n line.times h p; coefs = div_times_all n line.coefs h p }
   where
     count_times_over : (n : ℕ) (z : ℤ) → 0 < n → pos 0 <ℤ z → pos 0 <ℤ (pos n *ℤ z)
     count_times_over n z p q = subst (λ k. k <ℤ (pos n *ℤ z)) (*ℤ-zero (pos n)) (count_times_lt n (pos 0) z p q)

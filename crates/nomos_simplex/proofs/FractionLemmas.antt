@@ -43,10 +43,12 @@ first_divides_lcm a b =
     regroup x y z = omega arith
 
 -- ---- the common denominator
-pub common_more : (u : ℕ) (fs : List (ℕ × ℕ)) (k : ℕ) (d : ℕ × ℕ) → k < length fs → common_denominator u (take (k + 1) fs) ≡ lcm (common_denominator u (take k fs)) (denominator (get_or fs k d))
+pub common_more : (u : ℕ) (fs : List (ℕ × ℕ)) (k : ℕ) (d : ℕ × ℕ) → k < length fs → common_denominator u (take
+    (k + 1) fs) ≡ lcm (common_denominator u (take k fs)) (denominator (get_or fs k d))
 common_more u [] k d h = absurd (omega arith)
 common_more u (f ∷ fs) zero d h = refl
-common_more u (f ∷ fs) (suc k) d h = rw add-one (rw add-one at (common_more (lcm u (denominator f)) fs k d (omega arith)))
+common_more u (f ∷ fs) (suc k) d h = rw add-one (rw add-one at (common_more (lcm u (denominator f)) fs k d
+    (omega arith)))
 
 unit_divides : (u : ℕ) (fs : List (ℕ × ℕ)) → u ∣ common_denominator u fs
 unit_divides u [] = dvd_refl u
@@ -56,10 +58,12 @@ pub each_divides : (u : ℕ) (fs : List (ℕ × ℕ)) → All (λ f. denominator
 each_divides u [] = All-nil (λ f. denominator f ∣ u)
 each_divides u (f ∷ fs) =
     let w = lcm u (denominator f) in
-    All-cons (λ e. denominator e ∣ common_denominator w fs) f fs (dvd_trans (denominator f) (dvd-mul_left (denominator f) (u / gcd u (denominator f))) (unit_divides w fs)) (each_divides w fs)
+    All-cons (λ e. denominator e ∣ common_denominator w fs) f fs (dvd_trans (denominator f) (dvd-mul_left (denominator
+    f) (u / gcd u (denominator f))) (unit_divides w fs)) (each_divides w fs)
 
 -- ---- a fraction over a unit that its denominator divides
-pub amount_is : (unit : ℕ) (f : ℕ × ℕ) → 0 < f.1 → denominator f ∣ unit → unit * f.0 / f.1 ≡ unit / denominator f * (f.0 / gcd f.1 f.0)
+pub amount_is : (unit : ℕ) (f : ℕ × ℕ) → 0 < f.1 → denominator f ∣ unit → unit * f.0 / f.1 ≡ unit / denominator f *
+    (f.0 / gcd f.1 f.0)
 amount_is unit f over whole =
     let g = gcd f.1 f.0 in
     let den = denominator f in
@@ -68,7 +72,8 @@ amount_is unit f over whole =
     let is_den : g * den ≡ f.1 = mul-div_cancel' g (gcd_is f.1 f.0).0 in
     let is_num : g * num ≡ f.0 = mul-div_cancel' g (gcd_is f.1 f.0).1 in
     let is_unit : den * q ≡ unit = mul-div_cancel' den whole in
-    let product : unit * f.0 ≡ q * num * f.1 = (λ p. sym is_unit p * sym is_num p) ∙ regroup den q g num ∙ ap (λ x. q * num * x) is_den in
+    let product : unit * f.0 ≡ q * num * f.1 = (λ p. sym is_unit p * sym is_num p) ∙ regroup den q g num
+    ∙ ap (λ x. q * num * x) is_den in
     ap (λ x. x / f.1) product ∙ mul-div_cancel (q * num) over
   where
     regroup : (a b c d : ℕ) → (a * b) * (c * d) ≡ (b * d) * (c * a)
@@ -89,13 +94,16 @@ pub small_some : (x n : ℕ) → x < n → Some x ≡ (if nat_lt x n then Some x
 small_some x n h = grind (arith, nat_tests)
 
 -- ---- what is found is in the list, and passes
-found_step : {X : Type 0} (p : X → Bool) (P : X → Type 0) (y : X) (rest : Option X) (x : X) (b : Bool) → p y ≡ b → cond b (Some y) rest ≡ Some x → P y → (rest ≡ Some x → P x × (p x ≡ true)) → P x × (p x ≡ true)
+found_step : {X : Type 0} (p : X → Bool) (P : X → Type 0) (y : X) (rest : Option X) (x : X) (b : Bool) → p y ≡ b →
+    cond b (Some y) rest ≡ Some x → P y → (rest ≡ Some x → P x × (p x ≡ true)) → P x × (p x ≡ true)
 found_step p P y rest x true is f py go = let same : y ≡ x = cc in (subst P same py, ap p (sym same) ∙ is)
 found_step p P y rest x false is f py go = go f
 
-pub found_in : {X : Type 0} (p : X → Bool) (P : X → Type 0) (xs : List X) (x : X) → find p xs ≡ Some x → All P xs → P x × (p x ≡ true)
+pub found_in : {X : Type 0} (p : X → Bool) (P : X → Type 0) (xs : List X) (x : X) → find p xs ≡ Some x → All P xs →
+    P x × (p x ≡ true)
 found_in p P [] x e all = cc
-found_in p P (y ∷ ys) x e all = found_step p P y (find p ys) x (p y) refl e (All-head P y ys all) (λ f. found_in p P ys x f (All-tail P y ys all))
+found_in p P (y ∷ ys) x e all = found_step p P y (find p ys) x (p y) refl e (All-head P y ys all) (λ f. found_in p P
+    ys x f (All-tail P y ys all))
 
 -- ---- tests of the answers
 pub none_large : (b : Bool) (x : ℕ) → None ≡ (if b then Some x else None) → b ≡ false
@@ -110,7 +118,8 @@ and_false : (b : Bool) → (b && false) ≡ false
 and_false true = refl
 and_false false = refl
 
-pub list_all_fails : {X : Type 0} (p : X → Bool) (xs : List X) (i : ℕ) (d : X) → i < length xs → p (get_or xs i d) ≡ false → list_all p xs ≡ false
+pub list_all_fails : {X : Type 0} (p : X → Bool) (xs : List X) (i : ℕ) (d : X) → i < length xs →
+    p (get_or xs i d) ≡ false → list_all p xs ≡ false
 list_all_fails p [] i d h e = absurd (omega arith)
 list_all_fails p (x ∷ xs) zero d h e = ap (λ b. b && list_all p xs) e
 list_all_fails p (x ∷ xs) (suc i) d h e = ap (λ b. p x && b) (list_all_fails p xs i d (omega arith) e) ∙ and_false (p x)
@@ -119,4 +128,5 @@ pub common_over : (u : ℕ) (fs : List (ℕ × ℕ)) → 0 < u → All IsFractio
 common_over u [] h all = h
 common_over u (f ∷ fs) h all =
     let den : 0 < denominator f = quotient_over f.1 f.0 (All-head IsFraction f fs all).1 in
-    common_over (lcm u (denominator f)) fs (omega (arith, lcm_over u (denominator f) den)) (All-tail IsFraction f fs all)
+    common_over (lcm u (denominator f)) fs (omega (arith, lcm_over u (denominator f) den)) (All-tail IsFraction f fs
+    all)

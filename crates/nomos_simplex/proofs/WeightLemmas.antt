@@ -11,15 +11,24 @@ lower_true m n h = grind (arith, nat_tests)
 not_lower : (m n : ℕ) → n ≤ m → nat_lt m n ≡ false
 not_lower m n h = grind (arith, nat_tests)
 
-pub with_weight_is : (w : ℕ × ℕ) (xs : List (ℕ × ℕ)) (k : ℕ) → k ≤ length xs → ((i : ℕ) → i < k → (get_or xs i (0, 0)).0 < w.0) → (k < length xs → w.0 ≤ (get_or xs k (0, 0)).0) → insert xs k w ≡ with_weight w xs
+pub with_weight_is : (w : ℕ × ℕ) (xs : List (ℕ × ℕ)) (k : ℕ) → k ≤ length xs → ((i : ℕ) → i < k →
+    (get_or xs i (0, 0)).0 < w.0) → (k < length xs → w.0 ≤ (get_or xs k (0, 0)).0) → insert xs k w ≡ with_weight w xs
 with_weight_is w [] zero h before there = refl
 with_weight_is w [] (suc k) h before there = absurd (omega arith)
-with_weight_is w (x ∷ xs) zero h before there = ap (λ b. cond b (x ∷ with_weight w xs) (w ∷ x ∷ xs)) (sym (not_lower x.0 w.0 (there (omega arith))))
+with_weight_is w (x ∷ xs) zero h before there = ap (λ b. cond b (x ∷ with_weight w xs) (w ∷ x ∷ xs)) (sym
+    (not_lower x.0 w.0 (there (omega arith))))
 with_weight_is w (x ∷ xs) (suc k) h before there =
-    ap (λ ys. x ∷ ys) (with_weight_is w xs k (omega arith) (λ i j. before (suc i) (omega arith)) (λ i. there (omega arith)))
+    ap (λ ys. x ∷ ys) (with_weight_is w xs k (omega arith) (λ i j. before (suc i) (omega arith)) (λ i. there
+    (omega arith)))
     ∙ ap (λ b. cond b (x ∷ with_weight w xs) (w ∷ x ∷ xs)) (sym (lower_true x.0 w.0 (before zero (omega arith))))
 
-pub weights_step : (vs : List ℕ) (cs : List ℤ) (k : ℕ) → k < length vs → k < length cs → weights_below (drop k vs) (drop k cs) ≡ (if int_lt (get_or cs k (pos 0)) (pos 0) then with_weight (get_or vs k 0, unsigned_abs (get_or cs k (pos 0))) (weights_below (drop (suc k) vs) (drop (suc k) cs)) else weights_below (drop (suc k) vs) (drop (suc k) cs))
+pub weights_step : (vs : List ℕ) (cs : List ℤ) (k : ℕ) → k < length vs → k < length cs → weights_below (drop k vs)
+    (drop k cs) ≡ (if int_lt (get_or cs k (pos 0)) (pos 0) then with_weight (
+      get_or vs k 0,
+      unsigned_abs (get_or cs k
+          (pos 0)),
+    ) (weights_below (drop (suc k) vs) (drop (suc k) cs)) else weights_below (drop (suc k) vs) (drop
+    (suc k) cs))
 weights_step [] cs k h i = absurd (omega arith)
 weights_step (v ∷ vs) [] k h i = absurd (omega arith)
 weights_step (v ∷ vs) (c ∷ cs) zero h i = refl
@@ -46,14 +55,21 @@ weights_all Q (v ∷ vs) (c ∷ cs) all =
     (with_weight_all P (v, unsigned_abs c) (weights_below vs cs) (All-head Q v vs all) rest) rest
 
 -- ---- one column more
-pub weights_lower : (vs : List ℕ) (cs : List ℤ) (k a b : ℕ) (ws : List (ℕ × ℕ)) → k < length vs → k < length cs → a ≡ k → b ≡ suc k → ws ≡ weights_below (drop b vs) (drop b cs) → int_lt (get_or cs k (pos 0)) (pos 0) ≡ true → with_weight (get_or vs k 0, unsigned_abs (get_or cs k (pos 0))) ws ≡ weights_below (drop a vs) (drop a cs)
+pub weights_lower : (vs : List ℕ) (cs : List ℤ) (k a b : ℕ) (ws : List (ℕ × ℕ)) → k < length vs → k < length cs →
+    a ≡ k → b ≡ suc k → ws ≡ weights_below (drop b vs) (drop b cs) → int_lt (get_or cs k (pos 0)) (pos 0) ≡ true →
+    with_weight (get_or vs k 0, unsigned_abs (get_or cs k (pos 0))) ws ≡ weights_below (drop a vs) (drop a cs)
 weights_lower vs cs k a b ws h i ea eb is low =
     let rest = weights_below (drop (suc k) vs) (drop (suc k) cs) in
     let w : ℕ × ℕ = (get_or vs k 0, unsigned_abs (get_or cs k (pos 0))) in
-    ap (with_weight w) (is ∙ λ p. weights_below (drop (eb p) vs) (drop (eb p) cs)) ∙ ap (λ t. cond t (with_weight w rest) rest) (sym low) ∙ sym (weights_step vs cs k h i) ∙ λ p. weights_below (drop (sym ea p) vs) (drop (sym ea p) cs)
+    ap (with_weight w) (is ∙ λ p. weights_below (drop (eb p) vs) (drop (eb p) cs))
+    ∙ ap (λ t. cond t (with_weight w rest) rest) (sym low) ∙ sym (weights_step vs cs k h i)
+    ∙ λ p. weights_below (drop (sym ea p) vs) (drop (sym ea p) cs)
 
-pub weights_same : (vs : List ℕ) (cs : List ℤ) (k a b : ℕ) (ws : List (ℕ × ℕ)) → k < length vs → k < length cs → a ≡ k → b ≡ suc k → ws ≡ weights_below (drop b vs) (drop b cs) → int_lt (get_or cs k (pos 0)) (pos 0) ≡ false → ws ≡ weights_below (drop a vs) (drop a cs)
+pub weights_same : (vs : List ℕ) (cs : List ℤ) (k a b : ℕ) (ws : List (ℕ × ℕ)) → k < length vs → k < length cs →
+    a ≡ k → b ≡ suc k → ws ≡ weights_below (drop b vs) (drop b cs) → int_lt (get_or cs k (pos 0)) (pos 0) ≡ false →
+    ws ≡ weights_below (drop a vs) (drop a cs)
 weights_same vs cs k a b ws h i ea eb is low =
     let rest = weights_below (drop (suc k) vs) (drop (suc k) cs) in
     let w : ℕ × ℕ = (get_or vs k 0, unsigned_abs (get_or cs k (pos 0))) in
-    is ∙ (λ p. weights_below (drop (eb p) vs) (drop (eb p) cs)) ∙ ap (λ t. cond t (with_weight w rest) rest) (sym low) ∙ sym (weights_step vs cs k h i) ∙ λ p. weights_below (drop (sym ea p) vs) (drop (sym ea p) cs)
+    is ∙ (λ p. weights_below (drop (eb p) vs) (drop (eb p) cs)) ∙ ap (λ t. cond t (with_weight w rest) rest) (sym low)
+    ∙ sym (weights_step vs cs k h i) ∙ λ p. weights_below (drop (sym ea p) vs) (drop (sym ea p) cs)

@@ -15,6 +15,7 @@ returns-clause-small c =
     let second = c.units-2.ensures.small in
     record {
       width = ap length (c.of_vec.ensures ∙ c.in_ok-shares.ensures.shares) ∙ length-map-range_with_len f 1 c.args.stars;
-      coefs = subst (All IsSmall) (sym c.of_vec.ensures) (All-weaker (λ share. unsigned_abs share ≤ 1) IsSmall (λ z h. omega arith) c.in_ok-shares.shares.items c.in_ok-shares.ensures.small);
+      coefs = subst (All IsSmall) (sym c.of_vec.ensures) (All-weaker (λ share. unsigned_abs share ≤ 1) IsSmall
+          (λ z h. omega arith) c.in_ok-shares.shares.items c.in_ok-shares.ensures.small);
       least = omega (arith, ints);
     }

@@ -8,9 +8,15 @@ pub invariant_of-result : goal.invariant_of-result
 invariant_of-result c = record {
   few_stars = c.requires.stars;
   each = subst (All (IsRow c.args.stars)) (sym c.of_vec.ensures)
-      (All-weaker _ (IsRow c.args.stars) (λ row h. All-contains (IsRow c.args.stars) _ row c.in_ok-rows.ensures.small ((c.sort_out.ensures.same row).0 h)) c.sort_out.new.rows.items (All-contains_itself c.sort_out.new.rows.items));
+      (All-weaker _ (IsRow c.args.stars) (λ row h. All-contains (IsRow c.args.stars) _ row c.in_ok-rows.ensures.small
+      ((c.sort_out.ensures.same row).0 h)) c.sort_out.new.rows.items (All-contains_itself
+      c.sort_out.new.rows.items));
 }
 
 pub returns-clause-rows : goal.returns-clause-rows
 returns-clause-rows c = subst (AreRowsOf c.args.stars c.args.forms.now c.args.pairs.now) (sym c.of_vec.ensures)
-    (record { ascend = c.sort_out.ensures.ascend; same = λ row. rw (← c.in_ok-rows.ensures.rows) (c.sort_out.ensures.same row) })
+    (record {
+      ascend = c.sort_out.ensures.ascend;
+      same = λ row. rw (← c.in_ok-rows.ensures.rows)
+          (c.sort_out.ensures.same row);
+    })

@@ -17,6 +17,9 @@ loop-before-preserved c =
     let fits : FitsSigned w64 share.result = search rules in
     let back = to_z-of_z w64 share.result fits in
     record {
-      shares = c.in_ok-push.ensures.items ∙ (λ p. c.loop-before.invariant.shares p ++ (back ∙ share.ensures.share) p ∷ []) ∙ sym (map-range_with_len_more f 1 c.loop-before.before (c.loop-before.before + 1) (omega arith));
-      small = subst (All P) (sym c.in_ok-push.ensures.items) (All-push P c.loop-before.shares.items _ c.loop-before.invariant.small (subst P (sym back) share.ensures.small));
+      shares = c.in_ok-push.ensures.items ∙ (λ p. c.loop-before.invariant.shares p ++ (back
+          ∙ share.ensures.share) p ∷ []) ∙ sym (map-range_with_len_more f 1 c.loop-before.before (c.loop-before.before
+          + 1) (omega arith));
+      small = subst (All P) (sym c.in_ok-push.ensures.items) (All-push P c.loop-before.shares.items _
+          c.loop-before.invariant.small (subst P (sym back) share.ensures.small));
     }

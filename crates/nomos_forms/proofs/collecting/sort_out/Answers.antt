@@ -12,7 +12,9 @@ returns c =
     record {
       ascend = rw is (IsStrictlySortedBy-dedup row_total row_ties _ c.sort_unstable.ensures.sorted);
       same = λ row. (
-        (λ h. Contains-permutation _ _ row (IsPermutation-sym _ _ moved) (Contains-from_dedup row_eq _ row (rw is at h))),
-        (λ h. rw is (Contains-dedup row_eq_equiv (λ x y. (row_eq_decides x y).0) _ row (Contains-permutation _ _ row moved h))),
+        (λ h. Contains-permutation _ _ row (IsPermutation-sym _ _ moved) (Contains-from_dedup row_eq _ row
+            (rw is at h))),
+        (λ h. rw is (Contains-dedup row_eq_equiv (λ x y. (row_eq_decides x y).0) _ row (Contains-permutation _ _ row
+            moved h))),
       );
     }

@@ -14,7 +14,11 @@ loop-i-preserved c =
     let fits : FitsSigned w128 c.add_product-sum.result = search rules in
     let back = to_z-of_z w128 c.add_product-sum.result fits in
     let small = c.requires.coefs i (pos 0) c.loop-i-test.true in
-    let coef = to_z-of_z w64 (get_or cs i (pos 0)) (fits_signed_from_abs w64 (get_or cs i (pos 0)) (omega (arith, small))) in
+    let coef = to_z-of_z w64 (get_or cs i (pos 0)) (fits_signed_from_abs w64 (get_or cs i (pos 0)) (omega
+    (arith, small))) in
     let more = dot_more cs xs i c.loop-i-test.true (omega (arith, c.requires.width)) in
-    let so_far = c.loop-i.invariant.0 in
-    (back ∙ c.add_product-sum.ensures.value ∙ (λ p. so_far p +ℤ pos (get_or xs i 0) *ℤ coef p) ∙ sym more, rw back (omega arith))
+    let so_far = c.loop-i.invariant.0 in (
+      back ∙ c.add_product-sum.ensures.value ∙ (λ p. so_far p +ℤ pos (get_or xs i 0) *ℤ coef p)
+          ∙ sym more,
+      rw back (omega arith),
+    )

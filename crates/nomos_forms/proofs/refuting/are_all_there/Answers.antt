@@ -15,5 +15,8 @@ loop-weight-preserved c =
 pub returns : goal.returns
 returns c =
     let P : Weight → Type 0 = λ w. IsOneOf c.args.rows.now.stars c.args.rows.now.rows w.of × (0 < w.times) in
-    let ws = c.args.weights.now in
-    (λ _. All-same P ws (take c.loop-weight.weight-index ws) (sym (take_all c.loop-weight.weight-index ws c.loop-weight-test.false)) c.loop-weight.invariant, λ _. refl)
+    let ws = c.args.weights.now in (
+      λ _. All-same P ws (take c.loop-weight.weight-index ws) (sym (take_all c.loop-weight.weight-index ws
+          c.loop-weight-test.false)) c.loop-weight.invariant,
+      λ _. refl,
+    )

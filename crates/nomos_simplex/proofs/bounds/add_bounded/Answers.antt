@@ -13,6 +13,8 @@ returns c =
     let more = abs_sum sum (number *ℤ bound) in
     let fits : FitsSigned w128 c.from.result = search rules in
     let from = to_z-of_z w128 c.from.result fits ∙ c.from.ensures ∙ to_z-of_z w64 bound c.ranges.bound in
-    let product = (λ p. to_z w128 (of_z w128 (number_back number c.requires.number p *ℤ from p))) ∙ wide_back (number *ℤ bound) (omega (arith, size)) in
-    let value = (λ p. to_z w128 (of_z w128 (wide_back sum (omega (arith, c.requires.room)) p +ℤ product p))) ∙ wide_back (sum +ℤ number *ℤ bound) (omega (arith, more, size, c.requires.room)) in
+    let product = (λ p. to_z w128 (of_z w128 (number_back number c.requires.number p *ℤ from p)))
+    ∙ wide_back (number *ℤ bound) (omega (arith, size)) in
+    let value = (λ p. to_z w128 (of_z w128 (wide_back sum (omega (arith, c.requires.room)) p +ℤ product p)))
+    ∙ wide_back (sum +ℤ number *ℤ bound) (omega (arith, more, size, c.requires.room)) in
     record { value = value; size = rw value (omega (arith, more, size)) }

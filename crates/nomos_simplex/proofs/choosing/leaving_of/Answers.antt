@@ -14,14 +14,17 @@ loop-place-preserved c =
     let line = c.index-lines-place.result in
     let passes = λ (i : ℕ). slice_index_or (map below lines) i false in
     let number = λ (i : ℕ). slice_index (map (λ line. line.basic) lines) i in
-    let is = get_or-map below lines place line false c.loop-place-test.true ∙ ap below (sym c.index-lines-place.is) ∙ sym c.is_below.ensures in
+    let is = get_or-map below lines place line false c.loop-place-test.true ∙ ap below (sym c.index-lines-place.is)
+    ∙ sym c.is_below.ensures in
     elim c.if-is_below.branch [
       | then-is_below w ↦ record {
-        choice = w.best-is ∙ lowest_then passes number place c.loop-place.best w.lower_line.result (is ∙ w.if-is_below.true) c.loop-place.invariant.choice w.lower_line.ensures.lower;
+        choice = w.best-is ∙ lowest_then passes number place c.loop-place.best w.lower_line.result (is
+            ∙ w.if-is_below.true) c.loop-place.invariant.choice w.lower_line.ensures.lower;
         place = subst (λ o. IfSome o (λ best. best < length lines)) (sym w.best-is) w.lower_line.ensures.place;
       }
       | else-is_below w ↦ record {
-        choice = w.best-is ∙ lowest_else passes number place c.loop-place.best (is ∙ w.if-is_below.false) c.loop-place.invariant.choice;
+        choice = w.best-is ∙ lowest_else passes number place c.loop-place.best (is
+            ∙ w.if-is_below.false) c.loop-place.invariant.choice;
         place = subst (λ o. IfSome o (λ best. best < length lines)) (sym w.best-is) c.loop-place.invariant.place;
       }
     ]

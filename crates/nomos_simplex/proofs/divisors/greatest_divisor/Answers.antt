@@ -7,4 +7,5 @@ pub loop-less-preserved : goal.loop-less-preserved
 loop-less-preserved c g h = c.loop-less.invariant g (IsGcd-from_mod _ _ g h)
 
 pub returns : goal.returns
-returns c = gcd_unique c.args.a c.args.b c.loop-less.greater (c.loop-less.invariant c.loop-less.greater (IsGcd-from_zero _ _ (omega arith)))
+returns c = gcd_unique c.args.a c.args.b c.loop-less.greater (c.loop-less.invariant c.loop-less.greater
+    (IsGcd-from_zero _ _ (omega arith)))

@@ -11,4 +11,6 @@ loop-i-preserved c =
     let now = c.loop-i.lines in
     let i = c.loop-i.i in
     let f : Line → Line = λ line. in_lowest_terms (put_into c.args.column c.args.left.now line) in
-    ap (set now i) (c.in_ok-enter.ensures ∙ ap f (sym c.index-lines-i.is)) ∙ map_over_more f c.args.lines.now now i c.index-lines-i.result c.loop-i-test.true c.loop-i.invariant c.index-lines-i.is
+    ap (set now i) (c.in_ok-enter.ensures ∙ ap f (sym c.index-lines-i.is))
+    ∙ map_over_more f c.args.lines.now now i c.index-lines-i.result c.loop-i-test.true c.loop-i.invariant
+    c.index-lines-i.is

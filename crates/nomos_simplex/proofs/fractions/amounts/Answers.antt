@@ -12,4 +12,9 @@ returns-in-None c =
     let i = c.loop-fraction.fraction-index in
     let part : ℕ × ℕ → ℕ = λ f. c.args.unit * f.0 / f.1 in
     let is = none_large _ _ c.in-None.ensures in
-    list_all_fails (λ x. nat_lt x (2 ^ 62)) (map part fs) i 0 (omega (arith, length-map fs part, c.loop-fraction-test.true)) (ap (λ x. nat_lt x (2 ^ 62)) (get_or-map part fs i (0, 0) 0 c.loop-fraction-test.true) ∙ is)
+    list_all_fails (λ x. nat_lt x (2 ^ 62)) (map part fs) i 0 (omega (
+      arith,
+      length-map fs part,
+      c.loop-fraction-test.true,
+    )) (ap (λ x. nat_lt x (2 ^ 62)) (get_or-map part fs i
+    (0, 0) 0 c.loop-fraction-test.true) ∙ is)

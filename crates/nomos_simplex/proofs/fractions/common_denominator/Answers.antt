@@ -16,7 +16,8 @@ loop-fraction-preserved c =
     let more = common_more 1 fs i (0, 0) c.loop-fraction-test.true in
     elim c.if-unit-le-MOST_PARTS.branch [
       | then-unit-le-MOST_PARTS w ↦
-          let is = w.unit-is ∙ w.common_multiple-unit.ensures.value ∙ (λ p. lcm (inv.same w.if-unit-le-MOST_PARTS.true p) (w.denominator.ensures.value p)) ∙ sym more in
+          let is = w.unit-is ∙ w.common_multiple-unit.ensures.value ∙ (λ p. lcm (inv.same w.if-unit-le-MOST_PARTS.true
+          p) (w.denominator.ensures.value p)) ∙ sym more in
           let over = w.common_multiple-unit.ensures.over in
           record {
             same = λ _. is;
@@ -25,7 +26,8 @@ loop-fraction-preserved c =
           }
       | else-unit-le-MOST_PARTS w ↦
           let before : 2 ^ 31 < so_far = inv.over w.if-unit-le-MOST_PARTS.false in
-          let den : 0 < denominator next = quotient_over next.1 next.0 (c.requires i (0, 0) c.loop-fraction-test.true).1 in
+          let den : 0 < denominator next = quotient_over next.1 next.0 (c.requires i
+          (0, 0) c.loop-fraction-test.true).1 in
           let over = lcm_over so_far (denominator next) den in
           record {
             same = λ h. absurd (omega (arith, w.unit-is, w.if-unit-le-MOST_PARTS.false));

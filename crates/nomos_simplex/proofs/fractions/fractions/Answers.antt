@@ -12,8 +12,11 @@ loop-before-preserved c =
     let rows = c.args.rows.now in
     let before = c.loop-before.before in
     let next = c.fraction-next in
-    let value = next.ensures.value ∙ (λ p. fraction_in rows (c.as_slice.ensures p) (find (λ (line : Line). line.basic == (c.from-star.ensures p + 1)) (c.as_slice-in-loop-before.ensures p))) in
+    let value = next.ensures.value ∙ (λ p. fraction_in rows (c.as_slice.ensures p) (find (λ (line : Line). line.basic
+    == (c.from-star.ensures p + 1)) (c.as_slice-in-loop-before.ensures p))) in
     record {
-      value = c.in_ok-push.ensures.items ∙ (λ p. c.loop-before.invariant.value p ++ value p ∷ []) ∙ sym (map-range_with_len_more (fraction_of rows c.args.table.now) 1 before (before + 1) (omega arith));
-      size = subst (All IsFraction) (sym c.in_ok-push.ensures.items) (All-push IsFraction c.loop-before.list.items next.result c.loop-before.invariant.size next.ensures.size);
+      value = c.in_ok-push.ensures.items ∙ (λ p. c.loop-before.invariant.value p ++ value p ∷ [])
+          ∙ sym (map-range_with_len_more (fraction_of rows c.args.table.now) 1 before (before + 1) (omega arith));
+      size = subst (All IsFraction) (sym c.in_ok-push.ensures.items) (All-push IsFraction c.loop-before.list.items
+          next.result c.loop-before.invariant.size next.ensures.size);
     }

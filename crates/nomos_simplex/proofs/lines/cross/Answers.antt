@@ -15,5 +15,6 @@ returns c =
     let back_y = wide_back y.result (omega (arith, y.ensures.size)) in
     let value_x = x.ensures.value ∙ (λ p. number_back c.args.p c.requires.p p *ℤ number_back c.args.a c.requires.a p) in
     let value_y = y.ensures.value ∙ (λ p. number_back c.args.g c.requires.g p *ℤ number_back c.args.c c.requires.c p) in
-    (λ p. to_z w128 (of_z w128 (back_x p -ℤ back_y p))) ∙ wide_back (x.result -ℤ y.result) (difference_size x.result y.result x.ensures.size y.ensures.size)
+    (λ p. to_z w128 (of_z w128 (back_x p -ℤ back_y p))) ∙ wide_back (x.result -ℤ y.result) (difference_size x.result
+    y.result x.ensures.size y.ensures.size)
     ∙ (λ p. value_x p -ℤ value_y p)

@@ -19,8 +19,10 @@ loop-i-preserved c =
     let back_of = number_back (get_or of i (pos 0)) (c.requires.of i (pos 0) in_of) in
     let back_by = number_back (get_or by i (pos 0)) (c.requires.by i (pos 0) (omega (arith, c.requires.width))) in
     let fits : FitsSigned w128 c.cross-number.result = search rules in
-    let value = to_z-of_z w128 c.cross-number.result fits ∙ c.cross-number.ensures ∙ (λ q. p *ℤ back_of q -ℤ g *ℤ back_by q) in
-    c.in_ok-push.ensures.items ∙ (λ q. c.loop-i.invariant q ++ value q ∷ []) ∙ sym (eliminated_more p g of by i in_of (omega (arith, c.requires.width)))
+    let value = to_z-of_z w128 c.cross-number.result fits ∙ c.cross-number.ensures
+    ∙ (λ q. p *ℤ back_of q -ℤ g *ℤ back_by q) in
+    c.in_ok-push.ensures.items ∙ (λ q. c.loop-i.invariant q ++ value q ∷ []) ∙ sym (eliminated_more p g of by i in_of
+    (omega (arith, c.requires.width)))
 
 pub returns : goal.returns
 returns c =

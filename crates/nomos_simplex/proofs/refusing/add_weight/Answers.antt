@@ -9,4 +9,6 @@ returns c =
     let w = c.args.weight in
     let place = c.place_of-place in
     let is = c.deref.ensures.value in
-    c.in_ok-insert.ensures.items ∙ (λ p. insert (sym is p) place.result w) ∙ with_weight_is w c.deref.result.now place.result place.ensures.within place.ensures.before place.ensures.there ∙ ap (with_weight w) is
+    c.in_ok-insert.ensures.items ∙ (λ p. insert (sym is p) place.result w)
+    ∙ with_weight_is w c.deref.result.now place.result place.ensures.within place.ensures.before
+    place.ensures.there ∙ ap (with_weight w) is

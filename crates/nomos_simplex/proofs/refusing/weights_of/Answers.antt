@@ -20,9 +20,16 @@ loop-done-preserved c =
     let inv = c.loop-done.invariant in
     elim c.if-coefs-column-lt0.branch [
       | then-coefs-column-lt0+in_ok-add_weight w ↦
-          ap (λ v. v.items) w.weights-is ∙ w.in_ok-add_weight.ensures ∙ (λ p. with_weight (get_or vs column 0, (w.times_of.ensures ∙ ap unsigned_abs back) p) c.loop-done.weights.items)
-          ∙ weights_lower vs cs column (n - (done + 1)) (n - done) c.loop-done.weights.items (omega arith) (omega arith) (omega arith) (omega arith) inv (ap (λ z. int_lt z (pos 0)) (sym back) ∙ w.if-coefs-column-lt0.true)
+          ap (λ v. v.items) w.weights-is ∙ w.in_ok-add_weight.ensures ∙ (λ p. with_weight (
+            get_or vs column 0,
+            (w.times_of.ensures ∙ ap unsigned_abs back) p,
+          ) c.loop-done.weights.items)
+          ∙ weights_lower vs cs column (n - (done + 1)) (n - done) c.loop-done.weights.items (omega arith)
+          (omega arith) (omega arith) (omega arith) inv (ap (λ z. int_lt z (pos 0)) (sym back)
+          ∙ w.if-coefs-column-lt0.true)
       | else-coefs-column-lt0 w ↦
           ap (λ v. v.items) w.weights-is
-          ∙ weights_same vs cs column (n - (done + 1)) (n - done) c.loop-done.weights.items (omega arith) (omega arith) (omega arith) (omega arith) inv (ap (λ z. int_lt z (pos 0)) (sym back) ∙ w.if-coefs-column-lt0.false)
+          ∙ weights_same vs cs column (n - (done + 1)) (n - done) c.loop-done.weights.items (omega arith)
+          (omega arith) (omega arith) (omega arith) inv (ap (λ z. int_lt z (pos 0)) (sym back)
+          ∙ w.if-coefs-column-lt0.false)
     ]

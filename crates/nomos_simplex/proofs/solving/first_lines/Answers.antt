@@ -10,6 +10,8 @@ loop-i-preserved c =
     let i = c.loop-i.i in
     let item = c.index-list-i.result in
     let list = c.as_slice-list.ensures in
-    let coefs = c.of_vec.ensures ∙ c.in_ok-coefs.ensures ∙ c.as_slice.ensures ∙ ap (λ xs. (get_or xs i item).coefs) list in
+    let coefs = c.of_vec.ensures ∙ c.in_ok-coefs.ensures ∙ c.as_slice.ensures
+    ∙ ap (λ xs. (get_or xs i item).coefs) list in
     let line : ℕ → List ℤ → Line = λ n cs. record { times = pos 1; basic = n + 1 + i; coefs = cs } in
-    c.in_ok-push.ensures.items ∙ (λ p. c.loop-i.invariant p ++ line (c.from-stars.ensures p) (coefs p) ∷ []) ∙ sym (lines_more (rows.stars + 1) rows.rows i item (omega (arith, ap length list, c.loop-i-test.true)))
+    c.in_ok-push.ensures.items ∙ (λ p. c.loop-i.invariant p ++ line (c.from-stars.ensures p) (coefs p) ∷ [])
+    ∙ sym (lines_more (rows.stars + 1) rows.rows i item (omega (arith, ap length list, c.loop-i-test.true)))

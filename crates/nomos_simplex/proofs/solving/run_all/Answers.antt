@@ -17,7 +17,8 @@ turn_at-requires-clause-table c = table-is_table c.args.rows.now c.loop-pivots.t
 pub returns-in-Ends : goal.returns-in-Ends
 returns-in-Ends c =
     let pivots = c.loop-pivots.pivots in
-    sym (run_ends (2000 - pivots) pivots c.args.rows.now c.loop-pivots.table c.in-Ends.solved (sym c.in-Ends.is ∙ c.in_ok-solved.ensures)) ∙ c.loop-pivots.invariant.answer
+    sym (run_ends (2000 - pivots) pivots c.args.rows.now c.loop-pivots.table c.in-Ends.solved (sym c.in-Ends.is
+    ∙ c.in_ok-solved.ensures)) ∙ c.loop-pivots.invariant.answer
 
 pub loop-pivots-preserved : goal.loop-pivots-preserved
 loop-pivots-preserved c =
@@ -26,7 +27,8 @@ loop-pivots-preserved c =
     let table = c.loop-pivots.table in
     let goes = sym c.in-Goes.is ∙ c.in_ok-solved.ensures in
     record {
-      answer = run_goes_on 2000 pivots rows table c.in-Goes.after c.loop-pivots-test.true goes ∙ c.loop-pivots.invariant.answer;
+      answer = run_goes_on 2000 pivots rows table c.in-Goes.after c.loop-pivots-test.true goes
+          ∙ c.loop-pivots.invariant.answer;
       table = turn-goes_on (2000 - pivots) pivots rows table c.in-Goes.after c.loop-pivots.invariant.table (sym goes);
     }
 

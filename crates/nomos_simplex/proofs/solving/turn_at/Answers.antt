@@ -18,8 +18,10 @@ exchange-requires-clause-over_zero c = λ left h.
     let line = c.index-as_slice-place.result in
     let place = c.in-Some.place in
     let column = c.in-Some-entering.column in
-    let same : line ≡ left = c.index-as_slice-place.is ∙ ap (λ xs. get_or xs place line) c.as_slice.ensures ∙ get_or_from_slice_get table.lines place left line h in
-    let passes = (place_passes (λ (j : ℕ). int_lt (pos 0) (get_or line.coefs j (pos 0))) (λ (j : ℕ). slice_index table.nonbasic j) (length table.nonbasic) column (sym c.in-Some-entering.ensures.choice)).1 in
+    let same : line ≡ left = c.index-as_slice-place.is ∙ ap (λ xs. get_or xs place line) c.as_slice.ensures
+    ∙ get_or_from_slice_get table.lines place left line h in
+    let passes = (place_passes (λ (j : ℕ). int_lt (pos 0) (get_or line.coefs j (pos 0))) (λ (j : ℕ). slice_index
+    table.nonbasic j) (length table.nonbasic) column (sym c.in-Some-entering.ensures.choice)).1 in
     subst (λ (l : Line). pos 0 <ℤ coef_at column l) same (over_zero (coef_at column line) passes)
 
 pub returns-then-is_too_large : goal.returns-then-is_too_large
@@ -28,8 +30,11 @@ returns-then-is_too_large c =
     let line = c.index-as_slice-place.result in
     let place = c.in-Some.place in
     let pivots = c.args.pivots in
-    let there = slice_get_read table.lines (length table.lines) place line refl c.in-Some.ensures.place (c.index-as_slice-place.is ∙ ap (λ xs. get_or xs place line) c.as_slice.ensures) in
-    sym (exchanges (2000 - pivots) pivots (2000 - (pivots + 1)) place c.in-Some-entering.column c.args.rows.now table c.in_ok-after.after line (omega arith) (sym c.in-Some.ensures.choice) there (sym c.in-Some-entering.ensures.choice) (c.in_ok-after.ensures line there)
+    let there = slice_get_read table.lines (length table.lines) place line refl c.in-Some.ensures.place
+    (c.index-as_slice-place.is ∙ ap (λ xs. get_or xs place line) c.as_slice.ensures) in
+    sym (exchanges (2000 - pivots) pivots (2000 - (pivots + 1)) place c.in-Some-entering.column c.args.rows.now table
+    c.in_ok-after.after line (omega arith) (sym c.in-Some.ensures.choice) there
+    (sym c.in-Some-entering.ensures.choice) (c.in_ok-after.ensures line there)
     ∙ stops_large (pivots + 1) c.in_ok-after.after (sym c.is_too_large.ensures ∙ c.if-is_too_large.true))
 
 pub returns : goal.returns
@@ -38,6 +43,9 @@ returns c =
     let line = c.index-as_slice-place.result in
     let place = c.in-Some.place in
     let pivots = c.args.pivots in
-    let there = slice_get_read table.lines (length table.lines) place line refl c.in-Some.ensures.place (c.index-as_slice-place.is ∙ ap (λ xs. get_or xs place line) c.as_slice.ensures) in
-    sym (exchanges (2000 - pivots) pivots (2000 - (pivots + 1)) place c.in-Some-entering.column c.args.rows.now table c.in_ok-after.after line (omega arith) (sym c.in-Some.ensures.choice) there (sym c.in-Some-entering.ensures.choice) (c.in_ok-after.ensures line there)
+    let there = slice_get_read table.lines (length table.lines) place line refl c.in-Some.ensures.place
+    (c.index-as_slice-place.is ∙ ap (λ xs. get_or xs place line) c.as_slice.ensures) in
+    sym (exchanges (2000 - pivots) pivots (2000 - (pivots + 1)) place c.in-Some-entering.column c.args.rows.now table
+    c.in_ok-after.after line (omega arith) (sym c.in-Some.ensures.choice) there
+    (sym c.in-Some-entering.ensures.choice) (c.in_ok-after.ensures line there)
     ∙ goes_small (pivots + 1) c.in_ok-after.after (sym c.is_too_large.ensures ∙ c.if-is_too_large.false))
