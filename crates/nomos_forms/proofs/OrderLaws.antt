@@ -4,7 +4,7 @@ use Rattle.std.specs.Cmp.Lexicographic.{pointwise, pointwise_decides, lists_equi
 use Rattle.std.specs.Cmp.{IsEquivalence, and_equiv, on_equiv, int_eq_equiv}
 use Rattle.std.specs.Ordering.{int_eq}
 use Rattle.std.proofs.lemmas.Bool.Decides.{Decides-and, Decides-like, Decides-int_eq}
-use Rattle.nomos_forms.specs.Order.{row_eq}
+use Rattle.nomos_forms.specs.RowOrder.{row_eq}
 use Rattle.nomos_forms.specs.declared.row.Row.{Row}
 
 pub row_eq_decides : (x y : Row) → Decides (row_eq x y) (x ≡ y)

@@ -7,7 +7,7 @@ use Rattle.nomos_ir.specs.declared.amount.Amount.{Amount}
 use Rattle.nomos_ir.specs.declared.amount.Amount.TheVariants as amount
 use Rattle.nomos_forms.specs.declared.form.Form.{Form}
 use Rattle.nomos_forms.specs.declared.row.Row.{Row}
-use Rattle.nomos_forms.specs.Order.{row_cmp}
+use Rattle.nomos_forms.specs.RowOrder.{row_cmp}
 
 -- coefs * x + plus >= 0
 abbrev pub form_row : Form → Row

@@ -4,7 +4,7 @@ ghost use Rattle.std.specs.List.{range_with_len, flat_map};
 ghost use Rattle.nomos_forms.specs.Bounds.{IsForm, IsRow};
 ghost use Rattle.std.specs.List.Sorted.{IsStrictlySortedBy};
 ghost use Rattle.nomos_forms.specs.declared.row.Row.{Row};
-ghost use Rattle.nomos_forms.specs.Order.{row_cmp};
+ghost use Rattle.nomos_forms.specs.RowOrder.{row_cmp};
 ghost use Rattle.nomos_forms.specs.RowsOf.{form_row, share_of, units_in, difference_row, pair_rows, all_rows, AreRowsOf};
 
 use crate::form::{Form, Forms};

@@ -16,7 +16,7 @@ pub type Rows = Items<Row>;
 impl PartialEq for Row {
     ghost use Rattle.std.specs.Cmp.Rules.{comparing};
     ghost use Rattle.std.proofs.Common.{rules};
-    ghost use Rattle.nomos_forms.specs.Order.{row_eq};
+    ghost use Rattle.nomos_forms.specs.RowOrder.{row_eq};
 
     ghost eq = { row_eq };
 
@@ -37,7 +37,7 @@ impl Eq for Row {
 impl PartialOrd for Row {
     ghost use Rattle.std.specs.Cmp.{po};
     ghost use Rattle.std.specs.Ordering.{as_partial_cmp};
-    ghost use Rattle.nomos_forms.specs.Order.{row_cmp, row_total, row_ties};
+    ghost use Rattle.nomos_forms.specs.RowOrder.{row_cmp, row_total, row_ties};
 
     ghost partial_cmp = { as_partial_cmp row_cmp };
 
@@ -50,7 +50,7 @@ impl PartialOrd for Row {
 
 impl Ord for Row {
     ghost use Rattle.std.proofs.Common.{refl};
-    ghost use Rattle.nomos_forms.specs.Order.{row_cmp, row_total, row_ties};
+    ghost use Rattle.nomos_forms.specs.RowOrder.{row_cmp, row_total, row_ties};
 
     ghost cmp = { row_cmp };
 

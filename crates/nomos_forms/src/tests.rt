@@ -1,5 +1,5 @@
 //! Tests: rows in their order, amounts put back, and verdicts.
-ghost use Rattle.std.specs.Prelude.{◌≡◌, length, All, IfOk};
+ghost use Rattle.std.specs.Prelude.{◌≡◌, ◌<◌, ◌^◌, length, All, IfOk};
 ghost use Rattle.nomos_forms.specs.Bounds.{IsSmall, IsForm, IsFound, IsVerdict};
 
 use crate::collecting::rows;
@@ -8,6 +8,7 @@ use crate::found::Found;
 use crate::meeting::put_back;
 use crate::refuting::refutes;
 use crate::row::Row;
+use crate::row_list::RowList;
 use crate::verdict::{Of, Verdict, Weight};
 use nomos_ir::amount::Amount;
 use nomos_ir::items::Items;
@@ -58,5 +59,60 @@ fn rows_stand_in_order(rt: HostRuntime) -> Result<(), Fail> {
         assert_eq!(rt; row.coefs.as_slice(), coefs.as_slice());
         assert_eq!(rt; row.least, *least);
     }
+    Ok(())
+}
+
+/// The rows `x1 + x2 >= 1` and `-2*x1 >= -1` and `x1 - x2 >= 0`, given as forms.
+fn halves(alloc: Global) -> Result<RowList, AllocError>
+    ensures { IfOk result (λ made. made.stars ≡ 2) }
+{
+    let sum = form(alloc, &[1, 1], -1)?;
+    let most = form(alloc, &[-2, 0], 1)?;
+    let less = form(alloc, &[1, -1], 0)?;
+    let forms = Items::of_vec(vec![in alloc; sum, most, less]?);
+    rows(alloc, &forms, &Items::of_vec(Vec::new(alloc)), 2)
+}
+
+/// Both stars one half meet the rows, and both a unit do not.
+#[test]
+fn halves_meet_and_units_do_not(rt: HostRuntime) -> Result<(), Fail> {
+    let alloc = rt.alloc();
+    let list = halves(alloc)?;
+    for (parts, unit, meet) in [
+        (1u64, 2u32, true),
+        (2, 2, false),
+        (1, 3, false),
+        (2, 4, true),
+    ] {
+        let stars = Items::of_vec(vec![in alloc; parts, parts]?);
+        assert_eq!(rt; put_back(&list, &Found { stars, unit }), meet);
+    }
+    Ok(())
+}
+
+/// A verdict of one row without coefficients, with this weight, and that gives so much.
+fn verdict(alloc: Global, times: u64, gives: u128) -> Result<Verdict, AllocError>
+    requires { times < 2 ^ 62 }
+    ensures { IfOk result IsVerdict }
+{
+    let of = Of::Row(Row {
+        coefs: Items::of_vec(Vec::new(alloc)),
+        least: 1,
+    });
+    let weights = Items::of_vec(vec![in alloc; Weight { times, of }]?);
+    Ok(Verdict { weights, gives })
+}
+
+/// `0 >= 1` is refuted by itself, not by a weight of 0, nor where it gives something else.
+#[test]
+fn nothing_is_at_least_one(rt: HostRuntime) -> Result<(), Fail> {
+    let alloc = rt.alloc();
+    let one = form(alloc, &[], -1)?;
+    let forms = Items::of_vec(vec![in alloc; one]?);
+    let list = rows(alloc, &forms, &Items::of_vec(Vec::new(alloc)), 0)?;
+    assert_eq!(rt; refutes(&list, &verdict(alloc, 1, 1)?), true);
+    assert_eq!(rt; refutes(&list, &verdict(alloc, 3, 3)?), true);
+    assert_eq!(rt; refutes(&list, &verdict(alloc, 0, 0)?), false);
+    assert_eq!(rt; refutes(&list, &verdict(alloc, 1, 2)?), false);
     Ok(())
 }

@@ -18,11 +18,8 @@ use Rattle.nomos_simplex.specs.declared.table.Table.{Table}
 
 -- what a star is, as a fraction that is not below 0: from its line, or 0 where it is nonbasic
 abbrev pub fraction_in : RowList → List ℕ → Option Line → ℕ × ℕ
-fraction_in rows nonbasic (Some line) = (
-  unsigned_abs (sum_at (bound_of rows) nonbasic line.coefs),
-  unsigned_abs
-      line.times,
-)
+fraction_in rows nonbasic (Some line) =
+    (unsigned_abs (sum_at (bound_of rows) nonbasic line.coefs), unsigned_abs line.times)
 fraction_in rows nonbasic None = (0, 1)
 
 abbrev pub fraction_of : RowList → Table → ℕ → ℕ × ℕ
@@ -50,8 +47,8 @@ IsFraction f = (f.0 ≤ 2 ^ 113) × (0 < f.1) × (f.1 < 2 ^ 62)
 
 -- the amounts, where none is 2^62 or more, and otherwise nothing
 abbrev pub AreAmounts : ℕ → List (ℕ × ℕ) → Option (Vec ℕ Global) → Type 0
-AreAmounts unit fs (Some v) = (v.items ≡ amounts_over unit fs) × (list_all (λ x. nat_lt x (2 ^ 62)) (amounts_over unit
-    fs) ≡ true)
+AreAmounts unit fs (Some v) =
+    (v.items ≡ amounts_over unit fs) × (list_all (λ x. nat_lt x (2 ^ 62)) (amounts_over unit fs) ≡ true)
 AreAmounts unit fs None = list_all (λ x. nat_lt x (2 ^ 62)) (amounts_over unit fs) ≡ false
 
 -- the amounts, where they and the unit are not too large
@@ -88,7 +85,8 @@ weight_of rows w = record { times = w.1; of = of_variable rows w.0 }
 -- what a line says whose variable is below its bound, and that has no coefficient over 0
 abbrev pub verdict_of : RowList → Table → Line → Verdict
 verdict_of rows table line = record {
-  weights = map (weight_of rows) (with_weight (line.basic, unsigned_abs line.times) (weights_below table.nonbasic
-      line.coefs));
+  weights =
+      map (weight_of rows)
+          (with_weight (line.basic, unsigned_abs line.times) (weights_below table.nonbasic line.coefs));
   gives = unsigned_abs (line.times *ℤ bound_of rows line.basic -ℤ sum_at (bound_of rows) table.nonbasic line.coefs);
 }

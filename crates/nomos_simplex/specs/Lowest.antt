@@ -19,17 +19,21 @@ lowest_place passes number (suc n) =
 
 -- with the nonbasic variables at their bounds, the basic variable of a line is below its own
 abbrev pub is_below : RowList → List ℕ → Line → Bool
-is_below rows nonbasic line = int_lt (sum_at (bound_of rows) nonbasic line.coefs) (line.times *ℤ bound_of rows
-    line.basic)
+is_below rows nonbasic line =
+    int_lt (sum_at (bound_of rows) nonbasic line.coefs) (line.times *ℤ bound_of rows line.basic)
 
 -- the line of the lowest basic variable below its bound
 abbrev pub leaving : RowList → Table → Option ℕ
 leaving rows table =
-    lowest_place (λ i. slice_index_or (map (is_below rows table.nonbasic) table.lines) i false) (λ i. slice_index (map
-    (λ line. line.basic) table.lines) i) (length table.lines)
+    lowest_place
+        (λ i. slice_index_or (map (is_below rows table.nonbasic) table.lines) i false)
+        (λ i. slice_index (map (λ line. line.basic) table.lines) i)
+        (length table.lines)
 
 -- the column of the lowest nonbasic variable with a coefficient over 0
 abbrev pub entering : Table → Line → Option ℕ
 entering table line =
-    lowest_place (λ j. int_lt (pos 0) (slice_index_or line.coefs j (pos 0))) (λ j. slice_index table.nonbasic j)
-    (length table.nonbasic)
+    lowest_place
+        (λ j. int_lt (pos 0) (slice_index_or line.coefs j (pos 0)))
+        (λ j. slice_index table.nonbasic j)
+        (length table.nonbasic)

@@ -1,7 +1,7 @@
 use Rattle.std.proofs.lemmas.List.Filters.{dedup_is}
 use Rattle.std.proofs.lemmas.List.Kept.{Contains-dedup, Contains-from_dedup, IsStrictlySortedBy-dedup}
 use Rattle.std.proofs.lemmas.List.Sorted.{Contains-permutation, IsPermutation-sym}
-use Rattle.nomos_forms.specs.Order.{row_eq, row_total, row_ties}
+use Rattle.nomos_forms.specs.RowOrder.{row_eq, row_total, row_ties}
 use Rattle.nomos_forms.proofs.OrderLaws.{row_eq_decides, row_eq_equiv}
 use Rattle.nomos_forms.proofs.collecting.sort_out.Goals as goal
 

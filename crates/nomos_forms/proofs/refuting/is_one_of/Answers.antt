@@ -1,5 +1,5 @@
 use Rattle.std.proofs.lemmas.List.Elements.{contains_decides, Decides-contains}
-use Rattle.nomos_forms.specs.Order.{row_eq}
+use Rattle.nomos_forms.specs.RowOrder.{row_eq}
 use Rattle.nomos_forms.proofs.OrderLaws.{row_eq_decides}
 use Rattle.nomos_forms.proofs.refuting.is_one_of.Goals as goal
 
