@@ -29,7 +29,7 @@ put_into j left line = record line {
   times = coef_at j left *ℤ line.times;
   coefs =
       slice_set (eliminated (coef_at j left) (coef_at j line) line.coefs left.coefs) j
-          (coef_at j line *ℤ left.times);
+      (coef_at j line *ℤ left.times);
 }
 
 -- The line i is left for column j, where e is: e is put into the other lines, and the line solved for it stands at

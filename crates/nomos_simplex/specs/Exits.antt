@@ -87,6 +87,6 @@ abbrev pub verdict_of : RowList → Table → Line → Verdict
 verdict_of rows table line = record {
   weights =
       map (weight_of rows)
-          (with_weight (line.basic, unsigned_abs line.times) (weights_below table.nonbasic line.coefs));
+      (with_weight (line.basic, unsigned_abs line.times) (weights_below table.nonbasic line.coefs));
   gives = unsigned_abs (line.times *ℤ bound_of rows line.basic -ℤ sum_at (bound_of rows) table.nonbasic line.coefs);
 }

@@ -26,14 +26,14 @@ is_below rows nonbasic line =
 abbrev pub leaving : RowList → Table → Option ℕ
 leaving rows table =
     lowest_place
-        (λ i. slice_index_or (map (is_below rows table.nonbasic) table.lines) i false)
-        (λ i. slice_index (map (λ line. line.basic) table.lines) i)
-        (length table.lines)
+    (λ i. slice_index_or (map (is_below rows table.nonbasic) table.lines) i false)
+    (λ i. slice_index (map (λ line. line.basic) table.lines) i)
+    (length table.lines)
 
 -- the column of the lowest nonbasic variable with a coefficient over 0
 abbrev pub entering : Table → Line → Option ℕ
 entering table line =
     lowest_place
-        (λ j. int_lt (pos 0) (slice_index_or line.coefs j (pos 0)))
-        (λ j. slice_index table.nonbasic j)
-        (length table.nonbasic)
+    (λ j. int_lt (pos 0) (slice_index_or line.coefs j (pos 0)))
+    (λ j. slice_index table.nonbasic j)
+    (length table.nonbasic)

@@ -126,3 +126,54 @@ fn no_stars_and_no_rows(rt: HostRuntime) -> Result<(), Fail> {
     assert_eq!(rt; verdict.weights.len(), 1);
     Ok(())
 }
+
+/// The next number of a fixed sequence.
+fn next(seed: &mut u32) -> u32 {
+    *seed = seed.wrapping_mul(1_664_525).wrapping_add(1_013_904_223);
+    *seed >> 8
+}
+
+/// Most coefficients are 0, and the others lie between -3 and 3.
+fn sparse(seed: &mut u32) -> i32 {
+    if next(seed) % 100 >= 15 {
+        return 0;
+    }
+    ((next(seed) % 7) as i32).wrapping_sub(3)
+}
+
+/// A form that is 0 or 1 where each star is the square of its place.
+fn tight(alloc: Global, seed: &mut u32, stars: u16) -> Result<Form, AllocError>
+    ensures { IfOk result (IsForm stars) }
+{
+    let mut plus = (next(seed) % 2) as i32;
+    let mut numbers = Vec::new(alloc);
+    for of in 0..stars {
+        let number = sparse(seed);
+        let place = i32::from(of);
+        plus = plus.wrapping_sub(number.wrapping_mul(place.wrapping_mul(place)));
+        numbers.push(number)?;
+    }
+    form(alloc, numbers.as_slice(), plus)
+}
+
+/// 200 such forms.
+fn tight_system(alloc: Global, stars: u16) -> Result<RowList, AllocError>
+    requires { stars ≤ 64 }
+{
+    let mut seed = 6;
+    let mut forms = Vec::new(alloc);
+    for _i in 0..200 {
+        let next = tight(alloc, &mut seed, stars)?;
+        forms.push(next)?;
+    }
+    system(alloc, forms, stars)
+}
+
+/// The budget of pivots is used up, though the squares of the stars' places meet these rows.
+#[test]
+fn too_many_pivots(rt: HostRuntime) -> Result<(), Fail> {
+    let alloc = rt.alloc();
+    let answer = solve(alloc, &tight_system(alloc, 32)?)?;
+    assert_eq!(rt; matches!(&answer, Solved::Unsolved(Stop::Pivots)), true);
+    Ok(())
+}
