@@ -12,7 +12,7 @@ use Rattle.nomos_equality.specs.declared.equality.Equality.TheVariants as equali
 use Rattle.nomos_equality.specs.declared.hop.Hop.{Hop}
 use Rattle.nomos_equality.specs.Answer.{EqualWith, AnswersEquality, SameWorth, SaysEqual}
 use Rattle.nomos_equality.specs.Differences.{DifferAt}
-use Rattle.nomos_equality.proofs.PathLemmas.{differ-unequal, equal-worth, equal-from_worth}
+use Rattle.nomos_equality.proofs.PathLaws.{differ-unequal, equal-worth, equal-from_worth}
 
 -- types that differ at the end of a path do not have equal shapes
 pub differ-not_equal : (lists : ProgramLists) (a b : TypeId) (path : List Hop) → DifferAt lists a b path → EqualShapes lists a b → ⊥

@@ -17,8 +17,8 @@ use Rattle.nomos_equality.specs.Answer.{EqualWith}
 use Rattle.nomos_equality.specs.Comparing.{Compared, nothing_compared, HasCompared, FindsEqual}
 use Rattle.nomos_equality.specs.Paths.{PathLeads, ends, hops, paid_by, StandAtEqualPaths}
 use Rattle.nomos_equality.specs.mirror.Search.{compared_by, IsFront, Grows, IsMet, IsAt, HasNodes, IsCompared, HasSearched}
-use Rattle.nomos_equality.proofs.HeadLemmas.{form-head, no_dths}
-use Rattle.nomos_equality.proofs.PathLemmas.{agree-behind, leads-behind, stand-here, stand-from_behind}
+use Rattle.nomos_equality.proofs.HeadLaws.{form-head, no_dths}
+use Rattle.nomos_equality.proofs.PathLaws.{agree-behind, leads-behind, stand-here, stand-from_behind}
 
 -- a node that is no name is what its type unfolds to
 node-unique : (lists : ProgramLists) (t : ℕ) (n m : TypeNode) → type_node lists t ≡ Some n → IsConstructor n → Unfolds lists t m → type_node lists t ≡ Some m

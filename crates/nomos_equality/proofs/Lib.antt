@@ -1,8 +1,8 @@
 pub mod AnswerLaws
 pub mod EndLemmas
-pub mod HeadLemmas
+pub mod HeadLaws
 pub mod ListLemmas
-pub mod PathLemmas
+pub mod PathLaws
 pub mod SearchLemmas
 pub mod TableLemmas
 pub mod TrailLemmas

@@ -4,7 +4,7 @@ use Rattle.nomos_ir.specs.declared.amount.Amount.{Amount}
 use Rattle.nomos_ir.specs.declared.ids.TypeId.{TypeId}
 use Rattle.nomos_ir.specs.declared.lists.ProgramLists.{ProgramLists}
 use Rattle.nomos_types.specs.Amount.{Annotations, dths}
-use Rattle.nomos_types.specs.Equality.{EqualShapes}
+use Rattle.nomos_types.specs.Equality.{EqualShapes, EqualTypes}
 use Rattle.nomos_equality.specs.Differences.{DifferAt}
 use Rattle.nomos_equality.specs.Paths.{StandAtEqualPaths}
 use Rattle.nomos_equality.specs.declared.equality.Equality.{Equality}
@@ -33,3 +33,7 @@ SameWorth x pairs = All (λ p. dths x p.0 ≡ dths x p.1) pairs
 abbrev pub SaysEqual : Annotations → Equality → Type 0
 SaysEqual x (equality.Yes pairs) = SameWorth x pairs
 SaysEqual x (equality.No path) = ⊥
+
+-- the types are equal under exactly those amounts under which the answer says so
+abbrev pub IsEqualityExact : ProgramLists → TypeId → TypeId → Equality → Type 0
+IsEqualityExact lists a b answer = (x : Annotations) → EqualTypes lists x a b ↔ SaysEqual x answer

@@ -11,8 +11,8 @@ use nomos_ir::program::Program;
 use std::alloc::{AllocError, Global};
 use std::marker::Model;
 
-/// What was compared in one program so far: contracts see the pairs of types, and, each once, the pairs of amounts that
-/// stand at equal paths of these (`HasCompared`).
+/// What was compared in one program so far: contracts see the pairs of types, and, each once, the pairs of
+/// amounts that stand at equal paths of these (`HasCompared`).
 #[derive(Drop)]
 pub struct Equalities {
     search: Search,
@@ -37,8 +37,9 @@ impl Equalities {
         }
     }
 
-    /// Compares two types of the program of which all that was compared before is. Pairs that were compared before are not
-    /// looked at again. Where the types differ, and where memory runs out, what was compared stays as it was.
+    /// Compares two types of the program of which all that was compared before is. Pairs that were compared
+    /// before are not looked at again. Where the types differ, and where memory runs out, what was compared
+    /// stays as it was.
     pub fn compare(
         &mut self,
         program: &Program,

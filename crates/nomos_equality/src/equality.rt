@@ -1,9 +1,7 @@
 //! Whether two types are equal.
-ghost use Rattle.std.specs.Prelude.{◌<◌, ◌↔◌, length, IfOk};
+ghost use Rattle.std.specs.Prelude.{◌<◌, length, IfOk};
 ghost use Rattle.nomos_ir.specs.Unfold.{IsContractive};
-ghost use Rattle.nomos_types.specs.Amount.{Annotations};
-ghost use Rattle.nomos_types.specs.Equality.{EqualTypes};
-ghost use Rattle.nomos_equality.specs.Answer.{AnswersEquality, SaysEqual};
+ghost use Rattle.nomos_equality.specs.Answer.{AnswersEquality, IsEqualityExact};
 
 use crate::equalities::Equalities;
 use crate::hop::Path;
@@ -31,8 +29,8 @@ pub enum Comparison {
     Different(Path),
 }
 
-/// Whether two types of a program are equal: the pairs of amounts that their equality needs, or a path at whose end they
-/// differ. No pair of type nodes is looked at twice.
+/// Whether two types of a program are equal: the pairs of amounts that their equality needs, or a path at
+/// whose end they differ. No pair of type nodes is looked at twice.
 pub fn equal(
     alloc: Global,
     program: &Program,
@@ -43,7 +41,7 @@ pub fn equal(
     requires left { left.0 < length program.now.types }
     requires right { right.0 < length program.now.types }
     ensures answers { IfOk result (AnswersEquality program.now left right) }
-    ensures exact { IfOk result (λ answer. (x : Annotations) → EqualTypes program.now x left right ↔ SaysEqual x answer) }
+    ensures exact { IfOk result (IsEqualityExact program.now left right) }
 {
     let mut equalities = Equalities::new(alloc);
     match equalities.compare(program, left, right)? {

@@ -8,5 +8,5 @@ pub mod equalities;
 pub mod equality;
 pub mod hop;
 mod pair_table;
-mod parts;
+pub mod parts;
 mod search;

@@ -8,7 +8,7 @@ use nomos_ir::ids::{Label, TypeId};
 use nomos_ir::type_node::{Branch, TypeNode};
 
 /// The branches of a choice, none of any other node.
-pub(crate) fn choices_of(node: &TypeNode) -> &[Branch]
+pub fn choices_of(node: &TypeNode) -> &[Branch]
     ensures { result.now ≡ choices_of node.now }
 {
     match node {
@@ -19,7 +19,7 @@ pub(crate) fn choices_of(node: &TypeNode) -> &[Branch]
 }
 
 /// The type with which a choice goes on after a label.
-pub(crate) fn goes_by(branches: &[Branch], label: Label) -> Option<TypeId>
+pub fn goes_by(branches: &[Branch], label: Label) -> Option<TypeId>
     ensures { result ≡ goes_by branches.now label }
 {
     branches
@@ -57,7 +57,7 @@ fn carried_of(node: &TypeNode) -> Option<TypeId>
 }
 
 /// The part of a node to which a hop leads.
-pub(crate) fn part_by(node: &TypeNode, hop: Hop) -> Option<TypeId>
+pub fn part_by(node: &TypeNode, hop: Hop) -> Option<TypeId>
     ensures { result ≡ part_by node.now hop }
 {
     match hop {

@@ -1,8 +1,9 @@
 //! The search for a difference of two types, along all their paths.
-ghost use Rattle.std.specs.Prelude.{◌≡◌, ◌<◌, ◌++◌, ◌∷◌, [], Contains, length, take, OnErr, slice_get, Some, OnOk, IfOk, MatchBool};
-ghost use Rattle.nomos_equality.specs.declared.hop.Hop.TheVariants as hop;
+ghost use Rattle.std.specs.Prelude.{◌≡◌, ◌<◌, [], Contains, length, take, slice_get, Some, OnOk, OnErr, IfOk};
 ghost use Rattle.nomos_equality.specs.Comparing.{nothing_compared, HasCompared, AnswersComparison};
-ghost use Rattle.nomos_equality.specs.mirror.Search.{compared_by, IsFormed, Grows, Meets, HasNodes, GoesTo, Follows, FollowsLabels, NotesPaid, IsCompared, DifferHere, AreInOrder, Trail, EndsSearch};
+ghost use Rattle.nomos_equality.specs.mirror.Search.{compared_by, IsFormed, Grows, Meets, HasNodes, GoesTo};
+ghost use Rattle.nomos_equality.specs.mirror.Search.{Follows, FollowsLabels, NotesPaid, ComparesVisit};
+ghost use Rattle.nomos_equality.specs.mirror.Search.{AreInOrder, Trail, EndsSearch};
 
 use crate::amount_table::AmountTable;
 use crate::choices::same_form;
@@ -25,7 +26,8 @@ pub(crate) struct Origin {
     pub(crate) hop: Hop,
 }
 
-/// Two types, behind their names, and how they were met first. Those with which a search begins were met by no hop.
+/// Two types, behind their names, and how they were met first. Those with which a search begins were met
+/// by no hop.
 #[derive(Clone, Copy)]
 pub(crate) struct Visit {
     pub(crate) left: TypeId,
@@ -33,7 +35,8 @@ pub(crate) struct Visit {
     pub(crate) from: Option<Origin>,
 }
 
-/// What a search has met: the pairs of types, the amounts that stand at them, and the visits of this search.
+/// What a search has met: the pairs of types, the amounts that stand at them, and the visits of this
+/// search.
 #[derive(Drop)]
 pub(crate) struct Search {
     pub(crate) alloc: Global,
@@ -151,13 +154,14 @@ impl Search {
         Ok(())
     }
 
-    /// Whether the nodes of a visit have the same form; where they have, their parts are met and their amounts noted.
+    /// Whether the nodes of a visit have the same form; where they have, their parts are met and their
+    /// amounts noted.
     fn step(&mut self, program: &Program, number: usize, visit: Visit) -> Result<bool, AllocError>
         requires formed { IsFormed program.now }
         requires there { slice_get self.old.visits.items number ≡ Some visit }
         requires nodes { HasNodes program.now visit }
         ensures goes { OnOk result (GoesTo program.now self.old self.new) }
-        ensures compared { IfOk result (λ same. MatchBool same (IsCompared program.now visit self.new.pairs self.new.amounts) (DifferHere program.now visit)) }
+        ensures compared { IfOk result (ComparesVisit program.now visit self.new) }
         ensures grows { Grows self.old self.new }
     {
         if !same_form(program.node(visit.left), program.node(visit.right)) {
@@ -233,7 +237,9 @@ impl Search {
         requires right { right.0 < length program.now.types }
         requires compared { HasCompared program.now (compared_by self.old) }
         ensures compared { HasCompared program.now (compared_by self.new) }
-        ensures answers { IfOk result (AnswersComparison program.now left right (compared_by self.old) (compared_by self.new)) }
+        ensures answers {
+            IfOk result (AnswersComparison program.now left right (compared_by self.old) (compared_by self.new))
+        }
         ensures err { OnErr result (compared_by self.new ≡ compared_by self.old) }
     {
         let pairs = self.pairs.len();

@@ -1,5 +1,5 @@
 -- A mirror of the code: the search for a difference of two types.
-use Rattle.std.specs.Prelude.{◌≡◌, ◌<◌, ◌⊎◌, ℕ, List, [], ◌∷◌, ◌++◌, Contains, Option, Some, None, slice_get}
+use Rattle.std.specs.Prelude.{Bool, MatchBool, ◌≡◌, ◌<◌, ◌⊎◌, ℕ, List, [], ◌∷◌, ◌++◌, Contains, Option, Some, None, slice_get}
 use Rattle.nomos_ir.specs.declared.amount.Amount.{Amount}
 use Rattle.nomos_ir.specs.declared.ids.Label.{Label}
 use Rattle.nomos_ir.specs.declared.ids.TypeId.{TypeId}
@@ -118,6 +118,11 @@ pub record DifferHere (lists : ProgramLists) (visit : Visit) : Type 0 where
   pub right : TypeNode
   pub at : IsAt lists visit left right
   pub differ : ¬ (SameForm left right)
+
+-- what a step says of a visit, by its answer
+abbrev pub ComparesVisit : ProgramLists → Visit → Search → Bool → Type 0
+ComparesVisit lists visit s same =
+    MatchBool same (IsCompared lists visit s.pairs s.amounts) (DifferHere lists visit)
 
 -- the hops by which a visit was reached from the beginning
 pub data Trail (visits : List Visit) : ℕ → List Hop → Type 0 where

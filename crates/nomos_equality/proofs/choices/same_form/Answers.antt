@@ -1,5 +1,5 @@
 use Rattle.std.proofs.Common.{sym, ◌∙◌, true≢false}
-use Rattle.nomos_equality.proofs.HeadLemmas.{form-from, form-begins, form-kinds, form-labels}
+use Rattle.nomos_equality.proofs.HeadLaws.{form-from, form-begins, form-kinds, form-labels}
 use Rattle.nomos_equality.proofs.choices.same_form.Goals as goal
 
 pub returns-then-not-same_constructor : goal.returns-then-not-same_constructor

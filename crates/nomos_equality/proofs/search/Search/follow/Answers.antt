@@ -1,6 +1,6 @@
 use Rattle.std.proofs.Common.{sym, ◌∙◌}
 use Rattle.nomos_equality.specs.mirror.Search.{stays}
-use Rattle.nomos_equality.proofs.PathLemmas.{part-below}
+use Rattle.nomos_equality.proofs.PathLaws.{part-below}
 use Rattle.nomos_equality.proofs.SearchLemmas.{ok-map, follow-goes}
 use Rattle.nomos_equality.proofs.search.Search.follow.Goals as goal
 

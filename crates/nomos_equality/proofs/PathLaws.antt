@@ -27,7 +27,7 @@ use Rattle.nomos_equality.specs.declared.hop.Hop.{Hop}
 use Rattle.nomos_equality.specs.declared.hop.Hop.TheVariants as hop
 use Rattle.nomos_equality.specs.Differences.{SameForm, DifferAt}
 use Rattle.nomos_equality.specs.Paths.{PathLeads, ends, hops, part_by, paid_by, AtEqualPaths, StandAtEqualPaths}
-use Rattle.nomos_equality.proofs.HeadLemmas.{goes-label, form-head, head-parts, head-worth}
+use Rattle.nomos_equality.proofs.HeadLaws.{goes-label, form-head, head-parts, head-worth}
 
 -- related heads have the same form
 pub same-form : (R : TypeId → TypeId → Type 0) (p q : TypeNode) → SameHead no_amounts R p q → SameForm p q
