@@ -1,5 +1,5 @@
 -- The lowest place, one place more.
-use Rattle.std.proofs.Common.{◌≡◌, ℕ, ◌+◌, Bool, true, false, cond, Option, Some, None, ap, sym, ◌∙◌, add-one}
+use Rattle.std.proofs.Common.{◌≡◌, ℕ, ◌+◌, Bool, true, false, cond, Option, Some, ap, sym, ◌∙◌, add-one}
 use Rattle.nomos_simplex.specs.Lowest.{lowest_place, lower_of}
 
 pub lowest_then : (passes : ℕ → Bool) (number : ℕ → ℕ) (n : ℕ) (before : Option ℕ) (k : ℕ) → passes n ≡ true →

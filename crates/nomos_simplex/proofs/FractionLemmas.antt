@@ -1,12 +1,12 @@
 -- Fractions over a common unit.
-use Rattle.std.proofs.Common.{◌≡◌, ◌==◌, ℕ, zero, suc, ◌+◌, ◌-◌, ◌*◌, ◌/◌, ◌<◌, ◌≤◌, ◌^◌, Bool, true, false, cond, Option, Some, None, List, [], ◌∷◌, length, get_or, take, All, refl, ap, sym, subst, ◌∙◌, arith, add-one}
+use Rattle.std.proofs.Common.{◌≡◌, ℕ, zero, suc, ◌+◌, ◌*◌, ◌/◌, ◌<◌, ◌≤◌, Bool, true, false, cond, Option, Some, None, List, [], ◌∷◌, length, get_or, take, All, refl, ap, sym, subst, ◌∙◌, arith, add-one}
 use Rattle.std.specs.Prelude.{find, nat_lt, if◌then◌else◌, ◌&&◌}
 use Rattle.std.specs.List.{list_all}
 use Rattle.std.proofs.lemmas.Bool.Decides.{nat_tests}
 use Rattle.std.specs.Int.{◌∣◌}
 use Rattle.std.proofs.lemmas.List.Elements.{All-head, All-tail, All-cons, All-nil}
 use Rattle.std.proofs.lemmas.Nat.Gcd.{dvd_refl, dvd_trans, le_of_dvd}
-use Rattle.std.proofs.Math.Nat.{pos_of_dvd_of_pos, mul-div_cancel', mul-div_cancel, dvd-mul_left, dvd-mul_right, mul-le-mul_right, mul_comm, mul_assoc, mul-pos}
+use Rattle.std.proofs.Math.Nat.{pos_of_dvd_of_pos, mul-div_cancel', mul-div_cancel, dvd-mul_left, dvd-mul_right, mul-le-mul_right}
 use Rattle.nomos_simplex.specs.Divisors.{gcd, lcm}
 use Rattle.nomos_simplex.specs.Exits.{denominator, common_denominator, IsFraction}
 use Rattle.nomos_simplex.proofs.DivisorLemmas.{gcd_is}

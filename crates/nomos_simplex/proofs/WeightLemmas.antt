@@ -1,5 +1,5 @@
 -- Weights in order of their variables.
-use Rattle.std.proofs.Common.{◌≡◌, ℕ, zero, suc, ◌+◌, ◌<◌, ◌≤◌, Bool, true, false, cond, List, [], ◌∷◌, length, get_or, drop, All, refl, ap, sym, subst, ◌∙◌, arith, ℤ, pos, unsigned_abs, int_lt}
+use Rattle.std.proofs.Common.{◌≡◌, ℕ, zero, suc, ◌<◌, ◌≤◌, Bool, true, false, cond, List, [], ◌∷◌, length, get_or, drop, All, refl, ap, sym, ◌∙◌, arith, ℤ, pos, unsigned_abs, int_lt}
 use Rattle.std.specs.Prelude.{nat_lt, insert, if◌then◌else◌}
 use Rattle.std.proofs.lemmas.Bool.Decides.{nat_tests}
 use Rattle.std.proofs.lemmas.List.Elements.{All-head, All-tail, All-cons, All-nil}

@@ -1,5 +1,5 @@
 -- The exits of the run: amounts that were found, and the verdict of a line.
-use Rattle.std.specs.Prelude.{◌≡◌, ◌<◌, ◌≤◌, true, false, Vec, ℕ, ◌*◌, ◌/◌, ◌-◌, ◌^◌, nat_le, nat_lt, ◌==◌, Bool, ◌&&◌, ℤ, pos, ◌*ℤ◌, ◌-ℤ◌, unsigned_abs, int_lt, List, [], ◌∷◌, map, Option, Some, None, slice_get, find, if◌then◌else◌}
+use Rattle.std.specs.Prelude.{◌≡◌, ◌<◌, ◌≤◌, true, false, Vec, ℕ, ◌*◌, ◌/◌, ◌-◌, ◌^◌, nat_le, nat_lt, ◌==◌, ◌&&◌, ℤ, pos, ◌*ℤ◌, ◌-ℤ◌, unsigned_abs, int_lt, List, [], ◌∷◌, map, Option, Some, None, slice_get, find, if◌then◌else◌}
 use Rattle.std.specs.List.{list_all, range_with_len}
 use Rattle.std.specs.Global.{Global}
 use Rattle.nomos_forms.specs.declared.row.Row.{Row}

@@ -1,5 +1,5 @@
 -- The choice of variables: always the one with the lowest number.
-use Rattle.std.specs.Prelude.{ℕ, zero, suc, nat_lt, Bool, false, ℤ, pos, ◌*ℤ◌, int_lt, List, length, map, slice_index, slice_index_or, Option, Some, None, if◌then◌else◌}
+use Rattle.std.specs.Prelude.{ℕ, zero, suc, nat_lt, Bool, false, pos, ◌*ℤ◌, int_lt, List, length, map, slice_index, slice_index_or, Option, Some, None, if◌then◌else◌}
 use Rattle.nomos_forms.specs.declared.row_list.RowList.{RowList}
 use Rattle.nomos_simplex.specs.Tables.{bound_of, sum_at}
 use Rattle.nomos_simplex.specs.declared.table.Line.{Line}

@@ -1,5 +1,5 @@
 -- A divisor, and the example of docs/SOLVER.md: its first table, and the one after the first exchange, computed.
-use Rattle.std.specs.Prelude.{◌≡◌, ℕ, ℤ, pos, negsuc, List, [], ◌∷◌, Option, Some, None}
+use Rattle.std.specs.Prelude.{◌≡◌, pos, negsuc, [], ◌∷◌, Some}
 use Rattle.std.proofs.Common.{refl}
 use Rattle.nomos_simplex.specs.Divisors.{euclid, gcd, common}
 use Rattle.nomos_simplex.specs.Exchange.{exchanged}

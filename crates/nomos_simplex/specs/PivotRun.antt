@@ -1,5 +1,5 @@
 -- The run of exchanges, up to its first exit.
-use Rattle.std.specs.Prelude.{ℕ, zero, suc, ◌-◌, ◌+◌, Option, Some, None, slice_get, if◌then◌else◌}
+use Rattle.std.specs.Prelude.{ℕ, zero, suc, ◌+◌, Option, Some, None, slice_get, if◌then◌else◌}
 use Rattle.nomos_forms.specs.declared.row_list.RowList.{RowList}
 use Rattle.nomos_simplex.specs.Exchange.{exchanged, is_large_table}
 use Rattle.nomos_simplex.specs.Exits.{fractions, found_or_large, verdict_of}

@@ -1,4 +1,4 @@
-use Rattle.std.proofs.Common.{rules, ◌≡◌, ℕ, ◌+◌, ◌*◌, ◌^◌, get_or, take, arith, ℤ, pos, ◌+ℤ◌, ◌*ℤ◌, FitsSigned, sym, ap, ◌∙◌}
+use Rattle.std.proofs.Common.{rules, get_or, arith, pos, ◌+ℤ◌, ◌*ℤ◌, FitsSigned, sym, ◌∙◌}
 use Rattle.std.specs.Int.{w64, w128}
 use Rattle.std.proofs.lemmas.Int.{to_z-of_z}
 use Rattle.nomos_simplex.specs.Tables.{bound_of}

@@ -1,4 +1,4 @@
-use Rattle.std.proofs.Common.{rules, ◌≡◌, ◌<◌, ℕ, length, false, map, get_or, slice_index, slice_index_or, Some, IfSome, ap, sym, subst, ◌∙◌, arith}
+use Rattle.std.proofs.Common.{◌<◌, ℕ, length, false, map, slice_index, slice_index_or, IfSome, ap, sym, subst, ◌∙◌}
 use Rattle.std.proofs.lemmas.List.{get_or-map}
 use Rattle.nomos_simplex.specs.Lowest as lowest
 use Rattle.nomos_simplex.proofs.ChoiceLemmas.{lowest_then, lowest_else}

@@ -1,4 +1,4 @@
-use Rattle.std.proofs.Common.{rules, ◌≡◌, ℤ, pos, get_or, FitsSigned, to_z, of_z, unsigned_abs, ap, sym, ◌∙◌, arith}
+use Rattle.std.proofs.Common.{rules, pos, get_or, FitsSigned, unsigned_abs}
 use Rattle.std.specs.Int.{w128}
 use Rattle.std.proofs.lemmas.Int.{to_z-of_z}
 use Rattle.nomos_simplex.proofs.DivisorLemmas.{common_more, gcd_one}

@@ -1,4 +1,4 @@
-use Rattle.std.proofs.Common.{◌≡◌, ◌++◌, take, drop, map, int_div, length}
+use Rattle.std.proofs.Common.{◌≡◌, ◌++◌, take, drop, map, int_div}
 use Rattle.nomos_simplex.proofs.divisors.divide_all.Given as goal
 
 -- the first numbers are divided

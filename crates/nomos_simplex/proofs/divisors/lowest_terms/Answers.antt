@@ -1,6 +1,6 @@
-use Rattle.std.proofs.Common.{rules, ◌≡◌, ℤ, pos, ◌<ℤ◌, ◌<◌, ◌^◌, FitsSigned, to_z, of_z, unsigned_abs, ap, sym, subst, ◌∙◌, arith}
+use Rattle.std.proofs.Common.{rules, ◌≡◌, pos, ◌<ℤ◌, ◌<◌, ◌^◌, FitsSigned, unsigned_abs, ap, sym, subst, ◌∙◌, arith}
 use Rattle.std.specs.Int.{w128}
-use Rattle.std.proofs.lemmas.Int.{ints, to_z-of_z, to_z_pos, fits_signed_from_abs}
+use Rattle.std.proofs.lemmas.Int.{ints, to_z-of_z, to_z_pos}
 use Rattle.nomos_simplex.specs.Divisors.{common, divided_by}
 use Rattle.nomos_simplex.proofs.DivisorLemmas.{lowest_is, divided_by_one, divisor_size}
 use Rattle.nomos_simplex.proofs.divisors.lowest_terms.Goals as goal

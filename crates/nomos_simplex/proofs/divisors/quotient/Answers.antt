@@ -1,4 +1,4 @@
-use Rattle.std.proofs.Common.{rules, FitsSigned, int_div}
+use Rattle.std.proofs.Common.{rules, FitsSigned}
 use Rattle.std.specs.Int.{w128}
 use Rattle.std.proofs.lemmas.Int.{quot_is, quot_fits}
 use Rattle.nomos_simplex.proofs.divisors.quotient.Goals as goal

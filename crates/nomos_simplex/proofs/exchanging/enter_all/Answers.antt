@@ -1,4 +1,4 @@
-use Rattle.std.proofs.Common.{◌≡◌, set, ap, sym, ◌∙◌}
+use Rattle.std.proofs.Common.{set, ap, sym, ◌∙◌}
 use Rattle.std.proofs.lemmas.List.Edits.{map_over_more}
 use Rattle.nomos_simplex.specs.Divisors.{in_lowest_terms}
 use Rattle.nomos_simplex.specs.Exchange.{put_into}

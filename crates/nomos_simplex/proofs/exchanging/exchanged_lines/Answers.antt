@@ -1,10 +1,8 @@
-use Rattle.std.proofs.Common.{◌≡◌, ◌∷◌, [], ◌++◌, All, length, map, refl, set, get_or, ap, ◌∙◌, sym, subst, arith}
+use Rattle.std.proofs.Common.{◌∷◌, [], ◌++◌, All, length, map, refl, ap, ◌∙◌, sym, subst}
 use Rattle.std.proofs.lemmas.Option.{get_or_from_slice_get, slice_get_read}
-use Rattle.std.proofs.lemmas.List.Elements.{All-get_or}
 use Rattle.nomos_simplex.specs.Divisors.{in_lowest_terms}
-use Rattle.nomos_simplex.specs.Exchange.{put_into, lines_exchanged, coef_at}
+use Rattle.nomos_simplex.specs.Exchange.{put_into, lines_exchanged}
 use Rattle.nomos_simplex.specs.Sizes.{IsLine}
-use Rattle.nomos_simplex.specs.declared.table.Line.{Line}
 use Rattle.nomos_simplex.proofs.LineLemmas.{All-remove}
 use Rattle.nomos_simplex.proofs.exchanging.exchanged_lines.Goals as goal
 

@@ -1,6 +1,6 @@
 use Rattle.std.proofs.Common.{◌≡◌, take}
 use Rattle.std.specs.List.{list_any}
-use Rattle.nomos_simplex.specs.Exchange.{is_large, is_large_line}
+use Rattle.nomos_simplex.specs.Exchange.{is_large_line}
 use Rattle.nomos_simplex.proofs.exchanging.is_too_large.Given as goal
 
 abbrev pub invariant-loop-line : goal.invariant-loop-line

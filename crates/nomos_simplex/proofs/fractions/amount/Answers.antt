@@ -1,5 +1,4 @@
-use Rattle.std.proofs.Common.{rules, ◌≡◌, ℕ, ◌<◌, ◌≤◌, ◌*◌, ◌/◌, ◌^◌, Some, None, ap, sym, ◌∙◌, arith, subst}
-use Rattle.std.specs.Prelude.{nat_lt, if◌then◌else◌}
+use Rattle.std.proofs.Common.{◌≡◌, ◌<◌, ◌≤◌, ◌*◌, ◌/◌, ◌^◌, Some, ap, sym, ◌∙◌, arith, subst}
 use Rattle.std.proofs.Math.Nat.{mul-le-mul_right}
 use Rattle.nomos_simplex.specs.Exits.{denominator}
 use Rattle.nomos_simplex.proofs.FractionLemmas.{gcd_over, quotient_over, amount_is, unit_quotient, small_none, small_some}

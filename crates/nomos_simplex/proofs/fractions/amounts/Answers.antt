@@ -1,7 +1,6 @@
-use Rattle.std.proofs.Common.{rules, ◌≡◌, ℕ, ◌<◌, ◌*◌, ◌/◌, ◌^◌, Some, None, length, map, false, ap, sym, ◌∙◌, arith}
+use Rattle.std.proofs.Common.{ℕ, ◌*◌, ◌/◌, ◌^◌, map, ap, ◌∙◌, arith}
 use Rattle.std.specs.Prelude.{nat_lt}
 use Rattle.std.proofs.lemmas.List.{length-map, get_or-map}
-use Rattle.nomos_simplex.specs.Exits.{amounts_over}
 use Rattle.nomos_simplex.proofs.FractionLemmas.{none_large, list_all_fails}
 use Rattle.nomos_simplex.proofs.fractions.amounts.Goals as goal
 

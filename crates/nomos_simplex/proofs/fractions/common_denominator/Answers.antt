@@ -1,4 +1,4 @@
-use Rattle.std.proofs.Common.{◌≡◌, ℕ, ◌<◌, ◌≤◌, ◌^◌, get_or, take, ap, sym, subst, ◌∙◌, arith}
+use Rattle.std.proofs.Common.{◌<◌, ◌^◌, get_or, take, sym, subst, ◌∙◌, arith}
 use Rattle.nomos_simplex.specs.Divisors.{lcm}
 use Rattle.nomos_simplex.specs.Exits.{common_denominator, denominator}
 use Rattle.nomos_simplex.proofs.FractionLemmas.{common_more, lcm_over, quotient_over}

@@ -1,4 +1,4 @@
-use Rattle.std.proofs.Common.{rules, ◌≡◌, ℕ, ◌<◌, ◌^◌, All, ap, sym, subst, ◌∙◌, arith}
+use Rattle.std.proofs.Common.{◌<◌, All, ap, sym, subst, ◌∙◌, arith}
 use Rattle.std.specs.Int.{◌∣◌}
 use Rattle.nomos_simplex.specs.Exits.{common_denominator, denominator, IsFraction}
 use Rattle.nomos_simplex.proofs.FractionLemmas.{some_is, common_over, each_divides}

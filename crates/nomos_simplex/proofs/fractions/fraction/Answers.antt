@@ -1,4 +1,4 @@
-use Rattle.std.proofs.Common.{rules, ◌≡◌, ◌<◌, ◌==◌, ◌<ℤ◌, ℕ, ℤ, pos, All, length, unsigned_abs, ap, sym, subst, ◌∙◌, arith}
+use Rattle.std.proofs.Common.{◌≡◌, ◌<◌, ◌==◌, ◌<ℤ◌, ℕ, ℤ, pos, All, length, unsigned_abs, ap, sym, subst, ◌∙◌, arith}
 use Rattle.std.proofs.lemmas.Int.{ints}
 use Rattle.nomos_simplex.specs.Sizes.{IsLine, IsNumber}
 use Rattle.nomos_simplex.specs.declared.table.Line.{Line}

@@ -1,4 +1,4 @@
-use Rattle.std.proofs.Common.{rules, ◌≡◌, ℤ, ◌+ℤ◌, ◌-ℤ◌, ◌*ℤ◌, unsigned_abs, ◌<◌, ◌^◌, FitsSigned, to_z, of_z, ap, sym, ◌∙◌, arith}
+use Rattle.std.proofs.Common.{ℤ, ◌-ℤ◌, ◌*ℤ◌, unsigned_abs, ◌<◌, ◌^◌, to_z, of_z, ◌∙◌, arith}
 use Rattle.std.specs.Int.{w128}
 use Rattle.std.proofs.lemmas.Int.{ints}
 use Rattle.nomos_simplex.proofs.NumberLemmas.{wide_back, number_back}

@@ -1,4 +1,4 @@
-use Rattle.std.proofs.Common.{rules, ◌≡◌, ℤ, pos, [], ◌∷◌, ◌++◌, ◌*ℤ◌, ◌-ℤ◌, get_or, take, FitsSigned, to_z, of_z, ap, sym, ◌∙◌, arith}
+use Rattle.std.proofs.Common.{rules, pos, [], ◌∷◌, ◌++◌, ◌*ℤ◌, ◌-ℤ◌, get_or, FitsSigned, to_z, of_z, sym, ◌∙◌, arith}
 use Rattle.std.specs.Int.{w128}
 use Rattle.std.proofs.lemmas.Int.{to_z-of_z}
 use Rattle.std.proofs.lemmas.List.{take_all}

@@ -1,4 +1,4 @@
-use Rattle.std.proofs.Common.{rules, ◌≡◌, ◌*ℤ◌, to_z, of_z, arith, ◌∙◌, sym, subst, ap, ◌<◌, ◌^◌, unsigned_abs, FitsSigned}
+use Rattle.std.proofs.Common.{◌*ℤ◌, to_z, of_z, arith, ◌∙◌, sym, subst, FitsSigned}
 use Rattle.std.specs.Int.{w128}
 use Rattle.nomos_simplex.proofs.NumberLemmas.{number_back, product_size, wide_back, wide_fits}
 use Rattle.nomos_simplex.proofs.lines.product.Goals as goal

@@ -1,4 +1,4 @@
-use Rattle.std.proofs.Common.{rules, ◌≡◌, ℤ, pos, ◌*ℤ◌, length, vec_len, get_or, set, to_z, of_z, ap, sym, ◌∙◌, arith}
+use Rattle.std.proofs.Common.{pos, ◌*ℤ◌, length, get_or, set, to_z, of_z, ap, ◌∙◌, arith}
 use Rattle.std.specs.Int.{w128}
 use Rattle.nomos_simplex.specs.Exchange.{coef_at, eliminated}
 use Rattle.nomos_simplex.proofs.LineLemmas.{length-eliminated}

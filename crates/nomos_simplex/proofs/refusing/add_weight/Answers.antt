@@ -1,4 +1,4 @@
-use Rattle.std.proofs.Common.{◌≡◌, ap, sym, ◌∙◌}
+use Rattle.std.proofs.Common.{ap, sym, ◌∙◌}
 use Rattle.std.specs.Prelude.{insert}
 use Rattle.nomos_simplex.specs.Exits.{with_weight}
 use Rattle.nomos_simplex.proofs.WeightLemmas.{with_weight_is}

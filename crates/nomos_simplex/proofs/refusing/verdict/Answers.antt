@@ -1,5 +1,4 @@
-use Rattle.std.proofs.Common.{◌≡◌, ℕ, All, ap, sym, subst, ◌∙◌}
-use Rattle.nomos_simplex.specs.Exits.{with_weight, weights_below}
+use Rattle.std.proofs.Common.{ℕ, All, sym, subst, ◌∙◌}
 use Rattle.nomos_simplex.specs.Sizes.{IsVariable}
 use Rattle.nomos_simplex.proofs.WeightLemmas.{with_weight_all, weights_all}
 use Rattle.nomos_simplex.proofs.refusing.verdict.Goals as goal

@@ -1,5 +1,5 @@
-use Rattle.std.proofs.Common.{rules, ◌≡◌, ℕ, ◌+◌, ◌-◌, ℤ, pos, cond, get_or, length, drop, int_lt, unsigned_abs, true, false, ap, sym, ◌∙◌, arith}
-use Rattle.nomos_simplex.specs.Exits.{with_weight, weights_below}
+use Rattle.std.proofs.Common.{◌+◌, ◌-◌, pos, get_or, length, int_lt, unsigned_abs, ap, sym, ◌∙◌, arith}
+use Rattle.nomos_simplex.specs.Exits.{with_weight}
 use Rattle.nomos_simplex.proofs.NumberLemmas.{number_back}
 use Rattle.nomos_simplex.proofs.WeightLemmas.{weights_lower, weights_same}
 use Rattle.nomos_simplex.proofs.refusing.weights_of.Goals as goal

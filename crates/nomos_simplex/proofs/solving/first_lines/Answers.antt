@@ -1,4 +1,4 @@
-use Rattle.std.proofs.Common.{◌≡◌, ℕ, List, length, ◌+◌, [], ◌∷◌, ◌++◌, get_or, ℤ, pos, ap, sym, ◌∙◌, arith}
+use Rattle.std.proofs.Common.{ℕ, List, length, ◌+◌, [], ◌∷◌, ◌++◌, get_or, ℤ, pos, ap, sym, ◌∙◌, arith}
 use Rattle.nomos_simplex.specs.declared.table.Line.{Line}
 use Rattle.nomos_simplex.proofs.SolveLemmas.{lines_more}
 use Rattle.nomos_simplex.proofs.solving.first_lines.Goals as goal

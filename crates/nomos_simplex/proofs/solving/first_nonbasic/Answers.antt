@@ -1,4 +1,4 @@
-use Rattle.std.proofs.Common.{◌≡◌, ◌+◌, [], ◌∷◌, ◌++◌, sym, ◌∙◌, arith, ap}
+use Rattle.std.proofs.Common.{◌≡◌, ◌+◌, [], ◌∷◌, ◌++◌, sym, ◌∙◌, arith}
 use Rattle.nomos_simplex.proofs.SolveLemmas.{range_more}
 use Rattle.nomos_simplex.proofs.solving.first_nonbasic.Goals as goal
 

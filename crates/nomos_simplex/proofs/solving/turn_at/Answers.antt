@@ -1,9 +1,8 @@
-use Rattle.std.proofs.Common.{◌≡◌, ℕ, ◌+◌, ◌-◌, ◌<◌, true, ℤ, pos, ◌<ℤ◌, int_lt, length, get_or, Some, refl, ap, sym, subst, ◌∙◌, arith}
-use Rattle.std.specs.Prelude.{slice_get, slice_index}
+use Rattle.std.proofs.Common.{◌≡◌, ℕ, ◌+◌, ◌-◌, true, ℤ, pos, ◌<ℤ◌, int_lt, length, get_or, refl, ap, sym, subst, ◌∙◌, arith}
+use Rattle.std.specs.Prelude.{slice_index}
 use Rattle.std.proofs.lemmas.Int.{ints}
 use Rattle.std.proofs.lemmas.Option.{get_or_from_slice_get, slice_get_read}
 use Rattle.nomos_simplex.specs.Exchange.{coef_at}
-use Rattle.nomos_simplex.specs.Lowest.{entering}
 use Rattle.nomos_simplex.specs.declared.table.Line.{Line}
 use Rattle.nomos_simplex.proofs.PlaceLemmas.{place_passes}
 use Rattle.nomos_simplex.proofs.SolveLemmas.{exchanges, stops_large, goes_small}
