@@ -1,0 +1,5 @@
+pub mod ListLemmas
+pub mod NumberLemmas
+pub mod RestLemmas
+pub mod ScopeLemmas
+pub mod TableLemmas

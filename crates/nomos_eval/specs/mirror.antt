@@ -1,0 +1,6 @@
+-- Mirrors of the code, on which no promise stands.
+pub mod ListCell
+pub mod Operation
+pub mod Rest
+pub mod Scope
+pub mod Table
