@@ -1,4 +1,5 @@
 pub mod ListLemmas
+pub mod MachineLemmas
 pub mod NumberLemmas
 pub mod RestLemmas
 pub mod ScopeLemmas

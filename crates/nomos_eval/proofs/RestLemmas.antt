@@ -13,7 +13,7 @@ use Rattle.nomos_eval.specs.declared.act.Act.TheVariants as act
 use Rattle.nomos_eval.specs.declared.act.Scope.{Scope}
 use Rattle.nomos_eval.specs.declared.numbers.Operator.{Operator}
 use Rattle.nomos_eval.specs.mirror.Operation.{operation}
-use Rattle.nomos_eval.specs.mirror.Rest.{top, below, variables_at, follow, rest}
+use Rattle.nomos_eval.specs.mirror.Rest.{top, below, variables_at, follow, rest, argument_acts, ScopeIn}
 
 -- one thing after another
 pub go_on-assoc : (e : Evaluation) (f g : Value → Counted) → go_on (go_on e f) g ≡ go_on e (λ v n. go_on (f v n) g)
@@ -49,10 +49,6 @@ module _ (from : Evaluator) (lists : ProgramLists) (scopes : List Environment) w
   pub leaves-part : (s : Scope) (a : TermId) (f : Value → Counted) (todo : List Act) (values : List Value) (n : ℕ) → go_on (go_on (follow from lists scopes s a n) f) (λ v. rest from lists scopes todo (v ∷ values)) ≡ go_on (follow from lists scopes s a n) (λ w m. go_on (f w m) (λ v. rest from lists scopes todo (v ∷ values)))
   leaves-part s a f todo values n = go_on-assoc (follow from lists scopes s a n) f _
 
-  -- the terms of arguments, one after another
-  abbrev pub argument_acts : Scope → List TermId → List Act
-  argument_acts s values = map (λ t. act.Term s t) values
-
   -- the arguments of a call
   pub leaves-arguments : (s : Scope) (f : FnId) (count : ℕ) (ts : List TermId) (before : List Value) (todo : List Act) (values : List Value) (n : ℕ) → count ≡ length before + length ts
     → go_on (each_of (follow from lists scopes s) ts (λ vs. body_evaluation from s.calls (slice_get lists.fns f.0) (reverse before ++ vs)) n) (λ v. rest from lists scopes todo (v ∷ values))
@@ -69,25 +65,12 @@ module _ (from : Evaluator) (lists : ProgramLists) (scopes : List Environment) w
         ap (λ e. go_on e (λ w. rest from lists scopes todo (w ∷ values))) (each_of-next (follow from lists scopes s) ts (λ vs. body_evaluation from s.calls (slice_get lists.fns f.0) (reverse before ++ v ∷ vs)) (λ vs. body_evaluation from s.calls (slice_get lists.fns f.0) (reverse (v ∷ before) ++ vs)) m (λ vs k. ap (λ l. body_evaluation from s.calls (slice_get lists.fns f.0) l k) (sym (ap (λ l. l ++ vs) (reverse-append (v ∷ []) before) ∙ append_assoc (reverse before) (v ∷ []) vs))))
         ∙ leaves-arguments s f count ts (v ∷ before) todo values m (omega arith))
 
-  -- the scopes of what is left are there
-  abbrev pub ScopeIn : Act → Type 0
-  ScopeIn (act.Term s t) = s.variables < length scopes
-  ScopeIn (act.Numbers operator) = Unit {0}
-  ScopeIn act.PutBefore = Unit {0}
-  ScopeIn (act.Both s t) = s.variables < length scopes
-  ScopeIn (act.Either s t) = s.variables < length scopes
-  ScopeIn act.Truth = Unit {0}
-  ScopeIn act.Not = Unit {0}
-  ScopeIn (act.Choose s a b) = s.variables < length scopes
-  ScopeIn (act.Open s empty head tail full) = s.variables < length scopes
-  ScopeIn (act.Enter calls f count) = Unit {0}
-
 -- one more place changes nothing of what is left
 module _ (from : Evaluator) (lists : ProgramLists) (scopes more : List Environment) where
   follow-more : (s : Scope) (t : TermId) → s.variables < length scopes → follow from lists (scopes ++ more) s t ≡ follow from lists scopes s t
   follow-more s t inside = ap (λ env. from s.calls env t) (get_or_append_left scopes more [] s.variables inside)
 
-  pub rest-more : (todo : List Act) (values : List Value) (n : ℕ) → AllByRecursion (ScopeIn from lists scopes) todo → rest from lists (scopes ++ more) todo values n ≡ rest from lists scopes todo values n
+  pub rest-more : (todo : List Act) (values : List Value) (n : ℕ) → AllByRecursion (ScopeIn (length scopes)) todo → rest from lists (scopes ++ more) todo values n ≡ rest from lists scopes todo values n
   rest-more [] values n inside = refl
   rest-more (act.Term s t ∷ todo) values n inside =
       ap (λ f. go_on (f n) (λ v. rest from lists (scopes ++ more) todo (v ∷ values))) (follow-more s t inside.0)

@@ -1,5 +1,6 @@
 -- Mirrors of the code, on which no promise stands.
 pub mod ListCell
+pub mod Machine
 pub mod Operation
 pub mod Rest
 pub mod Scope

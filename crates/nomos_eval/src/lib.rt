@@ -2,7 +2,10 @@
 #![tactic(auto)]
 
 mod act;
+mod acts;
 mod datum;
 mod lists;
+mod machine;
 mod numbers;
 mod scopes;
+mod stop;

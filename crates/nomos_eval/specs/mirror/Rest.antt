@@ -1,5 +1,5 @@
 -- A mirror of the code: what becomes of an evaluation by what is left to do.
-use Rattle.std.specs.Prelude.{ℕ, ◌+◌, List, [], ◌∷◌, take, drop, reverse, slice_get, slice_index_or}
+use Rattle.std.specs.Prelude.{ℕ, ◌+◌, ◌<◌, List, [], ◌∷◌, map, take, drop, reverse, slice_get, slice_index_or}
 use Rattle.nomos_ir.specs.declared.ids.TermId.{TermId}
 use Rattle.nomos_ir.specs.declared.lists.ProgramLists.{ProgramLists}
 use Rattle.nomos_ir.specs.Evaluation.{Environment, Counted, Evaluator, ends, go_on, nought, on_numbers, put_before, both, either, as_truth, opposite, chosen, taken_apart, bind_parts, body_evaluation}
@@ -46,3 +46,37 @@ module _ (from : Evaluator) (lists : ProgramLists) (scopes : List Environment) w
       go_on (taken_apart (top values) (follow s empty) (λ x xs. from s.calls (bind_parts head tail x xs (variables_at scopes s.variables)) full) (follow s full) n) (λ v. rest todo (v ∷ below values))
   rest (act.Enter calls f count ∷ todo) values n =
       go_on (body_evaluation from calls (slice_get lists.fns f.0) (reverse (take count values)) n) (λ v. rest todo (v ∷ drop count values))
+
+-- the terms of arguments, one after another
+abbrev pub argument_acts : Scope → List TermId → List Act
+argument_acts s values = map (λ t. act.Term s t) values
+
+-- what is left is in a scope that is there
+abbrev pub ScopeIn : ℕ → Act → Type 0
+ScopeIn count (act.Term s t) = s.variables < count
+ScopeIn count (act.Numbers operator) = Unit {0}
+ScopeIn count act.PutBefore = Unit {0}
+ScopeIn count (act.Both s t) = s.variables < count
+ScopeIn count (act.Either s t) = s.variables < count
+ScopeIn count act.Truth = Unit {0}
+ScopeIn count act.Not = Unit {0}
+ScopeIn count (act.Choose s a b) = s.variables < count
+ScopeIn count (act.Open s empty head tail full) = s.variables < count
+ScopeIn count (act.Enter calls f arguments) = Unit {0}
+
+-- how much follows, beside terms
+abbrev pub act_work : Act → ℕ
+act_work (act.Term s t) = 0
+act_work (act.Numbers operator) = 1
+act_work act.PutBefore = 1
+act_work (act.Both s t) = 2
+act_work (act.Either s t) = 2
+act_work act.Truth = 1
+act_work act.Not = 1
+act_work (act.Choose s a b) = 1
+act_work (act.Open s empty head tail full) = 1
+act_work (act.Enter calls f arguments) = 1
+
+abbrev pub work : List Act → ℕ
+work [] = 0
+work (a ∷ todo) = act_work a + work todo
