@@ -68,19 +68,19 @@ are-pushed cells c are before weighed =
     let L : ℕ → Cell → Type 0 = λ n b. IsBefore n b in
     record {
       before = λ k b found.
-        ⊎_elim
-        (λ old. are.before k b old)
-        (λ new. let N : ℕ → Type 0 = λ n. IsBefore n b in let B : Cell → Type 0 = λ x. IsBefore (length cells) x in subst N (sym new.0) (subst B new.1 before))
-        (pushed cells c b k found);
+          ⊎_elim
+          (λ old. are.before k b old)
+          (λ new. let N : ℕ → Type 0 = λ n. IsBefore n b in let B : Cell → Type 0 = λ x. IsBefore (length cells) x in subst N (sym new.0) (subst B new.1 before))
+          (pushed cells c b k found);
       weighed = λ k b found.
-        let W : List ValueList → Type 0 = λ l. IsWeighed l b in
-        subst
-        W
-        (sym (lists-push cells c))
-        (⊎_elim
-         (λ old. weighed-more (lists_of cells) _ b (before-more k (length (lists_of cells)) b (omega (arith, slice_get_within cells k b old)) (are.before k b old)) (are.weighed k b old))
-         (λ new. weighed-more (lists_of cells) _ b (let N : ℕ → Type 0 = λ n. IsBefore n b in let B : Cell → Type 0 = λ x. IsBefore (length cells) x in subst N (sym long) (subst B new.1 before)) (let V : Cell → Type 0 = λ x. IsWeighed (lists_of cells) x in subst V new.1 weighed))
-         (pushed cells c b k found));
+          let W : List ValueList → Type 0 = λ l. IsWeighed l b in
+          subst
+          W
+          (sym (lists-push cells c))
+          (⊎_elim
+          (λ old. weighed-more (lists_of cells) _ b (before-more k (length (lists_of cells)) b (omega (arith, slice_get_within cells k b old)) (are.before k b old)) (are.weighed k b old))
+          (λ new. weighed-more (lists_of cells) _ b (let N : ℕ → Type 0 = λ n. IsBefore n b in let B : Cell → Type 0 = λ x. IsBefore (length cells) x in subst N (sym long) (subst B new.1 before)) (let V : Cell → Type 0 = λ x. IsWeighed (lists_of cells) x in subst V new.1 weighed))
+          (pushed cells c b k found));
     }
 
 module _ (cells : List Cell) (lists : List ValueList) (same : lists_of cells ≡ lists) (are : AreLists cells) where

@@ -87,7 +87,7 @@ pub variable-entered : (scope : Scope) (at : ℕ) (v : VarId) (old : Machine) (d
 variable-entered scope at v old d values sound found pushed =
     let looked = get_or old.scopes scope.variables [] in
     let value_is : unwrap_or (bound_to v.0 (variables_at (scopes_held old) scope.variables)) nought ≡ datum_value old.lists d =
-      ap (λ env. unwrap_or (bound_to v.0 env) nought) (at-held old.lists scope.variables old.scopes) ∙ bound-held old.lists v.0 looked ∙ ap (datum_value old.lists) (sym found) in
+    ap (λ env. unwrap_or (bound_to v.0 env) nought) (at-held old.lists scope.variables old.scopes) ∙ bound-held old.lists v.0 looked ∙ ap (datum_value old.lists) (sym found) in
     let R : Datum → Type 0 = λ x. reach x ≤ length old.lists in
     let here = subst R (sym found) (bound-reach (length old.lists) v.0 looked (at-scope (length old.lists) scope.variables old.scopes sound.scopes)) in
     let P : List Datum → Type 0 = λ l. IsEntered scope (node.Var at v) old (record { todo = old.todo; values = l; lists = old.lists; scopes = old.scopes }) in
@@ -95,10 +95,10 @@ variable-entered scope at v old d values sound found pushed =
     P
     (sym pushed)
     (record {
-       sound = record { todo = sound.todo; values = (here, sound.values); scopes = sound.scopes };
-       same = λ program n. ap (λ w. left_with program old w n) value_is;
-       little = omega arith;
-     })
+      sound = record { todo = sound.todo; values = (here, sound.values); scopes = sound.scopes };
+      same = λ program n. ap (λ w. left_with program old w n) value_is;
+      little = omega arith;
+    })
 
 -- the list that was added last
 pub last-list : (lists : List ValueList) (vs : ValueList) → get_or (lists ++ vs ∷ []) (length lists) no_values ≡ vs
@@ -111,20 +111,20 @@ nil-entered scope at k old place lists values sound place_is added pushed =
     let longer : length more ≡ length old.lists + 1 = omega (arith, length-append old.lists (no_values ∷ [])) in
     let new : Machine = record { todo = old.todo; values = datum.List (length old.lists) ∷ old.values; lists = more; scopes = old.scopes } in
     let all : record { todo = old.todo; values = values; lists = lists; scopes = old.scopes } ≡ new =
-      ap (λ vs. record { todo = old.todo; values = vs; lists = lists; scopes = old.scopes }) (pushed ∙ ap (λ p. datum.List p ∷ old.values) place_is)
-      ∙ ap (λ l. record { todo = old.todo; values = datum.List (length old.lists) ∷ old.values; lists = l; scopes = old.scopes }) added in
+    ap (λ vs. record { todo = old.todo; values = vs; lists = lists; scopes = old.scopes }) (pushed ∙ ap (λ p. datum.List p ∷ old.values) place_is)
+    ∙ ap (λ l. record { todo = old.todo; values = datum.List (length old.lists) ∷ old.values; lists = l; scopes = old.scopes }) added in
     let P : Machine → Type 0 = λ m. IsEntered scope (node.Nil at k) old m in
     subst
     P
     (sym all)
     (record {
-       sound = record { todo = sound.todo; values = (omega (arith, longer), values-higher (length old.lists) (length more) old.values (omega (arith, longer)) sound.values); scopes = scopes-higher (length old.lists) (length more) old.scopes (omega (arith, longer)) sound.scopes };
-       same = λ program n.
-         ap (λ ss. rest (evaluation_from program) program ss old.todo (list no_values ∷ values_found old) n) (sym (scopes-more old.lists (no_values ∷ []) old.scopes sound.scopes))
-         ∙ ap (λ vs. rest (evaluation_from program) program (map (held more) old.scopes) old.todo (list no_values ∷ vs) n) (sym (values-more old.lists (no_values ∷ []) old.values sound.values))
-         ∙ ap (λ v. rest (evaluation_from program) program (map (held more) old.scopes) old.todo (list v ∷ map (datum_value more) old.values) n) (sym (last-list old.lists no_values));
-       little = omega arith;
-     })
+      sound = record { todo = sound.todo; values = (omega (arith, longer), values-higher (length old.lists) (length more) old.values (omega (arith, longer)) sound.values); scopes = scopes-higher (length old.lists) (length more) old.scopes (omega (arith, longer)) sound.scopes };
+      same = λ program n.
+          ap (λ ss. rest (evaluation_from program) program ss old.todo (list no_values ∷ values_found old) n) (sym (scopes-more old.lists (no_values ∷ []) old.scopes sound.scopes))
+          ∙ ap (λ vs. rest (evaluation_from program) program (map (held more) old.scopes) old.todo (list no_values ∷ vs) n) (sym (values-more old.lists (no_values ∷ []) old.values sound.values))
+          ∙ ap (λ v. rest (evaluation_from program) program (map (held more) old.scopes) old.todo (list v ∷ map (datum_value more) old.values) n) (sym (last-list old.lists no_values));
+      little = omega arith;
+    })
 
 -- a call
 arguments-in : (count : ℕ) (scope : Scope) (ts : List TermId) (todo : List Act) → scope.variables < count → AllByRecursion (ScopeIn count) todo → AllByRecursion (ScopeIn count) (argument_acts scope ts ++ todo)
@@ -142,10 +142,10 @@ call-entered scope at f ts old todo sound inside planned =
     P
     (sym planned)
     (record {
-       sound = record { todo = arguments-in (length old.scopes) scope ts (act.Enter scope.calls f (length ts) ∷ old.todo) inside (tt, sound.todo); values = sound.values; scopes = sound.scopes };
-       same = λ program n. leaves-arguments (evaluation_from program) program (scopes_held old) scope f (length ts) ts [] old.todo (values_found old) n (omega arith);
-       little = omega (arith, arguments-work scope ts (act.Enter scope.calls f (length ts) ∷ old.todo));
-     })
+      sound = record { todo = arguments-in (length old.scopes) scope ts (act.Enter scope.calls f (length ts) ∷ old.todo) inside (tt, sound.todo); values = sound.values; scopes = sound.scopes };
+      same = λ program n. leaves-arguments (evaluation_from program) program (scopes_held old) scope f (length ts) ts [] old.todo (values_found old) n (omega arith);
+      little = omega (arith, arguments-work scope ts (act.Enter scope.calls f (length ts) ∷ old.todo));
+    })
 
 -- what a call plans, under the name of its arguments
 pub call-planned : (scope : Scope) (f : FnId) (ts given : List TermId) (old new : List Act) → new ≡ argument_acts scope given ++ act.Enter scope.calls f (length given) ∷ old → given ≡ ts → new ≡ argument_acts scope ts ++ act.Enter scope.calls f (length ts) ∷ old

@@ -51,7 +51,7 @@ module _ (from : Evaluator) (lists : ProgramLists) (scopes : List Environment) w
 
   -- the arguments of a call
   pub leaves-arguments : (s : Scope) (f : FnId) (count : ℕ) (ts : List TermId) (before : List Value) (todo : List Act) (values : List Value) (n : ℕ) → count ≡ length before + length ts
-    → go_on (each_of (follow from lists scopes s) ts (λ vs. body_evaluation from s.calls (slice_get lists.fns f.0) (reverse before ++ vs)) n) (λ v. rest from lists scopes todo (v ∷ values))
+      → go_on (each_of (follow from lists scopes s) ts (λ vs. body_evaluation from s.calls (slice_get lists.fns f.0) (reverse before ++ vs)) n) (λ v. rest from lists scopes todo (v ∷ values))
       ≡ rest from lists scopes (argument_acts s ts ++ act.Enter s.calls f count ∷ todo) (before ++ values) n
   leaves-arguments s f count [] before todo values n same =
       let count_is : count ≡ length before = omega arith in
@@ -62,8 +62,8 @@ module _ (from : Evaluator) (lists : ProgramLists) (scopes : List Environment) w
   leaves-arguments s f count (t ∷ ts) before todo values n same =
       go_on-assoc (follow from lists scopes s t n) _ _
       ∙ go_on-next (follow from lists scopes s t n) _ _ (λ v m.
-        ap (λ e. go_on e (λ w. rest from lists scopes todo (w ∷ values))) (each_of-next (follow from lists scopes s) ts (λ vs. body_evaluation from s.calls (slice_get lists.fns f.0) (reverse before ++ v ∷ vs)) (λ vs. body_evaluation from s.calls (slice_get lists.fns f.0) (reverse (v ∷ before) ++ vs)) m (λ vs k. ap (λ l. body_evaluation from s.calls (slice_get lists.fns f.0) l k) (sym (ap (λ l. l ++ vs) (reverse-append (v ∷ []) before) ∙ append_assoc (reverse before) (v ∷ []) vs))))
-        ∙ leaves-arguments s f count ts (v ∷ before) todo values m (omega arith))
+      ap (λ e. go_on e (λ w. rest from lists scopes todo (w ∷ values))) (each_of-next (follow from lists scopes s) ts (λ vs. body_evaluation from s.calls (slice_get lists.fns f.0) (reverse before ++ v ∷ vs)) (λ vs. body_evaluation from s.calls (slice_get lists.fns f.0) (reverse (v ∷ before) ++ vs)) m (λ vs k. ap (λ l. body_evaluation from s.calls (slice_get lists.fns f.0) l k) (sym (ap (λ l. l ++ vs) (reverse-append (v ∷ []) before) ∙ append_assoc (reverse before) (v ∷ []) vs))))
+      ∙ leaves-arguments s f count ts (v ∷ before) todo values m (omega arith))
 
 -- one more place changes nothing of what is left
 module _ (from : Evaluator) (lists : ProgramLists) (scopes more : List Environment) where
@@ -89,7 +89,7 @@ module _ (from : Evaluator) (lists : ProgramLists) (scopes more : List Environme
       ap (λ f. go_on (chosen (top values) f (follow from lists (scopes ++ more) s b) n) (λ v. rest from lists (scopes ++ more) todo (v ∷ below values))) (follow-more s a inside.0)
       ∙ ap (λ f. go_on (chosen (top values) (follow from lists scopes s a) f n) (λ v. rest from lists (scopes ++ more) todo (v ∷ below values))) (follow-more s b inside.0)
       ∙ go_on-next (chosen (top values) (follow from lists scopes s a) (follow from lists scopes s b) n) _ _ (λ v m. rest-more todo (v ∷ below values) m inside.1)
-  rest-more (act.Open s empty head tail full ∷ todo) values n inside =
-      ap (λ env. go_on (taken_apart (top values) (from s.calls env empty) (λ x xs. from s.calls (bind_parts head tail x xs env) full) (from s.calls env full) n) (λ v. rest from lists (scopes ++ more) todo (v ∷ below values))) (get_or_append_left scopes more [] s.variables inside.0)
+  rest-more (act.Open s c ∷ todo) values n inside =
+      ap (λ env. go_on (taken_apart (top values) (from s.calls env c.empty) (λ x xs. from s.calls (bind_parts c.head c.tail x xs env) c.full) (from s.calls env c.full) n) (λ v. rest from lists (scopes ++ more) todo (v ∷ below values))) (get_or_append_left scopes more [] s.variables inside.0)
       ∙ go_on-next _ _ _ (λ v m. rest-more todo (v ∷ below values) m inside.1)
   rest-more (act.Enter calls f count ∷ todo) values n inside = go_on-next (body_evaluation from calls (slice_get lists.fns f.0) (reverse (take count values)) n) _ _ (λ v m. rest-more todo (v ∷ drop count values) m inside.1)

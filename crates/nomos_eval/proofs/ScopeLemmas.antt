@@ -43,10 +43,10 @@ pub are-pushed : (cells : List Binding) (c : Binding) → AreScopes cells → Is
 are-pushed cells c are before =
     record {
       before = λ k b found.
-        ⊎_elim
-        (λ old. are.before k b old)
-        (λ new. let N : ℕ → Type 0 = λ n. IsBehind n b in let B : Binding → Type 0 = λ x. IsBehind (length cells) x in subst N (sym new.0) (subst B new.1 before))
-        (pushed cells c b k found);
+          ⊎_elim
+          (λ old. are.before k b old)
+          (λ new. let N : ℕ → Type 0 = λ n. IsBehind n b in let B : Binding → Type 0 = λ x. IsBehind (length cells) x in subst N (sym new.0) (subst B new.1 before))
+          (pushed cells c b k found);
     }
 
 module _ (cells : List Binding) (scopes : List (List (VarId × Datum))) (same : scopes_of cells ≡ scopes) (are : AreScopes cells) where

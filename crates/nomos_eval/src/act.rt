@@ -9,6 +9,16 @@ pub(crate) struct Scope {
     pub(crate) calls: u32,
 }
 
+/// The parts of a `match`: what is taken where the list is empty, the names of its head and its tail, and what is taken
+/// where it has them.
+#[derive(Clone, Copy, PartialEq, Eq, Debug)]
+pub(crate) struct Cases {
+    pub(crate) empty: TermId,
+    pub(crate) head: VarId,
+    pub(crate) tail: VarId,
+    pub(crate) full: TermId,
+}
+
 /// Something that is left to do. The values found last are the topmost ones.
 #[derive(Clone, Copy, PartialEq, Eq, Debug)]
 pub(crate) enum Act {
@@ -28,9 +38,8 @@ pub(crate) enum Act {
     Not,
     /// The topmost value is the test of an `if`, and these are its parts.
     Choose(Scope, TermId, TermId),
-    /// The topmost value is taken apart by a `match`: its part where there is nothing, the names of head and tail, and its
-    /// part where they are.
-    Open(Scope, TermId, VarId, VarId, TermId),
+    /// The topmost value is taken apart by a `match` with these parts.
+    Open(Scope, Cases),
     /// So many topmost values are the arguments of a function, which is called where so many calls are open.
     Enter(u32, FnId, usize),
 }

@@ -86,7 +86,12 @@ pub(crate) fn turn_round(machine: &mut Machine) -> Result<(), Stop>
 }
 
 /// The part of an `if` that the topmost value takes.
-pub(crate) fn choose(machine: &mut Machine, scope: Scope, right: TermId, wrong: TermId) -> Result<(), Stop>
+pub(crate) fn choose(
+    machine: &mut Machine,
+    scope: Scope,
+    right: TermId,
+    wrong: TermId,
+) -> Result<(), Stop>
     requires sound { IsSound machine.old }
     requires inside { scope.variables < length machine.old.scopes }
     ensures { Does (act.Choose scope right wrong) machine.old machine.new result }

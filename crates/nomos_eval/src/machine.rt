@@ -4,7 +4,7 @@ ghost use Rattle.nomos_eval.specs.declared.act.Act.TheVariants as act;
 ghost use Rattle.nomos_eval.specs.mirror.Machine.{IsSound, IsEntered};
 ghost use Rattle.nomos_eval.specs.mirror.Rest.{argument_acts};
 
-use crate::act::{Act, Scope};
+use crate::act::{Act, Cases, Scope};
 use crate::datum::Datum;
 use crate::lists::Lists;
 use crate::numbers::Operator;
@@ -36,7 +36,11 @@ pub(crate) fn plan(todo: &mut Stack<Act>, acts: &[Act]) -> Result<(), AllocError
 }
 
 /// Finds the value of a node that was entered, or plans what leads to it.
-pub(crate) fn enter_node(machine: &mut Machine, scope: Scope, node: &TermNode) -> Result<(), AllocError>
+pub(crate) fn enter_node(
+    machine: &mut Machine,
+    scope: Scope,
+    node: &TermNode,
+) -> Result<(), AllocError>
     requires inside { scope.variables < length machine.old.scopes }
     requires sound { IsSound machine.old }
     ensures { OnOk result (IsEntered scope node.now machine.old machine.new) }
@@ -45,7 +49,10 @@ pub(crate) fn enter_node(machine: &mut Machine, scope: Scope, node: &TermNode) -
         TermNode::Number(_, n) => machine.values.push(Datum::Int(i64::from(*n))),
         TermNode::Truth(_, b) => machine.values.push(Datum::Bool(*b)),
         TermNode::Var(_, v) => {
-            let value = machine.scopes.look_up(scope.variables, *v).unwrap_or(Datum::Int(0));
+            let value = machine
+                .scopes
+                .look_up(scope.variables, *v)
+                .unwrap_or(Datum::Int(0));
             machine.values.push(value)
         }
         TermNode::Call(_, f, values) => call(&mut machine.todo, scope, *f, values.as_slice()),
@@ -60,26 +67,60 @@ pub(crate) fn enter_node(machine: &mut Machine, scope: Scope, node: &TermNode) -
         TermNode::Rem(_, a, b) => operate(&mut machine.todo, scope, *a, *b, Operator::Rem),
         TermNode::Less(_, a, b) => operate(&mut machine.todo, scope, *a, *b, Operator::Less),
         TermNode::Equal(_, a, b) => operate(&mut machine.todo, scope, *a, *b, Operator::Equal),
-        TermNode::And(_, a, b) => plan(&mut machine.todo, &[Act::Term(scope, *a), Act::Both(scope, *b)]),
-        TermNode::Or(_, a, b) => plan(&mut machine.todo, &[Act::Term(scope, *a), Act::Either(scope, *b)]),
+        TermNode::And(_, a, b) => plan(
+            &mut machine.todo,
+            &[Act::Term(scope, *a), Act::Both(scope, *b)],
+        ),
+        TermNode::Or(_, a, b) => plan(
+            &mut machine.todo,
+            &[Act::Term(scope, *a), Act::Either(scope, *b)],
+        ),
         TermNode::Cons(_, a, b) => {
-            plan(&mut machine.todo, &[Act::Term(scope, *a), Act::Term(scope, *b), Act::PutBefore])
+            plan(
+                &mut machine.todo,
+                &[Act::Term(scope, *a), Act::Term(scope, *b), Act::PutBefore],
+            )
         }
         TermNode::Not(_, a) => plan(&mut machine.todo, &[Act::Term(scope, *a), Act::Not]),
         TermNode::If(_, test, a, b) => {
-            plan(&mut machine.todo, &[Act::Term(scope, *test), Act::Choose(scope, *a, *b)])
+            plan(
+                &mut machine.todo,
+                &[Act::Term(scope, *test), Act::Choose(scope, *a, *b)],
+            )
         }
         TermNode::Match(_, taken, empty, head, tail, full) => {
-            plan(&mut machine.todo, &[Act::Term(scope, *taken), Act::Open(scope, *empty, *head, *tail, *full)])
+            let cases = Cases {
+                empty: *empty,
+                head: *head,
+                tail: *tail,
+                full: *full,
+            };
+            plan(
+                &mut machine.todo,
+                &[Act::Term(scope, *taken), Act::Open(scope, cases)],
+            )
         }
     }
 }
 
 // Both sides of an operator, and then the operator.
-fn operate(todo: &mut Stack<Act>, scope: Scope, a: TermId, b: TermId, operator: Operator) -> Result<(), AllocError>
+fn operate(
+    todo: &mut Stack<Act>,
+    scope: Scope,
+    a: TermId,
+    b: TermId,
+    operator: Operator,
+) -> Result<(), AllocError>
     ensures { OnOk result (todo.new ≡ act.Term scope a ∷ act.Term scope b ∷ act.Numbers operator ∷ todo.old) }
 {
-    plan(todo, &[Act::Term(scope, a), Act::Term(scope, b), Act::Numbers(operator)])
+    plan(
+        todo,
+        &[
+            Act::Term(scope, a),
+            Act::Term(scope, b),
+            Act::Numbers(operator),
+        ],
+    )
 }
 
 // The arguments of a call, and then the call.

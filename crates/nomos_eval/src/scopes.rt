@@ -54,7 +54,12 @@ impl Scopes {
     }
 
     /// Adds the list of a variable with its value before those at a place, and gives its place.
-    pub(crate) fn add_more(&mut self, v: VarId, value: Datum, others: usize) -> Result<usize, AllocError>
+    pub(crate) fn add_more(
+        &mut self,
+        v: VarId,
+        value: Datum,
+        others: usize,
+    ) -> Result<usize, AllocError>
         requires { others < length self.old }
         ensures { IfOk result (λ p. (p ≡ length self.old)
             × (self.new ≡ self.old ++ ((v, value) ∷ slice_index_or self.old others []) ∷ [])) }

@@ -63,11 +63,15 @@ pub record IsDone (a : Act) (old new : Machine) : Type 0 where
   pub same : (program : ProgramLists) (n : ℕ) → left_of program a old n ≡ left program new n
   pub less : work new.todo < act_work a + work old.todo
 
+-- an act leads to a fault
+abbrev pub Stops : Act → Machine → Stop → Type 0
+Stops a old (stop.Fault f) = (program : ProgramLists) (n : ℕ) → left_of program a old n ≡ faults f
+Stops a old stop.NoMemory = Unit {0}
+
 -- an act was done, or it leads to a fault
 abbrev pub Does : Act → Machine → Machine → Result (Unit {0}) Stop → Type 0
 Does a old new (Ok done) = IsDone a old new
-Does a old new (Err (stop.Fault f)) = (program : ProgramLists) (n : ℕ) → left_of program a old n ≡ faults f
-Does a old new (Err stop.NoMemory) = Unit {0}
+Does a old new (Err why) = Stops a old why
 
 -- the topmost datum, 0 where there is none
 abbrev pub top_datum : List Datum → Datum

@@ -42,8 +42,8 @@ module _ (from : Evaluator) (lists : ProgramLists) (scopes : List Environment) w
   rest (act.Not ∷ todo) values n = rest todo (opposite (top values) ∷ below values) n
   rest (act.Choose s a b ∷ todo) values n =
       go_on (chosen (top values) (follow s a) (follow s b) n) (λ v. rest todo (v ∷ below values))
-  rest (act.Open s empty head tail full ∷ todo) values n =
-      go_on (taken_apart (top values) (follow s empty) (λ x xs. from s.calls (bind_parts head tail x xs (variables_at scopes s.variables)) full) (follow s full) n) (λ v. rest todo (v ∷ below values))
+  rest (act.Open s c ∷ todo) values n =
+      go_on (taken_apart (top values) (follow s c.empty) (λ x xs. from s.calls (bind_parts c.head c.tail x xs (variables_at scopes s.variables)) c.full) (follow s c.full) n) (λ v. rest todo (v ∷ below values))
   rest (act.Enter calls f count ∷ todo) values n =
       go_on (body_evaluation from calls (slice_get lists.fns f.0) (reverse (take count values)) n) (λ v. rest todo (v ∷ drop count values))
 
@@ -61,7 +61,7 @@ ScopeIn count (act.Either s t) = s.variables < count
 ScopeIn count act.Truth = Unit {0}
 ScopeIn count act.Not = Unit {0}
 ScopeIn count (act.Choose s a b) = s.variables < count
-ScopeIn count (act.Open s empty head tail full) = s.variables < count
+ScopeIn count (act.Open s c) = s.variables < count
 ScopeIn count (act.Enter calls f arguments) = Unit {0}
 
 -- how much follows, beside terms
@@ -74,7 +74,7 @@ act_work (act.Either s t) = 2
 act_work act.Truth = 1
 act_work act.Not = 1
 act_work (act.Choose s a b) = 1
-act_work (act.Open s empty head tail full) = 1
+act_work (act.Open s c) = 1
 act_work (act.Enter calls f arguments) = 1
 
 abbrev pub work : List Act → ℕ
