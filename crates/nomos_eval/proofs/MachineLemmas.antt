@@ -72,7 +72,7 @@ bound-reach : (n v : ℕ) (bs : List (VarId × Datum)) → AllByRecursion (λ b.
 bound-reach n v [] inside = omega arith
 bound-reach n v (b ∷ bs) inside = step-reach n (b.0.0 == v) b.1 (bound_to v bs) inside.0 (bound-reach n v bs inside.1)
 
-at-scope : (n k : ℕ) (ss : List (List (VarId × Datum))) → AllByRecursion (AllByRecursion (λ b. reach b.1 ≤ n)) ss → AllByRecursion (λ b. reach b.1 ≤ n) (get_or ss k [])
+pub at-scope : (n k : ℕ) (ss : List (List (VarId × Datum))) → AllByRecursion (AllByRecursion (λ b. reach b.1 ≤ n)) ss → AllByRecursion (λ b. reach b.1 ≤ n) (get_or ss k [])
 at-scope n k [] inside = tt
 at-scope n zero (s ∷ ss) inside = inside.0
 at-scope n (suc k) (s ∷ ss) inside = at-scope n k ss inside.1

@@ -3,6 +3,7 @@
 
 mod act;
 mod acts;
+mod calls;
 mod datum;
 mod lists;
 mod machine;
