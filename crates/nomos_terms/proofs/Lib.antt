@@ -1,4 +1,5 @@
 pub mod BoundLemmas
+pub mod ChainLemmas
 pub mod EnterLemmas
 pub mod StayLemmas
 pub mod TaskLemmas

@@ -6,3 +6,5 @@ pub mod kinds;
 mod search;
 mod stop;
 mod tasks;
+#[cfg(test)]
+mod tests;
