@@ -1,4 +1,5 @@
 pub mod ActLemmas
+pub mod BindLemmas
 pub mod ListLemmas
 pub mod MachineLemmas
 pub mod NumberLemmas

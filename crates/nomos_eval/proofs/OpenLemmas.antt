@@ -43,7 +43,7 @@ scopes-in n [] s all inside = (inside, tt)
 scopes-in n (r ∷ ss) s all inside = (all.0, scopes-in n ss s all.1 inside)
 
 -- the variables at a place, as values
-at-held : (lists : List ValueList) (k : ℕ) (ss : List (List (VarId × Datum))) → get_or (map (held lists) ss) k [] ≡ held lists (get_or ss k [])
+pub at-held : (lists : List ValueList) (k : ℕ) (ss : List (List (VarId × Datum))) → get_or (map (held lists) ss) k [] ≡ held lists (get_or ss k [])
 at-held lists k [] = refl
 at-held lists zero (s ∷ ss) = refl
 at-held lists (suc k) (s ∷ ss) = at-held lists k ss

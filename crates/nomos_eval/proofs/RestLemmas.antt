@@ -13,7 +13,7 @@ use Rattle.nomos_eval.specs.declared.act.Act.TheVariants as act
 use Rattle.nomos_eval.specs.declared.act.Scope.{Scope}
 use Rattle.nomos_eval.specs.declared.numbers.Operator.{Operator}
 use Rattle.nomos_eval.specs.mirror.Operation.{operation}
-use Rattle.nomos_eval.specs.mirror.Rest.{top, below, variables_at, follow, rest, argument_acts, ScopeIn}
+use Rattle.nomos_eval.specs.mirror.Rest.{top, below, arguments_on, below_by, variables_at, follow, rest, argument_acts, ScopeIn}
 
 -- one thing after another
 pub go_on-assoc : (e : Evaluation) (f g : Value → Counted) → go_on (go_on e f) g ≡ go_on e (λ v n. go_on (f v n) g)
@@ -29,6 +29,16 @@ go_on-next (faults why) f g same = refl
 pub two_of-go_on : (part : TermId → Counted) (a b : TermId) (f : Value → Value → Counted) (n : ℕ) (g : Value → Counted) → go_on (two_of part a b f n) g ≡ go_on (part a n) (λ v m. go_on (part b m) (λ w k. go_on (f v w k) g))
 two_of-go_on part a b f n g =
     go_on-assoc (part a n) (λ v m. go_on (part b m) (f v)) g ∙ go_on-next (part a n) _ _ (λ v m. go_on-assoc (part b m) (f v) g)
+
+-- values in front are the arguments, and those behind are below
+arguments-seam : (before values : List Value) → arguments_on (length before) (before ++ values) ≡ reverse before
+arguments-seam [] values = refl
+arguments-seam (v ∷ before) values =
+    ap (λ l. l ++ v ∷ []) (arguments-seam before values) ∙ sym (reverse-append (v ∷ []) before)
+
+below-seam : (before values : List Value) → below_by (length before) (before ++ values) ≡ values
+below-seam [] values = refl
+below-seam (v ∷ before) values = below-seam before values
 
 -- equal last steps after some terms
 each_of-next : (part : TermId → Counted) (ts : List TermId) (f g : List Value → Counted) (n : ℕ) → ((vs : List Value) (m : ℕ) → f vs m ≡ g vs m) → each_of part ts f n ≡ each_of part ts g n
@@ -54,11 +64,11 @@ module _ (from : Evaluator) (lists : ProgramLists) (scopes : List Environment) w
       → go_on (each_of (follow from lists scopes s) ts (λ vs. body_evaluation from s.calls (slice_get lists.fns f.0) (reverse before ++ vs)) n) (λ v. rest from lists scopes todo (v ∷ values))
       ≡ rest from lists scopes (argument_acts s ts ++ act.Enter s.calls f count ∷ todo) (before ++ values) n
   leaves-arguments s f count [] before todo values n same =
-      let count_is : count ≡ length before = omega arith in
+      let count_is : length before ≡ count = omega arith in
       let F : List Value → List Value → Evaluation = λ vs ws. go_on (body_evaluation from s.calls (slice_get lists.fns f.0) vs n) (λ v. rest from lists scopes todo (v ∷ ws)) in
-      let first : reverse before ++ [] ≡ reverse (take count (before ++ values)) = append-nil (reverse before) ∙ ap reverse (sym (ap (λ k. take k (before ++ values)) count_is ∙ take-append_seam before values)) in
-      let second : values ≡ drop count (before ++ values) = sym (ap (λ k. drop k (before ++ values)) count_is ∙ drop-append_seam before values) in
-      ap (λ vs. F vs values) first ∙ ap (λ ws. F (reverse (take count (before ++ values))) ws) second
+      let first : reverse before ++ [] ≡ arguments_on count (before ++ values) = append-nil (reverse before) ∙ sym (ap (λ k. arguments_on k (before ++ values)) (sym count_is) ∙ arguments-seam before values) in
+      let second : values ≡ below_by count (before ++ values) = sym (ap (λ k. below_by k (before ++ values)) (sym count_is) ∙ below-seam before values) in
+      ap (λ vs. F vs values) first ∙ ap (λ ws. F (arguments_on count (before ++ values)) ws) second
   leaves-arguments s f count (t ∷ ts) before todo values n same =
       go_on-assoc (follow from lists scopes s t n) _ _
       ∙ go_on-next (follow from lists scopes s t n) _ _ (λ v m.
@@ -92,4 +102,4 @@ module _ (from : Evaluator) (lists : ProgramLists) (scopes more : List Environme
   rest-more (act.Open s c ∷ todo) values n inside =
       ap (λ env. go_on (taken_apart (top values) (from s.calls env c.empty) (λ x xs. from s.calls (bind_parts c.head c.tail x xs env) c.full) (from s.calls env c.full) n) (λ v. rest from lists (scopes ++ more) todo (v ∷ below values))) (get_or_append_left scopes more [] s.variables inside.0)
       ∙ go_on-next _ _ _ (λ v m. rest-more todo (v ∷ below values) m inside.1)
-  rest-more (act.Enter calls f count ∷ todo) values n inside = go_on-next (body_evaluation from calls (slice_get lists.fns f.0) (reverse (take count values)) n) _ _ (λ v m. rest-more todo (v ∷ drop count values) m inside.1)
+  rest-more (act.Enter calls f count ∷ todo) values n inside = go_on-next (body_evaluation from calls (slice_get lists.fns f.0) (arguments_on count values) n) _ _ (λ v m. rest-more todo (v ∷ below_by count values) m inside.1)

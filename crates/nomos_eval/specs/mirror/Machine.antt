@@ -1,5 +1,5 @@
 -- A mirror of the code: what becomes of an evaluation by its state.
-use Rattle.std.specs.Prelude.{◌≡◌, ◌<◌, ◌≤◌, ◌+◌, ℕ, List, [], ◌∷◌, length, map, pos}
+use Rattle.std.specs.Prelude.{◌≡◌, ◌<◌, ◌≤◌, ◌+◌, ℕ, zero, suc, List, [], ◌∷◌, ◌++◌, length, map, pos, Option, Some, None, slice_get, slice_index_or}
 use Rattle.std.specs.declared.result.Result.{Result}
 use Rattle.std.specs.declared.result.Result.TheVariants.{Ok, Err}
 use Rattle.std.specs.List.{AllByRecursion}
@@ -95,3 +95,44 @@ Operated operator x y (Ok d) =
 Operated operator x y (Err (stop.Fault f)) =
     (lists : List ValueList) (n : ℕ) → on_numbers (operation operator) (datum_value lists x) (datum_value lists y) n ≡ faults f
 Operated operator x y (Err stop.NoMemory) = ⊥
+
+-- the same of one program
+pub record IsDoneFor (program : ProgramLists) (a : Act) (old new : Machine) : Type 0 where
+  pub sound : IsSound new
+  pub same : (n : ℕ) → left_of program a old n ≡ left program new n
+  pub less : work new.todo < act_work a + work old.todo
+
+abbrev pub StopsFor : ProgramLists → Act → Machine → Stop → Type 0
+StopsFor program a old (stop.Fault f) = (n : ℕ) → left_of program a old n ≡ faults f
+StopsFor program a old stop.NoMemory = Unit {0}
+
+abbrev pub DoesFor : ProgramLists → Act → Machine → Machine → Result (Unit {0}) Stop → Type 0
+DoesFor program a old new (Ok done) = IsDoneFor program a old new
+DoesFor program a old new (Err why) = StopsFor program a old why
+
+-- so many topmost data, the topmost one last, and the data below them
+abbrev pub arguments_at : ℕ → List Datum → List Datum
+arguments_at zero ds = []
+arguments_at (suc k) ds = arguments_at k (below_top ds) ++ top_datum ds ∷ []
+
+abbrev pub below_at : ℕ → List Datum → List Datum
+below_at zero ds = ds
+below_at (suc k) ds = below_at k (below_top ds)
+
+-- one more parameter with its argument, if there is such a parameter
+abbrev pub with_parameter : Option VarId → Datum → List (VarId × Datum) → List (VarId × Datum)
+with_parameter (Some v) d env = (v, d) ∷ env
+with_parameter None d env = env
+
+-- so many topmost data are bound to parameters, the last one first
+abbrev pub bound_on : ℕ → List VarId → List Datum → List (VarId × Datum) → List (VarId × Datum)
+bound_on zero names ds env = env
+bound_on (suc k) names ds env = bound_on k names (below_top ds) (with_parameter (slice_get names k) (top_datum ds) env)
+
+-- how far arguments are bound
+pub record IsBinding (names : List VarId) (count : ℕ) (first : List Datum) (before : List (List (VarId × Datum))) (left : ℕ) (ds : List Datum) (scopes : List (List (VarId × Datum))) (place : ℕ) : Type 0 where
+  pub grown : (more : List (List (VarId × Datum))) × (scopes ≡ before ++ more)
+  pub there : place < length scopes
+  pub bound : bound_on left names ds (slice_index_or scopes place []) ≡ bound_on count names first []
+  pub under : below_at left ds ≡ below_at count first
+  pub sound : (n : ℕ) → AllByRecursion (λ d. reach d ≤ n) first → AllByRecursion (AllByRecursion (λ b. reach b.1 ≤ n)) before → AllByRecursion (λ d. reach d ≤ n) ds × AllByRecursion (AllByRecursion (λ b. reach b.1 ≤ n)) scopes

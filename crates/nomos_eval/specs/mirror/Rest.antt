@@ -1,5 +1,5 @@
 -- A mirror of the code: what becomes of an evaluation by what is left to do.
-use Rattle.std.specs.Prelude.{ℕ, ◌+◌, ◌<◌, List, [], ◌∷◌, map, take, drop, reverse, slice_get, slice_index_or}
+use Rattle.std.specs.Prelude.{ℕ, zero, suc, ◌+◌, ◌<◌, List, [], ◌∷◌, ◌++◌, map, slice_get, slice_index_or}
 use Rattle.nomos_ir.specs.declared.ids.TermId.{TermId}
 use Rattle.nomos_ir.specs.declared.lists.ProgramLists.{ProgramLists}
 use Rattle.nomos_ir.specs.Evaluation.{Environment, Counted, Evaluator, ends, go_on, nought, on_numbers, put_before, both, either, as_truth, opposite, chosen, taken_apart, bind_parts, body_evaluation}
@@ -18,6 +18,15 @@ top (v ∷ values) = v
 abbrev pub below : List Value → List Value
 below [] = []
 below (v ∷ values) = values
+
+-- so many topmost values, the topmost one last, and the values below them
+abbrev pub arguments_on : ℕ → List Value → List Value
+arguments_on zero values = []
+arguments_on (suc k) values = arguments_on k (below values) ++ top values ∷ []
+
+abbrev pub below_by : ℕ → List Value → List Value
+below_by zero values = values
+below_by (suc k) values = below_by k (below values)
 
 -- the variables at a place
 abbrev pub variables_at : List Environment → ℕ → Environment
@@ -45,7 +54,7 @@ module _ (from : Evaluator) (lists : ProgramLists) (scopes : List Environment) w
   rest (act.Open s c ∷ todo) values n =
       go_on (taken_apart (top values) (follow s c.empty) (λ x xs. from s.calls (bind_parts c.head c.tail x xs (variables_at scopes s.variables)) c.full) (follow s c.full) n) (λ v. rest todo (v ∷ below values))
   rest (act.Enter calls f count ∷ todo) values n =
-      go_on (body_evaluation from calls (slice_get lists.fns f.0) (reverse (take count values)) n) (λ v. rest todo (v ∷ drop count values))
+      go_on (body_evaluation from calls (slice_get lists.fns f.0) (arguments_on count values) n) (λ v. rest todo (v ∷ below_by count values))
 
 -- the terms of arguments, one after another
 abbrev pub argument_acts : Scope → List TermId → List Act
