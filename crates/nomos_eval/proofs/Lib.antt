@@ -5,5 +5,6 @@ pub mod MachineLemmas
 pub mod NumberLemmas
 pub mod OpenLemmas
 pub mod RestLemmas
+pub mod RunLemmas
 pub mod ScopeLemmas
 pub mod TableLemmas

@@ -3,5 +3,6 @@ pub mod ListCell
 pub mod Machine
 pub mod Operation
 pub mod Rest
+pub mod Run
 pub mod Scope
 pub mod Table

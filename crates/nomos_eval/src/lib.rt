@@ -8,5 +8,6 @@ mod datum;
 mod lists;
 mod machine;
 mod numbers;
+mod run;
 mod scopes;
 mod stop;
