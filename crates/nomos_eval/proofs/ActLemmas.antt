@@ -1,11 +1,10 @@
 -- What is done with the topmost values.
-use Rattle.std.proofs.Common.{◌≡◌, ◌+◌, ◌<◌, ◌≤◌, ℕ, zero, suc, pos, Bool, true, false, cond, nat_le, List, [], ◌∷◌, ◌++◌, length, map, get_or, Err, refl, sym, ap, ◌∙◌, subst, arith, length-append, tests, rules}
+use Rattle.std.proofs.Common.{◌≡◌, ◌+◌, ◌<◌, ◌≤◌, ℕ, true, cond, nat_le, List, [], ◌∷◌, ◌++◌, length, map, get_or, Err, refl, sym, ap, ◌∙◌, subst, arith, length-append, tests, rules}
 use Rattle.std.specs.List.{AllByRecursion}
-use Rattle.nomos_ir.specs.declared.fault.Fault.{Fault}
 use Rattle.nomos_ir.specs.declared.fault.Fault.TheVariants as fault
 use Rattle.nomos_ir.specs.declared.lists.ProgramLists.{ProgramLists}
-use Rattle.nomos_ir.specs.Evaluation.{Environment, Evaluation, ends, faults, go_on, on_numbers, put_before}
-use Rattle.nomos_ir.specs.Value.{Value, int, truth, list, ValueList, no_values, value}
+use Rattle.nomos_ir.specs.Evaluation.{Environment, ends, faults, go_on, on_numbers, put_before}
+use Rattle.nomos_ir.specs.Value.{Value, list, ValueList, no_values, value}
 use Rattle.nomos_ir.specs.Weight.{weight, list_weight, max_weight}
 use Rattle.nomos_ir.proofs.EvaluationLaws.{evaluation_from}
 use Rattle.nomos_eval.specs.declared.act.Act.{Act}
@@ -16,9 +15,9 @@ use Rattle.nomos_eval.specs.declared.machine.Machine.{Machine}
 use Rattle.nomos_eval.specs.declared.numbers.Operator.{Operator}
 use Rattle.nomos_eval.specs.declared.stop.Stop.{Stop}
 use Rattle.nomos_eval.specs.declared.stop.Stop.TheVariants as stop
-use Rattle.nomos_eval.specs.mirror.Machine.{held, scopes_held, values_found, left, left_of, IsSound, IsDone, Stops, Operated, top_datum, below_top}
+use Rattle.nomos_eval.specs.mirror.Machine.{held, scopes_held, IsSound, IsDone, Stops, Operated, top_datum, below_top}
 use Rattle.nomos_eval.specs.mirror.Operation.{operation}
-use Rattle.nomos_eval.specs.mirror.Rest.{rest, top, below, work, ScopeIn}
+use Rattle.nomos_eval.specs.mirror.Rest.{rest, top, below}
 use Rattle.nomos_eval.specs.mirror.Table.{datum_value, reach, capped}
 use Rattle.nomos_eval.proofs.MachineLemmas.{values-more, scopes-more, values-higher, scopes-higher, last-list}
 

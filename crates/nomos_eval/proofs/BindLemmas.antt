@@ -1,5 +1,5 @@
 -- Arguments are bound to parameters, the last one first.
-use Rattle.std.proofs.Common.{◌≡◌, ◌+◌, ◌-◌, ◌<◌, ◌≤◌, ℕ, zero, suc, pos, Bool, true, false, cond, nat_lt, List, [], ◌∷◌, ◌++◌, length, map, get_or, drop, Option, Some, None, slice_get, refl, sym, ap, ◌∙◌, subst, arith, append_assoc, length-append, tests, rules}
+use Rattle.std.proofs.Common.{◌≡◌, ◌+◌, ◌-◌, ◌<◌, ◌≤◌, ℕ, zero, suc, pos, true, cond, nat_lt, List, [], ◌∷◌, ◌++◌, length, map, get_or, drop, Some, None, slice_get, refl, sym, ap, ◌∙◌, subst, arith, append_assoc, length-append, tests, rules}
 use Rattle.std.specs.List.{AllByRecursion, zip}
 use Rattle.std.proofs.Math.Seq.{get_or-append_seam}
 use Rattle.std.proofs.lemmas.List.{map-append, length-map, append-nil}
@@ -8,18 +8,17 @@ use Rattle.nomos_ir.specs.declared.fault.Fault.TheVariants as fault
 use Rattle.nomos_ir.specs.declared.ids.FnId.{FnId}
 use Rattle.nomos_ir.specs.declared.ids.VarId.{VarId}
 use Rattle.nomos_ir.specs.declared.lists.ProgramLists.{ProgramLists}
-use Rattle.nomos_ir.specs.Evaluation.{Environment, Evaluation, ends, faults, go_on, nought, max_calls, bind_arguments, body_evaluation}
+use Rattle.nomos_ir.specs.Evaluation.{faults, go_on, nought, max_calls, bind_arguments, body_evaluation}
 use Rattle.nomos_ir.specs.Value.{Value, ValueList}
 use Rattle.nomos_ir.proofs.EvaluationLaws.{evaluation_from}
 use Rattle.nomos_eval.specs.declared.act.Act.{Act}
 use Rattle.nomos_eval.specs.declared.act.Act.TheVariants as act
-use Rattle.nomos_eval.specs.declared.act.Scope.{Scope}
 use Rattle.nomos_eval.specs.declared.datum.Datum.{Datum}
 use Rattle.nomos_eval.specs.declared.datum.Datum.TheVariants as datum
 use Rattle.nomos_eval.specs.declared.machine.Machine.{Machine}
-use Rattle.nomos_eval.specs.mirror.Machine.{held, scopes_held, values_found, left, left_of, IsSound, IsDoneFor, IsBinding, arguments_at, below_at, bound_on, with_parameter, top_datum, below_top}
-use Rattle.nomos_eval.specs.mirror.Rest.{rest, top, below, arguments_on, below_by, variables_at, work, ScopeIn}
-use Rattle.nomos_eval.specs.mirror.Table.{datum_value, reach}
+use Rattle.nomos_eval.specs.mirror.Machine.{held, scopes_held, values_found, IsSound, IsDoneFor, IsBinding, arguments_at, below_at, bound_on, with_parameter, top_datum, below_top}
+use Rattle.nomos_eval.specs.mirror.Rest.{rest, top, arguments_on, below_by, ScopeIn}
+use Rattle.nomos_eval.specs.mirror.Table.{datum_value}
 use Rattle.nomos_eval.proofs.ActLemmas.{top-found, below-found, top-in, below-in}
 use Rattle.nomos_eval.proofs.OpenLemmas.{at-held, todo-higher, scopes-in}
 use Rattle.nomos_eval.proofs.MachineLemmas.{at-scope}
@@ -34,12 +33,12 @@ module _ (names : List VarId) (count : ℕ) (first : List Datum) (before : List 
       P
       (sym is)
       (record {
-         grown = binding.grown;
-         there = binding.there;
-         bound = ap (λ o. bound_on k names (below_top ds) (with_parameter o (top_datum ds) (get_or scopes place []))) (sym none) ∙ binding.bound;
-         under = binding.under;
-         sound = λ n first_in before_in. let s = binding.sound n first_in before_in in (below-in n ds s.0, s.1);
-       })
+        grown = binding.grown;
+        there = binding.there;
+        bound = ap (λ o. bound_on k names (below_top ds) (with_parameter o (top_datum ds) (get_or scopes place []))) (sym none) ∙ binding.bound;
+        under = binding.under;
+        sound = λ n first_in before_in. let s = binding.sound n first_in before_in in (below-in n ds s.0, s.1);
+      })
 
   pub bind-some : (v : VarId) (d : Datum) (ds' : List Datum) (scopes' : List (List (VarId × Datum))) (place' : ℕ) → slice_get names k ≡ Some v → d ≡ top_datum ds → ds' ≡ below_top ds → place' ≡ length scopes → scopes' ≡ scopes ++ ((v, d) ∷ get_or scopes place []) ∷ [] → IsBinding names count first before k ds' scopes' place'
   bind-some v d ds' scopes' place' some d_is ds_is place_is added =
@@ -55,23 +54,23 @@ module _ (names : List VarId) (count : ℕ) (first : List Datum) (before : List 
       P
       (sym ds_is)
       (subst
-       Q
-       (sym scopes_is)
-       (subst
-        R
-        (sym place_is)
-        (record {
-           grown = (binding.grown.0 ++ s ∷ [], ap (λ l. l ++ s ∷ []) binding.grown.1 ∙ append_assoc before binding.grown.0 (s ∷ []));
-           there = omega (arith, longer);
-           bound =
-             ap (bound_on k names (below_top ds)) last
-             ∙ ap (λ o. bound_on k names (below_top ds) (with_parameter o (top_datum ds) (get_or scopes place []))) (sym some)
-             ∙ binding.bound;
-           under = binding.under;
-           sound = λ n first_in before_in.
-             let both = binding.sound n first_in before_in in
-             (below-in n ds both.0, scopes-in n scopes s both.1 (top-in n ds both.0, at-scope n place scopes both.1));
-         })))
+      Q
+      (sym scopes_is)
+      (subst
+      R
+      (sym place_is)
+      (record {
+        grown = (binding.grown.0 ++ s ∷ [], ap (λ l. l ++ s ∷ []) binding.grown.1 ∙ append_assoc before binding.grown.0 (s ∷ []));
+        there = omega (arith, longer);
+        bound =
+            ap (bound_on k names (below_top ds)) last
+            ∙ ap (λ o. bound_on k names (below_top ds) (with_parameter o (top_datum ds) (get_or scopes place []))) (sym some)
+            ∙ binding.bound;
+        under = binding.under;
+        sound = λ n first_in before_in.
+            let both = binding.sound n first_in before_in in
+            (below-in n ds both.0, scopes-in n scopes s both.1 (top-in n ds both.0, at-scope n place scopes both.1));
+      })))
 
 -- no arguments yet
 pub bind-first : (names : List VarId) (count : ℕ) (first : List Datum) (before : List (List (VarId × Datum))) (scopes : List (List (VarId × Datum))) (place : ℕ) → place ≡ length before → scopes ≡ before ++ [] ∷ [] → IsBinding names count first before count first scopes place
@@ -83,15 +82,15 @@ bind-first names count first before scopes place place_is added =
     Q
     (sym added)
     (subst
-     R
-     (sym place_is)
-     (record {
-        grown = ([] ∷ [], refl);
-        there = omega (arith, longer);
-        bound = ap (bound_on count names first) (get_or-append_seam before [] [] []);
-        under = refl;
-        sound = λ n first_in before_in. (first_in, scopes-in n before [] before_in tt);
-      }))
+    R
+    (sym place_is)
+    (record {
+      grown = ([] ∷ [], refl);
+      there = omega (arith, longer);
+      bound = ap (bound_on count names first) (get_or-append_seam before [] [] []);
+      under = refl;
+      sound = λ n first_in before_in. (first_in, scopes-in n before [] before_in tt);
+    }))
 
 -- parameters with their arguments, one by one
 zip-nil : (names : List VarId) → zip {X = Datum} names [] ≡ []
@@ -159,12 +158,12 @@ module _ (program : ProgramLists) (calls : ℕ) (f : FnId) (count : ℕ) (old : 
       P
       (sym pushed)
       (record {
-         sound = record { todo = todo-higher (length old.scopes) (length scopes) old.todo longer sound.todo; values = (omega arith, held_in.0); scopes = held_in.1 };
-         same = λ n.
-           ap (λ o. go_on (body_evaluation (evaluation_from program) calls o (arguments_on count (values_found old)) n) (λ v. rest (evaluation_from program) program (scopes_held old) old.todo (v ∷ below_by count (values_found old)))) none
-           ∙ same_rest nought n;
-         less = omega arith;
-       })
+        sound = record { todo = todo-higher (length old.scopes) (length scopes) old.todo longer sound.todo; values = (omega arith, held_in.0); scopes = held_in.1 };
+        same = λ n.
+            ap (λ o. go_on (body_evaluation (evaluation_from program) calls o (arguments_on count (values_found old)) n) (λ v. rest (evaluation_from program) program (scopes_held old) old.todo (v ∷ below_by count (values_found old)))) none
+            ∙ same_rest nought n;
+        less = omega arith;
+      })
 
   -- the body of a function
   pub enter-done : (d : FnDecl) (todo : List Act) → slice_get program.fns f.0 ≡ Some d → names ≡ map (λ par. par.0) d.pars → calls < max_calls → todo ≡ act.Term (record { variables = place; calls = calls + 1 }) d.body ∷ old.todo → IsDoneFor program (act.Enter calls f count) old (record { todo = todo; values = ds; lists = old.lists; scopes = scopes })
@@ -172,24 +171,24 @@ module _ (program : ProgramLists) (calls : ℕ) (f : FnId) (count : ℕ) (old : 
       let P : List Act → Type 0 = λ l. IsDoneFor program (act.Enter calls f count) old (record { todo = l; values = ds; lists = old.lists; scopes = scopes }) in
       let held_in = binding.sound (length old.lists) sound.values sound.scopes in
       let env : get_or (map (held old.lists) scopes) place [] ≡ bind_arguments d (arguments_on count (values_found old)) =
-        at-held old.lists place scopes
-        ∙ ap (held old.lists) (binding.bound ∙ bound-whole names count old.values)
-        ∙ held-zip old.lists names (arguments_at count old.values)
-        ∙ ap (λ ns. zip ns (map (datum_value old.lists) (arguments_at count old.values))) names_are
-        ∙ ap (zip (map (λ par. par.0) d.pars)) (sym (arguments-found old.lists count old.values)) in
+      at-held old.lists place scopes
+      ∙ ap (held old.lists) (binding.bound ∙ bound-whole names count old.values)
+      ∙ held-zip old.lists names (arguments_at count old.values)
+      ∙ ap (λ ns. zip ns (map (datum_value old.lists) (arguments_at count old.values))) names_are
+      ∙ ap (zip (map (λ par. par.0) d.pars)) (sym (arguments-found old.lists count old.values)) in
       let open_calls : nat_lt calls max_calls ≡ true = search (tests, rules) in
       subst
       P
       (sym planned)
       (record {
-         sound = record { todo = (binding.there, todo-higher (length old.scopes) (length scopes) old.todo longer sound.todo); values = held_in.0; scopes = held_in.1 };
-         same = λ n.
-           ap (λ o. go_on (body_evaluation (evaluation_from program) calls o (arguments_on count (values_found old)) n) (λ v. rest (evaluation_from program) program (scopes_held old) old.todo (v ∷ below_by count (values_found old)))) some
-           ∙ ap (λ b. go_on (cond b (evaluation_from program (calls + 1) (bind_arguments d (arguments_on count (values_found old))) d.body n) (faults fault.Depth)) (λ v. rest (evaluation_from program) program (scopes_held old) old.todo (v ∷ below_by count (values_found old)))) open_calls
-           ∙ ap (λ e. go_on (evaluation_from program (calls + 1) e d.body n) (λ v. rest (evaluation_from program) program (scopes_held old) old.todo (v ∷ below_by count (values_found old)))) (sym env)
-           ∙ go_on-next (evaluation_from program (calls + 1) (get_or (map (held old.lists) scopes) place []) d.body n) _ _ (λ v m. same_rest v m);
-         less = omega arith;
-       })
+        sound = record { todo = (binding.there, todo-higher (length old.scopes) (length scopes) old.todo longer sound.todo); values = held_in.0; scopes = held_in.1 };
+        same = λ n.
+            ap (λ o. go_on (body_evaluation (evaluation_from program) calls o (arguments_on count (values_found old)) n) (λ v. rest (evaluation_from program) program (scopes_held old) old.todo (v ∷ below_by count (values_found old)))) some
+            ∙ ap (λ b. go_on (cond b (evaluation_from program (calls + 1) (bind_arguments d (arguments_on count (values_found old))) d.body n) (faults fault.Depth)) (λ v. rest (evaluation_from program) program (scopes_held old) old.todo (v ∷ below_by count (values_found old)))) open_calls
+            ∙ ap (λ e. go_on (evaluation_from program (calls + 1) e d.body n) (λ v. rest (evaluation_from program) program (scopes_held old) old.todo (v ∷ below_by count (values_found old)))) (sym env)
+            ∙ go_on-next (evaluation_from program (calls + 1) (get_or (map (held old.lists) scopes) place []) d.body n) _ _ (λ v m. same_rest v m);
+        less = omega arith;
+      })
 
   pub enter-none-at : (todo : List Act) (values : List Datum) (lists : List ValueList) → todo ≡ old.todo → lists ≡ old.lists → slice_get program.fns f.0 ≡ None → values ≡ datum.Int (pos 0) ∷ ds → IsDoneFor program (act.Enter calls f count) old (record { todo = todo; values = values; lists = lists; scopes = scopes })
   enter-none-at todo values lists todo_is lists_are none pushed =

@@ -1,6 +1,8 @@
 pub mod ActLemmas
+pub mod BeginLemmas
 pub mod BindLemmas
 pub mod ListLemmas
+pub mod LoadLemmas
 pub mod MachineLemmas
 pub mod NumberLemmas
 pub mod OpenLemmas

@@ -1,5 +1,5 @@
 -- What stays where lists and variables are added, and what the forms of terms find.
-use Rattle.std.proofs.Common.{◌≡◌, ◌+◌, ◌<◌, ◌≤◌, ◌==◌, ℕ, zero, suc, pos, Bool, true, false, cond, List, [], ◌∷◌, ◌++◌, length, map, get_or, Option, Some, None, unwrap_or, refl, sym, ap, ◌∙◌, subst, arith, length-append}
+use Rattle.std.proofs.Common.{◌≡◌, ◌+◌, ◌<◌, ◌≤◌, ◌==◌, ℕ, zero, suc, pos, Bool, true, false, cond, List, [], ◌∷◌, ◌++◌, length, map, get_or, Option, Some, unwrap_or, refl, sym, ap, ◌∙◌, subst, arith, length-append}
 use Rattle.std.specs.List.{AllByRecursion}
 use Rattle.std.proofs.Math.Seq.{get_or-append_seam}
 use Rattle.nomos_ir.specs.declared.ids.FnId.{FnId}
@@ -9,8 +9,8 @@ use Rattle.nomos_ir.specs.declared.kind.Kind.{Kind}
 use Rattle.nomos_ir.specs.declared.term_node.TermNode.{TermNode}
 use Rattle.nomos_ir.specs.declared.term_node.TermNode.TheVariants as node
 use Rattle.nomos_ir.specs.Bindings.{bound_to}
-use Rattle.nomos_ir.specs.Evaluation.{Environment, nought}
-use Rattle.nomos_ir.specs.Value.{Value, int, truth, list, ValueList, no_values, value}
+use Rattle.nomos_ir.specs.Evaluation.{nought}
+use Rattle.nomos_ir.specs.Value.{Value, list, ValueList, no_values}
 use Rattle.nomos_ir.proofs.EvaluationLaws.{evaluation_from}
 use Rattle.nomos_eval.specs.declared.act.Act.{Act}
 use Rattle.nomos_eval.specs.declared.act.Act.TheVariants as act
@@ -18,7 +18,7 @@ use Rattle.nomos_eval.specs.declared.act.Scope.{Scope}
 use Rattle.nomos_eval.specs.declared.datum.Datum.{Datum}
 use Rattle.nomos_eval.specs.declared.datum.Datum.TheVariants as datum
 use Rattle.nomos_eval.specs.declared.machine.Machine.{Machine}
-use Rattle.nomos_eval.specs.mirror.Machine.{held, scopes_held, values_found, left, left_with, IsSound, IsEntered}
+use Rattle.nomos_eval.specs.mirror.Machine.{held, scopes_held, values_found, left_with, IsSound, IsEntered}
 use Rattle.nomos_eval.specs.mirror.Rest.{rest, variables_at, work, ScopeIn, argument_acts}
 use Rattle.nomos_eval.specs.mirror.Table.{datum_value, reach}
 use Rattle.nomos_eval.proofs.ListLemmas.{datum-more}

@@ -1,10 +1,10 @@
 -- Numbers of 64 bits.
-use Rattle.std.proofs.Common.{◌≡◌, ℕ, zero, suc, ℤ, pos, negsuc, ◌<◌, ◌≤◌, ◌^◌, ◌+ℤ◌, ◌-ℤ◌, ◌*ℤ◌, Bool, true, false, cond, nat_lt, Option, Some, None, refl, sym, ap, ◌∙◌, subst, arith, tests, rules}
-use Rattle.std.specs.Prelude.{FitsSigned, SomeIff, int_div, int_rem, int_lt}
+use Rattle.std.proofs.Common.{◌≡◌, ℕ, zero, suc, ℤ, pos, negsuc, ◌-ℤ◌, ◌*ℤ◌, Bool, true, false, cond, Option, Some, None, refl, sym, ap, ◌∙◌, arith, tests, rules}
+use Rattle.std.specs.Prelude.{FitsSigned, SomeIff, int_div, int_rem}
 use Rattle.std.specs.Int.{w64}
 use Rattle.std.proofs.lemmas.Int.{ints, quot-rem}
 use Rattle.nomos_ir.specs.declared.fault.Fault.TheVariants as fault
-use Rattle.nomos_ir.specs.Evaluation.{ends, faults, whole, has_64_bits, divided, rest_of_division}
+use Rattle.nomos_ir.specs.Evaluation.{ends, faults, whole, has_64_bits, rest_of_division}
 use Rattle.nomos_ir.specs.Value.{int}
 use Rattle.nomos_eval.specs.mirror.Operation.{given, checked}
 

@@ -1,13 +1,12 @@
 -- A list is taken apart.
-use Rattle.std.proofs.Common.{◌≡◌, ◌+◌, ◌<◌, ◌≤◌, ℕ, zero, suc, pos, List, [], ◌∷◌, ◌++◌, length, map, get_or, refl, sym, ap, ◌∙◌, subst, arith, append_assoc, length-append}
+use Rattle.std.proofs.Common.{◌≡◌, ◌+◌, ◌<◌, ◌≤◌, ℕ, zero, suc, List, [], ◌∷◌, ◌++◌, length, map, get_or, refl, sym, ap, ◌∙◌, subst, arith, append_assoc, length-append}
 use Rattle.std.specs.List.{AllByRecursion}
 use Rattle.std.proofs.Math.Seq.{get_or-append_seam}
 use Rattle.std.proofs.lemmas.List.{map-append, length-map}
-use Rattle.nomos_ir.specs.declared.ids.TermId.{TermId}
 use Rattle.nomos_ir.specs.declared.ids.VarId.{VarId}
 use Rattle.nomos_ir.specs.declared.lists.ProgramLists.{ProgramLists}
-use Rattle.nomos_ir.specs.Evaluation.{Environment, Evaluation, go_on, taken_apart, bind_parts}
-use Rattle.nomos_ir.specs.Value.{Value, int, truth, list, ValueList, no_values, value}
+use Rattle.nomos_ir.specs.Evaluation.{Environment, go_on, taken_apart, bind_parts}
+use Rattle.nomos_ir.specs.Value.{Value, list, ValueList, no_values, value}
 use Rattle.nomos_ir.proofs.EvaluationLaws.{evaluation_from}
 use Rattle.nomos_eval.specs.declared.act.Act.{Act}
 use Rattle.nomos_eval.specs.declared.act.Act.TheVariants as act
@@ -17,7 +16,7 @@ use Rattle.nomos_eval.specs.declared.datum.Datum.{Datum}
 use Rattle.nomos_eval.specs.declared.datum.Datum.TheVariants as datum
 use Rattle.nomos_eval.specs.declared.machine.Machine.{Machine}
 use Rattle.nomos_eval.specs.mirror.Machine.{held, scopes_held, IsSound, IsDone, top_datum, below_top}
-use Rattle.nomos_eval.specs.mirror.Rest.{rest, follow, variables_at, below, work, ScopeIn}
+use Rattle.nomos_eval.specs.mirror.Rest.{rest, follow, variables_at, below, ScopeIn}
 use Rattle.nomos_eval.specs.mirror.Table.{datum_value, reach}
 use Rattle.nomos_eval.proofs.ActLemmas.{top-found, below-found, top-in, below-in}
 use Rattle.nomos_eval.proofs.MachineLemmas.{at-scope}

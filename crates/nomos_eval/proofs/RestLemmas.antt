@@ -1,19 +1,18 @@
 -- What each form of term leaves to do leads to its evaluation.
-use Rattle.std.proofs.Common.{◌≡◌, ◌+◌, ◌<◌, ◌≤◌, ℕ, zero, suc, Bool, true, false, List, [], ◌∷◌, ◌++◌, length, map, take, drop, reverse, get_or, Option, Some, None, slice_get, refl, sym, ap, ◌∙◌, subst, arith, append_assoc, length-append}
-use Rattle.std.proofs.Math.Seq.{take-append_seam, drop-append_seam}
+use Rattle.std.proofs.Common.{◌≡◌, ◌+◌, ◌<◌, ℕ, List, [], ◌∷◌, ◌++◌, length, reverse, slice_get, refl, sym, ap, ◌∙◌, arith, append_assoc}
 use Rattle.std.proofs.lemmas.List.{append-nil, reverse-append, get_or_append_left}
 use Rattle.std.specs.List.{AllByRecursion}
 use Rattle.nomos_ir.specs.declared.ids.FnId.{FnId}
 use Rattle.nomos_ir.specs.declared.ids.TermId.{TermId}
 use Rattle.nomos_ir.specs.declared.lists.ProgramLists.{ProgramLists}
-use Rattle.nomos_ir.specs.Evaluation.{Environment, Evaluation, ends, faults, Counted, Evaluator, go_on, nought, on_numbers, put_before, both, either, as_truth, opposite, chosen, taken_apart, bind_parts, two_of, each_of, body_evaluation}
-use Rattle.nomos_ir.specs.Value.{Value, int, truth, list, ValueList, no_values, value}
+use Rattle.nomos_ir.specs.Evaluation.{Environment, Evaluation, ends, faults, Counted, Evaluator, go_on, on_numbers, put_before, both, either, as_truth, opposite, chosen, taken_apart, bind_parts, two_of, each_of, body_evaluation}
+use Rattle.nomos_ir.specs.Value.{Value}
 use Rattle.nomos_eval.specs.declared.act.Act.{Act}
 use Rattle.nomos_eval.specs.declared.act.Act.TheVariants as act
 use Rattle.nomos_eval.specs.declared.act.Scope.{Scope}
 use Rattle.nomos_eval.specs.declared.numbers.Operator.{Operator}
 use Rattle.nomos_eval.specs.mirror.Operation.{operation}
-use Rattle.nomos_eval.specs.mirror.Rest.{top, below, arguments_on, below_by, variables_at, follow, rest, argument_acts, ScopeIn}
+use Rattle.nomos_eval.specs.mirror.Rest.{top, below, arguments_on, below_by, follow, rest, argument_acts, ScopeIn}
 
 -- one thing after another
 pub go_on-assoc : (e : Evaluation) (f g : Value → Counted) → go_on (go_on e f) g ≡ go_on e (λ v n. go_on (f v n) g)

@@ -1,12 +1,10 @@
 -- The steps of an evaluation, one after another.
-use Rattle.std.proofs.Common.{◌≡◌, ◌+◌, ◌-◌, ◌*◌, ◌<◌, ◌≤◌, ℕ, zero, suc, pos, Bool, true, false, nat_lt, List, [], ◌∷◌, length, map, Option, Some, None, slice_get, Ok, Err, Result, refl, sym, ap, ◌∙◌, subst, arith, tests, rules}
-use Rattle.std.specs.List.{AllByRecursion}
+use Rattle.std.proofs.Common.{◌≡◌, ◌+◌, ◌<◌, ◌≤◌, ℕ, pos, true, false, nat_lt, List, ◌∷◌, Some, None, slice_get, Ok, Err, Result, sym, ap, ◌∙◌, subst, arith, tests, rules}
 use Rattle.nomos_ir.specs.declared.fault.Fault.TheVariants as fault
 use Rattle.nomos_ir.specs.declared.ids.TermId.{TermId}
 use Rattle.nomos_ir.specs.declared.lists.ProgramLists.{ProgramLists}
 use Rattle.nomos_ir.specs.declared.term_node.TermNode.{TermNode}
-use Rattle.nomos_ir.specs.Evaluation.{Environment, Evaluation, ends, faults, go_on, nought, entered, counted, max_nodes}
-use Rattle.nomos_ir.specs.Value.{Value}
+use Rattle.nomos_ir.specs.Evaluation.{faults, go_on, entered, counted, max_nodes}
 use Rattle.nomos_ir.proofs.EvaluationLaws.{evaluation_from, evaluation-step}
 use Rattle.nomos_eval.specs.declared.act.Act.{Act}
 use Rattle.nomos_eval.specs.declared.act.Act.TheVariants as act
@@ -16,11 +14,9 @@ use Rattle.nomos_eval.specs.declared.datum.Datum.TheVariants as datum
 use Rattle.nomos_eval.specs.declared.machine.Machine.{Machine}
 use Rattle.nomos_eval.specs.declared.stop.Stop.{Stop}
 use Rattle.nomos_eval.specs.declared.stop.Stop.TheVariants as stop
-use Rattle.nomos_eval.specs.mirror.Machine.{scopes_held, left, left_of, left_with, IsSound, IsEntered, IsDone, IsDoneFor, Does, DoesFor, Stops, StopsFor, top_datum}
-use Rattle.nomos_eval.specs.mirror.Rest.{rest, variables_at, act_work, work}
-use Rattle.nomos_eval.specs.mirror.Run.{IsOther, IsEnteredAt, IsStep, StepStops, Steps, RunStops, Ran}
-use Rattle.nomos_eval.specs.mirror.Table.{datum_value, reach}
-use Rattle.nomos_eval.proofs.ActLemmas.{top-found, top-in}
+use Rattle.nomos_eval.specs.mirror.Machine.{scopes_held, left_of, left_with, IsSound, IsEntered, IsDoneFor, Does, DoesFor, StopsFor}
+use Rattle.nomos_eval.specs.mirror.Rest.{variables_at}
+use Rattle.nomos_eval.specs.mirror.Run.{IsEnteredAt, IsStep, StepStops}
 
 -- what holds of every program holds of one
 pub for-one : (program : ProgramLists) (a : Act) (old new : Machine) (r : Result (Unit {0}) Stop) → Does a old new r → DoesFor program a old new r
@@ -52,10 +48,10 @@ entered-none program scope t old values sound none pushed =
     P
     (sym pushed)
     (record {
-       sound = record { todo = sound.todo; values = (omega arith, sound.values); scopes = sound.scopes };
-       same = λ n. ap (λ o. go_on (entered program (evaluation_from program) scope.calls (variables_at (scopes_held old) scope.variables) o n) (left_with program old)) (sym none);
-       little = omega arith;
-     })
+      sound = record { todo = sound.todo; values = (omega arith, sound.values); scopes = sound.scopes };
+      same = λ n. ap (λ o. go_on (entered program (evaluation_from program) scope.calls (variables_at (scopes_held old) scope.variables) o n) (left_with program old)) (sym none);
+      little = omega arith;
+    })
 
 -- a term is a step
 pub step-term : (program : ProgramLists) (a : Act) (scope : Scope) (t : TermId) (old new : Machine) (n : ℕ) → a ≡ act.Term scope t → n < max_nodes → IsEnteredAt program scope t old new → IsStep program a old n new (n + 1)
@@ -66,14 +62,14 @@ step-term program a scope t old new n same few is =
     P
     (sym same)
     (record {
-       sound = is.sound;
-       same =
-         ap (λ e. go_on e (left_with program old)) (evaluation-step program scope.calls (variables_at (scopes_held old) scope.variables) t n)
-         ∙ ap (λ b. go_on (counted b (entered program (evaluation_from program) scope.calls (variables_at (scopes_held old) scope.variables) (slice_get program.terms t.0)) n) (left_with program old)) on
-         ∙ is.same (n + 1);
-       few = omega arith;
-       less = omega (arith, is.little);
-     })
+      sound = is.sound;
+      same =
+          ap (λ e. go_on e (left_with program old)) (evaluation-step program scope.calls (variables_at (scopes_held old) scope.variables) t n)
+          ∙ ap (λ b. go_on (counted b (entered program (evaluation_from program) scope.calls (variables_at (scopes_held old) scope.variables) (slice_get program.terms t.0)) n) (left_with program old)) on
+          ∙ is.same (n + 1);
+      few = omega arith;
+      less = omega (arith, is.little);
+    })
 
 pub step-last : (program : ProgramLists) (a : Act) (scope : Scope) (t : TermId) (old : Machine) (n : ℕ) → a ≡ act.Term scope t → max_nodes ≤ n → left_of program a old n ≡ faults fault.TermSteps
 step-last program a scope t old n same past =

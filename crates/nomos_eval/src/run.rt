@@ -20,7 +20,12 @@ use std::alloc::AllocError;
 const MAX_NODES: u32 = 100_000;
 
 // Enters a term.
-fn enter(lists: &ProgramLists, machine: &mut Machine, scope: Scope, t: TermId) -> Result<(), AllocError>
+fn enter(
+    lists: &ProgramLists,
+    machine: &mut Machine,
+    scope: Scope,
+    t: TermId,
+) -> Result<(), AllocError>
     requires sound { IsSound machine.old }
     requires inside { scope.variables < length machine.old.scopes }
     ensures { OnOk result (IsEnteredAt lists.now scope t machine.old machine.new) }

@@ -6,7 +6,7 @@ use Rattle.std.specs.List.{AllByRecursion}
 use Rattle.nomos_ir.specs.declared.ids.VarId.{VarId}
 use Rattle.nomos_ir.specs.declared.lists.ProgramLists.{ProgramLists}
 use Rattle.nomos_ir.specs.declared.term_node.TermNode.{TermNode}
-use Rattle.nomos_ir.specs.Evaluation.{Environment, Evaluation, Counted, ends, faults, go_on, on_numbers, node_evaluation}
+use Rattle.nomos_ir.specs.Evaluation.{Environment, Counted, ends, faults, go_on, on_numbers, node_evaluation}
 use Rattle.nomos_ir.specs.Value.{Value, ValueList}
 use Rattle.nomos_ir.proofs.EvaluationLaws.{evaluation_from}
 use Rattle.nomos_eval.specs.declared.act.Act.{Act}

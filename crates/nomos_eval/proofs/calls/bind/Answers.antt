@@ -1,5 +1,5 @@
 -- One more argument is bound.
-use Rattle.std.proofs.Common.{◌-◌, map, sym, ◌∙◌}
+use Rattle.std.proofs.Common.{◌-◌, map, sym}
 use Rattle.nomos_eval.proofs.BindLemmas.{bind-some, bind-none, turned}
 use Rattle.nomos_eval.proofs.calls.bind.Goals as goal
 

@@ -1,5 +1,5 @@
 -- The body of a function is entered.
-use Rattle.std.proofs.Common.{map, sym, ap, ◌∙◌}
+use Rattle.std.proofs.Common.{map, sym, ap}
 use Rattle.nomos_eval.proofs.BindLemmas.{enter-none-at, enter-done-at}
 use Rattle.nomos_eval.proofs.calls.enter_function.Goals as goal
 

@@ -1,7 +1,7 @@
 -- One more cell is one more list.
-use Rattle.std.proofs.Common.{refl, sym, ap, ◌∙◌}
+use Rattle.std.proofs.Common.{◌∙◌}
 use Rattle.nomos_eval.specs.declared.lists.Cell.TheVariants as cell
-use Rattle.nomos_eval.proofs.ListLemmas.{are-pushed, are-more, view-push, long}
+use Rattle.nomos_eval.proofs.ListLemmas.{are-more, view-push, long}
 use Rattle.nomos_eval.proofs.lists.Lists.add_more.Goals as goal
 
 pub invariant_of-self-2 : goal.invariant_of-self-2

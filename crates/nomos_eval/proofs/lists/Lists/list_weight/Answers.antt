@@ -1,5 +1,5 @@
 -- A cell notes the weight of its list.
-use Rattle.std.proofs.Common.{refl, sym, ap, ◌∙◌, arith}
+use Rattle.std.proofs.Common.{sym, ap, arith}
 use Rattle.nomos_ir.specs.Value.{list}
 use Rattle.nomos_eval.specs.mirror.Table.{capped}
 use Rattle.nomos_eval.proofs.ListLemmas.{empty_at, weight_at, long}

@@ -1,7 +1,5 @@
 -- The first variable with the number is found, going from one binding to the others.
-use Rattle.std.proofs.Common.{◌≡◌, ◌==◌, true, false, Some, cond, sym, ap, ◌∙◌, arith, rules, tests}
-use Rattle.std.proofs.lemmas.Bool.Decides.{nat_tests}
-use Rattle.nomos_ir.specs.Bindings.{bound_to}
+use Rattle.std.proofs.Common.{◌≡◌, ◌==◌, true, false, sym, ◌∙◌, arith, rules, tests}
 use Rattle.nomos_eval.proofs.ScopeLemmas.{none_at, some_at, found_here, missed_here, long}
 use Rattle.nomos_eval.proofs.scopes.Scopes.look_up.Goals as goal
 

@@ -1,7 +1,6 @@
 -- The variables before do not have the number.
 use Rattle.std.proofs.Common.{◌≡◌, ◌<◌, [], length, get_or}
 use Rattle.nomos_ir.specs.Bindings.{bound_to}
-use Rattle.nomos_eval.specs.mirror.Scope.{scopes_of}
 use Rattle.nomos_eval.proofs.scopes.Scopes.look_up.Given as goal
 
 abbrev pub invariant-loop-w : goal.invariant-loop-w
