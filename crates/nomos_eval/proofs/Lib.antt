@@ -1,0 +1,12 @@
+pub mod ActLemmas
+pub mod BeginLemmas
+pub mod BindLemmas
+pub mod ListLemmas
+pub mod LoadLemmas
+pub mod MachineLemmas
+pub mod NumberLemmas
+pub mod OpenLemmas
+pub mod RestLemmas
+pub mod RunLemmas
+pub mod ScopeLemmas
+pub mod TableLemmas

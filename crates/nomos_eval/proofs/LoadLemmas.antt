@@ -1,0 +1,35 @@
+-- Values on their way out.
+use Rattle.std.proofs.Common.{◌≡◌, ◌<◌, ◌≤◌, ℕ, List, [], ◌∷◌, ◌++◌, length, map, get_or, refl, sym, ap, ◌∙◌, arith}
+use Rattle.std.proofs.lemmas.List.{map-append}
+use Rattle.nomos_ir.specs.declared.value_node.ValueNode.{ValueNode}
+use Rattle.nomos_ir.specs.Value.{Value, list, ValueList, no_values, value, value_list}
+use Rattle.nomos_ir.specs.ValueNode.{value_of}
+use Rattle.nomos_eval.specs.declared.datum.Datum.{Datum}
+use Rattle.nomos_eval.specs.mirror.Load.{before_list}
+use Rattle.nomos_eval.specs.mirror.Table.{datum_value, reach}
+
+before-push : (vs : List Value) (v : Value) (ws : ValueList) → before_list (vs ++ v ∷ []) ws ≡ before_list vs (value v ws)
+before-push [] v ws = refl
+before-push (u ∷ vs) v ws = ap (value u) (before-push vs v ws)
+
+before-none : (vs : List Value) → before_list vs no_values ≡ value_list vs
+before-none [] = refl
+before-none (v ∷ vs) = ap (value v) (before-none vs)
+
+-- one more value is given out
+pub unload-step : (lists : List ValueList) (items more : List ValueNode) (node : ValueNode) (at place tail : ℕ) (head : Datum) (whole : ValueList) → more ≡ items ++ node ∷ [] → value_of node ≡ datum_value lists head → (reach head ≤ at) × (tail < at) × (get_or lists at no_values ≡ value (datum_value lists head) (get_or lists tail no_values)) → (at ≤ place) × (at < length lists) × (before_list (map value_of items) (get_or lists at no_values) ≡ whole) → (tail ≤ place) × (tail < length lists) × (before_list (map value_of more) (get_or lists tail no_values) ≡ whole)
+unload-step lists items more node at place tail head whole pushed node_is parts so_far = (
+  omega (arith, parts.1, so_far.0),
+  omega (arith, parts.1, so_far.1),
+  ap (λ l. before_list (map value_of l) (get_or lists tail no_values)) pushed
+      ∙ ap (λ l. before_list l (get_or lists tail no_values)) (map-append value_of items (node ∷ []))
+      ∙ before-push (map value_of items) (value_of node) (get_or lists tail no_values)
+      ∙ ap (λ v. before_list (map value_of items) (value v (get_or lists tail no_values))) node_is
+      ∙ ap (before_list (map value_of items)) (sym parts.2)
+      ∙ so_far.2,
+)
+
+-- all values are given out
+pub unload-all : (lists : List ValueList) (items : List ValueNode) (at : ℕ) (whole : ValueList) → get_or lists at no_values ≡ no_values → before_list (map value_of items) (get_or lists at no_values) ≡ whole → list (value_list (map value_of items)) ≡ list whole
+unload-all lists items at whole last so_far =
+    ap list (sym (before-none (map value_of items)) ∙ ap (before_list (map value_of items)) (sym last) ∙ so_far)

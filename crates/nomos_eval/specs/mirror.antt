@@ -1,0 +1,10 @@
+-- Mirrors of the code, on which no promise stands.
+pub mod Begin
+pub mod ListCell
+pub mod Load
+pub mod Machine
+pub mod Operation
+pub mod Rest
+pub mod Run
+pub mod Scope
+pub mod Table

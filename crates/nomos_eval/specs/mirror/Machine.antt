@@ -1,0 +1,138 @@
+-- A mirror of the code: what becomes of an evaluation by its state.
+use Rattle.std.specs.Prelude.{◌≡◌, ◌<◌, ◌≤◌, ◌+◌, ℕ, zero, suc, List, [], ◌∷◌, ◌++◌, length, map, pos, Option, Some, None, slice_get, slice_index_or}
+use Rattle.std.specs.declared.result.Result.{Result}
+use Rattle.std.specs.declared.result.Result.TheVariants.{Ok, Err}
+use Rattle.std.specs.List.{AllByRecursion}
+use Rattle.nomos_ir.specs.declared.ids.VarId.{VarId}
+use Rattle.nomos_ir.specs.declared.lists.ProgramLists.{ProgramLists}
+use Rattle.nomos_ir.specs.declared.term_node.TermNode.{TermNode}
+use Rattle.nomos_ir.specs.Evaluation.{Environment, Counted, ends, faults, go_on, on_numbers, node_evaluation}
+use Rattle.nomos_ir.specs.Value.{Value, ValueList}
+use Rattle.nomos_ir.proofs.EvaluationLaws.{evaluation_from}
+use Rattle.nomos_eval.specs.declared.act.Act.{Act}
+use Rattle.nomos_eval.specs.declared.act.Scope.{Scope}
+use Rattle.nomos_eval.specs.declared.datum.Datum.{Datum}
+use Rattle.nomos_eval.specs.declared.datum.Datum.TheVariants as datum
+use Rattle.nomos_eval.specs.declared.machine.Machine.{Machine}
+use Rattle.nomos_eval.specs.declared.numbers.Given.{Given}
+use Rattle.nomos_eval.specs.declared.numbers.Given.TheVariants as give
+use Rattle.nomos_eval.specs.declared.numbers.Operator.{Operator}
+use Rattle.nomos_eval.specs.declared.stop.Stop.{Stop}
+use Rattle.nomos_eval.specs.declared.stop.Stop.TheVariants as stop
+use Rattle.nomos_eval.specs.mirror.Operation.{operation}
+use Rattle.nomos_eval.specs.mirror.Rest.{rest, variables_at, act_work, work, ScopeIn}
+use Rattle.nomos_eval.specs.mirror.Table.{datum_value, reach}
+
+-- variables with their values
+abbrev pub held : List ValueList → List (VarId × Datum) → Environment
+held lists scope = map (λ b. (b.0, datum_value lists b.1)) scope
+
+abbrev pub scopes_held : Machine → List Environment
+scopes_held m = map (held m.lists) m.scopes
+
+abbrev pub values_found : Machine → List Value
+values_found m = map (datum_value m.lists) m.values
+
+-- what is left leads to this
+abbrev pub left : ProgramLists → Machine → Counted
+left program m = rest (evaluation_from program) program (scopes_held m) m.todo (values_found m)
+
+-- what is left where one more value was found
+abbrev pub left_with : ProgramLists → Machine → Value → Counted
+left_with program m v = rest (evaluation_from program) program (scopes_held m) m.todo (v ∷ values_found m)
+
+-- all that is named is there
+pub record IsSound (m : Machine) : Type 0 where
+  pub todo : AllByRecursion (ScopeIn (length m.scopes)) m.todo
+  pub values : AllByRecursion (λ d. reach d ≤ length m.lists) m.values
+  pub scopes : AllByRecursion (AllByRecursion (λ b. reach b.1 ≤ length m.lists)) m.scopes
+
+-- a node was entered
+pub record IsEntered (scope : Scope) (node : TermNode) (old new : Machine) : Type 0 where
+  pub sound : IsSound new
+  pub same : (program : ProgramLists) (n : ℕ) → go_on (node_evaluation program (evaluation_from program) scope.calls (variables_at (scopes_held old) scope.variables) node n) (left_with program old) ≡ left program new n
+  pub little : work new.todo ≤ 2 + work old.todo
+
+-- what an act leads to, with what is left after it
+abbrev pub left_of : ProgramLists → Act → Machine → Counted
+left_of program a m = rest (evaluation_from program) program (scopes_held m) (a ∷ m.todo) (values_found m)
+
+-- an act was done
+pub record IsDone (a : Act) (old new : Machine) : Type 0 where
+  pub sound : IsSound new
+  pub same : (program : ProgramLists) (n : ℕ) → left_of program a old n ≡ left program new n
+  pub less : work new.todo < act_work a + work old.todo
+
+-- an act leads to a fault
+abbrev pub Stops : Act → Machine → Stop → Type 0
+Stops a old (stop.Fault f) = (program : ProgramLists) (n : ℕ) → left_of program a old n ≡ faults f
+Stops a old stop.NoMemory = Unit {0}
+
+-- an act was done, or it leads to a fault
+abbrev pub Does : Act → Machine → Machine → Result (Unit {0}) Stop → Type 0
+Does a old new (Ok done) = IsDone a old new
+Does a old new (Err why) = Stops a old why
+
+-- the topmost datum, 0 where there is none
+abbrev pub top_datum : List Datum → Datum
+top_datum [] = datum.Int (pos 0)
+top_datum (d ∷ ds) = d
+
+abbrev pub below_top : List Datum → List Datum
+below_top [] = []
+below_top (d ∷ ds) = ds
+
+-- what an operator gave
+abbrev pub IsGiven : Given → Result Datum Stop → Type 0
+IsGiven (give.Int z) r = r ≡ Ok (datum.Int z)
+IsGiven (give.Bool b) r = r ≡ Ok (datum.Bool b)
+IsGiven (give.Fault f) r = r ≡ Err (stop.Fault f)
+
+-- what an operator gives of two values
+abbrev pub Operated : Operator → Datum → Datum → Result Datum Stop → Type 0
+Operated operator x y (Ok d) =
+    ((lists : List ValueList) (n : ℕ) → on_numbers (operation operator) (datum_value lists x) (datum_value lists y) n ≡ ends (datum_value lists d) n) × (reach d ≡ 0)
+Operated operator x y (Err (stop.Fault f)) =
+    (lists : List ValueList) (n : ℕ) → on_numbers (operation operator) (datum_value lists x) (datum_value lists y) n ≡ faults f
+Operated operator x y (Err stop.NoMemory) = ⊥
+
+-- the same of one program
+pub record IsDoneFor (program : ProgramLists) (a : Act) (old new : Machine) : Type 0 where
+  pub sound : IsSound new
+  pub same : (n : ℕ) → left_of program a old n ≡ left program new n
+  pub less : work new.todo < act_work a + work old.todo
+
+abbrev pub StopsFor : ProgramLists → Act → Machine → Stop → Type 0
+StopsFor program a old (stop.Fault f) = (n : ℕ) → left_of program a old n ≡ faults f
+StopsFor program a old stop.NoMemory = Unit {0}
+
+abbrev pub DoesFor : ProgramLists → Act → Machine → Machine → Result (Unit {0}) Stop → Type 0
+DoesFor program a old new (Ok done) = IsDoneFor program a old new
+DoesFor program a old new (Err why) = StopsFor program a old why
+
+-- so many topmost data, the topmost one last, and the data below them
+abbrev pub arguments_at : ℕ → List Datum → List Datum
+arguments_at zero ds = []
+arguments_at (suc k) ds = arguments_at k (below_top ds) ++ top_datum ds ∷ []
+
+abbrev pub below_at : ℕ → List Datum → List Datum
+below_at zero ds = ds
+below_at (suc k) ds = below_at k (below_top ds)
+
+-- one more parameter with its argument, if there is such a parameter
+abbrev pub with_parameter : Option VarId → Datum → List (VarId × Datum) → List (VarId × Datum)
+with_parameter (Some v) d env = (v, d) ∷ env
+with_parameter None d env = env
+
+-- so many topmost data are bound to parameters, the last one first
+abbrev pub bound_on : ℕ → List VarId → List Datum → List (VarId × Datum) → List (VarId × Datum)
+bound_on zero names ds env = env
+bound_on (suc k) names ds env = bound_on k names (below_top ds) (with_parameter (slice_get names k) (top_datum ds) env)
+
+-- how far arguments are bound
+pub record IsBinding (names : List VarId) (count : ℕ) (first : List Datum) (before : List (List (VarId × Datum))) (left : ℕ) (ds : List Datum) (scopes : List (List (VarId × Datum))) (place : ℕ) : Type 0 where
+  pub grown : (more : List (List (VarId × Datum))) × (scopes ≡ before ++ more)
+  pub there : place < length scopes
+  pub bound : bound_on left names ds (slice_index_or scopes place []) ≡ bound_on count names first []
+  pub under : below_at left ds ≡ below_at count first
+  pub sound : (n : ℕ) → AllByRecursion (λ d. reach d ≤ n) first → AllByRecursion (AllByRecursion (λ b. reach b.1 ≤ n)) before → AllByRecursion (λ d. reach d ≤ n) ds × AllByRecursion (AllByRecursion (λ b. reach b.1 ≤ n)) scopes

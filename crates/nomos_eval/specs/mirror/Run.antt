@@ -1,0 +1,62 @@
+-- A mirror of the code: the steps of an evaluation, one after another.
+use Rattle.std.specs.Prelude.{◌≡◌, ◌<◌, ◌≤◌, ◌+◌, ◌-◌, ◌*◌, ℕ, length, slice_get}
+use Rattle.std.specs.declared.result.Result.{Result}
+use Rattle.std.specs.declared.result.Result.TheVariants.{Ok, Err}
+use Rattle.nomos_ir.specs.declared.ids.TermId.{TermId}
+use Rattle.nomos_ir.specs.declared.lists.ProgramLists.{ProgramLists}
+use Rattle.nomos_ir.specs.Evaluation.{ends, faults, go_on, entered, max_nodes}
+use Rattle.nomos_ir.proofs.EvaluationLaws.{evaluation_from}
+use Rattle.nomos_eval.specs.declared.act.Act.{Act}
+use Rattle.nomos_eval.specs.declared.act.Act.TheVariants as act
+use Rattle.nomos_eval.specs.declared.act.Scope.{Scope}
+use Rattle.nomos_eval.specs.declared.datum.Datum.{Datum}
+use Rattle.nomos_eval.specs.declared.machine.Machine.{Machine}
+use Rattle.nomos_eval.specs.declared.stop.Stop.{Stop}
+use Rattle.nomos_eval.specs.declared.stop.Stop.TheVariants as stop
+use Rattle.nomos_eval.specs.mirror.Machine.{IsSound, left, left_of, left_with, scopes_held}
+use Rattle.nomos_eval.specs.mirror.Rest.{variables_at, act_work, work}
+use Rattle.nomos_eval.specs.mirror.Table.{datum_value, reach}
+
+-- something other than to enter a term
+abbrev pub IsOther : Act → Type 0
+IsOther (act.Term s t) = ⊥
+IsOther (act.Numbers operator) = Unit {0}
+IsOther act.PutBefore = Unit {0}
+IsOther (act.Both s t) = Unit {0}
+IsOther (act.Either s t) = Unit {0}
+IsOther act.Truth = Unit {0}
+IsOther act.Not = Unit {0}
+IsOther (act.Choose s a b) = Unit {0}
+IsOther (act.Open s c) = Unit {0}
+IsOther (act.Enter calls f count) = Unit {0}
+
+-- a term was entered
+pub record IsEnteredAt (program : ProgramLists) (scope : Scope) (t : TermId) (old new : Machine) : Type 0 where
+  pub sound : IsSound new
+  pub same : (n : ℕ) → go_on (entered program (evaluation_from program) scope.calls (variables_at (scopes_held old) scope.variables) (slice_get program.terms t.0) n) (left_with program old) ≡ left program new n
+  pub little : work new.todo ≤ 2 + work old.todo
+
+-- one step
+pub record IsStep (program : ProgramLists) (a : Act) (old : Machine) (n : ℕ) (new : Machine) (m : ℕ) : Type 0 where
+  pub sound : IsSound new
+  pub same : left_of program a old n ≡ left program new m
+  pub few : m ≤ max_nodes
+  pub less : 3 * (max_nodes - m) + work new.todo < 3 * (max_nodes - n) + (act_work a + work old.todo)
+
+abbrev pub StepStops : ProgramLists → Act → Machine → ℕ → Stop → Type 0
+StepStops program a old n (stop.Fault f) = left_of program a old n ≡ faults f
+StepStops program a old n stop.NoMemory = Unit {0}
+
+abbrev pub Steps : ProgramLists → Act → Machine → ℕ → Machine → Result ℕ Stop → Type 0
+Steps program a old n new (Ok m) = IsStep program a old n new m
+Steps program a old n new (Err why) = StepStops program a old n why
+
+-- all steps
+abbrev pub RunStops : ProgramLists → Machine → Stop → Type 0
+RunStops program old (stop.Fault f) = left program old 0 ≡ faults f
+RunStops program old stop.NoMemory = Unit {0}
+
+abbrev pub Ran : ProgramLists → Machine → Machine → Result Datum Stop → Type 0
+Ran program old new (Ok d) =
+    (m : ℕ) × (left program old 0 ≡ ends (datum_value new.lists d) m) × (reach d ≤ length new.lists)
+Ran program old new (Err why) = RunStops program old why

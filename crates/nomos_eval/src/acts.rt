@@ -1,0 +1,148 @@
+//! How what is left to do is done, other than to enter a term or a function.
+ghost use Rattle.std.specs.Prelude.{◌≡◌, ◌<◌, length};
+ghost use Rattle.nomos_eval.specs.declared.act.Act.TheVariants as act;
+ghost use Rattle.nomos_eval.specs.mirror.Machine.{IsSound, Does, IsGiven, Operated, top_datum, below_top};
+
+use crate::act::{Act, Scope};
+use crate::datum::Datum;
+use crate::machine::{Machine, plan};
+use crate::numbers::{Given, Operator, operate};
+use crate::stop::Stop;
+use nomos_ir::fault::Fault;
+use nomos_ir::ids::TermId;
+use nomos_ir::stack::Stack;
+
+/// The greatest weight of a list that a term makes.
+const MAX_WEIGHT: u32 = 10_000;
+
+/// Takes the topmost value. There is one wherever an act takes it; without one it would be 0.
+pub(crate) fn take(values: &mut Stack<Datum>) -> Datum
+    ensures taken { result ≡ top_datum values.old }
+    ensures rest { values.new ≡ below_top values.old }
+{
+    match values.pop() {
+        Some(value) => value,
+        None => Datum::Int(0),
+    }
+}
+
+/// An operator takes the two topmost values.
+pub(crate) fn numbers(machine: &mut Machine, operator: Operator) -> Result<(), Stop>
+    requires { IsSound machine.old }
+    ensures { Does (act.Numbers operator) machine.old machine.new result }
+{
+    let right = take(&mut machine.values);
+    let left = take(&mut machine.values);
+    let value = number_of(operator, left, right)?;
+    machine.values.push(value)?;
+    Ok(())
+}
+
+// What an operator gives of two values: 0 where they are no numbers.
+fn number_of(operator: Operator, left: Datum, right: Datum) -> Result<Datum, Stop>
+    ensures { Operated operator left right result }
+{
+    match (left, right) {
+        (Datum::Int(x), Datum::Int(y)) => given(operate(operator, x, y)),
+        _ => Ok(Datum::Int(0)),
+    }
+}
+
+// What an operator gave, as a value or a fault.
+fn given(what: Given) -> Result<Datum, Stop>
+    ensures { IsGiven what result }
+{
+    match what {
+        Given::Int(z) => Ok(Datum::Int(z)),
+        Given::Bool(b) => Ok(Datum::Bool(b)),
+        Given::Fault(fault) => Err(Stop::Fault(fault)),
+    }
+}
+
+/// The topmost value is to be a truth value.
+pub(crate) fn truth(machine: &mut Machine) -> Result<(), Stop>
+    requires { IsSound machine.old }
+    ensures { Does act.Truth machine.old machine.new result }
+{
+    let value = match take(&mut machine.values) {
+        Datum::Bool(b) => Datum::Bool(b),
+        _ => Datum::Int(0),
+    };
+    machine.values.push(value)?;
+    Ok(())
+}
+
+/// The topmost value is turned round.
+pub(crate) fn turn_round(machine: &mut Machine) -> Result<(), Stop>
+    requires { IsSound machine.old }
+    ensures { Does act.Not machine.old machine.new result }
+{
+    let value = match take(&mut machine.values) {
+        Datum::Bool(b) => Datum::Bool(!b),
+        _ => Datum::Int(0),
+    };
+    machine.values.push(value)?;
+    Ok(())
+}
+
+/// The part of an `if` that the topmost value takes.
+pub(crate) fn choose(
+    machine: &mut Machine,
+    scope: Scope,
+    right: TermId,
+    wrong: TermId,
+) -> Result<(), Stop>
+    requires sound { IsSound machine.old }
+    requires inside { scope.variables < length machine.old.scopes }
+    ensures { Does (act.Choose scope right wrong) machine.old machine.new result }
+{
+    let part = match take(&mut machine.values) {
+        Datum::Bool(true) => right,
+        _ => wrong,
+    };
+    machine.todo.push(Act::Term(scope, part))?;
+    Ok(())
+}
+
+/// The topmost value is the left part of an `and`: the right one follows after true.
+pub(crate) fn both(machine: &mut Machine, scope: Scope, right: TermId) -> Result<(), Stop>
+    requires sound { IsSound machine.old }
+    requires inside { scope.variables < length machine.old.scopes }
+    ensures { Does (act.Both scope right) machine.old machine.new result }
+{
+    match take(&mut machine.values) {
+        Datum::Bool(true) => Ok(plan(&mut machine.todo, &[Act::Term(scope, right), Act::Truth])?),
+        Datum::Bool(false) => Ok(machine.values.push(Datum::Bool(false))?),
+        _ => Ok(machine.values.push(Datum::Int(0))?),
+    }
+}
+
+/// The topmost value is the left part of an `or`: the right one follows after false.
+pub(crate) fn either(machine: &mut Machine, scope: Scope, right: TermId) -> Result<(), Stop>
+    requires sound { IsSound machine.old }
+    requires inside { scope.variables < length machine.old.scopes }
+    ensures { Does (act.Either scope right) machine.old machine.new result }
+{
+    match take(&mut machine.values) {
+        Datum::Bool(true) => Ok(machine.values.push(Datum::Bool(true))?),
+        Datum::Bool(false) => Ok(plan(&mut machine.todo, &[Act::Term(scope, right), Act::Truth])?),
+        _ => Ok(machine.values.push(Datum::Int(0))?),
+    }
+}
+
+/// The value before the topmost one is put before the topmost one, a list.
+pub(crate) fn put_before(machine: &mut Machine) -> Result<(), Stop>
+    requires { IsSound machine.old }
+    ensures { Does act.PutBefore machine.old machine.new result }
+{
+    let list = take(&mut machine.values);
+    let value = take(&mut machine.values);
+    let Datum::List(place) = list else {
+        return Ok(machine.values.push(Datum::Int(0))?);
+    };
+    if machine.lists.weight(value) + machine.lists.weight(list) >= MAX_WEIGHT {
+        return Err(Stop::Fault(Fault::ListLength));
+    }
+    let joined = machine.lists.add_more(value, place)?;
+    Ok(machine.values.push(Datum::List(joined))?)
+}

@@ -1,0 +1,89 @@
+//! The evaluation of a term.
+ghost use Rattle.std.specs.Prelude.{◌≡◌, IfOk};
+ghost use Rattle.nomos_ir.specs.Evaluation.{term_evaluation};
+ghost use Rattle.nomos_ir.specs.ValueNode.{value_of};
+ghost use Rattle.nomos_eval.specs.EvaluatedAs.{EvaluatedAs};
+ghost use Rattle.nomos_eval.specs.mirror.Begin.{IsBegun};
+
+use crate::act::{Act, Scope};
+use crate::lists::Lists;
+use crate::machine::Machine;
+use crate::run::run;
+use crate::scopes::Scopes;
+use crate::stop::Stop;
+use crate::values::{load, unload};
+use nomos_ir::fault::Fault;
+use nomos_ir::ids::{TermId, VarId};
+use nomos_ir::items::Items;
+use nomos_ir::program::Program;
+use nomos_ir::stack::Stack;
+use nomos_ir::value::{Value, Values};
+use nomos_ir::value_node::ValueNode;
+use std::alloc::{AllocError, Global};
+
+/// Variables, each with its value.
+pub type Env = Items<(VarId, Value)>;
+
+/// What an evaluation comes to.
+#[derive(Drop, Debug)]
+pub enum Evaluated {
+    Value(Value),
+    Fault(Fault),
+}
+
+// The value of a node.
+fn value_from(node: ValueNode) -> Value
+    ensures { result ≡ value_of node }
+{
+    match node {
+        ValueNode::Int(z) => Value::int(z),
+        ValueNode::Bool(b) => Value::truth(b),
+        ValueNode::List(nodes) => Value::list(Values::of_vec(nodes)),
+    }
+}
+
+// An evaluation before its first step: the variables are taken in, and the term is left to do.
+fn begin(alloc: Global, t: TermId, env: &[(VarId, Value)]) -> Result<Machine, AllocError>
+    ensures { IfOk result (λ machine. IsBegun t env.now machine) }
+{
+    let mut lists = Lists::new(alloc);
+    let mut scopes = Scopes::new(alloc);
+    let mut variables = scopes.add_nothing()?;
+    let mut left = env.len();
+    while left > 0 {
+        left -= 1;
+        let pair = &env[left];
+        let value = load(&mut lists, pair.1.node())?;
+        variables = scopes.add_more(pair.0, value, variables)?;
+    }
+    let scope = Scope {
+        variables,
+        calls: 0,
+    };
+    let mut todo = Stack::new(alloc);
+    todo.push(Act::Term(scope, t))?;
+    Ok(Machine {
+        todo,
+        values: Stack::new(alloc),
+        lists,
+        scopes,
+    })
+}
+
+/// The value of the term among these variables, or the fault with which its evaluation ends; docs/LANGUAGE.md,
+/// "Evaluation of terms", says which. No depth of calls or of terms uses the machine's stack; only values with lists
+/// inside lists do, in step with how deep they are, as when they are dropped. It takes time and memory in step with the
+/// nodes entered and with the values of the variables.
+pub fn eval(alloc: Global, program: &Program, t: TermId, env: &Env) -> Result<Evaluated, AllocError>
+    ensures { IfOk result (λ evaluated. EvaluatedAs (term_evaluation program.now env.now t) evaluated) }
+{
+    let mut machine = begin(alloc, t, env.as_slice())?;
+    match run(program.lists(), &mut machine) {
+        Ok(found) => {
+            let node = unload(alloc, &machine.lists, found)?;
+            Ok(Evaluated::Value(value_from(node)))
+        }
+        Err(Stop::Fault(fault)) => Ok(Evaluated::Fault(fault)),
+        Err(Stop::NoMemory) => Err(AllocError),
+    }
+}

@@ -1,0 +1,15 @@
+//! Evaluation of terms, with a stack of its own.
+#![tactic(auto)]
+
+mod act;
+mod acts;
+mod calls;
+mod datum;
+pub mod evaluation;
+mod lists;
+mod machine;
+mod numbers;
+mod run;
+mod scopes;
+mod stop;
+mod values;

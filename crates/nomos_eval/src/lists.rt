@@ -1,0 +1,108 @@
+//! The lists of one evaluation. None of them is ever changed, so they share their parts.
+ghost use Rattle.std.specs.Prelude.{◌≡◌, ◌<◌, ◌≤◌, ◌++◌, ◌∷◌, [], length, IfOk, MatchOption, slice_index_or};
+ghost use Rattle.nomos_ir.specs.Value.{list, no_values, value};
+ghost use Rattle.nomos_eval.specs.mirror.Table.{datum_value, reach, capped};
+
+use crate::datum::Datum;
+use std::alloc::{AllocError, Global};
+use std::marker::Model;
+
+/// The weight from which on lists are not told apart: one more than the greatest that a term may make.
+const HEAVY: u32 = 10_001;
+
+/// The empty list; or a first value, the place of the list of the others, and the weight of the whole, up to `HEAVY`.
+#[derive(Clone, Copy, PartialEq, Eq, Debug)]
+pub(crate) enum Cell {
+    Empty,
+    More(Datum, usize, u32),
+}
+
+/// Lists by their places, which contracts see as the list of these lists.
+#[derive(Drop)]
+pub(crate) struct Lists {
+    cells: Vec<Cell>,
+}
+
+impl Model for Lists {
+    ghost use Rattle.std.specs.Prelude.{List};
+    ghost use Rattle.std.specs.Coded.{coded_list};
+    ghost use Rattle.nomos_ir.specs.Value.{ValueList};
+    ghost use Rattle.nomos_eval.specs.mirror.Table.{list_code};
+
+    ghost Value = { List ValueList };
+
+    ghost coded = { coded_list list_code };
+
+    ghost use Rattle.nomos_eval.specs.mirror.ListCell.{lists_of, AreLists};
+
+    ghost view = { λ s. lists_of s.cells.items };
+
+    ghost invariant = { λ s. AreLists s.cells.items };
+}
+
+impl Lists {
+    /// No lists. It takes no memory.
+    pub(crate) fn new(alloc: Global) -> Self
+        ensures { result ≡ [] }
+    {
+        Lists {
+            cells: Vec::new(alloc),
+        }
+    }
+
+    /// Adds the empty list, and gives its place.
+    pub(crate) fn add_empty(&mut self) -> Result<usize, AllocError>
+        ensures { IfOk result (λ p. (p ≡ length self.old) × (self.new ≡ self.old ++ no_values ∷ [])) }
+    {
+        let place = self.cells.len();
+        self.cells.push(Cell::Empty)?;
+        Ok(place)
+    }
+
+    /// Adds the list of a value before those of the list at a place, and gives its place.
+    pub(crate) fn add_more(&mut self, head: Datum, tail: usize) -> Result<usize, AllocError>
+        requires head { reach head ≤ length self.old }
+        requires tail { tail < length self.old }
+        ensures { IfOk result (λ p. (p ≡ length self.old)
+            × (self.new ≡ self.old ++ value (datum_value self.old head) (slice_index_or self.old tail no_values) ∷ [])) }
+    {
+        let weight = self.weight(head) + self.weight(Datum::List(tail)) + 1;
+        let place = self.cells.len();
+        self.cells.push(Cell::More(head, tail, weight.min(HEAVY)))?;
+        Ok(place)
+    }
+
+    /// The weight of a value, up to `HEAVY`.
+    pub(crate) fn weight(&self, of: Datum) -> u32
+        requires { reach of ≤ length self.now }
+        ensures { result ≡ capped (datum_value self.now of) }
+    {
+        match of {
+            Datum::Int(_) | Datum::Bool(_) => 0,
+            Datum::List(place) => self.list_weight(place),
+        }
+    }
+
+    // The weight of the list at a place, up to `HEAVY`.
+    fn list_weight(&self, place: usize) -> u32
+        requires { place < length self.now }
+        ensures { result ≡ capped (list (slice_index_or self.now place no_values)) }
+    {
+        match self.cells[place] {
+            Cell::Empty => 0,
+            Cell::More(_, _, weight) => weight,
+        }
+    }
+
+    /// The first value of the list at a place, and the place of the list of the others, where it is not empty.
+    pub(crate) fn parts(&self, place: usize) -> Option<(Datum, usize)>
+        requires { place < length self.now }
+        ensures { MatchOption result (slice_index_or self.now place no_values ≡ no_values) (λ p. (reach p.0 ≤ place) × (p.1 < place)
+            × (slice_index_or self.now place no_values ≡ value (datum_value self.now p.0) (slice_index_or self.now p.1 no_values))) }
+    {
+        match self.cells[place] {
+            Cell::Empty => None,
+            Cell::More(head, tail, _) => Some((head, tail)),
+        }
+    }
+}

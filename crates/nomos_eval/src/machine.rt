@@ -1,0 +1,138 @@
+//! The state of an evaluation, and what the forms of terms leave to do.
+ghost use Rattle.std.specs.Prelude.{◌≡◌, ◌<◌, ◌++◌, ◌∷◌, length, OnOk};
+ghost use Rattle.nomos_eval.specs.declared.act.Act.TheVariants as act;
+ghost use Rattle.nomos_eval.specs.mirror.Machine.{IsSound, IsEntered};
+ghost use Rattle.nomos_eval.specs.mirror.Rest.{argument_acts};
+
+use crate::act::{Act, Cases, Scope};
+use crate::datum::Datum;
+use crate::lists::Lists;
+use crate::numbers::Operator;
+use crate::scopes::Scopes;
+use nomos_ir::ids::{FnId, TermId};
+use nomos_ir::stack::Stack;
+use nomos_ir::term_node::TermNode;
+use std::alloc::AllocError;
+
+/// An evaluation: what is left to do, the values found, and the lists and the variables that these name.
+#[derive(Drop)]
+pub(crate) struct Machine {
+    pub(crate) todo: Stack<Act>,
+    pub(crate) values: Stack<Datum>,
+    pub(crate) lists: Lists,
+    pub(crate) scopes: Scopes,
+}
+
+/// Puts acts on the top, the first one topmost.
+pub(crate) fn plan(todo: &mut Stack<Act>, acts: &[Act]) -> Result<(), AllocError>
+    ensures { OnOk result (todo.new ≡ acts.now ++ todo.old) }
+{
+    let mut left = acts.len();
+    while left > 0 {
+        left -= 1;
+        todo.push(acts[left])?;
+    }
+    Ok(())
+}
+
+/// Finds the value of a node that was entered, or plans what leads to it.
+pub(crate) fn enter_node(
+    machine: &mut Machine,
+    scope: Scope,
+    node: &TermNode,
+) -> Result<(), AllocError>
+    requires inside { scope.variables < length machine.old.scopes }
+    requires sound { IsSound machine.old }
+    ensures { OnOk result (IsEntered scope node.now machine.old machine.new) }
+{
+    match node {
+        TermNode::Number(_, n) => machine.values.push(Datum::Int(i64::from(*n))),
+        TermNode::Truth(_, b) => machine.values.push(Datum::Bool(*b)),
+        TermNode::Var(_, v) => {
+            let value = machine
+                .scopes
+                .look_up(scope.variables, *v)
+                .unwrap_or(Datum::Int(0));
+            machine.values.push(value)
+        }
+        TermNode::Call(_, f, values) => call(&mut machine.todo, scope, *f, values.as_slice()),
+        TermNode::Nil(_, _) => {
+            let place = machine.lists.add_empty()?;
+            machine.values.push(Datum::List(place))
+        }
+        TermNode::Add(_, a, b) => operate(&mut machine.todo, scope, *a, *b, Operator::Add),
+        TermNode::Sub(_, a, b) => operate(&mut machine.todo, scope, *a, *b, Operator::Sub),
+        TermNode::Mul(_, a, b) => operate(&mut machine.todo, scope, *a, *b, Operator::Mul),
+        TermNode::Div(_, a, b) => operate(&mut machine.todo, scope, *a, *b, Operator::Div),
+        TermNode::Rem(_, a, b) => operate(&mut machine.todo, scope, *a, *b, Operator::Rem),
+        TermNode::Less(_, a, b) => operate(&mut machine.todo, scope, *a, *b, Operator::Less),
+        TermNode::Equal(_, a, b) => operate(&mut machine.todo, scope, *a, *b, Operator::Equal),
+        TermNode::And(_, a, b) => plan(
+            &mut machine.todo,
+            &[Act::Term(scope, *a), Act::Both(scope, *b)],
+        ),
+        TermNode::Or(_, a, b) => plan(
+            &mut machine.todo,
+            &[Act::Term(scope, *a), Act::Either(scope, *b)],
+        ),
+        TermNode::Cons(_, a, b) => {
+            plan(
+                &mut machine.todo,
+                &[Act::Term(scope, *a), Act::Term(scope, *b), Act::PutBefore],
+            )
+        }
+        TermNode::Not(_, a) => plan(&mut machine.todo, &[Act::Term(scope, *a), Act::Not]),
+        TermNode::If(_, test, a, b) => {
+            plan(
+                &mut machine.todo,
+                &[Act::Term(scope, *test), Act::Choose(scope, *a, *b)],
+            )
+        }
+        TermNode::Match(_, taken, empty, head, tail, full) => {
+            let cases = Cases {
+                empty: *empty,
+                head: *head,
+                tail: *tail,
+                full: *full,
+            };
+            plan(
+                &mut machine.todo,
+                &[Act::Term(scope, *taken), Act::Open(scope, cases)],
+            )
+        }
+    }
+}
+
+// Both sides of an operator, and then the operator.
+fn operate(
+    todo: &mut Stack<Act>,
+    scope: Scope,
+    a: TermId,
+    b: TermId,
+    operator: Operator,
+) -> Result<(), AllocError>
+    ensures { OnOk result (todo.new ≡ act.Term scope a ∷ act.Term scope b ∷ act.Numbers operator ∷ todo.old) }
+{
+    plan(
+        todo,
+        &[
+            Act::Term(scope, a),
+            Act::Term(scope, b),
+            Act::Numbers(operator),
+        ],
+    )
+}
+
+// The arguments of a call, and then the call.
+fn call(todo: &mut Stack<Act>, scope: Scope, f: FnId, values: &[TermId]) -> Result<(), AllocError>
+    ensures { OnOk result
+        (todo.new ≡ argument_acts scope values.now ++ act.Enter scope.calls f (length values.now) ∷ todo.old) }
+{
+    todo.push(Act::Enter(scope.calls, f, values.len()))?;
+    let mut left = values.len();
+    while left > 0 {
+        left -= 1;
+        todo.push(Act::Term(scope, values[left]))?;
+    }
+    Ok(())
+}
