@@ -1,2 +1,2 @@
-pub mod RefusalLemmas
+pub mod RefusalLaws
 pub mod ProcessLemmas

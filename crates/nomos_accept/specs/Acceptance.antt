@@ -8,7 +8,7 @@ use Rattle.nomos_parse.specs.Elaboration.{ElaboratesTo}
 use Rattle.nomos_parse.specs.NotYet.{IsNotYet}
 use Rattle.nomos_types.specs.Acceptance.{Acceptance}
 use Rattle.nomos_types.specs.Amount.{Annotations}
-use Rattle.nomos_types.specs.Typed.{IsTyped}
+use Rattle.nomos_types.specs.Fragment.Typed.{IsTyped}
 
 -- amounts are written ones alone, in whole units
 abbrev pub written_amounts : Annotations

@@ -4,10 +4,10 @@ ghost use Rattle.std.specs.Prelude.{◌≡◌, ◌↔◌, ◌<◌, All, [], IsTr
 ghost use Rattle.nomos_accept.specs.Acceptance.{IsAcceptedAs, IsRefused, written_amounts};
 ghost use Rattle.nomos_accept.specs.declared.refusal.Why.{Why};
 ghost use Rattle.nomos_ir.specs.Unfold.{IsContractive};
-ghost use Rattle.nomos_types.specs.Derivation.{Derives};
-ghost use Rattle.nomos_types.specs.Judgement.{start_of};
-ghost use Rattle.nomos_types.specs.Modes.{ObeysModes};
-ghost use Rattle.nomos_types.specs.Typed.{IsTyped};
+ghost use Rattle.nomos_types.specs.Fragment.Derivation.{Derives};
+ghost use Rattle.nomos_types.specs.Fragment.Judgement.{start_of};
+ghost use Rattle.nomos_types.specs.Fragment.Modes.{ObeysModes};
+ghost use Rattle.nomos_types.specs.Fragment.Typed.{IsTyped};
 
 use crate::refusal::{AcceptError, Why};
 use nomos_check::checking::check_process;

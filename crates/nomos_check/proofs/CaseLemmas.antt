@@ -14,10 +14,10 @@ use Rattle.nomos_ir.specs.declared.type_node.Branch.{Branch}
 use Rattle.nomos_ir.specs.declared.type_node.TypeAt.{TypeAt}
 use Rattle.nomos_ir.specs.declared.type_node.TypeNode.{TypeNode}
 use Rattle.nomos_ir.specs.declared.type_node.TypeNode.TheVariants as node
-use Rattle.nomos_types.proofs.StandsLemmas.{branch-lower}
-use Rattle.nomos_types.specs.Branches.{branches_of}
-use Rattle.nomos_types.specs.Derivation.{HasType, awaits_choice}
-use Rattle.nomos_types.specs.Judgement.{Judgement}
+use Rattle.nomos_types.proofs.FragmentModeLaws.{branch-lower}
+use Rattle.nomos_types.specs.Fragment.Branches.{branches_of}
+use Rattle.nomos_types.specs.Fragment.Derivation.{HasType, awaits_choice}
+use Rattle.nomos_types.specs.Fragment.Judgement.{Judgement}
 use Rattle.nomos_check.specs.Cases.{Awaits, AwaitsNothing}
 use Rattle.nomos_check.specs.Choices.{IsChoice}
 use Rattle.nomos_check.specs.Standing.{HasNodeAt}

@@ -13,10 +13,10 @@ use Rattle.nomos_ir.specs.declared.ids.Label.{Label}
 use Rattle.nomos_ir.specs.declared.ids.TypeId.{TypeId}
 use Rattle.nomos_ir.specs.declared.lists.ProgramLists.{ProgramLists}
 use Rattle.nomos_ir.specs.declared.type_node.Branch.{Branch}
-use Rattle.nomos_types.proofs.RowLemmas.{CaseRow, row-at}
+use Rattle.nomos_types.proofs.FragmentRowLaws.{CaseRow, row-at}
 use Rattle.nomos_types.specs.Amount.{Annotations}
-use Rattle.nomos_types.specs.Derivation.{StandsAtCode, HasSameLabels, Derives, case}
-use Rattle.nomos_types.specs.Judgement.{Judgement, goes_on}
+use Rattle.nomos_types.specs.Fragment.Derivation.{StandsAtCode, HasSameLabels, Derives, case}
+use Rattle.nomos_types.specs.Fragment.Judgement.{Judgement, goes_on}
 use Rattle.nomos_check.specs.Cases.{Awaits, AwaitsNothing, HasArm, HasOddArm, LeadsBy, EachGoes, EachLeads}
 use Rattle.nomos_check.specs.Standing.{IsInRange, PartsInto, Splits, way_of, whole_units}
 use Rattle.nomos_check.specs.declared.standing.Way.{Way}

@@ -21,10 +21,10 @@ use Rattle.nomos_ir.specs.declared.ids.TypeId.{TypeId}
 use Rattle.nomos_ir.specs.declared.lists.ProgramLists.{ProgramLists}
 use Rattle.nomos_ir.specs.declared.type_node.Branch.{Branch}
 use Rattle.nomos_ir.specs.declared.type_node.TypeNode.{TypeNode}
-use Rattle.nomos_types.proofs.RowLemmas.{LabelRow, row-at}
+use Rattle.nomos_types.proofs.FragmentRowLaws.{LabelRow, row-at}
 use Rattle.nomos_types.specs.Amount.{Annotations}
-use Rattle.nomos_types.specs.Derivation.{StandsAtCode, HasType, sends_choice, Derives, label}
-use Rattle.nomos_types.specs.Judgement.{Judgement, channel_type, goes_on}
+use Rattle.nomos_types.specs.Fragment.Derivation.{StandsAtCode, HasType, sends_choice, Derives, label}
+use Rattle.nomos_types.specs.Fragment.Judgement.{Judgement, channel_type, goes_on}
 use Rattle.nomos_check.specs.Choices.{GoesBy, HasNoLabel}
 use Rattle.nomos_check.specs.Labels.{SendsLabel, SendsNoLabel}
 use Rattle.nomos_check.specs.Standing.{HasNodeAt}

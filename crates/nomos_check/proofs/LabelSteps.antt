@@ -14,10 +14,10 @@ use Rattle.nomos_ir.specs.declared.type_node.Branch.{Branch}
 use Rattle.nomos_ir.specs.declared.type_node.TypeNode.TheVariants as node
 use Rattle.nomos_ir.proofs.NodeLaws.{type_node-at}
 use Rattle.std.proofs.lemmas.Option.{slice_get_within}
-use Rattle.nomos_types.proofs.RowLemmas.{LabelRow, row-at}
-use Rattle.nomos_types.proofs.StandsLemmas.{branch-lower}
-use Rattle.nomos_types.specs.Derivation.{StandsAtCode, Derives}
-use Rattle.nomos_types.specs.Judgement.{Channels, Judgement, retyped, goes_on}
+use Rattle.nomos_types.proofs.FragmentRowLaws.{LabelRow, row-at}
+use Rattle.nomos_types.proofs.FragmentModeLaws.{branch-lower}
+use Rattle.nomos_types.specs.Fragment.Derivation.{StandsAtCode, Derives}
+use Rattle.nomos_types.specs.Fragment.Judgement.{Channels, Judgement, retyped, goes_on}
 use Rattle.nomos_check.specs.Labels.{SendsLabel, SendsNoLabel}
 use Rattle.nomos_check.specs.Standing.{IsInRange, Leads, judgement_of, whole_units}
 use Rattle.nomos_check.specs.declared.standing.Standing.{Standing}

@@ -11,7 +11,7 @@ use Rattle.nomos_ir.specs.declared.ids.VarId.{VarId}
 use Rattle.nomos_ir.specs.declared.code_node.Chan.{Chan}
 use Rattle.nomos_ir.specs.declared.code_node.Chan.TheVariants as chan
 use Rattle.nomos_ir.specs.declared.lists.ProgramLists.{ProgramLists}
-use Rattle.nomos_types.specs.Judgement.{Channels, Judgement, type_in, retyped, channel_type}
+use Rattle.nomos_types.specs.Fragment.Judgement.{Channels, Judgement, type_in, retyped, channel_type}
 use Rattle.nomos_check.specs.Standing.{IsInRange}
 
 -- the first channel of the variable gives its type

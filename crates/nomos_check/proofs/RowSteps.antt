@@ -15,9 +15,9 @@ use Rattle.nomos_check.specs.Standing.{HasNodeAt, IsInRange, MayEnd, Leads, judg
 use Rattle.nomos_ir.specs.Unfold.{Unfolds}
 use Rattle.nomos_ir.proofs.UnfoldLaws.{Unfolds-unique}
 use Rattle.nomos_types.specs.Amount.{Annotations}
-use Rattle.nomos_types.specs.Derivation.{StandsAtCode, HasType, MayClose, Derives, wait, close}
-use Rattle.nomos_types.specs.Judgement.{Judgement, Channels, channel_type, gives_up}
-use Rattle.nomos_types.proofs.RowLemmas.{CloseRow, WaitRow, row-at}
+use Rattle.nomos_types.specs.Fragment.Derivation.{StandsAtCode, HasType, MayClose, Derives, wait, close}
+use Rattle.nomos_types.specs.Fragment.Judgement.{Judgement, Channels, channel_type, gives_up}
+use Rattle.nomos_types.proofs.FragmentRowLaws.{CloseRow, WaitRow, row-at}
 use Rattle.std.proofs.lemmas.Option.{same_Some}
 use Rattle.std.proofs.lemmas.List.Elements.{All-head, All-tail, All-cons}
 

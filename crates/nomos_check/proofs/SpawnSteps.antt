@@ -15,9 +15,9 @@ use Rattle.nomos_ir.specs.declared.ids.VarId.{VarId}
 use Rattle.nomos_ir.specs.declared.lists.ProgramLists.{ProgramLists}
 use Rattle.nomos_ir.specs.declared.mode.Mode.{Mode}
 use Rattle.nomos_ir.specs.declared.mode.Mode.TheVariants as mode
-use Rattle.nomos_types.proofs.RowLemmas.{SpawnRow, row-at}
-use Rattle.nomos_types.specs.Derivation.{StandsAtCode, ArgumentsFit, none, after_spawn, Derives, spawn}
-use Rattle.nomos_types.specs.Judgement.{Channels, Judgement, binds}
+use Rattle.nomos_types.proofs.FragmentRowLaws.{SpawnRow, row-at}
+use Rattle.nomos_types.specs.Fragment.Derivation.{StandsAtCode, ArgumentsFit, none, after_spawn, Derives, spawn}
+use Rattle.nomos_types.specs.Fragment.Judgement.{Channels, Judgement, binds}
 use Rattle.nomos_check.specs.Spawns.{TakesNothing, MaySpawn}
 use Rattle.nomos_check.specs.Standing.{IsInRange, Leads, judgement_of, whole_units}
 use Rattle.nomos_check.specs.declared.standing.Standing.{Standing}

@@ -6,7 +6,7 @@ use Rattle.nomos_ir.specs.Ids.{ProcInRange}
 use Rattle.nomos_ir.specs.Program.{IsProgram}
 use Rattle.nomos_ir.specs.declared.declaration.ProcDecl.{ProcDecl}
 use Rattle.nomos_ir.specs.declared.lists.ProgramLists.{ProgramLists}
-use Rattle.nomos_types.specs.Judgement.{Channels, Judgement, is_shared, start_of}
+use Rattle.nomos_types.specs.Fragment.Judgement.{Channels, Judgement, is_shared, start_of}
 use Rattle.nomos_check.specs.Standing.{IsInRange, whole_units}
 
 -- the start of a declaration of the program has its ids in range

@@ -16,8 +16,8 @@ use Rattle.nomos_ir.specs.declared.ids.ProcId.{ProcId}
 use Rattle.nomos_ir.specs.declared.ids.VarId.{VarId}
 use Rattle.nomos_ir.specs.declared.lists.ProgramLists.{ProgramLists}
 use Rattle.nomos_types.specs.Amount.{Annotations}
-use Rattle.nomos_types.specs.Derivation.{StandsAtCode, Derives, label, case, wait, spawn, close}
-use Rattle.nomos_types.specs.Judgement.{Judgement}
+use Rattle.nomos_types.specs.Fragment.Derivation.{StandsAtCode, Derives, label, case, wait, spawn, close}
+use Rattle.nomos_types.specs.Fragment.Judgement.{Judgement}
 
 -- the ids of the instruction have their places
 instruction-in_range : (lists : ProgramLists) (j : Judgement) (n : CodeNode) → IsProgram lists → StandsAtCode lists j n → CodeInRange lists n

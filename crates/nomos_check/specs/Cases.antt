@@ -6,8 +6,8 @@ use Rattle.nomos_ir.specs.declared.ids.Label.{Label}
 use Rattle.nomos_ir.specs.declared.ids.TypeId.{TypeId}
 use Rattle.nomos_ir.specs.declared.lists.ProgramLists.{ProgramLists}
 use Rattle.nomos_ir.specs.declared.type_node.Branch.{Branch}
-use Rattle.nomos_types.specs.Derivation.{HasType, awaits_choice}
-use Rattle.nomos_types.specs.Judgement.{Judgement, goes_on}
+use Rattle.nomos_types.specs.Fragment.Derivation.{HasType, awaits_choice}
+use Rattle.nomos_types.specs.Fragment.Judgement.{Judgement, goes_on}
 use Rattle.nomos_check.specs.Choices.{GoesBy, HasNoLabel}
 use Rattle.nomos_check.specs.declared.standing.Way.{Way}
 

@@ -1,7 +1,7 @@
 -- What the check of a process finds along its code.
 use Rattle.nomos_ir.specs.declared.lists.ProgramLists.{ProgramLists}
-use Rattle.nomos_types.specs.Derivation.{Derives}
-use Rattle.nomos_types.specs.Judgement.{Judgement}
+use Rattle.nomos_types.specs.Fragment.Derivation.{Derives}
+use Rattle.nomos_types.specs.Fragment.Judgement.{Judgement}
 use Rattle.nomos_check.specs.Standing.{PartsInto, forks_of, whole_units}
 use Rattle.nomos_check.specs.declared.standing.Ahead.{Ahead}
 use Rattle.nomos_check.specs.declared.standing.Ahead.TheVariants as ahead

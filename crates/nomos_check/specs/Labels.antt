@@ -5,8 +5,8 @@ use Rattle.nomos_ir.specs.declared.ids.Label.{Label}
 use Rattle.nomos_ir.specs.declared.ids.TypeId.{TypeId}
 use Rattle.nomos_ir.specs.declared.lists.ProgramLists.{ProgramLists}
 use Rattle.nomos_ir.specs.declared.type_node.Branch.{Branch}
-use Rattle.nomos_types.specs.Derivation.{HasType, sends_choice}
-use Rattle.nomos_types.specs.Judgement.{Judgement}
+use Rattle.nomos_types.specs.Fragment.Derivation.{HasType, sends_choice}
+use Rattle.nomos_types.specs.Fragment.Judgement.{Judgement}
 
 -- by this label on the channel, the process chooses a branch that goes on at the type
 pub record SendsLabel (lists : ProgramLists) (j : Judgement) (c : Chan) (l : Label) (t : TypeId) : Type 0 where

@@ -4,7 +4,7 @@ use Rattle.nomos_ir.specs.declared.code_node.Args.{Args}
 use Rattle.nomos_ir.specs.declared.declaration.ProcDecl.{ProcDecl}
 use Rattle.nomos_ir.specs.declared.ids.VarId.{VarId}
 use Rattle.nomos_types.specs.Amount.{dths}
-use Rattle.nomos_types.specs.Judgement.{Judgement, IsFree}
+use Rattle.nomos_types.specs.Fragment.Judgement.{Judgement, IsFree}
 use Rattle.nomos_types.specs.Modes.{may_spawn}
 use Rattle.nomos_check.specs.Standing.{whole_units}
 

@@ -5,8 +5,8 @@ use Rattle.nomos_ir.specs.declared.lists.ProgramLists.{ProgramLists}
 use Rattle.nomos_ir.specs.declared.type_node.TypeNode.{TypeNode}
 use Rattle.nomos_ir.specs.Nodes.{type_node}
 use Rattle.nomos_types.specs.Amount.{Annotations}
-use Rattle.nomos_types.specs.Derivation.{Derives, HasType, MayClose}
-use Rattle.nomos_types.specs.Judgement.{Judgement, goes_on}
+use Rattle.nomos_types.specs.Fragment.Derivation.{Derives, HasType, MayClose}
+use Rattle.nomos_types.specs.Fragment.Judgement.{Judgement, goes_on}
 use Rattle.nomos_check.specs.declared.standing.Forks.{Forks}
 use Rattle.nomos_check.specs.declared.standing.Standing.{Standing}
 use Rattle.nomos_check.specs.declared.standing.Step.{Step}

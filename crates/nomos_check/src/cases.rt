@@ -4,7 +4,7 @@ ghost use Rattle.std.specs.HashSet.{contains};
 ghost use Rattle.nomos_ir.specs.declared.code_node.CodeNode.{CodeNode};
 ghost use Rattle.nomos_ir.specs.declared.ids.Label.{Label};
 ghost use Rattle.nomos_ir.specs.Unfold.{IsContractive};
-ghost use Rattle.nomos_types.specs.Derivation.{StandsAtCode};
+ghost use Rattle.nomos_types.specs.Fragment.Derivation.{StandsAtCode};
 ghost use Rattle.nomos_check.specs.Cases.{Awaits, AwaitsNothing, HasArm, HasOddArm, EachGoes};
 ghost use Rattle.nomos_check.specs.Standing.{judgement_of, way_of, IsInRange, StepTells};
 

@@ -1,7 +1,7 @@
 //! Variables and the types of their channels.
 ghost use Rattle.std.specs.Prelude.{◌≡◌, ◌≢◌, ◌<◌, ◌↔◌, IsTrue, MatchOption, All, length, slice_get};
 ghost use Rattle.nomos_ir.specs.Unfold.{IsContractive};
-ghost use Rattle.nomos_types.specs.Judgement.{type_in, retyped, without, channel_type};
+ghost use Rattle.nomos_types.specs.Fragment.Judgement.{type_in, retyped, without, channel_type};
 ghost use Rattle.nomos_check.specs.Standing.{judgement_of, IsInRange, HasNodeAt};
 
 use crate::standing::Standing;

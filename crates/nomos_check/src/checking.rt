@@ -2,9 +2,9 @@
 ghost use Rattle.std.specs.Prelude.{◌≡◌, ◌<◌, ◌↔◌, IsTrue, IfOk, Some, length, slice_get};
 ghost use Rattle.nomos_ir.specs.declared.declaration.ProcDecl.{ProcDecl};
 ghost use Rattle.nomos_ir.specs.Unfold.{IsContractive};
-ghost use Rattle.nomos_types.specs.Derivation.{Derives};
-ghost use Rattle.nomos_types.specs.Judgement.{start_of};
-ghost use Rattle.nomos_types.specs.Modes.{ObeysModes};
+ghost use Rattle.nomos_types.specs.Fragment.Derivation.{Derives};
+ghost use Rattle.nomos_types.specs.Fragment.Judgement.{start_of};
+ghost use Rattle.nomos_types.specs.Fragment.Modes.{ObeysModes};
 ghost use Rattle.nomos_check.specs.Checking.{AheadTells};
 ghost use Rattle.nomos_check.specs.Standing.{judgement_of, whole_units, IsInRange};
 

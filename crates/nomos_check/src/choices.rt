@@ -1,7 +1,7 @@
 //! Choices and their labels.
 ghost use Rattle.std.specs.Prelude.{◌≡◌, ◌↔◌, IsTrue, IfOk, MatchOption, Contains, List, option_copied};
 ghost use Rattle.nomos_ir.specs.declared.type_node.Branch.{Branch};
-ghost use Rattle.nomos_types.specs.Derivation.{sends_choice, awaits_choice};
+ghost use Rattle.nomos_types.specs.Fragment.Derivation.{sends_choice, awaits_choice};
 ghost use Rattle.nomos_check.specs.Choices.{IsChoice, GoesBy, HasNoLabel, IsTableOf};
 
 use nomos_ir::code_node::Chan;

@@ -2,8 +2,8 @@
 ghost use Rattle.std.specs.Prelude.{◌≡◌, ◌<◌, ℕ, MatchOption, length};
 ghost use Rattle.nomos_ir.specs.declared.code_node.CodeNode.{CodeNode};
 ghost use Rattle.nomos_ir.specs.Unfold.{IsContractive};
-ghost use Rattle.nomos_types.specs.Derivation.{StandsAtCode};
-ghost use Rattle.nomos_types.specs.Judgement.{goes_on};
+ghost use Rattle.nomos_types.specs.Fragment.Derivation.{StandsAtCode};
+ghost use Rattle.nomos_types.specs.Fragment.Judgement.{goes_on};
 ghost use Rattle.nomos_check.specs.Labels.{SendsLabel, SendsNoLabel};
 ghost use Rattle.nomos_check.specs.Standing.{judgement_of, IsInRange, StepTells};
 

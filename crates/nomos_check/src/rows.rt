@@ -4,7 +4,7 @@ ghost use Rattle.nomos_ir.specs.declared.code_node.Chan.{Chan};
 ghost use Rattle.nomos_ir.specs.declared.code_node.CodeNode.{CodeNode};
 ghost use Rattle.nomos_ir.specs.declared.type_node.TypeNode.{TypeNode};
 ghost use Rattle.nomos_ir.specs.Unfold.{IsContractive};
-ghost use Rattle.nomos_types.specs.Derivation.{StandsAtCode, HasType, MayClose, Derives};
+ghost use Rattle.nomos_types.specs.Fragment.Derivation.{StandsAtCode, HasType, MayClose, Derives};
 ghost use Rattle.nomos_check.specs.Standing.{judgement_of, IsInRange, StepTells, MayEnd, whole_units};
 
 use crate::channels::{channel_node, give_up};

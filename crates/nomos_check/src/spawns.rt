@@ -3,8 +3,8 @@ ghost use Rattle.std.specs.Prelude.{◌≡◌, ◌≢◌, ◌<◌, ◌≤◌, �
 ghost use Rattle.nomos_ir.specs.declared.code_node.CodeNode.{CodeNode};
 ghost use Rattle.nomos_ir.specs.Unfold.{IsContractive};
 ghost use Rattle.nomos_types.specs.Amount.{dths};
-ghost use Rattle.nomos_types.specs.Derivation.{StandsAtCode, after_spawn};
-ghost use Rattle.nomos_types.specs.Judgement.{IsFree, binds};
+ghost use Rattle.nomos_types.specs.Fragment.Derivation.{StandsAtCode, after_spawn};
+ghost use Rattle.nomos_types.specs.Fragment.Judgement.{IsFree, binds};
 ghost use Rattle.nomos_check.specs.Spawns.{TakesNothing, MaySpawn};
 ghost use Rattle.nomos_check.specs.Standing.{judgement_of, whole_units, IsInRange, StepTells};
 

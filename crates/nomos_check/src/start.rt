@@ -1,7 +1,7 @@
 //! The start of a process declaration.
-ghost use Rattle.std.specs.Prelude.{◌≡◌, ◌<◌, ◌++◌, IfOk, Some, All, filter, not, length, slice_get};
+ghost use Rattle.std.specs.Prelude.{◌≡◌, ◌<◌, ◌++◌, IfOk, Some, All, filter, map, not, length, slice_get};
 ghost use Rattle.nomos_ir.specs.declared.declaration.ProcDecl.{ProcDecl};
-ghost use Rattle.nomos_types.specs.Judgement.{is_shared_mode, is_shared, payer_value, start_of};
+ghost use Rattle.nomos_types.specs.Fragment.Judgement.{is_shared_mode, is_shared, payer_value, start_of};
 ghost use Rattle.nomos_check.specs.Standing.{judgement_of, whole_units, IsInRange};
 
 use crate::amounts::units;
@@ -48,7 +48,7 @@ fn parameters(
 
 /// The values with which a process starts: the payer's, and the parameters.
 fn values_at_start(alloc: Global, d: &ProcDecl) -> Result<Vec<(VarId, Kind)>, AllocError>
-    ensures { IfOk result (λ made. made.items ≡ payer_value d.now.me ++ d.now.values) }
+    ensures { IfOk result (λ made. made.items ≡ payer_value d.now.me ++ map (λ par. (par.var, par.kind)) d.now.values) }
 {
     let mut values = Vec::new(alloc);
     if let Some(v) = d.me {
@@ -58,7 +58,9 @@ fn values_at_start(alloc: Global, d: &ProcDecl) -> Result<Vec<(VarId, Kind)>, Al
         };
         values.push((v, number))?;
     }
-    values.extend_from_slice(d.values.as_slice())?;
+    for par in d.values.as_slice() {
+        values.push((par.var, par.kind))?;
+    }
     Ok(values)
 }
 

@@ -2,7 +2,7 @@
 ghost use Rattle.std.specs.Prelude.{◌≡◌, ◌<◌, ◌↔◌, ℕ, IsTrue, IfOk, All, length};
 ghost use Rattle.nomos_ir.specs.declared.code_node.CodeNode.{CodeNode};
 ghost use Rattle.nomos_ir.specs.Unfold.{IsContractive};
-ghost use Rattle.nomos_types.specs.Derivation.{StandsAtCode};
+ghost use Rattle.nomos_types.specs.Fragment.Derivation.{StandsAtCode};
 ghost use Rattle.nomos_check.specs.Standing.{judgement_of, IsInRange, StepTells};
 
 use crate::cases::at_case;

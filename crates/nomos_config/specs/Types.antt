@@ -1,15 +1,12 @@
 -- The types of names, and where they go on.
-use Rattle.std.specs.Prelude.{ℕ, ◌==◌, List, find, Option, Some, None, option_and_then, slice_get}
+use Rattle.std.specs.Prelude.{ℕ, ◌==◌, List, find, Option, option_and_then}
 use Rattle.std.specs.Option.{option_map}
-use Rattle.nomos_ir.specs.Nodes.{type_node}
 use Rattle.nomos_ir.specs.declared.ids.Label.{Label}
 use Rattle.nomos_ir.specs.declared.ids.TypeId.{TypeId}
 use Rattle.nomos_ir.specs.declared.lists.ProgramLists.{ProgramLists}
-use Rattle.nomos_ir.specs.declared.type_node.Branch.{Branch}
-use Rattle.nomos_ir.specs.declared.type_node.Def.{Def}
-use Rattle.nomos_ir.specs.declared.type_node.TypeNode.{TypeNode}
-use Rattle.nomos_ir.specs.declared.type_node.TypeNode.TheVariants as node
-use Rattle.nomos_types.specs.Branches.{branches_of}
+use Rattle.nomos_ir.specs.Unfold.{unfolded}
+use Rattle.nomos_types.specs.Branches.{goes_by}
+use Rattle.nomos_types.specs.Fragment.Branches.{branches_of}
 
 -- names with their types
 abbrev pub NameTypes : Type 0
@@ -19,24 +16,7 @@ NameTypes = List (ℕ × TypeId)
 abbrev pub type_of_name : NameTypes → ℕ → Option TypeId
 type_of_name types name = option_map (λ t. t.1) (find (λ t. t.0 == name) types)
 
--- the body of a definition
-abbrev pub body_node : ProgramLists → Option Def → Option TypeNode
-body_node lists (Some def) = type_node lists def.body.0
-body_node lists None = None
-
--- a type with the name at its head replaced by the body of its definition
-abbrev pub unfolded_node : ProgramLists → Option TypeNode → Option TypeNode
-unfolded_node lists (Some (node.Named id)) = body_node lists (slice_get lists.defs id.0)
-unfolded_node lists n = n
-
-abbrev pub unfolded : ProgramLists → TypeId → Option TypeNode
-unfolded lists t = unfolded_node lists (type_node lists t.0)
-
--- the type with which a choice goes on after a label
-abbrev pub goes_by : List Branch → Label → Option TypeId
-goes_by branches l = option_map (λ b. b.goes) (find (λ b. b.label.0 == l.0) branches)
-
 -- the type with which a choice of this type goes on after a label
 abbrev pub after_label : ProgramLists → Label → TypeId → Option TypeId
 after_label lists l t =
-    option_and_then (λ branches. goes_by branches l) (option_and_then branches_of (unfolded lists t))
+    option_and_then (λ branches. goes_by branches l) (option_and_then branches_of (unfolded lists t.0))

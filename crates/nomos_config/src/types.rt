@@ -1,8 +1,9 @@
 //! The types of names.
 ghost use Rattle.std.specs.Prelude.{◌≡◌, ◌<◌, length, option_copied, option_and_then};
-ghost use Rattle.nomos_ir.specs.Unfold.{IsContractive};
-ghost use Rattle.nomos_types.specs.Branches.{branches_of};
-ghost use Rattle.nomos_config.specs.Types.{type_of_name, unfolded, goes_by, after_label};
+ghost use Rattle.nomos_ir.specs.Unfold.{unfolded};
+ghost use Rattle.nomos_types.specs.Branches.{goes_by};
+ghost use Rattle.nomos_types.specs.Fragment.Branches.{branches_of};
+ghost use Rattle.nomos_config.specs.Types.{type_of_name, after_label};
 
 use nomos_ir::ids::{Label, TypeId};
 use nomos_ir::program::Program;
@@ -17,7 +18,7 @@ pub(crate) fn type_of_name(types: &[(u32, TypeId)], name: u32) -> Option<TypeId>
 
 // A type node, with a name replaced by the body of its definition; none where the number is no type's.
 fn unfolded(program: &Program, t: TypeId) -> Option<&TypeNode>
-    ensures { option_copied result ≡ unfolded program.now t }
+    ensures { option_copied result ≡ unfolded program.now t.0 }
 {
     let lists = program.lists();
     let at = lists.types.as_slice().get(t.0 as usize)?;

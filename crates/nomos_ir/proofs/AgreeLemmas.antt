@@ -1,5 +1,5 @@
 -- Evaluations that agree on the parts of a term agree on the term.
-use Rattle.std.proofs.Common.{◌≡◌, ◌+◌, ◌<◌, ◌≤◌, ℕ, zero, suc, ℤ, ◌+ℤ◌, ◌-ℤ◌, ◌*ℤ◌, Bool, true, false, cond, nat_lt, List, [], ◌∷◌, Option, Some, None, unwrap_or, slice_get, refl, sym, ap, ◌∙◌, arith}
+use Rattle.std.proofs.Common.{◌≡◌, ◌+◌, ◌≤◌, ℕ, ◌+ℤ◌, ◌-ℤ◌, ◌*ℤ◌, true, false, cond, nat_lt, List, [], ◌∷◌, Option, Some, None, unwrap_or, slice_get, refl, ap, ◌∙◌, arith}
 use Rattle.std.specs.Prelude.{int_lt}
 use Rattle.std.specs.List.{AllByRecursion}
 use Rattle.nomos_ir.specs.declared.declaration.FnDecl.{FnDecl}
@@ -9,9 +9,9 @@ use Rattle.nomos_ir.specs.declared.lists.ProgramLists.{ProgramLists}
 use Rattle.nomos_ir.specs.declared.term_node.TermNode.{TermNode}
 use Rattle.nomos_ir.specs.declared.term_node.TermNode.TheVariants as node
 use Rattle.nomos_ir.specs.Bindings.{bound_to}
-use Rattle.nomos_ir.specs.Evaluation.{Environment, Evaluation, ends, faults, Counted, Evaluator, max_nodes, max_calls, go_on, nought, whole, same_number, divided, rest_of_division, on_numbers, put_before, as_truth, both, either, opposite, chosen, taken_apart, bind_parts, bind_arguments, each_of, two_of, body_evaluation, node_evaluation, entered, counted, evaluation}
-use Rattle.nomos_ir.specs.Value.{Value, int, truth, list, ValueList, no_values, value}
-use Rattle.nomos_ir.proofs.EvaluationLemmas.{Holds, holds-evaluation, holds-lower}
+use Rattle.nomos_ir.specs.Evaluation.{Environment, Evaluation, ends, faults, Counted, Evaluator, max_calls, go_on, nought, whole, same_number, divided, rest_of_division, on_numbers, put_before, as_truth, both, either, opposite, chosen, taken_apart, bind_parts, bind_arguments, each_of, two_of, body_evaluation, node_evaluation, entered, evaluation}
+use Rattle.nomos_ir.specs.Value.{Value, int, truth, list, no_values, value}
+use Rattle.nomos_ir.proofs.EvaluationLemmas.{Holds, holds-evaluation}
 
 -- no fewer nodes were entered than before
 abbrev pub Rises : ℕ → Evaluation → Type 0

@@ -1,11 +1,11 @@
 -- Laws of evaluation: it is what its steps say, and it ends with values within the bounds of lists.
-use Rattle.std.proofs.Common.{◌≡◌, ◌+◌, ◌<◌, ◌≤◌, ℕ, zero, suc, Bool, true, false, nat_lt, nat_le, Some, slice_get, refl, sym, ap, ◌∙◌, subst, arith, tests, rules}
+use Rattle.std.proofs.Common.{◌≡◌, ◌+◌, ◌≤◌, ℕ, zero, suc, Bool, true, false, nat_lt, Some, slice_get, refl, sym, ap, subst, arith, tests, rules}
 use Rattle.nomos_ir.specs.declared.ids.TermId.{TermId}
 use Rattle.nomos_ir.specs.declared.lists.ProgramLists.{ProgramLists}
 use Rattle.nomos_ir.specs.Bindings.{bound_to}
-use Rattle.nomos_ir.specs.Evaluation.{Environment, Evaluation, ends, faults, Counted, Evaluator, max_nodes, entered, counted, evaluation, term_evaluation}
-use Rattle.nomos_ir.specs.Value.{Value, int, truth, list, ValueList, no_values, value}
-use Rattle.nomos_ir.specs.Weight.{weight, list_weight, max_weight}
+use Rattle.nomos_ir.specs.Evaluation.{Environment, Evaluation, ends, Counted, Evaluator, max_nodes, entered, counted, evaluation, term_evaluation}
+use Rattle.nomos_ir.specs.Value.{Value}
+use Rattle.nomos_ir.specs.Weight.{weight, max_weight}
 use Rattle.nomos_ir.proofs.AgreeLemmas.{rises, entered-same, needs-all}
 use Rattle.nomos_ir.proofs.EvaluationLemmas.{holds-evaluation, Holds}
 

@@ -1,9 +1,8 @@
 -- What holds of the values that an evaluation can end with, and of how many nodes it enters.
-use Rattle.std.proofs.Common.{◌≡◌, ◌+◌, ◌<◌, ◌≤◌, ℕ, zero, suc, ℤ, pos, negsuc, Bool, true, false, cond, ◌==◌, nat_lt, nat_le, List, [], ◌∷◌, map, Option, Some, None, unwrap_or, slice_get, ◌+ℤ◌, ◌-ℤ◌, ◌*ℤ◌, refl, sym, ap, ◌∙◌, subst, arith}
+use Rattle.std.proofs.Common.{◌≡◌, ◌+◌, ◌≤◌, ℕ, zero, suc, ℤ, pos, negsuc, Bool, true, false, cond, ◌==◌, nat_lt, nat_le, List, [], ◌∷◌, map, Option, Some, None, unwrap_or, slice_get, ◌+ℤ◌, ◌-ℤ◌, ◌*ℤ◌, refl, subst, arith}
 use Rattle.std.specs.Prelude.{int_div, int_lt}
 use Rattle.std.specs.List.{AllByRecursion, zip}
 use Rattle.nomos_ir.specs.declared.declaration.FnDecl.{FnDecl}
-use Rattle.nomos_ir.specs.declared.fault.Fault.{Fault}
 use Rattle.nomos_ir.specs.declared.fault.Fault.TheVariants as fault
 use Rattle.nomos_ir.specs.declared.ids.TermId.{TermId}
 use Rattle.nomos_ir.specs.declared.ids.VarId.{VarId}
@@ -60,13 +59,13 @@ module _ (Q : Value → Type 0) where
   holds-each part [] next n each more = more [] n (omega arith) tt
   holds-each part (t ∷ ts) next n each more =
       holds-go_on n (part t n) (λ v. each_of part ts (λ vs. next (v ∷ vs))) (each t n) (λ v m after good.
-        holds-lower n m _ after (holds-each part ts (λ vs. next (v ∷ vs)) m each (λ vs k later others. more (v ∷ vs) k (omega arith) (good, others))))
+      holds-lower n m _ after (holds-each part ts (λ vs. next (v ∷ vs)) m each (λ vs k later others. more (v ∷ vs) k (omega arith) (good, others))))
 
   pub holds-two : (part : TermId → Counted) (a b : TermId) (next : Value → Value → Counted) (n : ℕ) → ((t : TermId) (m : ℕ) → Holds m (part t m)) → ((v w : Value) (m : ℕ) → Q v → Q w → Holds m (next v w m)) → Holds n (two_of part a b next n)
   holds-two part a b next n each more =
       holds-go_on n (part a n) (λ v m. go_on (part b m) (next v)) (each a n) (λ v m after good.
-        holds-lower n m _ after (holds-go_on m (part b m) (next v) (each b m) (λ w k later good_too.
-          holds-lower m k _ later (more v w k good good_too))))
+      holds-lower n m _ after (holds-go_on m (part b m) (next v) (each b m) (λ w k later good_too.
+      holds-lower m k _ later (more v w k good good_too))))
 
   module _ (numbers : (z : ℤ) → Q (int z)) where
     pub holds-whole : (z : ℤ) (n : ℕ) → Holds n (whole z n)
@@ -184,7 +183,7 @@ module _ (Q : Value → Type 0) where
               holds-go_on n (part calls env test n) _ (each calls env test n good) (λ v m after _. holds-lower n m _ after (holds-chosen v _ _ m (each calls env a m good) (each calls env b m good)))
           holds-node part each calls env (node.Match at taken empty head tail full) n good =
               holds-go_on n (part calls env taken n) _ (each calls env taken n good) (λ v m after good_list.
-                holds-lower n m _ after (holds-taken v _ _ _ m good_list (each calls env empty m good) (λ x y good_x good_y. each calls (bind_parts head tail x y env) full m (good-cons tail y ((head, x) ∷ env) good_y (good-cons head x env good_x good))) (each calls env full m good)))
+              holds-lower n m _ after (holds-taken v _ _ _ m good_list (each calls env empty m good) (λ x y good_x good_y. each calls (bind_parts head tail x y env) full m (good-cons tail y ((head, x) ∷ env) good_y (good-cons head x env good_x good))) (each calls env full m good)))
 
           holds-entered : (part : Evaluator) → GoodParts part → (calls : ℕ) (env : Environment) (x : Option TermNode) (n : ℕ) → HaveGood env → Holds n (entered lists part calls env x n)
           holds-entered part each calls env None n good = (omega arith, numbers (pos 0))

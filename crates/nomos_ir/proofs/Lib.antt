@@ -1,4 +1,5 @@
 pub mod AgreeLemmas
+pub mod BindingLaws
 pub mod EvaluationLaws
 pub mod EvaluationLemmas
 pub mod ExampleLemmas

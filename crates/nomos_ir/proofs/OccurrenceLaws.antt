@@ -1,5 +1,5 @@
 -- An evaluation looks at no variable that does not occur in the term.
-use Rattle.std.proofs.Common.{◌≡◌, ◌+◌, ◌<◌, ◌≤◌, ℕ, zero, suc, Bool, true, false, cond, ◌==◌, nat_lt, List, [], ◌∷◌, map, Option, Some, slice_get, Contains, refl, arith}
+use Rattle.std.proofs.Common.{◌≡◌, ◌+◌, ℕ, zero, suc, Bool, true, false, cond, ◌==◌, nat_lt, List, [], ◌∷◌, map, Some, slice_get, Contains, refl, arith}
 use Rattle.std.specs.List.{AllByRecursion}
 use Rattle.nomos_ir.specs.declared.ids.TermId.{TermId}
 use Rattle.nomos_ir.specs.declared.ids.VarId.{VarId}
@@ -9,7 +9,6 @@ use Rattle.nomos_ir.specs.declared.term_node.TermNode.TheVariants as node
 use Rattle.nomos_ir.specs.Bindings.{bound_to}
 use Rattle.nomos_ir.specs.Evaluation.{Environment, Counted, max_nodes, bind_parts, entered, counted, evaluation, term_evaluation}
 use Rattle.nomos_ir.specs.Occurrence.{OccursIn, itself, in_part}
-use Rattle.nomos_ir.specs.TermParts.{term_parts}
 use Rattle.nomos_ir.specs.Value.{Value}
 use Rattle.nomos_ir.proofs.AgreeLemmas.{rises, Needs, SameAt, entered-same}
 

@@ -1,5 +1,5 @@
 -- The value of a typed term has its kind.
-use Rattle.std.proofs.Common.{◌≡◌, ◌+◌, ◌<◌, ℕ, zero, suc, ℤ, pos, negsuc, ◌+ℤ◌, ◌-ℤ◌, ◌*ℤ◌, Bool, true, false, cond, ◌==◌, nat_lt, nat_le, List, [], ◌∷◌, map, Option, Some, None, unwrap_or, slice_get, refl, sym, ap, ◌∙◌, subst, arith}
+use Rattle.std.proofs.Common.{◌≡◌, ◌+◌, ℕ, zero, suc, ℤ, pos, negsuc, ◌+ℤ◌, ◌-ℤ◌, ◌*ℤ◌, Bool, true, false, cond, ◌==◌, nat_lt, nat_le, List, [], ◌∷◌, map, Option, Some, unwrap_or, slice_get, refl, sym, ap, ◌∙◌, subst, arith}
 use Rattle.std.specs.Prelude.{int_div, int_lt}
 use Rattle.std.specs.List.{zip}
 use Rattle.nomos_ir.specs.declared.declaration.FnDecl.{FnDecl}
@@ -203,8 +203,8 @@ module _ (lists : ProgramLists) (typed : FunctionsAreTyped lists) where
       kind-go_on bool_kind k (part calls env test n) _ (each calls env vars test n bool_kind has of_test) (λ v m _. kind-chosen k v _ _ m (each calls env vars a m k has of_a) (each calls env vars b m k has of_b))
   kind-node part each calls env vars x n k has (kind.parts _ at taken empty full head tail e _ of_list of_empty of_full) =
       kind-go_on (list_kind e) k (part calls env taken n) _ (each calls env vars taken n (list_kind e) has of_list) (λ v m has_v.
-        kind-taken e k v _ _ _ m has_v (each calls env vars empty m k has of_empty) (λ y ys has_y has_ys.
-          each calls (bind_parts head tail y ys env) (with_parts head tail e vars) full m k (has-cons tail ys (list_kind e) ((head, y) ∷ env) ((head, e) ∷ vars) has_ys (has-cons head y e env vars has_y has)) of_full))
+      kind-taken e k v _ _ _ m has_v (each calls env vars empty m k has of_empty) (λ y ys has_y has_ys.
+      each calls (bind_parts head tail y ys env) (with_parts head tail e vars) full m k (has-cons tail ys (list_kind e) ((head, y) ∷ env) ((head, e) ∷ vars) has_ys (has-cons head y e env vars has_y has)) of_full))
 
   -- a typed term ends in its kind, wherever it is evaluated
   kind-inside : (inside : ℕ) → TypedParts (evaluation lists inside)

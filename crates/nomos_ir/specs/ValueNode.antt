@@ -1,5 +1,4 @@
 -- The value that a node stands for.
-use Rattle.std.specs.Prelude.{List, map}
 use Rattle.nomos_ir.specs.declared.value_node.ValueNode.{ValueNode, fold-ValueNode}
 use Rattle.nomos_ir.specs.declared.value_node.ValueNode.TheOpen.{ValueNode-F}
 use Rattle.nomos_ir.specs.Value.{Value, int, truth, list, value_list}

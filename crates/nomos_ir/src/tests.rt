@@ -133,18 +133,36 @@ fn example_program(alloc: Global) -> Result<Program, AllocError>
     Ok(Program::of_lists(lists))
 }
 
+// What the readers give of the example: its stars, two types, a term, an instruction, the name of its process, and the
+// numbers of its definitions and functions.
+fn example_text(alloc: Global, program: &Program) -> Result<String, AllocError>
+    requires { program.now ≡ example }
+{
+    let (first, last) = (program.node(TypeId(0)), program.node(TypeId(3)));
+    let (term, code) = (program.term(TermId(0)), program.code(CodeId(0)));
+    let name = &program.proc(ProcId(0)).name;
+    let (defs, fns) = (program.lists().defs.len(), program.lists().fns.len());
+    format!(in alloc;
+        "{} {first:?} {last:?} {term:?} {code:?} {name:?} {defs} {fns}",
+        program.stars()
+    )
+}
+
+// The same, of an example that is made for it.
+fn made_text(alloc: Global) -> Result<String, AllocError> {
+    match example_program(alloc) {
+        Ok(program) => example_text(alloc, &program),
+        Err(error) => Err(error),
+    }
+}
+
 #[test]
 fn reads_a_program(rt: HostRuntime) -> Result<(), Fail> {
-    let program = example_program(rt.alloc())?;
-    assert_eq!(rt; program.stars(), 2);
-    assert!(rt; matches!(program.node(TypeId(0)), TypeNode::One));
-    assert!(rt; matches!(program.node(TypeId(3)), TypeNode::Named(DefId(0))));
-    assert!(rt; matches!(program.term(TermId(0)), TermNode::Var(57, VarId(0))));
-    assert!(rt; matches!(program.code(CodeId(0)), CodeNode::Close(77)));
-    assert_eq!(rt; program.proc(ProcId(0)).name.as_bytes(), b"p".as_slice());
-    let lists = program.lists();
-    assert_eq!(rt; lists.defs.len(), 2);
-    assert!(rt; !lists.fns.is_empty());
+    let found = made_text(rt.alloc())?;
+    assert_eq!(rt;
+        found.as_str(),
+        "2 One Named(DefId(0)) Var(57, VarId(0)) Close(77) Name { bytes: [112] } 2 1"
+    );
     Ok(())
 }
 

@@ -13,6 +13,7 @@ pub mod FileLaws
 pub mod UniqueLaws
 pub mod ProgramNumbers
 pub mod ProgramOnce
+pub mod ProgramPayers
 pub mod ProgramGrows
 pub mod ProgramNames
 pub mod ProgramSpelled

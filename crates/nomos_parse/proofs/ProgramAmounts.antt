@@ -8,6 +8,7 @@ use Rattle.nomos_ir.specs.declared.ids.CodeId.{CodeId}
 use Rattle.nomos_ir.specs.declared.mode.Mode.TheVariants as mode
 use Rattle.nomos_ir.specs.declared.type_node.TypeNode.{TypeNode}
 use Rattle.nomos_ir.specs.declared.type_node.TypeNode.TheVariants as node
+use Rattle.nomos_ir.specs.Amounts.{proc_amounts}
 use Rattle.nomos_ir.specs.CodeParts.{code_amounts}
 use Rattle.nomos_ir.specs.TypeParts.{type_amounts}
 use Rattle.nomos_parse.specs.Build.{Declared, build_pars, add_decl, add_decls, nothing_declared}
@@ -25,7 +26,7 @@ pub record IsFree (s : Built) : Type 0 where
 -- and no process costs anything
 pub record AllFree (d : Declared) : Type 0 where
   pub built : IsFree d.built
-  pub procs : All (λ e. e.amount ≡ amount.Written 0) d.procs
+  pub procs : All (λ e. proc_amounts e ≡ amount.Written 0 ∷ []) d.procs
 
 -- one node more
 free-put_type : (s : Built) (n : TypeNode) (at : ℕ) → type_amounts n ≡ [] → IsFree s → IsFree (put_type s n at).0
@@ -114,7 +115,7 @@ free-decl types procs d (proc_decl at m n pars offers code) h =
     record {
       built = free-code procs offered.0 code (free-type types channels.0 offers (free-pars types d.built pars h.built));
       procs =
-          All-push (λ e. e.amount ≡ amount.Written 0) d.procs
+          All-push (λ e. proc_amounts e ≡ amount.Written 0 ∷ []) d.procs
           (record { name = n.text; mode = m; me = None; values = []; channels = channels.1; amount = amount.Written 0; offers = offered.1; first = first.1 })
           h.procs refl;
     }
@@ -128,7 +129,7 @@ free-decl types procs d (transaction_decl at n pars code) h =
           free-code procs offered.0 code
           (free-put_type channels.0 node.One at refl (free-pars types payer pars (free-variable d.built (codes "me") h.built)));
       procs =
-          All-push (λ e. e.amount ≡ amount.Written 0) d.procs
+          All-push (λ e. proc_amounts e ≡ amount.Written 0 ∷ []) d.procs
           (record { name = n.text; mode = mode.T; me = Some (record { 0 = number_of payer.variables (codes "me") }); values = []; channels = channels.1; amount = amount.Written 0; offers = offered.1; first = first.1 })
           h.procs refl;
     }
@@ -142,5 +143,5 @@ free-decls types procs d (decl ∷ decls) h = free-decls types procs (add_decl t
 pub free-none : AllFree nothing_declared
 free-none = record {
   built = record { types = All-nil (λ t. type_amounts t.node ≡ []); code = All-nil (λ n. code_amounts n ≡ []) };
-  procs = All-nil (λ e. e.amount ≡ amount.Written 0);
+  procs = All-nil (λ e. proc_amounts e ≡ amount.Written 0 ∷ []);
 }

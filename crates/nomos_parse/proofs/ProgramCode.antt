@@ -31,14 +31,16 @@ step-holds procs bound s (label x l) next names =
     let t = with_label s l.text in
     record {
       terms = refl;
+      kinds = refl;
       calls = none_below (length procs);
       labels = All-cons (λ k. k < length t.labels) (number_of t.labels l.text) [] (number_of-below t.labels l.text (Contains-seen s.labels l.text)) (none_below (length t.labels));
       differ = one_differs (number_of t.labels l.text);
     }
 step-holds procs bound s (wait at x) next names =
-    record { terms = refl; calls = none_below (length procs); labels = none_below (length s.labels); differ = none_differ }
+    record { terms = refl; kinds = refl; calls = none_below (length procs); labels = none_below (length s.labels); differ = none_differ }
 step-holds procs bound s (spawn at x f no_args) next names = record {
   terms = refl;
+  kinds = refl;
   calls = All-cons (λ k. k < length procs) (number_of procs f.text) [] (number_of-below procs f.text names.0) (none_below (length procs));
   labels = none_below (length s.labels);
   differ = none_differ;
@@ -69,7 +71,7 @@ mutual
       (Sound-step n (length procs) types waiting s step (All-left IsShortName (names_of_step step) (names_of_code code) short) h)))
   Sound-code procs bound n types waiting s (close at) names short h =
       Sound-put_code n (length procs) types waiting s (form.Close at)
-      (record { terms = refl; calls = none_below (length procs); labels = none_below (length s.labels); differ = none_differ })
+      (record { terms = refl; kinds = refl; calls = none_below (length procs); labels = none_below (length s.labels); differ = none_differ })
       h
   Sound-code procs bound n types waiting s (case at x branches) names short h =
       let t = (build_branches procs s branches).0 in
@@ -77,6 +79,7 @@ mutual
       Sound-put_code n (length procs) types waiting t (form.Case at (chan_of s x) arms)
       (record {
         terms = refl;
+        kinds = refl;
         calls = none_below (length procs);
         labels = Numbers-below t.labels (map (λ a. a.label.0) arms) (case_labels branches) (branches-numbers procs s branches);
         differ = Numbers-differ t.labels (map (λ a. a.label.0) arms) (case_labels branches) (branches-numbers procs s branches) names.1;

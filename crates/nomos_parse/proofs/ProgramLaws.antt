@@ -34,3 +34,10 @@ AllPairs-from_map R f xs pairs i j d before within =
 -- there is no item of no list
 pub All-of_none : {X : Type 0} (P : X → Type 0) (xs : List X) → xs ≡ [] → All P xs
 All-of_none P xs none = subst (All P) (sym none) (All-nil P)
+
+-- what holds of one item holds of all where each item gives that one
+pub All-flat_map_one : {X Y : Type 0} (P : Y → Type 0) (f : X → List Y) (xs : List X) (y : Y) → P y → All (λ x. f x ≡ y ∷ []) xs → All P (flat_map f xs)
+All-flat_map_one P f [] y holds each = All-nil P
+All-flat_map_one P f (x ∷ xs) y holds each =
+    let first : All P (f x) = subst (All P) (sym (each 0 x (omega arith))) (All-cons P y [] holds (All-nil P)) in
+    All-append P (f x) (flat_map f xs) first (All-flat_map_one P f xs y holds (All-tail (λ x. f x ≡ y ∷ []) x xs each))

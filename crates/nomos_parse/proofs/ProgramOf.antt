@@ -2,15 +2,15 @@
 use Rattle.std.proofs.Common.{◌≡◌, ◌≢◌, ◌<◌, ◌≤◌, inl, inr, ℕ, ◌+◌, List, [], ◌∷◌, ◌++◌, length, get_or, map, flat_map, All, refl, sym, ap, subst, ◌∙◌, zero-le, arith}
 use Rattle.std.proofs.lemmas.Bool.{cases_lt}
 use Rattle.std.proofs.lemmas.List.{length-map}
-use Rattle.std.proofs.lemmas.List.Elements.{All-append, All-map, All-tail}
+use Rattle.std.proofs.lemmas.List.Elements.{All-append, All-tail}
 use Rattle.std.proofs.lemmas.Option.{get_or_from_slice_get, slice_get_within}
 use Rattle.nomos_ir.specs.declared.amount.Amount.{Amount}
 use Rattle.nomos_ir.specs.declared.amount.Amount.TheVariants as amount
 use Rattle.nomos_ir.specs.declared.declaration.ProcDecl.{ProcDecl}
 use Rattle.nomos_ir.specs.declared.type_node.Def.{Def}
 use Rattle.nomos_ir.specs.declared.type_node.TypeAt.{TypeAt}
-use Rattle.nomos_ir.specs.Amounts.{amounts_of, IsAmount, AmountsAreSmall, star_of, most_star, star_count}
-use Rattle.nomos_ir.specs.CodeParts.{code_next, code_terms, code_calls, code_amounts}
+use Rattle.nomos_ir.specs.Amounts.{amounts_of, proc_amounts, IsAmount, AmountsAreSmall, star_of, most_star, star_count}
+use Rattle.nomos_ir.specs.CodeParts.{code_next, code_terms, code_kinds, code_calls, code_amounts}
 use Rattle.nomos_ir.specs.Ids.{AllBelow, IdsInRange}
 use Rattle.nomos_ir.specs.Kinds.{IsShallow, KindsAreShallow}
 use Rattle.nomos_ir.specs.Name.{IsShortName}
@@ -20,15 +20,16 @@ use Rattle.nomos_ir.specs.Program.{IsSmall, IsProgram}
 use Rattle.nomos_ir.specs.TypeParts.{type_parts, type_names, type_kinds, type_amounts}
 use Rattle.nomos_parse.proofs.ProgramAmounts.{AllFree, free-decls, free-none}
 use Rattle.nomos_parse.proofs.ProgramDeclarations.{channel_types, types_declared, code_declared, DeclaredHolds, DeclaredHolds-none, DeclaredHolds-decls, defs-names, procs-names, count_of-types_declared}
-use Rattle.nomos_parse.proofs.ProgramLaws.{All-from_map, All-from_flat_map, All-flat_map_none, AllPairs-from_map, All-of_none}
+use Rattle.nomos_parse.proofs.ProgramLaws.{All-from_map, All-from_flat_map, All-flat_map_none, All-flat_map_one, AllPairs-from_map, All-of_none}
 use Rattle.nomos_parse.proofs.ProgramNames.{names_of_decls, names_of_file, All-left, All-right}
+use Rattle.nomos_parse.proofs.ProgramPayers.{payers-decls, payers-none}
 use Rattle.nomos_parse.proofs.ProgramOnce.{Once-below, count_of-append}
 use Rattle.nomos_parse.proofs.ProgramSizes.{decls-size}
 use Rattle.nomos_parse.proofs.ProgramSound.{parts_at, AllBelow-le}
 use Rattle.nomos_parse.specs.Build.{Declared, add_decls, nothing_declared, lists_of, program_of}
 use Rattle.nomos_parse.specs.Scope.{AllNamesDiffer, declared_types, declared_procs, ObeysNames, FileObeysNames}
 use Rattle.nomos_syntax.specs.Limits.{node_limit, decls_nodes, file_nodes}
-use Rattle.nomos_syntax.specs.Reading.{IsGrammatical}
+use Rattle.nomos_syntax.specs.Reading.{IsGrammatical, HaveOwnModes}
 use Rattle.nomos_syntax.specs.Tree.{DeclTree, FileTree, file}
 
 -- how often a number stands among the places of type nodes
@@ -129,7 +130,8 @@ module _ (n p : ℕ) (d : Declared) (h : DeclaredHolds n p d) where
     types = λ k e within. All-of_none IsShallow (type_kinds (get_or d.built.types k e).node) (h.built.types_hold k e within).kinds;
     terms = λ k e within. absurd (omega arith);
     fns = λ k e within. absurd (omega arith);
-    procs = λ k e within. All-of_none (λ par. IsShallow par.1) (get_or d.procs k e).values (h.procs k e within).values;
+    code = λ k e within. All-of_none IsShallow (code_kinds (get_or d.built.code k e)) (h.built.code_hold k e within).kinds;
+    procs = λ k e within. All-of_none (λ par. IsShallow par.kind) (get_or d.procs k e).values (h.procs k e within).values;
   }
 
   -- names and labels are short
@@ -166,11 +168,11 @@ amounts-none : (d : Declared) → AllFree d → All (λ a. a ≡ amount.Written 
 amounts-none d h =
     let IsNone : Amount → Type 0 = λ a. a ≡ amount.Written 0 in
     let of_types = flat_map (λ (t : TypeAt). type_amounts t.node) d.built.types in
-    All-append IsNone (of_types ++ flat_map code_amounts d.built.code) (map (λ e. e.amount) d.procs)
+    All-append IsNone (of_types ++ flat_map code_amounts d.built.code) (flat_map proc_amounts d.procs)
     (All-append IsNone of_types (flat_map code_amounts d.built.code)
     (All-flat_map_none IsNone (λ (t : TypeAt). type_amounts t.node) d.built.types h.built.types)
     (All-flat_map_none IsNone code_amounts d.built.code h.built.code))
-    (All-map IsNone (λ (e : ProcDecl). e.amount) d.procs h.procs)
+    (All-flat_map_one IsNone proc_amounts d.procs (amount.Written 0) refl h.procs)
 
 -- so they are small
 amounts-small : (d : Declared) → AllFree d → AmountsAreSmall (lists_of d)
@@ -202,8 +204,8 @@ small decls few =
     record { code = omega arith; declarations = omega arith }
 
 -- the program of a tree of declarations
-decls-IsProgram : (decls : List DeclTree) → ObeysNames decls → decls_nodes decls ≤ node_limit → All IsShortName (names_of_decls decls) → IsProgram (program_of (file decls))
-decls-IsProgram decls obeys few short =
+decls-IsProgram : (decls : List DeclTree) → HaveOwnModes decls → ObeysNames decls → decls_nodes decls ≤ node_limit → All IsShortName (names_of_decls decls) → IsProgram (program_of (file decls))
+decls-IsProgram decls own obeys few short =
     let types = declared_types decls in
     let procs = declared_procs decls in
     let d = add_decls types procs nothing_declared decls in
@@ -224,13 +226,14 @@ decls-IsProgram decls obeys few short =
       spaces = names-differ n p d h (subst AllNamesDiffer (sym defs_are) obeys.types_differ) (subst AllNamesDiffer (sym procs_are) obeys.procs_differ);
       labels = labels-differ n p d h;
       parameters = parameters-differ n p d h;
+      payers = payers-decls types procs nothing_declared decls own payers-none;
       amounts = amounts-small d (decls-free decls);
       size = small decls few;
     }
 
 -- the program of a tree that obeys the rules of names, within the limits, is a program
 pub program_of-IsProgram : (tree : FileTree) → IsGrammatical tree → FileObeysNames tree → file_nodes tree ≤ node_limit → All IsShortName (names_of_file tree) → IsProgram (program_of tree)
-program_of-IsProgram (file decls) grammatical obeys few short = decls-IsProgram decls obeys few short
+program_of-IsProgram (file decls) grammatical obeys few short = decls-IsProgram decls grammatical obeys few short
 
 -- and it has no star
 pub program_of-star_count : (tree : FileTree) → star_count (program_of tree) ≡ 0

@@ -7,7 +7,7 @@ use Rattle.std.proofs.lemmas.List.Elements.{All-nil, All-push}
 use Rattle.nomos_ir.specs.declared.code_node.CodeNode.{CodeNode}
 use Rattle.nomos_ir.specs.declared.type_node.TypeAt.{TypeAt}
 use Rattle.nomos_ir.specs.declared.type_node.TypeNode.{TypeNode}
-use Rattle.nomos_ir.specs.CodeParts.{code_next, code_terms, code_calls, code_labels}
+use Rattle.nomos_ir.specs.CodeParts.{code_next, code_terms, code_kinds, code_calls, code_labels}
 use Rattle.nomos_ir.specs.Ids.{AllBelow}
 use Rattle.nomos_ir.specs.Name.{IsShortName}
 use Rattle.nomos_ir.specs.Naming.{AllDiffer}
@@ -31,6 +31,7 @@ pub record TypeHolds (n l : ℕ) (node : TypeNode) : Type 0 where
 -- a code node beside p processes and l labels
 pub record CodeHolds (p l : ℕ) (node : CodeNode) : Type 0 where
   pub terms : code_terms node ≡ []
+  pub kinds : code_kinds node ≡ []
   pub calls : AllBelow p (code_calls node)
   pub labels : AllBelow l (code_labels node)
   pub differ : AllDiffer (code_labels node)
@@ -72,6 +73,7 @@ TypeHolds-le n l m node le h = record {
 pub CodeHolds-le : (p l m : ℕ) (node : CodeNode) → l ≤ m → CodeHolds p l node → CodeHolds p m node
 CodeHolds-le p l m node le h = record {
   terms = h.terms;
+  kinds = h.kinds;
   calls = h.calls;
   labels = AllBelow-le l m (code_labels node) le h.labels;
   differ = h.differ;

@@ -10,7 +10,7 @@ use Rattle.nomos_syntax.specs.Limits.{IsShort}
 use Rattle.nomos_syntax.specs.Naming.{IsWellNamed}
 use Rattle.nomos_syntax.specs.Reading.{IsPlainText}
 use Rattle.nomos_syntax.specs.Scan.{tokens_of}
-use Rattle.nomos_syntax.proofs.NameLemmas.{names_are_names}
+use Rattle.nomos_syntax.proofs.NameLaws.{names_are_names}
 use Rattle.nomos_parse.specs.Build.{Declared, lists_of}
 use Rattle.nomos_parse.specs.Elaboration.{ElaboratesTo}
 use Rattle.nomos_parse.specs.FileReader.{read_file}

@@ -14,8 +14,9 @@ use crate::stop::Stop;
 use crate::tokens::{Found, Part, Tokens};
 use crate::types::read_type;
 use nomos_ir::amount::Amount;
-use nomos_ir::declaration::{ProcDecl, VarKinds, VarTypes};
+use nomos_ir::declaration::{ProcDecl, VarTypes};
 use nomos_ir::ids::CodeId;
+use nomos_ir::items::Items;
 use nomos_ir::mode::Mode;
 use nomos_ir::type_node::{Def, TypeNode};
 use nomos_ir::word::Word;
@@ -115,7 +116,7 @@ fn read_offering(
         name: name_of(builder.alloc(), name)?,
         mode,
         me: None,
-        values: VarKinds::of_vec(Vec::new(builder.alloc())),
+        values: Items::of_vec(Vec::new(builder.alloc())),
         channels: VarTypes::of_vec(channels),
         amount: Amount::Written(0),
         offers,
@@ -147,7 +148,7 @@ fn read_transaction(
         name: name_of(builder.alloc(), name)?,
         mode: Mode::T,
         me: Some(me),
-        values: VarKinds::of_vec(Vec::new(builder.alloc())),
+        values: Items::of_vec(Vec::new(builder.alloc())),
         channels: VarTypes::of_vec(channels),
         amount: Amount::Written(0),
         offers,

@@ -2,7 +2,7 @@
 ghost use Rattle.std.specs.Prelude.{◌≡◌, ◌≤◌, ◌++◌, IfOk, Some, length, map, All};
 ghost use Rattle.std.specs.Option.{option_map};
 ghost use Rattle.nomos_parse.specs.Build.{lists_of};
-ghost use Rattle.nomos_parse.specs.FileLoop.{declaring, heads_seen, with_heads};
+ghost use Rattle.nomos_parse.specs.FileLoop.{declared_over, declaring, file_over, heads_seen, with_heads};
 ghost use Rattle.nomos_parse.specs.FileReader.{named_behind, proc_head, proc_heads, read_decls, read_file, type_head, type_heads};
 ghost use Rattle.nomos_parse.specs.Gives.{Gives, lexeme_seen};
 ghost use Rattle.nomos_syntax.specs.Limits.{text_limit};
@@ -116,6 +116,33 @@ fn lists_of(alloc: Global, declared: Declarations) -> Result<ProgramLists, Stop>
     })
 }
 
+/// The lists of the program that the declarations are read as, over the names at their heads.
+fn read_over(
+    alloc: Global,
+    types: &NameTable,
+    procs: &NameTable,
+    tokens: &mut Tokens<'_>,
+) -> Result<ProgramLists, Stop>
+    ensures { Gives (λ lists. lists) result (option_map lists_of (declared_over types.now procs.now tokens.old)) }
+{
+    let mut declared = Declarations {
+        defs: Vec::new(alloc),
+        procs: Vec::new(alloc),
+        builder: Builder::new(alloc),
+    };
+    read_decls(types, procs, &mut declared, tokens)?;
+    lists_of(alloc, declared)
+}
+
+/// The lists of the program that the tokens of a text are read as, whose declarations have these names at their heads.
+fn read_headed(alloc: Global, heads: &Heads, tokens: &mut Tokens<'_>) -> Result<ProgramLists, Stop>
+    ensures { Gives (λ lists. lists) result (option_map lists_of (file_over (heads_seen heads.now) tokens.old)) }
+{
+    let types = NameTable::of_different(alloc, &heads.types)?;
+    let procs = NameTable::of_different(alloc, &heads.procs)?;
+    read_over(alloc, &types, &procs, tokens)
+}
+
 /// The lists of the program that the tokens of a text are read as.
 #[tactic(auto, unfolding(crate::specs::FileReader::read_file))]
 fn read_file(alloc: Global, text: &[u8], tokens: &[Token]) -> Result<ProgramLists, Stop>
@@ -123,16 +150,7 @@ fn read_file(alloc: Global, text: &[u8], tokens: &[Token]) -> Result<ProgramList
     ensures { Gives (λ lists. lists) result (option_map lists_of (read_file (map (placed_of text.now) tokens.now))) }
 {
     let heads = read_heads(alloc, &mut Tokens::new(text, tokens))?;
-    let types = NameTable::of_different(alloc, &heads.types)?;
-    let procs = NameTable::of_different(alloc, &heads.procs)?;
-    let mut declared = Declarations {
-        defs: Vec::new(alloc),
-        procs: Vec::new(alloc),
-        builder: Builder::new(alloc),
-    };
-    let mut rest = Tokens::new(text, tokens);
-    read_decls(&types, &procs, &mut declared, &mut rest)?;
-    lists_of(alloc, declared)
+    read_headed(alloc, &heads, &mut Tokens::new(text, tokens))
 }
 
 /// The lists of the program that the tokens of a text are read as, or none.

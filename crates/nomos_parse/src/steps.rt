@@ -12,9 +12,8 @@ use crate::scope::Scope;
 use crate::step::Step;
 use crate::stop::Stop;
 use crate::tokens::{Found, Part, Tokens};
-use nomos_ir::code_node::{Args, Chan, CodeNode, VarIds};
+use nomos_ir::code_node::{Args, Chan, CodeNode, ValueArgs, VarIds};
 use nomos_ir::ids::{CodeId, ProcId};
-use nomos_ir::term_node::TermIds;
 use nomos_ir::word::Word;
 use nomos_syntax::symbol::Symbol;
 use std::alloc::Global;
@@ -126,7 +125,7 @@ fn node_before(alloc: Global, step: Step, next: CodeId) -> CodeNode
         Step::Wait(at, variable) => CodeNode::Wait(at, variable, next),
         Step::Spawn(at, variable, process) => {
             let args = Args {
-                values: TermIds::of_vec(Vec::new(alloc)),
+                values: ValueArgs::of_vec(Vec::new(alloc)),
                 channels: VarIds::of_vec(Vec::new(alloc)),
             };
             CodeNode::Spawn(at, variable, process, args, next)

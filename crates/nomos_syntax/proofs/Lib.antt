@@ -2,6 +2,6 @@ pub mod PieceLemmas
 pub mod SpellingLemmas
 pub mod ScanLemmas
 pub mod WordLemmas
-pub mod NameLemmas
+pub mod NameLaws
 pub mod OffsetLemmas
 pub mod Examples

@@ -1,95 +1,88 @@
-// The tokens of small texts, and the limit on the length of a text.
-use crate::scan::{TEXT_LIMIT, TokenError, tokens};
-use crate::symbol::Symbol;
-use crate::token::TokenKind::{Bad, Name, Number, Reserved};
-use crate::token::{Token, TokenKind};
-use nomos_ir::word::Word;
-use std::process::Abort;
+//! The tokens of small texts, and the texts that have none.
+use crate::scan::{TEXT_LIMIT, tokens};
+use std::alloc::{AllocError, Global};
 use std::test::Fail;
 
-fn sign(symbol: Symbol) -> TokenKind {
-    TokenKind::Symbol(symbol)
+// The tokens of a text, each with its kind and its span, or why it has none.
+fn answer(alloc: Global, text: &[u8]) -> Result<String, AllocError> {
+    match tokens(alloc, text) {
+        Ok(found) => format!(in alloc; "{:?}", found.as_slice()),
+        Err(error) => format!(in alloc; "{error:?}"),
+    }
 }
 
-/// Looks at the tokens of a text: the kind and the span of each.
-fn expect(
-    rt: &(impl Abort + AllocGlobal),
-    text: &[u8],
-    wanted: &[(TokenKind, u32, u32)],
-) -> Result<(), Fail> {
-    let found = tokens(rt.alloc(), text)?;
-    let found = found.as_slice();
-    assert_eq!(rt; found.len(), wanted.len(), "in {text:?}");
-    for (token, (kind, from, to)) in found.iter().zip(wanted) {
-        let want = Token {
-            kind: *kind,
-            from: *from,
-            to: *to,
-        };
-        assert_eq!(rt; *token, want, "in {text:?}");
+#[test]
+fn texts_have_tokens(rt: HostRuntime) -> Result<(), Fail> {
+    let table = [
+        ("", "[]"),
+        (" \t\r\n", "[]"),
+        ("a // b", "[Token { kind: Name, from: 0, to: 1 }]"),
+        ("//a\rb\nc", "[Token { kind: Name, from: 6, to: 7 }]"),
+        (
+            "1a",
+            "[Token { kind: Number, from: 0, to: 1 }, Token { kind: Name, from: 1, to: 2 }]",
+        ),
+        (
+            "_9 007",
+            "[Token { kind: Name, from: 0, to: 2 }, Token { kind: Number, from: 3, to: 6 }]",
+        ),
+        (
+            "1\x0c2",
+            "[Token { kind: Number, from: 0, to: 1 }, Token { kind: Bad, from: 1, to: 2 }, \
+            Token { kind: Number, from: 2, to: 3 }]",
+        ),
+        (
+            "\x00\x7f",
+            "[Token { kind: Bad, from: 0, to: 1 }, Token { kind: Bad, from: 1, to: 2 }]",
+        ),
+        (
+            "self selfish",
+            "[Token { kind: Reserved(SelfWord), from: 0, to: 4 }, Token { kind: Name, from: 5, to: 12 }]",
+        ),
+        (
+            "a-o b",
+            "[Token { kind: Name, from: 0, to: 1 }, Token { kind: Symbol(Lollipop), from: 1, to: 3 }, \
+            Token { kind: Name, from: 4, to: 5 }]",
+        ),
+        (
+            "a -ox",
+            "[Token { kind: Name, from: 0, to: 1 }, Token { kind: Symbol(Minus), from: 2, to: 3 }, \
+            Token { kind: Name, from: 3, to: 5 }]",
+        ),
+        ("-o", "[Token { kind: Symbol(Lollipop), from: 0, to: 2 }]"),
+        (
+            "-o_",
+            "[Token { kind: Symbol(Minus), from: 0, to: 1 }, Token { kind: Name, from: 1, to: 3 }]",
+        ),
+        (
+            "->=>::/\\",
+            "[Token { kind: Symbol(Arrow), from: 0, to: 2 }, Token { kind: Symbol(FatArrow), from: 2, to: 4 }, \
+            Token { kind: Symbol(DoubleColon), from: 4, to: 6 }, Token { kind: Symbol(Wedge), from: 6, to: 8 }]",
+        ),
+        (
+            "1/ /2",
+            "[Token { kind: Number, from: 0, to: 1 }, Token { kind: Symbol(Slash), from: 1, to: 2 }, \
+            Token { kind: Symbol(Slash), from: 3, to: 4 }, Token { kind: Number, from: 4, to: 5 }]",
+        ),
+        ("a\x7f\u{80}", "NotAscii(2)"),
+    ];
+    let alloc = rt.alloc();
+    for (text, wanted) in table {
+        assert_eq!(rt;
+            answer(alloc, text.as_bytes())?.as_str(),
+            wanted,
+            "in {text:?}"
+        );
     }
     Ok(())
 }
 
 #[test]
-fn words_and_numbers(rt: HostRuntime) -> Result<(), Fail> {
-    expect(&rt, b"", &[])?;
-    expect(&rt, b" \t\r\n", &[])?;
-    expect(&rt, b"a // b", &[(Name, 0, 1)])?;
-    expect(&rt, b"//a\rb\nc", &[(Name, 6, 7)])?;
-    expect(&rt, b"1a", &[(Number, 0, 1), (Name, 1, 2)])?;
-    expect(&rt, b"_9 007", &[(Name, 0, 2), (Number, 3, 6)])?;
-    expect(
-        &rt,
-        b"1\x0c2",
-        &[(Number, 0, 1), (Bad, 1, 2), (Number, 2, 3)],
-    )?;
-    expect(&rt, b"\x00\x7f", &[(Bad, 0, 1), (Bad, 1, 2)])?;
-    expect(
-        &rt,
-        b"self selfish",
-        &[(Reserved(Word::SelfWord), 0, 4), (Name, 5, 12)],
-    )
-}
-
-#[test]
-fn symbols(rt: HostRuntime) -> Result<(), Fail> {
-    let minus = sign(Symbol::Minus);
-    let lollipop = sign(Symbol::Lollipop);
-    expect(
-        &rt,
-        b"a-o b",
-        &[(Name, 0, 1), (lollipop, 1, 3), (Name, 4, 5)],
-    )?;
-    expect(&rt, b"a -ox", &[(Name, 0, 1), (minus, 2, 3), (Name, 3, 5)])?;
-    expect(&rt, b"-o", &[(lollipop, 0, 2)])?;
-    expect(&rt, b"-o_", &[(minus, 0, 1), (Name, 1, 3)])?;
-    let arrow = (sign(Symbol::Arrow), 0, 2);
-    let fat_arrow = (sign(Symbol::FatArrow), 2, 4);
-    let colons = (sign(Symbol::DoubleColon), 4, 6);
-    let wedge = (sign(Symbol::Wedge), 6, 8);
-    expect(&rt, b"->=>::/\\", &[arrow, fat_arrow, colons, wedge])?;
-    expect(
-        &rt,
-        b"1/ /2",
-        &[
-            (Number, 0, 1),
-            (sign(Symbol::Slash), 1, 2),
-            (sign(Symbol::Slash), 3, 4),
-            (Number, 4, 5),
-        ],
-    )
-}
-
-#[test]
-fn refused_texts(rt: HostRuntime) -> Result<(), Fail> {
-    let mut text = vec![in rt.alloc(); b' '; TEXT_LIMIT]?;
-    expect(&rt, &text, &[])?;
+fn texts_have_a_limit(rt: HostRuntime) -> Result<(), Fail> {
+    let alloc = rt.alloc();
+    let mut text = vec![in alloc; b' '; TEXT_LIMIT]?;
+    assert_eq!(rt; answer(alloc, &text)?.as_str(), "[]");
     text.push(b' ')?;
-    assert_eq!(rt; tokens(rt.alloc(), &text).err(), Some(TokenError::TooLong));
-    assert_eq!(rt;
-        tokens(rt.alloc(), b"a\x7f\x80\xff").err(),
-        Some(TokenError::NotAscii(2))
-    );
+    assert_eq!(rt; answer(alloc, &text)?.as_str(), "TooLong");
     Ok(())
 }

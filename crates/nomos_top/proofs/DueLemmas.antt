@@ -5,7 +5,7 @@ use Rattle.std.proofs.Math.ListN.{length-replicate}
 use Rattle.std.proofs.Math.Seq.{take-length}
 use Rattle.nomos_accept.specs.Acceptance.{IsAcceptedAs, IsRefused}
 use Rattle.nomos_accept.specs.declared.refusal.Why.{Why}
-use Rattle.nomos_base.proofs.Told.{TakesExactly-told}
+use Rattle.nomos_base.proofs.ToldLaws.{TakesExactly-told}
 use Rattle.nomos_base.specs.Source.{TakesAll, TakesExactly}
 use Rattle.nomos_ledger.specs.declared.journal.Journal.{Journal}
 use Rattle.nomos_script.specs.Reading.{ReadsAs}

@@ -1,6 +1,7 @@
 //! Runs scripts: each batch by firing the lowest ready process, within the limits on firings.
 
 ghost use Rattle.std.specs.Prelude.{◌≡◌, ℕ, ◌+◌, ◌-◌, ◌<◌, ◌≤◌, ◌^◌, [], ◌∷◌, ◌++◌, IfOk, IfErr, Ok, OnOk, OnErr, length, if◌then◌else◌};
+ghost use Rattle.nomos_ledger.specs.Ending.{EndsAs};
 ghost use Rattle.nomos_ledger.specs.Legal.{batch_limit, max_firings};
 ghost use Rattle.nomos_ledger.specs.Standing.{StandsFor, WorldStandsFor};
 ghost use Rattle.nomos_ledger.specs.World.{committed, pids_of};
@@ -62,6 +63,23 @@ fn fire_all(accepted: &Accepted, world: &mut World, limit: u32) -> Result<(), Al
         }
     }
     Ok(())
+}
+
+// Fires a batch that has started to its end.
+fn fire_to_end(accepted: &Accepted, world: &mut World, limit: u32) -> Result<End, AllocError>
+    requires stands { WorldStandsFor accepted.now world.old }
+    requires fresh { world.old.firings ≡ [] }
+    requires objects { world.old.state.next_object + limit < 2 ^ 32 - 1 }
+    requires names { world.old.state.next_name + limit < 2 ^ 32 - 1 }
+    ensures fires { Fires accepted.now world.old world.new }
+    ensures within { length world.new.firings ≤ limit }
+    ensures ends { IfOk result (EndsAs accepted.now world.new.state (length world.new.firings) limit) }
+{
+    fire_all(accepted, world, limit)?;
+    let Some(end) = world.end(accepted, limit) else {
+        unreachable!()
+    };
+    Ok(end)
 }
 
 // The numbers of the processes that fired.
@@ -129,6 +147,31 @@ impl Running {
         )
     }
 
+    // Keeps the entry of a batch with its firings, and appends its lines.
+    fn keep_firings(
+        &mut self,
+        alloc: Global,
+        unit: u32,
+        course: &Course,
+        firings: &Firings,
+        end: End,
+    ) -> Result<(), AllocError>
+        ensures entries { OnOk result (self.new.entries.items ≡ self.old.entries.items ++ entry_of course.now.line (pids_of firings.now) end ∷ []) }
+        ensures text { OnOk result (self.new.text.items ≡ self.old.text.items ++ end_lines unit course.now.line course.now.count course.now.spent_before course.now.last.now end) }
+        ensures kept { (self.new.ledger ≡ self.old.ledger) × (self.new.made ≡ self.old.made) }
+        ensures err { OnErr result (self.new.entries.items ≡ self.old.entries.items) }
+    {
+        let firings = pids(alloc, firings)?;
+        keep(
+            &mut self.entries,
+            &mut self.text,
+            unit,
+            course,
+            firings,
+            end,
+        )
+    }
+
     // Carries out a deposit.
     fn deposit(
         &mut self,
@@ -164,28 +207,16 @@ impl Running {
     {
         let most = batch_limit(limit, self.made);
         let spent_before = world.state().spent();
-        fire_all(accepted, &mut world, most)?;
-        let Some(end) = world.end(accepted, most) else {
-            unreachable!()
-        };
-        let count = world.firings().len() as u32;
-        let firings = pids(alloc, world.firings())?;
+        let end = fire_to_end(accepted, &mut world, most)?;
         let stays = is_committed(&end);
+        let count = world.firings().len() as u32;
         let course = Course {
             line,
             count: u64::from(count),
             spent_before,
             last: world.state(),
         };
-        let unit = accepted.unit();
-        keep(
-            &mut self.entries,
-            &mut self.text,
-            unit,
-            &course,
-            firings,
-            end,
-        )?;
+        self.keep_firings(alloc, accepted.unit(), &course, world.firings(), end)?;
         self.ledger = settle(world, stays);
         self.made += count;
         Ok(())

@@ -1,577 +1,613 @@
 //! What no clause says: that the call succeeds where memory is found, and examples from outside.
 
-use crate::running::run_items;
-use crate::{Ended, Job, nomos, words};
+use crate::running::{Running, run_items};
+use crate::{nomos, words};
 use nomos_accept::accepting::accept;
 use nomos_base::{MemorySink, MemorySource};
 use nomos_config::machine::Machine;
 use nomos_script::parsing::{self, parse_script};
+use nomos_script::script::Script;
 use nomos_syntax::scan::TEXT_LIMIT;
+use nomos_types::accepted::Accepted;
 use std::alloc::{AllocError, Global};
-use std::process::Abort;
 use std::test::Fail;
 
-const EVERYTHING: usize = 4_194_304;
-
-const ACCEPTED: &[u8] = b"accepted\nunit 1\nbound t = 0\n";
-
-const EMPTY_ACCEPTED: &[u8] = b"accepted\nunit 1\n";
-
-const UNTYPED: &[u8] = b"refused Untyped\n";
-
-const UNREAD: &[u8] = b"refused Unread\n";
-
-const NOT_YET: &[u8] = b"refused NotYet\n";
-
-const USAGE: &[u8] = b"usage: nomos check FILE | run FILE SCRIPT\n";
-
-const FLIP: &[u8] = b"type R flip = +{ heads : 1 | tails : 1 };
-proc R toss(;) : flip = self.heads; close;
-proc T t(;) = spawn c = toss(;); case c { tails => wait c; close | heads => wait c; close };
-";
-
-// Words as the program gets them.
-fn words_of(alloc: Global, texts: &[&str]) -> Result<Vec<String>, AllocError> {
+// The words of a line, each behind one space.
+fn words_of(alloc: Global, line: &str) -> Result<Vec<String>, AllocError> {
     let mut words = Vec::new(alloc);
-    for text in texts {
+    for text in line.split(' ') {
         words.push(String::from_str(alloc, text)?)?;
     }
     Ok(words)
 }
 
-// Calls with these words, contract and script, and looks at the status and at what is written.
-fn expect_call(
-    rt: &(impl Abort + AllocGlobal),
-    words: &[&str],
-    text: &[u8],
-    script: &[u8],
-    status: u8,
-    written: &[u8],
-) -> Result<Ended, Fail> {
-    let alloc = rt.alloc();
-    let words = words_of(alloc, words)?;
-    let text = Vec::from_slice(alloc, text)?;
-    let script = Vec::from_slice(alloc, script)?;
-    let mut contract = MemorySource::new(text, EVERYTHING, Vec::new(alloc));
-    let mut script = MemorySource::new(script, EVERYTHING, Vec::new(alloc));
-    let mut out = MemorySink::new(alloc, EVERYTHING, EVERYTHING, Vec::new(alloc))?;
-    let ended = nomos(alloc, &words, &mut contract, &mut script, &mut out);
-    assert_eq!(rt; out.written(), written);
-    assert_eq!(rt; ended.status, status);
-    Ok(ended)
+// The numbers of the calls that fail: of the contract, of the script, and of the output.
+type Faults = (u64, u64, u64);
+
+// The number of a call that is never made.
+const NEVER: u64 = 1_000_000;
+
+const NO_FAULTS: Faults = (NEVER, NEVER, NEVER);
+
+const EVERYTHING: usize = 4_194_304;
+
+// A source over a text, of which one read fails.
+fn source(alloc: Global, text: &[u8], piece: u16, fault: u64) -> Result<MemorySource, AllocError> {
+    let bytes = Vec::from_slice(alloc, text)?;
+    let failing = vec![in alloc; fault]?;
+    Ok(MemorySource::new(bytes, usize::from(piece) + 1, failing))
 }
 
-// Checks a text, and looks at the status and at what is written.
-fn expect(
-    rt: &(impl Abort + AllocGlobal),
-    text: &[u8],
-    status: u8,
-    written: &[u8],
-) -> Result<(), Fail> {
-    let ended = expect_call(rt, &["check", "it.nomos"], text, b"", status, written)?;
-    assert_eq!(rt; ended.accepted.is_some(), status == 0);
-    assert!(rt; ended.journal.entries.is_empty());
-    Ok(())
+// A sink of which one write fails.
+fn sink(alloc: Global, piece: u16, fault: u64) -> Result<MemorySink, AllocError> {
+    let failing = vec![in alloc; fault]?;
+    MemorySink::new(alloc, EVERYTHING, usize::from(piece) + 1, failing)
 }
+
+// What a call works on.
+#[derive(Drop)]
+struct Outside {
+    contract: MemorySource,
+    script: MemorySource,
+    out: MemorySink,
+}
+
+// A contract and a script, where each read and write moves at most one byte more than the piece.
+fn outside_of(
+    alloc: Global,
+    texts: (&[u8], &[u8]),
+    piece: u16,
+    faults: Faults,
+) -> Result<Outside, AllocError> {
+    Ok(Outside {
+        contract: source(alloc, texts.0, piece, faults.0)?,
+        script: source(alloc, texts.1, piece, faults.1)?,
+        out: sink(alloc, piece, faults.2)?,
+    })
+}
+
+// How a call ended: the status, whether the contract was accepted, and the entries of the journal.
+fn end_of(alloc: Global, words: &[String], outside: &mut Outside) -> Result<String, AllocError> {
+    let (contract, script) = (&mut outside.contract, &mut outside.script);
+    let ended = nomos(alloc, words, contract, script, &mut outside.out);
+    let accepted = ended.accepted.is_some();
+    let entries = ended.journal.entries.len();
+    format!(in alloc; "{} {accepted} {entries}", ended.status)
+}
+
+// How many reads and writes failed, and what was written.
+fn outside_text(alloc: Global, outside: &Outside) -> Result<String, Fail> {
+    let contract = outside.contract.faults();
+    let script = outside.script.faults();
+    let out = outside.out.faults();
+    let written = str::from_utf8(outside.out.written())?;
+    Ok(format!(in alloc; "({contract}, {script}, {out})\n{written}")?)
+}
+
+// What is answered to the words of a line.
+fn answer_in_pieces(
+    alloc: Global,
+    line: &str,
+    texts: (&[u8], &[u8]),
+    piece: u16,
+    faults: Faults,
+) -> Result<String, Fail> {
+    let words = words_of(alloc, line)?;
+    let mut outside = outside_of(alloc, texts, piece, faults)?;
+    let end = end_of(alloc, &words, &mut outside)?;
+    let outside = outside_text(alloc, &outside)?;
+    Ok(format!(in alloc; "{end} {outside}")?)
+}
+
+// What is answered where no read and no write fails.
+fn answer(alloc: Global, line: &str, contract: &[u8], script: &[u8]) -> Result<String, Fail> {
+    answer_in_pieces(alloc, line, (contract, script), 8191, NO_FAULTS)
+}
+
+const ACCEPTED: &str = "0 true 0 (0, 0, 0)\naccepted\nunit 1\nbound t = 0\n";
+
+const EMPTY_ACCEPTED: &str = "0 true 0 (0, 0, 0)\naccepted\nunit 1\n";
+
+const UNTYPED: &str = "1 false 0 (0, 0, 0)\nrefused Untyped\n";
+
+const UNREAD: &str = "1 false 0 (0, 0, 0)\nrefused Unread\n";
+
+const NOT_YET: &str = "1 false 0 (0, 0, 0)\nrefused NotYet\n";
+
+const FLIP: &str = "type R flip = +{ heads : 1 | tails : 1 };
+proc R toss(;) : flip = self.heads; close;
+proc T t(;) = spawn c = toss(;); case c { tails => wait c; close | heads => wait c; close };
+";
 
 #[test]
 fn accepts_what_has_a_derivation(rt: HostRuntime) -> Result<(), Fail> {
-    let table: [(&[u8], &[u8]); 13] = [
-        (b"", EMPTY_ACCEPTED),
-        (b"// nothing but a comment", EMPTY_ACCEPTED),
-        (b"type R token = 1;", EMPTY_ACCEPTED),
-        (b"proc T t(;) = close;", ACCEPTED),
+    let table = [
+        ("", EMPTY_ACCEPTED),
+        ("// nothing but a comment", EMPTY_ACCEPTED),
+        ("type R token = 1;", EMPTY_ACCEPTED),
+        ("proc T t(;) = close;", ACCEPTED),
         (
-            b"proc R hidden(;) : 1 = close; proc T t(;) = close;",
+            "proc R hidden(;) : 1 = close; proc T t(;) = close;",
             ACCEPTED,
         ),
         (FLIP, ACCEPTED),
         (
-            b"proc T b(;) = close; proc T a(;) = close;",
-            b"accepted\nunit 1\nbound b = 0\nbound a = 0\n",
+            "proc T b(;) = close; proc T a(;) = close;",
+            "0 true 0 (0, 0, 0)\naccepted\nunit 1\nbound b = 0\nbound a = 0\n",
         ),
         (
-            b"type R tick = +{ go : tock | end : 1 }; type R tock = +{ go : tick };
+            "type R tick = +{ go : tock | end : 1 }; type R tock = +{ go : tick };
             proc R clock(;) : tick = self.go; self.go; self.end; close;",
             EMPTY_ACCEPTED,
         ),
         (
-            b"type R a = +{ l : b | end : 1 }; type R b = +{ l : c }; type R c = +{ l : a };
+            "type R a = +{ l : b | end : 1 }; type R b = +{ l : c }; type R c = +{ l : a };
             proc R go(;) : a = self.l; self.l; self.l; self.l; self.l; self.l; self.end; close;
             type R q = &{ l : r | end : 1 }; type R r = &{ l : q };
             proc R ask(; x : q) : 1 = x.l; x.l; x.l; x.l; x.end; wait x; close;",
             EMPTY_ACCEPTED,
         ),
         (
-            b"proc R loop(;) : 1 = spawn x = loop(;); wait x; close; proc T t(;) = close;",
+            "proc R loop(;) : 1 = spawn x = loop(;); wait x; close; proc T t(;) = close;",
             ACCEPTED,
         ),
         (
-            b"type R pick = &{ left : 1 | right : 1 };
+            "type R pick = &{ left : 1 | right : 1 };
             proc R ask(; a : pick, b : pick) : 1 = b.left; a.right; wait b; wait a; close;",
             EMPTY_ACCEPTED,
         ),
         (
-            b"type R pick = &{ go : 1 | stay : 1 }; proc R one(;) : 1 = close;
+            "type R pick = &{ go : 1 | stay : 1 }; proc R one(;) : 1 = close;
             proc R p(;) : pick = case self { stay => close | go => spawn x = one(;); wait x; close };",
             EMPTY_ACCEPTED,
         ),
         (
-            b"proc R one(;) : 1 = close;
+            "proc R one(;) : 1 = close;
             proc T t(;) = spawn x = one(;); wait x; spawn y = one(;); spawn z = one(;); wait z; wait y; close;",
             ACCEPTED,
         ),
     ];
-    for (text, written) in table {
-        expect(&rt, text, 0, written)?;
+    for (text, wanted) in table {
+        let found = answer(rt.alloc(), "check it.nomos", text.as_bytes(), b"")?;
+        assert_eq!(rt; found.as_str(), wanted);
     }
-    Ok(())
-}
-
-// The program of a text, node by node: parts before wholes, each with its offset. Variable 0 is `me`.
-#[test]
-fn reads_the_program_of_a_text(rt: HostRuntime) -> Result<(), Fail> {
-    let alloc = rt.alloc();
-    let text = b"type R bit = +{ one : 1 };
-proc R mk(;) : bit = self.one; close;
-proc T t(;) = spawn x = mk(;); case x { one => wait x; close };
-";
-    let written = b"accepted\nunit 1\nbound t = 0\n";
-    let ended = expect_call(&rt, &["check", "it.nomos"], text, b"", 0, written)?;
-    let Some(accepted) = &ended.accepted else {
-        panic!(rt; "the text is accepted");
-    };
-    let lists = accepted.program().lists();
-    let types = format!(in alloc; "{:?}", lists.types.as_slice())?;
-    assert_eq!(rt;
-        types.as_str(),
-        "[TypeAt { node: One, at: 22 }, \
-        TypeAt { node: Plus(Items { items: [Branch { label: Label(0), goes: TypeId(0) }] }), at: 13 }, \
-        TypeAt { node: Named(DefId(0)), at: 42 }, TypeAt { node: One, at: 65 }]"
-    );
-    let code = format!(in alloc; "{:?}", lists.code.as_slice())?;
-    assert_eq!(rt;
-        code.as_str(),
-        "[Close(58), Label(48, Own, Label(0), CodeId(0)), Close(120), Wait(112, VarId(1), CodeId(2)), \
-        Case(96, Var(VarId(1)), Items { items: [Arm { label: Label(0), goes: CodeId(3) }] }), \
-        Spawn(79, VarId(1), ProcId(0), Args { values: Items { items: [] }, channels: Items { items: [] } }, CodeId(4))]"
-    );
     Ok(())
 }
 
 #[test]
 fn refuses_what_has_no_derivation(rt: HostRuntime) -> Result<(), Fail> {
-    let table: [&[u8]; 14] = [
-        b"type R coin = 1; proc R bad(; c : coin) : 1 = close;",
-        b"type R coin = 1; proc R bad(; c : coin) : coin = wait c;wait c; close;",
-        b"type R flip = +{ heads : 1 }; proc R toss(;) : flip = self.tails; close;",
-        b"type R flip = +{ heads : 1 }; proc R toss(;) : flip = close;",
-        b"type R pick = &{ go : 1 | stay : 1 }; proc R p(;) : pick = case self { go => close };",
-        b"type R pick = &{ go : 1 }; proc R p(;) : pick = case self { go => close | stay => close };",
-        b"type R pick = &{ go : 1 }; proc R p(;) : pick = self.go; close;",
-        b"type R flip = +{ heads : 1 | tails : 1 };
+    let table = [
+        "type R coin = 1; proc R bad(; c : coin) : 1 = close;",
+        "type R coin = 1; proc R bad(; c : coin) : coin = wait c;wait c; close;",
+        "type R flip = +{ heads : 1 }; proc R toss(;) : flip = self.tails; close;",
+        "type R flip = +{ heads : 1 }; proc R toss(;) : flip = close;",
+        "type R pick = &{ go : 1 | stay : 1 }; proc R p(;) : pick = case self { go => close };",
+        "type R pick = &{ go : 1 }; proc R p(;) : pick = case self { go => close | stay => close };",
+        "type R pick = &{ go : 1 }; proc R p(;) : pick = self.go; close;",
+        "type R flip = +{ heads : 1 | tails : 1 };
         proc R p(; c : flip, d : 1) : 1 = case c { heads => wait c; wait d; close | tails => wait c; close };",
-        b"proc T one(;) = close; proc T t(;) = spawn x = one(;); wait x; close;",
-        b"proc R one(; d : 1) : 1 = wait d; close; proc T t(;) = spawn x = one(;); wait x; close;",
-        b"proc R one(;) : 1 = close; proc R two(;) : 1 = spawn x = one(;); close;",
-        b"proc R good(;) : 1 = close; proc R bad(; c : 1) : 1 = close; proc R best(;) : 1 = close;",
-        b"type R pick = &{ go : 1 }; proc R p(; c : pick) : 1 = case c { go => wait c; close };",
-        b"type R a = +{ l : b | end : 1 }; type R b = +{ l : a }; proc R p(;) : a = self.l; self.end; close;",
+        "proc T one(;) = close; proc T t(;) = spawn x = one(;); wait x; close;",
+        "proc R one(; d : 1) : 1 = wait d; close; proc T t(;) = spawn x = one(;); wait x; close;",
+        "proc R one(;) : 1 = close; proc R two(;) : 1 = spawn x = one(;); close;",
+        "proc R good(;) : 1 = close; proc R bad(; c : 1) : 1 = close; proc R best(;) : 1 = close;",
+        "type R pick = &{ go : 1 }; proc R p(; c : pick) : 1 = case c { go => wait c; close };",
+        "type R a = +{ l : b | end : 1 }; type R b = +{ l : a }; proc R p(;) : a = self.l; self.end; close;",
     ];
     for text in table {
-        expect(&rt, text, 1, UNTYPED)?;
+        let found = answer(rt.alloc(), "check it.nomos", text.as_bytes(), b"")?;
+        assert_eq!(rt; found.as_str(), UNTYPED);
     }
     Ok(())
 }
 
 #[test]
 fn refuses_what_does_not_read(rt: HostRuntime) -> Result<(), Fail> {
-    let table: [&[u8]; 14] = [
-        b"type R a = a;",
-        b"type R a = b; type R b = 1;",
-        b"type R a = 1; type R a = 1;",
-        b"type R a = +{ l : 1 | l : 1 };",
-        b"proc T t(;) = close; proc R t(;) : 1 = close;",
-        b"proc R one(;) : 1 = close; proc R two(; x : 1) : 1 = spawn x = one(;); wait x; close;",
-        b"proc R p(;) : 1 = case self { l => close | l => close };",
-        b"proc R p(;) : unknown = close;",
-        b"proc T t(;) = spawn x = unknown(;); wait x; close;",
-        b"proc T t(;) = wait x; close;",
-        b"proc T t(;) = clo",
-        b"type R coin = 1",
-        b"type \xc3",
-        b"\x00",
+    let table = [
+        "type R a = a;",
+        "type R a = b; type R b = 1;",
+        "type R a = 1; type R a = 1;",
+        "type R a = +{ l : 1 | l : 1 };",
+        "proc T t(;) = close; proc R t(;) : 1 = close;",
+        "proc R one(;) : 1 = close; proc R two(; x : 1) : 1 = spawn x = one(;); wait x; close;",
+        "proc R p(;) : 1 = case self { l => close | l => close };",
+        "proc R p(;) : unknown = close;",
+        "proc T t(;) = spawn x = unknown(;); wait x; close;",
+        "proc T t(;) = wait x; close;",
+        "proc T t(;) = clo",
+        "type R coin = 1",
+        "type \u{e9}",
+        "\x00",
     ];
     for text in table {
-        expect(&rt, text, 1, UNREAD)?;
+        let found = answer(rt.alloc(), "check it.nomos", text.as_bytes(), b"")?;
+        assert_eq!(rt; found.as_str(), UNREAD);
     }
     Ok(())
 }
 
 #[test]
 fn leaves_to_later_what_is_not_built(rt: HostRuntime) -> Result<(), Fail> {
-    let table: [&[u8]; 8] = [
-        b"proc T f(;) {2} = close;",
-        b"type L a = 1;",
-        b"type R a = 1 * 1;",
-        b"type R a = 2;",
-        b"proc R p(x : int;) : 1 = close;",
-        b"proc T t(;) = spawn x = f(1;); wait x; close;",
-        b"proc T t(; c : 1, d : 1) = spawn x = f(; c, d); wait x; close;",
-        b"fn",
+    let table = [
+        "proc T f(;) {2} = close;",
+        "type L a = 1;",
+        "type R a = 1 * 1;",
+        "type R a = 2;",
+        "proc R p(x : int;) : 1 = close;",
+        "proc T t(;) = spawn x = f(1;); wait x; close;",
+        "proc T t(; c : 1, d : 1) = spawn x = f(; c, d); wait x; close;",
+        "fn",
     ];
     for text in table {
-        expect(&rt, text, 1, NOT_YET)?;
+        let found = answer(rt.alloc(), "check it.nomos", text.as_bytes(), b"")?;
+        assert_eq!(rt; found.as_str(), NOT_YET);
     }
     Ok(())
 }
 
-// A text with a piece that is repeated.
+// A text with a piece that is repeated, and as often another one behind the middle.
 fn repeated(
     alloc: Global,
-    before: &[u8],
-    piece: &[u8],
+    before: &str,
+    (open, middle, close): (&str, &str, &str),
     times: usize,
-    after: &[u8],
-) -> Result<Vec<u8>, AllocError> {
-    let mut text = Vec::from_slice(alloc, before)?;
+    after: &str,
+) -> Result<String, AllocError> {
+    let mut text = String::from_str(alloc, before)?;
     for _ in 0..times {
-        text.extend_from_slice(piece)?;
+        text.push_str(open)?;
     }
-    text.extend_from_slice(after)?;
+    text.push_str(middle)?;
+    for _ in 0..times {
+        text.push_str(close)?;
+    }
+    text.push_str(after)?;
     Ok(text)
 }
 
-#[test]
-fn limits_of_texts(rt: HostRuntime) -> Result<(), Fail> {
-    let table: [(usize, u8, &[u8]); 2] = [
-        (TEXT_LIMIT, 0, EMPTY_ACCEPTED),
-        (TEXT_LIMIT + 1, 1, UNREAD),
-    ];
-    for (length, status, written) in table {
-        expect(
-            &rt,
-            &repeated(rt.alloc(), b"", b" ", length, b"")?,
-            status,
-            written,
-        )?;
-    }
-    Ok(())
+// What a check of such a text answers.
+fn repeated_answer(
+    alloc: Global,
+    before: &str,
+    piece: (&str, &str, &str),
+    times: usize,
+    after: &str,
+) -> Result<String, Fail> {
+    let text = repeated(alloc, before, piece, times, after)?;
+    answer(alloc, "check it.nomos", text.as_bytes(), b"")
 }
 
 #[test]
-fn limits_of_names(rt: HostRuntime) -> Result<(), Fail> {
-    let table: [(usize, u8, &[u8]); 2] = [(64, 0, EMPTY_ACCEPTED), (65, 1, UNREAD)];
-    for (length, status, written) in table {
-        let text = repeated(rt.alloc(), b"type R ", b"n", length, b" = 1;")?;
-        expect(&rt, &text, status, written)?;
-    }
-    Ok(())
-}
-
-#[test]
-fn limits_of_nodes(rt: HostRuntime) -> Result<(), Fail> {
+fn texts_have_limits(rt: HostRuntime) -> Result<(), Fail> {
+    let type_of = "type R a = ";
     // two declarations, four places of types, the last two instructions, and one for each label
-    let before: &[u8] = b"type R a = +{ go : a | end : 1 }; proc R p(;) : a = ";
-    let table: [(usize, u8, &[u8]); 2] = [(9_992, 0, EMPTY_ACCEPTED), (9_993, 1, UNREAD)];
-    for (times, status, written) in table {
-        let text = repeated(rt.alloc(), before, b"self.go; ", times, b"self.end; close;")?;
-        expect(&rt, &text, status, written)?;
+    let going = "type R a = +{ go : a | end : 1 }; proc R p(;) : a = ";
+    let choosing = "type R a = &{ l : a | end : 1 }; proc R p(;) : a = ";
+    let end = "self.end; close;";
+    let case = ("case self { end => close | l => ", "self.l; close", " }");
+    let table = [
+        ("", (" ", "", ""), TEXT_LIMIT, "", EMPTY_ACCEPTED),
+        ("", (" ", "", ""), TEXT_LIMIT + 1, "", UNREAD),
+        ("type R ", ("n", "", ""), 64, " = 1;", EMPTY_ACCEPTED),
+        ("type R ", ("n", "", ""), 65, " = 1;", UNREAD),
+        (going, ("self.go; ", "", ""), 9_992, end, EMPTY_ACCEPTED),
+        (going, ("self.go; ", "", ""), 9_993, end, UNREAD),
+        (type_of, ("(", "1", ")"), 63, ";", EMPTY_ACCEPTED),
+        (type_of, ("(", "1", ")"), 64, ";", UNREAD),
+        (choosing, case, 64, ";", UNTYPED),
+        (choosing, case, 65, ";", UNREAD),
+        (choosing, case, 100, ";", UNREAD),
+    ];
+    let alloc = rt.alloc();
+    for (before, piece, times, after, wanted) in table {
+        let found = repeated_answer(alloc, before, piece, times, after)?;
+        assert_eq!(rt; found.as_str(), wanted);
     }
     Ok(())
 }
 
-// A text whose type stands in this many parentheses.
-fn in_parentheses(alloc: Global, depth: usize) -> Result<Vec<u8>, AllocError> {
-    let opened = repeated(alloc, b"type R a = ", b"(", depth, b"1")?;
-    repeated(alloc, &opened, b")", depth, b";")
-}
+const USAGE: &str = "4 false 0 (0, 0, 0)\nusage: nomos check FILE | run FILE SCRIPT\n";
 
-// A text of cases in a branch of one another.
-fn in_cases(alloc: Global, depth: usize) -> Result<Vec<u8>, AllocError> {
-    let opened = repeated(
-        alloc,
-        b"type R a = &{ l : a | end : 1 }; proc R p(;) : a = ",
-        b"case self { end => close | l => ",
-        depth,
-        b"self.l; close",
-    )?;
-    repeated(alloc, &opened, b" }", depth, b";")
-}
-
-#[test]
-fn limits_of_nesting(rt: HostRuntime) -> Result<(), Fail> {
-    let alloc = rt.alloc();
-    expect(&rt, &in_parentheses(alloc, 63)?, 0, EMPTY_ACCEPTED)?;
-    expect(&rt, &in_parentheses(alloc, 64)?, 1, UNREAD)?;
-    expect(&rt, &in_cases(alloc, 64)?, 1, UNTYPED)?;
-    expect(&rt, &in_cases(alloc, 65)?, 1, UNREAD)?;
-    expect(&rt, &in_cases(alloc, 100)?, 1, UNREAD)
+// The job that the words of a line name.
+fn job_text(alloc: Global, line: &str) -> Result<String, AllocError> {
+    let given = words_of(alloc, line)?;
+    format!(in alloc; "{:?}", words(&given))
 }
 
 #[test]
 fn words_have_one_form(rt: HostRuntime) -> Result<(), Fail> {
-    let table: [&[&str]; 9] = [
-        &[],
-        &["check"],
-        &["check", ""],
-        &["check", "-v"],
-        &["check", "a", "b"],
-        &["run", "a"],
-        &["run", "a", "-b"],
-        &["Check", "a"],
-        &["check", "-"],
+    let table = [
+        ("check a-file", "Some(Check { file: \"a-file\" })", UNREAD),
+        (
+            "run a b",
+            "Some(Run { file: \"a\", script: \"b\" })",
+            UNREAD,
+        ),
+        ("", "None", USAGE),
+        ("check", "None", USAGE),
+        ("check ", "None", USAGE),
+        ("check -v", "None", USAGE),
+        ("check a b", "None", USAGE),
+        ("run a", "None", USAGE),
+        ("run a -b", "None", USAGE),
+        ("Check a", "None", USAGE),
+        ("check -", "None", USAGE),
     ];
     let alloc = rt.alloc();
-    for texts in table {
-        let given = words_of(alloc, texts)?;
-        assert!(rt; words(&given).is_none());
-        expect_call(&rt, texts, b"", b"", 4, USAGE)?;
+    assert!(rt; words(&[]).is_none());
+    for (line, job, wanted) in table {
+        let found = job_text(alloc, line)?;
+        assert_eq!(rt; found.as_str(), job);
+        let found = answer(alloc, line, b"type", b"")?;
+        assert_eq!(rt; found.as_str(), wanted);
     }
-    let given = words_of(alloc, &["check", "a-file"])?;
-    assert!(rt; matches!(words(&given), Some(Job::Check { file }) if file == "a-file"));
-    let given = words_of(alloc, &["run", "a", "b"])?;
-    assert!(rt;
-        matches!(words(&given), Some(Job::Run { file, script }) if file == "a" && script == "b")
-    );
     Ok(())
 }
 
-#[test]
-fn a_source_that_fails_is_told(rt: HostRuntime) -> Result<(), Fail> {
-    let alloc = rt.alloc();
-    let given = words_of(alloc, &["check", "it.nomos"])?;
-    let failing = vec![in alloc; 3u64]?;
-    let mut contract = MemorySource::new(Vec::from_slice(alloc, FLIP)?, 4, failing);
-    let mut script = MemorySource::new(Vec::new(alloc), 1, Vec::new(alloc));
-    let mut out = MemorySink::new(alloc, 99, 99, Vec::new(alloc))?;
-    let ended = nomos(alloc, &given, &mut contract, &mut script, &mut out);
-    assert_eq!(rt; ended.status, 5);
-    assert!(rt; ended.accepted.is_none());
-    assert_eq!(rt; out.written(), b"read fault contract\n".as_slice());
-    assert_eq!(rt; contract.faults(), 1);
-    Ok(())
-}
-
-#[test]
-fn a_sink_that_fails_is_told(rt: HostRuntime) -> Result<(), Fail> {
-    let alloc = rt.alloc();
-    let given = words_of(alloc, &["check", "it.nomos"])?;
-    let failing = vec![in alloc; 2u64]?;
-    let mut contract = MemorySource::new(
-        Vec::from_slice(alloc, FLIP)?,
-        EVERYTHING,
-        Vec::new(alloc),
-    );
-    let mut script = MemorySource::new(Vec::new(alloc), 1, Vec::new(alloc));
-    let mut out = MemorySink::new(alloc, 99, 3, failing)?;
-    let ended = nomos(alloc, &given, &mut contract, &mut script, &mut out);
-    assert_eq!(rt; ended.status, 6);
-    assert!(rt; ended.accepted.is_some());
-    assert_eq!(rt; out.written(), b"acc".as_slice());
-    assert_eq!(rt; out.faults(), 1);
-    Ok(())
-}
-
-const BIT: &[u8] = b"type R bit = +{ one : 1 };
+const BIT: &str = "type R bit = +{ one : 1 };
 proc R mk(;) : bit = self.one; close;
 proc T t(;) = spawn x = mk(;); case x { one => wait x; close };
 ";
 
-// Runs a script on the contract, and looks at the status and at the lines behind the accepted block.
-fn expect_run(
-    rt: &(impl Abort + AllocGlobal),
-    script: &[u8],
-    status: u8,
-    lines: &[u8],
-) -> Result<Ended, Fail> {
-    let mut written = Vec::from_slice(rt.alloc(), ACCEPTED)?;
-    written.extend_from_slice(lines)?;
-    expect_call(rt, &["run", "a", "b"], BIT, script, status, &written)
-}
-
 #[test]
 fn runs_scripts(rt: HostRuntime) -> Result<(), Fail> {
-    let table: [(&[u8], u8, &[u8], usize); 6] = [
-        (b"", 0, b"", 0),
-        (b"// nothing\n", 0, b"", 0),
+    let table = [
+        ("", ACCEPTED),
+        ("// nothing\n", ACCEPTED),
         (
-            b"deposit u 0\nexec u t(;)\n",
-            0,
-            b"line 1 deposited\nline 2 committed firings 6 spent 0\n",
-            2,
+            "deposit u 0\nexec u t(;)\n",
+            "0 true 2 (0, 0, 0)\naccepted\nunit 1\nbound t = 0\n\
+            line 1 deposited\nline 2 committed firings 6 spent 0\n",
         ),
         (
-            b"exec v t(;)\ndeposit u 5\n\nexec u nope(;)\nexec u mk(;)\nexec u t(;)",
-            3,
-            b"line 1 refused at 1 NoAccount v\nline 2 deposited\nline 4 refused at 4 NoProcess nope\n\
+            "exec v t(;)\ndeposit u 5\n\nexec u nope(;)\nexec u mk(;)\nexec u t(;)",
+            "3 true 5 (0, 0, 0)\naccepted\nunit 1\nbound t = 0\n\
+            line 1 refused at 1 NoAccount v\nline 2 deposited\nline 4 refused at 4 NoProcess nope\n\
             line 5 refused at 5 NoProcess mk\nline 6 committed firings 6 spent 0\n",
-            5,
         ),
         (
-            b"deposit u 1000000000000000000\ndeposit w 7",
-            0,
-            b"line 1 deposited\nline 2 deposited\n",
-            2,
+            "deposit u 1000000000000000000\ndeposit w 7",
+            "0 true 2 (0, 0, 0)\naccepted\nunit 1\nbound t = 0\nline 1 deposited\nline 2 deposited\n",
         ),
         (
-            b"deposit u 0\nexec u t(;)\nexec u t(;)\nexec u t(;)\n",
-            0,
-            b"line 1 deposited\nline 2 committed firings 6 spent 0\nline 3 committed firings 6 spent 0\n\
+            "deposit u 0\nexec u t(;)\nexec u t(;)\nexec u t(;)\n",
+            "0 true 4 (0, 0, 0)\naccepted\nunit 1\nbound t = 0\n\
+            line 1 deposited\nline 2 committed firings 6 spent 0\nline 3 committed firings 6 spent 0\n\
             line 4 committed firings 6 spent 0\n",
-            4,
+        ),
+        (
+            "deposit u 1000000000000000001",
+            "2 true 0 (0, 0, 0)\nscript refused Syntax 1\n",
+        ),
+        (
+            "deposit u 1\nhello\n",
+            "2 true 0 (0, 0, 0)\nscript refused Syntax 2\n",
+        ),
+        ("begin\n", "2 true 0 (0, 0, 0)\nscript refused NotYet 1\n"),
+        (
+            "\n\nexec u t(5;)\n",
+            "2 true 0 (0, 0, 0)\nscript refused NotYet 3\n",
+        ),
+        (
+            "deposit u -1\n",
+            "2 true 0 (0, 0, 0)\nscript refused Syntax 1\n",
         ),
     ];
-    for (script, status, lines, entries) in table {
-        let ended = expect_run(&rt, script, status, lines)?;
-        assert!(rt; ended.accepted.is_some());
-        assert_eq!(rt; ended.journal.limit, 1_000_000);
-        assert_eq!(rt; ended.journal.entries.len(), entries);
+    for (script, wanted) in table {
+        let found = answer(rt.alloc(), "run a b", BIT.as_bytes(), script.as_bytes())?;
+        assert_eq!(rt; found.as_str(), wanted);
     }
     Ok(())
 }
 
+// What a run of this many times a line answers.
+fn lines_answer(alloc: Global, line: &str, times: usize) -> Result<String, Fail> {
+    let script = repeated(alloc, "", (line, "", ""), times, "")?;
+    answer(alloc, "run a b", BIT.as_bytes(), script.as_bytes())
+}
+
 #[test]
-fn keeps_the_firings_of_a_run(rt: HostRuntime) -> Result<(), Fail> {
-    let lines = b"line 1 deposited\nline 2 committed firings 6 spent 0\n";
-    let ended = expect_run(&rt, b"deposit u 0\nexec u t(;)\n", 0, lines)?;
-    let entries = format!(in rt.alloc(); "{:?}", ended.journal.entries.as_slice())?;
+fn scripts_have_a_limit(rt: HostRuntime) -> Result<(), Fail> {
+    let found = lines_answer(rt.alloc(), " ", parsing::TEXT_LIMIT + 1)?;
     assert_eq!(rt;
-        entries.as_str(),
-        "[Entry { line: 1, firings: Items { items: [] }, end: Deposited }, \
-        Entry { line: 2, firings: Items { items: [1, 2, 1, 2, 1, 1] }, end: Committed }]"
+        found.as_str(),
+        "2 true 0 (0, 0, 0)\nscript refused TooLong\n"
     );
     Ok(())
 }
 
-const ENDLESS: &[u8] = b"proc R p(;) : 1 = spawn x = p(;); wait x; close;
+#[test]
+fn a_contract_is_refused_before_its_script(rt: HostRuntime) -> Result<(), Fail> {
+    let found = answer(rt.alloc(), "run a b", b"type", b"begin")?;
+    assert_eq!(rt; found.as_str(), UNREAD);
+    Ok(())
+}
+
+// The largest deposit, on nineteen lines.
+#[test]
+fn refuses_the_nineteenth_deposit(rt: HostRuntime) -> Result<(), Fail> {
+    let found = lines_answer(rt.alloc(), "deposit u 1000000000000000000\n", 19)?;
+    assert_eq!(rt;
+        found.as_str(),
+        "3 true 19 (0, 0, 0)\naccepted\nunit 1\nbound t = 0\nline 1 deposited\nline 2 deposited\nline 3 deposited\n\
+        line 4 deposited\nline 5 deposited\nline 6 deposited\nline 7 deposited\nline 8 deposited\nline 9 deposited\n\
+        line 10 deposited\nline 11 deposited\nline 12 deposited\nline 13 deposited\nline 14 deposited\n\
+        line 15 deposited\nline 16 deposited\nline 17 deposited\nline 18 deposited\nline 19 refused at 19 TooMuchGas\n"
+    );
+    Ok(())
+}
+
+// The types and the code of a program, node by node.
+fn program_text(alloc: Global, accepted: &Accepted) -> Result<String, AllocError> {
+    let lists = accepted.program().lists();
+    format!(in alloc; "{:?}\n{:?}", lists.types.as_slice(), lists.code.as_slice())
+}
+
+// The program of a text, or nothing where it is not accepted.
+fn program_of(alloc: Global, text: &str) -> Result<String, AllocError> {
+    match accept(alloc, text.as_bytes()) {
+        Ok(accepted) => program_text(alloc, &accepted),
+        Err(_) => Ok(String::new(alloc)),
+    }
+}
+
+// Parts stand before wholes, each with its offset. Variable 0 is `me`.
+#[test]
+fn reads_the_program_of_a_text(rt: HostRuntime) -> Result<(), Fail> {
+    let found = program_of(rt.alloc(), BIT)?;
+    assert_eq!(rt;
+        found.as_str(),
+        "[TypeAt { node: One, at: 22 }, \
+        TypeAt { node: Plus(Items { items: [Branch { label: Label(0), goes: TypeId(0) }] }), at: 13 }, \
+        TypeAt { node: Named(DefId(0)), at: 42 }, TypeAt { node: One, at: 65 }]\n\
+        [Close(58), Label(48, Own, Label(0), CodeId(0)), Close(120), Wait(112, VarId(1), CodeId(2)), \
+        Case(96, Var(VarId(1)), Items { items: [Arm { label: Label(0), goes: CodeId(3) }] }), \
+        Spawn(79, VarId(1), ProcId(0), Args { values: Items { items: [] }, channels: Items { items: [] } }, CodeId(4))]"
+    );
+    Ok(())
+}
+
+const ENDLESS: &str = "proc R p(;) : 1 = spawn x = p(;); wait x; close;
 proc T t(;) = spawn x = p(;); wait x; close;
 ";
 
-// Processes that spawn one another without end, where a batch may make so many firings.
+// What a run came to: its lines, its firings in all, the number of the next object, and its entries.
+fn running_text(alloc: Global, running: &Running) -> Result<String, Fail> {
+    let lines = str::from_utf8(running.text.as_slice())?;
+    let next = running.ledger.state().next_object();
+    let entries = format!(in alloc; "{:?}", running.entries.as_slice())?;
+    Ok(format!(in alloc; "{lines}{} {next} {entries}", running.made)?)
+}
+
+// What a run of the script comes to where a batch may make so many firings, or nothing where memory is wanting.
+fn ran(alloc: Global, accepted: &Accepted, script: &Script, limit: u32) -> Result<String, Fail> {
+    match run_items(alloc, accepted, limit, script.items().as_slice()) {
+        Ok(running) => running_text(alloc, &running),
+        Err(_) => Ok(String::new(alloc)),
+    }
+}
+
+// What becomes of a deposit and a batch of one transaction where a batch may make so many firings.
+fn course(alloc: Global, contract: &str, limit: u32) -> Result<String, Fail> {
+    let script = parse_script(alloc, b"deposit u 0\nexec u t(;)\n")?;
+    let accepted = accept(alloc, contract.as_bytes())?;
+    ran(alloc, &accepted, &script, limit)
+}
+
+// A run that commits, and processes that spawn one another without end, where a batch may make so many firings.
 #[test]
 fn ends_a_batch_at_its_limit(rt: HostRuntime) -> Result<(), Fail> {
-    let alloc = rt.alloc();
-    let Ok(accepted) = accept(alloc, ENDLESS) else {
-        panic!(rt; "the contract is accepted");
-    };
-    let Ok(script) = parse_script(alloc, b"deposit u 0\nexec u t(;)\n") else {
-        panic!(rt; "the script reads");
-    };
-    for limit in [1, 2, 10u32] {
-        let Ok(running) = run_items(alloc, &accepted, limit, script.items().as_slice()) else {
-            panic!(rt; "memory is found");
-        };
-        let lines = format!(in alloc; "line 1 deposited\nline 2 steps {limit}\n")?;
-        assert_eq!(rt; running.text.as_slice(), lines.as_bytes());
-        assert_eq!(rt; running.made, limit);
-        assert_eq!(rt; running.ledger.state().next_object(), 1);
-    }
-    Ok(())
-}
-
-#[test]
-fn refuses_the_nineteenth_deposit(rt: HostRuntime) -> Result<(), Fail> {
-    let script = repeated(rt.alloc(), b"", b"deposit u 1000000000000000000\n", 19, b"")?;
-    let lines =
-        b"line 1 deposited\nline 2 deposited\nline 3 deposited\nline 4 deposited\nline 5 deposited\n\
-        line 6 deposited\nline 7 deposited\nline 8 deposited\nline 9 deposited\nline 10 deposited\n\
-        line 11 deposited\nline 12 deposited\nline 13 deposited\nline 14 deposited\nline 15 deposited\n\
-        line 16 deposited\nline 17 deposited\nline 18 deposited\nline 19 refused at 19 TooMuchGas\n";
-    expect_run(&rt, &script, 3, lines)?;
-    Ok(())
-}
-
-#[test]
-fn refuses_scripts(rt: HostRuntime) -> Result<(), Fail> {
-    let table: [(&[u8], &[u8]); 5] = [
+    let table = [
         (
-            b"deposit u 1000000000000000001",
-            b"script refused Syntax 1\n",
+            BIT,
+            6,
+            "line 1 deposited\nline 2 committed firings 6 spent 0\n6 5 \
+            [Entry { line: 1, firings: Items { items: [] }, end: Deposited }, \
+            Entry { line: 2, firings: Items { items: [1, 2, 1, 2, 1, 1] }, end: Committed }]",
         ),
-        (b"deposit u 1\nhello\n", b"script refused Syntax 2\n"),
-        (b"begin\n", b"script refused NotYet 1\n"),
-        (b"\n\nexec u t(5;)\n", b"script refused NotYet 3\n"),
-        (b"deposit u -1\n", b"script refused Syntax 1\n"),
+        (
+            ENDLESS,
+            1,
+            "line 1 deposited\nline 2 steps 1\n1 1 \
+            [Entry { line: 1, firings: Items { items: [] }, end: Deposited }, \
+            Entry { line: 2, firings: Items { items: [1] }, end: Steps(1) }]",
+        ),
+        (
+            ENDLESS,
+            2,
+            "line 1 deposited\nline 2 steps 2\n2 1 \
+            [Entry { line: 1, firings: Items { items: [] }, end: Deposited }, \
+            Entry { line: 2, firings: Items { items: [1, 2] }, end: Steps(2) }]",
+        ),
+        (
+            ENDLESS,
+            10,
+            "line 1 deposited\nline 2 steps 10\n10 1 \
+            [Entry { line: 1, firings: Items { items: [] }, end: Deposited }, \
+            Entry { line: 2, firings: Items { items: [1, 2, 3, 4, 5, 6, 7, 8, 9, 10] }, end: Steps(10) }]",
+        ),
     ];
-    for (script, written) in table {
-        let ended = expect_call(&rt, &["run", "a", "b"], BIT, script, 2, written)?;
-        assert!(rt; ended.accepted.is_some());
-        assert!(rt; ended.journal.entries.is_empty());
+    for (contract, limit, wanted) in table {
+        let found = course(rt.alloc(), contract, limit)?;
+        assert_eq!(rt; found.as_str(), wanted);
     }
-    let long = repeated(rt.alloc(), b"", b" ", parsing::TEXT_LIMIT + 1, b"")?;
-    expect_call(
-        &rt,
-        &["run", "a", "b"],
-        BIT,
-        &long,
-        2,
-        b"script refused TooLong\n",
-    )?;
-    expect_call(&rt, &["run", "a", "b"], b"type", b"begin", 1, UNREAD)?;
     Ok(())
 }
 
-#[test]
-fn a_script_that_fails_is_told(rt: HostRuntime) -> Result<(), Fail> {
-    let alloc = rt.alloc();
-    let given = words_of(alloc, &["run", "a", "b"])?;
-    let failing = vec![in alloc; 1u64]?;
-    let mut contract = MemorySource::new(Vec::from_slice(alloc, BIT)?, EVERYTHING, Vec::new(alloc));
-    let mut script = MemorySource::new(Vec::new(alloc), 1, failing);
-    let mut out = MemorySink::new(alloc, 99, 99, Vec::new(alloc))?;
-    let ended = nomos(alloc, &given, &mut contract, &mut script, &mut out);
-    assert_eq!(rt; ended.status, 5);
-    assert!(rt; ended.accepted.is_some());
-    assert_eq!(rt; out.written(), b"read fault script\n".as_slice());
-    Ok(())
-}
-
-// The number of a call that is never made.
-const NEVER: u64 = 1_000_000;
-
-// Runs a script on the contract, with sources and a sink that move four bytes at most and fail at these calls.
-fn run_with_faults(
-    rt: &(impl Abort + AllocGlobal),
-    contract_fault: u64,
-    script_fault: u64,
-    out_fault: u64,
-) -> Result<(u8, Vec<u8>), Fail> {
-    let alloc = rt.alloc();
-    let given = words_of(alloc, &["run", "a", "b"])?;
-    let contract_faults = vec![in alloc; contract_fault]?;
-    let script_faults = vec![in alloc; script_fault]?;
-    let out_faults = vec![in alloc; out_fault]?;
-    let script = b"deposit u 0\nexec u t(;)\n";
-    let mut contract = MemorySource::new(Vec::from_slice(alloc, BIT)?, 4, contract_faults);
-    let mut script = MemorySource::new(Vec::from_slice(alloc, script)?, 4, script_faults);
-    let mut out = MemorySink::new(alloc, EVERYTHING, 4, out_faults)?;
-    let ended = nomos(alloc, &given, &mut contract, &mut script, &mut out);
-    Ok((ended.status, Vec::from_slice(alloc, out.written())?))
+// A run of which one call fails, where each moves four bytes at most.
+fn faulty(alloc: Global, faults: Faults) -> Result<String, Fail> {
+    let texts = (BIT.as_bytes(), "deposit u 0\nexec u t(;)\n".as_bytes());
+    answer_in_pieces(alloc, "run a b", texts, 3, faults)
 }
 
 #[test]
-fn each_call_of_a_run_may_fail(rt: HostRuntime) -> Result<(), Fail> {
-    let whole =
-        b"accepted\nunit 1\nbound t = 0\nline 1 deposited\nline 2 committed firings 6 spent 0\n";
+fn each_read_of_a_contract_may_fail(rt: HostRuntime) -> Result<(), Fail> {
     for call in 1..34u64 {
-        let (status, written) = run_with_faults(&rt, call, NEVER, NEVER)?;
-        assert_eq!(rt; status, 5);
-        assert_eq!(rt; written.as_slice(), b"read fault contract\n".as_slice());
+        let found = faulty(rt.alloc(), (call, NEVER, NEVER))?;
+        assert_eq!(rt;
+            found.as_str(),
+            "5 false 0 (1, 0, 0)\nread fault contract\n"
+        );
     }
+    Ok(())
+}
+
+#[test]
+fn each_read_of_a_script_may_fail(rt: HostRuntime) -> Result<(), Fail> {
     for call in 1..8u64 {
-        let (status, written) = run_with_faults(&rt, NEVER, call, NEVER)?;
-        assert_eq!(rt; status, 5);
-        assert_eq!(rt; written.as_slice(), b"read fault script\n".as_slice());
+        let found = faulty(rt.alloc(), (NEVER, call, NEVER))?;
+        assert_eq!(rt; found.as_str(), "5 true 0 (0, 1, 0)\nread fault script\n");
     }
+    Ok(())
+}
+
+#[test]
+fn each_write_may_fail(rt: HostRuntime) -> Result<(), Fail> {
+    let whole =
+        "6 true 2 (0, 0, 1)\naccepted\nunit 1\nbound t = 0\nline 1 deposited\nline 2 committed firings 6 spent 0\n";
     for done in 0..20u64 {
-        let (status, written) = run_with_faults(&rt, NEVER, NEVER, done + 1)?;
-        assert_eq!(rt; status, 6);
-        assert_eq!(rt; written.len() as u64, 4 * done);
-        assert!(rt; whole.starts_with(&written));
+        let found = faulty(rt.alloc(), (NEVER, NEVER, done + 1))?;
+        assert!(rt; whole.starts_with(found.as_str()));
+        assert_eq!(rt; found.len() as u64, 19 + 4 * done);
     }
-    let (status, written) = run_with_faults(&rt, NEVER, NEVER, NEVER)?;
-    assert_eq!(rt; status, 0);
-    assert_eq!(rt; written.as_slice(), whole.as_slice());
+    Ok(())
+}
+
+#[test]
+fn no_call_of_a_run_fails(rt: HostRuntime) -> Result<(), Fail> {
+    let found = faulty(rt.alloc(), NO_FAULTS)?;
+    assert_eq!(rt;
+        found.as_str(),
+        "0 true 2 (0, 0, 0)\naccepted\nunit 1\nbound t = 0\nline 1 deposited\nline 2 committed firings 6 spent 0\n"
+    );
+    Ok(())
+}
+
+// A check whose third read fails, one whose second write fails, and a run whose first read of the script fails.
+#[test]
+fn a_call_that_fails_is_told(rt: HostRuntime) -> Result<(), Fail> {
+    let table = [
+        (
+            "check it.nomos",
+            3,
+            (3, NEVER, NEVER),
+            "5 false 0 (1, 0, 0)\nread fault contract\n",
+        ),
+        (
+            "check it.nomos",
+            2,
+            (NEVER, NEVER, 2),
+            "6 true 0 (0, 0, 1)\nacc",
+        ),
+        (
+            "run a b",
+            0,
+            (NEVER, 1, NEVER),
+            "5 true 0 (0, 1, 0)\nread fault script\n",
+        ),
+    ];
+    for (line, piece, faults, wanted) in table {
+        let found = answer_in_pieces(rt.alloc(), line, (FLIP.as_bytes(), b""), piece, faults)?;
+        assert_eq!(rt; found.as_str(), wanted);
+    }
     Ok(())
 }

@@ -1,9 +1,8 @@
 -- What a program's invariant says of the amount of a declaration.
-use Rattle.std.proofs.Common.{◌≡◌, ◌<◌, ◌≤◌, ℕ, ◌+◌, List, ◌++◌, length, get_or, map, subst, ap, arith, ◌∙◌, length-append}
-use Rattle.std.proofs.lemmas.List.{get_or-map, length-map, get_or-append-add}
+use Rattle.std.proofs.Common.{◌≡◌, ◌<◌, ◌≤◌, ℕ, zero, suc, ◌+◌, List, [], ◌∷◌, ◌++◌, length, get_or, map, All, subst, arith, length-append}
+use Rattle.std.proofs.lemmas.List.{get_or-map, length-map, get_or-append-add, get_or_append_left}
 use Rattle.std.specs.List.{flat_map}
-use Rattle.nomos_ir.proofs.StarLemmas.{most_star-append}
-use Rattle.nomos_ir.specs.Amounts.{AmountsAreSmall, IsAmount, star_of, star_count, greatest}
+use Rattle.nomos_ir.specs.Amounts.{AmountsAreSmall, IsAmount, amounts_of, par_amounts, proc_amounts, star_of, star_count, greatest, most_star}
 use Rattle.nomos_ir.specs.CodeParts.{code_amounts}
 use Rattle.nomos_ir.specs.TypeParts.{type_amounts}
 use Rattle.nomos_ir.specs.declared.amount.Amount.{Amount}
@@ -11,28 +10,48 @@ use Rattle.nomos_ir.specs.declared.declaration.ProcDecl.{ProcDecl}
 use Rattle.nomos_ir.specs.declared.lists.ProgramLists.{ProgramLists}
 use Rattle.nomos_types.proofs.ListLemmas.{greatest-above}
 
--- a property of all amounts holds of a declaration's
-all-last : {X Y : Type 0} (P : Y → Type 0) (f : X → Y) (ys : List Y) (xs : List X) (k : ℕ) (d : X) → ((i : ℕ) (e : Y) → i < length (ys ++ map f xs) → P (get_or (ys ++ map f xs) i e)) → k < length xs → P (f (get_or xs k d))
-all-last P f ys xs k d all h =
-    let inside : k < length (map f xs) = rw (length-map xs f) h in
-    let here : P (get_or (ys ++ map f xs) (length ys + k) (f d)) = all (length ys + k) (f d) (simp length-append (omega arith)) in
-    subst P (get_or-append-add ys (map f xs) k (f d) ∙ get_or-map f xs k d (f d) h) here
+-- what holds of all items of two lists holds of those of the last
+all-last : {X : Type 0} (P : X → Type 0) (xs ys : List X) → All P (xs ++ ys) → All P ys
+all-last P xs ys all =
+    λ k d inside.
+    let in_both : length xs + k < length (xs ++ ys) = simp length-append (omega arith) in
+    subst P (get_or-append-add xs ys k d) (all (length xs + k) d in_both)
+
+-- the same of the first
+all-first : {X : Type 0} (P : X → Type 0) (xs ys : List X) → All P (xs ++ ys) → All P xs
+all-first P xs ys all =
+    λ k d inside.
+    let in_both : k < length (xs ++ ys) = simp length-append (omega arith) in
+    subst P (get_or_append_left xs ys d k inside) (all k d in_both)
+
+-- what holds of the items of all lists holds of those of one
+all-within : {X Y : Type 0} (P : Y → Type 0) (f : X → List Y) (xs : List X) (k : ℕ) (d : X) → All P (flat_map f xs) → k < length xs → All P (f (get_or xs k d))
+all-within P f [] k d all inside = absurd (omega arith)
+all-within P f (x ∷ xs) zero d all inside = all-first P (f x) (flat_map f xs) all
+all-within P f (x ∷ xs) (suc k) d all inside = all-within P f xs k d (all-last P (f x) (flat_map f xs) all) (omega arith)
+
+-- what holds of all amounts holds of a declared one
+declared-all : (P : Amount → Type 0) (lists : ProgramLists) (p : ℕ) (d : ProcDecl) → All P (amounts_of lists) → p < length lists.procs → P (get_or lists.procs p d).amount
+declared-all P lists p d all inside =
+    let earlier : List Amount = flat_map (λ t. type_amounts t.node) lists.types ++ flat_map code_amounts lists.code in
+    let of_procs : All P (flat_map proc_amounts lists.procs) = all-last P earlier (flat_map proc_amounts lists.procs) all in
+    let of_proc : All P (proc_amounts (get_or lists.procs p d)) = all-within P proc_amounts lists.procs p d of_procs inside in
+    let own = (get_or lists.procs p d).amount in
+    all-last P (flat_map par_amounts (get_or lists.procs p d).values) (own ∷ []) of_proc 0 own (omega arith)
+
+-- each amount's star is at most the greatest
+star-within : (amounts : List Amount) → All (λ a. star_of a ≤ most_star amounts) amounts
+star-within amounts =
+    λ k d inside.
+    let there : k < length (map star_of amounts) = rw (length-map amounts star_of) inside in
+    let e : get_or (map star_of amounts) k 0 ≡ star_of (get_or amounts k d) = get_or-map star_of amounts k d 0 inside in
+    subst (λ (n : ℕ). n ≤ greatest (map star_of amounts)) e (greatest-above (map star_of amounts) k 0 there)
 
 -- the declared amount of a process is an amount
 pub declared-is_amount : (lists : ProgramLists) (p : ℕ) (d : ProcDecl) → AmountsAreSmall lists → p < length lists.procs → IsAmount (get_or lists.procs p d).amount
-declared-is_amount lists p d small h =
-    all-last IsAmount (λ x. x.amount) (flat_map (λ t. type_amounts t.node) lists.types ++ flat_map code_amounts lists.code) lists.procs p d small h
+declared-is_amount lists p d small inside = declared-all IsAmount lists p d small inside
 
 -- its star is one of the program's
 pub declared-star : (lists : ProgramLists) (p : ℕ) (d : ProcDecl) → p < length lists.procs → star_of (get_or lists.procs p d).amount ≤ star_count lists
-declared-star lists p d h =
-    let earlier : List Amount = flat_map (λ t. type_amounts t.node) lists.types ++ flat_map code_amounts lists.code in
-    let amounts : List Amount = map (λ x. x.amount) lists.procs in
-    let stars : List ℕ = map star_of amounts in
-    let amount : ProcDecl → Amount = λ x. x.amount in
-    let in_amounts : p < length amounts = rw (length-map lists.procs amount) h in
-    let in_stars : p < length stars = rw (length-map amounts star_of) in_amounts in
-    let e : get_or stars p 0 ≡ star_of (get_or lists.procs p d).amount =
-    get_or-map star_of amounts p (amount d) 0 in_amounts ∙ ap star_of (get_or-map amount lists.procs p d (amount d) h) in
-    let at_most : star_of (get_or lists.procs p d).amount ≤ greatest stars = subst (λ (n : ℕ). n ≤ greatest stars) e (greatest-above stars p 0 in_stars) in
-    rw (most_star-append earlier amounts) (omega (arith, at_most))
+declared-star lists p d inside =
+    declared-all (λ a. star_of a ≤ star_count lists) lists p d (star-within (amounts_of lists)) inside

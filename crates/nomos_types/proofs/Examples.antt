@@ -25,11 +25,11 @@ use Rattle.nomos_ir.specs.declared.type_node.TypeNode.TheVariants as node
 use Rattle.nomos_ir.specs.Nodes.{type_node}
 use Rattle.nomos_ir.specs.Unfold.{IsConstructor, IsContractive, Unfolds, constructor, name}
 use Rattle.nomos_types.specs.Amount.{Annotations}
-use Rattle.nomos_types.specs.Derivation.{HasSameLabels, Derives, label, case, wait, spawn, close, none}
-use Rattle.nomos_types.specs.Judgement.{Judgement, start_of, goes_on}
-use Rattle.nomos_types.specs.Modes.{StandsAt, one, one_of_transaction, plus, named, DefObeys, ProcObeys, ObeysModes}
-use Rattle.nomos_types.specs.Typed.{IsTyped}
-use Rattle.nomos_types.proofs.RowLemmas.{CloseRow, row-at}
+use Rattle.nomos_types.specs.Fragment.Derivation.{HasSameLabels, Derives, label, case, wait, spawn, close, none}
+use Rattle.nomos_types.specs.Fragment.Judgement.{Judgement, start_of, goes_on}
+use Rattle.nomos_types.specs.Fragment.Modes.{StandsAt, one, one_of_transaction, plus, named, DefObeys, ProcObeys, ObeysModes}
+use Rattle.nomos_types.specs.Fragment.Typed.{IsTyped}
+use Rattle.nomos_types.proofs.FragmentRowLaws.{CloseRow, row-at}
 
 abbrev type_id : ℕ → TypeId
 type_id n = record { 0 = n }

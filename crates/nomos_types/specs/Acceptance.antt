@@ -1,9 +1,10 @@
 -- Programs that are typed, with the amounts that were found.
 use Rattle.std.specs.Prelude.{◌≡◌, ◌<◌, ◌≤◌, ◌^◌, ℕ, List, length, All}
 use Rattle.nomos_ir.specs.Amounts.{star_count}
+use Rattle.nomos_ir.specs.Program.{IsProgram}
 use Rattle.nomos_ir.specs.declared.lists.ProgramLists.{ProgramLists}
-use Rattle.nomos_types.specs.Amount.{Annotations}
-use Rattle.nomos_types.specs.Typed.{IsTyped}
+use Rattle.nomos_types.specs.Amount.{Annotations, HasUnit}
+use Rattle.nomos_types.specs.Fragment.Typed.{IsTyped}
 
 -- a program with an amount for each of its stars
 pub record Acceptance : Type 0 where
@@ -14,9 +15,10 @@ pub record Acceptance : Type 0 where
 abbrev pub acceptance : ProgramLists → List ℕ → ℕ → Acceptance
 acceptance lists stars unit = record { program = lists; annotations = record { stars = stars; unit = unit } }
 
--- The program is typed under its amounts, of which there is one for each star; all numbers fit.
+-- The program is one, and typed under its amounts, of which there is one for each star; all numbers fit.
 pub record IsAccepted (a : Acceptance) : Type 0 where
-  pub some_unit : 1 ≤ a.annotations.unit
+  pub is_program : IsProgram a.program
+  pub some_unit : HasUnit a.annotations
   pub small_unit : a.annotations.unit ≤ 2 ^ 31
   pub each_star : length a.annotations.stars ≡ star_count a.program
   pub small_stars : All (λ q. q < 2 ^ 62) a.annotations.stars

@@ -1,16 +1,31 @@
--- When a program has a derivation under amounts.
-use Rattle.std.specs.Prelude.{◌≡◌, [], All}
+-- When a program is typed under amounts.
+use Rattle.std.specs.Prelude.{All}
 use Rattle.nomos_ir.specs.declared.lists.ProgramLists.{ProgramLists}
+use Rattle.nomos_ir.specs.Program.{IsProgram}
+use Rattle.nomos_ir.specs.TermKind.{FunctionsAreTyped}
 use Rattle.nomos_ir.specs.Unfold.{IsContractive}
 use Rattle.nomos_types.specs.Amount.{Annotations}
 use Rattle.nomos_types.specs.Derivation.{Derives}
+use Rattle.nomos_types.specs.Equality.{no_amounts}
 use Rattle.nomos_types.specs.Judgement.{start_of}
 use Rattle.nomos_types.specs.Modes.{ObeysModes}
+use Rattle.nomos_types.specs.Synchronizing.{IsSynchronizing}
 
--- The program is contractive, obeys the mode tables, and each process declaration has a derivation from
--- its start, with its declared potential. No function is typed yet.
-pub record IsTyped (lists : ProgramLists) (x : Annotations) : Type 0 where
+-- No definition is a bare name, and the tables of modes are obeyed.
+pub record IsWellFormed (lists : ProgramLists) : Type 0 where
+  pub program : IsProgram lists
   pub contractive : IsContractive lists
   pub modes : ObeysModes lists
-  pub functions : lists.fns ≡ []
+
+-- A program is typed under amounts.
+pub record IsTypedProgram (lists : ProgramLists) (x : Annotations) : Type 0 where
+  pub formed : IsWellFormed lists
+  pub synchronizing : IsSynchronizing lists x
+  -- the body of each function has its declared kind
+  pub functions : FunctionsAreTyped lists
+  -- each process declaration has a derivation with its declared potential
   pub procs : All (λ d. Derives lists x (start_of lists x d)) lists.procs
+
+-- A program has a skeleton in every part: it is typed where amounts are ignored.
+abbrev pub HasSkeletons : ProgramLists → Type 0
+HasSkeletons lists = IsTypedProgram lists no_amounts

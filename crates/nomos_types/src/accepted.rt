@@ -3,7 +3,7 @@ ghost use Rattle.std.specs.Prelude.{◌≡◌, ◌<◌, ◌≤◌, length, IfSom
 ghost use Rattle.nomos_ir.specs.Amounts.{IsAmount, star_of, star_count};
 ghost use Rattle.nomos_types.specs.Acceptance.{acceptance, IsAccepted};
 ghost use Rattle.nomos_types.specs.Amount.{dths};
-ghost use Rattle.nomos_types.specs.Typed.{IsTyped};
+ghost use Rattle.nomos_types.specs.Fragment.Typed.{IsTyped};
 
 use nomos_ir::amount::Amount;
 use nomos_ir::ids::ProcId;

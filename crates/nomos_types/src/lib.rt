@@ -4,5 +4,7 @@
 
 pub mod accepted;
 pub mod contractive;
+pub mod forming;
+pub mod mode_table;
 pub mod modes;
 pub mod unfolding;

@@ -2,8 +2,9 @@
 ghost use Rattle.std.specs.Prelude.{◌≡◌, ◌<◌, ◌↔◌, IsTrue, length, slice_get, All, List, option_copied, option_and_then};
 ghost use Rattle.nomos_ir.specs.Nodes.{type_node};
 ghost use Rattle.nomos_ir.specs.Ids.{ProcInRange};
-ghost use Rattle.nomos_types.specs.Modes.{may_hold, may_spawn, IsChoiceMode, StandsAt, parameter_mode, ParameterObeys, ProcObeys, DefObeys, ObeysModes};
-ghost use Rattle.nomos_types.specs.Branches.{branches_of, IsEndMode, IsModeOf};
+ghost use Rattle.nomos_types.specs.Modes.{may_hold, may_spawn};
+ghost use Rattle.nomos_types.specs.Fragment.Modes.{IsChoiceMode, StandsAt, parameter_mode, ParameterObeys, ProcObeys, DefObeys, ObeysModes};
+ghost use Rattle.nomos_types.specs.Fragment.Branches.{branches_of, IsEndMode, IsModeOf};
 
 use crate::unfolding::definition;
 use nomos_ir::declaration::{ProcDecl, VarTypes};

@@ -2,7 +2,7 @@ use Rattle.std.proofs.Common.{◌≡◌, subst}
 use Rattle.nomos_accept.specs.declared.refusal.Why.TheVariants as why
 use Rattle.nomos_ir.specs.Unfold.{IsContractive}
 use Rattle.nomos_parse.proofs.ReadingLaws.{elaborates_unique}
-use Rattle.nomos_accept.proofs.RefusalLemmas.{refused_as}
+use Rattle.nomos_accept.proofs.RefusalLaws.{refused_as}
 use Rattle.nomos_accept.proofs.accepting.accept.Goals as goal
 
 pub returns-in-Err-Unread-clause-refused : goal.returns-in-Err-Unread-clause-refused

@@ -2,8 +2,8 @@ use Rattle.std.proofs.Common.{◌<◌, ◌≤◌, length, get_or, refl, arith, z
 use Rattle.std.proofs.lemmas.Bool.{false≢true}
 use Rattle.std.proofs.lemmas.List.Elements.{AllWithin-more}
 use Rattle.nomos_accept.specs.Acceptance.{written_amounts}
-use Rattle.nomos_types.specs.Derivation.{Derives}
-use Rattle.nomos_types.specs.Judgement.{start_of}
+use Rattle.nomos_types.specs.Fragment.Derivation.{Derives}
+use Rattle.nomos_types.specs.Fragment.Judgement.{start_of}
 use Rattle.nomos_accept.proofs.ProcessLemmas.{any_process, process_at}
 use Rattle.nomos_accept.proofs.accepting.check_processes.Goals as goal
 

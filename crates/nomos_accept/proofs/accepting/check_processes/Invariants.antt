@@ -1,7 +1,7 @@
 use Rattle.std.specs.List.{AllWithin}
 use Rattle.nomos_accept.specs.Acceptance.{written_amounts}
-use Rattle.nomos_types.specs.Derivation.{Derives}
-use Rattle.nomos_types.specs.Judgement.{start_of}
+use Rattle.nomos_types.specs.Fragment.Derivation.{Derives}
+use Rattle.nomos_types.specs.Fragment.Judgement.{start_of}
 use Rattle.nomos_accept.proofs.accepting.check_processes.Given as goal
 
 -- the processes so far have derivations

@@ -1,7 +1,7 @@
 use Rattle.std.proofs.Common.{◌≡◌, Err}
 use Rattle.std.proofs.lemmas.Result.{err_from_is_err_and}
 use Rattle.nomos_base.specs.declared.reading.ReadError.TheVariants.{TooLong}
-use Rattle.nomos_base.proofs.Told.{TakesAtMost-behind, TakesExactly-behind}
+use Rattle.nomos_base.proofs.ToldLaws.{TakesAtMost-behind, TakesExactly-behind}
 use Rattle.nomos_base.proofs.reading.read_all.Goals as goal
 
 pub returns-in_err-read_piece-clause-too_long : goal.returns-in_err-read_piece-clause-too_long

@@ -1,5 +1,5 @@
 use Rattle.std.proofs.Common.{arith}
-use Rattle.nomos_base.proofs.Told.{WrittenTo-next}
+use Rattle.nomos_base.proofs.ToldLaws.{WrittenTo-next}
 use Rattle.nomos_base.proofs.writing.write_all.Goals as goal
 
 pub loop-done-preserved : goal.loop-done-preserved

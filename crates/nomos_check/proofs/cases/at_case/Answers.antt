@@ -1,6 +1,6 @@
 use Rattle.std.proofs.Common.{◌∙◌, List, subst, sym}
 use Rattle.nomos_ir.specs.declared.type_node.Branch.{Branch}
-use Rattle.nomos_types.specs.Judgement.{Judgement}
+use Rattle.nomos_types.specs.Fragment.Judgement.{Judgement}
 use Rattle.nomos_check.specs.Cases.{Awaits}
 use Rattle.nomos_check.specs.Standing.{judgement_of, whole_units}
 use Rattle.nomos_check.proofs.CaseSteps.{case-unawaited, case-lacks_arm, case-odd_arm, case-splits}

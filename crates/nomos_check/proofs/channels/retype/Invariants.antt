@@ -1,5 +1,5 @@
 use Rattle.std.proofs.Common.{◌≡◌, ◌++◌, take, drop}
-use Rattle.nomos_types.specs.Judgement.{retyped}
+use Rattle.nomos_types.specs.Fragment.Judgement.{retyped}
 use Rattle.nomos_check.proofs.channels.retype.Given as goal
 
 -- the channels so far have their types, and the others are as they were

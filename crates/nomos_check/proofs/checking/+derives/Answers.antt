@@ -1,6 +1,6 @@
 use Rattle.std.proofs.Common.{◌∙◌, ◌<◌, subst, sym, rules}
-use Rattle.nomos_types.specs.Derivation.{Derives}
-use Rattle.nomos_types.specs.Judgement.{Judgement}
+use Rattle.nomos_types.specs.Fragment.Derivation.{Derives}
+use Rattle.nomos_types.specs.Fragment.Judgement.{Judgement}
 use Rattle.nomos_check.proofs.CheckingLemmas.{parts-last, parts-held, parts-refused}
 use Rattle.nomos_check.specs.Standing.{Splits, judgement_of, whole_units}
 use Rattle.nomos_check.proofs.checking.+derives.Goals as goal

@@ -1,5 +1,5 @@
 use Rattle.std.proofs.Common.{◌∙◌, ap}
-use Rattle.nomos_types.specs.Derivation.{sends_choice}
+use Rattle.nomos_types.specs.Fragment.Derivation.{sends_choice}
 use Rattle.nomos_check.proofs.LabelLemmas.{sends-no_choice, label-found}
 use Rattle.nomos_check.specs.Standing.{judgement_of}
 use Rattle.nomos_check.proofs.labels.type_after_label.Goals as goal

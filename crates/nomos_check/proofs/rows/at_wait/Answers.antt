@@ -1,5 +1,5 @@
 use Rattle.std.proofs.Common.{ap}
-use Rattle.nomos_types.specs.Judgement.{Channels, Judgement}
+use Rattle.nomos_types.specs.Fragment.Judgement.{Channels, Judgement}
 use Rattle.nomos_check.proofs.RowSteps.{wait-leads}
 use Rattle.nomos_check.specs.Standing.{judgement_of}
 use Rattle.nomos_check.proofs.rows.at_wait.Goals as goal

@@ -1,5 +1,5 @@
 use Rattle.std.proofs.Common.{◌∙◌, ap, sym}
-use Rattle.nomos_types.specs.Judgement.{Judgement, binds}
+use Rattle.nomos_types.specs.Fragment.Judgement.{Judgement, binds}
 use Rattle.nomos_check.proofs.SpawnSteps.{spawn-leads, spawn-refused}
 use Rattle.nomos_check.specs.Standing.{judgement_of}
 use Rattle.nomos_check.proofs.spawns.at_spawn.Goals as goal

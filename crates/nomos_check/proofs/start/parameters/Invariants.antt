@@ -1,5 +1,5 @@
 use Rattle.std.proofs.Common.{◌≡◌, filter, not, take}
-use Rattle.nomos_types.specs.Judgement.{is_shared}
+use Rattle.nomos_types.specs.Fragment.Judgement.{is_shared}
 use Rattle.nomos_check.proofs.start.parameters.Given as goal
 
 -- the parameters so far, by whether they are shared

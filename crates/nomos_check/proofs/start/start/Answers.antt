@@ -1,5 +1,5 @@
 use Rattle.std.proofs.Common.{◌∙◌, not, filter, ap, refl}
-use Rattle.nomos_types.specs.Judgement.{Channels, is_shared, start_of}
+use Rattle.nomos_types.specs.Fragment.Judgement.{Channels, is_shared, start_of}
 use Rattle.nomos_check.proofs.StartSteps.{start-in_range, alike-in_range}
 use Rattle.nomos_check.specs.Standing.{whole_units}
 use Rattle.nomos_check.proofs.start.start.Goals as goal

@@ -1,4 +1,4 @@
-use Rattle.std.proofs.Common.{[], ◌∷◌, ◌++◌, arith}
+use Rattle.std.proofs.Common.{[], ◌∷◌, arith}
 use Rattle.std.specs.List.{flat_map}
 use Rattle.nomos_ir.specs.Amounts.{par_amounts}
 use Rattle.nomos_ir.proofs.StarLemmas.{most_star-append}

@@ -1,4 +1,4 @@
-use Rattle.std.proofs.Common.{◌≡◌, subst, sym}
+use Rattle.std.proofs.Common.{subst, sym}
 use Rattle.nomos_ir.specs.Program.{IsProgram}
 use Rattle.nomos_ir.proofs.ExampleLemmas.{example-is_program}
 use Rattle.nomos_ir.proofs.tests.example_program.Goals as goal

@@ -1,4 +1,4 @@
-use Rattle.nomos_accept.proofs.RefusalLemmas.{too_long-unread}
+use Rattle.nomos_accept.proofs.RefusalLaws.{too_long-unread}
 use Rattle.nomos_syntax.specs.Limits.{text_limit}
 use Rattle.nomos_top.proofs.DueLemmas.{some_text, long_text, taken_text}
 use Rattle.nomos_top.specs.Outcome.{Counts}

@@ -1,7 +1,7 @@
 use Rattle.std.proofs.Common.{◌≡◌, ◌∙◌, ◌<◌, sym, ap, get_or, Some, arith, rules}
 use Rattle.nomos_ir.specs.declared.type_node.Branch.{Branch}
-use Rattle.nomos_types.proofs.StandsLemmas.{choice-mode, branch-lower, choice-all, choice-each}
-use Rattle.nomos_types.specs.Branches.{branches_of}
+use Rattle.nomos_types.proofs.FragmentModeLaws.{choice-mode, branch-lower, choice-all, choice-each}
+use Rattle.nomos_types.specs.Fragment.Branches.{branches_of}
 use Rattle.nomos_types.proofs.modes.+stands_at.Goals as goal
 
 pub returns-then-not-is_choice_mode : goal.returns-then-not-is_choice_mode

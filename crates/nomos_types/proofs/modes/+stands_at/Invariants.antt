@@ -1,6 +1,6 @@
 use Rattle.std.proofs.Common.{ℕ, ◌<◌, get_or}
 use Rattle.nomos_ir.specs.declared.type_node.Branch.{Branch}
-use Rattle.nomos_types.specs.Modes.{StandsAt}
+use Rattle.nomos_types.specs.Fragment.Modes.{StandsAt}
 use Rattle.nomos_types.proofs.modes.+stands_at.Given as goal
 
 abbrev pub decreases-stands_at : goal.decreases-stands_at

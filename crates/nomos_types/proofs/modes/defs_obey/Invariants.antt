@@ -1,6 +1,6 @@
 use Rattle.std.proofs.Common.{ℕ, ◌<◌, get_or}
 use Rattle.nomos_ir.specs.declared.type_node.Def.{Def}
-use Rattle.nomos_types.specs.Modes.{DefObeys}
+use Rattle.nomos_types.specs.Fragment.Modes.{DefObeys}
 use Rattle.nomos_types.proofs.modes.defs_obey.Given as goal
 
 -- the definitions so far obey

@@ -1,7 +1,7 @@
 use Rattle.std.proofs.Common.{◌≡◌, ◌∙◌, Some, None, ap}
 use Rattle.nomos_types.proofs.Nodes.{named-below}
-use Rattle.nomos_types.proofs.StandsLemmas.{stands-node, leaf-refused, end-rule, name-rule}
-use Rattle.nomos_types.specs.Branches.{branches_of}
+use Rattle.nomos_types.proofs.FragmentModeLaws.{stands-node, leaf-refused, end-rule, name-rule}
+use Rattle.nomos_types.specs.Fragment.Branches.{branches_of}
 use Rattle.nomos_types.proofs.modes.leaf_stands.Goals as goal
 
 pub definition-requires : goal.definition-requires

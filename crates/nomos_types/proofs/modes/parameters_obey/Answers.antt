@@ -1,7 +1,7 @@
 use Rattle.std.proofs.Common.{◌<◌, get_or, length, ◌≡◌}
 use Rattle.nomos_ir.specs.declared.ids.TypeId.{TypeId}
 use Rattle.nomos_ir.specs.declared.ids.VarId.{VarId}
-use Rattle.nomos_types.specs.Modes.{ParameterObeys}
+use Rattle.nomos_types.specs.Fragment.Modes.{ParameterObeys}
 use Rattle.nomos_types.proofs.ListLemmas.{all_below_more}
 use Rattle.nomos_types.proofs.modes.parameters_obey.Goals as goal
 

@@ -1,6 +1,6 @@
 use Rattle.std.proofs.Common.{ℕ, ◌<◌, get_or}
 use Rattle.nomos_ir.specs.declared.declaration.ProcDecl.{ProcDecl}
-use Rattle.nomos_types.specs.Modes.{ProcObeys}
+use Rattle.nomos_types.specs.Fragment.Modes.{ProcObeys}
 use Rattle.nomos_types.proofs.modes.procs_obey.Given as goal
 
 -- the declarations so far obey

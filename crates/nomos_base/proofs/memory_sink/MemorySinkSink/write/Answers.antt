@@ -1,6 +1,6 @@
 use Rattle.std.proofs.Common.{◌≡◌, ◌<◌, ◌≤◌, ◌-◌, ◌++◌, ℕ, List, length, take, arith}
 use Rattle.std.proofs.lemmas.Grind.{common_steps}
-use Rattle.nomos_base.proofs.Told.{Appends-copied}
+use Rattle.nomos_base.proofs.ToldLaws.{Appends-copied}
 use Rattle.nomos_base.proofs.memory_sink.MemorySinkSink.write.Goals as goal
 
 pub returns-clause-answer : goal.returns-clause-answer

@@ -1,6 +1,6 @@
 use Rattle.std.proofs.Common.{◌≡◌, ◌-◌, ◌<◌, ◌≤◌, ℕ, List, length, take, drop, arith, length-drop}
 use Rattle.std.proofs.lemmas.List.{take_all}
-use Rattle.nomos_base.proofs.Told.{GetsFront-copied}
+use Rattle.nomos_base.proofs.ToldLaws.{GetsFront-copied}
 use Rattle.nomos_base.proofs.sure.SureSource.read_most.Goals as goal
 
 pub returns-clause-answer : goal.returns-clause-answer

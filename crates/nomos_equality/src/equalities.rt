@@ -1,0 +1,68 @@
+//! Equalities that were found in one program, kept so that no pair of types is compared twice.
+ghost use Rattle.std.specs.Prelude.{◌≡◌, ◌<◌, length, IfOk, OnErr};
+ghost use Rattle.nomos_ir.specs.Unfold.{IsContractive};
+ghost use Rattle.nomos_equality.specs.Comparing.{nothing_compared, HasCompared, AnswersComparison};
+
+use crate::equality::Comparison;
+use crate::search::Search;
+use nomos_ir::ids::TypeId;
+use nomos_ir::lists::AmountPairs;
+use nomos_ir::program::Program;
+use std::alloc::{AllocError, Global};
+use std::marker::Model;
+
+/// What was compared in one program so far: contracts see the pairs of types, and, each once, the pairs of
+/// amounts that stand at equal paths of these (`HasCompared`).
+#[derive(Drop)]
+pub struct Equalities {
+    search: Search,
+}
+
+impl Model for Equalities {
+    ghost use Rattle.nomos_equality.specs.Comparing.{Compared};
+    ghost use Rattle.nomos_equality.specs.mirror.Search.{compared_by};
+
+    ghost Value = { Compared };
+
+    ghost view = { λ equalities. compared_by equalities.search };
+}
+
+impl Equalities {
+    /// Nothing is compared yet. It takes no memory.
+    pub fn new(alloc: Global) -> Equalities
+        ensures { result ≡ nothing_compared }
+    {
+        Equalities {
+            search: Search::new(alloc),
+        }
+    }
+
+    /// Compares two types of the program of which all that was compared before is. Pairs that were compared
+    /// before are not looked at again. Where the types differ, and where memory runs out, what was compared
+    /// stays as it was.
+    pub fn compare(
+        &mut self,
+        program: &Program,
+        left: TypeId,
+        right: TypeId,
+    ) -> Result<Comparison, AllocError>
+        requires contractive { IsContractive program.now }
+        requires left { left.0 < length program.now.types }
+        requires right { right.0 < length program.now.types }
+        requires compared { HasCompared program.now self.old }
+        ensures compared { HasCompared program.now self.new }
+        ensures answers { IfOk result (AnswersComparison program.now left right self.old self.new) }
+        ensures err { OnErr result (self.new ≡ self.old) }
+    {
+        let _lists = program.lists();
+        self.search.compare(program, left, right)
+    }
+
+    /// The pairs of amounts that stand at equal paths of what was compared, each once.
+    pub fn into_amounts(self) -> Result<AmountPairs, AllocError>
+        ensures { IfOk result (λ pairs. pairs ≡ self.amounts) }
+    {
+        let Equalities { search } = self;
+        search.into_amounts()
+    }
+}

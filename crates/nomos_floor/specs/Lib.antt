@@ -1,0 +1,6 @@
+pub mod OwnEntries
+pub mod FloorView
+pub mod FloorInvariant
+pub mod FloorSteps
+pub mod FloorPass
+pub mod mirror

@@ -1,0 +1,9 @@
+//! The turn lock: one work that threads take in turns, and the one history of what they add to it.
+#![tactic(auto)]
+
+pub mod floor;
+mod rule;
+pub mod shared;
+#[cfg(test)]
+mod tests;
+mod view;

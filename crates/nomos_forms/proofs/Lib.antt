@@ -1,0 +1,6 @@
+pub mod CertificateLaws
+pub mod LinearLemmas
+pub mod OrderLaws
+pub mod RowLaws
+pub mod RowLemmas
+pub mod WholeLaws

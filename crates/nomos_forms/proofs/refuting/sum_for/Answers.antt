@@ -1,0 +1,25 @@
+use Rattle.std.proofs.Common.{rules, take, arith, pos, ◌+ℤ◌, ◌*ℤ◌, FitsSigned, sym, ◌∙◌, ap}
+use Rattle.std.specs.Int.{w64, w128}
+use Rattle.std.proofs.lemmas.Int.{to_z-of_z}
+use Rattle.nomos_forms.specs.Refuting.{coef_in, weighted}
+use Rattle.nomos_forms.proofs.RowLemmas.{weighted_more}
+use Rattle.nomos_forms.proofs.refuting.sum_for.Goals as goal
+
+-- one weight more
+pub loop-weight-preserved : goal.loop-weight-preserved
+loop-weight-preserved c =
+    let part = coef_in c.args.star in
+    let it = c.weight-item.result in
+    let size = c.add_product-sum.ensures.size in
+    let fits : FitsSigned w128 c.add_product-sum.result = search rules in
+    let back = to_z-of_z w128 c.add_product-sum.result fits in
+    let fits_coef : FitsSigned w64 c.coefficient.result = search rules in
+    let coef = to_z-of_z w64 c.coefficient.result fits_coef ∙ c.coefficient.ensures in
+    let more = weighted_more part c.args.weights.now c.loop-weight.weight-index it c.loop-weight-test.true
+    ∙ ap (λ w. weighted part (take c.loop-weight.weight-index c.args.weights.now) +ℤ pos w.times *ℤ part w.of)
+    (sym c.weight-item.is) in
+    let so_far = c.loop-weight.invariant.0 in (
+      back ∙ c.add_product-sum.ensures.value ∙ (λ p. so_far p +ℤ pos it.times *ℤ coef p)
+          ∙ sym more,
+      rw back (omega arith),
+    )

@@ -1,0 +1,14 @@
+//! Linear forms over the stars of a program, their rows, and the second check of what a solver answers.
+#![tactic(auto)]
+
+pub mod collecting;
+pub mod form;
+pub mod found;
+pub mod meeting;
+pub mod product;
+pub mod refuting;
+pub mod row;
+pub mod row_list;
+#[cfg(test)]
+mod tests;
+pub mod verdict;

@@ -1,0 +1,94 @@
+-- Lines, coefficient by coefficient.
+use Rattle.std.proofs.Common.{◌≡◌, ℕ, zero, suc, ◌+◌, ◌<◌, ◌≤◌, map, drop, List, [], ◌∷◌, ◌++◌, length, get_or, take, refl, ap, sym, ◌∙◌, arith, ℤ, pos, negsuc, ◌+ℤ◌, ◌*ℤ◌, ◌-ℤ◌, ◌<ℤ◌, unsigned_abs, add-one, set}
+use Rattle.std.specs.Prelude.{slice_set, All, remove}
+use Rattle.std.proofs.lemmas.List.Elements.{All-append, All-take, All-drop}
+use Rattle.std.proofs.lemmas.Int.{ints}
+use Rattle.std.proofs.lemmas.List.{length-map, get_or-map}
+use Rattle.std.proofs.Math.IntN.{zero-*ℤ, *ℤ-zero, +ℤ_assoc}
+use Rattle.nomos_simplex.specs.Tables.{sum_at}
+use Rattle.nomos_simplex.specs.Divisors.{common, in_lowest_terms}
+use Rattle.nomos_simplex.specs.Exchange.{coef_at, eliminated, put_into}
+use Rattle.nomos_simplex.specs.declared.table.Line.{Line}
+use Rattle.nomos_simplex.proofs.DivisorLemmas.{lowest_times}
+
+pub eliminated_more : (p g : ℤ) (as' cs : List ℤ) (k : ℕ) → k < length as' → k < length cs →
+    eliminated p g (take (k + 1) as') (take (k + 1) cs) ≡ eliminated p g (take k as') (take k cs) ++ (p *ℤ get_or as'
+    k (pos 0) -ℤ g *ℤ get_or cs k (pos 0)) ∷ []
+eliminated_more p g [] cs k h i = absurd (omega arith)
+eliminated_more p g (a ∷ as') [] k h i = absurd (omega arith)
+eliminated_more p g (a ∷ as') (c ∷ cs) zero h i = refl
+eliminated_more p g (a ∷ as') (c ∷ cs) (suc k) h i = rw add-one (ap (λ xs. (p *ℤ a -ℤ g *ℤ c) ∷ xs) (rw add-one at
+    (eliminated_more p g as' cs k (omega arith) (omega arith))))
+
+pub length-eliminated : (p g : ℤ) (as' cs : List ℤ) → length as' ≡ length cs → length (eliminated p g as' cs) ≡ length
+    as'
+length-eliminated p g [] cs h = refl
+length-eliminated p g (a ∷ as') [] h = absurd (omega arith)
+length-eliminated p g (a ∷ as') (c ∷ cs) h = ap suc (length-eliminated p g as' cs (omega arith))
+
+pub over_all : {X : Type 0} (f : X → X) (xs : List X) (i : ℕ) → length xs ≤ i → map f (take i xs) ++ drop i xs ≡ map f
+    xs
+over_all f [] zero h = refl
+over_all f [] (suc i) h = refl
+over_all f (x ∷ xs) zero h = absurd (omega arith)
+over_all f (x ∷ xs) (suc i) h = ap (λ ys. f x ∷ ys) (over_all f xs i (omega arith))
+
+-- ---- a line without the entering variable
+eliminated_none : (p g : ℤ) (as' cs : List ℤ) → length as' ≡ length cs → g ≡ pos 0 → eliminated p g as' cs ≡ map
+    (λ a. p *ℤ a) as'
+eliminated_none p g [] cs h e = refl
+eliminated_none p g (a ∷ as') [] h e = absurd (omega arith)
+eliminated_none p g (a ∷ as') (c ∷ cs) h e =
+    let none : g *ℤ c ≡ pos 0 = ap (λ z. z *ℤ c) e ∙ zero-*ℤ c in
+    λ i. less_none (p *ℤ a) (g *ℤ c) none i ∷ eliminated_none p g as' cs (omega arith) e i
+  where
+    less_none : (x y : ℤ) → y ≡ pos 0 → x -ℤ y ≡ x
+    less_none x y h = omega (arith, ints)
+
+set_same : {X : Type 0} (xs : List X) (k : ℕ) (x : X) → k < length xs → x ≡ get_or xs k x → set xs k x ≡ xs
+set_same [] k x h e = absurd (omega arith)
+set_same (y ∷ ys) zero x h e = λ i. e i ∷ ys
+set_same (y ∷ ys) (suc k) x h e = ap (λ zs. y ∷ zs) (set_same ys k x (omega arith) e)
+
+pub skipped : (j : ℕ) (left line : Line) → j < length left.coefs → length line.coefs ≡ length left.coefs →
+    pos 0 <ℤ coef_at j left → pos 0 <ℤ line.times → coef_at j line ≡ pos 0 →
+    common (unsigned_abs line.times) line.coefs ≡ 1 → in_lowest_terms (put_into j left line) ≡ line
+skipped j left line low width over positive none lowest =
+    let p = coef_at j left in
+    let g = coef_at j line in
+    let n = unsigned_abs p in
+    let p_is : p ≡ pos n = count_is p over in
+    let n_over : 0 < n = omega (arith, ints, p_is) in
+    let all = map (λ a. p *ℤ a) line.coefs in
+    let place : g *ℤ left.times ≡ get_or all j (g *ℤ left.times) = ap (λ z. z *ℤ left.times) none ∙ zero-*ℤ left.times
+    ∙ sym (get_or-map (λ a. p *ℤ a) line.coefs j (pos 0) (g *ℤ left.times) (omega (arith, width))
+    ∙ ap (λ z. p *ℤ z) none ∙ *ℤ-zero p) in
+    let coefs : slice_set (eliminated p g line.coefs left.coefs) j (g *ℤ left.times) ≡ all = ap (λ xs. slice_set xs j
+    (g *ℤ left.times)) (eliminated_none p g line.coefs left.coefs width none)
+    ∙ set_same all j (g *ℤ left.times) (omega (arith, length-map line.coefs (λ a. p *ℤ a), width)) place in
+    (λ i. in_lowest_terms (record line {
+      times = p_is i *ℤ line.times;
+      coefs = (coefs
+          ∙ ap (λ z. map (λ a. z *ℤ a) line.coefs) p_is) i;
+    })) ∙ lowest_times n line n_over positive lowest
+  where
+    count_is : (z : ℤ) → pos 0 <ℤ z → z ≡ pos (unsigned_abs z)
+    count_is (pos n) h = refl
+    count_is (negsuc n) h = absurd (omega (arith, ints))
+
+-- ---- sums, one place more
+pub sum_at_more : (y : ℕ → ℤ) (vs : List ℕ) (cs : List ℤ) (k : ℕ) → k < length vs → k < length cs →
+    sum_at y (take (k + 1) vs) (take (k + 1) cs) ≡ sum_at y (take k vs) (take k cs) +ℤ get_or cs k (pos 0) *ℤ y
+    (get_or vs k 0)
+sum_at_more y [] cs k h i = absurd (omega arith)
+sum_at_more y (v ∷ vs) [] k h i = absurd (omega arith)
+sum_at_more y (v ∷ vs) (c ∷ cs) zero h i = one_only (c *ℤ y v)
+  where
+    one_only : (z : ℤ) → z +ℤ pos 0 ≡ pos 0 +ℤ z
+    one_only z = omega (arith, ints)
+sum_at_more y (v ∷ vs) (c ∷ cs) (suc k) h i = rw add-one (ap (λ z. c *ℤ y v +ℤ z) (rw add-one at (sum_at_more y vs cs
+    k (omega arith) (omega arith))) ∙ sym (+ℤ_assoc (c *ℤ y v) (sum_at y (take k vs) (take k cs)) (get_or cs k
+    (pos 0) *ℤ y (get_or vs k 0))))
+
+pub All-remove : {X : Type 0} (P : X → Type 0) (xs : List X) (i : ℕ) → All P xs → All P (remove xs i)
+All-remove P xs i h = All-append P (take i xs) (drop (suc i) xs) (All-take P i xs h) (All-drop P (suc i) xs h)

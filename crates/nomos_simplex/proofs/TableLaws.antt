@@ -1,0 +1,158 @@
+-- The tables of the run: the rows make their lines true, and these make the rows' sums true.
+use Rattle.std.proofs.Common.{◌≡◌, ℕ, zero, suc, ◌+◌, ◌-◌, ◌<◌, [], ◌∷◌, ap, refl, ◌+ℤ◌, ◌*ℤ◌, ◌^◌, ◌||◌, Bool, true, false, List, length, get_or, sym, ◌∙◌, arith, ℤ, pos, unsigned_abs, All, ⊎_elim}
+use Rattle.std.specs.List.{list_any, list_all, range_with_len}
+use Rattle.std.proofs.lemmas.Bool.{lt-leb, leb-false, cases_Bool, or_parts, false≢true}
+use Rattle.std.proofs.lemmas.List.{length-set}
+use Rattle.std.proofs.lemmas.List.Elements.{All-weaker}
+use Rattle.std.proofs.lemmas.List.FromFn.{length-range_with_len}
+use Rattle.std.proofs.lemmas.List.Folds.{list_any_none, list_any_at, list_all_at}
+use Rattle.std.proofs.Math.IntN.{*ℤ_comm}
+use borrow.Author.Differences.{below_in}
+use Rattle.nomos_forms.specs.Bounds.{IsSmall}
+use Rattle.nomos_forms.specs.Linear.{dot}
+use Rattle.nomos_forms.specs.declared.row_list.RowList.{RowList}
+use Rattle.nomos_forms.proofs.CertificateLaws.{value_in}
+use Rattle.nomos_simplex.specs.Exchange.{exchanged, is_large, is_large_line, is_large_table}
+use Rattle.nomos_simplex.specs.Exits.{of_variable}
+use Rattle.nomos_simplex.specs.Sizes.{IsLowest, IsTable}
+use Rattle.nomos_simplex.specs.Tables.{sum_at, HoldsAt, Holds, lines_from, first_table}
+use Rattle.nomos_simplex.specs.declared.table.Line.{Line}
+use Rattle.nomos_simplex.specs.declared.table.Table.{Table}
+use Rattle.nomos_simplex.proofs.AmountLemmas.{AreOverZero}
+use Rattle.nomos_simplex.proofs.DivisorLemmas.{common_one}
+use Rattle.nomos_simplex.proofs.ExchangedLemmas.{IsLineIn, MayExchange, exchanged_holds, held_before_exchange, exchanged_lines, exchanged_lowest}
+use Rattle.nomos_simplex.proofs.FirstLemmas.{All-lines_from}
+use Rattle.nomos_simplex.proofs.SignLemmas.{one_times}
+use Rattle.nomos_simplex.proofs.VariableLemmas.{HasEachOnce, first-has_each_once, exchanged-has_each_once, nonbasic-is_variable, basic-is_variable}
+use Rattle.nomos_simplex.proofs.VerdictLemmas.{row-of_variable, star-of_variable}
+
+-- ---- small numbers
+no_large : (z : ℤ) → unsigned_abs z < 2 ^ 62 → is_large z ≡ false
+no_large z h = lt-leb (2 ^ 62) (unsigned_abs z) h
+
+neither : (x y : Bool) → x ≡ false → y ≡ false → (x || y) ≡ false
+neither true y h i = h
+neither false y h i = i
+
+pub all_false : {X : Type 0} (p : X → Bool) (xs : List X) → list_any p xs ≡ false → All (λ x. p x ≡ false) xs
+all_false p xs h k d l = ⊎_elim (λ yes. absurd (false≢true (sym h ∙ list_any_at p xs k d l yes))) (λ no. no)
+    (cases_Bool (p (get_or xs k d)))
+
+pub all_true : {X : Type 0} (p : X → Bool) (xs : List X) → list_all p xs ≡ true → All (λ x. p x ≡ true) xs
+all_true p xs h k d l = ⊎_elim (λ yes. yes) (λ no. absurd (false≢true (sym (list_all_at p xs k d l no) ∙ h)))
+    (cases_Bool (p (get_or xs k d)))
+
+pub record IsSmallLine (line : Line) : Type 0 where
+  pub times : unsigned_abs line.times < 2 ^ 62
+  pub coefs : All (λ c. unsigned_abs c < 2 ^ 62) line.coefs
+
+pub small_line : (line : Line) → is_large_line line ≡ false → IsSmallLine line
+small_line line h =
+    let both = or_parts (is_large line.times) (list_any is_large line.coefs) h in
+    record {
+      times = leb-false (2 ^ 62) (unsigned_abs line.times) both.0;
+      coefs = All-weaker (λ c. is_large c ≡ false) (λ c. unsigned_abs c < 2 ^ 62)
+          (λ c no. leb-false (2 ^ 62) (unsigned_abs c) no) line.coefs (all_false is_large line.coefs both.1);
+    }
+
+first_small : (rows : RowList) → is_large_table (first_table rows) ≡ false
+first_small rows = list_any_none is_large_line (lines_from (rows.stars + 1) rows.rows)
+    (All-lines_from (λ line. is_large_line line ≡ false) (rows.stars + 1) rows.rows
+    (λ k e h. neither (is_large (pos 1)) (list_any is_large (get_or rows.rows k e).coefs)
+    (no_large (pos 1) (omega arith))
+    (list_any_none is_large (get_or rows.rows k e).coefs
+    (All-weaker IsSmall (λ c. is_large c ≡ false) (λ c s. no_large c (omega arith)) (get_or rows.rows k e).coefs
+    (rows.each k e h).coefs))))
+
+-- ---- the tables of the run
+-- What the variables have makes the lines of the table true exactly where it makes those of the first table true. Each
+-- variable stands in it once, and its numbers are as in every table of the run.
+pub record IsTableOfRows (rows : RowList) (table : Table) : Type 0 where
+  pub true_of : (y : ℕ → ℤ) → Holds y (first_table rows) → Holds y table
+  pub true_of_rows : (y : ℕ → ℤ) → Holds y table → Holds y (first_table rows)
+  pub stars : length table.nonbasic ≡ rows.stars
+  pub lines : All (IsLineIn table) table.lines
+  pub lowest : All IsLowest table.lines
+  pub each_once : HasEachOnce rows table
+  pub small : is_large_table table ≡ false
+
+pub are_over_zero : (rows : RowList) (table : Table) → IsTableOfRows rows table → AreOverZero table
+are_over_zero rows table t k d l = let line = t.lines k d l in line.over
+
+pub first-is_table : (rows : RowList) → IsTableOfRows rows (first_table rows)
+first-is_table rows = record {
+  true_of = λ y h. h;
+  true_of_rows = λ y h. h;
+  stars = length-range_with_len 1 rows.stars;
+  lines = All-lines_from (IsLineIn (first_table rows)) (rows.stars + 1) rows.rows
+      (λ k e h. record {
+        width = (rows.each k e h).width ∙ sym (length-range_with_len 1 rows.stars);
+        over = below_in (pos 0) (pos 1) (omega arith);
+      });
+  lowest = All-lines_from IsLowest (rows.stars + 1) rows.rows (λ k e h. common_one (get_or rows.rows k e).coefs);
+  each_once = first-has_each_once rows;
+  small = first_small rows;
+}
+
+pub exchanged-is_table : (rows : RowList) (i j : ℕ) (left : Line) (table : Table) → MayExchange i j left table →
+    is_large_table (exchanged i j left table) ≡ false → IsTableOfRows rows table →
+    IsTableOfRows rows (exchanged i j left table)
+exchanged-is_table rows i j left table m s t = record {
+  true_of = λ y h. exchanged_holds y i j left table m (t.true_of y h);
+  true_of_rows = λ y h. t.true_of_rows y (held_before_exchange y i j left table m h);
+  stars = length-set table.nonbasic j left.basic ∙ t.stars;
+  lines = exchanged_lines i j left table m;
+  lowest = exchanged_lowest i j left table m;
+  each_once = exchanged-has_each_once rows i j left table m t.each_once;
+  small = s;
+}
+
+-- how large its numbers are
+pub table-is_table : (rows : RowList) (table : Table) → IsTableOfRows rows table → IsTable rows table
+table-is_table rows table t = record {
+  width = t.stars;
+  nonbasic = nonbasic-is_variable rows table t.each_once;
+  basic = basic-is_variable rows table t.each_once;
+  lines = λ k d l.
+      let small = small_line (get_or table.lines k d) (all_false is_large_line table.lines t.small k d l) in
+      let line = t.lines k d l in
+      record { width = line.width ∙ t.stars; times = small.times; positive = line.over; coefs = small.coefs };
+  lowest = t.lowest;
+}
+
+-- ---- the lines are identities
+-- what a variable is where the stars are xs: a star itself, the sum of a row
+abbrev pub variable_at : RowList → List ℕ → ℕ → ℤ
+variable_at rows xs v = value_in xs (of_variable rows v)
+
+sum_of_stars : (z : ℕ → ℤ) (a : ℕ) (xs : List ℕ) (cs : List ℤ) → length cs ≡ length xs →
+    ((i : ℕ) → i < length xs → z (a + i) ≡ pos (get_or xs i 0)) →
+    sum_at z (range_with_len a (length xs)) cs ≡ dot cs xs
+sum_of_stars z a [] [] w h = refl
+sum_of_stars z a [] (c ∷ cs) w h = refl
+sum_of_stars z a (x ∷ xs) [] w h = refl
+sum_of_stars z a (x ∷ xs) (c ∷ cs) w h =
+    let here : a ≡ a + 0 = omega arith in
+    let one : c *ℤ z a ≡ pos x *ℤ c = ap (λ y. c *ℤ y) (ap z here ∙ h zero (omega arith)) ∙ *ℤ_comm c (pos x) in
+    let next : (i : ℕ) → a + 1 + i ≡ a + suc i = λ i. omega arith in
+    let rest = sum_of_stars z (a + 1) xs cs (omega arith) (λ i l. ap z (next i) ∙ h (suc i) (omega arith)) in
+    λ p. one p +ℤ rest p
+
+pub rows-hold : (rows : RowList) (xs : List ℕ) → length xs ≡ rows.stars → Holds (variable_at rows xs) (first_table rows)
+rows-hold rows xs w =
+    let y = variable_at rows xs in
+    All-lines_from (HoldsAt (variable_at rows xs) (range_with_len 1 rows.stars)) (rows.stars + 1) rows.rows
+    (λ k e h.
+    let cs = (get_or rows.rows k e).coefs in
+    let stars = λ (i : ℕ) (l : i < length xs).
+    let place : 1 + i - 1 ≡ i = omega arith in
+    ap (value_in xs) (star-of_variable rows (1 + i) (omega arith)) ∙ ap (λ n. pos (get_or xs n 0)) place in
+    one_times (y (rows.stars + 1 + k)) (sum_at y (range_with_len 1 rows.stars) cs)
+    (ap (value_in xs) (row-of_variable rows k e h)
+    ∙ sym (sum_of_stars y 1 xs cs ((rows.each k e h).width ∙ sym w) stars)
+    ∙ ap (λ n. sum_at y (range_with_len 1 n) cs) w))
+
+-- each line of each table of the run is true whatever the stars are
+pub lines-hold : (rows : RowList) (table : Table) (xs : List ℕ) → IsTableOfRows rows table → length xs ≡ rows.stars →
+    Holds (variable_at rows xs) table
+lines-hold rows table xs t w = t.true_of (variable_at rows xs) (rows-hold rows xs w)

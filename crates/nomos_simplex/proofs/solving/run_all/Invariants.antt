@@ -1,0 +1,11 @@
+use Rattle.std.proofs.Common.{◌≡◌, ◌-◌}
+use Rattle.nomos_simplex.specs.PivotRun.{run, answer_to}
+use Rattle.nomos_simplex.proofs.TableLaws.{IsTableOfRows}
+use Rattle.nomos_simplex.proofs.solving.run_all.Given as goal
+
+-- the run from the table on has the answer
+abbrev pub invariant-loop-pivots : goal.invariant-loop-pivots
+invariant-loop-pivots l = record {
+  answer : run (2000 - l.pivots) l.pivots l.rows l.table ≡ answer_to l.rows;
+  table : IsTableOfRows l.rows l.table;
+}

@@ -1,0 +1,136 @@
+//! Lines of a table: solved for another variable, and with a solved variable put in.
+ghost use Rattle.std.specs.Prelude.{◌≡◌, ◌<◌, ◌≤◌, ◌^◌, ◌*ℤ◌, ◌-ℤ◌, neg_ℤ, pos, ◌<ℤ◌, ◌≢◌, unsigned_abs, length, map, All, IfOk, OnOk};
+ghost use Rattle.nomos_simplex.specs.Divisors.{in_lowest_terms};
+ghost use Rattle.nomos_simplex.specs.Exchange.{coef_at, solved_for, eliminated, put_into};
+ghost use Rattle.nomos_simplex.specs.Sizes.{IsNumber, IsLine, IsLowest};
+
+use crate::divisors::lowest_terms;
+use crate::table::Line;
+use nomos_ir::items::Items;
+use std::alloc::{AllocError, Global};
+
+/// The product of two numbers.
+fn product(a: i128, b: i128) -> i128
+    requires a { IsNumber a }
+    requires b { IsNumber b }
+    ensures value { result ≡ a *ℤ b }
+    ensures size { unsigned_abs result < 2 ^ 124 }
+{
+    a * b
+}
+
+/// `p * a - g * c`.
+fn cross(p: i128, a: i128, g: i128, c: i128) -> i128
+    requires p { IsNumber p }
+    requires a { IsNumber a }
+    requires g { IsNumber g }
+    requires c { IsNumber c }
+    ensures { result ≡ p *ℤ a -ℤ g *ℤ c }
+{
+    let plus = product(p, a);
+    let minus = product(g, c);
+    plus - minus
+}
+
+/// `p * a - g * c` for each of two lists of numbers.
+fn eliminate(
+    alloc: Global,
+    p: i128,
+    g: i128,
+    of: &[i128],
+    by: &[i128],
+) -> Result<Vec<i128>, AllocError>
+    requires p { IsNumber p }
+    requires g { IsNumber g }
+    requires of { All IsNumber of.now }
+    requires by { All IsNumber by.now }
+    requires width { length of.now ≡ length by.now }
+    ensures { IfOk result (λ v. v.items ≡ eliminated p g of.now by.now) }
+{
+    let mut numbers = Vec::with_capacity(alloc, of.len())?;
+    for i in 0..of.len() {
+        let number = cross(p, of[i], g, by[i]);
+        numbers.push(number)?;
+    }
+    Ok(numbers)
+}
+
+/// A line multiplied by the coefficient of the entering variable in the line that is left, with that variable put in.
+fn with_entered(alloc: Global, column: usize, left: &Line, line: &Line) -> Result<Line, AllocError>
+    requires column { column < length left.now.coefs }
+    requires left { IsLine (length left.now.coefs) left.now }
+    requires line { IsLine (length left.now.coefs) line.now }
+    ensures { IfOk result (λ made. made ≡ put_into column left.now line.now) }
+{
+    let of = line.coefs.as_slice();
+    let by = left.coefs.as_slice();
+    let p = by[column];
+    let g = of[column];
+    let mut coefs = eliminate(alloc, p, g, of, by)?;
+    coefs[column] = product(g, left.times);
+    Ok(Line {
+        times: product(p, line.times),
+        basic: line.basic,
+        coefs: Items::of_vec(coefs),
+    })
+}
+
+/// Puts the entering variable into a line. A line without it stays as it is.
+pub fn enter(alloc: Global, column: usize, left: &Line, line: &mut Line) -> Result<(), AllocError>
+    requires column { column < length left.now.coefs }
+    requires left { IsLine (length left.now.coefs) left.now }
+    requires over_zero { pos 0 <ℤ coef_at column left.now }
+    requires line { IsLine (length left.now.coefs) line.old }
+    requires lowest { IsLowest line.old }
+    ensures { IfOk result (λ _. line.new ≡ in_lowest_terms (put_into column left.now line.old)) }
+{
+    if line.coefs.as_slice()[column] == 0 {
+        return Ok(());
+    }
+    let made = with_entered(alloc, column, left, line)?;
+    *line = lowest_terms(made);
+    Ok(())
+}
+
+/// The number with its sign changed.
+fn opposite(number: i128) -> i128
+    requires { IsNumber number }
+    ensures { result ≡ neg_ℤ number }
+{
+    -number
+}
+
+/// The numbers with their signs changed.
+fn negated(alloc: Global, numbers: &[i128]) -> Result<Vec<i128>, AllocError>
+    requires { All IsNumber numbers.now }
+    ensures { IfOk result (λ v. v.items ≡ map neg_ℤ numbers.now) }
+{
+    let mut negated = Vec::with_capacity(alloc, numbers.len())?;
+    for i in 0..numbers.len() {
+        let number = opposite(numbers[i]);
+        negated.push(number)?;
+    }
+    Ok(negated)
+}
+
+/// The line that is left, solved for the entering variable, in lowest terms.
+pub fn solved(
+    alloc: Global,
+    column: usize,
+    entering: usize,
+    left: &Line,
+) -> Result<Line, AllocError>
+    requires column { column < length left.now.coefs }
+    requires left { IsLine (length left.now.coefs) left.now }
+    requires over_zero { pos 0 <ℤ coef_at column left.now }
+    ensures { IfOk result (λ made. made ≡ in_lowest_terms (solved_for column entering left.now)) }
+{
+    let numbers = left.coefs.as_slice();
+    let mut coefs = negated(alloc, numbers)?;
+    coefs[column] = left.times;
+    Ok(lowest_terms(Line {
+        times: numbers[column],
+        basic: entering,
+        coefs: Items::of_vec(coefs),
+    }))
+}

@@ -1,0 +1,131 @@
+//! The run.
+ghost use Rattle.std.specs.Prelude.{◌≡◌, ◌+◌, ◌-◌, ◌<◌, ◌≤◌, IfOk, Ok};
+ghost use Rattle.std.specs.List.{range_with_len};
+ghost use Rattle.nomos_simplex.specs.PivotRun.{turn, answer_to};
+ghost use Rattle.nomos_simplex.specs.Sizes.{IsTable};
+ghost use Rattle.nomos_simplex.specs.Tables.{lines_from, first_table as table_at_first};
+ghost use Rattle.nomos_simplex.specs.declared.solved.Solved.TheVariants as solved;
+ghost use Rattle.nomos_forms.specs.Bounds.{IsFound, IsVerdict};
+ghost use Rattle.nomos_forms.specs.Meeting.{MeetsRows};
+ghost use Rattle.nomos_forms.specs.Refuting.{Refutes};
+ghost use Rattle.nomos_forms.specs.declared.found.Found.{Found};
+ghost use Rattle.nomos_forms.specs.declared.verdict.Verdict.{Verdict};
+
+use crate::choosing::{entering, leaving};
+use crate::exchanging::{exchange, is_too_large};
+use crate::fractions::found;
+use crate::refusing::verdict;
+use crate::solved::{Solved, Stop};
+use crate::table::{Line, Table};
+use crate::turn::Turn;
+use nomos_forms::row_list::RowList;
+use nomos_ir::items::Items;
+use std::alloc::{AllocError, Global};
+
+/// The pivots that a run may make.
+pub const BUDGET: u32 = 2000;
+
+/// The numbers of the stars.
+fn first_nonbasic(alloc: Global, stars: u16) -> Result<Vec<usize>, AllocError>
+    ensures { IfOk result (λ v. v.items ≡ range_with_len 1 stars) }
+{
+    let mut nonbasic = Vec::new(alloc);
+    for before in 0..stars {
+        nonbasic.push(usize::from(before) + 1)?;
+    }
+    Ok(nonbasic)
+}
+
+/// The numbers in the width of a table.
+fn widened(alloc: Global, numbers: &[i64]) -> Result<Vec<i128>, AllocError>
+    ensures { IfOk result (λ v. v.items ≡ numbers.now) }
+{
+    let mut wide = Vec::with_capacity(alloc, numbers.len())?;
+    for i in 0..numbers.len() {
+        wide.push(i128::from(numbers[i]))?;
+    }
+    Ok(wide)
+}
+
+/// The lines of the rows.
+fn first_lines(alloc: Global, rows: &RowList) -> Result<Vec<Line>, AllocError>
+    ensures { IfOk result (λ v. v.items ≡ lines_from (rows.now.stars + 1) rows.now.rows) }
+{
+    let stars = usize::from(rows.stars);
+    let mut lines = Vec::new(alloc);
+    let list = rows.rows.as_slice();
+    for i in 0..list.len() {
+        let coefs = widened(alloc, list[i].coefs.as_slice())?;
+        lines.push(Line {
+            times: 1,
+            basic: stars + 1 + i,
+            coefs: Items::of_vec(coefs),
+        })?;
+    }
+    Ok(lines)
+}
+
+/// The table at first: the stars are nonbasic, and the sums of the rows basic.
+fn first_table(alloc: Global, rows: &RowList) -> Result<Table, AllocError>
+    ensures { IfOk result (λ table. table ≡ table_at_first rows.now) }
+{
+    let nonbasic = first_nonbasic(alloc, rows.stars)?;
+    let lines = first_lines(alloc, rows)?;
+    Ok(Table {
+        nonbasic: Items::of_vec(nonbasic),
+        lines: Items::of_vec(lines),
+    })
+}
+
+/// What comes at a table, after so many pivots.
+fn turn_at(alloc: Global, rows: &RowList, table: Table, pivots: u32) -> Result<Turn, AllocError>
+    requires pivots { pivots ≤ 2000 }
+    requires table { IsTable rows.now table }
+    ensures { IfOk result (λ made. made ≡ turn (2000 - pivots) pivots rows.now table) }
+{
+    let Some(place) = leaving(rows, &table) else {
+        return Ok(Turn::Ends(found(alloc, rows, &table, pivots)?));
+    };
+    let line = &table.lines.as_slice()[place];
+    let Some(column) = entering(&table, line) else {
+        return Ok(Turn::Ends(Solved::None(verdict(alloc, rows, &table, line)?)));
+    };
+    if pivots >= BUDGET {
+        return Ok(Turn::Ends(Solved::Unsolved(Stop::Pivots)));
+    }
+    let after = exchange(alloc, table, place, column)?;
+    if is_too_large(&after) {
+        return Ok(Turn::Ends(Solved::Unsolved(Stop::Large(pivots + 1))));
+    }
+    Ok(Turn::Goes(after))
+}
+
+/// The run, up to its first exit.
+fn run_all(alloc: Global, rows: &RowList) -> Result<Solved, AllocError>
+    ensures { IfOk result (λ answer. answer ≡ answer_to rows.now) }
+{
+    let mut table = first_table(alloc, rows)?;
+    for pivots in 0..BUDGET {
+        match turn_at(alloc, rows, table, pivots)? {
+            Turn::Ends(solved) => return Ok(solved),
+            Turn::Goes(after) => table = after,
+        }
+    }
+    match turn_at(alloc, rows, table, BUDGET)? {
+        Turn::Ends(solved) => Ok(solved),
+        Turn::Goes(_) => Ok(Solved::Unsolved(Stop::Pivots)),
+    }
+}
+
+/// Amounts that meet the rows, or a verdict that none do, or why the run stopped.
+pub fn solve(alloc: Global, rows: &RowList) -> Result<Solved, AllocError>
+    ensures answer { IfOk result (λ answer. answer ≡ answer_to rows.now) }
+
+    // What is found meets the rows, what is refuted has no amounts, and both are such that the second checks take them.
+    ensures found { (found : Found) → result ≡ Ok (solved.Found found) →
+        IsFound rows.now.stars found × MeetsRows found.stars found.unit rows.now.rows }
+    ensures refuted { (verdict : Verdict) → result ≡ Ok (solved.None verdict) →
+        IsVerdict verdict × Refutes rows.now.stars rows.now.rows verdict }
+{
+    run_all(alloc, rows)
+}

@@ -1,0 +1,179 @@
+//! Tests: the answers to small systems of rows.
+ghost use Rattle.std.specs.Prelude.{◌≡◌, ◌≤◌, length, All, IfOk};
+ghost use Rattle.nomos_forms.specs.Bounds.{IsSmall, IsForm};
+
+use crate::solved::{Solved, Stop};
+use crate::solving::solve;
+use nomos_forms::collecting::rows;
+use nomos_forms::form::{Coefs, Form};
+use nomos_forms::row_list::RowList;
+use nomos_ir::items::Items;
+use std::alloc::{AllocError, Global};
+use std::test::Fail;
+
+fn coefs(alloc: Global, numbers: &[i32]) -> Result<Coefs, AllocError>
+    ensures length { IfOk result (λ made. length made ≡ length numbers.now) }
+    ensures small { IfOk result (All IsSmall) }
+{
+    let mut coefs = Vec::new(alloc);
+    for number in numbers {
+        coefs.push(i64::from(*number))?;
+    }
+    Ok(Items::of_vec(coefs))
+}
+
+fn form(alloc: Global, numbers: &[i32], plus: i32) -> Result<Form, AllocError>
+    ensures { IfOk result (IsForm (length numbers.now)) }
+{
+    Ok(Form {
+        coefs: coefs(alloc, numbers)?,
+        plus: i64::from(plus),
+    })
+}
+
+/// The rows that say that these forms are 0 or more.
+fn system(alloc: Global, forms: Vec<Form>, stars: u16) -> Result<RowList, AllocError>
+    requires few { stars ≤ 64 }
+    requires forms { All (IsForm stars) forms.items }
+{
+    let pairs = Items::of_vec(Vec::new(alloc));
+    rows(alloc, &Items::of_vec(forms), &pairs, stars)
+}
+
+/// The coefficient of a star in the row of a process that spawns the one before it ten times.
+fn link(star: u16, of: u16) -> i32 {
+    if of == star {
+        1
+    } else if star > 0 && of == star - 1 {
+        -10
+    } else {
+        0
+    }
+}
+
+/// The form of one process of the chain.
+fn link_form(alloc: Global, star: u16, stars: u16) -> Result<Form, AllocError>
+    ensures { IfOk result (IsForm stars) }
+{
+    let mut numbers = Vec::new(alloc);
+    for of in 0..stars {
+        numbers.push(link(star, of))?;
+    }
+    let plus = if star == 0 { -1 } else { 0 };
+    form(alloc, numbers.as_slice(), plus)
+}
+
+/// Star 1 is at least 1, and each other star at least ten times the one before it.
+fn chain(alloc: Global, stars: u16) -> Result<RowList, AllocError>
+    requires { stars ≤ 64 }
+{
+    let mut forms = Vec::new(alloc);
+    for star in 0..stars {
+        let next = link_form(alloc, star, stars)?;
+        forms.push(next)?;
+    }
+    system(alloc, forms, stars)
+}
+
+/// Two equal stars of which both are wanted for a unit, and of which one is paid twice from a unit.
+#[test]
+fn two_halves(rt: HostRuntime) -> Result<(), Fail> {
+    let alloc = rt.alloc();
+    let wanted = form(alloc, &[1, 1], -1)?;
+    let given = form(alloc, &[-2, 0], 1)?;
+    let less = form(alloc, &[1, -1], 0)?;
+    let more = form(alloc, &[-1, 1], 0)?;
+    let list = system(alloc, vec![in alloc; wanted, given, less, more]?, 2)?;
+    let Solved::Found(found) = solve(alloc, &list)? else {
+        panic!(&rt; "no amounts");
+    };
+    assert_eq!(rt; found.unit, 2);
+    assert_eq!(rt; found.stars.as_slice(), [1u64, 1].as_slice());
+    Ok(())
+}
+
+/// Nineteen links reach 10^18, and a twentieth is too large.
+#[test]
+fn chains(rt: HostRuntime) -> Result<(), Fail> {
+    let alloc = rt.alloc();
+    let Solved::Found(found) = solve(alloc, &chain(alloc, 19)?)? else {
+        panic!(&rt; "no amounts");
+    };
+    assert_eq!(rt; found.unit, 1);
+    let last = found.stars.as_slice().last().copied();
+    assert_eq!(rt; last, Some(1_000_000_000_000_000_000));
+    let Solved::Unsolved(Stop::Large(pivots)) = solve(alloc, &chain(alloc, 20)?)? else {
+        panic!(&rt; "an answer");
+    };
+    assert_eq!(rt; pivots, 19);
+    Ok(())
+}
+
+/// Without rows all stars are 0, and 0 >= 1 has no amounts.
+#[test]
+fn no_stars_and_no_rows(rt: HostRuntime) -> Result<(), Fail> {
+    let alloc = rt.alloc();
+    let Solved::Found(found) = solve(alloc, &system(alloc, Vec::new(alloc), 64)?)? else {
+        panic!(&rt; "no amounts");
+    };
+    assert_eq!(rt; found.unit, 1);
+    assert_eq!(rt; found.stars.len(), 64);
+    let one = form(alloc, &[], -1)?;
+    let Solved::None(verdict) = solve(alloc, &system(alloc, vec![in alloc; one]?, 0)?)? else {
+        panic!(&rt; "amounts");
+    };
+    assert_eq!(rt; verdict.gives, 1);
+    assert_eq!(rt; verdict.weights.len(), 1);
+    Ok(())
+}
+
+/// The next number of a fixed sequence.
+fn next(seed: &mut u32) -> u32 {
+    *seed = seed.wrapping_mul(1_664_525).wrapping_add(1_013_904_223);
+    *seed >> 8
+}
+
+/// Most coefficients are 0, and the others lie between -3 and 3.
+fn sparse(seed: &mut u32) -> i32 {
+    if next(seed) % 100 >= 15 {
+        return 0;
+    }
+    ((next(seed) % 7) as i32).wrapping_sub(3)
+}
+
+/// A form that is 0 or 1 where each star is the square of its place.
+fn tight(alloc: Global, seed: &mut u32, stars: u16) -> Result<Form, AllocError>
+    ensures { IfOk result (IsForm stars) }
+{
+    let mut plus = (next(seed) % 2) as i32;
+    let mut numbers = Vec::new(alloc);
+    for of in 0..stars {
+        let number = sparse(seed);
+        let place = i32::from(of);
+        plus = plus.wrapping_sub(number.wrapping_mul(place.wrapping_mul(place)));
+        numbers.push(number)?;
+    }
+    form(alloc, numbers.as_slice(), plus)
+}
+
+/// 200 such forms.
+fn tight_system(alloc: Global, stars: u16) -> Result<RowList, AllocError>
+    requires { stars ≤ 64 }
+{
+    let mut seed = 6;
+    let mut forms = Vec::new(alloc);
+    for _i in 0..200 {
+        let next = tight(alloc, &mut seed, stars)?;
+        forms.push(next)?;
+    }
+    system(alloc, forms, stars)
+}
+
+/// The budget of pivots is used up, though the squares of the stars' places meet these rows.
+#[test]
+fn too_many_pivots(rt: HostRuntime) -> Result<(), Fail> {
+    let alloc = rt.alloc();
+    let answer = solve(alloc, &tight_system(alloc, 32)?)?;
+    assert_eq!(rt; matches!(&answer, Solved::Unsolved(Stop::Pivots)), true);
+    Ok(())
+}

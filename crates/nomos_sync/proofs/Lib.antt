@@ -1,0 +1,5 @@
+pub mod ContinuationLemmas
+pub mod EntryLemmas
+pub mod PassingLemmas
+pub mod SyncLaws
+pub mod WalkLemmas

@@ -1,0 +1,15 @@
+use Rattle.std.proofs.Common.{◌-◌, ◌^◌}
+use Rattle.nomos_equality.specs.Comparing.{HasCompared}
+use Rattle.nomos_sync.proofs.PassingLemmas.{IsPassing}
+use Rattle.nomos_sync.proofs.synchronizing.leads_back.Given as goal
+
+-- the visits so far are passed
+abbrev pub invariant-loop-at : goal.invariant-loop-at
+invariant-loop-at l =
+    record {
+      passing : IsPassing l.program l.fn.start l.shared l.fn.equalities l.equalities l.walk.visits.entries l.next;
+      compared : HasCompared l.program l.equalities;
+    }
+
+abbrev pub decreases-loop-at : goal.decreases-loop-at
+decreases-loop-at l = 2 ^ 64 - l.next

@@ -1,0 +1,222 @@
+-- What keeps a judgement a judgement: another instruction or potential, another type offered, a variable bound or
+-- unbound in one of its maps.
+use Rattle.std.proofs.Common.{◌≡◌, ◌≢◌, ◌≤◌, inl, inr, ℕ, ◌+◌, IsTrue, List, All, Option, Some, None, subst, ap, sym, arith}
+use Rattle.std.proofs.lemmas.Bool.{cases_eq}
+use Rattle.nomos_ir.specs.declared.code_node.Chan.{Chan}
+use Rattle.nomos_ir.specs.declared.code_node.Chan.TheVariants as chan
+use Rattle.nomos_ir.specs.declared.ids.CodeId.{CodeId}
+use Rattle.nomos_ir.specs.declared.ids.TypeId.{TypeId}
+use Rattle.nomos_ir.specs.declared.ids.VarId.{VarId}
+use Rattle.nomos_ir.specs.declared.kind.Kind.{Kind}
+use Rattle.nomos_ir.specs.declared.lists.ProgramLists.{ProgramLists}
+use Rattle.nomos_ir.specs.declared.mode.Mode.{Mode}
+use Rattle.nomos_ir.specs.declared.mode.Mode.TheVariants as mode
+use Rattle.nomos_ir.specs.Bindings.{bound_to, bind, unbind, IsAscending}
+use Rattle.nomos_ir.proofs.BindingLaws.{bound-after_bind, bound-after_bind_other, bound-after_unbind, bound-after_unbind_other, bind-ascending, unbind-ascending, all-after_bind, all-after_unbind}
+use Rattle.nomos_types.specs.Judgement.{Judgement, ListType, count_one, parts_with, IsFree, IsJudgement, channel_type, goes_on, binds_value, binds_list, binds_channel}
+use Rattle.nomos_types.specs.Modes.{HasMode, IsLinearMode, may_hold}
+
+-- ---- in how many maps a variable is bound
+
+-- in how many of the maps of values, lists and references it is bound
+abbrev pub others_with : Judgement → ℕ → ℕ
+others_with j v = count_one (bound_to v j.kinds) + count_one (bound_to v j.lists) + count_one (bound_to v j.shared)
+
+count-bound : {X : Type 0} (v : VarId) (x : X) (b : List (VarId × X)) → count_one (bound_to v.0 (bind v x b)) ≡ 1
+count-bound {X = X} v x b = ap (λ (o : Option X). count_one o) (bound-after_bind v x b)
+
+pub count-other : {X : Type 0} (w : ℕ) (v : VarId) (x : X) (b : List (VarId × X)) → w ≢ v.0 → count_one (bound_to w (bind v x b)) ≡ count_one (bound_to w b)
+count-other {X = X} w v x b other = ap (λ (o : Option X). count_one o) (bound-after_bind_other w v x b other)
+
+-- an unbound variable is bound in no more maps
+pub count-unbind : {X : Type 0} (w v : ℕ) (b : List (VarId × X)) → IsAscending b → count_one (bound_to w (unbind v b)) ≤ count_one (bound_to w b)
+count-unbind {X = X} w v b ascending =
+    elim (cases_eq w v) [
+      | inl same ↦
+          let IsUnbound : ℕ → Type 0 = λ u. bound_to u (unbind v b) ≡ None in
+          let none : IsUnbound w = subst IsUnbound (sym same) (bound-after_unbind v b ascending) in
+          omega (arith, ap (λ (o : Option X). count_one o) none)
+      | inr other ↦ omega (arith, ap (λ (o : Option X). count_one o) (bound-after_unbind_other w v b other))
+    ]
+
+-- what holds at one variable and at all other ones holds
+by-variable : (P : ℕ → Type 0) (v : ℕ) → P v → ((w : ℕ) → w ≢ v → P w) → (w : ℕ) → P w
+by-variable P v here others w =
+    elim (cases_eq w v) [ inl same ↦ subst P (sym same) here | inr other ↦ others w other ]
+
+-- ---- what a process may hold
+
+-- the type of a channel that is used exactly once, in the hands of a process of this mode
+abbrev pub MayBeHeld : ProgramLists → Mode → TypeId → Type 0
+MayBeHeld lists holder t = (m : Mode) × HasMode lists t m × IsLinearMode m × IsTrue (may_hold holder m)
+
+-- a channel of this mode may come into the hands of a process
+abbrev pub MayCome : Mode → Mode → Type 0
+MayCome holder mode.S = Unit {0}
+MayCome holder m = IsLinearMode m × IsTrue (may_hold holder m)
+
+module _ {lists : ProgramLists} {j : Judgement} (h : IsJudgement lists j) where
+  -- ---- another place, another type offered
+
+  -- at another instruction, with another potential
+  pub placed-elsewhere : (q : ℕ) (next : CodeId) → IsJudgement lists (record j { q = q; code = next })
+  placed-elsewhere q next =
+      record {
+        kinds = h.kinds;
+        lists_ascend = h.lists_ascend;
+        shared = h.shared;
+        linear = h.linear;
+        apart = h.apart;
+        shared_modes = h.shared_modes;
+        linear_modes = h.linear_modes;
+        offers = h.offers;
+      }
+
+  -- at another mode, with a type of that mode, where what it holds may be held at that mode
+  pub taken-over : (m : Mode) (t : TypeId) → HasMode lists t m → All (λ b. MayBeHeld lists m b.1) j.linear → IsJudgement lists (record j { mode = m; offers = t })
+  taken-over m t its_mode held =
+      record {
+        kinds = h.kinds;
+        lists_ascend = h.lists_ascend;
+        shared = h.shared;
+        linear = h.linear;
+        apart = h.apart;
+        shared_modes = h.shared_modes;
+        linear_modes = held;
+        offers = its_mode;
+      }
+
+  -- ---- a variable bound
+
+  -- a channel that is used exactly once, at a variable that is in no other map
+  pub linear-bound : (v : VarId) (t : TypeId) → others_with j v.0 ≡ 0 → MayBeHeld lists j.mode t → IsJudgement lists (record j { linear = bind v t j.linear })
+  linear-bound v t free held =
+      let after : Judgement = record j { linear = bind v t j.linear } in
+      let here : parts_with after v.0 ≤ 1 = omega (arith, count-bound v t j.linear) in
+      let others : (w : ℕ) → w ≢ v.0 → parts_with after w ≤ 1 =
+      λ w other. omega (arith, count-other w v t j.linear other, h.apart w)
+      in
+      record {
+        kinds = h.kinds;
+        lists_ascend = h.lists_ascend;
+        shared = h.shared;
+        linear = bind-ascending v t j.linear h.linear;
+        apart = by-variable (λ w. parts_with after w ≤ 1) v.0 here others;
+        shared_modes = h.shared_modes;
+        linear_modes = all-after_bind (MayBeHeld lists j.mode) v t j.linear h.linear_modes held;
+        offers = h.offers;
+      }
+
+  -- a reference, at a free variable
+  pub shared-bound : (v : VarId) (t : TypeId) → IsFree j v → HasMode lists t mode.S → IsJudgement lists (record j { shared = bind v t j.shared })
+  shared-bound v t free its_mode =
+      let after : Judgement = record j { shared = bind v t j.shared } in
+      let here : parts_with after v.0 ≤ 1 = omega (arith, count-bound v t j.shared) in
+      let others : (w : ℕ) → w ≢ v.0 → parts_with after w ≤ 1 =
+      λ w other. omega (arith, count-other w v t j.shared other, h.apart w)
+      in
+      record {
+        kinds = h.kinds;
+        lists_ascend = h.lists_ascend;
+        shared = bind-ascending v t j.shared h.shared;
+        linear = h.linear;
+        apart = by-variable (λ w. parts_with after w ≤ 1) v.0 here others;
+        shared_modes = all-after_bind (λ (s : TypeId). HasMode lists s mode.S) v t j.shared h.shared_modes its_mode;
+        linear_modes = h.linear_modes;
+        offers = h.offers;
+      }
+
+  -- a value, at a free variable
+  pub value-bound : (v : VarId) (kind : Kind) → IsFree j v → IsJudgement lists (binds_value j v kind)
+  value-bound v kind free =
+      let after : Judgement = binds_value j v kind in
+      let here : parts_with after v.0 ≤ 1 = omega (arith, count-bound v kind j.kinds) in
+      let others : (w : ℕ) → w ≢ v.0 → parts_with after w ≤ 1 =
+      λ w other. omega (arith, count-other w v kind j.kinds other, h.apart w)
+      in
+      record {
+        kinds = bind-ascending v kind j.kinds h.kinds;
+        lists_ascend = h.lists_ascend;
+        shared = h.shared;
+        linear = h.linear;
+        apart = by-variable (λ w. parts_with after w ≤ 1) v.0 here others;
+        shared_modes = h.shared_modes;
+        linear_modes = h.linear_modes;
+        offers = h.offers;
+      }
+
+  -- a list, at a free variable
+  pub list-bound : (v : VarId) (list : ListType) → IsFree j v → IsJudgement lists (binds_list j v list)
+  list-bound v list free =
+      let after : Judgement = binds_list j v list in
+      let here : parts_with after v.0 ≤ 1 = omega (arith, count-bound v list j.lists) in
+      let others : (w : ℕ) → w ≢ v.0 → parts_with after w ≤ 1 =
+      λ w other. omega (arith, count-other w v list j.lists other, h.apart w)
+      in
+      record {
+        kinds = h.kinds;
+        lists_ascend = bind-ascending v list j.lists h.lists_ascend;
+        shared = h.shared;
+        linear = h.linear;
+        apart = by-variable (λ w. parts_with after w ≤ 1) v.0 here others;
+        shared_modes = h.shared_modes;
+        linear_modes = h.linear_modes;
+        offers = h.offers;
+      }
+
+  -- a channel of any mode that may come, at a free variable
+  pub channel-bound : (v : VarId) (m : Mode) (t : TypeId) → IsFree j v → HasMode lists t m → MayCome j.mode m → IsJudgement lists (binds_channel j v m t)
+  channel-bound v mode.S t free its_mode may = shared-bound v t free its_mode
+  channel-bound v mode.R t free its_mode may = linear-bound v t (omega arith) (mode.R, its_mode, may.0, may.1)
+  channel-bound v mode.L t free its_mode may = linear-bound v t (omega arith) (mode.L, its_mode, may.0, may.1)
+  channel-bound v mode.T t free its_mode may = linear-bound v t (omega arith) (mode.T, its_mode, may.0, may.1)
+
+  -- ---- a variable unbound
+
+  -- a channel that is used up
+  pub linear-unbound : (v : ℕ) → IsJudgement lists (record j { linear = unbind v j.linear })
+  linear-unbound v =
+      record {
+        kinds = h.kinds;
+        lists_ascend = h.lists_ascend;
+        shared = h.shared;
+        linear = unbind-ascending v j.linear h.linear;
+        apart = λ w. omega (arith, count-unbind w v j.linear h.linear, h.apart w);
+        shared_modes = h.shared_modes;
+        linear_modes = all-after_unbind (MayBeHeld lists j.mode) v j.linear h.linear_modes;
+        offers = h.offers;
+      }
+
+  -- a list that is used up
+  pub list-unbound : (v : ℕ) → IsJudgement lists (record j { lists = unbind v j.lists })
+  list-unbound v =
+      record {
+        kinds = h.kinds;
+        lists_ascend = unbind-ascending v j.lists h.lists_ascend;
+        shared = h.shared;
+        linear = h.linear;
+        apart = λ w. omega (arith, count-unbind w v j.lists h.lists_ascend, h.apart w);
+        shared_modes = h.shared_modes;
+        linear_modes = h.linear_modes;
+        offers = h.offers;
+      }
+
+-- ---- a channel that goes on
+
+-- the channel may go on at a type
+abbrev pub MayGoOn : ProgramLists → Judgement → Chan → TypeId → Type 0
+MayGoOn lists j chan.Own t = HasMode lists t j.mode
+MayGoOn lists j (chan.Var v) t = (others_with j v.0 ≡ 0) × MayBeHeld lists j.mode t
+
+-- it goes on
+pub gone-on : {lists : ProgramLists} {j : Judgement} → IsJudgement lists j → (c : Chan) (t : TypeId) (next : CodeId) → MayGoOn lists j c t → IsJudgement lists (goes_on j c t next)
+gone-on {j = j} h chan.Own t next may = placed-elsewhere (taken-over h j.mode t may h.linear_modes) j.q next
+gone-on {j = j} h (chan.Var v) t next may = placed-elsewhere (linear-bound h v t may.0 may.1) j.q next
+
+-- a variable that is free stays free when a channel goes on
+pub free-gone_on : {lists : ProgramLists} {j : Judgement} → IsJudgement lists j → (c : Chan) (s t : TypeId) (next : CodeId) (y : VarId) → channel_type j c ≡ Some s → IsFree j y → IsFree (goes_on j c t next) y
+free-gone_on h chan.Own s t next y found free = free
+free-gone_on {j = j} h (chan.Var v) s t next y found free =
+    let here : count_one (bound_to v.0 j.linear) ≡ 1 = ap (λ (o : Option TypeId). count_one o) found in
+    let other : y.0 ≢ v.0 = λ same. let there = subst (λ (w : ℕ). parts_with j w ≡ 0) same free in omega arith in
+    omega (arith, count-other y.0 v t j.linear other)
