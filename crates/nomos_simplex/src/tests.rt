@@ -7,6 +7,7 @@ use crate::solving::solve;
 use nomos_forms::collecting::rows;
 use nomos_forms::form::{Coefs, Form};
 use nomos_forms::row_list::RowList;
+use nomos_ir::amount::Amount;
 use nomos_ir::items::Items;
 use std::alloc::{AllocError, Global};
 use std::test::Fail;
@@ -89,6 +90,29 @@ fn two_halves(rt: HostRuntime) -> Result<(), Fail> {
     };
     assert_eq!(rt; found.unit, 2);
     assert_eq!(rt; found.stars.as_slice(), [1u64, 1].as_slice());
+    Ok(())
+}
+
+/// Two sources of a half each: of the five stars the first is what the type of a source pays, two are what is taken
+/// from each source, one is what a source has, and one what it pays.
+#[test]
+fn two_sources(rt: HostRuntime) -> Result<(), Fail> {
+    let alloc = rt.alloc();
+    let works = form(alloc, &[0, 1, 1, 0, 0], -1)?;
+    let pays = form(alloc, &[0, 0, 0, 1, -1], 0)?;
+    let spawns = form(alloc, &[0, 0, 0, -2, 0], 1)?;
+    let forms = Items::of_vec(vec![in alloc; works, pays, spawns]?);
+    let of_type = Amount::Star(1);
+    let pairs = Items::of_vec(vec![in alloc;
+        (of_type, Amount::Star(2)),
+        (of_type, Amount::Star(3)),
+        (of_type, Amount::Star(5)),
+    ]?);
+    let Solved::Found(found) = solve(alloc, &rows(alloc, &forms, &pairs, 5)?)? else {
+        panic!(&rt; "no amounts");
+    };
+    assert_eq!(rt; found.unit, 2);
+    assert_eq!(rt; found.stars.as_slice(), [1u64, 1, 1, 1, 1].as_slice());
     Ok(())
 }
 
