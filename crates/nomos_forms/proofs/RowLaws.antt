@@ -1,4 +1,4 @@
--- What the rows of forms and pairs say of amounts: that each form is 0 or more, and each pair of amounts worth the same.
+-- What the rows of forms and pairs say of amounts: each form is 0 or more, and each pair of amounts worth the same.
 use Rattle.std.proofs.Common.{◌≡◌, ◌==◌, ◌↔◌, ℕ, zero, suc, ◌+◌, ◌-◌, ◌*◌, ◌≤◌, cond, List, [], ◌∷◌, ◌++◌, length, get_or, map, All, Contains, refl, ap, sym, subst, ◌∙◌, arith, add-one, ℤ, pos, neg_ℤ, ◌+ℤ◌, ◌*ℤ◌, ◌-ℤ◌, ◌≤ℤ◌, ⊎_elim}
 use Rattle.std.specs.List.{flat_map, range_with_len}
 use Rattle.std.proofs.lemmas.Bool.Decides.{eqb_tells}

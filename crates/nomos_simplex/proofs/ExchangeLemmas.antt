@@ -1,4 +1,4 @@
--- A line in lowest terms, solved for another variable, or with a solved variable put into it, holds where it held before.
+-- A line in lowest terms, solved for another variable, or with a solved variable put in, holds where it held before.
 use Rattle.std.proofs.Common.{◌≡◌, ℕ, ◌*◌, zero, suc, ◌<◌, ◌↔◌, List, length, map, get_or, set, ap, sym, refl, subst, ◌∙◌, arith, ℤ, pos, negsuc, ◌+ℤ◌, ◌-ℤ◌, ◌*ℤ◌, neg_ℤ, ◌<ℤ◌, unsigned_abs, All}
 use Rattle.std.specs.Prelude.{int_div}
 use Rattle.std.specs.Int.{◌∣◌}

@@ -59,7 +59,8 @@ fn exchanged_lines(
 ) -> Result<Vec<Line>, AllocError>
     requires place { place < length lines.items }
     requires column { (left : Line) → slice_get lines.items place ≡ Some left → column < length left.coefs }
-    requires lines { (left : Line) → slice_get lines.items place ≡ Some left → All (IsLine (length left.coefs)) lines.items }
+    requires lines { (left : Line) → slice_get lines.items place ≡ Some left →
+        All (IsLine (length left.coefs)) lines.items }
     requires lowest { All IsLowest lines.items }
     requires over_zero { (left : Line) → slice_get lines.items place ≡ Some left → pos 0 <ℤ coef_at column left }
     ensures { (left : Line) → slice_get lines.items place ≡ Some left →
