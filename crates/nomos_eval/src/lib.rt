@@ -12,4 +12,6 @@ mod numbers;
 mod run;
 mod scopes;
 mod stop;
+#[cfg(test)]
+mod tests;
 mod values;
