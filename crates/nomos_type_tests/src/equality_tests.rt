@@ -1,0 +1,99 @@
+//! Tests: types that are equal, with the pairs of amounts that this needs, and types that are not, with a path.
+use crate::sketch::program_of;
+use nomos_equality::equality::{Equality, equal};
+use nomos_ir::program::Program;
+use nomos_types::contractive::is_contractive;
+use std::alloc::{AllocError, Global};
+use std::test::Fail;
+
+// Whether the first two definitions are equal, if there are two, and no definition is a bare name.
+fn first_two(alloc: Global, program: &Program) -> Result<Option<Equality>, AllocError> {
+    let defs = program.lists().defs.as_slice();
+    if defs.len() < 2 || !is_contractive(program) {
+        return Ok(None);
+    }
+    let found = equal(alloc, program, defs[0].body, defs[1].body)?;
+    Ok(Some(found))
+}
+
+// The same of a sketch.
+fn answer(alloc: Global, sketch: &str) -> Result<Option<Equality>, AllocError> {
+    match program_of(alloc, sketch)? {
+        Some(program) => first_two(alloc, &program),
+        None => Ok(None),
+    }
+}
+
+// The same, as a text.
+fn shown(alloc: Global, sketch: &str) -> Result<String, AllocError> {
+    let found = answer(alloc, sketch)?;
+    format!(in alloc; "{found:?}")
+}
+
+const NO_PAIRS: &str = "Some(Yes(Items { items: [] }))";
+
+const AT_ONCE: &str = "Some(No(Items { items: [] }))";
+
+#[test]
+fn tells_equal_types_with_the_amounts_at_equal_paths(rt: HostRuntime) -> Result<(), Fail> {
+    let cases = [
+        // definitions that name one another, and one that has two steps in one
+        ("b +a = a +a =", NO_PAIRS),
+        ("a +a +a = b +a =", NO_PAIRS),
+        ("a ^ b * = b ^ a * =", NO_PAIRS),
+        // labels in other order
+        ("a 1 +ab = 1 b +ba =", NO_PAIRS),
+        // a type that stands nowhere: no program
+        ("1 = 1 = 1", "None"),
+        // amounts, and each pair once
+        (
+            "a >3 = b >s =",
+            "Some(Yes(Items { items: [(Written(3), Star(1))] }))",
+        ),
+        (
+            "a >3 a <s &ab = b <4 b >3 &ba =",
+            "Some(Yes(Items { items: [(Written(3), Written(3)), (Star(1), Written(4))] }))",
+        ),
+        (
+            "1 <2 >s <2 1 <2 >s * = 1 <5 >5 <5 1 <5 >5 * =",
+            "Some(Yes(Items { items: [(Written(2), Written(5)), (Star(1), Written(5))] }))",
+        ),
+        // kinds, and both directions
+        ("a ?I 1 !b * = b ?I 1 !b * =", NO_PAIRS),
+    ];
+    for (sketch, wanted) in cases {
+        let found = shown(rt.alloc(), sketch)?;
+        assert_eq!(rt; found.as_str(), wanted, "{sketch}");
+    }
+    Ok(())
+}
+
+#[test]
+fn tells_other_types_with_a_path(rt: HostRuntime) -> Result<(), Fail> {
+    let cases = [
+        (
+            "1 +a +a +a +a +a +a +a +a = 1 !i +a +a +a +a +a +a +a +a =",
+            "Some(No(Items { items: [Label(Label(0)), Label(Label(0)), Label(Label(0)), Label(Label(0)), \
+            Label(Label(0)), Label(Label(0)), Label(Label(0)), Label(Label(0))] }))",
+        ),
+        (
+            "a 1 +ab = b 1 +ba =",
+            "Some(No(Items { items: [Label(Label(0))] }))",
+        ),
+        ("1 1 !i * = 1 1 !b * =", "Some(No(Items { items: [Next] }))"),
+        ("1 1 o = 1 1 !b o =", "Some(No(Items { items: [Next] }))"),
+        ("1 ^ 1 o = 1 1 o =", "Some(No(Items { items: [Carried] }))"),
+        // labels that only one of them has
+        ("1 +a = 1 1 +ab =", AT_ONCE),
+        ("1 1 +ab = 1 +a =", AT_ONCE),
+        ("1 +a = 1 +b =", AT_ONCE),
+        ("1 +a = 1 &a =", AT_ONCE),
+        ("1 >3 = 1 <3 =", AT_ONCE),
+        ("1 !i = 1 !I =", AT_ONCE),
+    ];
+    for (sketch, wanted) in cases {
+        let found = shown(rt.alloc(), sketch)?;
+        assert_eq!(rt; found.as_str(), wanted, "{sketch}");
+    }
+    Ok(())
+}
