@@ -165,7 +165,8 @@ pub(crate) fn nodes_fit(alloc: Global, lists: &ProgramLists) -> Result<bool, All
 
 /// Where type nodes stand: in definitions and in other nodes.
 pub(crate) fn places(alloc: Global, defs: &[Def], types: &[TypeAt]) -> Result<Vec<u32>, AllocError>
-    ensures { IfOk result (λ places. places.items ≡ map (λ d. d.body.0) defs.now ++ flat_map (λ t. type_parts t.node) types.now) }
+    ensures { IfOk result (λ places. places.items ≡
+        map (λ d. d.body.0) defs.now ++ flat_map (λ t. type_parts t.node) types.now) }
 {
     let mut places: Vec<u32> = defs.iter().map(|d| d.body.0).collect(alloc)?;
     for place in types {

@@ -168,7 +168,8 @@ fn labels(alloc: Global) -> Result<Vec<Name>, AllocError> {
 }
 
 /// The program of a sketch, or none where it makes none. Words are separated by one blank each:
-/// - `1`; `+ab`, `&ab` with these labels, behind the types of their branches; `*`, `o` behind what is carried and what follows;
+/// - `1`; `+ab`, `&ab` with these labels, behind the types of their branches;
+/// - `*`, `o` behind what is carried and what follows;
 /// - `!i`, `?i` with a kind; `>3`, `<3` with an amount, `>s` with the first star; `^` and `v` for `up` and `down`;
 /// - a letter, which names a definition: `a` the first one, `b` the second one, and so on;
 /// - `=`, or `=S` for a shared one, which makes the type before it the next definition.

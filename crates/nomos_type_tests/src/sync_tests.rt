@@ -1,5 +1,5 @@
-//! Tests: shared types that are synchronizing, with the pairs of amounts that this needs, and shared types that are not,
-//! with a path.
+//! Tests: shared types that are synchronizing, with the pairs of amounts that this needs, and shared types that are
+//! not, with a path.
 use crate::sketch::program_of;
 use nomos_ir::ids::TypeId;
 use nomos_ir::program::Program;

@@ -62,7 +62,8 @@ fn are_names(labels: &[Name]) -> bool
 /// Whether the definition at a place has a name that no earlier one has.
 fn is_new_definition(defs: &[Def], place: usize) -> bool
     requires { place < length defs.now }
-    ensures { IsTrue result → ((k : ℕ) (d : Def) → k < place → (get_or defs.now k d).name ≢ (get_or defs.now place d).name) }
+    ensures { IsTrue result →
+        ((k : ℕ) (d : Def) → k < place → (get_or defs.now k d).name ≢ (get_or defs.now place d).name) }
 {
     for k in 0..place {
         if defs[k].name.as_bytes() == defs[place].name.as_bytes() {
@@ -87,7 +88,8 @@ fn definitions_differ(defs: &[Def]) -> bool
 /// Whether the label at a place is no earlier one.
 fn is_new_label(labels: &[Name], place: usize) -> bool
     requires { place < length labels.now }
-    ensures { IsTrue result → ((k : ℕ) (d : List ℕ) → k < place → get_or labels.now k d ≢ get_or labels.now place d) }
+    ensures { IsTrue result →
+        ((k : ℕ) (d : List ℕ) → k < place → get_or labels.now k d ≢ get_or labels.now place d) }
 {
     for k in 0..place {
         if labels[k].as_bytes() == labels[place].as_bytes() {
