@@ -1,7 +1,6 @@
 pub mod ActLemmas
 pub mod BeginLemmas
 pub mod BindLemmas
-pub mod ChainLemmas
 pub mod ListLemmas
 pub mod LoadLemmas
 pub mod MachineLemmas

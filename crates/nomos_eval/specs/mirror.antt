@@ -1,6 +1,5 @@
 -- Mirrors of the code, on which no promise stands.
 pub mod Begin
-pub mod Chain
 pub mod ListCell
 pub mod Load
 pub mod Machine

@@ -12,6 +12,4 @@ mod numbers;
 mod run;
 mod scopes;
 mod stop;
-#[cfg(test)]
-mod tests;
 mod values;

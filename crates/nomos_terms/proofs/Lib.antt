@@ -1,5 +1,4 @@
 pub mod BoundLemmas
-pub mod ChainLemmas
 pub mod EnterLemmas
 pub mod StayLemmas
 pub mod TaskLemmas

@@ -6,5 +6,3 @@ pub mod kinds;
 mod search;
 mod stop;
 mod tasks;
-#[cfg(test)]
-mod tests;

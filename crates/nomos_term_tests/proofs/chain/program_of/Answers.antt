@@ -1,6 +1,6 @@
 -- The terms alone are a program.
-use Rattle.nomos_terms.proofs.ChainLemmas.{chain-is_program}
-use Rattle.nomos_terms.proofs.tests.program_of.Goals as goal
+use Rattle.nomos_term_tests.proofs.ChainLemmas.{chain-is_program}
+use Rattle.nomos_term_tests.proofs.chain.program_of.Goals as goal
 
 pub of_lists-requires : goal.of_lists-requires
 of_lists-requires c =

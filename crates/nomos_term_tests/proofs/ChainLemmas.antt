@@ -9,7 +9,7 @@ use Rattle.nomos_ir.specs.Ids.{TermInRange, AllBelow}
 use Rattle.nomos_ir.specs.Kinds.{IsShallow}
 use Rattle.nomos_ir.specs.Program.{IsProgram}
 use Rattle.nomos_ir.specs.TermParts.{term_parts, term_kinds}
-use Rattle.nomos_terms.specs.mirror.Chain.{IsLink, IsChain}
+use Rattle.nomos_term_tests.specs.Chain.{IsLink, IsChain}
 
 -- the program of these terms alone
 abbrev pub alone : List TermNode → ProgramLists

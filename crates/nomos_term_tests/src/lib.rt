@@ -1,0 +1,9 @@
+//! Tests of the crates that find kinds and values of terms, on programs that are made by hand.
+#![tactic(auto)]
+
+#[cfg(test)]
+mod chain;
+#[cfg(test)]
+mod kind_tests;
+#[cfg(test)]
+mod value_tests;
