@@ -28,12 +28,12 @@ definition =
 
 pub definition_derived : Derives file definition
 definition_derived =
-    replaced _ (later first) (replaced _ first (replaced _ first (counted (read (inl refl)
+    replaced _ (later first) (replaced _ first (counted (read (inl refl)
     (replaced _ first (read (inl refl) (read (inl refl) (read (inl refl)
     (replaced _ (later (later (later (later (later first))))) (counted
     (replaced _ (later (later (later (later first)))) (counted (read (inl refl)
     (replaced _ (later (later first)) (counted (read (inl refl)
-    (replaced _ (later first) nothing)))))))))))))))))
+    (replaced _ (later first) nothing))))))))))))))))
 
 -- one production is open at the `1`, and it is the second node
 pub definition_depth : depth (counts (marked mark.OpenPart ∷ marked mark.Node ∷ [])) ≡ 1
