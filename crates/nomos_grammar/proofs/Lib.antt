@@ -1,1 +1,4 @@
 pub mod Examples
+pub mod TerminalLemmas
+pub mod TableLemmas
+pub mod GrammarLaws

@@ -3,3 +3,4 @@
 
 pub mod offence;
 pub mod part;
+mod table;
