@@ -14,7 +14,7 @@ use Rattle.nomos_grammar.proofs.TerminalLemmas.{and_first, and_second, all_in, a
 use Rattle.nomos_grammar.proofs.TableLemmas.{each_side-at, is_nil, begins_alike, all_begin_alike, vanishes_empty, all_vanish_empty, follows_well, all_follow_well, taken_with, no_later, chooses_well, all_choose_well}
 
 -- what follows a negation
-or_second : (a b : Bool) → (not a || b) ≡ true → a ≡ true → b ≡ true
+pub or_second : (a b : Bool) → (not a || b) ≡ true → a ≡ true → b ≡ true
 or_second true b h e = h
 or_second false b h e = cc
 
@@ -35,7 +35,7 @@ empty_among ([] ∷ sides) m = refl
 empty_among ((p ∷ side) ∷ sides) (later m) = empty_among sides m
 
 -- an alternative that may vanish is the empty one, and then the production vanishes
-vanishing_side : (n : Nonterminal) (side : List Part) → IsAmong side (alternatives n) → may_vanish side ≡ true → (side ≡ []) × (vanishes n ≡ true)
+pub vanishing_side : (n : Nonterminal) (side : List Part) → IsAmong side (alternatives n) → may_vanish side ≡ true → (side ≡ []) × (vanishes n ≡ true)
 vanishing_side n [] m v = (refl, empty_among (alternatives n) m)
 vanishing_side n (p ∷ side) m v =
     let h = each_side-at vanishes_empty (alternatives n) (p ∷ side) (all_vanish_empty n) m in

@@ -1,5 +1,5 @@
 -- What is computed of the table of the grammar, for each production.
-use Rattle.std.proofs.Common.{◌≡◌, Bool, true, false, ◌&&◌, ◌||◌, not, List, [], ◌∷◌, refl}
+use Rattle.std.proofs.Common.{◌≡◌, nat_lt, nat_le, nat_eq, length, Bool, true, false, ◌&&◌, ◌||◌, not, List, [], ◌∷◌, refl}
 use Rattle.nomos_grammar.specs.declared.part.Terminal.{Terminal}
 use Rattle.nomos_grammar.specs.declared.part.Nonterminal.{Nonterminal}
 use Rattle.nomos_grammar.specs.declared.part.Nonterminal.TheVariants as n
@@ -8,7 +8,7 @@ use Rattle.nomos_grammar.specs.declared.part.Part.TheVariants as part
 use Rattle.nomos_grammar.specs.Derivation.{IsAmong, first, later}
 use Rattle.nomos_grammar.specs.Grammar.{alternatives}
 use Rattle.nomos_grammar.specs.mirror.Table.{Row, rows}
-use Rattle.nomos_grammar.specs.mirror.Stacks.{firsts, starts, may_vanish, follow}
+use Rattle.nomos_grammar.specs.mirror.Stacks.{firsts, starts, may_vanish, follow, rises, rank, distance}
 use Rattle.nomos_grammar.proofs.TerminalLemmas.{and_first, and_second, all_in, none_in}
 
 -- each right side passes
@@ -76,3 +76,28 @@ pub all_choose_well : (n : Nonterminal) → chooses_well n (rows n) ≡ true
 unfolding firsts follow
 all_choose_well n.File = refl
 all_choose_well _ = refl
+
+-- an alternative that is not empty comes nearer to a token, and is short
+abbrev pub comes_nearer : Nonterminal → List Part → Bool
+comes_nearer n side = is_nil side || (nat_lt (distance side) (rank n) && nat_lt (length side) 20)
+
+pub all_come_nearer : (n : Nonterminal) → each_side (comes_nearer n) (alternatives n) ≡ true
+unfolding rank
+all_come_nearer n.File = refl
+all_come_nearer _ = refl
+
+-- no mark among the parts adds to a count
+abbrev pub never_rises : List Part → Bool
+never_rises [] = true
+never_rises (part.Mark m ∷ rest) = nat_eq (rises m) 0 && never_rises rest
+never_rises (p ∷ rest) = never_rises rest
+
+-- each end of the side is near to a token, and adds nothing where it may vanish
+abbrev pub stays_low : List Part → Bool
+stays_low [] = true
+stays_low (p ∷ rest) = nat_le (distance (p ∷ rest)) 40 && ((not (may_vanish (p ∷ rest)) || never_rises (p ∷ rest)) && stays_low rest)
+
+pub all_stay_low : (n : Nonterminal) → each_side stays_low (alternatives n) ≡ true
+unfolding rank
+all_stay_low n.File = refl
+all_stay_low _ = refl

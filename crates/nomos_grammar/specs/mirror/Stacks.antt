@@ -1,6 +1,6 @@
 -- What the proofs say of the parts that have to follow: with which tokens they may begin, and what may stand behind a
 -- production.
-use Rattle.std.specs.Prelude.{Bool, true, false, ◌&&◌, List, [], ◌∷◌, ◌++◌, Option, None, if◌then◌else◌}
+use Rattle.std.specs.Prelude.{ℕ, zero, suc, ◌+◌, ◌≤◌, max, Bool, true, false, ◌&&◌, List, [], ◌∷◌, ◌++◌, Option, None, if◌then◌else◌}
 use Rattle.nomos_ir.specs.declared.word.Word.{Word}
 use Rattle.nomos_ir.specs.declared.word.Word.TheVariants as word
 use Rattle.nomos_syntax.specs.declared.symbol.Symbol.{Symbol}
@@ -9,9 +9,12 @@ use Rattle.nomos_grammar.specs.declared.part.Terminal.{Terminal}
 use Rattle.nomos_grammar.specs.declared.part.Terminal.TheVariants as terminal
 use Rattle.nomos_grammar.specs.declared.part.Nonterminal.{Nonterminal}
 use Rattle.nomos_grammar.specs.declared.part.Nonterminal.TheVariants as n
+use Rattle.nomos_grammar.specs.declared.part.Mark.{Mark}
+use Rattle.nomos_grammar.specs.declared.part.Mark.TheVariants as mark
 use Rattle.nomos_grammar.specs.declared.part.Part.{Part}
 use Rattle.nomos_grammar.specs.declared.part.Part.TheVariants as part
-use Rattle.nomos_grammar.specs.Derivation.{terminal_of, Event, token, mark, IsAmong}
+use Rattle.nomos_grammar.specs.Derivation.{terminal_of, Event, token, mark as marked, IsAmong}
+use Rattle.nomos_grammar.specs.Grammar.{alternatives}
 use Rattle.nomos_grammar.specs.mirror.Table.{vanishes, fitting, starts_within}
 
 -- with which tokens a production may begin
@@ -36,7 +39,7 @@ may_vanish (part.Nonterminal m ∷ rest) = vanishes m && may_vanish rest
 abbrev pub next_in : List Event → Option Terminal
 next_in [] = None
 next_in (token x ∷ events) = terminal_of x.lexeme
-next_in (mark m ∷ events) = next_in events
+next_in (marked m ∷ events) = next_in events
 
 abbrev pub word_is : Word → Terminal
 word_is w = terminal.Reserved w
@@ -151,3 +154,38 @@ IsStack [] = Unit {0}
 IsStack (part.Terminal t ∷ rest) = IsStack rest
 IsStack (part.Mark m ∷ rest) = IsStack rest
 IsStack (part.Nonterminal m ∷ rest) = AreWithin (starts rest) (follow m) × IsStack rest
+
+-- whether the mark adds to a count
+abbrev pub rises : Mark → ℕ
+rises mark.ClosePart = 0
+rises mark.CloseTerm = 0
+rises _ = 1
+
+-- how many productions are replaced and marks counted that add, at most, before the parts come to a token
+abbrev mutual
+  pub distance_within : ℕ → List Part → ℕ
+  distance_within zero parts = 0
+  distance_within (suc k) [] = 0
+  distance_within (suc k) (part.Terminal t ∷ rest) = 0
+  distance_within (suc k) (part.Mark m ∷ rest) = rises m + distance_within k rest
+  distance_within (suc k) (part.Nonterminal m ∷ rest) =
+      max (suc (most_within k (alternatives m))) (if vanishes m then distance_within k rest else 0)
+
+  pub most_within : ℕ → List (List Part) → ℕ
+  most_within k [] = 0
+  most_within zero (side ∷ sides) = 0
+  most_within (suc k) (side ∷ sides) = max (distance_within k side) (most_within k sides)
+
+unfoldable pub rank : Nonterminal → ℕ
+rank m = distance_within 60 (part.Nonterminal m ∷ [])
+
+abbrev pub distance : List Part → ℕ
+distance [] = 0
+distance (part.Terminal t ∷ rest) = 0
+distance (part.Mark m ∷ rest) = rises m + distance rest
+distance (part.Nonterminal m ∷ rest) = max (rank m) (if vanishes m then distance rest else 0)
+
+-- no part of the stack is far from a token
+abbrev pub IsLow : List Part → Type 0
+IsLow [] = Unit {0}
+IsLow (p ∷ rest) = (distance (p ∷ rest) ≤ 40) × IsLow rest
