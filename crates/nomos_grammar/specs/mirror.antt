@@ -1,3 +1,4 @@
 pub mod Table
 pub mod Stacks
 pub mod Reading
+pub mod Tallies

@@ -3,4 +3,6 @@
 
 pub mod offence;
 pub mod part;
+mod reader;
 mod table;
+mod tally;

@@ -1,10 +1,12 @@
 //! The grammar as the reader knows it: the alternatives of each production, and the tokens that choose among them.
-ghost use Rattle.std.specs.Prelude.{◌≡◌, map};
-ghost use Rattle.nomos_grammar.specs.mirror.Table.{row_of, rows};
+ghost use Rattle.std.specs.Prelude.{◌≡◌, ◌++◌, map, OnOk};
+ghost use Rattle.nomos_grammar.specs.mirror.Table.{row_of, rows, takes, chosen};
 
 use crate::part::{Mark, Nonterminal, Part, Terminal};
+use nomos_ir::stack::Stack;
 use nomos_ir::word::Word;
 use nomos_syntax::symbol::Symbol;
+use std::alloc::AllocError;
 
 /// An alternative of a production, with the tokens that choose it, if none of the alternatives before it is chosen.
 #[derive(Clone, Copy)]
@@ -439,4 +441,38 @@ pub(crate) fn alternatives(n: Nonterminal) -> &'static [Alternative]
         Nonterminal::Primary => PRIMARY,
         Nonterminal::CallArguments => CALL_ARGUMENTS,
     }
+}
+
+/// Whether the alternative that begins so is chosen where this comes next.
+fn is_chosen(begins: &[Terminal], next: Option<Terminal>) -> bool
+    ensures { result ≡ takes begins.now next }
+{
+    match next {
+        Some(terminal) => begins.is_empty() || begins.contains(&terminal),
+        None => begins.is_empty(),
+    }
+}
+
+/// The alternative of the production that is taken where this comes next.
+pub(crate) fn side_of(n: Nonterminal, next: Option<Terminal>) -> &'static [Part]
+    ensures { result.now ≡ chosen n next }
+{
+    for alternative in alternatives(n) {
+        if is_chosen(alternative.begins, next) {
+            return alternative.side;
+        }
+    }
+    &[]
+}
+
+/// Puts parts on the top, the first one topmost.
+pub(crate) fn push_parts(stack: &mut Stack<Part>, parts: &[Part]) -> Result<(), AllocError>
+    ensures { OnOk result (stack.new ≡ parts.now ++ stack.old) }
+{
+    let mut left = parts.len();
+    while left > 0 {
+        left -= 1;
+        stack.push(parts[left])?;
+    }
+    Ok(())
 }

@@ -1,7 +1,7 @@
 -- What the proofs say of the reader: which parts and counts it has come to.
-use Rattle.std.specs.Prelude.{◌≡◌, ℕ, ◌+◌, ◌≤◌, List, [], ◌∷◌, ◌++◌, Option, Some, None}
+use Rattle.std.specs.Prelude.{◌≡◌, ℕ, ◌+◌, ◌≤◌, List, [], ◌∷◌, ◌++◌, Option, Some, None, nat_lt, if◌then◌else◌}
 use Rattle.nomos_syntax.specs.Lexeme.{Placed}
-use Rattle.nomos_syntax.specs.Limits.{IsShort}
+use Rattle.nomos_syntax.specs.Limits.{nesting_limit, node_limit, IsShort}
 use Rattle.nomos_grammar.specs.declared.offence.GrammarError.{GrammarError}
 use Rattle.nomos_grammar.specs.declared.offence.Which.{Which}
 use Rattle.nomos_grammar.specs.declared.offence.Which.TheVariants as which
@@ -11,7 +11,7 @@ use Rattle.nomos_grammar.specs.declared.part.Part.{Part}
 use Rattle.nomos_grammar.specs.declared.part.Part.TheVariants as part
 use Rattle.nomos_grammar.specs.Counting.{Counts, depth, counts, counts_from}
 use Rattle.nomos_grammar.specs.Derivation.{Event, mark, tokens_in, Derives, file}
-use Rattle.nomos_grammar.specs.Offence.{IsSmall, Rule, rules, Keeps, KeepsAll, error_of}
+use Rattle.nomos_grammar.specs.Offence.{star_limit, IsSmall, Rule, rules, Keeps, KeepsAll, error_of}
 use Rattle.nomos_grammar.specs.mirror.Stacks.{next_in, distance, IsStack, IsLow}
 
 abbrev pub events_of : List Mark → List Event
@@ -81,3 +81,11 @@ pub record Breaks (front : List Placed) (x : Placed) (rule : Rule) : Type 0 wher
 -- the error is that of the rule which the token breaks first
 abbrev pub BreaksBy : List Placed → Placed → GrammarError → Type 0
 BreaksBy front x error = (rule : Rule) × Breaks front x rule × (error_of front x rule ≡ error)
+
+-- the first limit that a token passes by what counts at it
+abbrev pub passed : Counts → Option Which
+passed c =
+  if nat_lt nesting_limit (depth c) then Some which.Nesting
+  else (if nat_lt node_limit c.nodes then Some which.Nodes
+  else (if nat_lt star_limit c.stars then Some which.Stars
+  else None))
