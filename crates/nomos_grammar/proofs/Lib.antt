@@ -6,3 +6,5 @@ pub mod DistanceLemmas
 pub mod ProductiveLaws
 pub mod ReadingLemmas
 pub mod StandLemmas
+pub mod NumeralLemmas
+pub mod OutcomeLemmas

@@ -2,3 +2,5 @@ pub mod Table
 pub mod Stacks
 pub mod Reading
 pub mod Tallies
+pub mod Sights
+pub mod Readers

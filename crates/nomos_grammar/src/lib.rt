@@ -4,5 +4,6 @@
 pub mod offence;
 pub mod part;
 mod reader;
+mod sight;
 mod table;
 mod tally;

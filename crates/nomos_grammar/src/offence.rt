@@ -1,5 +1,8 @@
 //! The first token of a text that the grammar or a limit does not allow.
+ghost use Rattle.std.specs.Prelude.{◌≡◌};
+ghost use Rattle.nomos_grammar.specs.declared.offence.GrammarError.TheVariants.{NoMemory as memory};
 
+use std::alloc::AllocError;
 use thiserror::Error;
 
 /// What a limit is of.
@@ -28,4 +31,12 @@ pub enum GrammarError {
     Limit(Which, u32),
     #[error("out of memory")]
     NoMemory,
+}
+
+impl From<AllocError> for GrammarError {
+    ghost from_gives = { λ _ e. e ≡ memory };
+
+    fn from(_e: AllocError) -> GrammarError {
+        GrammarError::NoMemory
+    }
 }

@@ -1,13 +1,26 @@
 //! The reading of tokens one by one, by the table of the grammar.
-ghost use Rattle.std.specs.Prelude.{◌≡◌, OnOk, IfOk};
-ghost use Rattle.nomos_grammar.specs.mirror.Reading.{IsReady, Settles};
+ghost use Rattle.std.specs.Prelude.{◌≡◌, OnOk, IfOk, IsTrue};
+ghost use Rattle.nomos_grammar.specs.mirror.Reading.{IsReady, Settles, is_asked};
 ghost use Rattle.nomos_grammar.specs.mirror.Tallies.{counts_of, IsKept};
+ghost use Rattle.nomos_grammar.specs.mirror.Readers.{IsSteady, ReadsOn, HasBegun};
 
-use crate::part::{Part, Terminal};
+use crate::offence::{GrammarError, Which};
+use crate::part::{Nonterminal, Part, Terminal};
+use crate::sight::Sight;
 use crate::table::{push_parts, side_of};
-use crate::tally::Tally;
+use crate::tally::{NODE_LIMIT, Tally};
 use nomos_ir::stack::Stack;
-use std::alloc::AllocError;
+use std::alloc::{AllocError, Global};
+
+/// How far a text is read.
+#[derive(Drop)]
+pub(crate) struct Reader {
+    /// What has to follow, the first part on the top.
+    pub(crate) parts: Stack<Part>,
+    pub(crate) tally: Tally,
+    /// The offset of the token just read.
+    pub(crate) last: u32,
+}
 
 /// Takes the parts up to the terminal that the next token has to fit: marks are counted, and productions replaced by
 /// the alternative that this token chooses. None where nothing has to follow.
@@ -29,4 +42,56 @@ pub(crate) fn next_terminal(
         }
     }
     Ok(None)
+}
+
+/// Whether what comes next is what is asked for.
+fn fits(asked: Option<Terminal>, next: Option<Terminal>) -> bool
+    ensures { result ≡ is_asked asked next }
+{
+    match (asked, next) {
+        (Some(asked), Some(next)) => {
+            asked == next || (asked == Terminal::Number && next == Terminal::One)
+        }
+        _ => false,
+    }
+}
+
+impl Reader {
+    /// The reader of a file.
+    pub(crate) fn new(alloc: Global) -> Result<Self, AllocError>
+        ensures { IfOk result HasBegun }
+    {
+        let mut parts = Stack::new(alloc);
+        parts.push(Part::Nonterminal(Nonterminal::File))?;
+        Ok(Reader {
+            parts,
+            tally: Tally::new(alloc),
+            last: 0,
+        })
+    }
+
+    /// Reads one token.
+    pub(crate) fn read(&mut self, sight: Sight) -> Result<(), GrammarError>
+        requires { IsSteady self.old }
+        ensures reads { ReadsOn self.old sight self.new result }
+        ensures steady { OnOk result (IsSteady self.new) }
+    {
+        let asked = next_terminal(&mut self.parts, &mut self.tally, sight.terminal)?;
+        let may_stand = fits(asked, sight.terminal);
+        if may_stand && self.tally.before > NODE_LIMIT {
+            return Err(GrammarError::Limit(Which::Nodes, self.last));
+        }
+        if let Some(which) = sight.passed {
+            return Err(GrammarError::Limit(which, sight.at));
+        }
+        if !may_stand {
+            return Err(GrammarError::Syntax(sight.at));
+        }
+        if let Some(which) = self.tally.passed() {
+            return Err(GrammarError::Limit(which, sight.at));
+        }
+        self.tally.add_token();
+        self.last = sight.at;
+        Ok(())
+    }
 }

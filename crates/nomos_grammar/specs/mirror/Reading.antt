@@ -1,17 +1,20 @@
 -- What the proofs say of the reader: which parts and counts it has come to.
-use Rattle.std.specs.Prelude.{◌≡◌, ℕ, ◌+◌, ◌≤◌, List, [], ◌∷◌, ◌++◌, Option, Some, None, nat_lt, if◌then◌else◌}
-use Rattle.nomos_syntax.specs.Lexeme.{Placed}
+use Rattle.std.specs.Prelude.{◌≡◌, ℕ, ◌+◌, ◌≤◌, List, [], ◌∷◌, ◌++◌, Option, Some, None, Bool, false, ◌&&◌, ◌||◌, nat_lt, if◌then◌else◌}
+use Rattle.std.specs.Str.Parse.{IsNumeral}
+use Rattle.nomos_syntax.specs.Lexeme.{Lexeme, name, reserved, number, symbol, bad, Placed}
 use Rattle.nomos_syntax.specs.Limits.{nesting_limit, node_limit, IsShort}
 use Rattle.nomos_grammar.specs.declared.offence.GrammarError.{GrammarError}
 use Rattle.nomos_grammar.specs.declared.offence.Which.{Which}
 use Rattle.nomos_grammar.specs.declared.offence.Which.TheVariants as which
 use Rattle.nomos_grammar.specs.declared.part.Terminal.{Terminal}
+use Rattle.nomos_grammar.specs.declared.part.Terminal.TheVariants as terminal
 use Rattle.nomos_grammar.specs.declared.part.Mark.{Mark}
 use Rattle.nomos_grammar.specs.declared.part.Part.{Part}
 use Rattle.nomos_grammar.specs.declared.part.Part.TheVariants as part
 use Rattle.nomos_grammar.specs.Counting.{Counts, depth, counts, counts_from}
 use Rattle.nomos_grammar.specs.Derivation.{Event, mark, tokens_in, Derives, file}
 use Rattle.nomos_grammar.specs.Offence.{star_limit, IsSmall, Rule, rules, Keeps, KeepsAll, error_of}
+use Rattle.nomos_grammar.specs.mirror.Table.{same}
 use Rattle.nomos_grammar.specs.mirror.Stacks.{next_in, distance, IsStack, IsLow}
 
 abbrev pub events_of : List Mark → List Event
@@ -61,14 +64,22 @@ pub record HasRead (front : List Placed) (parts : List Part) (c : Counts) : Type
       (all : List Event) (others : List Placed) → Derives file all → tokens_in all ≡ front ++ others →
       (more : List Event) × (all ≡ events ++ more) × Derives parts more
 
--- which limit the token passes by itself
-abbrev pub PassesItself : Placed → Option Which → Type 0
-PassesItself x None = IsShort x.lexeme × IsSmall x.lexeme
-PassesItself x (Some which.Name) = ¬ IsShort x.lexeme
-PassesItself x (Some which.Number) = IsShort x.lexeme × (¬ IsSmall x.lexeme)
-PassesItself x (Some which.Nesting) = ⊥
-PassesItself x (Some which.Nodes) = ⊥
-PassesItself x (Some which.Stars) = ⊥
+-- a number consists of digits
+abbrev pub IsWritten : Lexeme → Type 0
+IsWritten (name text) = Unit {0}
+IsWritten (reserved w) = Unit {0}
+IsWritten (number digits) = IsNumeral 10 digits
+IsWritten (symbol s) = Unit {0}
+IsWritten (bad byte) = Unit {0}
+
+-- which limit a token that says this passes by itself
+abbrev pub PassesItself : Lexeme → Option Which → Type 0
+PassesItself lexeme None = IsShort lexeme × IsSmall lexeme
+PassesItself lexeme (Some which.Name) = ¬ IsShort lexeme
+PassesItself lexeme (Some which.Number) = IsShort lexeme × (¬ IsSmall lexeme)
+PassesItself lexeme (Some which.Nesting) = ⊥
+PassesItself lexeme (Some which.Nodes) = ⊥
+PassesItself lexeme (Some which.Stars) = ⊥
 
 -- the rule is the first that the token breaks
 pub record Breaks (front : List Placed) (x : Placed) (rule : Rule) : Type 0 where
@@ -89,3 +100,9 @@ passed c =
   else (if nat_lt node_limit c.nodes then Some which.Nodes
   else (if nat_lt star_limit c.stars then Some which.Stars
   else None))
+
+-- whether the token that comes next is what is asked for; `1` is a number too
+abbrev pub is_asked : Option Terminal → Option Terminal → Bool
+is_asked None next = false
+is_asked (Some t) None = false
+is_asked (Some t) (Some x) = same t x || (same t terminal.Number && same x terminal.One)
