@@ -8,3 +8,5 @@ pub mod ReadingLemmas
 pub mod StandLemmas
 pub mod NumeralLemmas
 pub mod OutcomeLemmas
+pub mod EndLemmas
+pub mod FirstLemmas

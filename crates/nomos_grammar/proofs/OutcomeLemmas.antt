@@ -1,9 +1,8 @@
 -- What comes of a token that is read: each rule in turn is kept or broken.
-use Rattle.std.proofs.Common.{◌≡◌, ℕ, ◌+◌, ◌≤◌, ◌<◌, nat_lt, Bool, true, false, ◌&&◌, ◌||◌, List, [], ◌∷◌, ◌++◌, Option, Some, None, inl, inr, refl, sym, ap, subst, ◌∙◌, arith, if◌then◌else◌}
+use Rattle.std.proofs.Common.{◌≡◌, ℕ, ◌≤◌, ◌<◌, nat_lt, Bool, true, false, ◌&&◌, ◌||◌, List, [], ◌∷◌, ◌++◌, Option, Some, None, inl, inr, refl, sym, ap, subst, ◌∙◌, arith, if◌then◌else◌}
 use Rattle.std.proofs.lemmas.Bool.{ltb-true, ltb-false}
 use Rattle.nomos_syntax.specs.Lexeme.{Lexeme, Placed}
 use Rattle.nomos_syntax.specs.Limits.{nesting_limit, node_limit}
-use Rattle.nomos_grammar.specs.declared.offence.GrammarError.{GrammarError}
 use Rattle.nomos_grammar.specs.declared.offence.GrammarError.TheVariants.{Syntax, Limit}
 use Rattle.nomos_grammar.specs.declared.offence.Which.{Which}
 use Rattle.nomos_grammar.specs.declared.offence.Which.TheVariants as which
@@ -13,10 +12,10 @@ use Rattle.nomos_grammar.specs.declared.part.Part.{Part}
 use Rattle.nomos_grammar.specs.declared.part.Part.TheVariants as part
 use Rattle.nomos_grammar.specs.Counting.{Counts, nothing_counted, depth, after_token}
 use Rattle.nomos_grammar.specs.Derivation.{terminal_of, Fits, file}
-use Rattle.nomos_grammar.specs.Offence.{star_limit, MayBecome, MayStand, Rule, nodes_before, limit, syntax, rules, Keeps, KeepsAll, last_offset}
+use Rattle.nomos_grammar.specs.Offence.{star_limit, MayBecome, MayStand, nodes_before, limit, syntax, rules, Keeps, KeepsAll, last_offset}
 use Rattle.nomos_grammar.specs.mirror.Table.{same}
 use Rattle.nomos_grammar.specs.mirror.Stacks.{distance}
-use Rattle.nomos_grammar.specs.mirror.Reading.{HasRoom, IsReady, Leads, with_terminal, Settles, HasRead, PassesItself, Breaks, BreaksBy, passed, is_asked}
+use Rattle.nomos_grammar.specs.mirror.Reading.{HasRoom, IsReady, with_terminal, Settles, HasRead, PassesItself, BreaksBy, passed, is_asked}
 use Rattle.nomos_grammar.proofs.TerminalLemmas.{and_first, and_second, same_decides}
 use Rattle.nomos_grammar.proofs.DistanceLemmas.{low_distance, low_file}
 use Rattle.nomos_grammar.proofs.GrammarLaws.{stack_file}

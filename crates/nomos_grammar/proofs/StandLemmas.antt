@@ -13,7 +13,7 @@ use Rattle.nomos_grammar.specs.mirror.Reading.{events_of, Leads, HasRead}
 use Rattle.nomos_grammar.proofs.ReadingLemmas.{counts_joined, tokens_joined, no_tokens_in_marks}
 use Rattle.nomos_grammar.proofs.ProductiveLaws.{productive}
 
-same_behind : {A : Type 0} (front a b : List A) → front ++ a ≡ front ++ b → a ≡ b
+pub same_behind : {A : Type 0} (front a b : List A) → front ++ a ≡ front ++ b → a ≡ b
 same_behind [] a b e = e
 same_behind (x ∷ front) a b e = let f : front ++ a ≡ front ++ b = cc in same_behind front a b f
 

@@ -2,7 +2,7 @@
 ghost use Rattle.std.specs.Prelude.{◌≡◌, OnOk, IfOk, IsTrue};
 ghost use Rattle.nomos_grammar.specs.mirror.Reading.{IsReady, Settles, is_asked};
 ghost use Rattle.nomos_grammar.specs.mirror.Tallies.{counts_of, IsKept};
-ghost use Rattle.nomos_grammar.specs.mirror.Readers.{IsSteady, ReadsOn, HasBegun};
+ghost use Rattle.nomos_grammar.specs.mirror.Readers.{IsSteady, ReadsOn, EndsWell, HasBegun};
 
 use crate::offence::{GrammarError, Which};
 use crate::part::{Nonterminal, Part, Terminal};
@@ -93,5 +93,14 @@ impl Reader {
         self.tally.add_token();
         self.last = sight.at;
         Ok(())
+    }
+
+    /// Whether the text may end here.
+    pub(crate) fn may_end(&mut self) -> Result<bool, AllocError>
+        requires { IsSteady self.old }
+        ensures { IfOk result (λ ends. EndsWell self.old ends) }
+    {
+        let asked = next_terminal(&mut self.parts, &mut self.tally, None)?;
+        Ok(asked.is_none())
     }
 }

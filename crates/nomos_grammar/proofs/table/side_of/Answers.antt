@@ -1,6 +1,6 @@
 -- At first every alternative may be chosen.
-use Rattle.std.proofs.Common.{◌≡◌, ap, drop, refl}
-use Rattle.nomos_grammar.specs.mirror.Table.{row_of, pick, chosen}
+use Rattle.std.proofs.Common.{ap}
+use Rattle.nomos_grammar.specs.mirror.Table.{pick, chosen}
 use Rattle.nomos_grammar.proofs.table.side_of.Goals as goal
 
 pub loop-alternative-init : goal.loop-alternative-init

@@ -1,15 +1,12 @@
 -- The token breaks a rule, or keeps to all.
-use Rattle.std.proofs.Common.{◌≡◌, ◌≤◌, ◌<◌, true, false, Bool, List, [], ◌∷◌, ◌++◌, Option, Some, None, refl, sym, ap, subst, ◌∙◌, arith}
-use Rattle.nomos_syntax.specs.Lexeme.{Placed}
+use Rattle.std.proofs.Common.{◌≡◌, ◌≤◌, true, false, [], ◌∷◌, ◌++◌, Option, sym, subst, ◌∙◌}
 use Rattle.nomos_syntax.specs.Limits.{node_limit}
 use Rattle.nomos_grammar.specs.declared.offence.Which.{Which}
 use Rattle.nomos_grammar.specs.Counting.{Counts}
 use Rattle.nomos_grammar.specs.Offence.{nodes_before, Keeps}
 use Rattle.nomos_grammar.specs.mirror.Reading.{IsReady, HasRead, PassesItself}
 use Rattle.nomos_grammar.specs.mirror.Tallies.{counts_of}
-use Rattle.nomos_grammar.specs.mirror.Sights.{IsSeen}
-use Rattle.nomos_grammar.specs.mirror.Readers.{IsBehind}
-use Rattle.nomos_grammar.proofs.OutcomeLemmas.{Stands, standing, failing, breaks_before, keeps_before, fails_before, breaks_itself, breaks_syntax, breaks_count, keeps_all, last_read, ready_again}
+use Rattle.nomos_grammar.proofs.OutcomeLemmas.{standing, failing, breaks_before, keeps_before, fails_before, breaks_itself, breaks_syntax, breaks_count, keeps_all, last_read, ready_again}
 use Rattle.nomos_grammar.proofs.StandLemmas.{read_on}
 use Rattle.nomos_grammar.proofs.reader.Reader.read.Goals as goal
 use Rattle.nomos_grammar.proofs.reader.Reader.read.Goals.{else-may_stand-via-then-may_stand+else-self-gt-NODE_LIMIT, else-may_stand-via-else-may_stand}
