@@ -11,7 +11,7 @@ use Rattle.nomos_grammar.specs.mirror.Table.{vanishes}
 use Rattle.nomos_grammar.specs.mirror.Stacks.{may_vanish, rises, rank, distance, IsLow}
 use Rattle.nomos_grammar.proofs.TerminalLemmas.{and_first, and_second}
 use Rattle.nomos_grammar.proofs.TableLemmas.{each_side-at, vanishes_empty, all_vanish_empty, comes_nearer, all_come_nearer, never_rises, stays_low, all_stay_low}
-use Rattle.nomos_grammar.proofs.GrammarLaws.{vanishing_side}
+use Rattle.nomos_grammar.proofs.ChoiceLemmas.{vanishing_side}
 
 solid_case : (v w : Bool) (x y : ℕ) → (w ≡ false → x ≡ y) → (v && w) ≡ false → (if v then x else 0) ≡ (if v then y else 0)
 solid_case true w x y same h = same h

@@ -24,8 +24,8 @@ a_token (read f d) e = cc
 ends_file : (front : List Placed) (parts : List Part) (c d : Counts) (next : Option Terminal) (marks : List Mark) (has : HasRead front parts c) → Leads next parts c marks [] d → IsFile front
 ends_file front parts c d next marks has way =
     let tokens : tokens_in (has.events ++ (events_of marks ++ [])) ≡ front =
-      tokens_joined has.events (events_of marks ++ []) ∙ (ap (λ es. tokens_in has.events ++ tokens_in es) (append-nil (events_of marks)) ∙
-      (ap (λ ts. tokens_in has.events ++ ts) (no_tokens_in_marks marks) ∙ (append-nil (tokens_in has.events) ∙ has.tokens))) in
+    tokens_joined has.events (events_of marks ++ []) ∙ (ap (λ es. tokens_in has.events ++ tokens_in es) (append-nil (events_of marks)) ∙
+    (ap (λ ts. tokens_in has.events ++ ts) (no_tokens_in_marks marks) ∙ (append-nil (tokens_in has.events) ∙ has.tokens))) in
     (has.events ++ (events_of marks ++ []), has.sound (events_of marks ++ []) (way.sound [] nothing), tokens)
 
 -- a token has to follow
@@ -42,11 +42,11 @@ goes_on front parts rest c d marks t has way f =
 pub ends_well : (front : List Placed) (parts rest : List Part) (c d : Counts) (asked : Option Terminal) (ends : Bool) → HasRead front parts c → Settles None parts c asked rest d → (IsTrue ends ↔ (asked ≡ None)) → IsTrue ends ↔ IsFile front
 ends_well front parts rest c d None ends has s e = (
   λ h. ends_file front parts c d None s.marks has (subst (λ (p : List Part). Leads None parts c s.marks p d) (s.ended refl) s.leads),
-  λ f. e.1 refl
+  λ f. e.1 refl,
 )
 ends_well front parts rest c d (Some t) ends has s e = (
   λ h. let no : Some t ≡ None = e.0 h in cc,
-  λ f. absurd (goes_on front parts rest c d s.marks t has s.leads f)
+  λ f. absurd (goes_on front parts rest c d s.marks t has s.leads f),
 )
 
 pub none_test : {A : Type 0} (o : Option A) (b : Bool) → is_some o ≡ not b → IsTrue b ↔ (o ≡ None)

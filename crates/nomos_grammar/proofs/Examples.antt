@@ -38,3 +38,19 @@ definition_derived =
 -- one production is open at the `1`, and it is the second node
 pub definition_depth : depth (counts (marked mark.OpenPart ∷ marked mark.Node ∷ [])) ≡ 1
 definition_depth = refl
+
+-- let v = list {1} int, from its `list` on: the word is a node, but it is counted only behind it
+pub empty_list : counts (word_said word.List ∷ marked mark.NodeBefore ∷ []) ≡ record { parts = 0; terms = []; nodes = 1; before = 1; stars = 0 }
+empty_list = refl
+
+-- 1 + 2 < 3 in a term: at the `3` the term, its `notx` and two operators are open
+pub operators : depth (counts
+    (marked mark.OpenTerm ∷ marked mark.OpenPart ∷ marked mark.Node ∷ says (number (codes "1")) ∷ marked mark.Node ∷
+    sign_said sym.Plus ∷ marked mark.Operator ∷ marked mark.Node ∷ says (number (codes "2")) ∷ marked mark.Node ∷
+    sign_said sym.Less ∷ marked mark.Operator ∷ marked mark.Node ∷ [])) ≡ 4
+operators = refl
+
+-- a term that is closed leaves nothing open
+pub closed_term : depth (counts
+    (marked mark.OpenTerm ∷ marked mark.Operator ∷ marked mark.CloseTerm ∷ [])) ≡ 0
+closed_term = refl

@@ -29,16 +29,22 @@ map_split f xs i d h =
 
 -- the error of the token that breaks a rule first is answered
 pub offends_by : (tokens front after : List Placed) (x : Placed) (error : GrammarError) → front ++ x ∷ after ≡ tokens → AllKeep [] front → BreaksBy front x error → Offends tokens error
-offends_by tokens front after x error stands kept b = (front, x, b.0, record {
-  after = after;
-  stands = stands;
-  kept = kept;
-  kept_rules = b.1.kept_rules;
-  other_rules = b.1.other_rules;
-  in_order = b.1.in_order;
-  keeps = b.1.keeps;
-  broken = b.1.broken;
-}, b.2)
+offends_by tokens front after x error stands kept b = (
+  front,
+  x,
+  b.0,
+  record {
+    after = after;
+    stands = stands;
+    kept = kept;
+    kept_rules = b.1.kept_rules;
+    other_rules = b.1.other_rules;
+    in_order = b.1.in_order;
+    keeps = b.1.keeps;
+    broken = b.1.broken;
+  },
+  b.2,
+)
 
 pub answers_error : (T U : Type 0) (tokens front after : List Placed) (x : Placed) (size : ℕ) (r : Reader) (error : GrammarError) → front ++ x ∷ after ≡ tokens → AllKeep [] front → ReadsAs {T = U} front x r (Err error) → Answers {T = T} tokens size (Err error)
 answers_error T U tokens front after x size r NoMemory stands kept b = tt

@@ -1,6 +1,7 @@
 pub mod Examples
 pub mod TerminalLemmas
 pub mod TableLemmas
+pub mod ChoiceLemmas
 pub mod GrammarLaws
 pub mod DistanceLemmas
 pub mod ProductiveLaws
@@ -10,3 +11,4 @@ pub mod NumeralLemmas
 pub mod OutcomeLemmas
 pub mod EndLemmas
 pub mod FirstLemmas
+pub mod OffenceLaws

@@ -79,17 +79,18 @@ module _ (front : List Placed) (x : Placed) (parts : List Part) (c : Counts) (ne
 pub breaks_before : (front : List Placed) (x : Placed) (rest : List Part) (d : Counts) (at : ℕ) → Stands front x rest d → node_limit < d.before → at ≡ last_offset front → BreaksBy front x (Limit which.Nodes at)
 breaks_before front x rest d at s over last =
     let broken : ¬ Keeps front x nodes_before = λ k.
-      let within = stands_so (λ (n : Counts). n.before ≤ node_limit) front x s.terminal rest d s.comes (k (may_become front x s.terminal rest d s.comes s.fits)) in
-      omega (arith, within, over) in
-    (nodes_before,
-     record {
-       kept_rules = [];
-       other_rules = limit which.Name ∷ limit which.Number ∷ syntax ∷ limit which.Nesting ∷ limit which.Nodes ∷ limit which.Stars ∷ [];
-       in_order = refl;
-       keeps = tt;
-       broken = broken;
-     },
-     ap (λ n. Limit which.Nodes n) (sym last))
+    let within = stands_so (λ (n : Counts). n.before ≤ node_limit) front x s.terminal rest d s.comes (k (may_become front x s.terminal rest d s.comes s.fits)) in
+    omega (arith, within, over) in (
+      nodes_before,
+      record {
+        kept_rules = [];
+        other_rules = limit which.Name ∷ limit which.Number ∷ syntax ∷ limit which.Nesting ∷ limit which.Nodes ∷ limit which.Stars ∷ [];
+        in_order = refl;
+        keeps = tt;
+        broken = broken;
+      },
+      ap (λ n. Limit which.Nodes n) (sym last),
+    )
 
 -- it is not
 pub keeps_before : (front : List Placed) (x : Placed) (rest : List Part) (d : Counts) → Stands front x rest d → d.before ≤ node_limit → Keeps front x nodes_before
@@ -100,42 +101,45 @@ fails_before front x fails = λ m. absurd (fails m)
 
 -- the token passes a limit by itself
 pub breaks_itself : (front : List Placed) (x : Placed) (w : Which) (at : ℕ) → Keeps front x nodes_before → PassesItself x.lexeme (Some w) → at ≡ x.at → BreaksBy front x (Limit w at)
-breaks_itself front x which.Name at k p e =
-    (limit which.Name,
-     record {
-       kept_rules = nodes_before ∷ [];
-       other_rules = limit which.Number ∷ syntax ∷ limit which.Nesting ∷ limit which.Nodes ∷ limit which.Stars ∷ [];
-       in_order = refl;
-       keeps = (k, tt);
-       broken = p;
-     },
-     ap (λ n. Limit which.Name n) (sym e))
-breaks_itself front x which.Number at k p e =
-    (limit which.Number,
-     record {
-       kept_rules = nodes_before ∷ limit which.Name ∷ [];
-       other_rules = syntax ∷ limit which.Nesting ∷ limit which.Nodes ∷ limit which.Stars ∷ [];
-       in_order = refl;
-       keeps = (k, (p.0, tt));
-       broken = p.1;
-     },
-     ap (λ n. Limit which.Number n) (sym e))
+breaks_itself front x which.Name at k p e = (
+  limit which.Name,
+  record {
+    kept_rules = nodes_before ∷ [];
+    other_rules = limit which.Number ∷ syntax ∷ limit which.Nesting ∷ limit which.Nodes ∷ limit which.Stars ∷ [];
+    in_order = refl;
+    keeps = (k, tt);
+    broken = p;
+  },
+  ap (λ n. Limit which.Name n) (sym e),
+)
+breaks_itself front x which.Number at k p e = (
+  limit which.Number,
+  record {
+    kept_rules = nodes_before ∷ limit which.Name ∷ [];
+    other_rules = syntax ∷ limit which.Nesting ∷ limit which.Nodes ∷ limit which.Stars ∷ [];
+    in_order = refl;
+    keeps = (k, (p.0, tt));
+    broken = p.1;
+  },
+  ap (λ n. Limit which.Number n) (sym e),
+)
 breaks_itself front x which.Nesting at k p e = absurd p
 breaks_itself front x which.Nodes at k p e = absurd p
 breaks_itself front x which.Stars at k p e = absurd p
 
 -- the tokens can become no text
 pub breaks_syntax : (front : List Placed) (x : Placed) (at : ℕ) → ¬ MayBecome (front ++ x ∷ []) → PassesItself x.lexeme None → at ≡ x.at → BreaksBy front x (Syntax at)
-breaks_syntax front x at fails p e =
-    (syntax,
-     record {
-       kept_rules = nodes_before ∷ limit which.Name ∷ limit which.Number ∷ [];
-       other_rules = limit which.Nesting ∷ limit which.Nodes ∷ limit which.Stars ∷ [];
-       in_order = refl;
-       keeps = (fails_before front x fails, (p.0, (p.1, tt)));
-       broken = fails;
-     },
-     ap (λ n. Syntax n) (sym e))
+breaks_syntax front x at fails p e = (
+  syntax,
+  record {
+    kept_rules = nodes_before ∷ limit which.Name ∷ limit which.Number ∷ [];
+    other_rules = limit which.Nesting ∷ limit which.Nodes ∷ limit which.Stars ∷ [];
+    in_order = refl;
+    keeps = (fails_before front x fails, (p.0, (p.1, tt)));
+    broken = fails;
+  },
+  ap (λ n. Syntax n) (sym e),
+)
 
 -- what counts at the token is too much
 module _ (front : List Placed) (x : Placed) (rest : List Part) (d : Counts) (at : ℕ) (s : Stands front x rest d) (k : d.before ≤ node_limit) (p : PassesItself x.lexeme None) (e : at ≡ x.at) where
@@ -149,40 +153,43 @@ module _ (front : List Placed) (x : Placed) (rest : List Part) (d : Counts) (at 
   at_first = (keeps_before front x rest d s k, (p.0, (p.1, (may_become front x s.terminal rest d s.comes s.fits, tt))))
 
   breaks_nesting : nesting_limit < depth d → BreaksBy front x (Limit which.Nesting at)
-  breaks_nesting over =
-      (limit which.Nesting,
-       record {
-         kept_rules = nodes_before ∷ limit which.Name ∷ limit which.Number ∷ syntax ∷ [];
-         other_rules = limit which.Nodes ∷ limit which.Stars ∷ [];
-         in_order = refl;
-         keeps = at_first;
-         broken = λ m. let within = stands_at (λ (n : Counts). depth n ≤ nesting_limit) m in omega (arith, within, over);
-       },
-       ap (λ n. Limit which.Nesting n) (sym e))
+  breaks_nesting over = (
+    limit which.Nesting,
+    record {
+      kept_rules = nodes_before ∷ limit which.Name ∷ limit which.Number ∷ syntax ∷ [];
+      other_rules = limit which.Nodes ∷ limit which.Stars ∷ [];
+      in_order = refl;
+      keeps = at_first;
+      broken = λ m. let within = stands_at (λ (n : Counts). depth n ≤ nesting_limit) m in omega (arith, within, over);
+    },
+    ap (λ n. Limit which.Nesting n) (sym e),
+  )
 
   breaks_nodes : depth d ≤ nesting_limit → node_limit < d.nodes → BreaksBy front x (Limit which.Nodes at)
-  breaks_nodes low over =
-      (limit which.Nodes,
-       record {
-         kept_rules = nodes_before ∷ limit which.Name ∷ limit which.Number ∷ syntax ∷ limit which.Nesting ∷ [];
-         other_rules = limit which.Stars ∷ [];
-         in_order = refl;
-         keeps = (at_first.0, (at_first.1.0, (at_first.1.1.0, (at_first.1.1.1.0, (stands_with (λ (n : Counts). depth n ≤ nesting_limit) low, tt)))));
-         broken = λ m. let within = stands_at (λ (n : Counts). n.nodes ≤ node_limit) m in omega (arith, within, over);
-       },
-       ap (λ n. Limit which.Nodes n) (sym e))
+  breaks_nodes low over = (
+    limit which.Nodes,
+    record {
+      kept_rules = nodes_before ∷ limit which.Name ∷ limit which.Number ∷ syntax ∷ limit which.Nesting ∷ [];
+      other_rules = limit which.Stars ∷ [];
+      in_order = refl;
+      keeps = (at_first.0, (at_first.1.0, (at_first.1.1.0, (at_first.1.1.1.0, (stands_with (λ (n : Counts). depth n ≤ nesting_limit) low, tt)))));
+      broken = λ m. let within = stands_at (λ (n : Counts). n.nodes ≤ node_limit) m in omega (arith, within, over);
+    },
+    ap (λ n. Limit which.Nodes n) (sym e),
+  )
 
   breaks_stars : depth d ≤ nesting_limit → d.nodes ≤ node_limit → star_limit < d.stars → BreaksBy front x (Limit which.Stars at)
-  breaks_stars low few over =
-      (limit which.Stars,
-       record {
-         kept_rules = nodes_before ∷ limit which.Name ∷ limit which.Number ∷ syntax ∷ limit which.Nesting ∷ limit which.Nodes ∷ [];
-         other_rules = [];
-         in_order = refl;
-         keeps = (at_first.0, (at_first.1.0, (at_first.1.1.0, (at_first.1.1.1.0, (stands_with (λ (n : Counts). depth n ≤ nesting_limit) low, (stands_with (λ (n : Counts). n.nodes ≤ node_limit) few, tt))))));
-         broken = λ m. let within = stands_at (λ (n : Counts). n.stars ≤ star_limit) m in omega (arith, within, over);
-       },
-       ap (λ n. Limit which.Stars n) (sym e))
+  breaks_stars low few over = (
+    limit which.Stars,
+    record {
+      kept_rules = nodes_before ∷ limit which.Name ∷ limit which.Number ∷ syntax ∷ limit which.Nesting ∷ limit which.Nodes ∷ [];
+      other_rules = [];
+      in_order = refl;
+      keeps = (at_first.0, (at_first.1.0, (at_first.1.1.0, (at_first.1.1.1.0, (stands_with (λ (n : Counts). depth n ≤ nesting_limit) low, (stands_with (λ (n : Counts). n.nodes ≤ node_limit) few, tt))))));
+      broken = λ m. let within = stands_at (λ (n : Counts). n.stars ≤ star_limit) m in omega (arith, within, over);
+    },
+    ap (λ n. Limit which.Stars n) (sym e),
+  )
 
   count_cases : (a b c : Bool) → nat_lt nesting_limit (depth d) ≡ a → nat_lt node_limit d.nodes ≡ b → nat_lt star_limit d.stars ≡ c → (w : Which) → (if a then Some which.Nesting else (if b then Some which.Nodes else (if c then Some which.Stars else None))) ≡ Some w → BreaksBy front x (Limit w at)
   count_cases true b c f g h w i =
@@ -203,9 +210,22 @@ module _ (front : List Placed) (x : Placed) (rest : List Part) (d : Counts) (at 
   keeps_cases true b c f g h i = cc
   keeps_cases false true c f g h i = cc
   keeps_cases false false true f g h i = cc
-  keeps_cases false false false f g h i =
-      (at_first.0, (at_first.1.0, (at_first.1.1.0, (at_first.1.1.1.0, (stands_with (λ (n : Counts). depth n ≤ nesting_limit) (ltb-false nesting_limit (depth d) f),
-      (stands_with (λ (n : Counts). n.nodes ≤ node_limit) (ltb-false node_limit d.nodes g), (stands_with (λ (n : Counts). n.stars ≤ star_limit) (ltb-false star_limit d.stars h), tt)))))))
+  keeps_cases false false false f g h i = (
+    at_first.0,
+    (
+      at_first.1.0,
+      (
+        at_first.1.1.0,
+        (
+          at_first.1.1.1.0,
+          (
+            stands_with (λ (n : Counts). depth n ≤ nesting_limit) (ltb-false nesting_limit (depth d) f),
+            (stands_with (λ (n : Counts). n.nodes ≤ node_limit) (ltb-false node_limit d.nodes g), (stands_with (λ (n : Counts). n.stars ≤ star_limit) (ltb-false star_limit d.stars h), tt)),
+          ),
+        ),
+      ),
+    ),
+  )
 
   -- the token keeps to all rules
   pub keeps_all : passed d ≡ None → KeepsAll front x rules

@@ -7,3 +7,5 @@ mod reader;
 mod sight;
 mod table;
 mod tally;
+#[cfg(test)]
+mod tests;

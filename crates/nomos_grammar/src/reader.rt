@@ -1,7 +1,7 @@
 //! The reading of tokens one by one, by the table of the grammar.
 ghost use Rattle.std.specs.Prelude.{◌≡◌, OnOk, IfOk, IsTrue};
-ghost use Rattle.nomos_grammar.specs.mirror.Reading.{IsReady, Settles, is_asked};
-ghost use Rattle.nomos_grammar.specs.mirror.Tallies.{counts_of, IsKept};
+ghost use Rattle.nomos_grammar.specs.mirror.Reading.{IsReady, is_asked};
+ghost use Rattle.nomos_grammar.specs.mirror.Tallies.{counts_of, IsKept, SettlesTo};
 ghost use Rattle.nomos_grammar.specs.mirror.Readers.{IsSteady, ReadsOn, EndsWell, HasBegun};
 
 use crate::offence::{GrammarError, Which};
@@ -31,7 +31,7 @@ pub(crate) fn next_terminal(
 ) -> Result<Option<Terminal>, AllocError>
     requires kept { IsKept tally.old }
     requires ready { IsReady parts.old (counts_of tally.old) }
-    ensures settles { IfOk result (λ asked. Settles next parts.old (counts_of tally.old) asked parts.new (counts_of tally.new)) }
+    ensures settles { IfOk result (SettlesTo next parts.old tally.old parts.new tally.new) }
     ensures kept { OnOk result (IsKept tally.new) }
 {
     while let Some(part) = parts.pop() {

@@ -215,7 +215,8 @@ const ARGUMENTS: &[Alternative] = &[
 ];
 
 const VALUE_ARGUMENTS: &[Alternative] = &[
-    alternative!([word If, word Match, word Not, any Name, word Nil, sign OpenParen, word True, word False, word Me, any Number, any One]
+    alternative!([word If, word Match, word Not, any Name, word Nil, sign OpenParen, word True, word False,
+        word Me, any Number, any One]
         the Term, the MoreValueArguments
     ),
     alternative!([]),

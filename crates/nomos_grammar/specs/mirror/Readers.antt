@@ -34,7 +34,8 @@ ReadsAs front x after (Err (Limit which at)) = BreaksBy front x (Limit which at)
 
 -- behind any tokens, a token of which this is seen is read, or breaks a rule
 abbrev pub ReadsOn : {T : Type 0} → Reader → Sight → Reader → Result T GrammarError → Type 0
-ReadsOn before sight after result = (front : List Placed) (x : Placed) → IsSeen x sight → IsBehind front before → ReadsAs front x after result
+ReadsOn before sight after result =
+    (front : List Placed) (x : Placed) → IsSeen x sight → IsBehind front before → ReadsAs front x after result
 
 -- behind any tokens, these are a file just where the text may end
 abbrev pub EndsWell : Reader → Bool → Type 0

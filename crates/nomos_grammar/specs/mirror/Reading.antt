@@ -1,5 +1,23 @@
 -- What the proofs say of the reader: which parts and counts it has come to.
-use Rattle.std.specs.Prelude.{◌≡◌, ℕ, ◌+◌, ◌≤◌, List, [], ◌∷◌, ◌++◌, Option, Some, None, Bool, false, ◌&&◌, ◌||◌, nat_lt, if◌then◌else◌}
+use Rattle.std.specs.Prelude.{
+  ◌≡◌,
+  ℕ,
+  ◌+◌,
+  ◌≤◌,
+  List,
+  [],
+  ◌∷◌,
+  ◌++◌,
+  Option,
+  Some,
+  None,
+  Bool,
+  false,
+  ◌&&◌,
+  ◌||◌,
+  nat_lt,
+  if◌then◌else◌,
+}
 use Rattle.std.specs.Str.Parse.{IsNumeral}
 use Rattle.nomos_syntax.specs.Lexeme.{Lexeme, name, reserved, number, symbol, bad, Placed}
 use Rattle.nomos_syntax.specs.Limits.{nesting_limit, node_limit, IsShort}
@@ -35,7 +53,8 @@ pub record IsReady (parts : List Part) (c : Counts) : Type 0 where
   pub room : HasRoom c (distance parts)
 
 -- where this comes next, the marks lead from these parts and counts to those
-pub record Leads (next : Option Terminal) (parts : List Part) (c : Counts) (marks : List Mark) (rest : List Part) (d : Counts) : Type 0 where
+pub record Leads (next : Option Terminal) (parts : List Part) (c : Counts) (marks : List Mark)
+    (rest : List Part) (d : Counts) : Type 0 where
   pub counted : d ≡ counts_from c (events_of marks)
   pub sound : (events : List Event) → Derives rest events → Derives parts (events_of marks ++ events)
   pub complete :
@@ -49,7 +68,8 @@ with_terminal None rest = rest
 with_terminal (Some t) rest = part.Terminal t ∷ rest
 
 -- the terminal that is asked for next is taken from the parts; nothing is left where there is none
-pub record Settles (next : Option Terminal) (parts : List Part) (c : Counts) (asked : Option Terminal) (rest : List Part) (d : Counts) : Type 0 where
+pub record Settles (next : Option Terminal) (parts : List Part) (c : Counts) (asked : Option Terminal)
+    (rest : List Part) (d : Counts) : Type 0 where
   pub marks : List Mark
   pub leads : Leads next parts c marks (with_terminal asked rest) d
   pub ended : asked ≡ None → rest ≡ []
@@ -96,10 +116,10 @@ BreaksBy front x error = (rule : Rule) × Breaks front x rule × (error_of front
 -- the first limit that a token passes by what counts at it
 abbrev pub passed : Counts → Option Which
 passed c =
-  if nat_lt nesting_limit (depth c) then Some which.Nesting
-  else (if nat_lt node_limit c.nodes then Some which.Nodes
-  else (if nat_lt star_limit c.stars then Some which.Stars
-  else None))
+    if nat_lt nesting_limit (depth c) then Some which.Nesting
+    else (if nat_lt node_limit c.nodes then Some which.Nodes
+    else (if nat_lt star_limit c.stars then Some which.Stars
+    else None))
 
 -- whether the token that comes next is what is asked for; `1` is a number too
 abbrev pub is_asked : Option Terminal → Option Terminal → Bool

@@ -1,6 +1,24 @@
 -- What the proofs say of the parts that have to follow: with which tokens they may begin, and what may stand behind a
 -- production.
-use Rattle.std.specs.Prelude.{ℕ, zero, suc, ◌+◌, ◌≤◌, max, Bool, true, false, ◌&&◌, List, [], ◌∷◌, ◌++◌, Option, None, if◌then◌else◌}
+use Rattle.std.specs.Prelude.{
+  ℕ,
+  zero,
+  suc,
+  ◌+◌,
+  ◌≤◌,
+  max,
+  Bool,
+  true,
+  false,
+  ◌&&◌,
+  List,
+  [],
+  ◌∷◌,
+  ◌++◌,
+  Option,
+  None,
+  if◌then◌else◌,
+}
 use Rattle.nomos_ir.specs.declared.word.Word.{Word}
 use Rattle.nomos_ir.specs.declared.word.Word.TheVariants as word
 use Rattle.nomos_syntax.specs.declared.symbol.Symbol.{Symbol}

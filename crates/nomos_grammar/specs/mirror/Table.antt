@@ -1,5 +1,21 @@
 -- A mirror of the code: the grammar as the reader knows it, with the tokens that choose among alternatives.
-use Rattle.std.specs.Prelude.{ℕ, zero, suc, Bool, true, false, ◌||◌, List, [], ◌∷◌, ◌++◌, Option, Some, None, if◌then◌else◌}
+use Rattle.std.specs.Prelude.{
+  ℕ,
+  zero,
+  suc,
+  Bool,
+  true,
+  false,
+  ◌||◌,
+  List,
+  [],
+  ◌∷◌,
+  ◌++◌,
+  Option,
+  Some,
+  None,
+  if◌then◌else◌,
+}
 use Rattle.nomos_grammar.specs.contracts.part.TerminalPartialEq.TheImpl as compared
 use Rattle.nomos_grammar.specs.declared.part.Terminal.{Terminal}
 use Rattle.nomos_grammar.specs.declared.part.Terminal.TheVariants as terminal

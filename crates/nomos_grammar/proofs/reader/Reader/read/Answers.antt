@@ -16,7 +16,7 @@ returns-then-self-gt-NODE_LIMIT-clause-reads c = λ front x seen behind.
     let rest = c.next_terminal.new.parts in
     let d = counts_of c.next_terminal.new.tally in
     let s = standing front x c.args.self.now.parts (counts_of c.args.self.now.tally) c.args.sight.terminal c.in_ok-asked.asked rest d
-      behind.read c.in_ok-asked.ensures.settles seen.terminal (sym c.fits-may_stand.ensures ∙ c.if-may_stand.true) in
+    behind.read c.in_ok-asked.ensures.settles seen.terminal (sym c.fits-may_stand.ensures ∙ c.if-may_stand.true) in
     breaks_before front x rest d c.args.self.now.last s c.if-self-gt-NODE_LIMIT.true behind.last
 
 pub returns-in-Some-clause-reads : goal.returns-in-Some-clause-reads
@@ -40,7 +40,7 @@ returns-then-not-may_stand-clause-reads c = λ front x seen behind.
     let rest = c.next_terminal.new.parts in
     let d = counts_of c.next_terminal.new.tally in
     let fails = failing front x c.args.self.now.parts (counts_of c.args.self.now.tally) c.args.sight.terminal c.in_ok-asked.asked rest d
-      behind.read c.in_ok-asked.ensures.settles seen.terminal (sym c.fits-may_stand.ensures ∙ c.if-not-may_stand.true) in
+    behind.read c.in_ok-asked.ensures.settles seen.terminal (sym c.fits-may_stand.ensures ∙ c.if-not-may_stand.true) in
     breaks_syntax front x c.args.sight.at fails (subst (λ (o : Option Which). PassesItself x.lexeme o) c.in_default.is seen.passed) seen.at
 
 pub returns-in-Some-passed-clause-reads : goal.returns-in-Some-passed-clause-reads
@@ -48,7 +48,7 @@ returns-in-Some-passed-clause-reads c = λ front x seen behind.
     let rest = c.next_terminal.new.parts in
     let d = counts_of c.next_terminal.new.tally in
     let s = standing front x c.args.self.now.parts (counts_of c.args.self.now.tally) c.args.sight.terminal c.in_ok-asked.asked rest d
-      behind.read c.in_ok-asked.ensures.settles seen.terminal (sym c.fits-may_stand.ensures ∙ c.if-not-may_stand.false) in
+    behind.read c.in_ok-asked.ensures.settles seen.terminal (sym c.fits-may_stand.ensures ∙ c.if-not-may_stand.false) in
     let within : d.before ≤ node_limit = elim c.else-may_stand.branch [
       | else-may_stand-via-then-may_stand+else-self-gt-NODE_LIMIT w ↦ w.if-self-gt-NODE_LIMIT.false
       | else-may_stand-via-else-may_stand w ↦ let clash : true ≡ false = sym c.if-not-may_stand.false ∙ w.if-may_stand.false in cc
@@ -61,18 +61,17 @@ returns-clause-reads c = λ front x seen behind.
     let rest = c.next_terminal.new.parts in
     let d = counts_of c.next_terminal.new.tally in
     let s = standing front x c.args.self.now.parts (counts_of c.args.self.now.tally) c.args.sight.terminal c.in_ok-asked.asked rest d
-      behind.read c.in_ok-asked.ensures.settles seen.terminal (sym c.fits-may_stand.ensures ∙ c.if-not-may_stand.false) in
+    behind.read c.in_ok-asked.ensures.settles seen.terminal (sym c.fits-may_stand.ensures ∙ c.if-not-may_stand.false) in
     let within : d.before ≤ node_limit = elim c.else-may_stand.branch [
       | else-may_stand-via-then-may_stand+else-self-gt-NODE_LIMIT w ↦ w.if-self-gt-NODE_LIMIT.false
       | else-may_stand-via-else-may_stand w ↦ let clash : true ≡ false = sym c.if-not-may_stand.false ∙ w.if-may_stand.false in cc
-    ] in
-    (
+    ] in (
       keeps_all front x rest d c.args.sight.at s within (subst (λ (o : Option Which). PassesItself x.lexeme o) c.in_default.is seen.passed) seen.at
-      (sym c.passed.ensures ∙ c.in_default-passed.is),
+          (sym c.passed.ensures ∙ c.in_default-passed.is),
       record {
         read = subst (λ (k : Counts). HasRead (front ++ x ∷ []) rest k) (sym c.add_token.ensures.counted) (read_on front x s.terminal rest d s.comes s.fits);
         last = seen.at ∙ sym (last_read front x);
-      }
+      },
     )
 
 pub returns-clause-steady : goal.returns-clause-steady
@@ -82,6 +81,6 @@ returns-clause-steady c =
     record {
       kept = c.add_token.ensures.kept;
       ready = subst (λ (k : Counts). IsReady rest k) (sym c.add_token.ensures.counted)
-        (ready_again c.in_ok-asked.asked c.args.sight.terminal rest d c.in_ok-asked.ensures.settles.leads.ready
-        (sym c.fits-may_stand.ensures ∙ c.if-not-may_stand.false) (sym c.passed.ensures ∙ c.in_default-passed.is));
+          (ready_again c.in_ok-asked.asked c.args.sight.terminal rest d c.in_ok-asked.ensures.settles.leads.ready
+          (sym c.fits-may_stand.ensures ∙ c.if-not-may_stand.false) (sym c.passed.ensures ∙ c.in_default-passed.is));
     }
