@@ -1,0 +1,5 @@
+pub mod Account
+pub mod Accounting
+pub mod Reaching
+pub mod Asking
+pub mod Checking

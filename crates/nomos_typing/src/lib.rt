@@ -1,0 +1,2 @@
+//! Whether a process is typed, and which amounts its potential and its types ask for.
+#![tactic(auto)]
