@@ -1,2 +1,4 @@
 //! Whether a process is typed, and which amounts its potential and its types ask for.
 #![tactic(auto)]
+
+mod sides;
