@@ -3,3 +3,4 @@ pub mod Accounting
 pub mod Reaching
 pub mod Asking
 pub mod Checking
+pub mod mirror

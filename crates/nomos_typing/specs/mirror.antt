@@ -1,0 +1,4 @@
+-- What private calls answer; no promise stands on these.
+pub mod Limits
+pub mod Places
+pub mod Standing
