@@ -1,2 +1,5 @@
--- Mirrors of the code, on which no promise stands.
+-- What private calls answer; no promise stands on these.
 pub mod Finding
+pub mod Limits
+pub mod Places
+pub mod Standing
