@@ -30,10 +30,7 @@ use Rattle.nomos_types.specs.Premises.{HasType, by_side, SendsLabel, AwaitsLabel
 use Rattle.nomos_types.specs.Row.{StandsAtCode, gives_up, without_list, takes_parts, Row}
 use Rattle.nomos_types.specs.Row as row
 use Rattle.nomos_types.proofs.RowLaws.{row-inverted}
-
--- no row applies where amounts are ignored
-abbrev pub NoRow : ProgramLists → Judgement → Type 0
-NoRow lists j = (after : List Judgement) → ¬ (Row lists no_amounts j after)
+use Rattle.nomos_typing.specs.mirror.Standing.{NoRow}
 
 -- ---- amounts are worth nothing
 

@@ -1,5 +1,6 @@
 -- What private calls answer; no promise stands on these.
 pub mod Finding
 pub mod Limits
+pub mod Moves
 pub mod Places
 pub mod Standing

@@ -3,6 +3,11 @@
 
 mod asked;
 mod bound;
+mod chances;
+mod channels;
+mod choices;
 mod potential;
 mod sides;
+mod operands;
 mod standing;
+mod variables;
