@@ -94,8 +94,8 @@ module _ (n : ℕ) (a : Account) where
       let read = get_or-map-range_with_len (coef_of a) 1 n (s - 1) s d (omega arith) (omega arith) in
       ap₂ Made
       (map-set (coef_of a) (coef_of (gains r a)) 1 n (s - 1) z (omega arith)
-          (λ k at. let one = share-own r k (omega arith) in let same : s ≡ k = omega arith in omega (arith, ints, coef-gained r a k, one, read, is, ap (coef_of a) same))
-          (λ k above other. let none = share-other r k (omega arith) in omega (arith, ints, coef-gained r a k, none)))
+      (λ k at. let one = share-own r k (omega arith) in let same : s ≡ k = omega arith in omega (arith, ints, coef-gained r a k, one, read, is, ap (coef_of a) same))
+      (λ k above other. let none = share-other r k (omega arith) in omega (arith, ints, coef-gained r a k, none)))
       (omega (arith, ints, units-gained r a))
 
   pub spent-star : (s : ℕ) (z d : ℤ) → 1 ≤ s → s ≤ n → z ≡ get_or (form_of n a).coefs (s - 1) d -ℤ pos 1 → Made (set (form_of n a).coefs (s - 1) z) (form_of n a).plus ≡ form_of n (spends (Star s) a)
@@ -104,8 +104,8 @@ module _ (n : ℕ) (a : Account) where
       let read = get_or-map-range_with_len (coef_of a) 1 n (s - 1) s d (omega arith) (omega arith) in
       ap₂ Made
       (map-set (coef_of a) (coef_of (spends r a)) 1 n (s - 1) z (omega arith)
-          (λ k at. let one = share-own r k (omega arith) in let same : s ≡ k = omega arith in omega (arith, ints, coef-spent r a k, one, read, is, ap (coef_of a) same))
-          (λ k above other. let none = share-other r k (omega arith) in omega (arith, ints, coef-spent r a k, none)))
+      (λ k at. let one = share-own r k (omega arith) in let same : s ≡ k = omega arith in omega (arith, ints, coef-spent r a k, one, read, is, ap (coef_of a) same))
+      (λ k above other. let none = share-other r k (omega arith) in omega (arith, ints, coef-spent r a k, none)))
       (omega (arith, ints, units-spent r a))
 
 -- ---- small numbers in 64 bits

@@ -1,2 +1,4 @@
-pub mod PlaceLemmas
 pub mod FormLemmas
+pub mod LimitLemmas
+pub mod PlaceLemmas
+pub mod StandingLemmas

@@ -139,8 +139,8 @@ module _ {X : Type 0} (v : VarId) where
   -- so the pairs are sorted as a search needs it
   sorted : (b : List (VarId × X)) → IsAscending b → IsSortedBy (λ (e f : VarId × X). is_lt (nat_cmp e.0.0 f.0.0)) b
   sorted b ascending = λ k d from within.
-    let rising : (get_or b k d).0.0 < (get_or b (k + 1) d).0.0 = rises b k (k + 1) d d ascending (omega arith) within in
-    ap is_lt (sym (nat_cmp_is (get_or b (k + 1) d).0.0 (get_or b k d).0.0 Greater rising))
+      let rising : (get_or b k d).0.0 < (get_or b (k + 1) d).0.0 = rises b k (k + 1) d d ascending (omega arith) within in
+      ap is_lt (sym (nat_cmp_is (get_or b (k + 1) d).0.0 (get_or b k d).0.0 Greater rising))
 
   -- what a search by the variable finds is its place
   pub place-found : (b : List (VarId × X)) (r : Result ℕ ℕ) → IsAscending b → IsSearchInRange r (length b) → IsBinarySearchResult (λ e. nat_cmp e.0.0 v.0) b r → IsPlaceOf v b r
@@ -149,9 +149,9 @@ module _ {X : Type 0} (v : VarId) where
       record {
         within = within;
         front = λ k d before.
-        let below : k < i = omega (arith, length-take-le i b (omega arith)) in
-        let lower : (get_or b k d).0.0 < (get_or b i d).0.0 = rises b k i d d ascending below within in
-        rw (get_or-take i b k d below) (omega (arith, here d));
+            let below : k < i = omega (arith, length-take-le i b (omega arith)) in
+            let lower : (get_or b k d).0.0 < (get_or b i d).0.0 = rises b k i d d ascending below within in
+            rw (get_or-take i b k d below) (omega (arith, here d));
         here = here;
       }
   place-found b (Err i) ascending within found =
@@ -160,11 +160,11 @@ module _ {X : Type 0} (v : VarId) where
       record {
         within = within;
         front = λ k d before.
-        let below : k < i = omega (arith, length-take-le i b within) in
-        rw (get_or-take i b k d below) (ranked (get_or b k d).0.0 v.0 Less (sym (parts.0 k d (omega arith) below)));
+            let below : k < i = omega (arith, length-take-le i b within) in
+            rw (get_or-take i b k d below) (ranked (get_or b k d).0.0 v.0 Less (sym (parts.0 k d (omega arith) below)));
         back = λ k d behind.
-        let below : i + k < length b = omega (arith, length-drop i b) in
-        rw (get_or-drop i b k d) (ranked (get_or b (i + k) d).0.0 v.0 Greater (sym (parts.1 (i + k) d (omega arith) below)));
+            let below : i + k < length b = omega (arith, length-drop i b) in
+            rw (get_or-drop i b k d) (ranked (get_or b (i + k) d).0.0 v.0 Greater (sym (parts.1 (i + k) d (omega arith) below)));
       }
 
 -- pairs stay in order whether or not the variable was bound in them
