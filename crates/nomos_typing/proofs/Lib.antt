@@ -1,6 +1,10 @@
-pub mod StepRows
 pub mod AskingLaws
 pub mod ChannelLaws
-pub mod SideLaws
+pub mod FormLemmas
 pub mod LeadLemmas
+pub mod LimitLemmas
+pub mod PlaceLemmas
 pub mod PremiseLemmas
+pub mod SideLaws
+pub mod StandingLemmas
+pub mod StepRows
