@@ -1,8 +1,10 @@
 pub mod AskingLaws
 pub mod ChannelLaws
 pub mod FormLemmas
+pub mod FoundLemmas
 pub mod LeadLemmas
 pub mod LimitLemmas
+pub mod ListSteps
 pub mod PlaceLemmas
 pub mod PremiseLemmas
 pub mod SideLaws
