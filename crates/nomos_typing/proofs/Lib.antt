@@ -5,6 +5,7 @@ pub mod FoundLemmas
 pub mod LeadLemmas
 pub mod LimitLemmas
 pub mod ListSteps
+pub mod PairLemmas
 pub mod PlaceLemmas
 pub mod PremiseLemmas
 pub mod SideLaws

@@ -38,3 +38,13 @@ pub(crate) fn mode_of(program: &Program, modes: &[Mode], t: TypeId) -> Mode
     let _lists = program.lists();
     modes[t.0 as usize]
 }
+
+/// Whether a type has the mode, by the table of modes.
+pub(crate) fn has_mode(program: &Program, modes: &[Mode], t: TypeId, mode: Mode) -> bool
+    requires modes { AreModesOf program.now modes.now }
+    requires in_range { t.0 < length program.now.types }
+    ensures { IsTrue result ↔ HasMode program.now t mode }
+{
+    let _lists = program.lists();
+    is_mode(mode_of(program, modes, t), mode)
+}
