@@ -1,4 +1,5 @@
 pub mod AskingLaws
+pub mod CaseSteps
 pub mod ChannelLaws
 pub mod FormLemmas
 pub mod FoundLemmas

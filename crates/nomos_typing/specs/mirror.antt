@@ -1,4 +1,5 @@
 -- What private calls answer; no promise stands on these.
+pub mod Cases
 pub mod Finding
 pub mod Limits
 pub mod Moves

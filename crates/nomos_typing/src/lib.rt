@@ -3,6 +3,7 @@
 
 mod asked;
 mod bound;
+mod cases;
 mod chances;
 mod channels;
 mod choices;
