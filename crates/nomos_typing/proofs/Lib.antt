@@ -7,6 +7,7 @@ pub mod LeadLemmas
 pub mod LimitLemmas
 pub mod ListSteps
 pub mod PairLemmas
+pub mod PassingSteps
 pub mod PlaceLemmas
 pub mod PremiseLemmas
 pub mod SideLaws

@@ -3,5 +3,6 @@ pub mod Cases
 pub mod Finding
 pub mod Limits
 pub mod Moves
+pub mod Passing
 pub mod Places
 pub mod Standing
