@@ -10,6 +10,7 @@ pub mod PairLemmas
 pub mod PassingSteps
 pub mod PlaceLemmas
 pub mod PremiseLemmas
+pub mod SendSteps
 pub mod SideLaws
 pub mod StandingLemmas
 pub mod StepRows

@@ -1,5 +1,5 @@
 -- A mirror of the code: which pairs are asked for where types are compared, and where channels, values and lists pass.
-use Rattle.std.specs.Prelude.{◌≡◌, ◌⊎◌, List, Bool, true, false, Contains, Some, zip}
+use Rattle.std.specs.Prelude.{◌≡◌, ◌⊎◌, List, [], ◌∷◌, Bool, true, false, Contains, Some, zip}
 use Rattle.nomos_ir.specs.declared.amount.Amount.{Amount}
 use Rattle.nomos_ir.specs.declared.code_node.Args.{Args}
 use Rattle.nomos_ir.specs.declared.code_node.ValueArg.{ValueArg}
@@ -8,8 +8,9 @@ use Rattle.nomos_ir.specs.declared.declaration.Par.{Par}
 use Rattle.nomos_ir.specs.declared.declaration.ProcDecl.{ProcDecl}
 use Rattle.nomos_ir.specs.declared.ids.TypeId.{TypeId}
 use Rattle.nomos_ir.specs.declared.ids.VarId.{VarId}
+use Rattle.nomos_ir.specs.declared.kind.Kind.{Kind}
 use Rattle.nomos_ir.specs.declared.lists.ProgramLists.{ProgramLists}
-use Rattle.nomos_ir.specs.Bindings.{bound_to}
+use Rattle.nomos_ir.specs.Bindings.{bound_to, unbind}
 use Rattle.nomos_equality.specs.Paths.{StandAtEqualPaths}
 use Rattle.nomos_types.specs.Alike.{AlikeTypes}
 use Rattle.nomos_types.specs.Arguments.{PassesChannel, PassesChannels, PassesValue, PassesValues, ArgumentsFit}
@@ -18,6 +19,7 @@ use Rattle.nomos_types.specs.Judgement.{Judgement}
 use Rattle.nomos_typing.specs.Accounting.{without_passed}
 use Rattle.nomos_typing.specs.Asking.{IsOfType}
 use Rattle.nomos_typing.specs.declared.asked.Asked.{Asked}
+use Rattle.nomos_typing.specs.declared.standing.Carried.{Carried}
 use Rattle.nomos_typing.specs.declared.standing.Standing.{Standing}
 use Rattle.nomos_typing.specs.mirror.Moves.{KeepsAmounts}
 use Rattle.nomos_typing.specs.mirror.Standing.{shape_of, amount_of, each_bound, Joins}
@@ -80,6 +82,33 @@ pub record PairOfValues (carry : List (VarId × Amount)) (args : List ValueArg) 
 -- what the lists of a standing carry
 abbrev pub carried_by_all : Standing → List (VarId × Amount)
 carried_by_all s = each_bound amount_of s.lists
+
+-- a list of the kind passed and is used up, and the pair of what it carries and what is said joined
+pub record ListPassed (s next : Standing) (w : VarId) (kind : Kind) (said : Amount) (old new : Asked) : Type 0 where
+  pub carried : Carried
+  pub there : bound_to w.0 s.lists ≡ Some carried
+  pub its_kind : carried.kind ≡ kind
+  pub left : List (VarId × Carried)
+  pub unbound : left ≡ unbind w.0 s.lists
+  pub next_is : next ≡ record s { lists = left }
+  pub joins : Joins old new (λ pair. pair ≡ (carried.amount, said))
+
+abbrev pub TellsList : Standing → Standing → VarId → Kind → Amount → Asked → Asked → Bool → Type 0
+TellsList s next w kind said old new true = ListPassed s next w kind said old new
+TellsList s next w kind said old new false =
+    (carried : Carried) → bound_to w.0 s.lists ≡ Some carried → ¬ (carried.kind ≡ kind)
+
+-- a value or a list passed, and its pair joined
+pub record ValuePassed (lists : ProgramLists) (s next : Standing) (a : ValueArg) (par : Par) (old new : Asked)
+    : Type 0 where
+  pub passes : PassesValue lists no_amounts (shape_of s) a par (shape_of next)
+  pub lists_left : carried_by_all next ≡ without_passed (a ∷ []) (carried_by_all s)
+  pub potential : next.potential ≡ s.potential
+  pub joins : Joins old new (PairOfValues (carried_by_all s) (a ∷ []) (par ∷ []))
+
+abbrev pub TellsValue : ProgramLists → Standing → Standing → ValueArg → Par → Asked → Asked → Bool → Type 0
+TellsValue lists s next a par old new true = ValuePassed lists s next a par old new
+TellsValue lists s next a par old new false = (k : Judgement) → ¬ (PassesValue lists no_amounts (shape_of s) a par k)
 
 -- values and lists passed, and their pairs joined
 pub record ValuesPassed (lists : ProgramLists) (s next : Standing) (args : List ValueArg) (pars : List Par)
