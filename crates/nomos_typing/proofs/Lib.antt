@@ -3,6 +3,7 @@ pub mod CaseSteps
 pub mod ChannelLaws
 pub mod FormLemmas
 pub mod FoundLemmas
+pub mod GivingSteps
 pub mod LeadLemmas
 pub mod LimitLemmas
 pub mod ListSteps

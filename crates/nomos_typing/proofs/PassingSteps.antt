@@ -50,7 +50,7 @@ of-type_unique lists j v a b h (inr first) (inl second) =
     absurd (omega (arith, h.apart v.0, some-counts (bound_to v.0 j.linear) a first, some-counts (bound_to v.0 j.shared) b second))
 
 -- what is bound after a binding was given up was bound before
-unbound-back : {X : Type 0} (w v : ℕ) (b : List (VarId × X)) (y : X) (t : Bool) → (w == v) ≡ t
+pub unbound-back : {X : Type 0} (w v : ℕ) (b : List (VarId × X)) (y : X) (t : Bool) → (w == v) ≡ t
     → bound_to v (unbind v b) ≡ None → bound_to w (unbind v b) ≡ Some y → bound_to w b ≡ Some y
 unbound-back w v b y true here nothing found =
     let same : w ≡ v = eqb-true w v here in

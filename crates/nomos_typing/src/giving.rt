@@ -1,9 +1,9 @@
-//! How values, lists and whole arguments pass to another process.
+//! How values and lists pass to another process.
 ghost use Rattle.std.specs.Prelude.{◌≡◌, ◌<◌, All, IfOk, length};
 ghost use Rattle.std.specs.List.{flat_map};
+ghost use Rattle.nomos_ir.specs.Bindings.{IsAscending};
 ghost use Rattle.nomos_ir.specs.CodeParts.{arg_terms};
 ghost use Rattle.nomos_ir.specs.Ids.{AllBelow};
-ghost use Rattle.nomos_types.specs.Judgement.{IsJudgement};
 ghost use Rattle.nomos_typing.specs.mirror.Passing.{TellsList, TellsValue, TellsValues};
 ghost use Rattle.nomos_typing.specs.mirror.Standing.{shape_of, IsReady};
 
@@ -63,7 +63,7 @@ fn pass_value(
 }
 
 /// Whether the values and lists pass for the parameters, one after another.
-fn pass_values(
+pub(crate) fn pass_values(
     program: &Program,
     asked: &mut Asked,
     now: &mut Standing,
@@ -72,7 +72,7 @@ fn pass_values(
 ) -> Result<bool, AllocError>
     requires terms { AllBelow (length program.now.terms) (flat_map arg_terms args.now) }
     requires ready { IsReady program.now asked.old }
-    requires judgement { IsJudgement program.now (shape_of now.old) }
+    requires ascends { IsAscending (shape_of now.old).lists }
     ensures ready { IsReady program.now asked.new }
     ensures tells { IfOk result (TellsValues program.now now.old now.new args.now pars.now asked.old asked.new) }
 {

@@ -1,6 +1,7 @@
 //! Whether a process is typed, and which amounts its potential and its types ask for.
 #![tactic(auto)]
 
+mod arguments;
 mod asked;
 mod bound;
 mod cases;
@@ -20,6 +21,7 @@ mod giving;
 mod lists;
 mod modes;
 mod operands;
+mod spawning;
 mod standing;
 mod values;
 mod variables;
