@@ -1,3 +1,4 @@
+pub mod ArgumentSteps
 pub mod AskingLaws
 pub mod CaseSteps
 pub mod ChannelLaws
