@@ -34,6 +34,7 @@ use Rattle.nomos_typing.specs.mirror.Passing.{ValuesPassed, ChannelsPassed, Tell
 use Rattle.nomos_typing.specs.mirror.Standing.{amount_of, each_bound, shape_of, HasPair, Joins, NoRow}
 use Rattle.nomos_typing.proofs.AskingLaws.{ArgumentsAsk, CarriesPair, PassesPair, asks-at, asked-at}
 use Rattle.nomos_typing.proofs.GivingSteps.{values-same}
+use Rattle.nomos_typing.proofs.PassingSteps.{channels-one}
 use Rattle.nomos_typing.proofs.StepRows.{spawn-stuck, call-stuck, worth-nothing}
 
 -- what is left after values is a judgement
@@ -107,6 +108,14 @@ arguments-pass lists s mid next d args old between new values false stays =
     values-same lists args.values d.values (shape_of s) fit.between (shape_of mid) fit.values values.passes
     in
     stays left (subst (λ (k : Judgement). PassesChannels lists no_amounts k args.channels d.channels left) same fit.channels)
+
+-- what is left after arguments is one judgement
+pub arguments-one : (lists : ProgramLists) (j : Judgement) (d : ProcDecl) (args : Args) (l r : Judgement)
+    → ArgumentsFit lists no_amounts j d args l → ArgumentsFit lists no_amounts j d args r → l ≡ r
+arguments-one lists j d args l r left right =
+    let same = values-same lists args.values d.values j left.between right.between left.values right.values in
+    let Passes : Judgement → Type 0 = λ k. PassesChannels lists no_amounts k args.channels d.channels l in
+    channels-one lists args.channels d.channels right.between l r (subst Passes same left.channels) right.channels
 
 -- ---- spawning and calling
 

@@ -243,6 +243,15 @@ channels-count lists j _ _ left none = refl
 channels-count lists j _ _ left (channel {k = k} {vs = vs} {pars = pars} first rest) =
     ap suc (channels-count lists k vs pars left rest)
 
+-- what is left after channels is one judgement
+pub channels-one : (lists : ProgramLists) (vs : List VarId) (pars : List (VarId × TypeId)) (j l r : Judgement)
+    → PassesChannels lists no_amounts j vs pars l → PassesChannels lists no_amounts j vs pars r → l ≡ r
+channels-one lists [] [] j l r none none = refl
+channels-one lists [] (par ∷ pars) j l r left right = elim left [ ]
+channels-one lists (v ∷ vs) [] j l r left right = elim left [ ]
+channels-one lists (v ∷ vs) (par ∷ pars) j l r (channel {k = k} first rest) right =
+    channels-one lists vs pars k l r rest (channels-rest lists j k r v vs par pars first right)
+
 -- ---- a turn of the loop
 
 module _ (lists : ProgramLists) (vs : List VarId) (pars : List (VarId × TypeId)) (i : ℕ) (dv : VarId)
