@@ -23,5 +23,6 @@ mod modes;
 mod operands;
 mod spawning;
 mod standing;
+mod step;
 mod values;
 mod variables;
