@@ -1,18 +1,16 @@
 -- The nodes to which the types of channels unfold.
-use Rattle.std.proofs.Common.{◌≡◌, ◌<◌, ◌↔◌, ◌∙◌, All, length, Bool, IsTrue, Option, Some, None, refl, ap, sym, subst}
+use Rattle.std.proofs.Common.{◌≡◌, ◌<◌, ◌↔◌, All, length, Bool, IsTrue, Option, Some, None, sym, subst}
 use Rattle.nomos_ir.specs.declared.code_node.Chan.{Chan}
 use Rattle.nomos_ir.specs.declared.code_node.Chan.TheVariants as chan
 use Rattle.nomos_ir.specs.declared.ids.TypeId.{TypeId}
 use Rattle.nomos_ir.specs.declared.lists.ProgramLists.{ProgramLists}
 use Rattle.nomos_ir.specs.declared.type_node.TypeNode.{TypeNode}
-use Rattle.nomos_ir.specs.Bindings.{bound_to}
 use Rattle.nomos_ir.specs.Nodes.{type_node}
 use Rattle.nomos_ir.specs.Program.{IsProgram}
 use Rattle.nomos_ir.specs.Unfold.{Unfolds}
 use Rattle.nomos_ir.proofs.BindingLaws.{all-bound}
 use Rattle.nomos_ir.proofs.UnfoldLaws.{Unfolds-unique}
 use Rattle.nomos_types.specs.Judgement.{Judgement, IsJudgement, channel_type}
-use Rattle.nomos_types.specs.Modes.{HasMode}
 use Rattle.nomos_types.specs.Premises.{HasType}
 use Rattle.nomos_types.specs.Unfolding.{IsUnfolding}
 use Rattle.nomos_types.proofs.ModeLaws.{mode-in_range}
@@ -59,9 +57,10 @@ module _ (lists : ProgramLists) (j : Judgement) where
   -- the same for a test of the node
   pub test-found : (form : TypeNode) (c : Chan) (n : TypeNode) (b : Bool) → HasType lists j c n
       → (IsTrue b ↔ (n ≡ form)) → IsTrue b ↔ HasType lists j c form
-  test-found form c n b typed test =
-      (λ yes. subst (λ (m : TypeNode). HasType lists j c m) (test.0 yes) typed,
-       λ typed_so. test.1 (head-unique c n form typed typed_so))
+  test-found form c n b typed test = (
+    λ yes. subst (λ (m : TypeNode). HasType lists j c m) (test.0 yes) typed,
+    λ typed_so. test.1 (head-unique c n form typed typed_so),
+  )
 
 -- nothing was found where nothing has the property
 pub none-found : {X : Type 0} (P : X → Type 0) (o : Option X) → o ≡ None → ((x : X) → ¬ (P x)) → IsFound P o

@@ -1,5 +1,5 @@
 -- What a search found, where the answer of a call is known; names that are free; kinds that were found.
-use Rattle.std.proofs.Common.{◌≡◌, ◌≢◌, ◌↔◌, ◌∙◌, ◌+◌, ℕ, Bool, true, false, not, IsTrue, List, Option, Some, None, refl, ap, sym, subst, arith}
+use Rattle.std.proofs.Common.{◌≡◌, ◌↔◌, ◌∙◌, ℕ, Bool, true, false, not, IsTrue, Option, Some, None, refl, ap, subst, arith}
 use Rattle.std.specs.Option.{option_map, is_some}
 use Rattle.nomos_ir.specs.declared.code_node.CodeNode.{CodeNode}
 use Rattle.nomos_ir.specs.declared.ids.TermId.{TermId}
@@ -18,7 +18,7 @@ use Rattle.nomos_types.specs.Row.{StandsAtCode}
 use Rattle.nomos_typing.specs.declared.standing.Carried.{Carried}
 use Rattle.nomos_typing.specs.declared.standing.Standing.{Standing}
 use Rattle.nomos_typing.specs.mirror.Finding.{IsFound}
-use Rattle.nomos_typing.specs.mirror.Standing.{shape_of, shape_of_list, each_bound}
+use Rattle.nomos_typing.specs.mirror.Standing.{shape_of, shape_of_list}
 use Rattle.nomos_typing.proofs.StandingLemmas.{each-bound}
 
 -- what was found has the property
@@ -37,9 +37,10 @@ code-in_range lists j n is_program stands = All-at (CodeInRange lists) lists.cod
 -- where the kind of a term is known, it has this kind where that is the same
 pub kind-answer : (lists : ProgramLists) (kinds : VariableKinds) (e : TermId) (its kind : Kind) (b : Bool)
     → HasKind lists kinds e its → (IsTrue b ↔ (its ≡ kind)) → IsTrue b ↔ HasKind lists kinds e kind
-kind-answer lists kinds e its kind b found same =
-    (λ yes. subst (HasKind lists kinds e) (same.0 yes) found,
-     λ has. same.1 (HasKind-unique lists kinds e its kind found has))
+kind-answer lists kinds e its kind b found same = (
+  λ yes. subst (HasKind lists kinds e) (same.0 yes) found,
+  λ has. same.1 (HasKind-unique lists kinds e its kind found has),
+)
 
 -- ---- free names
 

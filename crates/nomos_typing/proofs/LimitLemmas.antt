@@ -1,25 +1,23 @@
 -- The amounts of a program, and how large the numbers of a potential are.
-use Rattle.std.proofs.Common.{◌≡◌, ◌<◌, ◌≤◌, ◌+◌, ◌-◌, ◌*◌, ◌^◌, ℕ, suc, List, ◌∷◌, [], ◌++◌, map, max, length, All, Contains, Some, slice_get, unsigned_abs, ℤ, refl, subst, sym, arith}
+use Rattle.std.proofs.Common.{◌≡◌, ◌<◌, ◌≤◌, ◌^◌, ℕ, List, ◌∷◌, [], ◌++◌, All, Contains, Some, slice_get, ℤ, refl, arith}
 use Rattle.std.specs.List.{flat_map}
 use Rattle.std.proofs.lemmas.List.Elements.{All-nil, All-cons, All-weaker, All-contains, Contains-append_left, Contains-append_right, Contains-push}
 use Rattle.std.proofs.lemmas.Option.{get_or_from_slice_get, slice_get_within}
 use Rattle.nomos_ir.proofs.BindingLaws.{all-bound}
 use Rattle.nomos_ir.specs.declared.amount.Amount.{Amount}
 use Rattle.nomos_ir.specs.declared.code_node.CodeNode.{CodeNode}
-use Rattle.nomos_ir.specs.declared.declaration.Par.{Par}
 use Rattle.nomos_ir.specs.declared.declaration.ProcDecl.{ProcDecl}
 use Rattle.nomos_ir.specs.declared.lists.ProgramLists.{ProgramLists}
 use Rattle.nomos_ir.specs.declared.type_node.TypeAt.{TypeAt}
-use Rattle.nomos_ir.specs.Amounts.{IsAmount, star_of, star_count, most_star, greatest, amounts_of, par_amounts, proc_amounts}
+use Rattle.nomos_ir.specs.Amounts.{IsAmount, star_of, most_star, greatest, amounts_of, par_amounts, proc_amounts}
 use Rattle.nomos_ir.specs.Bindings.{bound_to}
 use Rattle.nomos_ir.specs.CodeParts.{code_amounts}
 use Rattle.nomos_ir.specs.Program.{IsProgram}
 use Rattle.nomos_ir.specs.TypeParts.{type_amounts}
-use Rattle.nomos_forms.specs.declared.form.Form.{Form}
-use Rattle.nomos_forms.specs.Bounds.{IsForm, IsSmall}
+use Rattle.nomos_forms.specs.Bounds.{IsSmall}
 use Rattle.nomos_typing.specs.declared.standing.Carried.{Carried}
 use Rattle.nomos_typing.specs.declared.standing.Standing.{Standing}
-use Rattle.nomos_typing.specs.mirror.Limits.{IsAmountOf, HasRoom, IsUpTo, IsLimited, limit_at}
+use Rattle.nomos_typing.specs.mirror.Limits.{IsAmountOf, HasRoom, IsUpTo, limit_at}
 use Rattle.nomos_typing.specs.mirror.Standing.{IsWithin}
 
 -- ---- the amounts of a program

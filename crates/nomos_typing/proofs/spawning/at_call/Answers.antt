@@ -1,28 +1,20 @@
-use Rattle.std.proofs.Common.{◌≡◌, ◌⊎◌, ◌∙◌, Bool, IsTrue, [], ◌∷◌, refl, ap, sym, subst, arith}
+use Rattle.std.proofs.Common.{◌≡◌, ◌⊎◌, ◌∙◌, Bool, ap, sym, subst, arith}
 use Rattle.nomos_equality.specs.Paths.{StandAtEqualPaths}
-use Rattle.nomos_forms.specs.declared.form.Form.{Form}
 use Rattle.nomos_ir.specs.declared.amount.Amount.{Amount}
 use Rattle.nomos_ir.specs.declared.code_node.CodeNode.TheVariants as code
-use Rattle.nomos_ir.specs.Amounts.{star_count}
 use Rattle.nomos_types.specs.Equality.{no_amounts}
-use Rattle.nomos_types.specs.Judgement.{Judgement, at_code, binds_channel}
-use Rattle.nomos_types.specs.Modes.{may_spawn}
+use Rattle.nomos_types.specs.Judgement.{Judgement}
 use Rattle.nomos_types.specs.Row as row
 use Rattle.nomos_types.proofs.ModeLaws.{mode-in_range}
-use Rattle.nomos_typing.specs.Account.{spends, with_lists}
-use Rattle.nomos_typing.specs.Accounting.{spends_for, without_passed}
 use Rattle.nomos_typing.specs.Asking.{AsksPair}
-use Rattle.nomos_typing.specs.mirror.Limits.{HasRoom}
 use Rattle.nomos_typing.specs.mirror.Passing.{TellsAlike, TellsArguments, PairOfValues, PairOfChannels, carried_by_all}
-use Rattle.nomos_typing.specs.mirror.Standing.{amount_of, each_bound, shape_of}
-use Rattle.nomos_typing.proofs.ArgumentSteps.{arguments-ask, arguments-one, call-asks, call-stays, declared-in_range, joins-both, spawn-asks, spawn-stays}
+use Rattle.nomos_typing.specs.mirror.Standing.{shape_of}
+use Rattle.nomos_typing.proofs.ArgumentSteps.{arguments-ask, arguments-one, call-asks, call-stays, declared-in_range, joins-both}
 use Rattle.nomos_typing.proofs.FoundLemmas.{code-in_range}
-use Rattle.nomos_typing.proofs.LeadLemmas.{leads-with, keeps-through, not-true}
-use Rattle.nomos_typing.proofs.LimitLemmas.{room-at, proc-amount}
+use Rattle.nomos_typing.proofs.LeadLemmas.{not-true}
 use Rattle.nomos_typing.proofs.PairLemmas.{joins-same}
-use Rattle.nomos_typing.proofs.StepRows.{spawn-steps, worth-nothing}
+use Rattle.nomos_typing.proofs.StepRows.{worth-nothing}
 use Rattle.nomos_ir.specs.declared.declaration.ProcDecl.{ProcDecl}
-use Rattle.nomos_ir.specs.declared.mode.Mode.{Mode}
 use Rattle.nomos_types.specs.Alike.{AlikeTypes}
 use Rattle.nomos_types.specs.Arguments.{ArgumentsFit}
 use Rattle.nomos_typing.proofs.AskingLaws.{ArgumentsAsk}
@@ -38,9 +30,9 @@ returns-then-not-is_mode-clause-tells c =
     call-stays c.args.program.now (shape_of c.args.now.now) c.requires.stands.0 c.args.f c.args.args.now
     c.proc-called.result.now c.requires.stands.1 c.proc-called.ensures
     (λ says same.
-      let its = says.mode in
-      not-true c.if-not-is_mode.true
-      (c.is_mode.ensures.1 (subst (λ (p : ProcDecl). p.mode ≡ c.args.now.now.mode) same its)))
+    let its = says.mode in
+    not-true c.if-not-is_mode.true
+    (c.is_mode.ensures.1 (subst (λ (p : ProcDecl). p.mode ≡ c.args.now.now.mode) same its)))
 
 pub are_alike-requires-clause-own : goal.are_alike-requires-clause-own
 are_alike-requires-clause-own c = mode-in_range c.requires.formed.program c.requires.within.judgement.offers
@@ -84,8 +76,8 @@ returns-then-not-branch-2-clause-tells c =
     call-stays c.args.program.now (shape_of c.args.now.now) c.requires.stands.0 c.args.f c.args.args.now
     c.proc-called.result.now c.requires.stands.1 c.proc-called.ensures
     (λ says same.
-      let Fits : ProcDecl → Type 0 = λ p. ArgumentsFit lists no_amounts (shape_of s) p c.args.args.now says.left in
-      stays says.left (subst Fits same says.arguments))
+    let Fits : ProcDecl → Type 0 = λ p. ArgumentsFit lists no_amounts (shape_of s) p c.args.args.now says.left in
+    stays says.left (subst Fits same says.arguments))
 
 pub returns-then-is_empty-clause-tells : goal.returns-then-is_empty-clause-tells
 returns-then-is_empty-clause-tells c =
@@ -134,9 +126,9 @@ returns-then-is_empty-clause-asks c =
     λ a has.
     joins-same old new (λ pair. Paths pair ⊎ ArgumentsAsk lists j a d args pair) (AsksPair lists j a)
     (joins-both old between new Paths Pairs (ArgumentsAsk lists j a d args) alike.1 passed.joins
-      (λ pair. arguments-ask lists j s a d args has.lists pair))
+    (λ pair. arguments-ask lists j s a d args has.lists pair))
     (λ pair.
-      call-asks lists j a c.requires.stands.0 c.args.f args d c.requires.stands.1 c.proc-called.ensures pair)
+    call-asks lists j a c.requires.stands.0 c.args.f args d c.requires.stands.1 c.proc-called.ensures pair)
 
 pub returns-else-is_empty-clause-tells : goal.returns-else-is_empty-clause-tells
 returns-else-is_empty-clause-tells c =
@@ -153,6 +145,6 @@ returns-else-is_empty-clause-tells c =
     call-stays c.args.program.now (shape_of c.args.now.now) c.requires.stands.0 c.args.f c.args.args.now
     c.proc-called.result.now c.requires.stands.1 c.proc-called.ensures
     (λ says same.
-      let Fits : ProcDecl → Type 0 = λ p. ArgumentsFit lists no_amounts (shape_of s) p c.args.args.now says.left in
-      let one : says.left ≡ shape_of mid = arguments-one lists (shape_of s) d c.args.args.now says.left (shape_of mid) (subst Fits same says.arguments) passed.fit in
-      not-true c.if-is_empty.false (c.is_empty.ensures.1 (ap (λ (k : Judgement). k.linear) (sym one) ∙ says.nothing_held)))
+    let Fits : ProcDecl → Type 0 = λ p. ArgumentsFit lists no_amounts (shape_of s) p c.args.args.now says.left in
+    let one : says.left ≡ shape_of mid = arguments-one lists (shape_of s) d c.args.args.now says.left (shape_of mid) (subst Fits same says.arguments) passed.fit in
+    not-true c.if-is_empty.false (c.is_empty.ensures.1 (ap (λ (k : Judgement). k.linear) (sym one) ∙ says.nothing_held)))

@@ -1,26 +1,22 @@
-use Rattle.std.proofs.Common.{◌≡◌, ◌⊎◌, ◌∙◌, Bool, IsTrue, [], ◌∷◌, refl, ap, sym, subst, arith}
-use Rattle.nomos_equality.specs.Paths.{StandAtEqualPaths}
+use Rattle.std.proofs.Common.{◌⊎◌, ◌∙◌, Bool, IsTrue, [], ◌∷◌, refl, ap, sym, subst, arith}
 use Rattle.nomos_forms.specs.declared.form.Form.{Form}
 use Rattle.nomos_ir.specs.declared.amount.Amount.{Amount}
 use Rattle.nomos_ir.specs.declared.code_node.CodeNode.TheVariants as code
 use Rattle.nomos_ir.specs.Amounts.{star_count}
-use Rattle.nomos_types.specs.Equality.{no_amounts}
 use Rattle.nomos_types.specs.Judgement.{Judgement, at_code, binds_channel}
 use Rattle.nomos_types.specs.Modes.{may_spawn}
-use Rattle.nomos_types.specs.Row as row
-use Rattle.nomos_types.proofs.ModeLaws.{mode-in_range}
 use Rattle.nomos_typing.specs.Account.{spends, with_lists}
 use Rattle.nomos_typing.specs.Accounting.{spends_for, without_passed}
 use Rattle.nomos_typing.specs.Asking.{AsksPair}
 use Rattle.nomos_typing.specs.mirror.Limits.{HasRoom}
-use Rattle.nomos_typing.specs.mirror.Passing.{TellsAlike, TellsArguments, PairOfValues, PairOfChannels, carried_by_all}
+use Rattle.nomos_typing.specs.mirror.Passing.{TellsArguments, PairOfValues, PairOfChannels, carried_by_all}
 use Rattle.nomos_typing.specs.mirror.Standing.{amount_of, each_bound, shape_of}
-use Rattle.nomos_typing.proofs.ArgumentSteps.{arguments-ask, call-asks, call-stays, declared-in_range, joins-both, spawn-asks, spawn-stays}
+use Rattle.nomos_typing.proofs.ArgumentSteps.{arguments-ask, declared-in_range, spawn-asks, spawn-stays}
 use Rattle.nomos_typing.proofs.FoundLemmas.{code-in_range}
 use Rattle.nomos_typing.proofs.LeadLemmas.{leads-with, keeps-through, not-true}
 use Rattle.nomos_typing.proofs.LimitLemmas.{room-at, proc-amount}
 use Rattle.nomos_typing.proofs.PairLemmas.{joins-same}
-use Rattle.nomos_typing.proofs.StepRows.{spawn-steps, worth-nothing}
+use Rattle.nomos_typing.proofs.StepRows.{spawn-steps}
 use Rattle.nomos_typing.proofs.spawning.at_spawn.Goals as goal
 
 pub proc-child-requires : goal.proc-child-requires
@@ -104,13 +100,15 @@ returns-clause-tells c =
     (spawn-steps c.requires.stands.1 d (shape_of mid) c.proc-child.ensures may passed.fit free refl)
     (c.in_ok-bind_channel.ensures.shape ∙ ap Bound c.go_to.ensures.shape)
     (λ a has.
-      let left = with_lists a (without_passed it.args.now.values a.lists) in
-      let amounts =
-      ap (each_bound amount_of) keeps.lists ∙ passed.lists_left ∙ ap (without_passed it.args.now.values) has.lists
-      in
-      let potential = keeps.potential ∙ c.spend.ensures n a (passed.potential ∙ has.potential) in
-      (spends d.amount left, ap (λ o. spends_for o left ∷ []) c.proc-child.ensures,
-       record { lists = amounts; potential = potential }))
+    let left = with_lists a (without_passed it.args.now.values a.lists) in
+    let amounts =
+    ap (each_bound amount_of) keeps.lists ∙ passed.lists_left ∙ ap (without_passed it.args.now.values) has.lists
+    in
+    let potential = keeps.potential ∙ c.spend.ensures n a (passed.potential ∙ has.potential) in (
+      spends d.amount left,
+      ap (λ o. spends_for o left ∷ []) c.proc-child.ensures,
+      record { lists = amounts; potential = potential },
+    ))
 
 pub returns-clause-asks : goal.returns-clause-asks
 returns-clause-asks c =
@@ -131,8 +129,8 @@ returns-clause-asks c =
     λ a has.
     joins-same old new Pairs (AsksPair lists j a) passed.joins
     (λ pair.
-      let first = arguments-ask lists j s a d args has.lists pair in
-      let second =
-      spawn-asks lists j a c.requires.stands.0 it.name it.callee args it.next d c.requires.stands.1 c.proc-child.ensures pair
-      in
-      (λ p. second.0 (first.0 p), λ asks. first.1 (second.1 asks)))
+    let first = arguments-ask lists j s a d args has.lists pair in
+    let second =
+    spawn-asks lists j a c.requires.stands.0 it.name it.callee args it.next d c.requires.stands.1 c.proc-child.ensures pair
+    in
+    (λ p. second.0 (first.0 p), λ asks. first.1 (second.1 asks)))

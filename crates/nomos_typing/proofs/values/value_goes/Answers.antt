@@ -1,5 +1,3 @@
-use Rattle.std.proofs.Common.{sym}
-use Rattle.nomos_ir.specs.TermKind.{HasKind}
 use Rattle.nomos_typing.specs.mirror.Standing.{shape_of}
 use Rattle.nomos_typing.proofs.LeadLemmas.{not-true}
 use Rattle.nomos_typing.proofs.PremiseLemmas.{value-sent}
@@ -17,4 +15,4 @@ returns-else-branch c =
     λ t says.
     not-true c.if-branch.false
     (c.in_ok-is_of_kind.ensures.1
-      (value-sent c.args.program.now (shape_of c.args.now.now) c.args.c c.args.e c.in-Some.found t c.in-Some.ensures says))
+    (value-sent c.args.program.now (shape_of c.args.now.now) c.args.c c.args.e c.in-Some.found t c.in-Some.ensures says))
