@@ -3,7 +3,9 @@ pub mod ChannelLaws
 pub mod FormLemmas
 pub mod LeadLemmas
 pub mod LimitLemmas
+pub mod MemberLemmas
 pub mod PlaceLemmas
+pub mod PlacesLemmas
 pub mod PremiseLemmas
 pub mod SideLaws
 pub mod StandingLemmas

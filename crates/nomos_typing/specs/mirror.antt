@@ -4,3 +4,4 @@ pub mod Limits
 pub mod Moves
 pub mod Places
 pub mod Standing
+pub mod Walking

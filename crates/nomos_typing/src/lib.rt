@@ -11,3 +11,4 @@ mod sides;
 mod operands;
 mod standing;
 mod variables;
+mod walk;
