@@ -1,0 +1,2 @@
+pub mod ListAmounts
+pub mod Beside
