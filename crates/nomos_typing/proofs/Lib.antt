@@ -1,2 +1,3 @@
 pub mod ListAmounts
 pub mod Beside
+pub mod BesideArguments
