@@ -20,7 +20,7 @@ use Rattle.nomos_types.specs.Judgement.{Judgement, ListType, IsFree, parts_with,
 use Rattle.nomos_types.specs.Premises.{HasType}
 use Rattle.nomos_types.specs.Row.{StandsAtCode, gives_up}
 use Rattle.nomos_typing.specs.Account.{Account, gains, spends, with_lists, worth_of, Affords}
-use Rattle.nomos_typing.proofs.ListAmounts.{CarryBoth, list_at, counted-both, bind-both, unbind-both}
+use Rattle.nomos_typing.proofs.ListAmounts.{CarryBoth, list_at, counted-both, bind-both, unbind-both, second-both}
 
 -- the judgement with other lists and another potential
 abbrev pub changed : Judgement → List (VarId × ListType) → ℕ → Judgement
@@ -301,12 +301,17 @@ module _ {x y : Annotations} where
         beside = there.beside;
       }
 
-  -- each account has a judgement at its place on the first side
-  pub with-account : {js ks : List Judgement} {bs : List Account} (a : Account) → EachBeside x y js ks bs
-      → Contains bs a → (j : Judgement) × Contains (zip js bs) (j, a)
-  with-account a none (i, inside, is) = absurd (omega arith)
-  with-account a (more {j = j} beside rest) (zero, inside, is) =
-      (j, (0, omega arith, ap (λ (c : Account). let p : Judgement × Account = (j, c) in p) is))
-  with-account a (more beside rest) (suc i, inside, is) =
-      let (j, (at, within, found)) = with-account a rest (i, omega arith, is) in
-      (j, (suc at, omega arith, found))
+  -- each judgement on the second side has an account at its place
+  pub its-account : {js ks : List Judgement} {bs : List Account} (k : Judgement) → EachBeside x y js ks bs
+      → Contains ks k → (a : Account) × Contains (zip ks bs) (k, a)
+  its-account k none (i, inside, is) = absurd (omega arith)
+  its-account k (more {a = a} beside rest) (zero, inside, is) =
+      (a, (0, omega arith, ap (λ (s : Judgement). let p : Judgement × Account = (s, a) in p) is))
+  its-account k (more beside rest) (suc i, inside, is) =
+      let (a, (at, within, found)) = its-account k rest (i, omega arith, is) in
+      (a, (suc at, omega arith, found))
+
+-- a judgement of the second side stands beside itself
+pub second-beside : {x y : Annotations} {j k : Judgement} {a : Account} → Beside x y j k a → Beside y y k k a
+second-beside beside =
+    record { same = refl; lists = second-both beside.lists; left = beside.right; right = beside.right }

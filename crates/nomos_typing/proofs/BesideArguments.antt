@@ -86,7 +86,7 @@ module _ {lists : ProgramLists} {x : Annotations} where
   linear-ascends {j} {v = v} ascends (passes.linear _ _ _ _) = unbind-ascending v.0 j.linear ascends
 
   -- the type of what passes
-  passed-type : {j : Judgement} {v : VarId} {t : TypeId} {k : Judgement} → PassesChannel lists x j v t k
+  pub passed-type : {j : Judgement} {v : VarId} {t : TypeId} {k : Judgement} → PassesChannel lists x j v t k
       → (own : TypeId) × IsOfType j v own × AlikeTypes lists x own t
   passed-type (passes.shared own there alike) = (own, inl there, alike)
   passed-type (passes.linear own no_reference there alike) = (own, inr there, alike)

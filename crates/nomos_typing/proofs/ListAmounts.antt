@@ -133,3 +133,9 @@ module _ {x y : Annotations} where
       (bindings_of (flat_map (λ par. carried_by par.var par.amount) pars))
   start-both [] = none
   start-both (par ∷ pars) = par-both par.var par.kind par.amount _ _ _ (start-both pars)
+
+  -- the lists on the second side beside themselves
+  pub second-both : {ls ms : List (VarId × ListType)} {rs : List (VarId × Amount)} → CarryBoth x y ls ms rs
+      → CarryBoth y y ms ms rs
+  second-both none = none
+  second-both (list v kind r rest) = list v kind r (second-both rest)
