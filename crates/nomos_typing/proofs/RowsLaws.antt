@@ -25,7 +25,7 @@ use Rattle.nomos_typing.specs.Asking.{AsksPair, IsAsked}
 use Rattle.nomos_typing.specs.Reaching.{Reaches, IsPoint}
 use Rattle.nomos_typing.specs.Reaching as reaching
 use Rattle.nomos_typing.proofs.AskedLaws.{asked-worth, call-affords}
-use Rattle.nomos_typing.proofs.Beside.{Beside, EachBeside, AtPlace, at-place, its-account, second-beside, stands}
+use Rattle.nomos_typing.proofs.Beside.{Beside, EachBeside, AtPlace, at-place, its-account, paired-first, second-beside, stands}
 use Rattle.nomos_typing.proofs.BesideRows.{Carried, row-carried}
 use Rattle.nomos_typing.proofs.Carrying.{Provides, no-dths, no-needs, no-affords, start-beside, next-is_judgement, derivation-carried}
 use Rattle.nomos_typing.proofs.RowMaking.{row-made}
@@ -86,7 +86,68 @@ module _ {lists : ProgramLists} (formed : IsWellFormed lists)
       record {
         judgement = at.judgement;
         own = next-is_judgement formed r.own own_row at.among;
-        other = next-is_judgement formed r.other row (fst_among k b n a after among);
+        other = next-is_judgement formed r.other row (paired-first after (accounts_after lists n a) k b among);
         beside = at.beside;
         derives = derives-next formed r.derives own_row at.among;
       }
+
+  -- each point is afforded
+  point-afforded : (x : Annotations) → Derives lists x (start_of lists x d) → (a : Account) → IsPoint lists d a
+      → Affords x a
+  point-afforded x derivation a (reaching.before {j} reached) =
+      let beside = (reached-under x j a derivation reached).beside in omega (arith, beside.left)
+  point-afforded x derivation _ (reaching.called {j} {a} {at} {f} {args} reached there e found) =
+      let r = reached-under x j a derivation reached in
+      let (after, row) = derives-row x r.judgement r.derives in
+      call-affords r.own r.beside row at f args e there found
+
+  -- each pair is worth the same
+  pair-same : (x : Annotations) → Derives lists x (start_of lists x d) → (q : Amount × Amount) → IsAsked lists d q
+      → dths x q.0 ≡ dths x q.1
+  pair-same x derivation q asked =
+      let r = reached-under x asked.judgement asked.account derivation asked.reached in
+      let (after, row) = derives-row x r.judgement r.derives in
+      asked-worth r.own r.beside row q asked.asks
+
+  -- a derivation gives one where amounts are ignored
+  skeleton-from : (x : Annotations) → Derives lists x (start_of lists x d) → HasSkeleton lists d
+  skeleton-from x derivation =
+      let Any : Judgement → Account → Type 0 = λ j a. Unit {0} in
+      let provides : Provides lists x no_amounts Any =
+      record {
+        next = λ j k a b n after good there row among. tt;
+        afforded = λ j a good. no-affords a;
+        call = λ j a at f args e good there found. no-affords (spends e.amount a);
+        pairs = λ j a q good asks. no-dths q.0 ∙ sym (no-dths q.1);
+      }
+      in
+      derivation-carried formed derives-row x no_amounts Any provides (suc d.first.0) (start_of lists x d)
+      (start_of lists no_amounts d) (start_account d) (omega arith) tt (start-is_judgement x p formed declared)
+      (start-is_judgement no_amounts p formed declared) (start-beside lists x no_amounts d) derivation
+
+  -- ---- what gives a derivation
+
+  -- a skeleton gives a derivation under amounts that meet what is asked for
+  derivation-from : (x : Annotations) → HasSkeleton lists d → ((a : Account) → IsPoint lists d a → Affords x a)
+      → ((q : Amount × Amount) → IsAsked lists d q → dths x q.0 ≡ dths x q.1) → Derives lists x (start_of lists x d)
+  derivation-from x skeleton points pairs =
+      let provides : Provides lists no_amounts x (Reaches lists d) =
+      record {
+        next = λ j k a b n after reached there row among. reaching.next n after reached there row among;
+        afforded = λ j a reached. points a (reaching.before reached);
+        call = λ j a at f args e reached there found. points (spends e.amount a) (reaching.called reached there e found);
+        pairs = λ j a q reached asks. pairs q (record { judgement = j; account = a; reached = reached; asks = asks });
+      }
+      in
+      derivation-carried formed derives-row no_amounts x (Reaches lists d) provides (suc d.first.0)
+      (start_of lists no_amounts d) (start_of lists x d) (start_account d) (omega arith) reaching.start
+      (start-is_judgement no_amounts p formed declared) (start-is_judgement x p formed declared)
+      (start-beside lists no_amounts x d) skeleton
+
+  -- the law of rows over accounts
+  pub rows-law : (x : Annotations) → DerivesByAccounts lists d x
+  rows-law x =
+      (
+        λ derivation. (skeleton-from x derivation, point-afforded x derivation, pair-same x derivation),
+        λ given. derivation-from x given.0 given.1 given.2,
+      )
