@@ -251,16 +251,6 @@ pub record AtPlace (x y : Annotations) (js : List Judgement) (k : Judgement) (a 
   pub among : Contains js judgement
   pub beside : Beside x y judgement k a
 
--- the first of a pair of two lists is in the first list
-pub paired-first : {X Y : Type 0} (xs : List X) (ys : List Y) (x : X) (y : Y) → Contains (zip xs ys) (x, y)
-    → Contains xs x
-paired-first [] ys x y (i, inside, is) = absurd (omega arith)
-paired-first (a ∷ xs) [] x y (i, inside, is) = absurd (omega arith)
-paired-first {X} {Y} (a ∷ xs) (b ∷ ys) x y (zero, inside, is) = (0, omega arith, ap (λ (p : X × Y). p.0) is)
-paired-first (a ∷ xs) (b ∷ ys) x y (suc i, inside, is) =
-    let (at, within, found) = paired-first xs ys x y (i, omega arith, is) in
-    (suc at, omega arith, found)
-
 module _ {x y : Annotations} where
   pub at-place : {js ks : List Judgement} {bs : List Account} (k : Judgement) (a : Account) → EachBeside x y js ks bs
       → Contains (zip ks bs) (k, a) → AtPlace x y js k a

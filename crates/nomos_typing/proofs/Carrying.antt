@@ -21,7 +21,6 @@ use Rattle.nomos_types.proofs.AlikeLaws.{alike-same}
 use Rattle.nomos_types.proofs.DerivationLaws.{derives-next}
 use Rattle.nomos_types.proofs.FollowingLaws.{row-places}
 use Rattle.nomos_types.proofs.JudgementLaws.{row-keeps_judgement}
-use Rattle.nomos_types.proofs.OccurrenceLemmas.{contains-map}
 use Rattle.nomos_types.proofs.RowLaws.{row-at}
 use Rattle.nomos_typing.specs.Account.{Account, start_account, spends, worth_of, Affords}
 use Rattle.nomos_typing.specs.Accounting.{accounts_after}
@@ -29,6 +28,7 @@ use Rattle.nomos_typing.specs.Asking.{AsksPair}
 use Rattle.nomos_typing.proofs.Beside.{Beside, EachBeside, behind, stands}
 use Rattle.nomos_typing.proofs.BesideRows.{MeetsNeeds, row-carried}
 use Rattle.nomos_typing.proofs.ListAmounts.{start-both}
+use Rattle.nomos_typing.proofs.ListLemmas.{contains-map}
 use Rattle.nomos_typing.proofs.RowMaking.{row-made}
 
 -- ---- amounts that are all 0
@@ -78,7 +78,7 @@ pub row-lower : {lists : ProgramLists} {x : Annotations} {j k : Judgement} {afte
 row-lower {lists} {x} {j} {k} {after} formed row among =
     let (n, there, says) = row-at row in
     let to : Contains (map (λ (i : Judgement). i.code.0) after) k.code.0 =
-    contains-map (λ (i : Judgement). i.code.0) after k k.code.0 among refl
+    contains-map (λ (i : Judgement). i.code.0) after k among
     in
     let placed : Contains (code_next n) k.code.0 =
     subst (λ (ns : List ℕ). Contains ns k.code.0) (row-places lists x j after n says) to

@@ -6,3 +6,6 @@ pub mod AskedLaws
 pub mod RowMaking
 pub mod Carrying
 pub mod RowsLaws
+pub mod ListLemmas
+pub mod FormLaws
+pub mod StarLaws

@@ -25,9 +25,10 @@ use Rattle.nomos_typing.specs.Asking.{AsksPair, IsAsked}
 use Rattle.nomos_typing.specs.Reaching.{Reaches, IsPoint}
 use Rattle.nomos_typing.specs.Reaching as reaching
 use Rattle.nomos_typing.proofs.AskedLaws.{asked-worth, call-affords}
-use Rattle.nomos_typing.proofs.Beside.{Beside, EachBeside, AtPlace, at-place, its-account, paired-first, second-beside, stands}
+use Rattle.nomos_typing.proofs.Beside.{Beside, EachBeside, AtPlace, at-place, its-account, second-beside, stands}
 use Rattle.nomos_typing.proofs.BesideRows.{Carried, row-carried}
 use Rattle.nomos_typing.proofs.Carrying.{Provides, no-dths, no-needs, no-affords, start-beside, next-is_judgement, derivation-carried}
+use Rattle.nomos_typing.proofs.ListLemmas.{paired-first}
 use Rattle.nomos_typing.proofs.RowMaking.{row-made}
 
 -- The law of rows over accounts.
