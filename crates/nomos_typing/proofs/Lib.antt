@@ -9,3 +9,4 @@ pub mod RowsLaws
 pub mod ListLemmas
 pub mod FormLaws
 pub mod StarLaws
+pub mod AnsweredLaws
