@@ -1,0 +1,4 @@
+pub mod HeadsOver
+pub mod PremisesOver
+pub mod RowsOver
+pub mod StuckLaws
