@@ -19,7 +19,6 @@ use Rattle.nomos_types.specs.Row.{Row, StandsAtCode}
 use Rattle.nomos_types.specs.Typed.{IsWellFormed}
 use Rattle.nomos_types.proofs.AlikeLaws.{alike-same}
 use Rattle.nomos_types.proofs.DerivationLaws.{derives-next}
-use Rattle.nomos_types.proofs.FollowingLaws.{row-places}
 use Rattle.nomos_types.proofs.JudgementLaws.{row-keeps_judgement}
 use Rattle.nomos_types.proofs.RowLaws.{row-at}
 use Rattle.nomos_typing.specs.Account.{Account, start_account, spends, worth_of, Affords}
@@ -28,8 +27,8 @@ use Rattle.nomos_typing.specs.Asking.{AsksPair}
 use Rattle.nomos_typing.proofs.Beside.{Beside, EachBeside, behind, stands}
 use Rattle.nomos_typing.proofs.BesideRows.{MeetsNeeds, row-carried}
 use Rattle.nomos_typing.proofs.ListAmounts.{start-both}
-use Rattle.nomos_typing.proofs.ListLemmas.{contains-map}
 use Rattle.nomos_typing.proofs.RowMaking.{row-made}
+use Rattle.nomos_typing.proofs.StuckLaws.{derives-row, row-descends}
 
 -- ---- amounts that are all 0
 
@@ -72,19 +71,6 @@ start-beside lists x y d =
 
 -- ---- places
 
--- a row goes on to lower places
-pub row-lower : {lists : ProgramLists} {x : Annotations} {j k : Judgement} {after : List Judgement}
-    → IsWellFormed lists → Row lists x j after → Contains after k → k.code.0 < j.code.0
-row-lower {lists} {x} {j} {k} {after} formed row among =
-    let (n, there, says) = row-at row in
-    let to : Contains (map (λ (i : Judgement). i.code.0) after) k.code.0 =
-    contains-map (λ (i : Judgement). i.code.0) after k among
-    in
-    let placed : Contains (code_next n) k.code.0 =
-    subst (λ (ns : List ℕ). Contains ns k.code.0) (row-places lists x j after n says) to
-    in
-    All-contains (λ (c : ℕ). c < j.code.0) (code_next n) k.code.0 (formed.program.parts.code j.code.0 n there) placed
-
 -- what a row goes on with are judgements
 pub next-is_judgement : {lists : ProgramLists} {x : Annotations} {j k : Judgement} {after : List Judgement}
     → IsWellFormed lists → IsJudgement lists j → Row lists x j after → Contains after k → IsJudgement lists k
@@ -103,9 +89,7 @@ pub record Provides (lists : ProgramLists) (x y : Annotations) (Good : Judgement
   pub pairs : (j : Judgement) (a : Account) (p : Amount × Amount) → Good j a → AsksPair lists j a p
       → dths y p.0 ≡ dths y p.1
 
-module _ {lists : ProgramLists} (formed : IsWellFormed lists)
-    (derives-row : (x : Annotations) (j : Judgement) → Derives lists x j → (after : List Judgement) × Row lists x j after)
-    (x y : Annotations) (Good : Judgement → Account → Type 0) (provides : Provides lists x y Good) where
+module _ {lists : ProgramLists} (formed : IsWellFormed lists) (x y : Annotations) (Good : Judgement → Account → Type 0) (provides : Provides lists x y Good) where
   -- a row of a good judgement has its needs met
   needs-met : (j : Judgement) (a : Account) (n : CodeNode) (after : List Judgement) → Good j a → StandsAtCode lists j n
       → Row lists x j after → MeetsNeeds lists y j a n after
@@ -122,14 +106,14 @@ module _ {lists : ProgramLists} (formed : IsWellFormed lists)
       → IsJudgement lists k → Beside x y j k a → Derives lists x j → Derives lists y k
   derivation-carried zero j k a low good own other beside derivation = absurd (omega arith)
   derivation-carried (suc m) j k a low good own other beside derivation =
-      let (after, row) = derives-row x j derivation in
+      let (after, row) = derives-row formed derivation in
       let (n, there, says) = row-at row in
       let carried = row-carried n own beside there says (needs-met j a n after good there row) in
       let row_there : Row lists y k carried.later = row-made n (stands beside lists n there) carried.row in
       by_row k k.q carried.later (alike-same y formed.program formed.contractive other) (omega arith) row_there
       (λ next among.
       let b = behind next carried.each among in
-      derivation-carried m b.judgement next b.account (omega (arith, low, row-lower formed row b.among))
+      derivation-carried m b.judgement next b.account (omega (arith, low, row-descends formed row b.among))
       (provides.next j b.judgement a b.account n after good there row b.paired)
       (next-is_judgement formed own row b.among) (next-is_judgement formed other row_there among) b.beside
       (derives-next formed derivation row b.among))
