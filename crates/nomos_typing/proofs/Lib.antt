@@ -14,3 +14,4 @@ pub mod RowsLaws
 pub mod RowsOver
 pub mod StarLaws
 pub mod StuckLaws
+pub mod PairLaws

@@ -1,5 +1,5 @@
 -- Elements of lists that are mapped, found at a place, or parts of a list of lists.
-use Rattle.std.proofs.Common.{◌≡◌, ◌<◌, ℕ, zero, suc, List, [], ◌∷◌, length, map, Contains, Some, slice_get, zip, ap, ◌∙◌, subst, arith}
+use Rattle.std.proofs.Common.{◌≡◌, ◌<◌, ℕ, zero, suc, List, [], ◌∷◌, length, map, Contains, Some, slice_get, zip, ap, ◌∙◌, sym, subst, arith}
 use Rattle.std.specs.List.{flat_map}
 use Rattle.std.proofs.lemmas.List.{length-map, get_or-map}
 use Rattle.std.proofs.lemmas.List.Elements.{Contains-append_left, Contains-append_right}
@@ -24,6 +24,15 @@ contains-part g (z ∷ xs) zero x y found there =
     Contains-append_left (g z) (flat_map g xs) y (subst (λ w. Contains (g w) y) same there)
 contains-part g (z ∷ xs) (suc k) x y found there =
     Contains-append_right (g z) (flat_map g xs) y (contains-part g xs k x y found there)
+
+-- an element of the list of one element is an element of the lists of all
+pub contains-inside : {X Y : Type 0} (g : X → List Y) (xs : List X) (x : X) (y : Y) → Contains xs x → Contains (g x) y
+    → Contains (flat_map g xs) y
+contains-inside g [] x y (i, inside, is) there = absurd (omega arith)
+contains-inside g (z ∷ xs) x y (zero, inside, is) there =
+    Contains-append_left (g z) (flat_map g xs) y (subst (λ w. Contains (g w) y) (sym is) there)
+contains-inside g (z ∷ xs) x y (suc i, inside, is) there =
+    Contains-append_right (g z) (flat_map g xs) y (contains-inside g xs x y (i, omega arith, is) there)
 
 -- the first of a pair of two lists is in the first list
 pub paired-first : {X Y : Type 0} (xs : List X) (ys : List Y) (x : X) (y : Y) → Contains (zip xs ys) (x, y)

@@ -9,14 +9,14 @@ use Rattle.nomos_equality.specs.Answer.{SameWorth}
 use Rattle.nomos_forms.specs.declared.form.Form.{Form}
 use Rattle.nomos_forms.specs.Linear.{form_value}
 use Rattle.nomos_types.specs.Amount.{Annotations, dths}
-use Rattle.nomos_types.specs.Derivation.{Derives}
+use Rattle.nomos_types.specs.Derivation.{Derives, HasSkeleton}
 use Rattle.nomos_types.specs.Judgement.{Judgement, start_of}
 use Rattle.nomos_types.specs.Row.{Row}
 use Rattle.nomos_types.specs.Typed.{IsWellFormed}
-use Rattle.nomos_typing.specs.Account.{form_of}
+use Rattle.nomos_typing.specs.Account.{Account, Affords, form_of}
 use Rattle.nomos_typing.specs.Asking.{IsAsked}
 use Rattle.nomos_typing.specs.Checking.{NeedsRows, AreAfforded, DerivesByRows}
-use Rattle.nomos_typing.specs.Reaching.{IsFormOf}
+use Rattle.nomos_typing.specs.Reaching.{IsPoint, IsFormOf}
 use Rattle.nomos_typing.proofs.FormLaws.{form-affords}
 use Rattle.nomos_typing.proofs.AccountsLaws.{rows-law}
 use Rattle.nomos_typing.proofs.StarLaws.{point-stars}
@@ -24,6 +24,18 @@ use Rattle.nomos_typing.proofs.StarLaws.{point-stars}
 -- what holds of each element holds of all
 all-from : {X : Type 0} (P : X → Type 0) (xs : List X) → ((x : X) → Contains xs x → P x) → All P xs
 all-from P xs each = All-weaker (Contains xs) P each xs (All-contains_itself xs)
+
+-- at a point the form is 0 or more exactly where the account is afforded
+pub point-affords : {lists : ProgramLists} {d : ProcDecl} {a : Account} (p : ℕ) (x : Annotations) → IsWellFormed lists
+    → slice_get lists.procs p ≡ Some d → IsPoint lists d a → length x.stars ≡ star_count lists
+    → (pos 0 ≤ℤ form_value x.stars x.unit (form_of (star_count lists) a)) ↔ Affords x a
+point-affords {lists} {d} {a} p x formed declared point width =
+    form-affords x (star_count lists) a width (point-stars formed.program p d a declared point)
+
+-- a derivation under any amounts gives a skeleton
+pub derives-skeleton : {lists : ProgramLists} {d : ProcDecl} (p : ℕ) (x : Annotations) → IsWellFormed lists
+    → slice_get lists.procs p ≡ Some d → Derives lists x (start_of lists x d) → HasSkeleton lists d
+derives-skeleton {lists} {d} p x formed declared derivation = let given = (rows-law formed p d declared x).0 derivation in given.0
 
 -- Where a declaration needs these forms and pairs, it has a derivation under exactly those amounts under which each form
 -- is 0 or more and the two amounts of each pair are worth the same.
@@ -41,8 +53,8 @@ needs-rows-law {lists} {d} {forms} {pairs} p formed declared needs x width =
           let given = law.0 derivation in
           let met : (f : Form) → IsFormOf lists n d f → IsMet f =
           λ f is.
-          let stars = point-stars formed.program p d is.account declared is.point in
-          subst IsMet (sym is.same) ((form-affords x n is.account width stars).1 (given.1 is.account is.point))
+          subst IsMet (sym is.same)
+          ((point-affords p x formed declared is.point width).1 (given.1 is.account is.point))
           in
           (
             all-from IsMet forms (λ f among. met f ((needs.points f).0 among)),
@@ -54,8 +66,7 @@ needs-rows-law {lists} {d} {forms} {pairs} p formed declared needs x width =
             needs.skeleton,
             λ a point.
                 let among = (needs.points (form_of n a)).1 (record { account = a; point = point; same = refl }) in
-                let stars = point-stars formed.program p d a declared point in
-                (form-affords x n a width stars).0 (All-contains IsMet forms (form_of n a) given.0 among),
+                (point-affords p x formed declared point width).0 (All-contains IsMet forms (form_of n a) given.0 among),
             λ q asked. All-contains AreSame pairs q given.1 ((needs.asked q).1 asked),
           ),
     )

@@ -52,7 +52,7 @@ program-star {lists} r is_program among =
 
 module _ {lists : ProgramLists} (is_program : IsProgram lists) where
   -- an amount of a code node
-  code-star : (c : ℕ) (n : CodeNode) (r : Amount) → slice_get lists.code c ≡ Some n → Contains (code_amounts n) r
+  pub code-star : (c : ℕ) (n : CodeNode) (r : Amount) → slice_get lists.code c ≡ Some n → Contains (code_amounts n) r
       → HasStarUpTo (star_count lists) r
   code-star c n r there among =
       let types = flat_map (λ (t : TypeAt). type_amounts t.node) lists.types in
@@ -63,7 +63,7 @@ module _ {lists : ProgramLists} (is_program : IsProgram lists) where
       (Contains-append_right types codes r (contains-part code_amounts lists.code c n r there among)))
 
   -- an amount of a declaration
-  proc-star : (p : ℕ) (d : ProcDecl) (r : Amount) → slice_get lists.procs p ≡ Some d → Contains (proc_amounts d) r
+  pub proc-star : (p : ℕ) (d : ProcDecl) (r : Amount) → slice_get lists.procs p ≡ Some d → Contains (proc_amounts d) r
       → HasStarUpTo (star_count lists) r
   proc-star p d r there among =
       let types = flat_map (λ (t : TypeAt). type_amounts t.node) lists.types in
@@ -71,6 +71,18 @@ module _ {lists : ProgramLists} (is_program : IsProgram lists) where
       let procs = flat_map proc_amounts lists.procs in
       program-star r is_program
       (Contains-append_right (types ++ codes) procs r (contains-part proc_amounts lists.procs p d r there among))
+
+  -- an amount of a type node
+  pub type-star : (t : ℕ) (at : TypeAt) (r : Amount) → slice_get lists.types t ≡ Some at
+      → Contains (type_amounts at.node) r → HasStarUpTo (star_count lists) r
+  type-star t at r there among =
+      let types = flat_map (λ (u : TypeAt). type_amounts u.node) lists.types in
+      let codes = flat_map code_amounts lists.code in
+      let procs = flat_map proc_amounts lists.procs in
+      program-star r is_program
+      (Contains-append_left (types ++ codes) procs r
+      (Contains-append_left types codes r
+      (contains-part (λ (u : TypeAt). type_amounts u.node) lists.types t at r there among)))
 
   -- the potential of a declaration
   pub declared-star : (p : ℕ) (d : ProcDecl) → slice_get lists.procs p ≡ Some d → HasStarUpTo (star_count lists) d.amount
