@@ -27,7 +27,7 @@ use Rattle.nomos_typing.specs.Reaching as reaching
 use Rattle.nomos_typing.proofs.AskedLaws.{asked-worth, call-affords}
 use Rattle.nomos_typing.proofs.Beside.{Beside, EachBeside, AtPlace, at-place, its-account, second-beside, stands}
 use Rattle.nomos_typing.proofs.BesideRows.{Carried, row-carried}
-use Rattle.nomos_typing.proofs.Carrying.{Provides, no-dths, no-needs, no-affords, start-beside, next-is_judgement, derivation-carried}
+use Rattle.nomos_typing.proofs.Carrying.{Provides, each-beside, no-dths, no-affords, start-beside, next-is_judgement, derivation-carried}
 use Rattle.nomos_typing.proofs.ListLemmas.{paired-first}
 use Rattle.nomos_typing.proofs.RowMaking.{row-made}
 use Rattle.nomos_typing.proofs.StuckLaws.{derives-row}
@@ -50,24 +50,6 @@ record ReachedUnder (lists : ProgramLists) (x : Annotations) (k : Judgement) (a 
 module _ {lists : ProgramLists} (formed : IsWellFormed lists) (p : ℕ) (d : ProcDecl) (declared : slice_get lists.procs p ≡ Some d) where
   -- ---- what a derivation gives
 
-  -- what stands beside a judgement with which a row goes on where amounts are ignored
-  next-at_place : (x : Annotations) (i j k : Judgement) (a b : Account) (n : CodeNode) (before after : List Judgement)
-      → IsJudgement lists i → Beside x no_amounts i j a → Row lists x i before → StandsAtCode lists j n
-      → Row lists no_amounts j after → Contains (zip after (accounts_after lists n a)) (k, b)
-      → AtPlace x no_amounts before k b
-  next-at_place x i j k a b n before after own beside row there other among =
-      let (m, at_row, says) = row-at row in
-      let at_other = stands beside lists m at_row in
-      let same : m ≡ n = cc in
-      let carried = row-carried m own beside at_row says (no-needs i a m before) in
-      let made : Row lists no_amounts j carried.later = row-made m at_other carried.row in
-      let later_same : carried.later ≡ after = row-unique no_amounts formed.program made other in
-      let each : EachBeside x no_amounts before after (accounts_after lists m a) =
-      subst (λ (ks : List Judgement). EachBeside x no_amounts before ks (accounts_after lists m a)) later_same carried.each
-      in
-      at-place k b
-      (subst (λ (l : CodeNode). EachBeside x no_amounts before after (accounts_after lists l a)) same each) among
-
   -- each judgement that the declaration reaches stands beside one that has a derivation
   reached-under : (x : Annotations) (k : Judgement) (a : Account) → Derives lists x (start_of lists x d)
       → Reaches lists d k a → ReachedUnder lists x k a
@@ -82,7 +64,8 @@ module _ {lists : ProgramLists} (formed : IsWellFormed lists) (p : ℕ) (d : Pro
   reached-under x k b derivation (reaching.next {j} {a = a} n after before there row among) =
       let r = reached-under x j a derivation before in
       let (own_after, own_row) = derives-row formed r.derives in
-      let at = next-at_place x r.judgement j k a b n own_after after r.own r.beside own_row there row among in
+      let each = each-beside formed r.own r.beside own_row there row in
+      let at = at-place k b each among in
       record {
         judgement = at.judgement;
         own = next-is_judgement formed r.own own_row at.among;

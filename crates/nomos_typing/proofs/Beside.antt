@@ -1,6 +1,6 @@
 -- A judgement under the one amounts stands beside one under other amounts where they differ in amounts alone, and both
 -- have the amounts of one account.
-use Rattle.std.proofs.Common.{◌≡◌, ◌≤◌, ◌+◌, ◌-◌, ℕ, List, [], ◌∷◌, Contains, Some, zip, zero, suc, slice_get, length, refl, ap, sym, subst, ◌∙◌, arith}
+use Rattle.std.proofs.Common.{◌≡◌, ◌≤◌, ◌+◌, ◌-◌, ℕ, List, [], ◌∷◌, map, Contains, Some, zip, zero, suc, slice_get, length, refl, ap, sym, subst, ◌∙◌, arith}
 use Rattle.std.proofs.lemmas.List.Sums.{sum_by-cons}
 use Rattle.nomos_ir.specs.declared.amount.Amount.{Amount}
 use Rattle.nomos_ir.specs.declared.code_node.Chan.{Chan}
@@ -310,6 +310,12 @@ module _ {x y : Annotations} where
   its-account k (more beside rest) (suc i, inside, is) =
       let (a, (at, within, found)) = its-account k rest (i, omega arith, is) in
       (a, (suc at, omega arith, found))
+
+-- beside each judgement of the second side stands one account
+pub judgements-paired : {x y : Annotations} {js ks : List Judgement} {bs : List Account} → EachBeside x y js ks bs
+    → map (λ (e : Judgement × Account). e.0) (zip ks bs) ≡ ks
+judgements-paired none = refl
+judgements-paired (more {k = k} beside rest) = ap (λ (ls : List Judgement). k ∷ ls) (judgements-paired rest)
 
 -- a judgement of the second side stands beside itself
 pub second-beside : {x y : Annotations} {j k : Judgement} {a : Account} → Beside x y j k a → Beside y y k k a

@@ -21,6 +21,7 @@ use Rattle.nomos_types.proofs.AlikeLaws.{alike-same}
 use Rattle.nomos_types.proofs.DerivationLaws.{derives-next}
 use Rattle.nomos_types.proofs.JudgementLaws.{row-keeps_judgement}
 use Rattle.nomos_types.proofs.RowLaws.{row-at}
+use Rattle.nomos_types.proofs.UniqueRows.{row-unique}
 use Rattle.nomos_typing.specs.Account.{Account, start_account, spends, worth_of, Affords}
 use Rattle.nomos_typing.specs.Accounting.{accounts_after}
 use Rattle.nomos_typing.specs.Asking.{AsksPair}
@@ -76,6 +77,23 @@ pub next-is_judgement : {lists : ProgramLists} {x : Annotations} {j k : Judgemen
     → IsWellFormed lists → IsJudgement lists j → Row lists x j after → Contains after k → IsJudgement lists k
 next-is_judgement {lists} {k = k} {after = after} formed is_judgement row among =
     All-contains (IsJudgement lists) after k (row-keeps_judgement formed is_judgement row) among
+
+-- rows of judgements that stand side by side go on side by side, where amounts are ignored on the second side
+pub each-beside : {lists : ProgramLists} {x : Annotations} {i j : Judgement} {a : Account} {n : CodeNode}
+    {before after : List Judgement} → IsWellFormed lists → IsJudgement lists i → Beside x no_amounts i j a
+    → Row lists x i before → StandsAtCode lists j n → Row lists no_amounts j after
+    → EachBeside x no_amounts before after (accounts_after lists n a)
+each-beside {lists} {x} {i} {j} {a} {n} {before} {after} formed own beside row there other =
+    let (m, at_row, says) = row-at row in
+    let at_other = stands beside lists m at_row in
+    let same : m ≡ n = cc in
+    let carried = row-carried m own beside at_row says (no-needs i a m before) in
+    let made : Row lists no_amounts j carried.later = row-made m at_other carried.row in
+    let later_same : carried.later ≡ after = row-unique no_amounts formed.program made other in
+    let each : EachBeside x no_amounts before after (accounts_after lists m a) =
+    subst (λ (ks : List Judgement). EachBeside x no_amounts before ks (accounts_after lists m a)) later_same carried.each
+    in
+    subst (λ (l : CodeNode). EachBeside x no_amounts before after (accounts_after lists l a)) same each
 
 -- ---- derivations
 

@@ -15,3 +15,5 @@ pub mod RowsOver
 pub mod StarLaws
 pub mod StuckLaws
 pub mod PairLaws
+pub mod ReachingLaws
+pub mod AmountLaws

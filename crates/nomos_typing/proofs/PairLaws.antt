@@ -31,9 +31,10 @@ use Rattle.nomos_types.specs.Typed.{IsWellFormed}
 use Rattle.nomos_typing.specs.Account.{Account}
 use Rattle.nomos_typing.specs.Asking.{Invokes, spawns, calls, AsksPair, paid, got, carried, compared, IsAsked}
 use Rattle.nomos_typing.specs.Reaching.{Reaches}
+use Rattle.nomos_typing.proofs.AmountLaws.{code-amount, proc-amount, type-amount}
 use Rattle.nomos_typing.proofs.FormLaws.{HasStarsUpTo}
 use Rattle.nomos_typing.proofs.ListLemmas.{contains-inside, paired-second}
-use Rattle.nomos_typing.proofs.StarLaws.{code-star, proc-star, type-star, reached-stars}
+use Rattle.nomos_typing.proofs.StarLaws.{program-star, reached-stars}
 
 -- what a type unfolds to is a type node
 unfolded-there : (lists : ProgramLists) (t : ℕ) (n : TypeNode) → Unfolds lists t n
@@ -63,7 +64,8 @@ module _ {lists : ProgramLists} (is_program : IsProgram lists) where
   unfolded-star t n r unfolds pays =
       let (s, there) = unfolded-there lists t n unfolds in
       let (at, found, is) = type_node-at lists s n there in
-      type-star is_program s at r found (subst (λ (m : TypeNode). Contains (type_amounts m) r) (sym is) (paid-among n r pays))
+      program-star r is_program
+      (type-amount lists s at r found (subst (λ (m : TypeNode). Contains (type_amounts m) r) (sym is) (paid-among n r pays)))
 
   -- the amounts that stand at equal paths have stars of the program
   pub paths-up_to : {a b : TypeId} {pair : Amount × Amount} → StandAtEqualPaths lists a b pair
@@ -88,21 +90,22 @@ module _ {lists : ProgramLists} (is_program : IsProgram lists) where
       let here : Contains (par_amounts par) s =
       subst (λ (o : Option Amount). Contains (option_to_list o) s) (sym is) (0, omega arith, refl)
       in
-      proc-star is_program f d s declared
+      program-star s is_program
+      (proc-amount lists f d s declared
       (Contains-append_left (flat_map par_amounts d.values) (d.amount ∷ []) s
-      (contains-inside par_amounts d.values par s among here))
+      (contains-inside par_amounts d.values par s among here)))
 
   -- the pairs for which an instruction asks
   pair-up_to : (j : Judgement) (a : Account) (pair : Amount × Amount) → HasStarsUpTo (star_count lists) a
       → AsksPair lists j a pair → IsPairUpTo (star_count lists) pair
   pair-up_to j a _ stars (paid {at} {c} {r} {s} {next} there t (u, found, unfolds)) =
       (
-        code-star is_program j.code.0 (code.Pay at c r next) r there (0, omega arith, refl),
+        program-star r is_program (code-amount lists j.code.0 (code.Pay at c r next) r there (0, omega arith, refl)),
         unfolded-star u.0 _ s unfolds (side-pays c s t),
       )
   pair-up_to j a _ stars (got {at} {c} {r} {s} {next} there t (u, found, unfolds)) =
       (
-        code-star is_program j.code.0 (code.Get at c r next) r there (0, omega arith, refl),
+        program-star r is_program (code-amount lists j.code.0 (code.Get at c r next) r there (0, omega arith, refl)),
         unfolded-star u.0 _ s unfolds (side-gets c s t),
       )
   pair-up_to j a _ stars (carried {d} {args} {w} {par} {r} {s} invokes among bound its) =
