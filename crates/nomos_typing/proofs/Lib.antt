@@ -9,12 +9,15 @@ pub mod Carrying
 pub mod ChannelLaws
 pub mod FormLaws
 pub mod FormLemmas
+pub mod GatherLemmas
 pub mod HeadsOver
 pub mod LeadLemmas
+pub mod LeavingLemmas
 pub mod LimitLemmas
 pub mod ListAmounts
 pub mod ListLemmas
 pub mod MemberLemmas
+pub mod NoteLemmas
 pub mod PairLaws
 pub mod PlaceLemmas
 pub mod PlacesLemmas
@@ -29,3 +32,5 @@ pub mod StandingLemmas
 pub mod StarLaws
 pub mod StepRows
 pub mod StuckLaws
+pub mod VisitLemmas
+pub mod WayLemmas

@@ -4,4 +4,7 @@ pub mod Limits
 pub mod Moves
 pub mod Places
 pub mod Standing
+pub mod Starting
+pub mod Stops
 pub mod Walking
+pub mod Ways

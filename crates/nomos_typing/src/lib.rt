@@ -3,12 +3,14 @@
 
 mod asked;
 mod bound;
+mod branch;
 mod chances;
 mod channels;
 mod choices;
+mod instruction;
+mod operands;
 mod potential;
 mod sides;
-mod operands;
 mod standing;
 mod variables;
 mod walk;

@@ -16,15 +16,17 @@ use Rattle.nomos_types.specs.Judgement.{Judgement}
 use Rattle.nomos_types.specs.Row.{Row, StandsAtCode}
 use Rattle.nomos_typing.specs.Account.{Account, spends, form_of}
 use Rattle.nomos_typing.specs.Accounting.{accounts_after}
-use Rattle.nomos_typing.specs.Asking.{AsksPair}
+use Rattle.nomos_typing.specs.Asking.{AsksPair, IsAsked}
 use Rattle.nomos_typing.specs.Checking.{code_offset, code_form}
+use Rattle.nomos_typing.specs.Reaching.{Reaches, IsFormOf}
 use Rattle.nomos_typing.specs.declared.standing.Forks.{Forks}
 use Rattle.nomos_typing.specs.declared.standing.Standing.{Standing}
 use Rattle.nomos_typing.specs.declared.standing.Way.{Way}
 use Rattle.nomos_typing.specs.declared.standing.Way.TheVariants as way
 use Rattle.nomos_typing.specs.declared.walk.Stuck.{Stuck}
 use Rattle.nomos_typing.specs.declared.walk.Walk.{Walk}
-use Rattle.nomos_typing.specs.mirror.Standing.{shape_of, HasAccount, IsWithin, way_shape, way_account, IsWayOf, NoRow, HasPair}
+use Rattle.nomos_typing.specs.mirror.Stops.{first_stuck}
+use Rattle.nomos_typing.specs.mirror.Standing.{shape_of, HasAccount, IsWithin, way_shape, way_account, IsWayOf, NoRow, HasPair, JoinsAsked}
 
 -- ---- places
 
@@ -64,38 +66,36 @@ pub record Grows (old new : Walk) : Type 0 where
   pub stuck : (at : ℕ) → IsStuckBy old.stuck at → IsStuckBy new.stuck at
   pub none : new.stuck ≡ None → old.stuck ≡ None
 
--- a place to which the code leads from a first judgement and account, and which asks for the form, or for the pair, or
--- is stuck
-pub record FormFrom (lists : ProgramLists) (n : ℕ) (i : Judgement) (c : Account) (f : Form) : Type 0 where
+-- an instruction that the declaration reaches and that no rule applies to
+pub record StuckOf (lists : ProgramLists) (d : ProcDecl) (s : Stuck) : Type 0 where
   pub judgement : Judgement
   pub account : Account
-  pub leads : LeadsFrom lists i c judgement account
-  pub point : IsPointAt lists n judgement account f
-
-pub record PairFrom (lists : ProgramLists) (i : Judgement) (c : Account) (pair : Amount × Amount) : Type 0 where
-  pub judgement : Judgement
-  pub account : Account
-  pub leads : LeadsFrom lists i c judgement account
-  pub asks : AsksPair lists judgement account pair
-
-pub record StuckFrom (lists : ProgramLists) (i : Judgement) (c : Account) (s : Stuck) : Type 0 where
-  pub judgement : Judgement
-  pub account : Account
-  pub leads : LeadsFrom lists i c judgement account
+  pub reached : Reaches lists d judgement account
   pub no_row : NoRow lists judgement
   pub node : CodeNode
   pub stands : StandsAtCode lists judgement node
   pub offset : code_offset node ≡ s.at
   pub is_form : code_form node ≡ s.form
 
--- what was gathered beyond the old is from such places
-pub record Gathers (lists : ProgramLists) (n : ℕ) (i : Judgement) (c : Account) (old new : Walk) : Type 0 where
-  pub forms : (f : Form) → Contains new.forms.items f → Contains old.forms.items f ⊎ FormFrom lists n i c f
+-- what was gathered beyond the old is asked for where the declaration reaches
+pub record Gathers (lists : ProgramLists) (n : ℕ) (d : ProcDecl) (old new : Walk) : Type 0 where
+  pub forms : (f : Form) → Contains new.forms.items f → Contains old.forms.items f ⊎ IsFormOf lists n d f
   pub pairs : new.stuck ≡ None → (pair : Amount × Amount) → HasPair new.asked pair
-      → HasPair old.asked pair ⊎ PairFrom lists i c pair
-  pub stuck : (s : Stuck) → new.stuck ≡ Some s → (old.stuck ≡ Some s) ⊎ StuckFrom lists i c s
+      → HasPair old.asked pair ⊎ IsAsked lists d pair
+  pub stuck : (s : Stuck) → new.stuck ≡ Some s → (old.stuck ≡ Some s) ⊎ StuckOf lists d s
 
 -- ---- what is left
+
+-- some rule applies
+abbrev pub HasRow : ProgramLists → Judgement → Type 0
+HasRow lists j = (after : List Judgement) × Row lists no_amounts j after
+
+-- the instruction of the standing is stuck, and counts from now on
+pub record IsFirstStop (lists : ProgramLists) (s : Standing) (old new : Option Stuck) : Type 0 where
+  pub no_row : NoRow lists (shape_of s)
+  pub node : CodeNode
+  pub stands : StandsAtCode lists (shape_of s) node
+  pub counts : new ≡ first_stuck old (record { at = code_offset node; form = code_form node })
 
 -- the code leads there from where the process stands, with one of its accounts
 pub record AtStanding (lists : ProgramLists) (n : ℕ) (s : Standing) (j : Judgement) (a : Account) : Type 0 where
@@ -117,26 +117,29 @@ pub record IsPending (lists : ProgramLists) (n : ℕ) (todo : List Forks) (j : J
   pub inside : Contains forks.ways.items way
   pub along : AlongWay lists n forks way j a
 
--- the ways are those to which the code leads from the first judgement and account
-pub record IsOpen (lists : ProgramLists) (n : ℕ) (i : Judgement) (c : Account) (f : Forks) : Type 0 where
-  pub within : IsWithin lists f.before
+-- the declaration reaches where the process stands
+pub record IsReached (lists : ProgramLists) (n : ℕ) (d : ProcDecl) (s : Standing) : Type 0 where
+  pub account : Account
+  pub has : HasAccount n s account
+  pub reached : Reaches lists d (shape_of s) account
+
+-- the declaration reaches the ways, and what stands before them
+pub record IsOpen (lists : ProgramLists) (n : ℕ) (d : ProcDecl) (f : Forks) : Type 0 where
   pub account : Account
   pub has : HasAccount n f.before account
+  pub base : Reaches lists d (shape_of f.before) account
   pub there : All (IsWayOf f.before) f.ways.items
   pub reached : (w : Way) → Contains f.ways.items w
-      → LeadsFrom lists i c (way_shape (shape_of f.before) w) (way_account account w)
-  -- a standing at the beginning of a way is in order
-  pub lands : (w : Way) → Contains f.ways.items w → (s : Standing) → shape_of s ≡ way_shape (shape_of f.before) w
-      → HasAccount n s (way_account account w) → IsWithin lists s
+      → Reaches lists d (way_shape (shape_of f.before) w) (way_account account w)
 
--- Of what the code leads to from the first judgement and account, all is done but what is left to do.
-pub record Walking (lists : ProgramLists) (n : ℕ) (i : Judgement) (c : Account) (first : Walk) (todo : List Forks)
-    (w : Walk) : Type 0 where
+-- Of what the code leads to from a first judgement and account, all is done but what is left to do.
+pub record Walking (lists : ProgramLists) (n : ℕ) (d : ProcDecl) (i : Judgement) (c : Account) (first : Walk)
+    (todo : List Forks) (w : Walk) : Type 0 where
   pub complete : (j : Judgement) (a : Account) → LeadsFrom lists i c j a
       → IsDone lists n w j a ⊎ IsPending lists n todo j a
-  pub gathers : Gathers lists n i c first w
+  pub gathers : Gathers lists n d first w
   pub grows : Grows first w
-  pub is_open : All (IsOpen lists n i c) todo
+  pub is_open : All (IsOpen lists n d) todo
 
 -- ---- how much is left
 
@@ -179,17 +182,29 @@ pub record Goes (lists : ProgramLists) (n : ℕ) (now : Standing) (old new : Wal
   pub grows : Grows old new
   pub complete : (j : Judgement) (a : Account) → AtStanding lists n now j a
       → IsDone lists n new j a ⊎ IsPending lists n added j a
-  pub gathers : (a : Account) → HasAccount n now a → Gathers lists n (shape_of now) a old new
-  pub is_open : (a : Account) → HasAccount n now a → All (IsOpen lists n (shape_of now) a) added
+  pub gathers : (d : ProcDecl) → IsReached lists n d now → Gathers lists n d old new
+  pub is_open : (d : ProcDecl) → IsReached lists n d now → All (IsOpen lists n d) added
 
 -- on the way from the one standing to the other
 pub record Going (lists : ProgramLists) (n : ℕ) (first now : Standing) (old new : Walk) : Type 0 where
-  pub within : IsWithin lists now
   pub not_later : now.code.0 ≤ first.code.0
   pub todo : new.todo ≡ old.todo
   pub grows : Grows old new
   pub complete : (j : Judgement) (a : Account) → AtStanding lists n first j a
       → IsDone lists n new j a ⊎ AtStanding lists n now j a
-  pub gathers : (a : Account) → HasAccount n first a → Gathers lists n (shape_of first) a old new
-  pub reached : (a : Account) → HasAccount n first a
-      → (b : Account) × HasAccount n now b × LeadsFrom lists (shape_of first) a (shape_of now) b
+  pub gathers : (d : ProcDecl) → IsReached lists n d first → Gathers lists n d old new
+  pub reached : (d : ProcDecl) → IsReached lists n d first → IsReached lists n d now
+
+-- all that a standing asks for was gathered
+pub record Visits (lists : ProgramLists) (s : Standing) (old new : Walk) : Type 0 where
+  pub forms : (a : Account) → HasAccount (star_count lists) s a → (f : Form)
+      → Contains new.forms.items f ↔ (Contains old.forms.items f ⊎ IsPointAt lists (star_count lists) (shape_of s) a f)
+  pub pairs : new.stuck ≡ None → JoinsAsked lists s old.asked new.asked
+  pub stuck : ((new.stuck ≡ old.stuck) × HasRow lists (shape_of s)) ⊎ IsFirstStop lists s old.stuck new.stuck
+
+-- the declaration at a place reaches where the process stands
+pub record IsOnWay (lists : ProgramLists) (n : ℕ) (s : Standing) : Type 0 where
+  pub place : ℕ
+  pub declared : ProcDecl
+  pub found : slice_get lists.procs place ≡ Some declared
+  pub reached : IsReached lists n declared s
