@@ -10,6 +10,7 @@ pub mod ChannelLaws
 pub mod FormLaws
 pub mod FormLemmas
 pub mod GatherLemmas
+pub mod GoingLemmas
 pub mod HeadsOver
 pub mod LeadLemmas
 pub mod LeavingLemmas
@@ -34,3 +35,4 @@ pub mod StepRows
 pub mod StuckLaws
 pub mod VisitLemmas
 pub mod WayLemmas
+pub mod WeightLemmas

@@ -17,7 +17,7 @@ use Rattle.nomos_typing.proofs.FormLaws.{HasStarsUpTo}
 use Rattle.nomos_typing.proofs.ListLemmas.{contains-map}
 
 -- a number among others is at most the greatest
-at_most-greatest : (xs : List ℕ) (x : ℕ) → Contains xs x → x ≤ greatest xs
+pub at_most-greatest : (xs : List ℕ) (x : ℕ) → Contains xs x → x ≤ greatest xs
 at_most-greatest [] x (i, inside, is) = absurd (omega arith)
 at_most-greatest (y ∷ xs) x (zero, inside, is) = omega (arith, is)
 at_most-greatest (y ∷ xs) x (suc i, inside, is) = omega (arith, at_most-greatest xs x (i, omega arith, is))

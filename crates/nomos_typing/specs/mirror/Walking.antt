@@ -1,5 +1,5 @@
 -- A mirror of the code: what was gathered of the places to which the code leads, and what is left to do.
-use Rattle.std.specs.Prelude.{◌≡◌, ◌<◌, ◌≤◌, ◌+◌, ◌*◌, ◌^◌, ◌⊎◌, ◌↔◌, ℕ, List, [], ◌∷◌, ◌++◌, map, All, Contains, Option, Some, None, length, slice_get, zip, sum_by}
+use Rattle.std.specs.Prelude.{◌≡◌, ◌<◌, ◌≤◌, ◌+◌, ◌*◌, ◌⊎◌, ◌↔◌, ℕ, zero, suc, List, [], ◌∷◌, ◌++◌, map, All, Contains, Option, Some, None, length, slice_get, zip, sum_by}
 use Rattle.nomos_ir.specs.declared.amount.Amount.{Amount}
 use Rattle.nomos_ir.specs.declared.code_node.Args.{Args}
 use Rattle.nomos_ir.specs.declared.code_node.CodeNode.{CodeNode}
@@ -149,7 +149,8 @@ width lists = greatest (map (λ n. length (code_next n)) lists.code)
 
 -- more than all that an instruction with this number can lead to
 abbrev pub weight : ℕ → ℕ → ℕ
-weight width place = (width + 2) ^ (place + 1)
+weight width zero = width + 2
+weight width (suc place) = (width + 2) * weight width place
 
 -- the number of the instruction to which a way leads
 abbrev pub way_next : Way → ℕ
