@@ -4,6 +4,7 @@ pub mod Beside
 pub mod BesideArguments
 pub mod BesideRows
 pub mod Carrying
+pub mod CodeOnceLemmas
 pub mod FormLaws
 pub mod HeadsOver
 pub mod ListAmounts
@@ -17,3 +18,4 @@ pub mod StuckLaws
 pub mod PairLaws
 pub mod ReachingLaws
 pub mod AmountLaws
+pub mod SizeLaws
