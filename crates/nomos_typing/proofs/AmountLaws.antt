@@ -1,8 +1,8 @@
 -- The amounts of the accounts that a declaration reaches are amounts of the program.
-use Rattle.std.proofs.Common.{◌≡◌, ◌≤◌, ◌⊎◌, ℕ, zero, suc, List, [], ◌∷◌, ◌++◌, map, max, All, Contains, Option, Some, None, slice_get, zip, length, refl, ap, sym, subst, ◌∙◌, arith}
+use Rattle.std.proofs.Common.{◌≡◌, ℕ, List, [], ◌∷◌, ◌++◌, map, All, Contains, Option, Some, None, slice_get, refl, arith}
 use Rattle.std.specs.List.{flat_map}
 use Rattle.std.specs.Option.{option_to_list}
-use Rattle.std.proofs.lemmas.List.Elements.{All-nil, All-cons, All-head, All-tail, All-append, All-map, All-contains, All-weaker, All-contains_itself, Contains-append_left, Contains-append_right}
+use Rattle.std.proofs.lemmas.List.Elements.{All-nil, All-cons, All-head, All-tail, All-append, All-contains, All-weaker, All-contains_itself, Contains-append_left, Contains-append_right}
 use Rattle.nomos_ir.specs.declared.amount.Amount.{Amount}
 use Rattle.nomos_ir.specs.declared.code_node.Arm.{Arm}
 use Rattle.nomos_ir.specs.declared.code_node.CodeNode.{CodeNode}
@@ -15,7 +15,7 @@ use Rattle.nomos_ir.specs.declared.ids.VarId.{VarId}
 use Rattle.nomos_ir.specs.declared.lists.ProgramLists.{ProgramLists}
 use Rattle.nomos_ir.specs.declared.type_node.TypeAt.{TypeAt}
 use Rattle.nomos_ir.specs.Amounts.{amounts_of, proc_amounts, par_amounts}
-use Rattle.nomos_ir.specs.Bindings.{bound_to, bind, unbind, bindings_of}
+use Rattle.nomos_ir.specs.Bindings.{bound_to, bind, unbind}
 use Rattle.nomos_ir.specs.CodeParts.{code_amounts}
 use Rattle.nomos_ir.specs.TypeParts.{type_amounts}
 use Rattle.nomos_ir.proofs.BindingLaws.{all-after_bind, all-after_unbind, all-in_bindings_of, all-bound}
@@ -164,7 +164,7 @@ module _ (lists : ProgramLists) where
       let among = code-amount lists c (code.Work at r next) r there (0, omega arith, refl) in
       one-account lists (spends r a) (spends-amounts lists r a among amounts)
   amounts-after c (code.Spawn at v f args next) a there amounts =
-            let left = with_lists a (without_passed args.values a.lists) in
+      let left = with_lists a (without_passed args.values a.lists) in
       let left_amounts = lists-amounts lists a left.lists amounts (passed-amounts lists args.values a.lists amounts.lists) in
       one-account lists (spends_for (slice_get lists.procs f.0) left)
       (declared-amounts f.0 (slice_get lists.procs f.0) left refl left_amounts)
@@ -173,7 +173,7 @@ module _ (lists : ProgramLists) where
   amounts-after c (code.Fwd at v) a there amounts = All-nil (AreOfProgram lists)
   amounts-after c (code.Call at f args) a there amounts = All-nil (AreOfProgram lists)
   amounts-after c (code.Empty at v r kind next) a there amounts =
-            let among = code-amount lists c (code.Empty at v r kind next) r there (0, omega arith, refl) in
+      let among = code-amount lists c (code.Empty at v r kind next) r there (0, omega arith, refl) in
       let all = all-after_bind (Contains (amounts_of lists)) v r a.lists amounts.lists among in
       one-account lists (with_lists a (bind v r a.lists)) (lists-amounts lists a (bind v r a.lists) amounts all)
   amounts-after c (code.Add at v e w next) a there amounts =

@@ -1,6 +1,6 @@
 -- A judgement under the one amounts stands beside one under other amounts where they differ in amounts alone, and both
 -- have the amounts of one account.
-use Rattle.std.proofs.Common.{◌≡◌, ◌≤◌, ◌+◌, ◌-◌, ℕ, List, [], ◌∷◌, map, Contains, Some, zip, zero, suc, slice_get, length, refl, ap, sym, subst, ◌∙◌, arith}
+use Rattle.std.proofs.Common.{◌≡◌, ◌≤◌, ◌+◌, ◌-◌, ℕ, List, [], ◌∷◌, map, Contains, zip, zero, suc, refl, ap, sym, subst, ◌∙◌, arith}
 use Rattle.std.proofs.lemmas.List.Sums.{sum_by-cons}
 use Rattle.nomos_ir.specs.declared.amount.Amount.{Amount}
 use Rattle.nomos_ir.specs.declared.code_node.Chan.{Chan}
@@ -16,7 +16,7 @@ use Rattle.nomos_ir.specs.declared.mode.Mode.TheVariants as mode
 use Rattle.nomos_ir.specs.declared.type_node.TypeNode.{TypeNode}
 use Rattle.nomos_ir.specs.Bindings.{bind, unbind}
 use Rattle.nomos_types.specs.Amount.{Annotations, dths}
-use Rattle.nomos_types.specs.Judgement.{Judgement, ListType, IsFree, parts_with, channel_type, at_code, goes_on, with_potential, binds_value, binds_list, binds_channel}
+use Rattle.nomos_types.specs.Judgement.{Judgement, ListType, IsFree, channel_type, at_code, goes_on, with_potential, binds_value, binds_list, binds_channel}
 use Rattle.nomos_types.specs.Premises.{HasType}
 use Rattle.nomos_types.specs.Row.{StandsAtCode, gives_up}
 use Rattle.nomos_typing.specs.Account.{Account, gains, spends, with_lists, worth_of, Affords}
@@ -167,7 +167,7 @@ module _ {x y : Annotations} where
     -- a list is bound
     pub list-beside : (v : VarId) (kind : Kind) (r : Amount)
         → Beside x y (binds_list j v (list_at x kind r)) (binds_list k v (list_at y kind r))
-            (with_lists a (bind v r a.lists))
+        (with_lists a (bind v r a.lists))
     list-beside v kind r =
         record {
           same = ap (λ (s : Judgement). changed s (bind v (list_at y kind r) k.lists) k.q) beside.same;
@@ -179,7 +179,7 @@ module _ {x y : Annotations} where
     -- a list is used up
     pub unbound-beside : (v : ℕ)
         → Beside x y (record j { lists = unbind v j.lists }) (record k { lists = unbind v k.lists })
-            (with_lists a (unbind v a.lists))
+        (with_lists a (unbind v a.lists))
     unbound-beside v =
         record {
           same = ap (λ (s : Judgement). changed s (unbind v k.lists) k.q) beside.same;

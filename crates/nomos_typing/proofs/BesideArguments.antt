@@ -1,5 +1,5 @@
 -- What passes under the one amounts passes under others too, where the amounts that have to be worth the same are.
-use Rattle.std.proofs.Common.{◌≡◌, ◌≢◌, ◌≤◌, ◌⊎◌, inl, inr, ℕ, zero, suc, List, [], ◌∷◌, Contains, Option, Some, None, zip, refl, ap, sym, subst, ◌∙◌, arith}
+use Rattle.std.proofs.Common.{◌≡◌, inl, inr, ℕ, zero, suc, List, ◌∷◌, Contains, Option, Some, None, zip, refl, ap, sym, subst, ◌∙◌, arith}
 use Rattle.std.proofs.lemmas.Bool.{cases_eq}
 use Rattle.nomos_ir.specs.declared.amount.Amount.{Amount}
 use Rattle.nomos_ir.specs.declared.code_node.Args.{Args}
@@ -99,8 +99,7 @@ module _ {lists : ProgramLists} {x : Annotations} where
   passed-alike {j} v par ascends (passes.channel {v = w} {par = other} first others) (zero, inside, is) =
       let (own, of, alike) = passed-type first in
       let variable : w ≡ v = ap (λ (p : VarId × (VarId × TypeId)). p.0) is in
-      let parameter : other ≡ par = ap (λ (p : VarId × (VarId × TypeId)). p.1) is in
-      (
+      let parameter : other ≡ par = ap (λ (p : VarId × (VarId × TypeId)). p.1) is in (
         own,
         subst (λ (u : VarId). IsOfType j u own) variable of,
         subst (λ (p : VarId × TypeId). AlikeTypes lists x own p.1) parameter alike,
@@ -169,8 +168,7 @@ module _ {lists : ProgramLists} {x y : Annotations} where
       (k, passes.shared own found (alike-changed alike (worth own (inl there))), beside)
   channel-passes {j} {k} {v = v} beside (passes.linear own no_reference there alike) worth =
       let nowhere : bound_to v.0 k.shared ≡ None = along beside (λ s. bound_to v.0 s.shared ≡ None) no_reference in
-      let found : bound_to v.0 k.linear ≡ Some own = along beside (λ s. bound_to v.0 s.linear ≡ Some own) there in
-      (
+      let found : bound_to v.0 k.linear ≡ Some own = along beside (λ s. bound_to v.0 s.linear ≡ Some own) there in (
         record k { linear = unbind v.0 k.linear },
         passes.linear own nowhere found (alike-changed alike (worth own (inr there))),
         gives_up-beside beside v,
@@ -180,7 +178,7 @@ module _ {lists : ProgramLists} {x y : Annotations} where
   pub channels-pass : {j k left : Judgement} {a : Account} {vs : List VarId} {pars : List (VarId × TypeId)}
       → Beside x y j k a → IsAscending j.linear → PassesChannels lists x j vs pars left
       → ((v : VarId) (par : VarId × TypeId) (own : TypeId) → Contains (zip vs pars) (v, par) → IsOfType j v own
-          → WorthSame lists y own par.1)
+      → WorthSame lists y own par.1)
       → (rest : Judgement) × PassesChannels lists y k vs pars rest × Beside x y left rest a
   channels-pass {k = k} beside ascends passes.none worth = (k, passes.none, beside)
   channels-pass beside ascends (passes.channel {v = v} {vs = vs} {par = par} {pars = pars} first others) worth =
@@ -197,9 +195,9 @@ module _ {lists : ProgramLists} {x y : Annotations} where
   pub values-pass : {j k left : Judgement} {a : Account} {args : List ValueArg} {pars : List Par} → Beside x y j k a
       → IsAscending a.lists → PassesValues lists x j args pars left
       → ((w : VarId) (par : Par) (r s : Amount) → Contains (zip args pars) (arg.List w, par)
-          → bound_to w.0 a.lists ≡ Some r → par.amount ≡ Some s → dths y r ≡ dths y s)
+      → bound_to w.0 a.lists ≡ Some r → par.amount ≡ Some s → dths y r ≡ dths y s)
       → (rest : Judgement) × PassesValues lists y k args pars rest
-          × Beside x y left rest (with_lists a (without_passed args a.lists))
+      × Beside x y left rest (with_lists a (without_passed args a.lists))
   values-pass {k = k} beside ascends passes.none worth = (k, passes.none, beside)
   values-pass {k = k} beside ascends (passes.value {args = args} {par = par} {pars = pars} (passes.term {e = e} no_list kind) others) worth =
       let its_kind : HasKind lists k.kinds e par.kind = along beside (λ s. HasKind lists s.kinds e par.kind) kind in
@@ -224,11 +222,11 @@ module _ {lists : ProgramLists} {x y : Annotations} where
   pub arguments-pass : {j k left : Judgement} {a : Account} {d : ProcDecl} {args : Args} → Beside x y j k a
       → IsJudgement lists j → ArgumentsFit lists x j d args left
       → ((w : VarId) (par : Par) (r s : Amount) → Contains (zip args.values d.values) (arg.List w, par)
-          → bound_to w.0 a.lists ≡ Some r → par.amount ≡ Some s → dths y r ≡ dths y s)
+      → bound_to w.0 a.lists ≡ Some r → par.amount ≡ Some s → dths y r ≡ dths y s)
       → ((v : VarId) (par : VarId × TypeId) (own : TypeId) → Contains (zip args.channels d.channels) (v, par)
-          → IsOfType j v own → WorthSame lists y own par.1)
+      → IsOfType j v own → WorthSame lists y own par.1)
       → (rest : Judgement) × ArgumentsFit lists y k d args rest
-          × Beside x y left rest (with_lists a (without_passed args.values a.lists))
+      × Beside x y left rest (with_lists a (without_passed args.values a.lists))
   arguments-pass beside h fit lists_worth worth =
       let (between, values, beside_between) =
       values-pass beside (ascends-both beside.lists h.lists_ascend) fit.values lists_worth

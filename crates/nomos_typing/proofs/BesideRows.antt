@@ -1,6 +1,6 @@
 -- A row under the one amounts is carried over to others, where what it needs is met there: the account afforded, and
 -- the amounts of each pair worth the same.
-use Rattle.std.proofs.Common.{◌≡◌, ◌≤◌, ◌+◌, ◌-◌, ◌⊎◌, ℕ, IsTrue, List, [], ◌∷◌, map, All, Contains, Option, Some, None, slice_get, zip, refl, ap, sym, subst, ◌∙◌, arith, eq-eqb, cond}
+use Rattle.std.proofs.Common.{◌≡◌, ◌+◌, ◌-◌, ◌⊎◌, ℕ, IsTrue, List, [], ◌∷◌, map, All, Contains, Option, Some, None, slice_get, zip, refl, ap, sym, subst, ◌∙◌, arith, eq-eqb, cond}
 use Rattle.nomos_ir.specs.declared.amount.Amount.{Amount}
 use Rattle.nomos_ir.specs.declared.code_node.Args.{Args}
 use Rattle.nomos_ir.specs.declared.code_node.Arm.{Arm}
@@ -17,14 +17,13 @@ use Rattle.nomos_ir.specs.declared.ids.VarId.{VarId}
 use Rattle.nomos_ir.specs.declared.lists.ProgramLists.{ProgramLists}
 use Rattle.nomos_ir.specs.declared.mode.Mode.TheVariants as mode
 use Rattle.nomos_ir.specs.declared.type_node.Branch.{Branch}
-use Rattle.nomos_ir.specs.declared.type_node.TypeNode.TheVariants as node
 use Rattle.nomos_ir.specs.Bindings.{bound_to, bind, unbind}
 use Rattle.nomos_ir.specs.TermKind.{HasKind, bool_kind}
 use Rattle.nomos_types.specs.Alike.{AlikeTypes}
 use Rattle.nomos_types.specs.Amount.{Annotations, dths}
-use Rattle.nomos_types.specs.Judgement.{Judgement, ListType, IsJudgement, IsFree, at_code, goes_on, with_potential, binds_value, binds_list, binds_channel}
+use Rattle.nomos_types.specs.Judgement.{Judgement, ListType, IsJudgement, at_code, goes_on, with_potential, binds_value, binds_list, binds_channel}
 use Rattle.nomos_types.specs.Modes.{HasMode, may_spawn}
-use Rattle.nomos_types.specs.Premises.{HasType, by_side, ArmsGoOn, none, arm, Spawns, Calls, Adds, TakesApart}
+use Rattle.nomos_types.specs.Premises.{ArmsGoOn, none, arm, Spawns, Calls, Adds, TakesApart}
 use Rattle.nomos_types.specs.Row.{StandsAtCode, gives_up, without_list, takes_parts}
 use Rattle.nomos_types.proofs.RowLaws.{RowAt}
 use Rattle.nomos_typing.specs.Account.{Account, spends, gains, with_lists, Affords}
@@ -32,7 +31,7 @@ use Rattle.nomos_typing.specs.Accounting.{accounts_after, spends_for, without_pa
 use Rattle.nomos_typing.specs.Asking.{AsksPair, paid, got, carried, compared, sent, passed, called, forwarded, spawns, calls}
 use Rattle.nomos_typing.proofs.Beside.{Beside, EachBeside, more, one, two, no_more, along, free, at_code-beside, goes_on-beside, taken_over-beside, gives_up-beside, value-beside, channel-beside, list-beside, unbound-beside, spends-beside, gains-beside, enough, has_type-beside}
 use Rattle.nomos_typing.proofs.BesideArguments.{alike-changed, channel-passes, arguments-pass}
-use Rattle.nomos_typing.proofs.ListAmounts.{list_at, FoundBoth, found-both}
+use Rattle.nomos_typing.proofs.ListAmounts.{list_at, found-both}
 
 -- the needs of an instruction are met under these amounts
 pub record MeetsNeeds (lists : ProgramLists) (y : Annotations) (j : Judgement) (a : Account) (n : CodeNode)
@@ -53,7 +52,7 @@ pub record Carried (lists : ProgramLists) (x y : Annotations) (k : Judgement) (n
 arms-carried : {x y : Annotations} {j k : Judgement} {a : Account} (c : Chan) (branches : List Branch) → Beside x y j k a
     → {arms : List Arm} {after : List Judgement} → ArmsGoOn j c branches arms after
     → (later : List Judgement) × ArmsGoOn k c branches arms later
-        × EachBeside x y after later (map (λ arm. a) arms)
+    × EachBeside x y after later (map (λ arm. a) arms)
 arms-carried c branches b none = ([], none, EachBeside.none)
 arms-carried {k = k} c branches b (arm {a = first} t goes rest) =
     let (later, others, each) = arms-carried c branches b rest in
@@ -120,7 +119,7 @@ module _ {lists : ProgramLists} {x y : Annotations} where
       (empty_next full_next : CodeId) (l : ListType) → Beside x y j k a → TakesApart j w head tail l
       → after ≡ without_list j w empty_next ∷ with_potential (takes_parts j w head tail l full_next) (j.q + l.amount) ∷ []
       → Carried lists x y k (code.Match at w empty_next head tail full_next) after
-          (accounts_after lists (code.Match at w empty_next head tail full_next) a)
+      (accounts_after lists (code.Match at w empty_next head tail full_next) a)
   match-carried {j} {k} {a} {after} at w head tail empty_next full_next l b h is =
       let f = found-both w.0 l b.lists h.there in
       let r = f.amount in

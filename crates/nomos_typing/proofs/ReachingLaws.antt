@@ -1,5 +1,5 @@
 -- Each judgement that follows from the start of a declaration is reached, with one account, which has its lists.
-use Rattle.std.proofs.Common.{◌≡◌, ◌<◌, ◌≤◌, ℕ, List, Contains, Some, slice_get, zip, refl, ap, sym, subst, ◌∙◌, arith}
+use Rattle.std.proofs.Common.{◌≡◌, ◌≤◌, ℕ, List, Contains, Some, slice_get, zip, refl, ap, sym, subst, arith}
 use Rattle.std.specs.Map.{keys_of}
 use Rattle.nomos_ir.specs.declared.code_node.CodeNode.{CodeNode}
 use Rattle.nomos_ir.specs.declared.declaration.ProcDecl.{ProcDecl}
@@ -9,7 +9,7 @@ use Rattle.nomos_types.specs.Derivation.{Follows}
 use Rattle.nomos_types.specs.Derivation as following
 use Rattle.nomos_types.specs.Equality.{no_amounts}
 use Rattle.nomos_types.specs.Judgement.{Judgement, IsJudgement, start_of}
-use Rattle.nomos_types.specs.Row.{Row, StandsAtCode}
+use Rattle.nomos_types.specs.Row.{Row}
 use Rattle.nomos_types.specs.Typed.{IsWellFormed}
 use Rattle.nomos_types.proofs.RowLaws.{row-at}
 use Rattle.nomos_types.proofs.StartLaws.{start-is_judgement}
@@ -18,7 +18,7 @@ use Rattle.nomos_typing.specs.Account.{Account, start_account}
 use Rattle.nomos_typing.specs.Accounting.{accounts_after}
 use Rattle.nomos_typing.specs.Reaching.{Reaches}
 use Rattle.nomos_typing.specs.Reaching as reaching
-use Rattle.nomos_typing.proofs.Beside.{Beside, EachBeside, at-place, its-account, judgements-paired, second-beside}
+use Rattle.nomos_typing.proofs.Beside.{Beside, at-place, its-account, judgements-paired, second-beside}
 use Rattle.nomos_typing.proofs.Carrying.{each-beside, next-is_judgement, start-beside}
 use Rattle.nomos_typing.proofs.CodeOnceLemmas.{one-behind, one-at_place}
 use Rattle.nomos_typing.proofs.ListAmounts.{keys-both}

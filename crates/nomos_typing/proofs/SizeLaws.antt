@@ -1,5 +1,5 @@
 -- The numbers of forms are small: an account has no more amounts than there are instructions on the way to it and one.
-use Rattle.std.proofs.Common.{◌≡◌, ◌<◌, ◌≤◌, ◌+◌, ◌*◌, ◌^◌, ◌==◌, ℕ, zero, suc, Bool, true, false, if◌then◌else◌, List, [], ◌∷◌, map, length, All, Contains, Option, Some, None, slice_get, zip, refl, ap, sym, subst, ◌∙◌, arith, ℤ, pos, ◌+ℤ◌, ◌-ℤ◌, unsigned_abs}
+use Rattle.std.proofs.Common.{◌≡◌, ◌≤◌, ◌+◌, ◌*◌, ◌==◌, ℕ, suc, Bool, true, false, if◌then◌else◌, List, [], ◌∷◌, map, length, All, Contains, Option, Some, None, slice_get, refl, sym, subst, ◌∙◌, arith, ℤ, pos, ◌+ℤ◌, ◌-ℤ◌, unsigned_abs}
 use Rattle.std.specs.Prelude.{sum_by}
 use Rattle.std.specs.List.{range_with_len}
 use Rattle.std.proofs.lemmas.Int.{ints}
@@ -24,7 +24,7 @@ use Rattle.nomos_forms.specs.Bounds.{IsSmall, IsForm}
 use Rattle.nomos_forms.specs.RowsOf.{share_of, units_in}
 use Rattle.nomos_types.specs.Judgement.{Judgement}
 use Rattle.nomos_types.specs.Typed.{IsWellFormed}
-use Rattle.nomos_typing.specs.Account.{Account, start_account, shares, form_of}
+use Rattle.nomos_typing.specs.Account.{Account, shares, form_of}
 use Rattle.nomos_typing.specs.Accounting.{accounts_after, spends_for, grows_list, parts_list}
 use Rattle.nomos_typing.specs.Reaching.{Reaches, IsPoint}
 use Rattle.nomos_typing.specs.Reaching as reaching
