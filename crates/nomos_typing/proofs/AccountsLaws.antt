@@ -37,7 +37,8 @@ record ReachedUnder (lists : ProgramLists) (x : Annotations) (k : Judgement) (a 
   beside : Beside x no_amounts judgement k a
   derives : Derives lists x judgement
 
-module _ {lists : ProgramLists} (formed : IsWellFormed lists) (p : ℕ) (d : ProcDecl) (declared : slice_get lists.procs p ≡ Some d) where
+module _ {lists : ProgramLists} (formed : IsWellFormed lists) (p : ℕ) (d : ProcDecl)
+    (declared : slice_get lists.procs p ≡ Some d) where
   -- ---- what a derivation gives
 
   -- each judgement that the declaration reaches stands beside one that has a derivation
@@ -108,7 +109,8 @@ module _ {lists : ProgramLists} (formed : IsWellFormed lists) (p : ℕ) (d : Pro
       record {
         next = λ j k a b n after reached there row among. reaching.next n after reached there row among;
         afforded = λ j a reached. points a (reaching.before reached);
-        call = λ j a at f args e reached there found. points (spends e.amount a) (reaching.called reached there e found);
+        call = λ j a at f args e reached there found. points (spends e.amount a)
+            (reaching.called reached there e found);
         pairs = λ j a q reached asks. pairs q (record { judgement = j; account = a; reached = reached; asks = asks });
       }
       in

@@ -82,16 +82,27 @@ pub record AreOfProgram (program : ProgramLists) (a : Account) : Type 0 where
 
 module _ (program : ProgramLists) where
   -- an amount more
-  pub spends-amounts : (r : Amount) (a : Account) → Contains (amounts_of program) r → AreOfProgram program a → AreOfProgram program (spends r a)
+  pub spends-amounts : (r : Amount) (a : Account) → Contains (amounts_of program) r → AreOfProgram program a
+      → AreOfProgram program (spends r a)
   spends-amounts r a among amounts =
-      record { gained = amounts.gained; spent = All-cons (Contains (amounts_of program)) r a.spent among amounts.spent; lists = amounts.lists }
+      record {
+        gained = amounts.gained;
+        spent = All-cons (Contains (amounts_of program)) r a.spent among amounts.spent;
+        lists = amounts.lists;
+      }
 
-  gains-amounts : (r : Amount) (a : Account) → Contains (amounts_of program) r → AreOfProgram program a → AreOfProgram program (gains r a)
+  gains-amounts : (r : Amount) (a : Account) → Contains (amounts_of program) r → AreOfProgram program a
+      → AreOfProgram program (gains r a)
   gains-amounts r a among amounts =
-      record { gained = All-cons (Contains (amounts_of program)) r a.gained among amounts.gained; spent = amounts.spent; lists = amounts.lists }
+      record {
+        gained = All-cons (Contains (amounts_of program)) r a.gained among amounts.gained;
+        spent = amounts.spent;
+        lists = amounts.lists;
+      }
 
   -- other lists
-  lists-amounts : (a : Account) (bs : List (VarId × Amount)) → AreOfProgram program a → All (λ b. Contains (amounts_of program) b.1) bs
+  lists-amounts : (a : Account) (bs : List (VarId × Amount)) → AreOfProgram program a
+      → All (λ b. Contains (amounts_of program) b.1) bs
       → AreOfProgram program (with_lists a bs)
   lists-amounts a bs amounts all = record { gained = amounts.gained; spent = amounts.spent; lists = all }
 
@@ -107,11 +118,13 @@ module _ (program : ProgramLists) where
   one-account : (b : Account) → AreOfProgram program b → All (AreOfProgram program) (b ∷ [])
   one-account b amounts = All-cons (AreOfProgram program) b [] amounts (All-nil (AreOfProgram program))
 
-  two-accounts : (b c : Account) → AreOfProgram program b → AreOfProgram program c → All (AreOfProgram program) (b ∷ c ∷ [])
+  two-accounts : (b c : Account) → AreOfProgram program b → AreOfProgram program c
+      → All (AreOfProgram program) (b ∷ c ∷ [])
   two-accounts b c first second = All-cons (AreOfProgram program) b (c ∷ []) first (one-account c second)
 
   -- the arms have the same account
-  arms-accounts : (a : Account) (arms : List Arm) → AreOfProgram program a → All (AreOfProgram program) (map (λ arm. a) arms)
+  arms-accounts : (a : Account) (arms : List Arm) → AreOfProgram program a
+      → All (AreOfProgram program) (map (λ arm. a) arms)
   arms-accounts a [] amounts = All-nil (AreOfProgram program)
   arms-accounts a (arm ∷ arms) amounts =
       All-cons (AreOfProgram program) a (map (λ b. a) arms) amounts (arms-accounts a arms amounts)
@@ -129,7 +142,8 @@ module _ (program : ProgramLists) where
       (spends-amounts r (with_lists a grown) among (lists-amounts a grown amounts all))
 
   -- a list that is taken apart, if it is there
-  parted-accounts : (o : Option Amount) (w tail : VarId) (a : Account) → bound_to w.0 a.lists ≡ o → AreOfProgram program a
+  parted-accounts : (o : Option Amount) (w tail : VarId) (a : Account) → bound_to w.0 a.lists ≡ o
+      → AreOfProgram program a
       → All (AreOfProgram program) (parts_list o w tail a)
   parted-accounts None w tail a found amounts = All-nil (AreOfProgram program)
   parted-accounts (Some r) w tail a found amounts =
@@ -165,7 +179,8 @@ module _ (lists : ProgramLists) where
       one-account lists (spends r a) (spends-amounts lists r a among amounts)
   amounts-after c (code.Spawn at v f args next) a there amounts =
       let left = with_lists a (without_passed args.values a.lists) in
-      let left_amounts = lists-amounts lists a left.lists amounts (passed-amounts lists args.values a.lists amounts.lists) in
+      let left_amounts = lists-amounts lists a left.lists amounts
+      (passed-amounts lists args.values a.lists amounts.lists) in
       one-account lists (spends_for (slice_get lists.procs f.0) left)
       (declared-amounts f.0 (slice_get lists.procs f.0) left refl left_amounts)
   amounts-after c (code.If at e then_next else_next) a there amounts = two-accounts lists a a amounts amounts

@@ -26,6 +26,10 @@ use Rattle.nomos_typing.proofs.ListAmounts.{CarryBoth, list_at, counted-both, bi
 abbrev pub changed : Judgement → List (VarId × ListType) → ℕ → Judgement
 changed j ms q = record j { lists = ms; q = q }
 
+-- the mode and the type of `self` change
+abbrev taken_over : Mode → TypeId → CodeId → Judgement → Judgement
+taken_over m t next j = record j { mode = m; offers = t; code = next }
+
 pub record Beside (x y : Annotations) (j k : Judgement) (a : Account) : Type 0 where
   pub same : k ≡ changed j k.lists k.q
   pub lists : CarryBoth x y j.lists k.lists a.lists
@@ -51,7 +55,8 @@ module _ {x y : Annotations} where
   pub two : {after : List Judgement} {i j k l : Judgement} {a b : Account} → after ≡ i ∷ j ∷ [] → Beside x y i k a
       → Beside x y j l b → EachBeside x y after (k ∷ l ∷ []) (a ∷ b ∷ [])
   two {k = k} {l = l} {a = a} {b = b} is first second =
-      subst (λ (s : List Judgement). EachBeside x y s (k ∷ l ∷ []) (a ∷ b ∷ [])) (sym is) (more first (more second none))
+      subst (λ (s : List Judgement). EachBeside x y s (k ∷ l ∷ []) (a ∷ b ∷ [])) (sym is)
+      (more first (more second none))
 
   -- no judgements
   pub no_more : {after : List Judgement} → after ≡ [] → EachBeside x y after [] []
@@ -87,7 +92,8 @@ module _ {x y : Annotations} where
         }
 
     -- the channel goes on
-    pub goes_on-beside : (c : Chan) (t : TypeId) (next : CodeId) → Beside x y (goes_on j c t next) (goes_on k c t next) a
+    pub goes_on-beside : (c : Chan) (t : TypeId) (next : CodeId)
+        → Beside x y (goes_on j c t next) (goes_on k c t next) a
     goes_on-beside chan.Own t next =
         record {
           same = ap (λ s. goes_on s chan.Own t next) beside.same;
@@ -105,10 +111,10 @@ module _ {x y : Annotations} where
 
     -- the mode and the type of `self` change
     pub taken_over-beside : (m : Mode) (t : TypeId) (next : CodeId)
-        → Beside x y (record j { mode = m; offers = t; code = next }) (record k { mode = m; offers = t; code = next }) a
+        → Beside x y (taken_over m t next j) (taken_over m t next k) a
     taken_over-beside m t next =
         record {
-          same = ap (λ (s : Judgement). let r : Judgement = record s { mode = m; offers = t; code = next } in r) beside.same;
+          same = ap (taken_over m t next) beside.same;
           lists = beside.lists;
           left = beside.left;
           right = beside.right;
@@ -261,7 +267,8 @@ module _ {x y : Annotations} where
       record {
         judgement = j;
         among = (0, omega arith, refl);
-        beside = subst (λ (s : Judgement). Beside x y j s a) first (subst (λ (c : Account). Beside x y j l c) second beside);
+        beside = subst (λ (s : Judgement). Beside x y j s a) first
+            (subst (λ (c : Account). Beside x y j l c) second beside);
       }
   at-place k a (more beside rest) (suc i, inside, is) =
       let there = at-place k a rest (i, omega arith, is) in

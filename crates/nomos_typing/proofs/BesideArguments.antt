@@ -48,7 +48,8 @@ pub bound-before : {X : Type 0} (w v : ℕ) (b : List (VarId × X)) (r : X) → 
 bound-before {X} w v b r ascends found =
     elim (cases_eq w v) [
       | inl same ↦
-          let at_v : bound_to v (unbind v b) ≡ Some r = subst (λ (u : ℕ). bound_to u (unbind v b) ≡ Some r) same found in
+          let at_v : bound_to v (unbind v b) ≡ Some r =
+          subst (λ (u : ℕ). bound_to u (unbind v b) ≡ Some r) same found in
           let nowhere = bound-after_unbind v b ascends in
           absurd cc
       | inr other ↦ sym (bound-after_unbind_other w v b other) ∙ found
@@ -59,20 +60,26 @@ later : {X : Type 0} (x y : X) (xs : List X) → Contains xs y → Contains (x �
 later x y xs (i, inside, is) = (suc i, omega arith, is)
 
 -- a variable is that of a channel of one type
-pub of_type-unique : {lists : ProgramLists} {j : Judgement} (v : VarId) (t u : TypeId) → IsJudgement lists j → IsOfType j v t
+pub of_type-unique : {lists : ProgramLists} {j : Judgement} (v : VarId) (t u : TypeId) → IsJudgement lists j
+    → IsOfType j v t
     → IsOfType j v u → t ≡ u
 of_type-unique v t u h (inl left) (inl right) = cc
 of_type-unique v t u h (inr left) (inr right) = cc
 of_type-unique v t u h (inl left) (inr right) =
-    absurd (omega (arith, h.apart v.0, ap (λ (o : Option TypeId). count_one o) left, ap (λ (o : Option TypeId). count_one o) right))
+    let first = ap (λ (o : Option TypeId). count_one o) left in
+    let second = ap (λ (o : Option TypeId). count_one o) right in
+    absurd (omega (arith, h.apart v.0))
 of_type-unique v t u h (inr left) (inl right) =
-    absurd (omega (arith, h.apart v.0, ap (λ (o : Option TypeId). count_one o) left, ap (λ (o : Option TypeId). count_one o) right))
+    let first = ap (λ (o : Option TypeId). count_one o) left in
+    let second = ap (λ (o : Option TypeId). count_one o) right in
+    absurd (omega (arith, h.apart v.0))
 
 module _ {lists : ProgramLists} {x : Annotations} where
   -- ---- channels
 
   -- a channel that is there after another one passed was there before
-  of_type-before : {j : Judgement} {v : VarId} {t : TypeId} {k : Judgement} (w : VarId) (own : TypeId) → IsAscending j.linear
+  of_type-before : {j : Judgement} {v : VarId} {t : TypeId} {k : Judgement} (w : VarId) (own : TypeId)
+      → IsAscending j.linear
       → PassesChannel lists x j v t k → IsOfType k w own → IsOfType j w own
   of_type-before w own ascends (passes.shared _ _ _) of = of
   of_type-before w own ascends (passes.linear _ _ _ _) (inl reference) = inl reference
@@ -80,7 +87,8 @@ module _ {lists : ProgramLists} {x : Annotations} where
       inr (bound-before w.0 v.0 j.linear own ascends there)
 
   -- the channels still ascend
-  linear-ascends : {j : Judgement} {v : VarId} {t : TypeId} {k : Judgement} → IsAscending j.linear → PassesChannel lists x j v t k
+  linear-ascends : {j : Judgement} {v : VarId} {t : TypeId} {k : Judgement} → IsAscending j.linear
+      → PassesChannel lists x j v t k
       → IsAscending k.linear
   linear-ascends ascends (passes.shared _ _ _) = ascends
   linear-ascends {j} {v = v} ascends (passes.linear _ _ _ _) = unbind-ascending v.0 j.linear ascends
@@ -117,7 +125,8 @@ module _ {lists : ProgramLists} {x : Annotations} where
   passed-list w par s ascends passes.none (i, inside, is) found = absurd (omega arith)
   passed-list w par s ascends (passes.value (passes.term no_list kind) others) (zero, inside, is) found =
       let wrong = ap (λ (p : ValueArg × Par). p.0) is in absurd cc
-  passed-list {j} w par s ascends (passes.value {par = other} (passes.list {w = v} amount its there) others) (zero, inside, is) found =
+  passed-list {j} w par s ascends (passes.value {par = other} (passes.list {w = v} amount its there) others)
+      (zero, inside, is) found =
       let first : arg.List v ≡ arg.List w = ap (λ (p : ValueArg × Par). p.0) is in
       let variable : v ≡ w = cc in
       let parameter : other ≡ par = ap (λ (p : ValueArg × Par). p.1) is in
@@ -132,7 +141,8 @@ module _ {lists : ProgramLists} {x : Annotations} where
       subst (λ (u : VarId). bound_to u.0 j.lists ≡ Some (list_at x par.kind s)) variable at_s
   passed-list w par s ascends (passes.value (passes.term no_list kind) others) (suc i, inside, is) found =
       passed-list w par s ascends others (i, omega arith, is) found
-  passed-list {j} w par s ascends (passes.value (passes.list {w = v} amount its there) others) (suc i, inside, is) found =
+  passed-list {j} w par s ascends (passes.value (passes.list {w = v} amount its there) others) (suc i, inside, is)
+      found =
       bound-before w.0 v.0 j.lists (list_at x par.kind s) ascends
       (passed-list w par s (unbind-ascending v.0 j.lists ascends) others (i, omega arith, is) found)
 
@@ -187,7 +197,8 @@ module _ {lists : ProgramLists} {x y : Annotations} where
       in
       let (rest, passed_others, beside_rest) =
       channels-pass beside_between (linear-ascends ascends first) others
-      (λ w p own among of. worth w p own (later (v, par) (w, p) (zip vs pars) among) (of_type-before w own ascends first of))
+      (λ w p own among of. worth w p own (later (v, par) (w, p) (zip vs pars) among)
+      (of_type-before w own ascends first of))
       in
       (rest, passes.channel passed passed_others, beside_rest)
 
@@ -199,22 +210,26 @@ module _ {lists : ProgramLists} {x y : Annotations} where
       → (rest : Judgement) × PassesValues lists y k args pars rest
       × Beside x y left rest (with_lists a (without_passed args a.lists))
   values-pass {k = k} beside ascends passes.none worth = (k, passes.none, beside)
-  values-pass {k = k} beside ascends (passes.value {args = args} {par = par} {pars = pars} (passes.term {e = e} no_list kind) others) worth =
+  values-pass {k = k} beside ascends
+      (passes.value {args = args} {par = par} {pars = pars} (passes.term {e = e} no_list kind) others) worth =
       let its_kind : HasKind lists k.kinds e par.kind = along beside (λ s. HasKind lists s.kinds e par.kind) kind in
       let (rest, passed, beside_rest) =
       values-pass beside ascends others
       (λ w p r s among. worth w p r s (later (arg.Term e, par) (arg.List w, p) (zip args pars) among))
       in
       (rest, passes.value (passes.term no_list its_kind) passed, beside_rest)
-  values-pass {k = k} {a = a} beside ascends (passes.value {args = args} {par = par} {pars = pars} (passes.list {w = v} amount its there) others) worth =
+  values-pass {k = k} {a = a} beside ascends
+      (passes.value {args = args} {par = par} {pars = pars} (passes.list {w = v} amount its there) others) worth =
       let found = found-both v.0 (list_at x par.kind amount) beside.lists there in
-      let same : dths y found.amount ≡ dths y amount = worth v par found.amount amount (0, omega arith, refl) found.carried its in
+      let same : dths y found.amount ≡ dths y amount =
+      worth v par found.amount amount (0, omega arith, refl) found.carried its in
       let its_list : bound_to v.0 k.lists ≡ Some (list_at y par.kind amount) =
       found.other ∙ ap (λ (n : ℕ). let l : ListType = record { kind = par.kind; amount = n } in Some l) same
       in
       let (rest, passed, beside_rest) =
       values-pass (unbound-beside beside v.0) (unbind-ascending v.0 a.lists ascends) others
-      (λ w p r s among bound. worth w p r s (later (arg.List v, par) (arg.List w, p) (zip args pars) among) (bound-before w.0 v.0 a.lists r ascends bound))
+      (λ w p r s among bound. worth w p r s (later (arg.List v, par) (arg.List w, p) (zip args pars) among)
+      (bound-before w.0 v.0 a.lists r ascends bound))
       in
       (rest, passes.value (passes.list amount its its_list) passed, beside_rest)
 

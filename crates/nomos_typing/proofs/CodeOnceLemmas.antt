@@ -2,6 +2,7 @@
 use Rattle.std.proofs.Common.{◌≡◌, ◌≤◌, ℕ, List, [], ◌∷◌, map, Contains, refl, ap, sym, subst, ◌∙◌, arith}
 use Rattle.std.specs.List.{flat_map}
 use Rattle.nomos_ir.specs.declared.code_node.CodeNode.{CodeNode}
+use Rattle.nomos_ir.specs.declared.declaration.ProcDecl.{ProcDecl}
 use Rattle.nomos_ir.specs.declared.ids.CodeId.{CodeId}
 use Rattle.nomos_ir.specs.declared.lists.ProgramLists.{ProgramLists}
 use Rattle.nomos_ir.specs.CodeParts.{code_next}
@@ -41,7 +42,8 @@ module _ {lists : ProgramLists} (is_program : IsProgram lists) where
   -- a place stands after instructions at most once
   next-once : (c : ℕ) → count_of c (flat_map code_next lists.code) ≤ 1
   next-once c =
-      omega (arith, is_program.code c, count-append c (flat_map code_next lists.code) (map (λ d. d.first.0) lists.procs))
+      let both = count-append c (flat_map code_next lists.code) (map (λ (d : ProcDecl). d.first.0) lists.procs) in
+      omega (arith, is_program.code c)
 
   -- rows that go on to one place stand at one place
   pub one-behind : {x : Annotations} {i j k l : Judgement} {after later : List Judgement} → Row lists x i after
@@ -54,7 +56,8 @@ module _ {lists : ProgramLists} (is_program : IsProgram lists) where
       in
       let places : place i ≡ place j =
       one-part code_next (place k) lists.code (place i) (place j) led.node led_too.node (next-once (place k)) led.there
-      led_too.there (counted (place k) (code_next led.node) led.among) (counted (place k) (code_next led_too.node) there)
+      led_too.there (counted (place k) (code_next led.node) led.among)
+      (counted (place k) (code_next led_too.node) there)
       in
       ap (λ (c : ℕ). let id : CodeId = record { 0 = c } in id) places
 

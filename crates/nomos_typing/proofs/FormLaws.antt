@@ -50,7 +50,9 @@ unfolding stars-worth
 shares-spread n xs [] stars = spread_zero (λ k. pos 0) 1 xs (λ t low high. refl)
 shares-spread n xs (r ∷ rs) stars =
     spread-more (share_of r) (shares rs) 1 xs
-    ∙ (λ p. spread_share n xs r (All-head (HasStarUpTo n) r rs stars) p +ℤ shares-spread n xs rs (All-tail (HasStarUpTo n) r rs stars) p)
+    ∙ (λ p.
+    spread_share n xs r (All-head (HasStarUpTo n) r rs stars) p
+    +ℤ shares-spread n xs rs (All-tail (HasStarUpTo n) r rs stars) p)
 
 -- ---- worth
 

@@ -98,7 +98,8 @@ module _ {x y : Annotations} where
   placed-both v w kind other r s Equal rest more = list w kind r rest
   placed-both v w kind other r s Greater rest more = list w other s more
 
-  pub bind-both : {ls ms : List (VarId × ListType)} {rs : List (VarId × Amount)} → (v : VarId) (kind : Kind) (r : Amount)
+  pub bind-both : {ls ms : List (VarId × ListType)} {rs : List (VarId × Amount)}
+      → (v : VarId) (kind : Kind) (r : Amount)
       → CarryBoth x y ls ms rs
       → CarryBoth x y (bind v (list_at x kind r) ls) (bind v (list_at y kind r) ms) (bind v r rs)
   bind-both v kind r none = list v kind r none
@@ -108,7 +109,8 @@ module _ {x y : Annotations} where
   -- a list is used up, where the test of the first variable is known
   dropped-both : {ls ms : List (VarId × ListType)} {rs : List (VarId × Amount)} → (v : ℕ) (w : VarId) (kind : Kind)
       (r : Amount) (t : Bool) → CarryBoth x y ls ms rs → CarryBoth x y (unbind v ls) (unbind v ms) (unbind v rs)
-      → CarryBoth x y (cond t ls ((w, list_at x kind r) ∷ unbind v ls)) (cond t ms ((w, list_at y kind r) ∷ unbind v ms))
+      → CarryBoth x y (cond t ls ((w, list_at x kind r) ∷ unbind v ls)) (cond t ms
+      ((w, list_at y kind r) ∷ unbind v ms))
       (cond t rs ((w, r) ∷ unbind v rs))
   dropped-both v w kind r true rest more = rest
   dropped-both v w kind r false rest more = list w kind r more

@@ -63,7 +63,8 @@ module _ {lists : ProgramLists} (is_program : IsProgram lists) where
       let (s, there) = unfolded-there lists t n unfolds in
       let (at, found, is) = type_node-at lists s n there in
       program-star r is_program
-      (type-amount lists s at r found (subst (λ (m : TypeNode). Contains (type_amounts m) r) (sym is) (paid-among n r pays)))
+      (type-amount lists s at r found
+      (subst (λ (m : TypeNode). Contains (type_amounts m) r) (sym is) (paid-among n r pays)))
 
   -- the amounts that stand at equal paths have stars of the program
   pub paths-up_to : {a b : TypeId} {pair : Amount × Amount} → StandAtEqualPaths lists a b pair

@@ -32,7 +32,9 @@ point-affords {lists} {d} {a} p x formed declared point width =
 -- a derivation under any amounts gives a skeleton
 pub derives-skeleton : {lists : ProgramLists} {d : ProcDecl} (p : ℕ) (x : Annotations) → IsWellFormed lists
     → slice_get lists.procs p ≡ Some d → Derives lists x (start_of lists x d) → HasSkeleton lists d
-derives-skeleton {lists} {d} p x formed declared derivation = let given = (rows-law formed p d declared x).0 derivation in given.0
+derives-skeleton {lists} {d} p x formed declared derivation =
+    let given = (rows-law formed p d declared x).0 derivation in
+    given.0
 
 -- Where a declaration needs these forms and pairs, it has a derivation under exactly those amounts under which each form
 -- is 0 or more and the two amounts of each pair are worth the same.
@@ -60,7 +62,8 @@ needs-rows-law {lists} {d} {forms} {pairs} p formed declared needs x width =
             needs.skeleton,
             λ a point.
                 let among = (needs.points (form_of n a)).1 (record { account = a; point = point; same = refl }) in
-                (point-affords p x formed declared point width).0 (All-contains IsMet forms (form_of n a) given.0 among),
+                let met = All-contains IsMet forms (form_of n a) given.0 among in
+                (point-affords p x formed declared point width).0 met,
             λ q asked. All-contains AreSame pairs q given.1 ((needs.asked q).1 asked),
           ),
     )

@@ -131,7 +131,8 @@ coefficient-size a star =
     let (m, gained, gained_low) = shares-count a.gained star in
     let (k, spent, spent_low) = shares-count a.spent star in
     let same : shares a.gained star -ℤ shares a.spent star ≡ pos m -ℤ pos k = λ p. gained p -ℤ spent p in
-    subst (λ (z : ℤ). unsigned_abs z ≤ amount_count a) (sym same) (omega (arith, abs-difference m k, gained_low, spent_low))
+    subst (λ (z : ℤ). unsigned_abs z ≤ amount_count a) (sym same)
+    (omega (arith, abs-difference m k, gained_low, spent_low))
 
 -- the whole units of an amount, and of amounts
 units-small : (r : Amount) → IsAmount r → units_in r ≤ 1000000000
@@ -163,10 +164,12 @@ account-is_form : {lists : ProgramLists} (n : ℕ) (a : Account) → IsProgram l
 account-is_form n a is_program amounts few =
     let f : ℕ → ℤ = λ star. shares a.gained star -ℤ shares a.spent star in
     let stars = range_with_len 1 n in
-    let each : (star : ℕ) → Contains stars star → IsSmall (f star) = λ star among. omega (arith, coefficient-size a star, few) in
+    let each : (star : ℕ) → Contains stars star → IsSmall (f star) =
+    λ star among. omega (arith, coefficient-size a star, few) in
     record {
       width = length-map stars f ∙ length-range_with_len 1 n;
-      coefs = All-map IsSmall f stars (All-weaker (Contains stars) (λ star. IsSmall (f star)) each stars (All-contains_itself stars));
+      coefs = All-map IsSmall f stars
+          (All-weaker (Contains stars) (λ star. IsSmall (f star)) each stars (All-contains_itself stars));
       plus = omega (arith, plus-size n a is_program amounts, few);
     }
 
