@@ -1,5 +1,5 @@
--- The law of rows: a declaration has a derivation exactly where it has a skeleton, affords the account at each point, and
--- the two amounts of each pair that is asked for are worth the same.
+-- The law of rows over accounts: a declaration has a derivation exactly where it has a skeleton, affords the account at
+-- each point, and the two amounts of each pair that is asked for are worth the same.
 use Rattle.std.proofs.Common.{◌≡◌, ◌↔◌, Some, slice_get, sym, ◌∙◌, arith, ℕ, suc}
 use Rattle.nomos_ir.specs.declared.amount.Amount.{Amount}
 use Rattle.nomos_ir.specs.declared.declaration.ProcDecl.{ProcDecl}

@@ -1,4 +1,5 @@
 pub mod AccountsLaws
+pub mod AmountLaws
 pub mod AskedLaws
 pub mod Beside
 pub mod BesideArguments
@@ -6,16 +7,16 @@ pub mod BesideRows
 pub mod Carrying
 pub mod CodeOnceLemmas
 pub mod FormLaws
+pub mod HalvesExample
 pub mod HeadsOver
 pub mod ListAmounts
 pub mod ListLemmas
+pub mod PairLaws
 pub mod PremisesOver
+pub mod ReachingLaws
 pub mod RowMaking
 pub mod RowsLaws
 pub mod RowsOver
+pub mod SizeLaws
 pub mod StarLaws
 pub mod StuckLaws
-pub mod PairLaws
-pub mod ReachingLaws
-pub mod AmountLaws
-pub mod SizeLaws

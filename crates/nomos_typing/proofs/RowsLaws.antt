@@ -36,8 +36,8 @@ derives-skeleton {lists} {d} p x formed declared derivation =
     let given = (rows-law formed p d declared x).0 derivation in
     given.0
 
--- Where a declaration needs these forms and pairs, it has a derivation under exactly those amounts under which each form
--- is 0 or more and the two amounts of each pair are worth the same.
+-- Where a declaration needs these forms and pairs, it has a derivation under exactly those amounts under which each
+-- form is 0 or more and the two amounts of each pair are worth the same.
 pub needs-rows-law : {lists : ProgramLists} {d : ProcDecl} {forms : List Form} {pairs : List (Amount × Amount)}
     → (p : ℕ) → IsWellFormed lists
     → slice_get lists.procs p ≡ Some d → NeedsRows lists (star_count lists) d forms pairs
