@@ -28,7 +28,7 @@ use Rattle.nomos_typing.specs.Account.{Account, shares, form_of}
 use Rattle.nomos_typing.specs.Accounting.{accounts_after, spends_for, grows_list, parts_list}
 use Rattle.nomos_typing.specs.Reaching.{Reaches, IsPoint}
 use Rattle.nomos_typing.specs.Reaching as reaching
-use Rattle.nomos_typing.proofs.AmountLaws.{AreOfProgram, point-amounts}
+use Rattle.nomos_typing.proofs.AmountLaws.{HasAmountsOf, point-amounts}
 use Rattle.nomos_typing.proofs.ListLemmas.{paired-first, paired-second}
 use Rattle.nomos_typing.proofs.StuckLaws.{row-descends}
 
@@ -147,7 +147,7 @@ units-size (r ∷ rs) all =
     omega (arith, sum_by-cons units_in r rs, first, rest)
 
 -- an account of a program's amounts has whole units of this size
-pub plus-size : {lists : ProgramLists} (n : ℕ) (a : Account) → IsProgram lists → AreOfProgram lists a
+pub plus-size : {lists : ProgramLists} (n : ℕ) (a : Account) → IsProgram lists → HasAmountsOf lists a
     → unsigned_abs (form_of n a).plus ≤ 1000000000 * amount_count a
 plus-size {lists} n a is_program amounts =
     let Among = Contains (amounts_of lists) in
@@ -159,7 +159,7 @@ plus-size {lists} n a is_program amounts =
     omega (arith, abs-difference (sum_by units_in a.gained) (sum_by units_in a.spent), gained, spent)
 
 -- an account with few amounts has a form of small numbers
-account-is_form : {lists : ProgramLists} (n : ℕ) (a : Account) → IsProgram lists → AreOfProgram lists a
+account-is_form : {lists : ProgramLists} (n : ℕ) (a : Account) → IsProgram lists → HasAmountsOf lists a
     → amount_count a ≤ 20001 → IsForm n (form_of n a)
 account-is_form n a is_program amounts few =
     let f : ℕ → ℤ = λ star. shares a.gained star -ℤ shares a.spent star in
