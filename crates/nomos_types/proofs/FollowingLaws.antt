@@ -1,6 +1,5 @@
 -- At a place one judgement follows from a start.
 use Rattle.std.proofs.Common.{◌≡◌, ◌≤◌, ℕ, List, [], ◌∷◌, ◌++◌, map, Contains, Some, slice_get, refl, subst, sym, ap, ◌∙◌, arith}
-use Rattle.std.proofs.lemmas.List.{map-id}
 use Rattle.std.specs.List.{flat_map}
 use Rattle.nomos_ir.specs.declared.code_node.Arm.{Arm}
 use Rattle.nomos_ir.specs.declared.code_node.Chan.{Chan}
@@ -54,11 +53,6 @@ arms-places j c branches (a ∷ arms) _ (ArmsGoOn.arm {after = after} t goes oth
 one-next : {after : List Judgement} (k : Judgement) (n : ℕ) → after ≡ k ∷ [] → place k ≡ n → map place after ≡ n ∷ []
 one-next k n is at = ap (map place) is ∙ ap (λ (m : ℕ). m ∷ []) at
 
--- the places of the judgements of which something is said
-places-said : {X : Type 0} (f : X → Judgement) (said : List X) → map place (map f said) ≡ map (λ e. place (f e)) said
-places-said f [] = refl
-places-said f (s ∷ said) = ap (λ (ns : List ℕ). place (f s) ∷ ns) (places-said f said)
-
 -- a row leads to the instructions with which the node goes on, in order
 pub row-places : (lists : ProgramLists) (x : Annotations) (j : Judgement) (after : List Judgement) (n : CodeNode) → RowAt lists x j n after → map place after ≡ code_next n
 row-places lists x j after (code.Label at c l next) (t, h, e) = one-next _ next.0 e (goes_on-place j c t next)
@@ -96,12 +90,12 @@ abbrev firsts : ProgramLists → List ℕ
 firsts lists = map (λ d. d.first.0) lists.procs
 
 -- the node with which a row goes on to a judgement
-pub record LedBy (lists : ProgramLists) (j k : Judgement) : Type 0 where
-  pub node : CodeNode
-  pub there : StandsAtCode lists j node
-  pub among : Contains (code_next node) (place k)
+record LedBy (lists : ProgramLists) (j k : Judgement) : Type 0 where
+  node : CodeNode
+  there : StandsAtCode lists j node
+  among : Contains (code_next node) (place k)
 
-pub led-by : {lists : ProgramLists} {x : Annotations} {j k : Judgement} (after : List Judgement) → Row lists x j after → Contains after k → LedBy lists j k
+led-by : {lists : ProgramLists} {x : Annotations} {j k : Judgement} (after : List Judgement) → Row lists x j after → Contains after k → LedBy lists j k
 led-by {lists} {x} {j} {k} after row among =
     let (n, there, says) = row-at row in
     let to : Contains (map place after) (place k) = contains-map place after k (place k) among refl in
@@ -115,7 +109,7 @@ led-counted {lists} {j} {k} led =
 
 module _ {lists : ProgramLists} (is_program : IsProgram lists) where
   -- no row goes on to where a declaration begins
-  pub not-first : {j k : Judgement} (p : ℕ) (d : ProcDecl) → slice_get lists.procs p ≡ Some d → LedBy lists j k → place k ≡ d.first.0 → ⊥
+  not-first : {j k : Judgement} (p : ℕ) (d : ProcDecl) → slice_get lists.procs p ≡ Some d → LedBy lists j k → place k ≡ d.first.0 → ⊥
   not-first {j} {k} p d declared led same =
       let first : Contains (firsts lists) (place k) = contains-map (λ (e : ProcDecl). e.first.0) lists.procs d (place k) (contains-found lists.procs p d declared) (sym same) in
       let at_first : 1 ≤ count_of (place k) (firsts lists) = counted (place k) (firsts lists) first in
@@ -124,7 +118,7 @@ module _ {lists : ProgramLists} (is_program : IsProgram lists) where
       omega (arith, count-append (place k) (nexts lists) (firsts lists))
 
   -- rows that go on to one place stand at one place
-  pub same-place : {i j k l : Judgement} → LedBy lists i k → LedBy lists j l → place k ≡ place l → i.code ≡ j.code
+  same-place : {i j k l : Judgement} → LedBy lists i k → LedBy lists j l → place k ≡ place l → i.code ≡ j.code
   same-place {i} {j} {k} {l} led led_too same =
       let once : count_of (place k) (nexts lists ++ firsts lists) ≤ 1 = is_program.code (place k) in
       let among_there : Contains (code_next led_too.node) (place k) = subst (λ (c : ℕ). Contains (code_next led_too.node) c) (sym same) led_too.among in
@@ -133,29 +127,15 @@ module _ {lists : ProgramLists} (is_program : IsProgram lists) where
       ap (λ (c : ℕ). let id : CodeId = record { 0 = c } in id) places
 
 module _ {lists : ProgramLists} {x : Annotations} (is_program : IsProgram lists) where
-  -- what is said of the judgements with which a row goes on, one thing of each, is one thing at a place
-  pub one-at_place : {X : Type 0} {j : Judgement} (f : X → Judgement) (said : List X) (after : List Judgement) (s t : X)
-      → Row lists x j after → map f said ≡ after → Contains said s → Contains said t → place (f s) ≡ place (f t) → s ≡ t
-  one-at_place {X} {j} f said after s t row is among among_too same =
-      let (n, there, says) = row-at row in
-      let places : map (λ (e : X). place (f e)) said ≡ code_next n =
-      sym (places-said f said) ∙ ap (map place) is ∙ row-places lists x j after n says
-      in
-      let once : count_of (place (f s)) (nexts lists ++ firsts lists) ≤ 1 = is_program.code (place (f s)) in
-      let part : count_of (place (f s)) (code_next n) ≤ count_of (place (f s)) (nexts lists) =
-      count-part code_next (place (f s)) lists.code (place j) n there
-      in
-      let few : count_of (place (f s)) (map (λ (e : X). place (f e)) said) ≤ 1 =
-      subst (λ (ns : List ℕ). count_of (place (f s)) ns ≤ 1) (sym places)
-      (omega (arith, count-append (place (f s)) (nexts lists) (firsts lists)))
-      in
-      one-place (λ (e : X). place (f e)) (place (f s)) said s t refl (sym same) few among among_too
-
   -- a row goes on to one judgement at a place
-  same-next : {j k l : Judgement} (after : List Judgement) → Row lists x j after → Contains after k → Contains after l
-      → place k ≡ place l → k ≡ l
+  same-next : {j k l : Judgement} (after : List Judgement) → Row lists x j after → Contains after k → Contains after l → place k ≡ place l → k ≡ l
   same-next {j} {k} {l} after row among among_too same =
-      one-at_place (λ (i : Judgement). i) after after k l row (map-id after) among among_too same
+      let (n, there, says) = row-at row in
+      let places = row-places lists x j after n says in
+      let once : count_of (place k) (nexts lists ++ firsts lists) ≤ 1 = is_program.code (place k) in
+      let part : count_of (place k) (code_next n) ≤ count_of (place k) (nexts lists) = count-part code_next (place k) lists.code (place j) n there in
+      let few : count_of (place k) (map place after) ≤ 1 = subst (λ (ns : List ℕ). count_of (place k) ns ≤ 1) (sym places) (omega (arith, count-append (place k) (nexts lists) (firsts lists))) in
+      one-place place (place k) after k l refl (sym same) few among among_too
 
   -- at a place one judgement follows from the start of the declaration
   pub follows-unique : {first j k : Judgement} (p : ℕ) (d : ProcDecl) → slice_get lists.procs p ≡ Some d → first.code ≡ d.first → Follows lists x first j → Follows lists x first k → j.code ≡ k.code → j ≡ k

@@ -1,35 +1,25 @@
--- The law of rows: a declaration has a derivation exactly where it has a skeleton, affords the account at each point, and
--- the two amounts of each pair that is asked for are worth the same.
-use Rattle.std.proofs.Common.{◌≡◌, ◌↔◌, List, Contains, Some, slice_get, zip, refl, ap, sym, subst, ◌∙◌, arith, ℕ, suc}
+-- The law of rows over accounts: a declaration has a derivation exactly where it has a skeleton, affords the account at
+-- each point, and the two amounts of each pair that is asked for are worth the same.
+use Rattle.std.proofs.Common.{◌≡◌, ◌↔◌, Some, slice_get, sym, ◌∙◌, arith, ℕ, suc}
 use Rattle.nomos_ir.specs.declared.amount.Amount.{Amount}
-use Rattle.nomos_ir.specs.declared.code_node.Args.{Args}
-use Rattle.nomos_ir.specs.declared.code_node.CodeNode.{CodeNode}
-use Rattle.nomos_ir.specs.declared.code_node.CodeNode.TheVariants as code
 use Rattle.nomos_ir.specs.declared.declaration.ProcDecl.{ProcDecl}
-use Rattle.nomos_ir.specs.declared.ids.ProcId.{ProcId}
 use Rattle.nomos_ir.specs.declared.lists.ProgramLists.{ProgramLists}
 use Rattle.nomos_types.specs.Amount.{Annotations, dths}
-use Rattle.nomos_types.specs.Derivation.{Derives, Follows, HasSkeleton}
-use Rattle.nomos_types.specs.Derivation as following
+use Rattle.nomos_types.specs.Derivation.{Derives, HasSkeleton}
 use Rattle.nomos_types.specs.Equality.{no_amounts}
 use Rattle.nomos_types.specs.Judgement.{Judgement, IsJudgement, start_of}
-use Rattle.nomos_types.specs.Row.{Row, StandsAtCode}
 use Rattle.nomos_types.specs.Typed.{IsWellFormed}
 use Rattle.nomos_types.proofs.DerivationLaws.{derives-next}
-use Rattle.nomos_types.proofs.RowLaws.{row-at}
 use Rattle.nomos_types.proofs.StartLaws.{start-is_judgement}
-use Rattle.nomos_types.proofs.UniqueRows.{row-unique}
 use Rattle.nomos_typing.specs.Account.{Account, start_account, spends, Affords}
 use Rattle.nomos_typing.specs.Accounting.{accounts_after}
-use Rattle.nomos_typing.specs.Asking.{AsksPair, IsAsked}
+use Rattle.nomos_typing.specs.Asking.{IsAsked}
 use Rattle.nomos_typing.specs.Reaching.{Reaches, IsPoint}
 use Rattle.nomos_typing.specs.Reaching as reaching
 use Rattle.nomos_typing.proofs.AskedLaws.{asked-worth, call-affords}
-use Rattle.nomos_typing.proofs.Beside.{Beside, EachBeside, AtPlace, at-place, its-account, second-beside, stands}
-use Rattle.nomos_typing.proofs.BesideRows.{Carried, row-carried}
+use Rattle.nomos_typing.proofs.Beside.{Beside, at-place}
 use Rattle.nomos_typing.proofs.Carrying.{Provides, each-beside, no-dths, no-affords, start-beside, next-is_judgement, derivation-carried}
 use Rattle.nomos_typing.proofs.ListLemmas.{paired-first}
-use Rattle.nomos_typing.proofs.RowMaking.{row-made}
 use Rattle.nomos_typing.proofs.StuckLaws.{derives-row}
 
 -- The law of rows over accounts.
@@ -37,7 +27,7 @@ abbrev pub DerivesByAccounts : ProgramLists → ProcDecl → Annotations → Typ
 DerivesByAccounts lists d x =
     Derives lists x (start_of lists x d)
     ↔ (HasSkeleton lists d × ((a : Account) → IsPoint lists d a → Affords x a)
-        × ((p : Amount × Amount) → IsAsked lists d p → dths x p.0 ≡ dths x p.1))
+    × ((p : Amount × Amount) → IsAsked lists d p → dths x p.0 ≡ dths x p.1))
 
 -- A judgement that a declaration reaches where amounts are ignored, beside the one of other amounts.
 record ReachedUnder (lists : ProgramLists) (x : Annotations) (k : Judgement) (a : Account) : Type 0 where
@@ -47,7 +37,8 @@ record ReachedUnder (lists : ProgramLists) (x : Annotations) (k : Judgement) (a 
   beside : Beside x no_amounts judgement k a
   derives : Derives lists x judgement
 
-module _ {lists : ProgramLists} (formed : IsWellFormed lists) (p : ℕ) (d : ProcDecl) (declared : slice_get lists.procs p ≡ Some d) where
+module _ {lists : ProgramLists} (formed : IsWellFormed lists) (p : ℕ) (d : ProcDecl)
+    (declared : slice_get lists.procs p ≡ Some d) where
   -- ---- what a derivation gives
 
   -- each judgement that the declaration reaches stands beside one that has a derivation
@@ -118,7 +109,8 @@ module _ {lists : ProgramLists} (formed : IsWellFormed lists) (p : ℕ) (d : Pro
       record {
         next = λ j k a b n after reached there row among. reaching.next n after reached there row among;
         afforded = λ j a reached. points a (reaching.before reached);
-        call = λ j a at f args e reached there found. points (spends e.amount a) (reaching.called reached there e found);
+        call = λ j a at f args e reached there found. points (spends e.amount a)
+            (reaching.called reached there e found);
         pairs = λ j a q reached asks. pairs q (record { judgement = j; account = a; reached = reached; asks = asks });
       }
       in
@@ -129,8 +121,7 @@ module _ {lists : ProgramLists} (formed : IsWellFormed lists) (p : ℕ) (d : Pro
 
   -- the law of rows over accounts
   pub rows-law : (x : Annotations) → DerivesByAccounts lists d x
-  rows-law x =
-      (
-        λ derivation. (skeleton-from x derivation, point-afforded x derivation, pair-same x derivation),
-        λ given. derivation-from x given.0 given.1 given.2,
-      )
+  rows-law x = (
+    λ derivation. (skeleton-from x derivation, point-afforded x derivation, pair-same x derivation),
+    λ given. derivation-from x given.0 given.1 given.2,
+  )

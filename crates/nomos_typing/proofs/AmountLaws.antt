@@ -1,8 +1,8 @@
 -- The amounts of the accounts that a declaration reaches are amounts of the program.
-use Rattle.std.proofs.Common.{◌≡◌, ◌≤◌, ◌⊎◌, ℕ, zero, suc, List, [], ◌∷◌, ◌++◌, map, max, All, Contains, Option, Some, None, slice_get, zip, length, refl, ap, sym, subst, ◌∙◌, arith}
+use Rattle.std.proofs.Common.{◌≡◌, ℕ, List, [], ◌∷◌, ◌++◌, map, All, Contains, Option, Some, None, slice_get, refl, arith}
 use Rattle.std.specs.List.{flat_map}
 use Rattle.std.specs.Option.{option_to_list}
-use Rattle.std.proofs.lemmas.List.Elements.{All-nil, All-cons, All-head, All-tail, All-append, All-map, All-contains, All-weaker, All-contains_itself, Contains-append_left, Contains-append_right}
+use Rattle.std.proofs.lemmas.List.Elements.{All-nil, All-cons, All-head, All-tail, All-append, All-contains, All-weaker, All-contains_itself, Contains-append_left, Contains-append_right}
 use Rattle.nomos_ir.specs.declared.amount.Amount.{Amount}
 use Rattle.nomos_ir.specs.declared.code_node.Arm.{Arm}
 use Rattle.nomos_ir.specs.declared.code_node.CodeNode.{CodeNode}
@@ -15,7 +15,7 @@ use Rattle.nomos_ir.specs.declared.ids.VarId.{VarId}
 use Rattle.nomos_ir.specs.declared.lists.ProgramLists.{ProgramLists}
 use Rattle.nomos_ir.specs.declared.type_node.TypeAt.{TypeAt}
 use Rattle.nomos_ir.specs.Amounts.{amounts_of, proc_amounts, par_amounts}
-use Rattle.nomos_ir.specs.Bindings.{bound_to, bind, unbind, bindings_of}
+use Rattle.nomos_ir.specs.Bindings.{bound_to, bind, unbind}
 use Rattle.nomos_ir.specs.CodeParts.{code_amounts}
 use Rattle.nomos_ir.specs.TypeParts.{type_amounts}
 use Rattle.nomos_ir.proofs.BindingLaws.{all-after_bind, all-after_unbind, all-in_bindings_of, all-bound}
@@ -75,24 +75,35 @@ module _ (lists : ProgramLists) where
 -- ---- accounts
 
 -- each amount of the account is one of the program
-pub record AreOfProgram (program : ProgramLists) (a : Account) : Type 0 where
+pub record HasAmountsOf (program : ProgramLists) (a : Account) : Type 0 where
   pub gained : All (Contains (amounts_of program)) a.gained
   pub spent : All (Contains (amounts_of program)) a.spent
   pub lists : All (λ b. Contains (amounts_of program) b.1) a.lists
 
 module _ (program : ProgramLists) where
   -- an amount more
-  pub spends-amounts : (r : Amount) (a : Account) → Contains (amounts_of program) r → AreOfProgram program a → AreOfProgram program (spends r a)
+  pub spends-amounts : (r : Amount) (a : Account) → Contains (amounts_of program) r → HasAmountsOf program a
+      → HasAmountsOf program (spends r a)
   spends-amounts r a among amounts =
-      record { gained = amounts.gained; spent = All-cons (Contains (amounts_of program)) r a.spent among amounts.spent; lists = amounts.lists }
+      record {
+        gained = amounts.gained;
+        spent = All-cons (Contains (amounts_of program)) r a.spent among amounts.spent;
+        lists = amounts.lists;
+      }
 
-  gains-amounts : (r : Amount) (a : Account) → Contains (amounts_of program) r → AreOfProgram program a → AreOfProgram program (gains r a)
+  gains-amounts : (r : Amount) (a : Account) → Contains (amounts_of program) r → HasAmountsOf program a
+      → HasAmountsOf program (gains r a)
   gains-amounts r a among amounts =
-      record { gained = All-cons (Contains (amounts_of program)) r a.gained among amounts.gained; spent = amounts.spent; lists = amounts.lists }
+      record {
+        gained = All-cons (Contains (amounts_of program)) r a.gained among amounts.gained;
+        spent = amounts.spent;
+        lists = amounts.lists;
+      }
 
   -- other lists
-  lists-amounts : (a : Account) (bs : List (VarId × Amount)) → AreOfProgram program a → All (λ b. Contains (amounts_of program) b.1) bs
-      → AreOfProgram program (with_lists a bs)
+  lists-amounts : (a : Account) (bs : List (VarId × Amount)) → HasAmountsOf program a
+      → All (λ b. Contains (amounts_of program) b.1) bs
+      → HasAmountsOf program (with_lists a bs)
   lists-amounts a bs amounts all = record { gained = amounts.gained; spent = amounts.spent; lists = all }
 
   -- lists that are passed on
@@ -104,22 +115,24 @@ module _ (program : ProgramLists) where
       passed-amounts args (unbind w.0 bs) (all-after_unbind (Contains (amounts_of program)) w.0 bs all)
 
   -- one account
-  one-account : (b : Account) → AreOfProgram program b → All (AreOfProgram program) (b ∷ [])
-  one-account b amounts = All-cons (AreOfProgram program) b [] amounts (All-nil (AreOfProgram program))
+  one-account : (b : Account) → HasAmountsOf program b → All (HasAmountsOf program) (b ∷ [])
+  one-account b amounts = All-cons (HasAmountsOf program) b [] amounts (All-nil (HasAmountsOf program))
 
-  two-accounts : (b c : Account) → AreOfProgram program b → AreOfProgram program c → All (AreOfProgram program) (b ∷ c ∷ [])
-  two-accounts b c first second = All-cons (AreOfProgram program) b (c ∷ []) first (one-account c second)
+  two-accounts : (b c : Account) → HasAmountsOf program b → HasAmountsOf program c
+      → All (HasAmountsOf program) (b ∷ c ∷ [])
+  two-accounts b c first second = All-cons (HasAmountsOf program) b (c ∷ []) first (one-account c second)
 
   -- the arms have the same account
-  arms-accounts : (a : Account) (arms : List Arm) → AreOfProgram program a → All (AreOfProgram program) (map (λ arm. a) arms)
-  arms-accounts a [] amounts = All-nil (AreOfProgram program)
+  arms-accounts : (a : Account) (arms : List Arm) → HasAmountsOf program a
+      → All (HasAmountsOf program) (map (λ arm. a) arms)
+  arms-accounts a [] amounts = All-nil (HasAmountsOf program)
   arms-accounts a (arm ∷ arms) amounts =
-      All-cons (AreOfProgram program) a (map (λ b. a) arms) amounts (arms-accounts a arms amounts)
+      All-cons (HasAmountsOf program) a (map (λ b. a) arms) amounts (arms-accounts a arms amounts)
 
   -- a list that grows, if it is there
-  grown-accounts : (o : Option Amount) (v w : VarId) (a : Account) → bound_to w.0 a.lists ≡ o → AreOfProgram program a
-      → All (AreOfProgram program) (grows_list o v w a)
-  grown-accounts None v w a found amounts = All-nil (AreOfProgram program)
+  grown-accounts : (o : Option Amount) (v w : VarId) (a : Account) → bound_to w.0 a.lists ≡ o → HasAmountsOf program a
+      → All (HasAmountsOf program) (grows_list o v w a)
+  grown-accounts None v w a found amounts = All-nil (HasAmountsOf program)
   grown-accounts (Some r) v w a found amounts =
       let P = Contains (amounts_of program) in
       let among : P r = all-bound P w.0 r a.lists amounts.lists found in
@@ -129,9 +142,10 @@ module _ (program : ProgramLists) where
       (spends-amounts r (with_lists a grown) among (lists-amounts a grown amounts all))
 
   -- a list that is taken apart, if it is there
-  parted-accounts : (o : Option Amount) (w tail : VarId) (a : Account) → bound_to w.0 a.lists ≡ o → AreOfProgram program a
-      → All (AreOfProgram program) (parts_list o w tail a)
-  parted-accounts None w tail a found amounts = All-nil (AreOfProgram program)
+  parted-accounts : (o : Option Amount) (w tail : VarId) (a : Account) → bound_to w.0 a.lists ≡ o
+      → HasAmountsOf program a
+      → All (HasAmountsOf program) (parts_list o w tail a)
+  parted-accounts None w tail a found amounts = All-nil (HasAmountsOf program)
   parted-accounts (Some r) w tail a found amounts =
       let P = Contains (amounts_of program) in
       let among : P r = all-bound P w.0 r a.lists amounts.lists found in
@@ -145,14 +159,14 @@ module _ (program : ProgramLists) where
 module _ (lists : ProgramLists) where
   -- what is spent for a declaration
   declared-amounts : (f : ℕ) (o : Option ProcDecl) (a : Account) → slice_get lists.procs f ≡ o
-      → AreOfProgram lists a → AreOfProgram lists (spends_for o a)
+      → HasAmountsOf lists a → HasAmountsOf lists (spends_for o a)
   declared-amounts f None a found amounts = amounts
   declared-amounts f (Some d) a found amounts =
       spends-amounts lists d.amount a (declared-amount lists f d found) amounts
 
   -- the accounts after an instruction
   amounts-after : (c : ℕ) (n : CodeNode) (a : Account) → slice_get lists.code c ≡ Some n
-      → AreOfProgram lists a → All (AreOfProgram lists) (accounts_after lists n a)
+      → HasAmountsOf lists a → All (HasAmountsOf lists) (accounts_after lists n a)
   amounts-after c (code.Case at x arms) a there amounts = arms-accounts lists a arms amounts
   amounts-after c (code.Pay at x r next) a there amounts =
       let among = code-amount lists c (code.Pay at x r next) r there (0, omega arith, refl) in
@@ -164,16 +178,17 @@ module _ (lists : ProgramLists) where
       let among = code-amount lists c (code.Work at r next) r there (0, omega arith, refl) in
       one-account lists (spends r a) (spends-amounts lists r a among amounts)
   amounts-after c (code.Spawn at v f args next) a there amounts =
-            let left = with_lists a (without_passed args.values a.lists) in
-      let left_amounts = lists-amounts lists a left.lists amounts (passed-amounts lists args.values a.lists amounts.lists) in
+      let left = with_lists a (without_passed args.values a.lists) in
+      let left_amounts = lists-amounts lists a left.lists amounts
+      (passed-amounts lists args.values a.lists amounts.lists) in
       one-account lists (spends_for (slice_get lists.procs f.0) left)
       (declared-amounts f.0 (slice_get lists.procs f.0) left refl left_amounts)
   amounts-after c (code.If at e then_next else_next) a there amounts = two-accounts lists a a amounts amounts
-  amounts-after c (code.Close at) a there amounts = All-nil (AreOfProgram lists)
-  amounts-after c (code.Fwd at v) a there amounts = All-nil (AreOfProgram lists)
-  amounts-after c (code.Call at f args) a there amounts = All-nil (AreOfProgram lists)
+  amounts-after c (code.Close at) a there amounts = All-nil (HasAmountsOf lists)
+  amounts-after c (code.Fwd at v) a there amounts = All-nil (HasAmountsOf lists)
+  amounts-after c (code.Call at f args) a there amounts = All-nil (HasAmountsOf lists)
   amounts-after c (code.Empty at v r kind next) a there amounts =
-            let among = code-amount lists c (code.Empty at v r kind next) r there (0, omega arith, refl) in
+      let among = code-amount lists c (code.Empty at v r kind next) r there (0, omega arith, refl) in
       let all = all-after_bind (Contains (amounts_of lists)) v r a.lists amounts.lists among in
       one-account lists (with_lists a (bind v r a.lists)) (lists-amounts lists a (bind v r a.lists) amounts all)
   amounts-after c (code.Add at v e w next) a there amounts =
@@ -201,7 +216,7 @@ module _ (lists : ProgramLists) where
 
   -- the account at the start of a declaration
   start-amounts : (p : ℕ) (d : ProcDecl) → slice_get lists.procs p ≡ Some d
-      → AreOfProgram lists (start_account d)
+      → HasAmountsOf lists (start_account d)
   start-amounts p d there =
       let P = Contains (amounts_of lists) in
       let its : All P (proc_amounts d) =
@@ -218,16 +233,16 @@ module _ (lists : ProgramLists) where
 
   -- each account that the declaration reaches
   pub reached-amounts : (p : ℕ) (d : ProcDecl) (j : Judgement) (a : Account) → slice_get lists.procs p ≡ Some d
-      → Reaches lists d j a → AreOfProgram lists a
+      → Reaches lists d j a → HasAmountsOf lists a
   reached-amounts p d _ _ there reaching.start = start-amounts p d there
   reached-amounts p d k b there (reaching.next {j} {a = a} n after before stands row among) =
-      All-contains (AreOfProgram lists) (accounts_after lists n a) b
+      All-contains (HasAmountsOf lists) (accounts_after lists n a) b
       (amounts-after j.code.0 n a stands (reached-amounts p d j a there before))
       (paired-second after (accounts_after lists n a) k b among)
 
   -- and each point of it
   pub point-amounts : (p : ℕ) (d : ProcDecl) (a : Account) → slice_get lists.procs p ≡ Some d → IsPoint lists d a
-      → AreOfProgram lists a
+      → HasAmountsOf lists a
   point-amounts p d a there (reaching.before {j} reached) = reached-amounts p d j a there reached
   point-amounts p d _ there (reaching.called {j} {a} {f = f} reached stands e found) =
       spends-amounts lists e.amount a (declared-amount lists f.0 e found)

@@ -1,6 +1,6 @@
 -- A judgement under the one amounts stands beside one under other amounts where they differ in amounts alone, and both
 -- have the amounts of one account.
-use Rattle.std.proofs.Common.{◌≡◌, ◌≤◌, ◌+◌, ◌-◌, ℕ, List, [], ◌∷◌, map, Contains, Some, zip, zero, suc, slice_get, length, refl, ap, sym, subst, ◌∙◌, arith}
+use Rattle.std.proofs.Common.{◌≡◌, ◌≤◌, ◌+◌, ◌-◌, ℕ, List, [], ◌∷◌, map, Contains, zip, zero, suc, refl, ap, sym, subst, ◌∙◌, arith}
 use Rattle.std.proofs.lemmas.List.Sums.{sum_by-cons}
 use Rattle.nomos_ir.specs.declared.amount.Amount.{Amount}
 use Rattle.nomos_ir.specs.declared.code_node.Chan.{Chan}
@@ -16,7 +16,7 @@ use Rattle.nomos_ir.specs.declared.mode.Mode.TheVariants as mode
 use Rattle.nomos_ir.specs.declared.type_node.TypeNode.{TypeNode}
 use Rattle.nomos_ir.specs.Bindings.{bind, unbind}
 use Rattle.nomos_types.specs.Amount.{Annotations, dths}
-use Rattle.nomos_types.specs.Judgement.{Judgement, ListType, IsFree, parts_with, channel_type, at_code, goes_on, with_potential, binds_value, binds_list, binds_channel}
+use Rattle.nomos_types.specs.Judgement.{Judgement, ListType, IsFree, channel_type, at_code, goes_on, with_potential, binds_value, binds_list, binds_channel}
 use Rattle.nomos_types.specs.Premises.{HasType}
 use Rattle.nomos_types.specs.Row.{StandsAtCode, gives_up}
 use Rattle.nomos_typing.specs.Account.{Account, gains, spends, with_lists, worth_of, Affords}
@@ -25,6 +25,10 @@ use Rattle.nomos_typing.proofs.ListAmounts.{CarryBoth, list_at, counted-both, bi
 -- the judgement with other lists and another potential
 abbrev pub changed : Judgement → List (VarId × ListType) → ℕ → Judgement
 changed j ms q = record j { lists = ms; q = q }
+
+-- the mode and the type of `self` change
+abbrev taken_over : Mode → TypeId → CodeId → Judgement → Judgement
+taken_over m t next j = record j { mode = m; offers = t; code = next }
 
 pub record Beside (x y : Annotations) (j k : Judgement) (a : Account) : Type 0 where
   pub same : k ≡ changed j k.lists k.q
@@ -51,7 +55,8 @@ module _ {x y : Annotations} where
   pub two : {after : List Judgement} {i j k l : Judgement} {a b : Account} → after ≡ i ∷ j ∷ [] → Beside x y i k a
       → Beside x y j l b → EachBeside x y after (k ∷ l ∷ []) (a ∷ b ∷ [])
   two {k = k} {l = l} {a = a} {b = b} is first second =
-      subst (λ (s : List Judgement). EachBeside x y s (k ∷ l ∷ []) (a ∷ b ∷ [])) (sym is) (more first (more second none))
+      subst (λ (s : List Judgement). EachBeside x y s (k ∷ l ∷ []) (a ∷ b ∷ [])) (sym is)
+      (more first (more second none))
 
   -- no judgements
   pub no_more : {after : List Judgement} → after ≡ [] → EachBeside x y after [] []
@@ -87,7 +92,8 @@ module _ {x y : Annotations} where
         }
 
     -- the channel goes on
-    pub goes_on-beside : (c : Chan) (t : TypeId) (next : CodeId) → Beside x y (goes_on j c t next) (goes_on k c t next) a
+    pub goes_on-beside : (c : Chan) (t : TypeId) (next : CodeId)
+        → Beside x y (goes_on j c t next) (goes_on k c t next) a
     goes_on-beside chan.Own t next =
         record {
           same = ap (λ s. goes_on s chan.Own t next) beside.same;
@@ -105,10 +111,10 @@ module _ {x y : Annotations} where
 
     -- the mode and the type of `self` change
     pub taken_over-beside : (m : Mode) (t : TypeId) (next : CodeId)
-        → Beside x y (record j { mode = m; offers = t; code = next }) (record k { mode = m; offers = t; code = next }) a
+        → Beside x y (taken_over m t next j) (taken_over m t next k) a
     taken_over-beside m t next =
         record {
-          same = ap (λ (s : Judgement). let r : Judgement = record s { mode = m; offers = t; code = next } in r) beside.same;
+          same = ap (taken_over m t next) beside.same;
           lists = beside.lists;
           left = beside.left;
           right = beside.right;
@@ -167,7 +173,7 @@ module _ {x y : Annotations} where
     -- a list is bound
     pub list-beside : (v : VarId) (kind : Kind) (r : Amount)
         → Beside x y (binds_list j v (list_at x kind r)) (binds_list k v (list_at y kind r))
-            (with_lists a (bind v r a.lists))
+        (with_lists a (bind v r a.lists))
     list-beside v kind r =
         record {
           same = ap (λ (s : Judgement). changed s (bind v (list_at y kind r) k.lists) k.q) beside.same;
@@ -179,7 +185,7 @@ module _ {x y : Annotations} where
     -- a list is used up
     pub unbound-beside : (v : ℕ)
         → Beside x y (record j { lists = unbind v j.lists }) (record k { lists = unbind v k.lists })
-            (with_lists a (unbind v a.lists))
+        (with_lists a (unbind v a.lists))
     unbound-beside v =
         record {
           same = ap (λ (s : Judgement). changed s (unbind v k.lists) k.q) beside.same;
@@ -261,7 +267,8 @@ module _ {x y : Annotations} where
       record {
         judgement = j;
         among = (0, omega arith, refl);
-        beside = subst (λ (s : Judgement). Beside x y j s a) first (subst (λ (c : Account). Beside x y j l c) second beside);
+        beside = subst (λ (s : Judgement). Beside x y j s a) first
+            (subst (λ (c : Account). Beside x y j l c) second beside);
       }
   at-place k a (more beside rest) (suc i, inside, is) =
       let there = at-place k a rest (i, omega arith, is) in

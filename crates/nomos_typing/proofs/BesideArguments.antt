@@ -1,5 +1,5 @@
 -- What passes under the one amounts passes under others too, where the amounts that have to be worth the same are.
-use Rattle.std.proofs.Common.{◌≡◌, ◌≢◌, ◌≤◌, ◌⊎◌, inl, inr, ℕ, zero, suc, List, [], ◌∷◌, Contains, Option, Some, None, zip, refl, ap, sym, subst, ◌∙◌, arith}
+use Rattle.std.proofs.Common.{◌≡◌, inl, inr, ℕ, zero, suc, List, ◌∷◌, Contains, Option, Some, None, zip, refl, ap, sym, subst, ◌∙◌, arith}
 use Rattle.std.proofs.lemmas.Bool.{cases_eq}
 use Rattle.nomos_ir.specs.declared.amount.Amount.{Amount}
 use Rattle.nomos_ir.specs.declared.code_node.Args.{Args}
@@ -48,7 +48,8 @@ pub bound-before : {X : Type 0} (w v : ℕ) (b : List (VarId × X)) (r : X) → 
 bound-before {X} w v b r ascends found =
     elim (cases_eq w v) [
       | inl same ↦
-          let at_v : bound_to v (unbind v b) ≡ Some r = subst (λ (u : ℕ). bound_to u (unbind v b) ≡ Some r) same found in
+          let at_v : bound_to v (unbind v b) ≡ Some r =
+          subst (λ (u : ℕ). bound_to u (unbind v b) ≡ Some r) same found in
           let nowhere = bound-after_unbind v b ascends in
           absurd cc
       | inr other ↦ sym (bound-after_unbind_other w v b other) ∙ found
@@ -59,20 +60,26 @@ later : {X : Type 0} (x y : X) (xs : List X) → Contains xs y → Contains (x �
 later x y xs (i, inside, is) = (suc i, omega arith, is)
 
 -- a variable is that of a channel of one type
-pub of_type-unique : {lists : ProgramLists} {j : Judgement} (v : VarId) (t u : TypeId) → IsJudgement lists j → IsOfType j v t
+pub of_type-unique : {lists : ProgramLists} {j : Judgement} (v : VarId) (t u : TypeId) → IsJudgement lists j
+    → IsOfType j v t
     → IsOfType j v u → t ≡ u
 of_type-unique v t u h (inl left) (inl right) = cc
 of_type-unique v t u h (inr left) (inr right) = cc
 of_type-unique v t u h (inl left) (inr right) =
-    absurd (omega (arith, h.apart v.0, ap (λ (o : Option TypeId). count_one o) left, ap (λ (o : Option TypeId). count_one o) right))
+    let first = ap (λ (o : Option TypeId). count_one o) left in
+    let second = ap (λ (o : Option TypeId). count_one o) right in
+    absurd (omega (arith, h.apart v.0))
 of_type-unique v t u h (inr left) (inl right) =
-    absurd (omega (arith, h.apart v.0, ap (λ (o : Option TypeId). count_one o) left, ap (λ (o : Option TypeId). count_one o) right))
+    let first = ap (λ (o : Option TypeId). count_one o) left in
+    let second = ap (λ (o : Option TypeId). count_one o) right in
+    absurd (omega (arith, h.apart v.0))
 
 module _ {lists : ProgramLists} {x : Annotations} where
   -- ---- channels
 
   -- a channel that is there after another one passed was there before
-  of_type-before : {j : Judgement} {v : VarId} {t : TypeId} {k : Judgement} (w : VarId) (own : TypeId) → IsAscending j.linear
+  of_type-before : {j : Judgement} {v : VarId} {t : TypeId} {k : Judgement} (w : VarId) (own : TypeId)
+      → IsAscending j.linear
       → PassesChannel lists x j v t k → IsOfType k w own → IsOfType j w own
   of_type-before w own ascends (passes.shared _ _ _) of = of
   of_type-before w own ascends (passes.linear _ _ _ _) (inl reference) = inl reference
@@ -80,7 +87,8 @@ module _ {lists : ProgramLists} {x : Annotations} where
       inr (bound-before w.0 v.0 j.linear own ascends there)
 
   -- the channels still ascend
-  linear-ascends : {j : Judgement} {v : VarId} {t : TypeId} {k : Judgement} → IsAscending j.linear → PassesChannel lists x j v t k
+  linear-ascends : {j : Judgement} {v : VarId} {t : TypeId} {k : Judgement} → IsAscending j.linear
+      → PassesChannel lists x j v t k
       → IsAscending k.linear
   linear-ascends ascends (passes.shared _ _ _) = ascends
   linear-ascends {j} {v = v} ascends (passes.linear _ _ _ _) = unbind-ascending v.0 j.linear ascends
@@ -99,8 +107,7 @@ module _ {lists : ProgramLists} {x : Annotations} where
   passed-alike {j} v par ascends (passes.channel {v = w} {par = other} first others) (zero, inside, is) =
       let (own, of, alike) = passed-type first in
       let variable : w ≡ v = ap (λ (p : VarId × (VarId × TypeId)). p.0) is in
-      let parameter : other ≡ par = ap (λ (p : VarId × (VarId × TypeId)). p.1) is in
-      (
+      let parameter : other ≡ par = ap (λ (p : VarId × (VarId × TypeId)). p.1) is in (
         own,
         subst (λ (u : VarId). IsOfType j u own) variable of,
         subst (λ (p : VarId × TypeId). AlikeTypes lists x own p.1) parameter alike,
@@ -118,7 +125,8 @@ module _ {lists : ProgramLists} {x : Annotations} where
   passed-list w par s ascends passes.none (i, inside, is) found = absurd (omega arith)
   passed-list w par s ascends (passes.value (passes.term no_list kind) others) (zero, inside, is) found =
       let wrong = ap (λ (p : ValueArg × Par). p.0) is in absurd cc
-  passed-list {j} w par s ascends (passes.value {par = other} (passes.list {w = v} amount its there) others) (zero, inside, is) found =
+  passed-list {j} w par s ascends (passes.value {par = other} (passes.list {w = v} amount its there) others)
+      (zero, inside, is) found =
       let first : arg.List v ≡ arg.List w = ap (λ (p : ValueArg × Par). p.0) is in
       let variable : v ≡ w = cc in
       let parameter : other ≡ par = ap (λ (p : ValueArg × Par). p.1) is in
@@ -133,7 +141,8 @@ module _ {lists : ProgramLists} {x : Annotations} where
       subst (λ (u : VarId). bound_to u.0 j.lists ≡ Some (list_at x par.kind s)) variable at_s
   passed-list w par s ascends (passes.value (passes.term no_list kind) others) (suc i, inside, is) found =
       passed-list w par s ascends others (i, omega arith, is) found
-  passed-list {j} w par s ascends (passes.value (passes.list {w = v} amount its there) others) (suc i, inside, is) found =
+  passed-list {j} w par s ascends (passes.value (passes.list {w = v} amount its there) others) (suc i, inside, is)
+      found =
       bound-before w.0 v.0 j.lists (list_at x par.kind s) ascends
       (passed-list w par s (unbind-ascending v.0 j.lists ascends) others (i, omega arith, is) found)
 
@@ -169,8 +178,7 @@ module _ {lists : ProgramLists} {x y : Annotations} where
       (k, passes.shared own found (alike-changed alike (worth own (inl there))), beside)
   channel-passes {j} {k} {v = v} beside (passes.linear own no_reference there alike) worth =
       let nowhere : bound_to v.0 k.shared ≡ None = along beside (λ s. bound_to v.0 s.shared ≡ None) no_reference in
-      let found : bound_to v.0 k.linear ≡ Some own = along beside (λ s. bound_to v.0 s.linear ≡ Some own) there in
-      (
+      let found : bound_to v.0 k.linear ≡ Some own = along beside (λ s. bound_to v.0 s.linear ≡ Some own) there in (
         record k { linear = unbind v.0 k.linear },
         passes.linear own nowhere found (alike-changed alike (worth own (inr there))),
         gives_up-beside beside v,
@@ -180,7 +188,7 @@ module _ {lists : ProgramLists} {x y : Annotations} where
   pub channels-pass : {j k left : Judgement} {a : Account} {vs : List VarId} {pars : List (VarId × TypeId)}
       → Beside x y j k a → IsAscending j.linear → PassesChannels lists x j vs pars left
       → ((v : VarId) (par : VarId × TypeId) (own : TypeId) → Contains (zip vs pars) (v, par) → IsOfType j v own
-          → WorthSame lists y own par.1)
+      → WorthSame lists y own par.1)
       → (rest : Judgement) × PassesChannels lists y k vs pars rest × Beside x y left rest a
   channels-pass {k = k} beside ascends passes.none worth = (k, passes.none, beside)
   channels-pass beside ascends (passes.channel {v = v} {vs = vs} {par = par} {pars = pars} first others) worth =
@@ -189,7 +197,8 @@ module _ {lists : ProgramLists} {x y : Annotations} where
       in
       let (rest, passed_others, beside_rest) =
       channels-pass beside_between (linear-ascends ascends first) others
-      (λ w p own among of. worth w p own (later (v, par) (w, p) (zip vs pars) among) (of_type-before w own ascends first of))
+      (λ w p own among of. worth w p own (later (v, par) (w, p) (zip vs pars) among)
+      (of_type-before w own ascends first of))
       in
       (rest, passes.channel passed passed_others, beside_rest)
 
@@ -197,26 +206,30 @@ module _ {lists : ProgramLists} {x y : Annotations} where
   pub values-pass : {j k left : Judgement} {a : Account} {args : List ValueArg} {pars : List Par} → Beside x y j k a
       → IsAscending a.lists → PassesValues lists x j args pars left
       → ((w : VarId) (par : Par) (r s : Amount) → Contains (zip args pars) (arg.List w, par)
-          → bound_to w.0 a.lists ≡ Some r → par.amount ≡ Some s → dths y r ≡ dths y s)
+      → bound_to w.0 a.lists ≡ Some r → par.amount ≡ Some s → dths y r ≡ dths y s)
       → (rest : Judgement) × PassesValues lists y k args pars rest
-          × Beside x y left rest (with_lists a (without_passed args a.lists))
+      × Beside x y left rest (with_lists a (without_passed args a.lists))
   values-pass {k = k} beside ascends passes.none worth = (k, passes.none, beside)
-  values-pass {k = k} beside ascends (passes.value {args = args} {par = par} {pars = pars} (passes.term {e = e} no_list kind) others) worth =
+  values-pass {k = k} beside ascends
+      (passes.value {args = args} {par = par} {pars = pars} (passes.term {e = e} no_list kind) others) worth =
       let its_kind : HasKind lists k.kinds e par.kind = along beside (λ s. HasKind lists s.kinds e par.kind) kind in
       let (rest, passed, beside_rest) =
       values-pass beside ascends others
       (λ w p r s among. worth w p r s (later (arg.Term e, par) (arg.List w, p) (zip args pars) among))
       in
       (rest, passes.value (passes.term no_list its_kind) passed, beside_rest)
-  values-pass {k = k} {a = a} beside ascends (passes.value {args = args} {par = par} {pars = pars} (passes.list {w = v} amount its there) others) worth =
+  values-pass {k = k} {a = a} beside ascends
+      (passes.value {args = args} {par = par} {pars = pars} (passes.list {w = v} amount its there) others) worth =
       let found = found-both v.0 (list_at x par.kind amount) beside.lists there in
-      let same : dths y found.amount ≡ dths y amount = worth v par found.amount amount (0, omega arith, refl) found.carried its in
+      let same : dths y found.amount ≡ dths y amount =
+      worth v par found.amount amount (0, omega arith, refl) found.carried its in
       let its_list : bound_to v.0 k.lists ≡ Some (list_at y par.kind amount) =
       found.other ∙ ap (λ (n : ℕ). let l : ListType = record { kind = par.kind; amount = n } in Some l) same
       in
       let (rest, passed, beside_rest) =
       values-pass (unbound-beside beside v.0) (unbind-ascending v.0 a.lists ascends) others
-      (λ w p r s among bound. worth w p r s (later (arg.List v, par) (arg.List w, p) (zip args pars) among) (bound-before w.0 v.0 a.lists r ascends bound))
+      (λ w p r s among bound. worth w p r s (later (arg.List v, par) (arg.List w, p) (zip args pars) among)
+      (bound-before w.0 v.0 a.lists r ascends bound))
       in
       (rest, passes.value (passes.list amount its its_list) passed, beside_rest)
 
@@ -224,11 +237,11 @@ module _ {lists : ProgramLists} {x y : Annotations} where
   pub arguments-pass : {j k left : Judgement} {a : Account} {d : ProcDecl} {args : Args} → Beside x y j k a
       → IsJudgement lists j → ArgumentsFit lists x j d args left
       → ((w : VarId) (par : Par) (r s : Amount) → Contains (zip args.values d.values) (arg.List w, par)
-          → bound_to w.0 a.lists ≡ Some r → par.amount ≡ Some s → dths y r ≡ dths y s)
+      → bound_to w.0 a.lists ≡ Some r → par.amount ≡ Some s → dths y r ≡ dths y s)
       → ((v : VarId) (par : VarId × TypeId) (own : TypeId) → Contains (zip args.channels d.channels) (v, par)
-          → IsOfType j v own → WorthSame lists y own par.1)
+      → IsOfType j v own → WorthSame lists y own par.1)
       → (rest : Judgement) × ArgumentsFit lists y k d args rest
-          × Beside x y left rest (with_lists a (without_passed args.values a.lists))
+      × Beside x y left rest (with_lists a (without_passed args.values a.lists))
   arguments-pass beside h fit lists_worth worth =
       let (between, values, beside_between) =
       values-pass beside (ascends-both beside.lists h.lists_ascend) fit.values lists_worth

@@ -1,6 +1,6 @@
 -- A row under the one amounts is carried over to others, where what it needs is met there: the account afforded, and
 -- the amounts of each pair worth the same.
-use Rattle.std.proofs.Common.{◌≡◌, ◌≤◌, ◌+◌, ◌-◌, ◌⊎◌, ℕ, IsTrue, List, [], ◌∷◌, map, All, Contains, Option, Some, None, slice_get, zip, refl, ap, sym, subst, ◌∙◌, arith, eq-eqb, cond}
+use Rattle.std.proofs.Common.{◌≡◌, ◌+◌, ◌-◌, ◌⊎◌, ℕ, IsTrue, List, [], ◌∷◌, map, All, Contains, Option, Some, None, slice_get, zip, refl, ap, sym, subst, ◌∙◌, arith, eq-eqb, cond}
 use Rattle.nomos_ir.specs.declared.amount.Amount.{Amount}
 use Rattle.nomos_ir.specs.declared.code_node.Args.{Args}
 use Rattle.nomos_ir.specs.declared.code_node.Arm.{Arm}
@@ -17,14 +17,13 @@ use Rattle.nomos_ir.specs.declared.ids.VarId.{VarId}
 use Rattle.nomos_ir.specs.declared.lists.ProgramLists.{ProgramLists}
 use Rattle.nomos_ir.specs.declared.mode.Mode.TheVariants as mode
 use Rattle.nomos_ir.specs.declared.type_node.Branch.{Branch}
-use Rattle.nomos_ir.specs.declared.type_node.TypeNode.TheVariants as node
 use Rattle.nomos_ir.specs.Bindings.{bound_to, bind, unbind}
 use Rattle.nomos_ir.specs.TermKind.{HasKind, bool_kind}
 use Rattle.nomos_types.specs.Alike.{AlikeTypes}
 use Rattle.nomos_types.specs.Amount.{Annotations, dths}
-use Rattle.nomos_types.specs.Judgement.{Judgement, ListType, IsJudgement, IsFree, at_code, goes_on, with_potential, binds_value, binds_list, binds_channel}
+use Rattle.nomos_types.specs.Judgement.{Judgement, ListType, IsJudgement, at_code, goes_on, with_potential, binds_value, binds_list, binds_channel}
 use Rattle.nomos_types.specs.Modes.{HasMode, may_spawn}
-use Rattle.nomos_types.specs.Premises.{HasType, by_side, ArmsGoOn, none, arm, Spawns, Calls, Adds, TakesApart}
+use Rattle.nomos_types.specs.Premises.{ArmsGoOn, none, arm, Spawns, Calls, Adds, TakesApart}
 use Rattle.nomos_types.specs.Row.{StandsAtCode, gives_up, without_list, takes_parts}
 use Rattle.nomos_types.proofs.RowLaws.{RowAt}
 use Rattle.nomos_typing.specs.Account.{Account, spends, gains, with_lists, Affords}
@@ -32,7 +31,7 @@ use Rattle.nomos_typing.specs.Accounting.{accounts_after, spends_for, without_pa
 use Rattle.nomos_typing.specs.Asking.{AsksPair, paid, got, carried, compared, sent, passed, called, forwarded, spawns, calls}
 use Rattle.nomos_typing.proofs.Beside.{Beside, EachBeside, more, one, two, no_more, along, free, at_code-beside, goes_on-beside, taken_over-beside, gives_up-beside, value-beside, channel-beside, list-beside, unbound-beside, spends-beside, gains-beside, enough, has_type-beside}
 use Rattle.nomos_typing.proofs.BesideArguments.{alike-changed, channel-passes, arguments-pass}
-use Rattle.nomos_typing.proofs.ListAmounts.{list_at, FoundBoth, found-both}
+use Rattle.nomos_typing.proofs.ListAmounts.{list_at, found-both}
 
 -- the needs of an instruction are met under these amounts
 pub record MeetsNeeds (lists : ProgramLists) (y : Annotations) (j : Judgement) (a : Account) (n : CodeNode)
@@ -50,10 +49,11 @@ pub record Carried (lists : ProgramLists) (x y : Annotations) (k : Judgement) (n
   pub each : EachBeside x y after later accounts
 
 -- the arms go on side by side
-arms-carried : {x y : Annotations} {j k : Judgement} {a : Account} (c : Chan) (branches : List Branch) → Beside x y j k a
+arms-carried : {x y : Annotations} {j k : Judgement} {a : Account} (c : Chan) (branches : List Branch)
+    → Beside x y j k a
     → {arms : List Arm} {after : List Judgement} → ArmsGoOn j c branches arms after
     → (later : List Judgement) × ArmsGoOn k c branches arms later
-        × EachBeside x y after later (map (λ arm. a) arms)
+    × EachBeside x y after later (map (λ arm. a) arms)
 arms-carried c branches b none = ([], none, EachBeside.none)
 arms-carried {k = k} c branches b (arm {a = first} t goes rest) =
     let (later, others, each) = arms-carried c branches b rest in
@@ -76,11 +76,19 @@ only-bound v own channels only =
     ap (λ (cs : List (VarId × TypeId)). bound_to v.0 cs) only
     ∙ ap (λ t. cond t (Some own) None) (eq-eqb v.0 v.0 refl)
 
+-- the judgement in which an element was put before a list
+abbrev added : Judgement → VarId → VarId → CodeId → ListType → Judgement
+added j v w next l = with_potential (binds_list (without_list j w next) v l) (j.q - l.amount)
+
+-- those in which a list was taken apart: it was empty, or it had a head and a tail
+abbrev taken_apart : Judgement → VarId → VarId → VarId → CodeId → CodeId → ListType → List Judgement
+taken_apart j w head tail empty_next full_next l =
+    without_list j w empty_next ∷ with_potential (takes_parts j w head tail l full_next) (j.q + l.amount) ∷ []
+
 module _ {lists : ProgramLists} {x y : Annotations} where
   -- an element is put before a list
   add-carried : {j k : Judgement} {a : Account} {after : List Judgement} (at : ℕ) (v w : VarId) (e : TermId)
-      (next : CodeId) (l : ListType) → Beside x y j k a → Adds lists j v e w l
-      → after ≡ with_potential (binds_list (without_list j w next) v l) (j.q - l.amount) ∷ []
+      (next : CodeId) (l : ListType) → Beside x y j k a → Adds lists j v e w l → after ≡ added j v w next l ∷ []
       → MeetsNeeds lists y j a (code.Add at v e w next) after
       → Carried lists x y k (code.Add at v e w next) after (accounts_after lists (code.Add at v e w next) a)
   add-carried {j} {k} {a} {after} at v w e next l b h is needs =
@@ -90,8 +98,8 @@ module _ {lists : ProgramLists} {x y : Annotations} where
       let same : l ≡ list_at x l.kind r =
       ap (λ (n : ℕ). let o : ListType = record { kind = l.kind; amount = n } in o) f.worth
       in
-      let is_here : after ≡ with_potential (binds_list (without_list j w next) v (list_at x l.kind r)) (j.q - dths x r) ∷ [] =
-      subst (λ (o : ListType). after ≡ with_potential (binds_list (without_list j w next) v o) (j.q - o.amount) ∷ []) same is
+      let is_here : after ≡ added j v w next (list_at x l.kind r) ∷ [] =
+      subst (λ (o : ListType). after ≡ added j v w next o ∷ []) same is
       in
       let grown = spends r (with_lists a (bind v r (unbind w.0 a.lists))) in
       let accounts : grows_list (bound_to w.0 a.lists) v w a ≡ grown ∷ [] =
@@ -100,8 +108,9 @@ module _ {lists : ProgramLists} {x y : Annotations} where
       let afforded : Affords y grown = onward-afforded _ grown needs is accounts in
       let before = list-beside (unbound-beside (at_code-beside b next) w.0) v l.kind r in
       let beside = spends-beside before j.q k.q r b.left b.right (omega (arith, h.enough, f.worth)) afforded in
+      let later : List Judgement = added k v w next m ∷ [] in
       record {
-        later = with_potential (binds_list (without_list k w next) v m) (k.q - m.amount) ∷ [];
+        later = later;
         row = (
           m,
           record {
@@ -112,15 +121,15 @@ module _ {lists : ProgramLists} {x y : Annotations} where
           },
           refl,
         );
-        each = subst (λ (bs : List Account). EachBeside x y after (with_potential (binds_list (without_list k w next) v m) (k.q - m.amount) ∷ []) bs) (sym accounts) (one is_here beside);
+        each = subst (λ (bs : List Account). EachBeside x y after later bs) (sym accounts) (one is_here beside);
       }
 
   -- a list is taken apart
   match-carried : {j k : Judgement} {a : Account} {after : List Judgement} (at : ℕ) (w head tail : VarId)
       (empty_next full_next : CodeId) (l : ListType) → Beside x y j k a → TakesApart j w head tail l
-      → after ≡ without_list j w empty_next ∷ with_potential (takes_parts j w head tail l full_next) (j.q + l.amount) ∷ []
+      → after ≡ taken_apart j w head tail empty_next full_next l
       → Carried lists x y k (code.Match at w empty_next head tail full_next) after
-          (accounts_after lists (code.Match at w empty_next head tail full_next) a)
+      (accounts_after lists (code.Match at w empty_next head tail full_next) a)
   match-carried {j} {k} {a} {after} at w head tail empty_next full_next l b h is =
       let f = found-both w.0 l b.lists h.there in
       let r = f.amount in
@@ -128,8 +137,8 @@ module _ {lists : ProgramLists} {x y : Annotations} where
       let same : l ≡ list_at x l.kind r =
       ap (λ (n : ℕ). let o : ListType = record { kind = l.kind; amount = n } in o) f.worth
       in
-      let is_here : after ≡ without_list j w empty_next ∷ with_potential (takes_parts j w head tail (list_at x l.kind r) full_next) (j.q + dths x r) ∷ [] =
-      subst (λ (o : ListType). after ≡ without_list j w empty_next ∷ with_potential (takes_parts j w head tail o full_next) (j.q + o.amount) ∷ []) same is
+      let is_here : after ≡ taken_apart j w head tail empty_next full_next (list_at x l.kind r) =
+      subst (λ (o : ListType). after ≡ taken_apart j w head tail empty_next full_next o) same is
       in
       let ended = with_lists a (unbind w.0 a.lists) in
       let parted = gains r (with_lists a (bind tail r (unbind w.0 a.lists))) in
@@ -138,12 +147,14 @@ module _ {lists : ProgramLists} {x y : Annotations} where
       in
       let with_tail = list-beside (unbound-beside (at_code-beside b full_next) w.0) tail l.kind r in
       let full = gains-beside (value-beside with_tail head l.kind) j.q k.q r b.left b.right in
-      let later : List Judgement = without_list k w empty_next ∷ with_potential (takes_parts k w head tail m full_next) (k.q + m.amount) ∷ [] in
+      let later : List Judgement = taken_apart k w head tail empty_next full_next m in
+      let head_free = free b head h.head_free in
+      let tail_free = free b tail h.tail_free in
       record {
         later = later;
         row = (
           m,
-          record { there = f.other; differ = h.differ; head_free = free b head h.head_free; tail_free = free b tail h.tail_free },
+          record { there = f.other; differ = h.differ; head_free = head_free; tail_free = tail_free },
           refl,
         );
         each = subst (λ (bs : List Account). EachBeside x y after later bs) (sym accounts)
@@ -171,7 +182,8 @@ module _ {lists : ProgramLists} {x y : Annotations} where
       in
       let afforded : Affords y spent = onward-afforded _ spent needs is accounts in
       let paid_for = spends-beside (at_code-beside besides next) j.q k.q d.amount b.left b.right h.enough afforded in
-      let later : List Judgement = binds_channel (with_potential (at_code rest next) (k.q - dths y d.amount)) v d.mode d.offers ∷ [] in
+      let left_over = with_potential (at_code rest next) (k.q - dths y d.amount) in
+      let later : List Judgement = binds_channel left_over v d.mode d.offers ∷ [] in
       record {
         later = later;
         row = (
@@ -191,7 +203,8 @@ module _ {lists : ProgramLists} {x y : Annotations} where
       }
 
   -- a process goes on as another declaration
-  call-carried : {j k : Judgement} {a : Account} {after : List Judgement} (at : ℕ) (f : ProcId) (args : Args) → IsJudgement lists j
+  call-carried : {j k : Judgement} {a : Account} {after : List Judgement} (at : ℕ) (f : ProcId) (args : Args)
+      → IsJudgement lists j
       → Beside x y j k a → StandsAtCode lists j (code.Call at f args) → Calls lists x j f args
       → MeetsNeeds lists y j a (code.Call at f args) after → Calls lists y k f args
   call-carried {j} {k} {a} at f args is_judgement b there h needs =

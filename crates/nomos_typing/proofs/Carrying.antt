@@ -1,5 +1,5 @@
 -- A derivation under the one amounts is carried over to others, where what its instructions need is met there.
-use Rattle.std.proofs.Common.{◌≡◌, ◌<◌, ◌≤◌, ◌+◌, ℕ, zero, suc, List, [], ◌∷◌, map, Contains, Some, slice_get, zip, refl, ap, sym, subst, ◌∙◌, arith, mul-zero}
+use Rattle.std.proofs.Common.{◌≡◌, ◌<◌, ℕ, zero, suc, List, [], ◌∷◌, Contains, Some, slice_get, zip, refl, sym, subst, ◌∙◌, arith, mul-zero}
 use Rattle.std.proofs.lemmas.List.Elements.{All-contains}
 use Rattle.std.proofs.lemmas.List.Sums.{sum_by-cons}
 use Rattle.nomos_ir.specs.declared.amount.Amount.{Amount}
@@ -10,7 +10,6 @@ use Rattle.nomos_ir.specs.declared.code_node.CodeNode.TheVariants as code
 use Rattle.nomos_ir.specs.declared.declaration.ProcDecl.{ProcDecl}
 use Rattle.nomos_ir.specs.declared.ids.ProcId.{ProcId}
 use Rattle.nomos_ir.specs.declared.lists.ProgramLists.{ProgramLists}
-use Rattle.nomos_ir.specs.CodeParts.{code_next}
 use Rattle.nomos_types.specs.Amount.{Annotations, dths}
 use Rattle.nomos_types.specs.Derivation.{Derives, by_row}
 use Rattle.nomos_types.specs.Equality.{no_amounts}
@@ -91,7 +90,8 @@ each-beside {lists} {x} {i} {j} {a} {n} {before} {after} formed own beside row t
     let made : Row lists no_amounts j carried.later = row-made m at_other carried.row in
     let later_same : carried.later ≡ after = row-unique no_amounts formed.program made other in
     let each : EachBeside x no_amounts before after (accounts_after lists m a) =
-    subst (λ (ks : List Judgement). EachBeside x no_amounts before ks (accounts_after lists m a)) later_same carried.each
+    subst (λ (ks : List Judgement). EachBeside x no_amounts before ks (accounts_after lists m a)) later_same
+    carried.each
     in
     subst (λ (l : CodeNode). EachBeside x no_amounts before after (accounts_after lists l a)) same each
 
@@ -107,7 +107,8 @@ pub record Provides (lists : ProgramLists) (x y : Annotations) (Good : Judgement
   pub pairs : (j : Judgement) (a : Account) (p : Amount × Amount) → Good j a → AsksPair lists j a p
       → dths y p.0 ≡ dths y p.1
 
-module _ {lists : ProgramLists} (formed : IsWellFormed lists) (x y : Annotations) (Good : Judgement → Account → Type 0) (provides : Provides lists x y Good) where
+module _ {lists : ProgramLists} (formed : IsWellFormed lists) (x y : Annotations) (Good : Judgement → Account
+    → Type 0) (provides : Provides lists x y Good) where
   -- a row of a good judgement has its needs met
   needs-met : (j : Judgement) (a : Account) (n : CodeNode) (after : List Judgement) → Good j a → StandsAtCode lists j n
       → Row lists x j after → MeetsNeeds lists y j a n after

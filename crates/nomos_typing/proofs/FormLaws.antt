@@ -1,7 +1,6 @@
 -- The form of an account is 0 or more exactly where the account is afforded.
-use Rattle.std.proofs.Common.{◌≡◌, ◌↔◌, ◌≤◌, ◌+◌, ◌*◌, ◌-◌, ℕ, suc, List, [], ◌∷◌, All, length, map, refl, ap, sym, subst, ◌∙◌, arith, ℤ, pos, neg_ℤ, ◌+ℤ◌, ◌*ℤ◌, ◌-ℤ◌, ◌≤ℤ◌}
+use Rattle.std.proofs.Common.{◌≡◌, ◌↔◌, ◌≤◌, ◌+◌, ◌*◌, ℕ, suc, List, [], ◌∷◌, All, length, refl, sym, subst, ◌∙◌, arith, ℤ, pos, ◌+ℤ◌, ◌*ℤ◌, ◌-ℤ◌, ◌≤ℤ◌}
 use Rattle.std.specs.Prelude.{sum_by}
-use Rattle.std.specs.List.{range_with_len}
 use Rattle.std.proofs.lemmas.Int.{ints}
 use Rattle.std.proofs.lemmas.List.Elements.{All-head, All-tail}
 use Rattle.std.proofs.lemmas.List.Sums.{sum_by-cons}
@@ -51,7 +50,9 @@ unfolding stars-worth
 shares-spread n xs [] stars = spread_zero (λ k. pos 0) 1 xs (λ t low high. refl)
 shares-spread n xs (r ∷ rs) stars =
     spread-more (share_of r) (shares rs) 1 xs
-    ∙ (λ p. spread_share n xs r (All-head (HasStarUpTo n) r rs stars) p +ℤ shares-spread n xs rs (All-tail (HasStarUpTo n) r rs stars) p)
+    ∙ (λ p.
+    spread_share n xs r (All-head (HasStarUpTo n) r rs stars) p
+    +ℤ shares-spread n xs rs (All-tail (HasStarUpTo n) r rs stars) p)
 
 -- ---- worth
 
@@ -102,8 +103,7 @@ form-worth x n a width stars =
 pub form-affords : (x : Annotations) (n : ℕ) (a : Account) → length x.stars ≡ n → HasStarsUpTo n a
     → (pos 0 ≤ℤ form_value x.stars x.unit (form_of n a)) ↔ Affords x a
 form-affords x n a width stars =
-    let is = form-worth x n a width stars in
-    (
+    let is = form-worth x n a width stars in (
       λ h. to (worth_of x a.gained) (worth_of x a.spent) (subst (λ z. pos 0 ≤ℤ z) is h),
       λ h. subst (λ z. pos 0 ≤ℤ z) (sym is) (back (worth_of x a.gained) (worth_of x a.spent) h),
     )

@@ -7,10 +7,12 @@ pub mod BesideArguments
 pub mod BesideRows
 pub mod Carrying
 pub mod ChannelLaws
+pub mod CodeOnceLemmas
 pub mod FormLaws
 pub mod FormLemmas
 pub mod GatherLemmas
 pub mod GoingLemmas
+pub mod HalvesExample
 pub mod HeadsOver
 pub mod LeadLemmas
 pub mod LeavingLemmas
@@ -29,6 +31,7 @@ pub mod RowMaking
 pub mod RowsLaws
 pub mod RowsOver
 pub mod SideLaws
+pub mod SizeLaws
 pub mod StandingLemmas
 pub mod StarLaws
 pub mod StepRows

@@ -39,7 +39,7 @@ found-at : (x y : Annotations) (kind : Kind) (r : Amount) (l : ListType) (o p : 
     (t : Bool) → (o ≡ Some l → (s : Amount) × (q ≡ Some s) × (l.amount ≡ dths x s) × (p ≡ Some (list_at y l.kind s)))
     → cond t (Some (list_at x kind r)) o ≡ Some l
     → (s : Amount) × (cond t (Some r) q ≡ Some s) × (l.amount ≡ dths x s)
-        × (cond t (Some (list_at y kind r)) p ≡ Some (list_at y l.kind s))
+    × (cond t (Some (list_at y kind r)) p ≡ Some (list_at y l.kind s))
 found-at x y kind r l o p q true rest found =
     let same : l ≡ list_at x kind r = cc in
     (r, refl, ap (λ (k : ListType). k.amount) same, ap (λ (k : ListType). Some (list_at y k.kind r)) (sym same))
@@ -89,16 +89,17 @@ module _ {x y : Annotations} where
       (r s : Amount) (o : Ordering) → CarryBoth x y ls ms rs
       → CarryBoth x y (bind v (list_at x kind r) ls) (bind v (list_at y kind r) ms) (bind v r rs)
       → CarryBoth x y
-          (match_ordering o ((v, list_at x kind r) ∷ (w, list_at x other s) ∷ ls) ((w, list_at x kind r) ∷ ls)
-          ((w, list_at x other s) ∷ bind v (list_at x kind r) ls))
-          (match_ordering o ((v, list_at y kind r) ∷ (w, list_at y other s) ∷ ms) ((w, list_at y kind r) ∷ ms)
-          ((w, list_at y other s) ∷ bind v (list_at y kind r) ms))
-          (match_ordering o ((v, r) ∷ (w, s) ∷ rs) ((w, r) ∷ rs) ((w, s) ∷ bind v r rs))
+      (match_ordering o ((v, list_at x kind r) ∷ (w, list_at x other s) ∷ ls) ((w, list_at x kind r) ∷ ls)
+      ((w, list_at x other s) ∷ bind v (list_at x kind r) ls))
+      (match_ordering o ((v, list_at y kind r) ∷ (w, list_at y other s) ∷ ms) ((w, list_at y kind r) ∷ ms)
+      ((w, list_at y other s) ∷ bind v (list_at y kind r) ms))
+      (match_ordering o ((v, r) ∷ (w, s) ∷ rs) ((w, r) ∷ rs) ((w, s) ∷ bind v r rs))
   placed-both v w kind other r s Less rest more = list v kind r (list w other s rest)
   placed-both v w kind other r s Equal rest more = list w kind r rest
   placed-both v w kind other r s Greater rest more = list w other s more
 
-  pub bind-both : {ls ms : List (VarId × ListType)} {rs : List (VarId × Amount)} → (v : VarId) (kind : Kind) (r : Amount)
+  pub bind-both : {ls ms : List (VarId × ListType)} {rs : List (VarId × Amount)}
+      → (v : VarId) (kind : Kind) (r : Amount)
       → CarryBoth x y ls ms rs
       → CarryBoth x y (bind v (list_at x kind r) ls) (bind v (list_at y kind r) ms) (bind v r rs)
   bind-both v kind r none = list v kind r none
@@ -108,8 +109,9 @@ module _ {x y : Annotations} where
   -- a list is used up, where the test of the first variable is known
   dropped-both : {ls ms : List (VarId × ListType)} {rs : List (VarId × Amount)} → (v : ℕ) (w : VarId) (kind : Kind)
       (r : Amount) (t : Bool) → CarryBoth x y ls ms rs → CarryBoth x y (unbind v ls) (unbind v ms) (unbind v rs)
-      → CarryBoth x y (cond t ls ((w, list_at x kind r) ∷ unbind v ls)) (cond t ms ((w, list_at y kind r) ∷ unbind v ms))
-          (cond t rs ((w, r) ∷ unbind v rs))
+      → CarryBoth x y (cond t ls ((w, list_at x kind r) ∷ unbind v ls)) (cond t ms
+      ((w, list_at y kind r) ∷ unbind v ms))
+      (cond t rs ((w, r) ∷ unbind v rs))
   dropped-both v w kind r true rest more = rest
   dropped-both v w kind r false rest more = list w kind r more
 
@@ -122,7 +124,7 @@ module _ {x y : Annotations} where
   par-both : (v : VarId) (kind : Kind) (amount : Option Amount) (ls ms : List (VarId × ListType))
       (rs : List (VarId × Amount)) → CarryBoth x y (bindings_of ls) (bindings_of ms) (bindings_of rs)
       → CarryBoth x y (bindings_of (list_par x v kind amount ++ ls)) (bindings_of (list_par y v kind amount ++ ms))
-          (bindings_of (carried_by v amount ++ rs))
+      (bindings_of (carried_by v amount ++ rs))
   par-both v kind None ls ms rs rest = rest
   par-both v kind (Some r) ls ms rs rest = bind-both v kind r rest
 

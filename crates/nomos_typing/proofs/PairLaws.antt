@@ -1,5 +1,5 @@
 -- The amounts of the pairs for which instructions ask have stars of the program.
-use Rattle.std.proofs.Common.{◌≡◌, ℕ, List, [], ◌∷◌, Contains, Option, Some, None, slice_get, zip, refl, ap, sym, subst, arith}
+use Rattle.std.proofs.Common.{◌≡◌, ℕ, [], ◌∷◌, Contains, Option, Some, slice_get, refl, sym, subst, arith}
 use Rattle.std.specs.List.{flat_map}
 use Rattle.std.specs.Option.{option_to_list}
 use Rattle.std.proofs.lemmas.List.Elements.{Contains-append_left}
@@ -13,10 +13,9 @@ use Rattle.nomos_ir.specs.declared.declaration.Par.{Par}
 use Rattle.nomos_ir.specs.declared.declaration.ProcDecl.{ProcDecl}
 use Rattle.nomos_ir.specs.declared.ids.TypeId.{TypeId}
 use Rattle.nomos_ir.specs.declared.lists.ProgramLists.{ProgramLists}
-use Rattle.nomos_ir.specs.declared.type_node.TypeAt.{TypeAt}
 use Rattle.nomos_ir.specs.declared.type_node.TypeNode.{TypeNode}
 use Rattle.nomos_ir.specs.declared.type_node.TypeNode.TheVariants as node
-use Rattle.nomos_ir.specs.Amounts.{par_amounts, proc_amounts, star_count}
+use Rattle.nomos_ir.specs.Amounts.{par_amounts, star_count}
 use Rattle.nomos_ir.specs.Nodes.{type_node}
 use Rattle.nomos_ir.specs.Program.{IsProgram}
 use Rattle.nomos_ir.specs.TypeParts.{type_amounts}
@@ -30,7 +29,6 @@ use Rattle.nomos_types.specs.Premises.{by_side}
 use Rattle.nomos_types.specs.Typed.{IsWellFormed}
 use Rattle.nomos_typing.specs.Account.{Account}
 use Rattle.nomos_typing.specs.Asking.{Invokes, spawns, calls, AsksPair, paid, got, carried, compared, IsAsked}
-use Rattle.nomos_typing.specs.Reaching.{Reaches}
 use Rattle.nomos_typing.proofs.AmountLaws.{code-amount, proc-amount, type-amount}
 use Rattle.nomos_typing.proofs.FormLaws.{HasStarsUpTo}
 use Rattle.nomos_typing.proofs.ListLemmas.{contains-inside, paired-second}
@@ -65,14 +63,14 @@ module _ {lists : ProgramLists} (is_program : IsProgram lists) where
       let (s, there) = unfolded-there lists t n unfolds in
       let (at, found, is) = type_node-at lists s n there in
       program-star r is_program
-      (type-amount lists s at r found (subst (λ (m : TypeNode). Contains (type_amounts m) r) (sym is) (paid-among n r pays)))
+      (type-amount lists s at r found
+      (subst (λ (m : TypeNode). Contains (type_amounts m) r) (sym is) (paid-among n r pays)))
 
   -- the amounts that stand at equal paths have stars of the program
   pub paths-up_to : {a b : TypeId} {pair : Amount × Amount} → StandAtEqualPaths lists a b pair
       → IsPairUpTo (star_count lists) pair
   paths-up_to {pair = pair} stand =
-      let place = stand.place in
-      (
+      let place = stand.place in (
         unfolded-star place.left_type.0 place.left pair.0 place.left_unfolds stand.left_pays,
         unfolded-star place.right_type.0 place.right pair.1 place.right_unfolds stand.right_pays,
       )
@@ -98,19 +96,16 @@ module _ {lists : ProgramLists} (is_program : IsProgram lists) where
   -- the pairs for which an instruction asks
   pair-up_to : (j : Judgement) (a : Account) (pair : Amount × Amount) → HasStarsUpTo (star_count lists) a
       → AsksPair lists j a pair → IsPairUpTo (star_count lists) pair
-  pair-up_to j a _ stars (paid {at} {c} {r} {s} {next} there t (u, found, unfolds)) =
-      (
-        program-star r is_program (code-amount lists j.code.0 (code.Pay at c r next) r there (0, omega arith, refl)),
-        unfolded-star u.0 _ s unfolds (side-pays c s t),
-      )
-  pair-up_to j a _ stars (got {at} {c} {r} {s} {next} there t (u, found, unfolds)) =
-      (
-        program-star r is_program (code-amount lists j.code.0 (code.Get at c r next) r there (0, omega arith, refl)),
-        unfolded-star u.0 _ s unfolds (side-gets c s t),
-      )
+  pair-up_to j a _ stars (paid {at} {c} {r} {s} {next} there t (u, found, unfolds)) = (
+    program-star r is_program (code-amount lists j.code.0 (code.Pay at c r next) r there (0, omega arith, refl)),
+    unfolded-star u.0 _ s unfolds (side-pays c s t),
+  )
+  pair-up_to j a _ stars (got {at} {c} {r} {s} {next} there t (u, found, unfolds)) = (
+    program-star r is_program (code-amount lists j.code.0 (code.Get at c r next) r there (0, omega arith, refl)),
+    unfolded-star u.0 _ s unfolds (side-gets c s t),
+  )
   pair-up_to j a _ stars (carried {d} {args} {w} {par} {r} {s} invokes among bound its) =
-      let (f, declared) = invoked-declared invokes in
-      (
+      let (f, declared) = invoked-declared invokes in (
         all-bound (HasStarUpTo (star_count lists)) w.0 r a.lists stars.lists bound,
         parameter-star f d par s declared (paired-second args.values d.values (arg.List w) par among) its,
       )

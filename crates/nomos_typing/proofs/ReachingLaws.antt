@@ -1,16 +1,16 @@
 -- Each judgement that follows from the start of a declaration is reached, with one account, which has its lists.
-use Rattle.std.proofs.Common.{◌≡◌, ℕ, List, Contains, Some, slice_get, zip, refl, ap, sym, subst, ◌∙◌}
+use Rattle.std.proofs.Common.{◌≡◌, ◌≤◌, ℕ, List, Contains, Some, slice_get, zip, refl, ap, sym, subst, arith}
 use Rattle.std.specs.Map.{keys_of}
 use Rattle.nomos_ir.specs.declared.code_node.CodeNode.{CodeNode}
 use Rattle.nomos_ir.specs.declared.declaration.ProcDecl.{ProcDecl}
+use Rattle.nomos_ir.specs.declared.ids.CodeId.{CodeId}
 use Rattle.nomos_ir.specs.declared.lists.ProgramLists.{ProgramLists}
 use Rattle.nomos_types.specs.Derivation.{Follows}
 use Rattle.nomos_types.specs.Derivation as following
 use Rattle.nomos_types.specs.Equality.{no_amounts}
 use Rattle.nomos_types.specs.Judgement.{Judgement, IsJudgement, start_of}
-use Rattle.nomos_types.specs.Row.{Row, StandsAtCode}
+use Rattle.nomos_types.specs.Row.{Row}
 use Rattle.nomos_types.specs.Typed.{IsWellFormed}
-use Rattle.nomos_types.proofs.FollowingLaws.{led-by, not-first, same-place, one-at_place}
 use Rattle.nomos_types.proofs.RowLaws.{row-at}
 use Rattle.nomos_types.proofs.StartLaws.{start-is_judgement}
 use Rattle.nomos_types.proofs.UniqueRows.{row-unique}
@@ -18,10 +18,12 @@ use Rattle.nomos_typing.specs.Account.{Account, start_account}
 use Rattle.nomos_typing.specs.Accounting.{accounts_after}
 use Rattle.nomos_typing.specs.Reaching.{Reaches}
 use Rattle.nomos_typing.specs.Reaching as reaching
-use Rattle.nomos_typing.proofs.Beside.{Beside, EachBeside, at-place, its-account, judgements-paired, second-beside}
+use Rattle.nomos_typing.proofs.Beside.{Beside, at-place, its-account, judgements-paired, second-beside}
 use Rattle.nomos_typing.proofs.Carrying.{each-beside, next-is_judgement, start-beside}
+use Rattle.nomos_typing.proofs.CodeOnceLemmas.{one-behind, one-at_place}
 use Rattle.nomos_typing.proofs.ListAmounts.{keys-both}
 use Rattle.nomos_typing.proofs.ListLemmas.{paired-first}
+use Rattle.nomos_typing.proofs.StuckLaws.{row-descends}
 
 -- the parts of pairs that are the same
 pair-parts : (j k : Judgement) (a b : Account) → ◌≡◌ {A = Judgement × Account} (j, a) (k, b) → (j ≡ k) × (a ≡ b)
@@ -72,30 +74,53 @@ module _ {lists : ProgramLists} {d : ProcDecl} (p : ℕ) (formed : IsWellFormed 
       let (b, paired) = its-account k (each-beside formed s.judgement s.beside row there row) among in
       (b, reaching.next n after reached there row paired)
 
+  -- no instruction leads up to the first one
+  never-above : (j : Judgement) (a : Account) → Reaches lists d j a → j.code.0 ≤ d.first.0
+  never-above _ _ reaching.start = omega arith
+  never-above k b (reaching.next {j} {a = a} n after before there row among) =
+      let lower = row-descends formed row (paired-first after (accounts_after lists n a) k b among) in
+      omega (arith, lower, never-above j a before)
+
+  -- so none leads to it
+  not-first : (k : Judgement) (b : Account) {j : Judgement} {a : Account} (n : CodeNode) (after : List Judgement)
+      → Reaches lists d j a → Row lists no_amounts j after → Contains (zip after (accounts_after lists n a)) (k, b)
+      → k.code ≡ d.first → ⊥
+  not-first k b {j} {a} n after before row among first =
+      let lower = row-descends formed row (paired-first after (accounts_after lists n a) k b among) in
+      omega (arith, lower, never-above j a before, ap (λ (c : CodeId). c.0) first)
+
   -- at a place one judgement is reached, with one account
   pub reaches-unique : (j k : Judgement) (a b : Account) → Reaches lists d j a → Reaches lists d k b → j.code ≡ k.code
       → (j ≡ k) × (a ≡ b)
   reaches-unique _ _ _ _ reaching.start reaching.start same = (refl, refl)
-  reaches-unique _ k _ b reaching.start (reaching.next {a = c} n after before there row among) same =
-      let led = led-by after row (paired-first after (accounts_after lists n c) k b among) in
-      absurd (not-first formed.program p d declared led (ap (λ i. i.0) (sym same)))
-  reaches-unique j _ a _ (reaching.next {a = c} n after before there row among) reaching.start same =
-      let led = led-by after row (paired-first after (accounts_after lists n c) j a among) in
-      absurd (not-first formed.program p d declared led (ap (λ i. i.0) same))
-  reaches-unique j k a b (reaching.next {j = i} {a = c} n after before there row among) (reaching.next {j = l} {a = e} m later before_too there_too row_too among_too) same =
-      let places : j.code.0 ≡ k.code.0 = ap (λ s. s.0) same in
-      let led = led-by after row (paired-first after (accounts_after lists n c) j a among) in
-      let led_too = led-by later row_too (paired-first later (accounts_after lists m e) k b among_too) in
-      let at_one : i.code ≡ l.code = same-place formed.program led led_too places in
+  reaches-unique _ k _ b reaching.start (reaching.next n after before there row among) same =
+      absurd (not-first k b n after before row among (sym same))
+  reaches-unique j _ a _ (reaching.next n after before there row among) reaching.start same =
+      absurd (not-first j a n after before row among same)
+  reaches-unique j k a b (reaching.next {j = i} {a = c} n after before there row among)
+      (reaching.next {j = l} {a = e} m later before_too there_too row_too among_too) same =
+      let at_one : i.code ≡ l.code =
+      one-behind formed.program row (paired-first after (accounts_after lists n c) j a among) row_too
+      (paired-first later (accounts_after lists m e) k b among_too) same
+      in
       let (judgements, accounts) = reaches-unique i l c e before before_too at_one in
       let node : m ≡ n = cc in
-      let row_here : Row lists no_amounts i later = subst (λ (s : Judgement). Row lists no_amounts s later) (sym judgements) row_too in
+      let row_here : Row lists no_amounts i later =
+      subst (λ (s : Judgement). Row lists no_amounts s later) (sym judgements) row_too
+      in
       let afters : later ≡ after = row-unique no_amounts formed.program row_here row in
       let Paired : List Judgement → List Account → Type 0 = λ js bs. Contains (zip js bs) (k, b) in
-      let with_node : Paired later (accounts_after lists n e) = subst (λ (q : CodeNode). Paired later (accounts_after lists q e)) node among_too in
-      let with_account : Paired later (accounts_after lists n c) = subst (λ (q : Account). Paired later (accounts_after lists n q)) (sym accounts) with_node in
-      let here : Paired after (accounts_after lists n c) = subst (λ (js : List Judgement). Paired js (accounts_after lists n c)) afters with_account in
+      let with_node : Paired later (accounts_after lists n e) =
+      subst (λ (q : CodeNode). Paired later (accounts_after lists q e)) node among_too
+      in
+      let with_account : Paired later (accounts_after lists n c) =
+      subst (λ (q : Account). Paired later (accounts_after lists n q)) (sym accounts) with_node
+      in
+      let here : Paired after (accounts_after lists n c) =
+      subst (λ (js : List Judgement). Paired js (accounts_after lists n c)) afters with_account
+      in
       let s = stands-reached i c before in
       let firsts = judgements-paired (each-beside formed s.judgement s.beside row there row) in
+      let pairs = zip after (accounts_after lists n c) in
       pair-parts j k a b
-      (one-at_place formed.program (λ (q : Judgement × Account). q.0) (zip after (accounts_after lists n c)) after (j, a) (k, b) row firsts among here places)
+      (one-at_place formed.program (λ (q : Judgement × Account). q.0) pairs after (j, a) (k, b) row firsts among here same)

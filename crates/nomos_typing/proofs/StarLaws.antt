@@ -1,5 +1,5 @@
 -- The amounts of the accounts that a declaration reaches have stars of the program.
-use Rattle.std.proofs.Common.{◌≡◌, ◌≤◌, ℕ, zero, suc, List, [], ◌∷◌, map, All, Contains, Some, slice_get, arith}
+use Rattle.std.proofs.Common.{◌≡◌, ◌≤◌, ℕ, zero, suc, List, [], ◌∷◌, map, Contains, Some, slice_get, arith}
 use Rattle.std.proofs.lemmas.List.Elements.{All-contains, All-weaker}
 use Rattle.nomos_ir.specs.declared.amount.Amount.{Amount}
 use Rattle.nomos_ir.specs.declared.amount.Amount.TheVariants as amount
@@ -12,7 +12,7 @@ use Rattle.nomos_forms.specs.Bounds.{HasStarUpTo}
 use Rattle.nomos_types.specs.Judgement.{Judgement}
 use Rattle.nomos_typing.specs.Account.{Account}
 use Rattle.nomos_typing.specs.Reaching.{Reaches, IsPoint}
-use Rattle.nomos_typing.proofs.AmountLaws.{AreOfProgram, reached-amounts, point-amounts}
+use Rattle.nomos_typing.proofs.AmountLaws.{HasAmountsOf, reached-amounts, point-amounts}
 use Rattle.nomos_typing.proofs.FormLaws.{HasStarsUpTo}
 use Rattle.nomos_typing.proofs.ListLemmas.{contains-map}
 
@@ -36,7 +36,7 @@ program-star {lists} r is_program among =
 
 module _ {lists : ProgramLists} (is_program : IsProgram lists) where
   -- so have those of an account
-  account-stars : (a : Account) → AreOfProgram lists a → HasStarsUpTo (star_count lists) a
+  account-stars : (a : Account) → HasAmountsOf lists a → HasStarsUpTo (star_count lists) a
   account-stars a amounts =
       let Among = Contains (amounts_of lists) in
       let Starred = HasStarUpTo (star_count lists) in
