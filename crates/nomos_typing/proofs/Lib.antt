@@ -10,6 +10,7 @@ pub mod ChannelLaws
 pub mod CodeOnceLemmas
 pub mod FormLaws
 pub mod FormLemmas
+pub mod FoundLemmas
 pub mod GatherLemmas
 pub mod GoingLemmas
 pub mod HalvesExample
@@ -19,9 +20,11 @@ pub mod LeavingLemmas
 pub mod LimitLemmas
 pub mod ListAmounts
 pub mod ListLemmas
+pub mod ListSteps
 pub mod MemberLemmas
 pub mod NoteLemmas
 pub mod PairLaws
+pub mod PairLemmas
 pub mod PlaceLemmas
 pub mod PlacesLemmas
 pub mod PremiseLemmas

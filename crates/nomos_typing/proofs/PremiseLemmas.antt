@@ -1,17 +1,29 @@
 -- What was found of the premises of an instruction, from what was found of its channel.
-use Rattle.std.proofs.Common.{◌≡◌, List, Option, Some, None, refl, sym, subst}
+use Rattle.std.proofs.Common.{◌≡◌, ◌⊎◌, ◌∙◌, List, Option, Some, None, refl, sym, subst}
 use Rattle.nomos_ir.specs.declared.code_node.Chan.{Chan}
 use Rattle.nomos_ir.specs.declared.ids.Label.{Label}
 use Rattle.nomos_ir.specs.declared.ids.TypeId.{TypeId}
+use Rattle.nomos_ir.specs.declared.ids.TermId.{TermId}
+use Rattle.nomos_ir.specs.declared.ids.VarId.{VarId}
+use Rattle.nomos_ir.specs.declared.kind.Kind.{Kind}
+use Rattle.nomos_ir.specs.TermKind.{HasKind}
 use Rattle.nomos_ir.specs.declared.lists.ProgramLists.{ProgramLists}
 use Rattle.nomos_ir.specs.declared.type_node.Branch.{Branch}
 use Rattle.nomos_ir.specs.declared.type_node.TypeNode.TheVariants as node
+use Rattle.nomos_ir.specs.declared.code_node.Chan.TheVariants as chan
+use Rattle.nomos_ir.specs.declared.mode.Mode.TheVariants as mode
+use Rattle.nomos_ir.specs.Bindings.{bound_to}
+use Rattle.nomos_ir.specs.Nodes.{type_node}
+use Rattle.nomos_ir.specs.Unfold.{Unfolds}
+use Rattle.nomos_ir.proofs.UnfoldLaws.{Unfolds-unique}
+use Rattle.nomos_types.specs.Unfolding.{IsUnfolding}
+use Rattle.nomos_ir.specs.declared.type_node.TypeNode.{TypeNode}
 use Rattle.nomos_types.specs.Branches.{goes_by}
-use Rattle.nomos_types.specs.Judgement.{Judgement}
-use Rattle.nomos_types.specs.Premises.{HasType, by_side, SendsLabel}
+use Rattle.nomos_types.specs.Judgement.{Judgement, IsFree}
+use Rattle.nomos_types.specs.Premises.{HasType, by_side, SendsLabel, SendsValue, ReceivesValue, Acquires, Releases}
 use Rattle.nomos_typing.specs.mirror.Finding.{IsFound}
 use Rattle.nomos_typing.proofs.ChannelLaws.{head-unique}
-use Rattle.nomos_typing.proofs.SideLaws.{sent_choice-same}
+use Rattle.nomos_typing.proofs.SideLaws.{sent_choice-same, sent_value-same}
 
 module _ (lists : ProgramLists) (j : Judgement) where
   -- the branch of a label, where the branches are known
@@ -25,3 +37,51 @@ module _ (lists : ProgramLists) (j : Judgement) where
       let same = sent_choice-same c says.branches bs heads in
       let there = subst (λ (cs : List Branch). goes_by cs l ≡ Some t) same says.goes in
       cc
+
+  -- a value that is sent has the kind that the channel's type says
+  pub value-sent : (c : Chan) (e : TermId) (p : Kind × TypeId) (t : TypeId)
+      → HasType lists j c (by_side c (node.ValueOut p.0 p.1) (node.ValueIn p.0 p.1)) → SendsValue lists j c e t
+      → HasKind lists j.kinds e p.0
+  value-sent c e p t typed says =
+      let heads = head-unique lists j c _ _ says.channel typed in
+      let (same, rest) = sent_value-same c says.kind p.0 t p.1 heads in
+      subst (λ (kind : Kind). HasKind lists j.kinds e kind) same says.value
+
+  -- a value that is received under a free name
+  pub value-received : (c : Chan) (v : VarId) (o : Option (Kind × TypeId)) → IsFree j v
+      → IsFound (λ p. HasType lists j c (by_side c (node.ValueIn p.0 p.1) (node.ValueOut p.0 p.1))) o
+      → IsFound (λ p. ReceivesValue lists j c v p.0 p.1) o
+  value-received c v (Some p) free found = record { channel = found; free = free }
+  value-received c v None free none = λ p says. none p says.channel
+
+  -- a contract that is acquired
+  pub acquired-found : (a v : VarId) (o : Option TypeId) → (j.mode ≡ mode.L) ⊎ (j.mode ≡ mode.T) → IsFree j v
+      → IsFound (λ t. (own : TypeId) × (bound_to a.0 j.shared ≡ Some own) × Unfolds lists own.0 (node.Up t)) o
+      → IsFound (Acquires lists j a v) o
+  acquired-found a v (Some t) may free (own, found, unfolds) =
+      record { mode = may; own = own; reference = found; unfolds = unfolds; free = free }
+  acquired-found a v None may free none = λ t says. none t (says.own, says.reference, says.unfolds)
+
+  -- a contract that is released
+  pub released-found : (v a : VarId) (o : Option TypeId) → IsFree j a
+      → IsFound (λ t. HasType lists j (chan.Var v) (node.Down t)) o → IsFound (Releases lists j v a) o
+  released-found v a (Some t) free found = record { channel = found; free = free }
+  released-found v a None free none = λ t says. none t says.channel
+
+  -- what stands behind a reference
+  pub reference-found : (a : VarId) (own u : TypeId) (n : TypeNode) (o : Option TypeId) → bound_to a.0 j.shared ≡ Some own
+      → IsUnfolding lists own.0 u.0 → type_node lists u.0 ≡ Some n → IsFound (λ t. node.Up t ≡ n) o
+      → IsFound (λ t. (s : TypeId) × (bound_to a.0 j.shared ≡ Some s) × Unfolds lists s.0 (node.Up t)) o
+  reference-found a own u n (Some t) bound at there found =
+      let here = at.there in
+      let same : at.node ≡ node.Up t = cc in
+      (own, bound, subst (λ (m : TypeNode). Unfolds lists own.0 m) same at.unfolds)
+  reference-found a own u n None bound at there none =
+      λ t says.
+      let here = at.there in
+      let other = says.1 in
+      let one : says.0 ≡ own = cc in
+      let unfolds = subst (λ (s : TypeId). Unfolds lists s.0 (node.Up t)) one says.2 in
+      let same = Unfolds-unique lists own.0 (node.Up t) at.node unfolds at.unfolds in
+      let node_is : at.node ≡ n = cc in
+      none t (same ∙ node_is)

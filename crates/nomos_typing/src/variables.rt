@@ -18,10 +18,16 @@ use std::alloc::{AllocError, Global};
 pub(crate) fn is_free(now: &Standing, v: VarId) -> bool
     ensures { IsTrue result ↔ IsFree (shape_of now.now) v }
 {
-    now.kinds.get(v).is_none()
-        && now.lists.get(v).is_none()
-        && now.shared.get(v).is_none()
-        && now.linear.get(v).is_none()
+    if now.kinds.get(v).is_some() {
+        return false;
+    }
+    if now.lists.get(v).is_some() {
+        return false;
+    }
+    if now.shared.get(v).is_some() {
+        return false;
+    }
+    now.linear.get(v).is_none()
 }
 
 /// The kind of a term over the values of the process, if it has one.
@@ -41,6 +47,20 @@ pub(crate) fn kind_of(
     }
 }
 
+/// Whether the variables are the same.
+pub(crate) fn is_same_variable(v: VarId, w: VarId) -> bool
+    ensures { IsTrue result ↔ (v ≡ w) }
+{
+    v == w
+}
+
+/// Whether the kinds are the same.
+fn is_same_kind(a: Kind, b: Kind) -> bool
+    ensures { IsTrue result ↔ (a ≡ b) }
+{
+    a == b
+}
+
 /// Whether a term over the values of the process has the kind.
 pub(crate) fn is_of_kind(
     program: &Program,
@@ -53,7 +73,7 @@ pub(crate) fn is_of_kind(
     ensures { IfOk result (λ yes. IsTrue yes ↔ HasKind program.now (shape_of now.now).kinds e kind) }
 {
     match kind_of(program, alloc, now, e)? {
-        Some(its) => Ok(its == kind),
+        Some(its) => Ok(is_same_kind(its, kind)),
         None => Ok(false),
     }
 }
