@@ -1,5 +1,5 @@
 -- How a gain and an expense change the form of an account.
-use Rattle.std.proofs.Common.{◌≡◌, ◌≢◌, ◌<◌, ◌≤◌, ◌+◌, ◌-◌, ℕ, zero, suc, cond, List, ◌∷◌, map, get_or, set, ℤ, pos, ◌+ℤ◌, ◌-ℤ◌, ◌^◌, unsigned_abs, sum_by, ap, ap₂, sym, refl, ◌∙◌, arith, ne_eqb, eq-eqb}
+use Rattle.std.proofs.Common.{◌≡◌, ◌≢◌, ◌<◌, ◌≤◌, ◌+◌, ◌-◌, ℕ, zero, suc, ◌==◌, cond, List, ◌∷◌, [], map, replicate, get_or, set, ℤ, pos, ◌+ℤ◌, ◌-ℤ◌, ◌*◌, ◌^◌, unsigned_abs, sum_by, ap, ap₂, sym, refl, ◌∙◌, arith, ne_eqb, eq-eqb}
 use Rattle.std.proofs.lemmas.Int.{ints}
 use Rattle.std.proofs.lemmas.List.FromFn.{get_or-map-range_with_len}
 use Rattle.std.proofs.lemmas.List.Sums.{sum_by-cons}
@@ -12,6 +12,7 @@ use Rattle.nomos_forms.specs.RowsOf.{share_of, units_in}
 use mir.Syntax.{w64}
 use mir.Val.{to_z, of_z}
 use Rattle.nomos_typing.specs.Account.{Account, gains, spends, shares, form_of}
+use Rattle.nomos_typing.specs.mirror.Starting.{no_account}
 
 -- ---- lists of the values of a function at consecutive numbers
 
@@ -121,3 +122,12 @@ more-in_machine p small = omega (arith, ints)
 
 pub less-in_machine : (p : ℤ) → unsigned_abs p < 2 ^ 45 → to_z w64 (of_z w64 (to_z w64 (of_z w64 p) -ℤ pos 1)) ≡ p -ℤ pos 1
 less-in_machine p small = omega (arith, ints)
+
+-- ---- no potential
+
+zeros-same : (a n : ℕ) → replicate n (pos 0) ≡ map (coef_of no_account) (range_with_len a n)
+zeros-same a zero = refl
+zeros-same a (suc n) = ap (λ l. pos 0 ∷ l) (zeros-same (a + 1) n)
+
+pub none-form : (n : ℕ) (coefs : List ℤ) → coefs ≡ replicate n (pos 0) → Made coefs (pos 0) ≡ form_of n no_account
+none-form n coefs is = ap₂ Made (is ∙ zeros-same 1 n) refl

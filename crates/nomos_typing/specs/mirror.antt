@@ -6,3 +6,7 @@ pub mod Moves
 pub mod Passing
 pub mod Places
 pub mod Standing
+pub mod Starting
+pub mod Stops
+pub mod Walking
+pub mod Ways

@@ -1,8 +1,9 @@
 //! The potential of a process as a form over stars.
-ghost use Rattle.std.specs.Prelude.{◌≡◌, ℕ, IfOk, [], ◌∷◌};
+ghost use Rattle.std.specs.Prelude.{◌≡◌, ℕ, IfOk};
 ghost use Rattle.nomos_ir.specs.declared.amount.Amount.{Amount};
 ghost use Rattle.nomos_typing.specs.Account.{Account, gains, spends, form_of};
 ghost use Rattle.nomos_typing.specs.mirror.Limits.{HasRoom};
+ghost use Rattle.nomos_typing.specs.mirror.Starting.{no_account};
 
 use nomos_forms::form::Form;
 use nomos_ir::amount::Amount;
@@ -26,6 +27,14 @@ impl Model for Potential {
 }
 
 impl Potential {
+    /// No potential, over this many stars.
+    pub(crate) fn none(alloc: Global, stars: u16) -> Result<Potential, AllocError>
+        ensures { IfOk result (λ p. p ≡ form_of stars no_account) }
+    {
+        let coefs = vec![in alloc; 0i64; usize::from(stars)]?;
+        Ok(Potential { coefs, plus: 0 })
+    }
+
     /// The amount is gained.
     pub(crate) fn gain(&mut self, amount: Amount)
         requires { HasRoom self.old amount }
@@ -59,13 +68,13 @@ impl Potential {
     }
 
     /// The form.
-    pub(crate) fn form(&self, alloc: Global) -> Result<Form, AllocError>
-        ensures { IfOk result (λ form. form ≡ self.now) }
+    pub(crate) fn into_form(self) -> Form
+        ensures { result ≡ self }
     {
-        let coefs = Vec::from_slice(alloc, self.coefs.as_slice())?;
-        Ok(Form {
+        let Potential { coefs, plus } = self;
+        Form {
             coefs: Items::of_vec(coefs),
-            plus: self.plus,
-        })
+            plus,
+        }
     }
 }

@@ -6,6 +6,7 @@ use Rattle.nomos_ir.specs.declared.ids.VarId.{VarId}
 use Rattle.nomos_ir.specs.declared.lists.ProgramLists.{ProgramLists}
 use Rattle.nomos_ir.specs.Amounts.{star_count}
 use Rattle.nomos_ir.specs.Bindings.{bound_to, bind, unbind}
+use Rattle.nomos_forms.specs.Bounds.{IsForm}
 use Rattle.nomos_types.specs.Equality.{no_amounts}
 use Rattle.nomos_types.specs.Judgement.{Judgement, ListType, IsJudgement, at_code, goes_on, with_potential}
 use Rattle.nomos_types.specs.ModeTable.{AreModesOf}
@@ -21,7 +22,7 @@ use Rattle.nomos_typing.specs.declared.standing.Step.{Step}
 use Rattle.nomos_typing.specs.declared.standing.Step.TheVariants as step
 use Rattle.nomos_typing.specs.declared.standing.Way.{Way}
 use Rattle.nomos_typing.specs.declared.standing.Way.TheVariants as way
-use Rattle.nomos_typing.specs.mirror.Limits.{IsAmountOf, IsLimited, limit_at}
+use Rattle.nomos_typing.specs.mirror.Limits.{IsAmountOf}
 
 -- what is bound, each changed in the same way
 abbrev pub each_bound : {X Y : Type 0} → (X → Y) → List (VarId × X) → List (VarId × Y)
@@ -57,7 +58,7 @@ pub record IsWithin (lists : ProgramLists) (s : Standing) : Type 0 where
   pub code : s.code.0 < length lists.code
   pub judgement : IsJudgement lists (shape_of s)
   pub amounts : All (λ e. IsAmountOf lists e.1.amount) s.lists
-  pub potential : IsLimited (star_count lists) (limit_at lists s.code.0) s.potential
+  pub potential : IsForm (star_count lists) s.potential
 
 -- ---- ways
 
