@@ -16,7 +16,7 @@ use Rattle.nomos_forms.proofs.CertificateLaws.{spread, spread_zero, spread_star}
 use Rattle.nomos_forms.proofs.WholeLaws.{times_neg, times_sum}
 
 -- ---- the shares of the stars
-dot_spread : (f : ℕ → ℤ) (s n : ℕ) (xs : List ℕ) → length xs ≡ n → dot (map f (range_with_len s n)) xs ≡ spread f s xs
+pub dot_spread : (f : ℕ → ℤ) (s n : ℕ) (xs : List ℕ) → length xs ≡ n → dot (map f (range_with_len s n)) xs ≡ spread f s xs
 dot_spread f s zero [] h = refl
 dot_spread f s zero (x ∷ xs) h = absurd (omega arith)
 dot_spread f s (suc n) [] h = absurd (omega arith)
@@ -26,7 +26,7 @@ dot_spread f s (suc n) (x ∷ xs) h = ap (λ z. pos x *ℤ f s +ℤ z) (dot_spre
 less : (a b c d e f g h : ℤ) → a ≡ b +ℤ c → c ≡ neg_ℤ d → e ≡ f -ℤ g → a +ℤ e ≡ (b +ℤ f) -ℤ (d +ℤ g)
 less a b c d e f g h i j k = omega (arith, ints)
 
-spread_less : (f g : ℕ → ℤ) (s : ℕ) (xs : List ℕ) → spread (λ k. f k -ℤ g k) s xs ≡ spread f s xs -ℤ spread g s xs
+pub spread_less : (f g : ℕ → ℤ) (s : ℕ) (xs : List ℕ) → spread (λ k. f k -ℤ g k) s xs ≡ spread f s xs -ℤ spread g s xs
 spread_less f g s [] = refl
 spread_less f g s (x ∷ xs) = less
     (pos x *ℤ (f s -ℤ g s)) (pos x *ℤ f s) (pos x *ℤ neg_ℤ (g s)) (pos x *ℤ g s)
@@ -34,7 +34,7 @@ spread_less f g s (x ∷ xs) = less
     (times_sum (pos x) (f s) (neg_ℤ (g s))) (times_neg (pos x) (g s)) (spread_less f g (suc s) xs)
 
 -- what is a star's in an amount
-abbrev star_worth : List ℕ → Amount → ℕ
+abbrev pub star_worth : List ℕ → Amount → ℕ
 star_worth xs (amount.Written units) = 0
 star_worth xs (amount.Star star) = get_or xs (star - 1) 0
 
@@ -42,12 +42,12 @@ share_none : (star : ℕ) → 1 ≤ star → cond (0 == star) (pos 1) (pos 0) �
 share_none star h = ⊎_elim (λ e. absurd (omega (arith, e.1))) (λ e. ap (λ b. cond b (pos 1) (pos 0)) e.0) (eqb_tells 0
     star)
 
-spread_share : (n : ℕ) (xs : List ℕ) (a : Amount) → HasStarUpTo n a → spread (share_of a) 1 xs ≡ pos (star_worth xs a)
+pub spread_share : (n : ℕ) (xs : List ℕ) (a : Amount) → HasStarUpTo n a → spread (share_of a) 1 xs ≡ pos (star_worth xs a)
 spread_share n xs (amount.Written units) h = spread_zero (share_of (amount.Written units)) 1 xs (λ t i j. share_none t
     i)
 spread_share n xs (amount.Star star) h = sym (spread_star star 1 xs h.0)
 
-worth_is : (xs : List ℕ) (unit : ℕ) (a : Amount) → worth xs unit a ≡ star_worth xs a + units_in a * unit
+pub worth_is : (xs : List ℕ) (unit : ℕ) (a : Amount) → worth xs unit a ≡ star_worth xs a + units_in a * unit
 worth_is xs unit (amount.Written units) = omega arith
 worth_is xs unit (amount.Star star) = omega arith
 
@@ -56,7 +56,7 @@ difference_dot : (n : ℕ) (xs : List ℕ) (a b : Amount) → length xs ≡ n �
 difference_dot n xs a b w h i = dot_spread (λ k. share_of a k -ℤ share_of b k) 1 n xs w
     ∙ spread_less (share_of a) (share_of b) 1 xs ∙ λ p. spread_share n xs a h p -ℤ spread_share n xs b i p
 
-least_times : (unit x y : ℕ) → pos unit *ℤ (pos x -ℤ pos y) ≡ pos (x * unit) -ℤ pos (y * unit)
+pub least_times : (unit x y : ℕ) → pos unit *ℤ (pos x -ℤ pos y) ≡ pos (x * unit) -ℤ pos (y * unit)
 least_times unit x y = by (pos x) (pos y) (times_sum (pos unit) (pos x) (neg_ℤ (pos y))) (times_neg (pos unit)
     (pos y)) (ap pos (omega arith)) (ap pos (omega arith))
   where

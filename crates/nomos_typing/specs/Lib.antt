@@ -1,0 +1,6 @@
+pub mod Account
+pub mod Accounting
+pub mod Reaching
+pub mod Asking
+pub mod Checking
+pub mod mirror

@@ -1,0 +1,12 @@
+-- What private calls answer; no promise stands on these.
+pub mod Cases
+pub mod Finding
+pub mod Limits
+pub mod Moves
+pub mod Passing
+pub mod Places
+pub mod Standing
+pub mod Starting
+pub mod Stops
+pub mod Walking
+pub mod Ways
