@@ -8,6 +8,7 @@ pub mod BesideRows
 pub mod Carrying
 pub mod ChannelLaws
 pub mod CodeOnceLemmas
+pub mod ConcludingLemmas
 pub mod FormLaws
 pub mod FormLemmas
 pub mod FoundLemmas
@@ -37,8 +38,12 @@ pub mod SideLaws
 pub mod SizeLaws
 pub mod StandingLemmas
 pub mod StarLaws
+pub mod StartingLemmas
 pub mod StepRows
+pub mod StrideLemmas
 pub mod StuckLaws
 pub mod VisitLemmas
+pub mod WalkingLemmas
 pub mod WayLemmas
 pub mod WeightLemmas
+pub mod WithinLemmas
