@@ -1,11 +1,13 @@
 pub mod AccountsLaws
 pub mod AmountLaws
+pub mod ArgumentSteps
 pub mod AskedLaws
 pub mod AskingLaws
 pub mod Beside
 pub mod BesideArguments
 pub mod BesideRows
 pub mod Carrying
+pub mod CaseSteps
 pub mod ChannelLaws
 pub mod CodeOnceLemmas
 pub mod ConcludingLemmas
@@ -13,6 +15,7 @@ pub mod FormLaws
 pub mod FormLemmas
 pub mod FoundLemmas
 pub mod GatherLemmas
+pub mod GivingSteps
 pub mod GoingLemmas
 pub mod HalvesExample
 pub mod HeadsOver
@@ -26,6 +29,7 @@ pub mod MemberLemmas
 pub mod NoteLemmas
 pub mod PairLaws
 pub mod PairLemmas
+pub mod PassingSteps
 pub mod PlaceLemmas
 pub mod PlacesLemmas
 pub mod PremiseLemmas
@@ -34,6 +38,7 @@ pub mod ReachingLaws
 pub mod RowMaking
 pub mod RowsLaws
 pub mod RowsOver
+pub mod SendSteps
 pub mod SideLaws
 pub mod SizeLaws
 pub mod StandingLemmas

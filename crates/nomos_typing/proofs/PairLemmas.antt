@@ -1,5 +1,9 @@
 -- Which pairs join those that were asked for.
 use Rattle.std.proofs.Common.{◌≡◌, ◌⊎◌, ◌↔◌, ◌∙◌, ℕ, inl, inr, ap}
+use Rattle.std.specs.declared.alloc.AllocError.{AllocError}
+use Rattle.std.specs.declared.result.Result.{Result}
+use Rattle.std.specs.declared.result.Result.TheVariants.{Ok, Err}
+use Rattle.std.specs.Result.{IfOk}
 use Rattle.nomos_ir.specs.declared.amount.Amount.{Amount}
 use Rattle.nomos_ir.specs.declared.code_node.Chan.{Chan}
 use Rattle.nomos_ir.specs.declared.code_node.CodeNode.{CodeNode}
@@ -14,7 +18,10 @@ use Rattle.nomos_types.specs.Row.{StandsAtCode}
 use Rattle.nomos_typing.specs.Account.{Account}
 use Rattle.nomos_typing.specs.Asking.{AsksPair}
 use Rattle.nomos_typing.specs.declared.asked.Asked.{Asked}
-use Rattle.nomos_typing.specs.mirror.Standing.{HasPair, Joins}
+use Rattle.nomos_typing.specs.declared.standing.Standing.{Standing}
+use Rattle.nomos_typing.specs.declared.standing.Step.{Step}
+use Rattle.nomos_typing.specs.declared.standing.Step.TheVariants as step
+use Rattle.nomos_typing.specs.mirror.Standing.{shape_of, HasPair, Joins, StepAsks}
 use Rattle.nomos_typing.proofs.AskingLaws.{AsksAt, asks-at, asked-at}
 use Rattle.nomos_typing.proofs.ChannelLaws.{head-unique}
 use Rattle.nomos_typing.proofs.SideLaws.{paid_amount-same, got_amount-same}
@@ -60,3 +67,22 @@ module _ (lists : ProgramLists) (j : Judgement) (a : Account) where
   pub quiet-asks : (n : CodeNode) → StandsAtCode lists j n → ((pair : Amount × Amount) → ¬ (AsksAt lists j a n pair))
       → (pair : Amount × Amount) → ¬ (AsksPair lists j a pair)
   quiet-asks n stands none pair asks = none pair (asks-at n stands asks)
+
+-- a step at a node that asks for nothing
+pub quiet-step : (lists : ProgramLists) (s : Standing) (old : Asked) (n : CodeNode) → StandsAtCode lists (shape_of s) n
+    → ((a : Account) (pair : Amount × Amount) → ¬ (AsksAt lists (shape_of s) a n pair)) → (st : Step)
+    → StepAsks lists s old old st
+quiet-step lists s old n stands none step.Stuck = tt
+quiet-step lists s old n stands none step.Done =
+    λ a has. joins-none old (AsksPair lists (shape_of s) a) (quiet-asks lists (shape_of s) a n stands (none a))
+quiet-step lists s old n stands none step.Next =
+    λ a has. joins-none old (AsksPair lists (shape_of s) a) (quiet-asks lists (shape_of s) a n stands (none a))
+quiet-step lists s old n stands none (step.Branches ways) =
+    λ a has. joins-none old (AsksPair lists (shape_of s) a) (quiet-asks lists (shape_of s) a n stands (none a))
+
+-- the same where memory may run out
+pub quiet-result : (lists : ProgramLists) (s : Standing) (old : Asked) (n : CodeNode) → StandsAtCode lists (shape_of s) n
+    → ((a : Account) (pair : Amount × Amount) → ¬ (AsksAt lists (shape_of s) a n pair))
+    → (r : Result Step AllocError) → IfOk r (StepAsks lists s old old)
+quiet-result lists s old n stands none (Ok st) = quiet-step lists s old n stands none st
+quiet-result lists s old n stands none (Err e) = tt

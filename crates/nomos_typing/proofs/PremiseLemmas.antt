@@ -1,5 +1,5 @@
 -- What was found of the premises of an instruction, from what was found of its channel.
-use Rattle.std.proofs.Common.{◌≡◌, ◌⊎◌, ◌∙◌, List, Option, Some, None, refl, sym, subst}
+use Rattle.std.proofs.Common.{◌≡◌, ◌<◌, ◌⊎◌, ◌∙◌, IsTrue, All, Contains, length, arith, List, Option, Some, None, refl, sym, subst}
 use Rattle.nomos_ir.specs.declared.code_node.Chan.{Chan}
 use Rattle.nomos_ir.specs.declared.ids.Label.{Label}
 use Rattle.nomos_ir.specs.declared.ids.TypeId.{TypeId}
@@ -19,7 +19,12 @@ use Rattle.nomos_ir.proofs.UnfoldLaws.{Unfolds-unique}
 use Rattle.nomos_types.specs.Unfolding.{IsUnfolding}
 use Rattle.nomos_ir.specs.declared.type_node.TypeNode.{TypeNode}
 use Rattle.nomos_types.specs.Branches.{goes_by}
-use Rattle.nomos_types.specs.Judgement.{Judgement, IsFree}
+use Rattle.nomos_ir.specs.declared.mode.Mode.{Mode}
+use Rattle.nomos_ir.proofs.BindingLaws.{all-bound}
+use Rattle.nomos_types.proofs.ModeLaws.{mode-in_range, part-has_mode}
+use Rattle.nomos_types.specs.Modes.{HasMode, IsLinearMode, carried_mode, may_hold, part_modes}
+use Rattle.nomos_types.specs.Typed.{IsWellFormed}
+use Rattle.nomos_types.specs.Judgement.{Judgement, IsFree, IsJudgement, channel_type}
 use Rattle.nomos_types.specs.Premises.{HasType, by_side, SendsLabel, SendsValue, ReceivesValue, Acquires, Releases}
 use Rattle.nomos_typing.specs.mirror.Finding.{IsFound}
 use Rattle.nomos_typing.proofs.ChannelLaws.{head-unique}
@@ -85,3 +90,39 @@ module _ (lists : ProgramLists) (j : Judgement) where
       let same = Unfolds-unique lists own.0 (node.Up t) at.node unfolds at.unfolds in
       let node_is : at.node ≡ n = cc in
       none t (same ∙ node_is)
+
+  -- the mode of a channel's type
+  pub channel-mode : (c : Chan) (t : TypeId) → IsJudgement lists j → channel_type j c ≡ Some t
+      → (m : Mode) × HasMode lists t m
+  channel-mode chan.Own t h found =
+      let same : j.offers ≡ t = cc in
+      (j.mode, subst (λ (s : TypeId). HasMode lists s j.mode) same h.offers)
+  channel-mode (chan.Var v) t h found =
+      let P : TypeId → Type 0 = λ s. (m : Mode) × HasMode lists s m × IsLinearMode m × IsTrue (may_hold j.mode m) in
+      let (m, has, linear, may) = all-bound P v.0 t j.linear h.linear_modes found in
+      (m, has)
+
+  -- a part of the node to which a channel's type unfolds has its place
+  pub part-in_range : (c : Chan) (n : TypeNode) (u : TypeId) → IsWellFormed lists → IsJudgement lists j
+      → HasType lists j c n → ((m : Mode) → (k : Mode) × Contains (part_modes lists m n) (u, k))
+      → u.0 < length lists.types
+  part-in_range c n u formed h (t, found, unfolds) among =
+      let (m, has) = channel-mode c t h found in
+      let (k, inside) = among m in
+      mode-in_range formed.program (part-has_mode formed.program formed.contractive formed.modes has unfolds inside)
+
+  -- a channel that is received has a type in its place
+  pub carried-in_range : (c : Chan) (a t : TypeId) → IsWellFormed lists → IsJudgement lists j
+      → HasType lists j c (by_side c (node.Lolli a t) (node.Tensor a t)) → a.0 < length lists.types
+  carried-in_range chan.Own a t formed h typed =
+      part-in_range chan.Own (node.Lolli a t) a formed h typed (λ m. (carried_mode lists m a, (0, omega arith, refl)))
+  carried-in_range (chan.Var v) a t formed h typed =
+      part-in_range (chan.Var v) (node.Tensor a t) a formed h typed (λ m. (carried_mode lists m a, (0, omega arith, refl)))
+
+  -- and so has one that is sent
+  pub sent-in_range : (c : Chan) (a t : TypeId) → IsWellFormed lists → IsJudgement lists j
+      → HasType lists j c (by_side c (node.Tensor a t) (node.Lolli a t)) → a.0 < length lists.types
+  sent-in_range chan.Own a t formed h typed =
+      part-in_range chan.Own (node.Tensor a t) a formed h typed (λ m. (carried_mode lists m a, (0, omega arith, refl)))
+  sent-in_range (chan.Var v) a t formed h typed =
+      part-in_range (chan.Var v) (node.Lolli a t) a formed h typed (λ m. (carried_mode lists m a, (0, omega arith, refl)))

@@ -55,7 +55,7 @@ pub(crate) fn is_same_variable(v: VarId, w: VarId) -> bool
 }
 
 /// Whether the kinds are the same.
-fn is_same_kind(a: Kind, b: Kind) -> bool
+pub(crate) fn is_same_kind(a: Kind, b: Kind) -> bool
     ensures { IsTrue result ↔ (a ≡ b) }
 {
     a == b
