@@ -58,34 +58,37 @@ values-channels (value (list amount its found) rest) = values-channels rest
 -- a variable has the same types before and after values
 of-type_same : (j k : Judgement) (v : VarId) (own : TypeId) → (k.shared ≡ j.shared) × (k.linear ≡ j.linear)
     → IsOfType k v own ↔ IsOfType j v own
-of-type_same j k v own (shared, linear) =
-    (λ is. elim is [ | inl reference ↦ inl (ap (bound_to v.0) (sym shared) ∙ reference) | inr held ↦ inr (ap (bound_to v.0) (sym linear) ∙ held) ],
-     λ is. elim is [ | inl reference ↦ inl (ap (bound_to v.0) shared ∙ reference) | inr held ↦ inr (ap (bound_to v.0) linear ∙ held) ])
+of-type_same j k v own (shared, linear) = (
+  λ is. elim is [ inl reference ↦ inl (ap (bound_to v.0) (sym shared) ∙ reference) | inr held ↦ inr (ap (bound_to v.0) (sym linear) ∙ held) ],
+  λ is. elim is [ inl reference ↦ inl (ap (bound_to v.0) shared ∙ reference) | inr held ↦ inr (ap (bound_to v.0) linear ∙ held) ],
+)
 
 -- the pairs of channels are the same before and after values
 channels-same : (lists : ProgramLists) (j k : Judgement) (vs : List VarId) (pars : List (VarId × TypeId))
     (pair : Amount × Amount) → (k.shared ≡ j.shared) × (k.linear ≡ j.linear)
     → PairOfChannels lists k vs pars pair ↔ PairOfChannels lists j vs pars pair
-channels-same lists j k vs pars pair same =
-    (λ p. record { v = p.v; par = p.par; own = p.own; passes = p.passes; is_of = (of-type_same j k p.v p.own same).0 p.is_of; paths = p.paths },
-     λ p. record { v = p.v; par = p.par; own = p.own; passes = p.passes; is_of = (of-type_same j k p.v p.own same).1 p.is_of; paths = p.paths })
+channels-same lists j k vs pars pair same = (
+  λ p. record { v = p.v; par = p.par; own = p.own; passes = p.passes; is_of = (of-type_same j k p.v p.own same).0 p.is_of; paths = p.paths },
+  λ p. record { v = p.v; par = p.par; own = p.own; passes = p.passes; is_of = (of-type_same j k p.v p.own same).1 p.is_of; paths = p.paths },
+)
 
 -- what joins in two steps
 pub joins-both : (old mid new : Asked) (P Q R : Amount × Amount → Type 0) → Joins old mid P → Joins mid new Q
     → ((pair : Amount × Amount) → Q pair ↔ R pair) → Joins old new (λ pair. P pair ⊎ R pair)
 joins-both old mid new P Q R first second same =
-    λ pair.
-    (λ has. elim ((second pair).0 has) [
-      | inl middle ↦ elim ((first pair).0 middle) [ | inl before ↦ inl before | inr p ↦ inr (inl p) ]
-      | inr q ↦ inr (inr ((same pair).0 q))
-    ],
-     λ either. elim either [
-       | inl before ↦ (second pair).1 (inl ((first pair).1 (inl before)))
-       | inr asked ↦ elim asked [
-           | inl p ↦ (second pair).1 (inl ((first pair).1 (inr p)))
-           | inr r ↦ (second pair).1 (inr ((same pair).1 r))
-         ]
-     ])
+    λ pair. (
+      λ has. elim ((second pair).0 has) [
+        | inl middle ↦ elim ((first pair).0 middle) [ inl before ↦ inl before | inr p ↦ inr (inl p) ]
+        | inr q ↦ inr (inr ((same pair).0 q))
+      ],
+      λ either. elim either [
+        | inl before ↦ (second pair).1 (inl ((first pair).1 (inl before)))
+        | inr asked ↦ elim asked [
+          | inl p ↦ (second pair).1 (inl ((first pair).1 (inr p)))
+          | inr r ↦ (second pair).1 (inr ((same pair).1 r))
+        ]
+      ],
+    )
 
 -- arguments pass where values pass and then channels
 pub arguments-pass : (lists : ProgramLists) (s mid next : Standing) (d : ProcDecl) (args : Args) (old between new : Asked)
@@ -100,7 +103,7 @@ arguments-pass lists s mid next d args old between new values true channels = re
       (PairOfChannels lists (shape_of mid) args.channels d.channels)
       (PairOfChannels lists (shape_of s) args.channels d.channels) values.joins channels.joins
       (λ pair.
-        channels-same lists (shape_of s) (shape_of mid) args.channels d.channels pair (values-channels values.passes));
+      channels-same lists (shape_of s) (shape_of mid) args.channels d.channels pair (values-channels values.passes));
 }
 arguments-pass lists s mid next d args old between new values false stays =
     λ left fit.
@@ -132,35 +135,37 @@ module _ (lists : ProgramLists) (j : Judgement) where
   spawn-stays at v f args next d stands found stays =
       spawn-stuck stands
       (λ e left says.
-        let its = says.declared in
-        let same : e ≡ d = cc in
-        stays left (subst (λ (p : ProcDecl). Spawns lists no_amounts j v f args p left) same says))
+      let its = says.declared in
+      let same : e ≡ d = cc in
+      stays left (subst (λ (p : ProcDecl). Spawns lists no_amounts j v f args p left) same says))
 
   -- the pairs of arguments are those that they ask for
   pub arguments-ask : (s : Standing) (a : Account) (d : ProcDecl) (args : Args) → carried_by_all s ≡ a.lists
       → (pair : Amount × Amount)
       → (PairOfValues (carried_by_all s) args.values d.values pair ⊎ PairOfChannels lists j args.channels d.channels pair)
       ↔ ArgumentsAsk lists j a d args pair
-  arguments-ask s a d args same pair =
-      (λ either. elim either [
-        | inl p ↦ inl (record { w = p.w; par = p.par; passes = p.passes; carries = ap (bound_to p.w.0) (sym same) ∙ p.carries; says = p.says })
-        | inr p ↦ inr (record { v = p.v; par = p.par; own = p.own; passes = p.passes; is_of = p.is_of; paths = p.paths })
-      ],
-       λ either. elim either [
-         | inl p ↦ inl (record { w = p.w; par = p.par; passes = p.passes; carries = ap (bound_to p.w.0) same ∙ p.carries; says = p.says })
-         | inr p ↦ inr (record { v = p.v; par = p.par; own = p.own; passes = p.passes; is_of = p.is_of; paths = p.paths })
-       ])
+  arguments-ask s a d args same pair = (
+    λ either. elim either [
+      | inl p ↦ inl (record { w = p.w; par = p.par; passes = p.passes; carries = ap (bound_to p.w.0) (sym same) ∙ p.carries; says = p.says })
+      | inr p ↦ inr (record { v = p.v; par = p.par; own = p.own; passes = p.passes; is_of = p.is_of; paths = p.paths })
+    ],
+    λ either. elim either [
+      | inl p ↦ inl (record { w = p.w; par = p.par; passes = p.passes; carries = ap (bound_to p.w.0) same ∙ p.carries; says = p.says })
+      | inr p ↦ inr (record { v = p.v; par = p.par; own = p.own; passes = p.passes; is_of = p.is_of; paths = p.paths })
+    ],
+  )
 
   -- the pairs that spawning asks for
   pub spawn-asks : (a : Account) (at : ℕ) (v : VarId) (f : ProcId) (args : Args) (next : CodeId) (d : ProcDecl)
       → StandsAtCode lists j (code.Spawn at v f args next) → slice_get lists.procs f.0 ≡ Some d
       → (pair : Amount × Amount) → ArgumentsAsk lists j a d args pair ↔ AsksPair lists j a pair
-  spawn-asks a at v f args next d stands found pair =
-      (λ asks. asked-at (code.Spawn at v f args next) stands (d, found, asks),
-       λ asks.
-       let (e, its, says) = asks-at (code.Spawn at v f args next) stands asks in
-       let same : e ≡ d = cc in
-       subst (λ (p : ProcDecl). ArgumentsAsk lists j a p args pair) same says)
+  spawn-asks a at v f args next d stands found pair = (
+    λ asks. asked-at (code.Spawn at v f args next) stands (d, found, asks),
+    λ asks.
+        let (e, its, says) = asks-at (code.Spawn at v f args next) stands asks in
+        let same : e ≡ d = cc in
+        subst (λ (p : ProcDecl). ArgumentsAsk lists j a p args pair) same says,
+  )
 
   -- without the premises of the one declaration no process is called
   pub call-stays : (at : ℕ) (f : ProcId) (args : Args) (d : ProcDecl)
@@ -173,15 +178,16 @@ module _ (lists : ProgramLists) (j : Judgement) where
   pub call-asks : (a : Account) (at : ℕ) (f : ProcId) (args : Args) (d : ProcDecl)
       → StandsAtCode lists j (code.Call at f args) → slice_get lists.procs f.0 ≡ Some d → (pair : Amount × Amount)
       → (StandAtEqualPaths lists j.offers d.offers pair ⊎ ArgumentsAsk lists j a d args pair) ↔ AsksPair lists j a pair
-  call-asks a at f args d stands found pair =
-      (λ either. elim either [
-        | inl paths ↦ asked-at (code.Call at f args) stands (d, found, inr paths)
-        | inr asks ↦ asked-at (code.Call at f args) stands (d, found, inl asks)
-      ],
-       λ asks.
-       let (e, its, says) = asks-at (code.Call at f args) stands asks in
-       let same : e ≡ d = cc in
-       elim says [
-         | inl asks_too ↦ inr (subst (λ (p : ProcDecl). ArgumentsAsk lists j a p args pair) same asks_too)
-         | inr paths ↦ inl (subst (λ (p : ProcDecl). StandAtEqualPaths lists j.offers p.offers pair) same paths)
-       ])
+  call-asks a at f args d stands found pair = (
+    λ either. elim either [
+      | inl paths ↦ asked-at (code.Call at f args) stands (d, found, inr paths)
+      | inr asks ↦ asked-at (code.Call at f args) stands (d, found, inl asks)
+    ],
+    λ asks.
+        let (e, its, says) = asks-at (code.Call at f args) stands asks in
+        let same : e ≡ d = cc in
+        elim says [
+          | inl asks_too ↦ inr (subst (λ (p : ProcDecl). ArgumentsAsk lists j a p args pair) same asks_too)
+          | inr paths ↦ inl (subst (λ (p : ProcDecl). StandAtEqualPaths lists j.offers p.offers pair) same paths)
+        ],
+  )

@@ -164,22 +164,22 @@ module _ (lists : ProgramLists) (s : Standing) (at : ℕ) (c : Chan) (arms : Lis
   branch-stuck lacks =
       case-stuck stands
       (λ after says.
-        lacks
-        (λ k d inside.
-          let b = get_or bs k d in
-          let (t, goes) = goes-there bs b (Contains-get_or bs k d inside) in
-          let goes_too = subst (λ (cs : List Branch). goes_by cs b.label ≡ Some t) (sym (same-branches says)) goes in
-          let (a, among, same) = item-of_image (λ (x : Arm). x.label) arms b.label (says.each_label b.label t goes_too) in
-          (a, among, ap (λ (l : Label). l.0) same)))
+      lacks
+      (λ k d inside.
+      let b = get_or bs k d in
+      let (t, goes) = goes-there bs b (Contains-get_or bs k d inside) in
+      let goes_too = subst (λ (cs : List Branch). goes_by cs b.label ≡ Some t) (sym (same-branches says)) goes in
+      let (a, among, same) = item-of_image (λ (x : Arm). x.label) arms b.label (says.each_label b.label t goes_too) in
+      (a, among, ap (λ (l : Label). l.0) same)))
 
   -- with an arm for no branch no rule applies
   pub arm-stuck : HasOddArm bs arms → NoRow lists (shape_of s)
   arm-stuck (a, among, odd) =
       case-stuck stands
       (λ after says.
-        let each = subst (λ (cs : List Branch). ArmsGoOn (shape_of s) c cs arms after) (same-branches says) says.each_arm in
-        let (t, goes) = arms-have (shape_of s) c bs each a among in
-        cc)
+      let each = subst (λ (cs : List Branch). ArmsGoOn (shape_of s) c cs arms after) (same-branches says) says.each_arm in
+      let (t, goes) = arms-have (shape_of s) c bs each a among in
+      cc)
 
   -- the arms lead on their ways
   pub case-leads : (ways : List Way) → All (λ b. HasArm arms b.label) bs → AreWays c bs arms ways → LeadsAlong lists s ways

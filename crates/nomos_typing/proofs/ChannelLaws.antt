@@ -59,9 +59,10 @@ module _ (lists : ProgramLists) (j : Judgement) where
   -- the same for a test of the node
   pub test-found : (form : TypeNode) (c : Chan) (n : TypeNode) (b : Bool) → HasType lists j c n
       → (IsTrue b ↔ (n ≡ form)) → IsTrue b ↔ HasType lists j c form
-  test-found form c n b typed test =
-      (λ yes. subst (λ (m : TypeNode). HasType lists j c m) (test.0 yes) typed,
-       λ typed_so. test.1 (head-unique c n form typed typed_so))
+  test-found form c n b typed test = (
+    λ yes. subst (λ (m : TypeNode). HasType lists j c m) (test.0 yes) typed,
+    λ typed_so. test.1 (head-unique c n form typed typed_so),
+  )
 
 -- nothing was found where nothing has the property
 pub none-found : {X : Type 0} (P : X → Type 0) (o : Option X) → o ≡ None → ((x : X) → ¬ (P x)) → IsFound P o

@@ -100,8 +100,8 @@ module _ {lists : ProgramLists} {n : ℕ} (p : ℕ) (d : ProcDecl) (found : slic
         λ free pair has.
         ⊎_elim
         (λ early.
-            ⊎_elim (λ known. inl known)
-            (λ given. absurd (contains-none pair (subst (λ (l : List (Amount × Amount)). Contains l pair) fresh.pairs given))) early)
+        ⊎_elim (λ known. inl known)
+        (λ given. absurd (contains-none pair (subst (λ (l : List (Amount × Amount)). Contains l pair) fresh.pairs given))) early)
         (λ asked. inr asked) (walking.gathers.pairs free pair has);
     keeps = λ free pair known. walking.grows.pairs free pair (inl known);
     stuck =
@@ -134,15 +134,15 @@ module _ {lists : ProgramLists} (p : ℕ) (d : ProcDecl) (formed : IsWellFormed 
             λ either.
                 ⊎_elim (λ compared. inr compared) (λ given. inl given)
                 (⊎_elim (λ early. gathered.keeps free pair early)
-                    (λ (asked : IsAsked lists d pair).
-                        (gathered.done asked.judgement asked.account asked.reached).pairs free pair asked.asks)
-                    either),
+                (λ (asked : IsAsked lists d pair).
+                (gathered.done asked.judgement asked.account asked.reached).pairs free pair asked.asks)
+                either),
           );
       small =
           All-weaker (Contains w.forms.items) (IsForm (star_count lists))
           (λ f among.
-              let of = gathered.forms f among in
-              subst (λ (g : Form). IsForm (star_count lists) g) (sym of.same) (point-is_form p (star_count lists) formed found of.point))
+          let of = gathered.forms f among in
+          subst (λ (g : Form). IsForm (star_count lists) g) (sym of.same) (point-is_form p (star_count lists) formed found of.point))
           w.forms.items (All-contains_itself w.forms.items);
     }
 
@@ -151,7 +151,7 @@ module _ {lists : ProgramLists} (p : ℕ) (d : ProcDecl) (formed : IsWellFormed 
     first-stuck t is =
         let of = gathered.stuck t is in
         let stuck = rowless-stuck p formed found (reaches-follows p formed found of.judgement of.account of.reached)
-            (λ row. of.no_row row.0 row.1) in
+        (λ row. of.no_row row.0 row.1) in
         let none = stuck-no_skeleton p formed found stuck in
         record {
           stuck = record {
@@ -200,13 +200,13 @@ module _ {lists : ProgramLists} (p : ℕ) (d : ProcDecl) (formed : IsWellFormed 
               λ among.
                   ⊎_elim (λ early. absurd (contains-none q early)) (λ asked. asked)
                   ((needs.asked q).0
-                      (⊎_elim (λ compared. inr compared) (λ given. inl given)
-                          (Contains-append_cases new.amounts pairs q (subst (Among q) is among)))),
+                  (⊎_elim (λ compared. inr compared) (λ given. inl given)
+                  (Contains-append_cases new.amounts pairs q (subst (Among q) is among)))),
               λ asked.
                   subst (Among q) (sym is)
                   (⊎_elim (λ given. Contains-append_right new.amounts pairs q given)
-                      (λ compared. Contains-append_left new.amounts pairs q compared)
-                      ((needs.asked q).1 (inr asked))),
+                  (λ compared. Contains-append_left new.amounts pairs q compared)
+                  ((needs.asked q).1 (inr asked))),
             );
       } in
       record { needs = rows; small = needs.small; law = needs-rows-law p formed found rows }

@@ -37,9 +37,10 @@ code-in_range lists j n is_program stands = All-at (CodeInRange lists) lists.cod
 -- where the kind of a term is known, it has this kind where that is the same
 pub kind-answer : (lists : ProgramLists) (kinds : VariableKinds) (e : TermId) (its kind : Kind) (b : Bool)
     → HasKind lists kinds e its → (IsTrue b ↔ (its ≡ kind)) → IsTrue b ↔ HasKind lists kinds e kind
-kind-answer lists kinds e its kind b found same =
-    (λ yes. subst (HasKind lists kinds e) (same.0 yes) found,
-     λ has. same.1 (HasKind-unique lists kinds e its kind found has))
+kind-answer lists kinds e its kind b found same = (
+  λ yes. subst (HasKind lists kinds e) (same.0 yes) found,
+  λ has. same.1 (HasKind-unique lists kinds e its kind found has),
+)
 
 -- ---- free names
 

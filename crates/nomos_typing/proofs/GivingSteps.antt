@@ -93,8 +93,8 @@ term-passes lists s e par old no_list false has = λ k. go k
 list-pair : (carry : List (VarId × Amount)) (w : VarId) (par : Par) (r said : Amount) → bound_to w.0 carry ≡ Some r
     → par.amount ≡ Some said → (pair : Amount × Amount)
     → (pair ≡ (r, said)) ↔ PairOfValues carry (arg.List w ∷ []) (par ∷ []) pair
-list-pair carry w par r said carries says pair =
-    (λ is.
+list-pair carry w par r said carries says pair = (
+  λ is.
       let first : r ≡ pair.0 = sym (ap (λ (p : Amount × Amount). p.0) is) in
       let second : said ≡ pair.1 = sym (ap (λ (p : Amount × Amount). p.1) is) in
       record {
@@ -104,16 +104,17 @@ list-pair carry w par r said carries says pair =
         carries = carries ∙ ap Some first;
         says = says ∙ ap Some second;
       },
-     λ p.
-     let (same, its_par) = first-pair (arg.List w) par (arg.List p.w, p.par) p.passes in
-     let its_w : p.w ≡ w = cc in
-     let its_carries = p.carries in
-     let here : bound_to w.0 carry ≡ Some pair.0 = subst (λ (v : VarId). bound_to v.0 carry ≡ Some pair.0) its_w p.carries in
-     let there : par.amount ≡ Some pair.1 = subst (λ (q : Par). q.amount ≡ Some pair.1) (sym its_par) p.says in
-     let first : pair.0 ≡ r = cc in
-     let second : pair.1 ≡ said = cc in
-     let made : Amount → Amount → Amount × Amount = λ a b. (a, b) in
-     ap₂ made first second)
+  λ p.
+      let (same, its_par) = first-pair (arg.List w) par (arg.List p.w, p.par) p.passes in
+      let its_w : p.w ≡ w = cc in
+      let its_carries = p.carries in
+      let here : bound_to w.0 carry ≡ Some pair.0 = subst (λ (v : VarId). bound_to v.0 carry ≡ Some pair.0) its_w p.carries in
+      let there : par.amount ≡ Some pair.1 = subst (λ (q : Par). q.amount ≡ Some pair.1) (sym its_par) p.says in
+      let first : pair.0 ≡ r = cc in
+      let second : pair.1 ≡ said = cc in
+      let made : Amount → Amount → Amount × Amount = λ a b. (a, b) in
+      ap₂ made first second,
+)
 
 -- a list passes where it has the kind
 pub list-passes : (lists : ProgramLists) (s next : Standing) (w : VarId) (par : Par) (said : Amount) (old new : Asked)
@@ -206,18 +207,18 @@ value-pairs lists s between next a args par pars old mid new ascends first rest 
         → HasPair old pair ⊎ PairOfValues (carried_by_all s) (a ∷ args) (par ∷ pars) pair
     to pair has = elim ((rest.joins pair).0 has) [
       | inl middle ↦ elim ((first.joins pair).0 middle) [
-          | inl before ↦ inl before
-          | inr p ↦ let (same, its_par) = first-pair a par (arg.List p.w, p.par) p.passes in
-              let made : ValueArg → Par → ValueArg × Par = λ x y. (x, y) in
-              inr (record { w = p.w; par = p.par; passes = (0, omega arith, ap₂ made same its_par); carries = p.carries; says = p.says })
-        ]
+        | inl before ↦ inl before
+        | inr p ↦ let (same, its_par) = first-pair a par (arg.List p.w, p.par) p.passes in
+            let made : ValueArg → Par → ValueArg × Par = λ x y. (x, y) in
+            inr (record { w = p.w; par = p.par; passes = (0, omega arith, ap₂ made same its_par); carries = p.carries; says = p.says })
+      ]
       | inr p ↦ inr (record {
-          w = p.w;
-          par = p.par;
-          passes = (suc p.passes.0, omega (arith, p.passes.1), p.passes.2);
-          carries = back p.w pair.0 p.carries;
-          says = p.says;
-        })
+        w = p.w;
+        par = p.par;
+        passes = (suc p.passes.0, omega (arith, p.passes.1), p.passes.2);
+        carries = back p.w pair.0 p.carries;
+        says = p.says;
+      })
     ]
 
     later : (pair : Amount × Amount) (p : PairOfValues (carried_by_all s) (a ∷ args) (par ∷ pars) pair)
@@ -320,7 +321,7 @@ module _ (lists : ProgramLists) (args : List ValueArg) (pars : List Par) (i : �
   pub turn-whole : (start now between : Standing) (first asked mid : Asked) → IsAscending (shape_of now).lists
       → ValuePassed lists now between (get_or args i da) (get_or pars i dp) asked mid
       → ((next : Standing) (new : Asked) → ValuesPassed lists now next (drop i args) (drop i pars) asked new
-          → ValuesPassed lists start next args pars first new)
+      → ValuesPassed lists start next args pars first new)
       → (next : Standing) (new : Asked) → ValuesPassed lists between next (drop (i + 1) args) (drop (i + 1) pars) mid new
       → ValuesPassed lists start next args pars first new
   turn-whole start now between first asked mid ascends here whole next new rest =
@@ -333,7 +334,7 @@ module _ (lists : ProgramLists) (args : List ValueArg) (pars : List Par) (i : �
   -- where all values pass, those after this turn pass
   pub turn-rest : (start now between : Judgement) → PassesValue lists no_amounts now (get_or args i da) (get_or pars i dp) between
       → ((left : Judgement) → PassesValues lists no_amounts start args pars left
-          → PassesValues lists no_amounts now (drop i args) (drop i pars) left)
+      → PassesValues lists no_amounts now (drop i args) (drop i pars) left)
       → (left : Judgement) → PassesValues lists no_amounts start args pars left
       → PassesValues lists no_amounts between (drop (i + 1) args) (drop (i + 1) pars) left
   turn-rest start now between here rest left all =
@@ -345,7 +346,7 @@ module _ (lists : ProgramLists) (args : List ValueArg) (pars : List Par) (i : �
   pub turn-stuck : (start now : Judgement)
       → ((k : Judgement) → ¬ (PassesValue lists no_amounts now (get_or args i da) (get_or pars i dp) k))
       → ((left : Judgement) → PassesValues lists no_amounts start args pars left
-          → PassesValues lists no_amounts now (drop i args) (drop i pars) left)
+      → PassesValues lists no_amounts now (drop i args) (drop i pars) left)
       → (left : Judgement) → ¬ (PassesValues lists no_amounts start args pars left)
   turn-stuck start now stays rest left all =
       let Passes : List ValueArg → List Par → Type 0 = λ x y. PassesValues lists no_amounts now x y left in

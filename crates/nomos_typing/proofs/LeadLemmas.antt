@@ -28,7 +28,7 @@ keeps-account keeps has = record {
 pub leads-with : {lists : ProgramLists} (s next : Standing) (k : Judgement) (n : CodeNode)
     → StandsAtCode lists (shape_of s) n → Row lists no_amounts (shape_of s) (k ∷ []) → shape_of next ≡ k
     → ((a : Account) → HasAccount (star_count lists) s a
-        → (b : Account) × (accounts_after lists n a ≡ b ∷ []) × HasAccount (star_count lists) next b)
+    → (b : Account) × (accounts_after lists n a ≡ b ∷ []) × HasAccount (star_count lists) next b)
     → LeadsTo lists s next
 leads-with {lists} s next k n stands steps shape account = record {
   row = subst (λ (i : Judgement). Row lists no_amounts (shape_of s) (i ∷ [])) (sym shape) steps;

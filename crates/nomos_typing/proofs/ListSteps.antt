@@ -78,8 +78,8 @@ empty-leads lists s at v c k ls is stands free =
     leads-with s (record s { lists = ls; code = k }) (binds_list (at_code j k) v (shape_of_list c))
     (code.Empty at v c.amount c.kind k) stands (empty-steps stands free) (ap Shaped shapes)
     (λ a has.
-      let amounts = ap (each_bound amount_of) is ∙ each-bind amount_of v c s.lists ∙ ap (bind v c.amount) has.lists in
-      (with_lists a (bind v c.amount a.lists), refl, record { lists = amounts; potential = has.potential }))
+    let amounts = ap (each_bound amount_of) is ∙ each-bind amount_of v c s.lists ∙ ap (bind v c.amount) has.lists in
+    (with_lists a (bind v c.amount a.lists), refl, record { lists = amounts; potential = has.potential }))
 
 -- what is bound after a list has grown
 grown : {Y : Type 0} (f : Carried → Y) (v w : VarId) (c : Carried) (b ls : List (VarId × Carried))
@@ -103,11 +103,13 @@ add-leads lists s at it c ls p is spent stands (says, found) =
     (binds_list (without_list j w it.next) v (shape_of_list c)) (code.Add at v it.element w it.next) stands
     (add-steps stands (shape_of_list c) says refl) (ap Shaped (grown shape_of_list v w c s.lists ls is))
     (λ a has.
-      let carries = carried-amount (star_count lists) s a w c has found in
-      let amounts = grown amount_of v w c s.lists ls is ∙ ap (λ b. bind v c.amount (unbind w.0 b)) has.lists in
-      let after = spends c.amount (with_lists a (bind v c.amount (unbind w.0 a.lists))) in
-      (after, ap (λ o. grows_list o v w a) carries,
-       record { lists = amounts; potential = spent (star_count lists) a has.potential }))
+    let carries = carried-amount (star_count lists) s a w c has found in
+    let amounts = grown amount_of v w c s.lists ls is ∙ ap (λ b. bind v c.amount (unbind w.0 b)) has.lists in
+    let after = spends c.amount (with_lists a (bind v c.amount (unbind w.0 a.lists))) in (
+      after,
+      ap (λ o. grows_list o v w a) carries,
+      record { lists = amounts; potential = spent (star_count lists) a has.potential },
+    ))
 
 -- a list is taken apart
 pub match-leads : (lists : ProgramLists) (s : Standing) (at : ℕ) (it : Matching) (c : Carried) (made : List Way)
@@ -122,5 +124,5 @@ match-leads lists s at it c made is stands (says, found) =
     leads-along s (code.Match at it.list it.empty_next it.head it.tail it.full_next) made (first ∷ second ∷ []) is stands
     (match-steps stands (shape_of_list c) says refl)
     (λ a has.
-      ap (λ o. parts_list o it.list it.tail a) (carried-amount (star_count lists) s a it.list c has found))
+    ap (λ o. parts_list o it.list it.tail a) (carried-amount (star_count lists) s a it.list c has found))
     (both-ways s first second tt found)

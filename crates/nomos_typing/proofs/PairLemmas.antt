@@ -31,37 +31,40 @@ pub joins-same : (old new : Asked) (P Q : Amount × Amount → Type 0) → Joins
     → ((pair : Amount × Amount) → P pair ↔ Q pair) → Joins old new Q
 joins-same old new P Q joins same =
     λ pair.
-    let here = joins pair in
-    (λ has. elim (here.0 has) [ | inl before ↦ inl before | inr p ↦ inr ((same pair).0 p) ],
-     λ either. here.1 (elim either [ | inl before ↦ inl before | inr q ↦ inr ((same pair).1 q) ]))
+    let here = joins pair in (
+      λ has. elim (here.0 has) [ inl before ↦ inl before | inr p ↦ inr ((same pair).0 p) ],
+      λ either. here.1 (elim either [ inl before ↦ inl before | inr q ↦ inr ((same pair).1 q) ]),
+    )
 
 -- where nothing is asked for, nothing joins
 pub joins-none : (old : Asked) (Q : Amount × Amount → Type 0) → ((pair : Amount × Amount) → ¬ (Q pair)) → Joins old old Q
 joins-none old Q none =
-    λ pair. (λ has. inl has, λ either. elim either [ | inl before ↦ before | inr q ↦ absurd (none pair q) ])
+    λ pair. (λ has. inl has, λ either. elim either [ inl before ↦ before | inr q ↦ absurd (none pair q) ])
 
 module _ (lists : ProgramLists) (j : Judgement) (a : Account) where
   -- the one pair that `pay` asks for
   pub pay-asks : (at : ℕ) (c : Chan) (r s : Amount) (t : TypeId) (next : CodeId)
       → StandsAtCode lists j (code.Pay at c r next) → HasType lists j c (by_side c (node.PotOut s t) (node.PotIn s t))
       → (pair : Amount × Amount) → (pair ≡ (r, s)) ↔ AsksPair lists j a pair
-  pay-asks at c r s t next stands channel pair =
-      (λ same. asked-at (code.Pay at c r next) stands (s, t, channel, same),
-       λ asks.
-       let (q, u, channel_too, is) = asks-at (code.Pay at c r next) stands asks in
-       let same = paid_amount-same c q s u t (head-unique lists j c _ _ channel_too channel) in
-       is ∙ ap (λ (p : Amount). let made : Amount × Amount = (r, p) in made) same.0)
+  pay-asks at c r s t next stands channel pair = (
+    λ same. asked-at (code.Pay at c r next) stands (s, t, channel, same),
+    λ asks.
+        let (q, u, channel_too, is) = asks-at (code.Pay at c r next) stands asks in
+        let same = paid_amount-same c q s u t (head-unique lists j c _ _ channel_too channel) in
+        is ∙ ap (λ (p : Amount). let made : Amount × Amount = (r, p) in made) same.0,
+  )
 
   -- the one pair that `get` asks for
   pub get-asks : (at : ℕ) (c : Chan) (r s : Amount) (t : TypeId) (next : CodeId)
       → StandsAtCode lists j (code.Get at c r next) → HasType lists j c (by_side c (node.PotIn s t) (node.PotOut s t))
       → (pair : Amount × Amount) → (pair ≡ (r, s)) ↔ AsksPair lists j a pair
-  get-asks at c r s t next stands channel pair =
-      (λ same. asked-at (code.Get at c r next) stands (s, t, channel, same),
-       λ asks.
-       let (q, u, channel_too, is) = asks-at (code.Get at c r next) stands asks in
-       let same = got_amount-same c q s u t (head-unique lists j c _ _ channel_too channel) in
-       is ∙ ap (λ (p : Amount). let made : Amount × Amount = (r, p) in made) same.0)
+  get-asks at c r s t next stands channel pair = (
+    λ same. asked-at (code.Get at c r next) stands (s, t, channel, same),
+    λ asks.
+        let (q, u, channel_too, is) = asks-at (code.Get at c r next) stands asks in
+        let same = got_amount-same c q s u t (head-unique lists j c _ _ channel_too channel) in
+        is ∙ ap (λ (p : Amount). let made : Amount × Amount = (r, p) in made) same.0,
+  )
 
   -- a node that asks for nothing
   pub quiet-asks : (n : CodeNode) → StandsAtCode lists j n → ((pair : Amount × Amount) → ¬ (AsksAt lists j a n pair))

@@ -157,9 +157,10 @@ channels-none lists s old = record {
   passes = none;
   amounts = record { lists = refl; potential = refl };
   joins =
-      λ pair.
-      (λ has. inl has,
-       λ either. elim either [ | inl before ↦ before | inr p ↦ absurd (omega (arith, p.passes.1)) ]);
+      λ pair. (
+        λ has. inl has,
+        λ either. elim either [ inl before ↦ before | inr p ↦ absurd (omega (arith, p.passes.1)) ],
+      );
 }
 
 -- the pairs of channels are those of the first one and those of the others
@@ -173,17 +174,17 @@ channel-pairs lists s between next v vs par pars old mid new h first rest = λ p
         → HasPair old pair ⊎ PairOfChannels lists (shape_of s) (v ∷ vs) (par ∷ pars) pair
     to pair has = elim ((rest.joins pair).0 has) [
       | inl middle ↦ elim ((first.joins pair).0 middle) [
-          | inl before ↦ inl before
-          | inr paths ↦ inr (record { v = v; par = par; own = first.own; passes = (0, omega arith, refl); is_of = first.is_of; paths = paths })
-        ]
+        | inl before ↦ inl before
+        | inr paths ↦ inr (record { v = v; par = par; own = first.own; passes = (0, omega arith, refl); is_of = first.is_of; paths = paths })
+      ]
       | inr p ↦ inr (record {
-          v = p.v;
-          par = p.par;
-          own = p.own;
-          passes = (suc p.passes.0, omega (arith, p.passes.1), p.passes.2);
-          is_of = of-type_back p.v p.own h first.passes p.is_of;
-          paths = p.paths;
-        })
+        v = p.v;
+        par = p.par;
+        own = p.own;
+        passes = (suc p.passes.0, omega (arith, p.passes.1), p.passes.2);
+        is_of = of-type_back p.v p.own h first.passes p.is_of;
+        paths = p.paths;
+      })
     ]
 
     later : (pair : Amount × Amount) (i : ℕ) (p : PairOfChannels lists (shape_of s) (v ∷ vs) (par ∷ pars) pair)
@@ -260,7 +261,7 @@ module _ (lists : ProgramLists) (vs : List VarId) (pars : List (VarId × TypeId)
   pub turn-whole : (start now between : Standing) (first asked mid : Asked) → IsJudgement lists (shape_of now)
       → ChannelPassed lists now between (get_or vs i dv) (get_or pars i dp).1 asked mid
       → ((next : Standing) (new : Asked) → ChannelsPassed lists now next (drop i vs) (drop i pars) asked new
-          → ChannelsPassed lists start next vs pars first new)
+      → ChannelsPassed lists start next vs pars first new)
       → (next : Standing) (new : Asked) → ChannelsPassed lists between next (drop (i + 1) vs) (drop (i + 1) pars) mid new
       → ChannelsPassed lists start next vs pars first new
   turn-whole start now between first asked mid h here whole next new rest =
@@ -273,7 +274,7 @@ module _ (lists : ProgramLists) (vs : List VarId) (pars : List (VarId × TypeId)
   -- where all channels pass, those after this turn pass
   pub turn-rest : (start now between : Judgement) → PassesChannel lists no_amounts now (get_or vs i dv) (get_or pars i dp).1 between
       → ((left : Judgement) → PassesChannels lists no_amounts start vs pars left
-          → PassesChannels lists no_amounts now (drop i vs) (drop i pars) left)
+      → PassesChannels lists no_amounts now (drop i vs) (drop i pars) left)
       → (left : Judgement) → PassesChannels lists no_amounts start vs pars left
       → PassesChannels lists no_amounts between (drop (i + 1) vs) (drop (i + 1) pars) left
   turn-rest start now between here rest left all =
@@ -285,7 +286,7 @@ module _ (lists : ProgramLists) (vs : List VarId) (pars : List (VarId × TypeId)
   pub turn-stuck : (start now : Judgement)
       → ((k : Judgement) → ¬ (PassesChannel lists no_amounts now (get_or vs i dv) (get_or pars i dp).1 k))
       → ((left : Judgement) → PassesChannels lists no_amounts start vs pars left
-          → PassesChannels lists no_amounts now (drop i vs) (drop i pars) left)
+      → PassesChannels lists no_amounts now (drop i vs) (drop i pars) left)
       → (left : Judgement) → ¬ (PassesChannels lists no_amounts start vs pars left)
   turn-stuck start now stays rest left all =
       let Passes : List VarId → List (VarId × TypeId) → Type 0 = λ a b. PassesChannels lists no_amounts now a b left in

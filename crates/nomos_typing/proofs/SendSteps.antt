@@ -40,15 +40,16 @@ module _ (lists : ProgramLists) (j : Judgement) where
       → StandsAtCode lists j (code.Send at c y next)
       → HasType lists j c (by_side c (node.Tensor carried t) (node.Lolli carried t)) → IsOfType j y own
       → (pair : Amount × Amount) → StandAtEqualPaths lists own carried pair ↔ AsksPair lists j a pair
-  send-asks a at c y next carried t own h stands typed is_of pair =
-      (λ paths. asked-at (code.Send at c y next) stands (own, carried, t, is_of, typed, paths),
-       λ asks.
-       let (its, other, u, its_is_of, its_typed, paths) = asks-at (code.Send at c y next) stands asks in
-       let heads = head-unique lists j c _ _ its_typed typed in
-       let (same, rest) = sent_channel-same c other u carried t heads in
-       let one = of-type_unique lists j y its own h its_is_of is_of in
-       let with_carried = subst (λ (s : TypeId). StandAtEqualPaths lists its s pair) same paths in
-       subst (λ (s : TypeId). StandAtEqualPaths lists s carried pair) one with_carried)
+  send-asks a at c y next carried t own h stands typed is_of pair = (
+    λ paths. asked-at (code.Send at c y next) stands (own, carried, t, is_of, typed, paths),
+    λ asks.
+        let (its, other, u, its_is_of, its_typed, paths) = asks-at (code.Send at c y next) stands asks in
+        let heads = head-unique lists j c _ _ its_typed typed in
+        let (same, rest) = sent_channel-same c other u carried t heads in
+        let one = of-type_unique lists j y its own h its_is_of is_of in
+        let with_carried = subst (λ (s : TypeId). StandAtEqualPaths lists its s pair) same paths in
+        subst (λ (s : TypeId). StandAtEqualPaths lists s carried pair) one with_carried,
+  )
 
   -- the pairs that handing the place on asks for
   pub forward-asks : (a : Account) (at : ℕ) (v : VarId) (own : TypeId) → StandsAtCode lists j (code.Fwd at v)
@@ -56,12 +57,13 @@ module _ (lists : ProgramLists) (j : Judgement) where
       → StandAtEqualPaths lists j.offers own pair ↔ AsksPair lists j a pair
   forward-asks a at v own stands only pair =
       let here : bound_to v.0 ((v, own) ∷ []) ≡ Some own = ap (λ t. cond t (Some own) None) (eq-eqb v.0 v.0 refl) in
-      let found : bound_to v.0 j.linear ≡ Some own = ap (bound_to v.0) only ∙ here in
-      (λ paths. asked-at (code.Fwd at v) stands (own, found, paths),
-       λ asks.
-       let (its, its_found, paths) = asks-at (code.Fwd at v) stands asks in
-       let same : its ≡ own = cc in
-       subst (λ (s : TypeId). StandAtEqualPaths lists j.offers s pair) same paths)
+      let found : bound_to v.0 j.linear ≡ Some own = ap (bound_to v.0) only ∙ here in (
+        λ paths. asked-at (code.Fwd at v) stands (own, found, paths),
+        λ asks.
+            let (its, its_found, paths) = asks-at (code.Fwd at v) stands asks in
+            let same : its ≡ own = cc in
+            subst (λ (s : TypeId). StandAtEqualPaths lists j.offers s pair) same paths,
+      )
 
 -- the one channel that is held is found by its variable
 only-bound : (v : VarId) (own : TypeId) → bound_to v.0 ((v, own) ∷ []) ≡ Some own

@@ -36,8 +36,8 @@ channels-have lists p d cs found same =
     let Has : VarId × TypeId → Type 0 = λ par. HasMode lists par.1 (parameter_mode lists par.1) in
     subst (All Has) (sym same)
     (λ k e inside.
-        let par = get_or d.channels k e in
-        parameter-has_mode lists p d par.0 par.1 found (Contains-get_or d.channels k e inside))
+    let par = get_or d.channels k e in
+    parameter-has_mode lists p d par.0 par.1 found (Contains-get_or d.channels k e inside))
 
 -- where nothing was gained there is room for any amount of the program
 pub none-room : (n : ℕ) (f : Form) (r : Amount) (lists : ProgramLists) → f ≡ form_of n no_account → IsAmountOf lists r

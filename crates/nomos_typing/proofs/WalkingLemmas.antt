@@ -57,12 +57,12 @@ module _ (lists : ProgramLists) (n : ℕ) (f : Forks) (todo : List Forks) (w : W
         λ j a leads.
         ⊎_elim (λ done. inl done)
         (λ (left : IsPending lists n (f ∷ todo) j a).
-            ⊎_elim
-            (λ here.
-                let ways = ap (λ (g : Forks). g.ways.items) here in
-                absurd (contains-none left.way (subst (λ (l : List Way). Contains l left.way) (sym ways ∙ none) left.inside)))
-            (λ later. inr (record { forks = left.forks; among = later; way = left.way; inside = left.inside; along = left.along }))
-            (contains-cases f left.forks todo left.among))
+        ⊎_elim
+        (λ here.
+        let ways = ap (λ (g : Forks). g.ways.items) here in
+        absurd (contains-none left.way (subst (λ (l : List Way). Contains l left.way) (sym ways ∙ none) left.inside)))
+        (λ later. inr (record { forks = left.forks; among = later; way = left.way; inside = left.inside; along = left.along }))
+        (contains-cases f left.forks todo left.among))
         (walking.complete j a leads);
     gathers = walking.gathers;
     grows = walking.grows;
@@ -118,51 +118,51 @@ module _ (lists : ProgramLists) (n : ℕ) (f : Forks) (todo : List Forks) (w : W
     pub walks-way : (new : Walk) → Goes lists n s (record w { todo = rest ∷ todo }) new
         → WalksOn lists n (f ∷ todo) w new.todo new
     walks-way new goes = λ d i c first walking.
-      let is_open = All-head (IsOpen lists n d) f todo walking.is_open in
-      let reached = way-reached d is_open in
-      let grows = grows-through (grows-beside w (rest ∷ todo)) goes.grows in
-      let Left : Judgement → Account → Type 0 = λ j a. IsDone lists n new j a ⊎ IsPending lists n new.todo j a in
-      let put : (j : Judgement) (a : Account) (g : Forks) (v : Way) → Contains (goes.added ++ rest ∷ todo) g
-          → Contains g.ways.items v → AlongWay lists n g v j a → Left j a =
-      λ j a g v among inside along.
-      inr (record { forks = g; among = subst (λ (l : List Forks). Contains l g) (sym goes.todo) among; way = v; inside = inside; along = along })
-      in
-      record {
-        complete =
-            λ j a leads.
-            ⊎_elim (λ done. inl (done-grows grows done))
-            (λ (left : IsPending lists n (f ∷ todo) j a).
-                ⊎_elim
-                (λ here.
-                    let v = left.way in
-                    let along : AlongWay lists n f v j a = subst (λ (g : Forks). AlongWay lists n g v j a) (sym here) left.along in
-                    let ways = ap (λ (g : Forks). g.ways.items) here in
-                    let inside : Contains (rest.ways.items ++ taken ∷ []) v = subst (λ (l : List Way). Contains l v) (sym ways ∙ all) left.inside in
-                    ⊎_elim
-                    (λ early.
-                        put j a rest v (Contains-append_right goes.added (rest ∷ todo) rest (contains-head rest rest todo refl)) early
-                        (along-rest v j a along))
-                    (λ same.
-                        let mine : AlongWay lists n f taken j a = subst (λ (u : Way). AlongWay lists n f u j a) (sym same) along in
-                        ⊎_elim (λ done. inl done)
-                        (λ (added : IsPending lists n goes.added j a).
-                            put j a added.forks added.way (Contains-append_left goes.added (rest ∷ todo) added.forks added.among) added.inside added.along)
-                        (goes.complete j a (along-standing j a mine)))
-                    (Contains-push_cases rest.ways.items taken v inside))
-                (λ later.
-                    put j a left.forks left.way
-                    (Contains-append_right goes.added (rest ∷ todo) left.forks (contains-tail rest left.forks todo later)) left.inside left.along)
-                (contains-cases f left.forks todo left.among))
-            (walking.complete j a leads);
-        gathers =
-            gathers-through walking.gathers grows
-            (gathers-through (gathers-beside w (rest ∷ todo)) goes.grows (goes.gathers d reached));
-        grows = grows-through walking.grows grows;
-        is_open =
-            subst (All (IsOpen lists n d)) (sym goes.todo)
-            (All-append (IsOpen lists n d) goes.added (rest ∷ todo) (goes.is_open d reached)
-                (All-cons (IsOpen lists n d) rest todo (open-rest d is_open) (All-tail (IsOpen lists n d) f todo walking.is_open)));
-      }
+        let is_open = All-head (IsOpen lists n d) f todo walking.is_open in
+        let reached = way-reached d is_open in
+        let grows = grows-through (grows-beside w (rest ∷ todo)) goes.grows in
+        let Left : Judgement → Account → Type 0 = λ j a. IsDone lists n new j a ⊎ IsPending lists n new.todo j a in
+        let put : (j : Judgement) (a : Account) (g : Forks) (v : Way) → Contains (goes.added ++ rest ∷ todo) g
+        → Contains g.ways.items v → AlongWay lists n g v j a → Left j a =
+        λ j a g v among inside along.
+        inr (record { forks = g; among = subst (λ (l : List Forks). Contains l g) (sym goes.todo) among; way = v; inside = inside; along = along })
+        in
+        record {
+          complete =
+              λ j a leads.
+              ⊎_elim (λ done. inl (done-grows grows done))
+              (λ (left : IsPending lists n (f ∷ todo) j a).
+              ⊎_elim
+              (λ here.
+              let v = left.way in
+              let along : AlongWay lists n f v j a = subst (λ (g : Forks). AlongWay lists n g v j a) (sym here) left.along in
+              let ways = ap (λ (g : Forks). g.ways.items) here in
+              let inside : Contains (rest.ways.items ++ taken ∷ []) v = subst (λ (l : List Way). Contains l v) (sym ways ∙ all) left.inside in
+              ⊎_elim
+              (λ early.
+              put j a rest v (Contains-append_right goes.added (rest ∷ todo) rest (contains-head rest rest todo refl)) early
+              (along-rest v j a along))
+              (λ same.
+              let mine : AlongWay lists n f taken j a = subst (λ (u : Way). AlongWay lists n f u j a) (sym same) along in
+              ⊎_elim (λ done. inl done)
+              (λ (added : IsPending lists n goes.added j a).
+              put j a added.forks added.way (Contains-append_left goes.added (rest ∷ todo) added.forks added.among) added.inside added.along)
+              (goes.complete j a (along-standing j a mine)))
+              (Contains-push_cases rest.ways.items taken v inside))
+              (λ later.
+              put j a left.forks left.way
+              (Contains-append_right goes.added (rest ∷ todo) left.forks (contains-tail rest left.forks todo later)) left.inside left.along)
+              (contains-cases f left.forks todo left.among))
+              (walking.complete j a leads);
+          gathers =
+              gathers-through walking.gathers grows
+              (gathers-through (gathers-beside w (rest ∷ todo)) goes.grows (goes.gathers d reached));
+          grows = grows-through walking.grows grows;
+          is_open =
+              subst (All (IsOpen lists n d)) (sym goes.todo)
+              (All-append (IsOpen lists n d) goes.added (rest ∷ todo) (goes.is_open d reached)
+              (All-cons (IsOpen lists n d) rest todo (open-rest d is_open) (All-tail (IsOpen lists n d) f todo walking.is_open)));
+        }
 
     -- and less is left to do
     pub way-light : (new : Walk) → Goes lists n s (record w { todo = rest ∷ todo }) new
@@ -243,6 +243,6 @@ module _ (lists : ProgramLists) (n : ℕ) where
   pub popped-walks : (todo : List Forks) (w : Walk) (f : Forks) (rest : List Forks) (new : Walk) → todo ≡ f ∷ rest
       → WalksOn lists n (f ∷ rest) (record w { todo = rest }) new.todo new → WalksOn lists n todo w new.todo new
   popped-walks todo w f rest new is on = λ d i c first walking.
-    on d i c first
-    (walks-beside lists n (f ∷ rest) w rest d i c first
-        (subst (λ (l : List Forks). Walking lists n d i c first l w) is walking))
+      on d i c first
+      (walks-beside lists n (f ∷ rest) w rest d i c first
+      (subst (λ (l : List Forks). Walking lists n d i c first l w) is walking))

@@ -33,8 +33,20 @@ pub(crate) fn pass_arguments(
     ensures ready { IsReady program.now asked.new }
     ensures tells { IfOk result (TellsArguments program.now now.old now.new d.now args.now asked.old asked.new) }
 {
-    if !pass_values(program, asked, now, args.values.as_slice(), d.values.as_slice())? {
+    if !pass_values(
+        program,
+        asked,
+        now,
+        args.values.as_slice(),
+        d.values.as_slice(),
+    )? {
         return Ok(false);
     }
-    pass_channels(program, asked, now, args.channels.as_slice(), d.channels.as_slice())
+    pass_channels(
+        program,
+        asked,
+        now,
+        args.channels.as_slice(),
+        d.channels.as_slice(),
+    )
 }

@@ -7,8 +7,10 @@ ghost use Rattle.nomos_typing.specs.mirror.Finding.{IsFound};
 ghost use Rattle.nomos_typing.specs.mirror.Standing.{shape_of, IsWithin};
 
 use crate::channels::channel_node;
-use crate::sides::{awaited_choice, behind_down, behind_up, got_amount, is_one, paid_amount};
-use crate::sides::{received_channel, received_value, sent_channel, sent_choice, sent_value};
+use crate::sides::{
+    awaited_choice, behind_down, behind_up, got_amount, is_one, paid_amount, received_channel,
+    received_value, sent_channel, sent_choice, sent_value,
+};
 use crate::standing::Standing;
 use nomos_ir::amount::Amount;
 use nomos_ir::code_node::Chan;
@@ -18,7 +20,11 @@ use nomos_ir::program::Program;
 use nomos_ir::type_node::Branches;
 
 /// The branches of the choice that the process makes on the channel.
-pub(crate) fn sends_choice<'p>(program: &'p Program, now: &Standing, c: Chan) -> Option<&'p Branches>
+pub(crate) fn sends_choice<'p>(
+    program: &'p Program,
+    now: &Standing,
+    c: Chan,
+) -> Option<&'p Branches>
     requires formed { IsWellFormed program.now }
     requires within { IsWithin program.now now.now }
     ensures { IsFound (λ branches. HasType program.now (shape_of now.now) c (by_side c (TypeNode.Plus branches) (TypeNode.With branches))) (option_copied result) }
@@ -28,7 +34,11 @@ pub(crate) fn sends_choice<'p>(program: &'p Program, now: &Standing, c: Chan) ->
 }
 
 /// The branches of the choice that is made at the other end of the channel.
-pub(crate) fn awaits_choice<'p>(program: &'p Program, now: &Standing, c: Chan) -> Option<&'p Branches>
+pub(crate) fn awaits_choice<'p>(
+    program: &'p Program,
+    now: &Standing,
+    c: Chan,
+) -> Option<&'p Branches>
     requires formed { IsWellFormed program.now }
     requires within { IsWithin program.now now.now }
     ensures { IsFound (λ branches. HasType program.now (shape_of now.now) c (by_side c (TypeNode.With branches) (TypeNode.Plus branches))) (option_copied result) }
@@ -48,7 +58,11 @@ pub(crate) fn sends_channel(program: &Program, now: &Standing, c: Chan) -> Optio
 }
 
 /// The type of the channel that the process receives over this one, and the type with which this one goes on.
-pub(crate) fn receives_channel(program: &Program, now: &Standing, c: Chan) -> Option<(TypeId, TypeId)>
+pub(crate) fn receives_channel(
+    program: &Program,
+    now: &Standing,
+    c: Chan,
+) -> Option<(TypeId, TypeId)>
     requires formed { IsWellFormed program.now }
     requires within { IsWithin program.now now.now }
     ensures { IsFound (λ p. HasType program.now (shape_of now.now) c (by_side c (TypeNode.Lolli p.0 p.1) (TypeNode.Tensor p.0 p.1))) result }

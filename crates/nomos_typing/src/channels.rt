@@ -28,7 +28,11 @@ pub(crate) fn channel_type(now: &Standing, c: Chan) -> Option<TypeId>
 }
 
 /// The node to which the channel's type unfolds.
-pub(crate) fn channel_node<'p>(program: &'p Program, now: &Standing, c: Chan) -> Option<&'p TypeNode>
+pub(crate) fn channel_node<'p>(
+    program: &'p Program,
+    now: &Standing,
+    c: Chan,
+) -> Option<&'p TypeNode>
     requires formed { IsWellFormed program.now }
     requires within { IsWithin program.now now.now }
     ensures { IsFound (HasType program.now (shape_of now.now) c) (option_copied result) }

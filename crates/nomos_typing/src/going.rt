@@ -14,11 +14,7 @@ use std::alloc::AllocError;
 
 /// Goes on from where the process stands until the code ends, is stuck, or parts; the ways into which it parts are
 /// left to do.
-pub(crate) fn go_along(
-    program: &Program,
-    walk: &mut Walk,
-    now: Standing,
-) -> Result<(), AllocError>
+pub(crate) fn go_along(program: &Program, walk: &mut Walk, now: Standing) -> Result<(), AllocError>
     requires formed { IsWellFormed program.now }
     requires on_way { IsOnWay program.now (star_count program.now) now }
     requires ready { IsReady program.now walk.old.asked }

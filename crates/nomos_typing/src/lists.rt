@@ -117,6 +117,9 @@ pub(crate) fn at_match(
         tail: matching.tail,
         next: matching.full_next,
     };
-    let ways = vec![in alloc; Way::Empty(matching.list, matching.empty_next), Way::Full(parts)]?;
+    let ways = vec![in alloc;
+        Way::Empty(matching.list, matching.empty_next),
+        Way::Full(parts),
+    ]?;
     Ok(Step::Branches(ways))
 }

@@ -42,11 +42,7 @@ impl Letting {
         ensures term { result.term ≡ term }
         ensures next { result.next ≡ next }
     {
-        Letting {
-            var,
-            term,
-            next,
-        }
+        Letting { var, term, next }
     }
 }
 
@@ -113,7 +109,13 @@ pub(crate) struct Matching {
 
 impl Matching {
     /// These operands.
-    pub(crate) fn new(list: VarId, empty_next: CodeId, head: VarId, tail: VarId, full_next: CodeId) -> Self
+    pub(crate) fn new(
+        list: VarId,
+        empty_next: CodeId,
+        head: VarId,
+        tail: VarId,
+        full_next: CodeId,
+    ) -> Self
         ensures list { result.list ≡ list }
         ensures empty_next { result.empty_next ≡ empty_next }
         ensures head { result.head ≡ head }

@@ -40,7 +40,12 @@ pub(crate) fn step(
         CodeNode::Case(_, c, arms) => at_case(program, alloc, now, *c, arms.as_slice()),
         CodeNode::Send(_, c, y, next) => at_send(program, asked, now, Over::new(*c, *y, *next)),
         CodeNode::Recv(_, c, y, next) => {
-            at_recv(program, asked.modes.as_slice(), now, Over::new(*c, *y, *next))
+            at_recv(
+                program,
+                asked.modes.as_slice(),
+                now,
+                Over::new(*c, *y, *next),
+            )
         }
         CodeNode::Put(_, c, e, next) => at_put(program, alloc, now, Over::new(*c, *e, *next)),
         CodeNode::Take(_, c, v, next) => at_take(program, now, Over::new(*c, *v, *next)),
@@ -62,13 +67,27 @@ pub(crate) fn step(
         CodeNode::Fwd(_, v) => at_fwd(program, asked, now, *v),
         CodeNode::Call(_, f, args) => at_call(program, asked, now, *f, args),
         CodeNode::Empty(_, v, r, kind, next) => {
-            at_empty(program, now, *v, Carried { kind: *kind, amount: *r }, *next)
+            at_empty(
+                program,
+                now,
+                *v,
+                Carried {
+                    kind: *kind,
+                    amount: *r,
+                },
+                *next,
+            )
         }
         CodeNode::Add(_, v, e, w, next) => {
             at_add(program, alloc, now, Adding::new(*v, *e, *w, *next))
         }
         CodeNode::Match(_, w, none, head, tail, some) => {
-            at_match(program, alloc, now, Matching::new(*w, *none, *head, *tail, *some))
+            at_match(
+                program,
+                alloc,
+                now,
+                Matching::new(*w, *none, *head, *tail, *some),
+            )
         }
     }
 }

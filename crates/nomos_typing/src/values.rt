@@ -164,6 +164,9 @@ pub(crate) fn at_if(
     if !is_of_kind(program, alloc, now, choosing.test, truth)? {
         return Ok(Step::Stuck);
     }
-    let ways = vec![in alloc; Way::Truth(choosing.then_next), Way::Truth(choosing.else_next)]?;
+    let ways = vec![in alloc;
+        Way::Truth(choosing.then_next),
+        Way::Truth(choosing.else_next),
+    ]?;
     Ok(Step::Branches(ways))
 }

@@ -11,7 +11,7 @@ use nomos_ir::ids::{CodeId, TermId, TypeId, VarId};
 use nomos_ir::kind::Kind;
 use nomos_ir::mode::Mode;
 use nomos_ir::program::Program;
-use nomos_terms::kinds::{term_kind, TermError};
+use nomos_terms::kinds::{TermError, term_kind};
 use std::alloc::{AllocError, Global};
 
 /// Whether nothing that the process has in hand has the name.

@@ -17,9 +17,11 @@ loop-a-preserved c =
     c.in-Some.goes c.loop-a-test.true c.loop-a.invariant (sym c.in-Some.ensures) c.in_ok-push.ensures.items
 
 pub returns-in-None : goal.returns-in-None
-returns-in-None c =
-    (_, (c.loop-a.a-index, c.loop-a-test.true, get_or_default c.args.arms.now c.loop-a.a-index _ _ c.loop-a-test.true),
-     sym c.in-None.ensures)
+returns-in-None c = (
+  _,
+  (c.loop-a.a-index, c.loop-a-test.true, get_or_default c.args.arms.now c.loop-a.a-index _ _ c.loop-a-test.true),
+  sym c.in-None.ensures,
+)
 
 pub returns : goal.returns
 returns c =

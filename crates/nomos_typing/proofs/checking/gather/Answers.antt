@@ -33,8 +33,8 @@ returns-clause-gathers c =
     let s = c.in_ok-first.first in
     on_ok_weaker {P = WalksOn lists n between.todo between [] new} {Q = GathersAll lists c.args.p old new} c.go_all.result
     (λ walks d found.
-        let is = c.in_ok-first.ensures d found in
-        let begun = start-walking p d found s is old c.requires.fresh between c.in_ok-go_along.ensures.goes in
-        all-gathered p d found s is old c.requires.fresh new
-        (walks d (start_of lists no_amounts d) (start_account d) old begun))
+    let is = c.in_ok-first.ensures d found in
+    let begun = start-walking p d found s is old c.requires.fresh between c.in_ok-go_along.ensures.goes in
+    all-gathered p d found s is old c.requires.fresh new
+    (walks d (start_of lists no_amounts d) (start_account d) old begun))
     c.go_all.ensures.walks

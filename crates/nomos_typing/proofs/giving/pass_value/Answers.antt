@@ -20,7 +20,7 @@ returns-in-Term-None-clause-tells c =
     in
     subst Tells (sym c.in-Term-None.is-0)
     (IfOk-weaker c.is_of_kind.result Has _ (term-passes lists s e par c.args.asked.now c.in-Term-None.is-1)
-      c.is_of_kind.ensures)
+    c.is_of_kind.ensures)
 
 pub returns-in-List-Some-clause-tells : goal.returns-in-List-Some-clause-tells
 returns-in-List-Some-clause-tells c =
@@ -35,4 +35,4 @@ returns-in-List-Some-clause-tells c =
     let Tells : ValueArg → Type 0 = λ a. IfOk c.pass_list.result (TellsValue lists s next a par old new) in
     subst Tells (sym c.in-List-Some.is-0)
     (IfOk-weaker c.pass_list.result (TellsList s next w par.kind said old new) _
-      (list-passes lists s next w par said old new c.in-List-Some.is-1) c.pass_list.ensures.tells)
+    (list-passes lists s next w par said old new c.in-List-Some.is-1) c.pass_list.ensures.tells)

@@ -45,8 +45,8 @@ returns-clause-walks c =
     let From : List Forks → Type 0 = λ l. Goes lists n s (record w { todo = l }) new in
     on_ok_weaker c.go_along.result
     (λ (goes : From c.push.new.self).
-        walks-way lists n f todo w rest refl c.in-Some.way c.in-Some.ensures.items s c.in_ok-branch.ensures new
-        (subst From c.in_ok-push.ensures goes))
+    walks-way lists n f todo w rest refl c.in-Some.way c.in-Some.ensures.items s c.in_ok-branch.ensures new
+    (subst From c.in_ok-push.ensures goes))
     c.go_along.ensures.goes
 
 pub returns-clause-light : goal.returns-clause-light
@@ -62,6 +62,6 @@ returns-clause-light c =
     let From : List Forks → Type 0 = λ l. Goes lists n s (record w { todo = l }) new in
     on_ok_weaker c.go_along.result
     (λ (goes : From c.push.new.self).
-        way-light lists n f todo w rest refl c.in-Some.way c.in-Some.ensures.items s c.in_ok-branch.ensures new
-        (subst From c.in_ok-push.ensures goes))
+    way-light lists n f todo w rest refl c.in-Some.way c.in-Some.ensures.items s c.in_ok-branch.ensures new
+    (subst From c.in_ok-push.ensures goes))
     c.go_along.ensures.goes

@@ -27,12 +27,15 @@ returns-in_ok-go_on-in-Some-clause-tells c =
     leads-with s c.go_on.new.now (goes_on (shape_of s) over.channel c.in-Some.t over.next)
     (code.Pay c.requires.stands.0 over.channel over.what over.next) c.requires.stands.1
     (pay-steps c.requires.stands.1 c.in-Some.said c.in-Some.t c.in-Some.ensures) c.in_ok-go_on-in-Some.ensures.shape
-    (λ a has.
-      (spends over.what a, refl, record {
+    (λ a has. (
+      spends over.what a,
+      refl,
+      record {
         lists = ap (each_bound amount_of) c.go_on.ensures.amounts.lists ∙ has.lists;
         potential =
             c.go_on.ensures.amounts.potential ∙ c.spend.ensures (star_count c.args.program.now) a has.potential;
-      }))
+      },
+    ))
 
 pub returns-in_ok-go_on-in-Some-clause-asks : goal.returns-in_ok-go_on-in-Some-clause-asks
 returns-in_ok-go_on-in-Some-clause-asks c =
@@ -42,7 +45,7 @@ returns-in_ok-go_on-in-Some-clause-asks c =
     λ a has.
     joins-same c.args.asked.now c.note.new.self IsNoted (AsksPair c.args.program.now j a) c.in_ok-note-in-Some.ensures.joins
     (pay-asks c.args.program.now j a c.requires.stands.0 over.channel over.what c.in-Some.said c.in-Some.t over.next
-      c.requires.stands.1 c.in-Some.ensures)
+    c.requires.stands.1 c.in-Some.ensures)
 
 pub returns-in-None-clause-tells : goal.returns-in-None-clause-tells
 returns-in-None-clause-tells c = pay-stuck c.requires.stands.1 (λ s t channel. c.in-None.ensures (s, t) channel)

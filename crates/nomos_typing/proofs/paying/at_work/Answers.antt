@@ -21,6 +21,8 @@ returns c =
     let s = c.args.now.now in
     leads-with s (record s { potential = c.spend.new.self; code = c.args.next }) (at_code (shape_of s) c.args.next)
     (code.Work c.requires.stands.0 c.args.amount c.args.next) c.requires.stands.1 (work-steps c.requires.stands.1) refl
-    (λ a has.
-      (spends c.args.amount a, refl,
-       record { lists = has.lists; potential = c.spend.ensures (star_count c.args.program.now) a has.potential }))
+    (λ a has. (
+      spends c.args.amount a,
+      refl,
+      record { lists = has.lists; potential = c.spend.ensures (star_count c.args.program.now) a has.potential },
+    ))

@@ -40,7 +40,7 @@ returns-then-not-branch-clause-tells c =
     let stays = subst Tells c.if-not-branch.true c.in_ok-pass_channel.ensures.tells in
     send-stuck c.requires.stands.1
     (λ left t says.
-      stays left (sent-passes lists (shape_of s) over.channel over.what found left t c.in-Some.ensures says))
+    stays left (sent-passes lists (shape_of s) over.channel over.what found left t c.in-Some.ensures says))
 
 pub returns-clause-tells : goal.returns-clause-tells
 returns-clause-tells c =
@@ -76,4 +76,4 @@ returns-clause-asks c =
     joins-same c.args.asked.now c.pass_channel.new.asked (StandAtEqualPaths lists passed.own found.0)
     (AsksPair lists (shape_of s) a) passed.joins
     (send-asks lists (shape_of s) a c.requires.stands.0 over.channel over.what over.next found.0 found.1 passed.own
-      c.requires.within.judgement c.requires.stands.1 c.in-Some.ensures passed.is_of)
+    c.requires.within.judgement c.requires.stands.1 c.in-Some.ensures passed.is_of)

@@ -19,7 +19,7 @@ returns-in-Some c =
     (record (shape_of s) { mode = mode.L; offers = t; code = c.args.next }) (code.Accept c.requires.stands.0 c.args.next)
     c.requires.stands.1 (λ a. refl)
     (row.accept c.requires.stands.1 t
-      (record { mode = c.is_mode.ensures.0 c.if-not-is_mode.false; channel = c.in-Some.ensures }))
+    (record { mode = c.is_mode.ensures.0 c.if-not-is_mode.false; channel = c.in-Some.ensures }))
     refl (record { lists = refl; potential = refl })
 
 pub returns-in-None : goal.returns-in-None

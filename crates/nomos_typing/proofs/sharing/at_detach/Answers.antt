@@ -29,8 +29,8 @@ returns-then-not-all_at_r c =
     let same = sym (c.as_slice.ensures ∙ c.pairs.ensures) in
     detach-stuck c.requires.stands.1
     (λ t says.
-      not-true c.if-not-all_at_r.true
-      (c.all_at_r.ensures.1 (subst (λ (bs : List (VarId × TypeId)). All AtR bs) same says.nothing_held)))
+    not-true c.if-not-all_at_r.true
+    (c.all_at_r.ensures.1 (subst (λ (bs : List (VarId × TypeId)). All AtR bs) same says.nothing_held)))
 
 pub returns-in-Some : goal.returns-in-Some
 returns-in-Some c =

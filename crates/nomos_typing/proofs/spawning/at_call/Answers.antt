@@ -38,9 +38,9 @@ returns-then-not-is_mode-clause-tells c =
     call-stays c.args.program.now (shape_of c.args.now.now) c.requires.stands.0 c.args.f c.args.args.now
     c.proc-called.result.now c.requires.stands.1 c.proc-called.ensures
     (λ says same.
-      let its = says.mode in
-      not-true c.if-not-is_mode.true
-      (c.is_mode.ensures.1 (subst (λ (p : ProcDecl). p.mode ≡ c.args.now.now.mode) same its)))
+    let its = says.mode in
+    not-true c.if-not-is_mode.true
+    (c.is_mode.ensures.1 (subst (λ (p : ProcDecl). p.mode ≡ c.args.now.now.mode) same its)))
 
 pub are_alike-requires-clause-own : goal.are_alike-requires-clause-own
 are_alike-requires-clause-own c = mode-in_range c.requires.formed.program c.requires.within.judgement.offers
@@ -84,8 +84,8 @@ returns-then-not-branch-2-clause-tells c =
     call-stays c.args.program.now (shape_of c.args.now.now) c.requires.stands.0 c.args.f c.args.args.now
     c.proc-called.result.now c.requires.stands.1 c.proc-called.ensures
     (λ says same.
-      let Fits : ProcDecl → Type 0 = λ p. ArgumentsFit lists no_amounts (shape_of s) p c.args.args.now says.left in
-      stays says.left (subst Fits same says.arguments))
+    let Fits : ProcDecl → Type 0 = λ p. ArgumentsFit lists no_amounts (shape_of s) p c.args.args.now says.left in
+    stays says.left (subst Fits same says.arguments))
 
 pub returns-then-is_empty-clause-tells : goal.returns-then-is_empty-clause-tells
 returns-then-is_empty-clause-tells c =
@@ -134,9 +134,9 @@ returns-then-is_empty-clause-asks c =
     λ a has.
     joins-same old new (λ pair. Paths pair ⊎ ArgumentsAsk lists j a d args pair) (AsksPair lists j a)
     (joins-both old between new Paths Pairs (ArgumentsAsk lists j a d args) alike.1 passed.joins
-      (λ pair. arguments-ask lists j s a d args has.lists pair))
+    (λ pair. arguments-ask lists j s a d args has.lists pair))
     (λ pair.
-      call-asks lists j a c.requires.stands.0 c.args.f args d c.requires.stands.1 c.proc-called.ensures pair)
+    call-asks lists j a c.requires.stands.0 c.args.f args d c.requires.stands.1 c.proc-called.ensures pair)
 
 pub returns-else-is_empty-clause-tells : goal.returns-else-is_empty-clause-tells
 returns-else-is_empty-clause-tells c =
@@ -153,6 +153,6 @@ returns-else-is_empty-clause-tells c =
     call-stays c.args.program.now (shape_of c.args.now.now) c.requires.stands.0 c.args.f c.args.args.now
     c.proc-called.result.now c.requires.stands.1 c.proc-called.ensures
     (λ says same.
-      let Fits : ProcDecl → Type 0 = λ p. ArgumentsFit lists no_amounts (shape_of s) p c.args.args.now says.left in
-      let one : says.left ≡ shape_of mid = arguments-one lists (shape_of s) d c.args.args.now says.left (shape_of mid) (subst Fits same says.arguments) passed.fit in
-      not-true c.if-is_empty.false (c.is_empty.ensures.1 (ap (λ (k : Judgement). k.linear) (sym one) ∙ says.nothing_held)))
+    let Fits : ProcDecl → Type 0 = λ p. ArgumentsFit lists no_amounts (shape_of s) p c.args.args.now says.left in
+    let one : says.left ≡ shape_of mid = arguments-one lists (shape_of s) d c.args.args.now says.left (shape_of mid) (subst Fits same says.arguments) passed.fit in
+    not-true c.if-is_empty.false (c.is_empty.ensures.1 (ap (λ (k : Judgement). k.linear) (sym one) ∙ says.nothing_held)))

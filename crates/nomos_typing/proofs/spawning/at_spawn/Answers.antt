@@ -104,13 +104,15 @@ returns-clause-tells c =
     (spawn-steps c.requires.stands.1 d (shape_of mid) c.proc-child.ensures may passed.fit free refl)
     (c.in_ok-bind_channel.ensures.shape ∙ ap Bound c.go_to.ensures.shape)
     (λ a has.
-      let left = with_lists a (without_passed it.args.now.values a.lists) in
-      let amounts =
-      ap (each_bound amount_of) keeps.lists ∙ passed.lists_left ∙ ap (without_passed it.args.now.values) has.lists
-      in
-      let potential = keeps.potential ∙ c.spend.ensures n a (passed.potential ∙ has.potential) in
-      (spends d.amount left, ap (λ o. spends_for o left ∷ []) c.proc-child.ensures,
-       record { lists = amounts; potential = potential }))
+    let left = with_lists a (without_passed it.args.now.values a.lists) in
+    let amounts =
+    ap (each_bound amount_of) keeps.lists ∙ passed.lists_left ∙ ap (without_passed it.args.now.values) has.lists
+    in
+    let potential = keeps.potential ∙ c.spend.ensures n a (passed.potential ∙ has.potential) in (
+      spends d.amount left,
+      ap (λ o. spends_for o left ∷ []) c.proc-child.ensures,
+      record { lists = amounts; potential = potential },
+    ))
 
 pub returns-clause-asks : goal.returns-clause-asks
 returns-clause-asks c =
@@ -131,8 +133,8 @@ returns-clause-asks c =
     λ a has.
     joins-same old new Pairs (AsksPair lists j a) passed.joins
     (λ pair.
-      let first = arguments-ask lists j s a d args has.lists pair in
-      let second =
-      spawn-asks lists j a c.requires.stands.0 it.name it.callee args it.next d c.requires.stands.1 c.proc-child.ensures pair
-      in
-      (λ p. second.0 (first.0 p), λ asks. first.1 (second.1 asks)))
+    let first = arguments-ask lists j s a d args has.lists pair in
+    let second =
+    spawn-asks lists j a c.requires.stands.0 it.name it.callee args it.next d c.requires.stands.1 c.proc-child.ensures pair
+    in
+    (λ p. second.0 (first.0 p), λ asks. first.1 (second.1 asks)))

@@ -50,8 +50,8 @@ returns c = λ d found.
     } in
     subst (λ (k : ProcDecl). IsStartOf lists n k made) same
     (start-is lists n e c.in_ok-kinds.kinds c.in_ok-lists.lists c.in_ok-shared.shared c.in_ok-linear.linear
-        c.in_ok-potential.potential c.gain.new.self c.in_ok-kinds.ensures c.in_ok-lists.ensures
-        (c.in_ok-shared.ensures ∙ ap (picked true) c.as_slice.ensures)
-        (c.in_ok-linear.ensures ∙ ap (picked false) c.as_slice-2.ensures)
-        (c.in_ok-potential.ensures ∙ ap (λ (m : ℕ). form_of m no_account) c.stars.ensures)
-        c.gain.ensures)
+    c.in_ok-potential.potential c.gain.new.self c.in_ok-kinds.ensures c.in_ok-lists.ensures
+    (c.in_ok-shared.ensures ∙ ap (picked true) c.as_slice.ensures)
+    (c.in_ok-linear.ensures ∙ ap (picked false) c.as_slice-2.ensures)
+    (c.in_ok-potential.ensures ∙ ap (λ (m : ℕ). form_of m no_account) c.stars.ensures)
+    c.gain.ensures)

@@ -24,7 +24,8 @@ returns c =
     let s = c.args.now.now in
     let node = code.If c.requires.stands.0 it.test it.then_next it.else_next in
     let first = way.Truth it.then_next in
-    let second = way.Truth it.else_next in
-    (leads-along s node _ (first ∷ second ∷ []) c.in_ok-ways.ensures.items c.requires.stands.1
-      (row.choose c.requires.stands.1 (c.in_ok-is_of_kind.ensures.0 c.if-not-branch.false)) (λ a has. refl) (both-ways s first second tt tt),
-     refl)
+    let second = way.Truth it.else_next in (
+      leads-along s node _ (first ∷ second ∷ []) c.in_ok-ways.ensures.items c.requires.stands.1
+          (row.choose c.requires.stands.1 (c.in_ok-is_of_kind.ensures.0 c.if-not-branch.false)) (λ a has. refl) (both-ways s first second tt tt),
+      refl,
+    )

@@ -17,4 +17,4 @@ returns-else-branch c =
     λ t says.
     not-true c.if-branch.false
     (c.in_ok-is_of_kind.ensures.1
-      (value-sent c.args.program.now (shape_of c.args.now.now) c.args.c c.args.e c.in-Some.found t c.in-Some.ensures says))
+    (value-sent c.args.program.now (shape_of c.args.now.now) c.args.c c.args.e c.in-Some.found t c.in-Some.ensures says))

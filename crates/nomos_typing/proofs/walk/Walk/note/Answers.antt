@@ -70,8 +70,8 @@ returns-in_default-clause-notes c =
           λ a has f.
           plain-notes lists s (star_count lists) a has old form is
           (λ at p args stands.
-              let there = c.code.ensures in
-              let same : c.code.result.now ≡ code.Call at p args = cc in
-              c.in_default.not-Call at p args same)
+          let there = c.code.ensures in
+          let same : c.code.result.now ≡ code.Call at p args = cc in
+          c.in_default.not-Call at p args same)
           c.push.new.self.items c.in_ok-push.ensures.items f;
     }
