@@ -57,10 +57,10 @@ module _ {lists : ProgramLists} (is_program : IsProgram lists) {s : Standing} {o
   leaves-none ends j a at =
       ⊎_elim (λ here. done-there at.has here.0 here.1)
       (λ (over : LeadsOver lists (shape_of s) at.account j a).
-          let Among : List Judgement → Type 0 =
-          λ l. Contains (zip l (accounts_after lists over.node at.account)) (over.judgement, over.account)
-          in
-          absurd (contains-none (over.judgement, over.account) (subst Among (ends over.after over.row) over.among)))
+      let Among : List Judgement → Type 0 =
+      λ l. Contains (zip l (accounts_after lists over.node at.account)) (over.judgement, over.account)
+      in
+      absurd (contains-none (over.judgement, over.account) (subst Among (ends over.after over.row) over.among)))
       (leads-cases at.leads)
 
   -- one next instruction
@@ -70,19 +70,19 @@ module _ {lists : ProgramLists} (is_program : IsProgram lists) {s : Standing} {o
   leaves-next next leads j a at =
       ⊎_elim (λ here. inl (done-there at.has here.0 here.1))
       (λ (over : LeadsOver lists (shape_of s) at.account j a).
-          let (b, is, has) = leads.account over.node at.account over.stands at.has in
-          let one : over.after ≡ shape_of next ∷ [] = row-unique no_amounts is_program over.row leads.row in
-          let Among : List Judgement → List Account → Type 0 = λ l m. Contains (zip l m) (over.judgement, over.account) in
-          let there : Contains ((shape_of next, b) ∷ []) (over.judgement, over.account) =
-          subst (Among (shape_of next ∷ [])) is
-          (subst (λ (l : List Judgement). Among l (accounts_after lists over.node at.account)) one over.among)
-          in
-          let same = pairs-parts (shape_of next) over.judgement b over.account (contains-one (shape_of next, b) (over.judgement, over.account) there) in
-          let From : Judgement → Account → Type 0 = λ k c. LeadsFrom lists k c j a in
-          let rest : From (shape_of next) b =
-          subst (λ (k : Judgement). From k b) (sym same.0) (subst (From over.judgement) (sym same.1) over.rest)
-          in
-          inr (record { account = b; has = has; leads = rest }))
+      let (b, is, has) = leads.account over.node at.account over.stands at.has in
+      let one : over.after ≡ shape_of next ∷ [] = row-unique no_amounts is_program over.row leads.row in
+      let Among : List Judgement → List Account → Type 0 = λ l m. Contains (zip l m) (over.judgement, over.account) in
+      let there : Contains ((shape_of next, b) ∷ []) (over.judgement, over.account) =
+      subst (Among (shape_of next ∷ [])) is
+      (subst (λ (l : List Judgement). Among l (accounts_after lists over.node at.account)) one over.among)
+      in
+      let same = pairs-parts (shape_of next) over.judgement b over.account (contains-one (shape_of next, b) (over.judgement, over.account) there) in
+      let From : Judgement → Account → Type 0 = λ k c. LeadsFrom lists k c j a in
+      let rest : From (shape_of next) b =
+      subst (λ (k : Judgement). From k b) (sym same.0) (subst (From over.judgement) (sym same.1) over.rest)
+      in
+      inr (record { account = b; has = has; leads = rest }))
       (leads-cases at.leads)
 
 -- several ways
@@ -95,30 +95,30 @@ leaves-along {lists} is_program f {old} {new} visits leads j a at =
     let ways = f.ways.items in
     ⊎_elim (λ here. inl (done-there is_program visits at.has here.0 here.1))
     (λ (over : LeadsOver lists (shape_of s) at.account j a).
-        let is = leads.account over.node at.account over.stands at.has in
-        let all : over.after ≡ map (way_shape (shape_of s)) ways = row-unique no_amounts is_program over.row leads.row in
-        let Among : List Judgement → List Account → Type 0 = λ l m. Contains (zip l m) (over.judgement, over.account) in
-        let lead : Way → Judgement × Account = λ w. (way_shape (shape_of s) w, way_account at.account w) in
-        let paired : Contains (zip (map (way_shape (shape_of s)) ways) (map (way_account at.account) ways)) (over.judgement, over.account) =
-        subst (Among (map (way_shape (shape_of s)) ways)) is
-        (subst (λ (l : List Judgement). Among l (accounts_after lists over.node at.account)) all over.among)
-        in
-        let there : Contains (map lead ways) (over.judgement, over.account) =
-        subst (λ (l : List (Judgement × Account)). Contains l (over.judgement, over.account)) (zip-maps (way_shape (shape_of s)) (way_account at.account) ways) paired
-        in
-        let (w, inside, leads_there) = contains-unmap lead ways (over.judgement, over.account) there in
-        let same = pairs-parts (way_shape (shape_of s) w) over.judgement (way_account at.account w) over.account leads_there in
-        let From : Judgement → Account → Type 0 = λ k c. LeadsFrom lists k c j a in
-        let rest : From (way_shape (shape_of s) w) (way_account at.account w) =
-        subst (λ (k : Judgement). From k (way_account at.account w)) (sym same.0) (subst (From over.judgement) (sym same.1) over.rest)
-        in
-        inr (record {
-          forks = f;
-          among = contains-head f f [] refl;
-          way = w;
-          inside = inside;
-          along = record { account = at.account; has = at.has; leads = rest };
-        }))
+    let is = leads.account over.node at.account over.stands at.has in
+    let all : over.after ≡ map (way_shape (shape_of s)) ways = row-unique no_amounts is_program over.row leads.row in
+    let Among : List Judgement → List Account → Type 0 = λ l m. Contains (zip l m) (over.judgement, over.account) in
+    let lead : Way → Judgement × Account = λ w. (way_shape (shape_of s) w, way_account at.account w) in
+    let paired : Contains (zip (map (way_shape (shape_of s)) ways) (map (way_account at.account) ways)) (over.judgement, over.account) =
+    subst (Among (map (way_shape (shape_of s)) ways)) is
+    (subst (λ (l : List Judgement). Among l (accounts_after lists over.node at.account)) all over.among)
+    in
+    let there : Contains (map lead ways) (over.judgement, over.account) =
+    subst (λ (l : List (Judgement × Account)). Contains l (over.judgement, over.account)) (zip-maps (way_shape (shape_of s)) (way_account at.account) ways) paired
+    in
+    let (w, inside, leads_there) = contains-unmap lead ways (over.judgement, over.account) there in
+    let same = pairs-parts (way_shape (shape_of s) w) over.judgement (way_account at.account w) over.account leads_there in
+    let From : Judgement → Account → Type 0 = λ k c. LeadsFrom lists k c j a in
+    let rest : From (way_shape (shape_of s) w) (way_account at.account w) =
+    subst (λ (k : Judgement). From k (way_account at.account w)) (sym same.0) (subst (From over.judgement) (sym same.1) over.rest)
+    in
+    inr (record {
+      forks = f;
+      among = contains-head f f [] refl;
+      way = w;
+      inside = inside;
+      along = record { account = at.account; has = at.has; leads = rest };
+    }))
     (leads-cases at.leads)
 
 module _ {lists : ProgramLists} {d : ProcDecl} where

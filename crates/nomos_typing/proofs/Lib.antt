@@ -10,6 +10,7 @@ pub mod Carrying
 pub mod CaseSteps
 pub mod ChannelLaws
 pub mod CodeOnceLemmas
+pub mod ConcludingLemmas
 pub mod FormLaws
 pub mod FormLemmas
 pub mod FoundLemmas
@@ -42,8 +43,12 @@ pub mod SideLaws
 pub mod SizeLaws
 pub mod StandingLemmas
 pub mod StarLaws
+pub mod StartingLemmas
 pub mod StepRows
+pub mod StrideLemmas
 pub mod StuckLaws
 pub mod VisitLemmas
+pub mod WalkingLemmas
 pub mod WayLemmas
 pub mod WeightLemmas
+pub mod WithinLemmas

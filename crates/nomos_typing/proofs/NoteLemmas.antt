@@ -35,8 +35,7 @@ module _ (lists : ProgramLists) (s : Standing) (n : ℕ) (a : Account) (has : Ha
   pub plain-notes : ((at : ℕ) (p : ProcId) (args : Args) → ¬ (StandsAtCode lists (shape_of s) (code.Call at p args)))
       → (new : List Form) → new ≡ old ++ form ∷ [] → (f : Form) → Contains new f ↔ (Contains old f ⊎ Point f)
   plain-notes none new items f =
-      let Among : List Form → Type 0 = λ l. Contains l f in
-      (
+      let Among : List Form → Type 0 = λ l. Contains l f in (
         λ among. before-point f (subst Among items among),
         λ either.
             subst Among (sym items)
@@ -61,14 +60,13 @@ module _ (lists : ProgramLists) (s : Standing) (n : ℕ) (a : Account) (has : Ha
     pub call-notes : (new : List Form) → new ≡ (old ++ form ∷ []) ++ left ∷ [] → (f : Form)
         → Contains new f ↔ (Contains old f ⊎ Point f)
     call-notes new items f =
-        let Among : List Form → Type 0 = λ l. Contains l f in
-        (
+        let Among : List Form → Type 0 = λ l. Contains l f in (
           λ among.
               ⊎_elim (before-point f) (λ same. inr (IsPointAt.called stands e found (sym same ∙ left_is)))
               (Contains-push_cases (old ++ form ∷ []) left f (subst Among items among)),
           λ either.
               subst Among (sym items)
               (⊎_elim
-                  (λ early. Contains-append_left (old ++ form ∷ []) (left ∷ []) f (Contains-append_left old (form ∷ []) f early))
-                  (call-point f) either),
+              (λ early. Contains-append_left (old ++ form ∷ []) (left ∷ []) f (Contains-append_left old (form ∷ []) f early))
+              (call-point f) either),
         )

@@ -34,13 +34,13 @@ module _ {lists : ProgramLists} {s : Standing} {old new : Walk} (visits : Visits
         λ at by.
         ⊎_elim (λ kept. subst (λ (o : Option Stuck). IsStuckBy o at) (sym kept.0) by)
         (λ (stop : IsFirstStop lists s old.stuck new.stuck).
-            subst (λ (o : Option Stuck). IsStuckBy o at) (sym stop.counts) (first-keeps old.stuck (stop_of stop.node) at by))
+        subst (λ (o : Option Stuck). IsStuckBy o at) (sym stop.counts) (first-keeps old.stuck (stop_of stop.node) at by))
         visits.stuck;
     none =
         λ free.
         ⊎_elim (λ kept. sym kept.0 ∙ free)
         (λ (stop : IsFirstStop lists s old.stuck new.stuck).
-            absurd (first-some old.stuck (stop_of stop.node) (sym stop.counts ∙ free)))
+        absurd (first-some old.stuck (stop_of stop.node) (sym stop.counts ∙ free)))
         visits.stuck;
   }
 
@@ -63,7 +63,7 @@ module _ {lists : ProgramLists} {s : Standing} {old new : Walk} (visits : Visits
         λ free.
         ⊎_elim (λ kept. kept.1)
         (λ (stop : IsFirstStop lists s old.stuck new.stuck).
-            absurd (first-some old.stuck (stop_of stop.node) (sym stop.counts ∙ free)))
+        absurd (first-some old.stuck (stop_of stop.node) (sym stop.counts ∙ free)))
         visits.stuck;
     stuck =
         λ none n stands.
@@ -101,6 +101,6 @@ module _ {lists : ProgramLists} {s : Standing} {old new : Walk} (visits : Visits
           λ t is.
           ⊎_elim (λ kept. inl (sym kept.0 ∙ is))
           (λ (stop : IsFirstStop lists s old.stuck new.stuck).
-              ⊎_elim (λ early. inl early) (λ same. inr (stop-of stop t same)) (first-one old.stuck (stop_of stop.node) t (sym stop.counts ∙ is)))
+          ⊎_elim (λ early. inl early) (λ same. inr (stop-of stop t same)) (first-one old.stuck (stop_of stop.node) t (sym stop.counts ∙ is)))
           visits.stuck;
     }

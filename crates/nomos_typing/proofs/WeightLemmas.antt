@@ -55,7 +55,7 @@ light-ways b (suc p) ways few lower =
     omega (arith, weight-positive b p, doubled b m)
 
 -- a way leads to its instruction
-way-place : (j : Judgement) (w : Way) → place (way_shape j w) ≡ way_next w
+pub way-place : (j : Judgement) (w : Way) → place (way_shape j w) ≡ way_next w
 way-place j (way.Label chan.Own t next) = refl
 way-place j (way.Label (chan.Var v) t next) = refl
 way-place j (way.Truth next) = refl

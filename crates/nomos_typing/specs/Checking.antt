@@ -1,5 +1,7 @@
 -- What is answered of a process.
-use Rattle.std.specs.Prelude.{◌≡◌, ◌≤◌, ◌↔◌, ℕ, List, Contains, All, pos, ◌≤ℤ◌, length}
+use Rattle.std.specs.Prelude.{◌≡◌, ◌≤◌, ◌↔◌, ℕ, List, Contains, All, pos, ◌≤ℤ◌, length, ◌⊎◌}
+use Rattle.std.specs.declared.result.Result.{Result}
+use Rattle.std.specs.declared.result.Result.TheVariants.{Ok, Err}
 use Rattle.nomos_ir.specs.declared.amount.Amount.{Amount}
 use Rattle.nomos_ir.specs.declared.code_form.CodeForm.{CodeForm}
 use Rattle.nomos_ir.specs.declared.code_form.CodeForm.TheVariants as form
@@ -8,6 +10,8 @@ use Rattle.nomos_ir.specs.declared.code_node.CodeNode.TheVariants as code
 use Rattle.nomos_ir.specs.declared.declaration.ProcDecl.{ProcDecl}
 use Rattle.nomos_ir.specs.declared.lists.ProgramLists.{ProgramLists}
 use Rattle.nomos_equality.specs.Answer.{SameWorth}
+use Rattle.nomos_equality.specs.Comparing.{Compared}
+use Rattle.nomos_forms.specs.Bounds.{IsForm}
 use Rattle.nomos_forms.specs.declared.form.Form.{Form}
 use Rattle.nomos_forms.specs.Linear.{form_value}
 use Rattle.nomos_types.specs.Amount.{Annotations}
@@ -16,6 +20,9 @@ use Rattle.nomos_types.specs.Judgement.{Judgement, start_of}
 use Rattle.nomos_types.specs.Row.{StandsAtCode}
 use Rattle.nomos_typing.specs.Asking.{IsAsked}
 use Rattle.nomos_typing.specs.Reaching.{IsFormOf}
+use Rattle.nomos_typing.specs.declared.checking.Checked.{Checked}
+use Rattle.nomos_typing.specs.declared.checking.ProcError.{ProcError}
+use Rattle.nomos_typing.specs.declared.checking.ProcError.TheVariants as error
 
 -- the offset of an instruction
 abbrev pub code_offset : CodeNode → ℕ
@@ -106,3 +113,32 @@ abbrev pub DerivesByRows : ProgramLists → ℕ → ProcDecl → List Form → L
 DerivesByRows lists n d forms pairs =
     (x : Annotations) → length x.stars ≡ n
     → Derives lists x (start_of lists x d) ↔ (AreAfforded x forms × SameWorth x pairs)
+
+-- The declaration needs the forms and the pairs, its forms have small numbers, and the law of rows holds of both.
+pub record NeedsChecked (lists : ProgramLists) (n : ℕ) (d : ProcDecl) (forms : List Form)
+    (pairs : List (Amount × Amount)) : Type 0 where
+  pub needs : NeedsRows lists n d forms pairs
+  pub small : All (IsForm n) forms
+  pub law : DerivesByRows lists n d forms pairs
+
+-- what the check of a process answers
+abbrev pub AnswersProcess : ProgramLists → ℕ → ProcDecl → Result Checked ProcError → Type 0
+AnswersProcess lists n d (Ok checked) = NeedsChecked lists n d checked.forms checked.pairs
+AnswersProcess lists n d (Err (error.ProcType at form)) = IsFirstStuck lists d at form
+AnswersProcess lists n d (Err error.NoMemory) = Unit {0}
+
+-- The declaration has a skeleton, and needs the forms; and the pairs that it needs are those that are given and those
+-- by which what was compared has grown.
+pub record NeedsBeside (lists : ProgramLists) (n : ℕ) (d : ProcDecl) (old new : Compared) (forms : List Form)
+    (pairs : List (Amount × Amount)) : Type 0 where
+  pub skeleton : HasSkeleton lists d
+  pub points : (f : Form) → Contains forms f ↔ IsFormOf lists n d f
+  pub asked : (p : Amount × Amount) → (Contains pairs p ⊎ Contains new.amounts p)
+      ↔ (Contains old.amounts p ⊎ IsAsked lists d p)
+  pub small : All (IsForm n) forms
+
+-- what it answers beside what was compared before
+abbrev pub AnswersBeside : ProgramLists → ℕ → ProcDecl → Compared → Compared → Result Checked ProcError → Type 0
+AnswersBeside lists n d old new (Ok checked) = NeedsBeside lists n d old new checked.forms checked.pairs
+AnswersBeside lists n d old new (Err (error.ProcType at form)) = IsFirstStuck lists d at form
+AnswersBeside lists n d old new (Err error.NoMemory) = Unit {0}

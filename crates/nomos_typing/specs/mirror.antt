@@ -1,8 +1,11 @@
 -- What private calls answer; no promise stands on these.
+pub mod Answers
 pub mod Cases
 pub mod Finding
+pub mod Fresh
 pub mod Limits
 pub mod Moves
+pub mod Nothing
 pub mod Passing
 pub mod Places
 pub mod Standing

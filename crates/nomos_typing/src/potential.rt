@@ -3,7 +3,7 @@ ghost use Rattle.std.specs.Prelude.{◌≡◌, ℕ, IfOk};
 ghost use Rattle.nomos_ir.specs.declared.amount.Amount.{Amount};
 ghost use Rattle.nomos_typing.specs.Account.{Account, gains, spends, form_of};
 ghost use Rattle.nomos_typing.specs.mirror.Limits.{HasRoom};
-ghost use Rattle.nomos_typing.specs.mirror.Starting.{no_account};
+ghost use Rattle.nomos_typing.specs.mirror.Nothing.{no_account};
 
 use nomos_forms::form::Form;
 use nomos_ir::amount::Amount;

@@ -3,6 +3,7 @@ ghost use Rattle.std.specs.Prelude.{◌≡◌, ℕ, IfOk, OnOk};
 ghost use Rattle.nomos_types.specs.Typed.{IsWellFormed};
 ghost use Rattle.nomos_typing.specs.Account.{Account, spends, form_of};
 ghost use Rattle.nomos_typing.specs.Checking.{code_offset, code_form};
+ghost use Rattle.nomos_typing.specs.mirror.Fresh.{IsFresh};
 ghost use Rattle.nomos_typing.specs.mirror.Limits.{HasRoom};
 ghost use Rattle.nomos_typing.specs.mirror.Standing.{IsWithin};
 ghost use Rattle.nomos_typing.specs.mirror.Stops.{first_stuck};
@@ -12,10 +13,12 @@ use crate::asked::Asked;
 use crate::instruction::{code_form, code_offset};
 use crate::potential::Potential;
 use crate::standing::{Forks, Standing};
+use nomos_equality::equalities::Equalities;
 use nomos_forms::form::Form;
 use nomos_ir::amount::Amount;
 use nomos_ir::code_form::CodeForm;
 use nomos_ir::code_node::CodeNode;
+use nomos_ir::mode::Mode;
 use nomos_ir::program::Program;
 use nomos_ir::stack::Stack;
 use std::alloc::{AllocError, Global};
@@ -64,11 +67,31 @@ fn less(alloc: Global, potential: &Potential, amount: Amount) -> Result<Form, Al
 }
 
 impl Walk {
+    /// Nothing is gathered yet. It takes no memory.
+    pub(crate) fn new(alloc: Global, modes: Vec<Mode>, equalities: Equalities) -> Walk
+        ensures modes { result.asked.modes ≡ modes }
+        ensures equalities { result.asked.equalities ≡ equalities }
+        ensures fresh { IsFresh result }
+    {
+        Walk {
+            asked: Asked {
+                alloc,
+                modes,
+                equalities,
+                pairs: Vec::new(alloc),
+            },
+            forms: Vec::new(alloc),
+            stuck: None,
+            todo: Stack::new(alloc),
+        }
+    }
+
     /// Notes the potential before the instruction, and at a call that less what the called declaration needs.
     pub(crate) fn note(&mut self, program: &Program, now: &Standing) -> Result<(), AllocError>
         requires formed { IsWellFormed program.now }
         requires within { IsWithin program.now now.now }
-        ensures { OnOk result (Notes program.now now.now self.old self.new) }
+        ensures asked { self.new.asked ≡ self.old.asked }
+        ensures notes { OnOk result (Notes program.now now.now self.old self.new) }
     {
         let _lists = program.lists();
         let alloc = self.asked.alloc;

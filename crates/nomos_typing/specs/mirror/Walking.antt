@@ -209,3 +209,19 @@ pub record IsOnWay (lists : ProgramLists) (n : ℕ) (s : Standing) : Type 0 wher
   pub declared : ProcDecl
   pub found : slice_get lists.procs place ≡ Some declared
   pub reached : IsReached lists n declared s
+
+-- a walk of some declaration of the program
+pub record IsWalk (lists : ProgramLists) (n : ℕ) (todo : List Forks) (w : Walk) : Type 0 where
+  pub place : ℕ
+  pub declared : ProcDecl
+  pub found : slice_get lists.procs place ≡ Some declared
+  pub judgement : Judgement
+  pub account : Account
+  pub first : Walk
+  pub walking : Walking lists n declared judgement account first todo w
+
+-- what was so far a walk goes on as one
+abbrev pub WalksOn : ProgramLists → ℕ → List Forks → Walk → List Forks → Walk → Type 0
+WalksOn lists n todo old rest new =
+    (d : ProcDecl) (i : Judgement) (c : Account) (first : Walk) → Walking lists n d i c first todo old
+    → Walking lists n d i c first rest new

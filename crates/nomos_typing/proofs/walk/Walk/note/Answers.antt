@@ -30,8 +30,8 @@ less-requires c =
     let d = c.proc.result.now in
     room-at program c.args.now.now d.amount c.requires.within (proc-amount program c.in-Call.f.0 d c.proc.ensures)
 
-pub returns-in_ok-push-2 : goal.returns-in_ok-push-2
-returns-in_ok-push-2 c =
+pub returns-in_ok-push-2-clause-notes : goal.returns-in_ok-push-2-clause-notes
+returns-in_ok-push-2-clause-notes c =
     let lists = c.args.program.now in
     let s = c.args.now.now in
     let old : List Form = c.args.self.now.forms.items in
@@ -55,8 +55,8 @@ returns-in_ok-push-2 c =
           c.push-in-Call.new.self.items items f;
     }
 
-pub returns-in_default : goal.returns-in_default
-returns-in_default c =
+pub returns-in_default-clause-notes : goal.returns-in_default-clause-notes
+returns-in_default-clause-notes c =
     let lists = c.args.program.now in
     let s = c.args.now.now in
     let old : List Form = c.args.self.now.forms.items in
@@ -70,8 +70,8 @@ returns-in_default c =
           λ a has f.
           plain-notes lists s (star_count lists) a has old form is
           (λ at p args stands.
-              let there = c.code.ensures in
-              let same : c.code.result.now ≡ code.Call at p args = cc in
-              c.in_default.not-Call at p args same)
+          let there = c.code.ensures in
+          let same : c.code.result.now ≡ code.Call at p args = cc in
+          c.in_default.not-Call at p args same)
           c.push.new.self.items c.in_ok-push.ensures.items f;
     }

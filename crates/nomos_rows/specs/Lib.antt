@@ -1,0 +1,3 @@
+pub mod Faults
+pub mod ProgramRows
+pub mod mirror

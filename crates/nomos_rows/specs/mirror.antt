@@ -1,0 +1,5 @@
+pub mod Answers
+pub mod Declarations
+pub mod Processes
+pub mod Telling
+pub mod Ups
