@@ -1,17 +1,83 @@
 -- Which alternative of a production a token chooses, and what stands behind it.
-use Rattle.std.proofs.Common.{◌≡◌, Bool, true, false, ◌&&◌, ◌||◌, not, List, [], ◌∷◌, ◌++◌, Option, Some, None, ◌⊎◌, inl, inr, refl, ◌∙◌, if◌then◌else◌}
+use Rattle.std.proofs.Common.{
+  ◌≡◌,
+  Bool,
+  true,
+  false,
+  ◌&&◌,
+  ◌||◌,
+  not,
+  List,
+  [],
+  ◌∷◌,
+  ◌++◌,
+  Option,
+  Some,
+  None,
+  ◌⊎◌,
+  inl,
+  inr,
+  refl,
+  ◌∙◌,
+  if◌then◌else◌,
+}
 use Rattle.nomos_syntax.specs.Lexeme.{Lexeme}
 use Rattle.nomos_grammar.specs.declared.part.Terminal.{Terminal}
 use Rattle.nomos_grammar.specs.declared.part.Terminal.TheVariants as terminal
 use Rattle.nomos_grammar.specs.declared.part.Nonterminal.{Nonterminal}
 use Rattle.nomos_grammar.specs.declared.part.Part.{Part}
 use Rattle.nomos_grammar.specs.declared.part.Part.TheVariants as part
-use Rattle.nomos_grammar.specs.Derivation.{terminal_of, Fits, Event, tokens_in, IsAmong, first, later, Derives, nothing, read, counted, replaced}
+use Rattle.nomos_grammar.specs.Derivation.{
+  terminal_of,
+  Fits,
+  Event,
+  tokens_in,
+  IsAmong,
+  first,
+  later,
+  Derives,
+  nothing,
+  read,
+  counted,
+  replaced,
+}
 use Rattle.nomos_grammar.specs.Grammar.{alternatives}
-use Rattle.nomos_grammar.specs.mirror.Table.{vanishes, has_empty, fitting, starts_within, is_in, rows_of, takes, pick, chosen}
+use Rattle.nomos_grammar.specs.mirror.Table.{
+  vanishes,
+  has_empty,
+  fitting,
+  starts_within,
+  is_in,
+  rows_of,
+  takes,
+  pick,
+  chosen,
+}
 use Rattle.nomos_grammar.specs.mirror.Stacks.{firsts, starts, may_vanish, next_in, follow, AreWithin, IsStack}
-use Rattle.nomos_grammar.proofs.TerminalLemmas.{and_first, and_second, all_in, all_in-sound, all_in-test, none_in-test, among_left, among_right, among_either}
-use Rattle.nomos_grammar.proofs.TableLemmas.{each_side-at, is_nil, begins_alike, all_begin_alike, vanishes_empty, all_vanish_empty, follows_well, taken_with, no_later, chooses_well, all_choose_well}
+use Rattle.nomos_grammar.proofs.TerminalLemmas.{
+  and_first,
+  and_second,
+  all_in,
+  all_in-sound,
+  all_in-test,
+  none_in-test,
+  among_left,
+  among_right,
+  among_either,
+}
+use Rattle.nomos_grammar.proofs.TableLemmas.{
+  each_side-at,
+  is_nil,
+  begins_alike,
+  all_begin_alike,
+  vanishes_empty,
+  all_vanish_empty,
+  follows_well,
+  taken_with,
+  no_later,
+  chooses_well,
+  all_choose_well,
+}
 
 -- what follows a negation
 pub or_second : (a b : Bool) → (not a || b) ≡ true → a ≡ true → b ≡ true
@@ -19,7 +85,8 @@ or_second true b h e = h
 or_second false b h e = cc
 
 -- parts that may vanish, before others
-vanish_parts : (side rest : List Part) → may_vanish (side ++ rest) ≡ true → (may_vanish side ≡ true) × (may_vanish rest ≡ true)
+vanish_parts : (side rest : List Part) → may_vanish (side ++ rest) ≡ true →
+    (may_vanish side ≡ true) × (may_vanish rest ≡ true)
 vanish_parts [] rest h = (refl, h)
 vanish_parts (part.Terminal t ∷ side) rest h = cc
 vanish_parts (part.Mark m ∷ side) rest h = vanish_parts side rest h
@@ -35,7 +102,8 @@ empty_among ([] ∷ sides) m = refl
 empty_among ((p ∷ side) ∷ sides) (later m) = empty_among sides m
 
 -- an alternative that may vanish is the empty one, and then the production vanishes
-pub vanishing_side : (n : Nonterminal) (side : List Part) → IsAmong side (alternatives n) → may_vanish side ≡ true → (side ≡ []) × (vanishes n ≡ true)
+pub vanishing_side : (n : Nonterminal) (side : List Part) → IsAmong side (alternatives n) →
+    may_vanish side ≡ true → (side ≡ []) × (vanishes n ≡ true)
 vanishing_side n [] m v = (refl, empty_among (alternatives n) m)
 vanishing_side n (p ∷ side) m v =
     let h = each_side-at vanishes_empty (alternatives n) (p ∷ side) (all_vanish_empty n) m in
@@ -44,7 +112,8 @@ vanishing_side n (p ∷ side) m v =
     cc
 
 -- parts that derive no token may vanish
-no_tokens : {parts : List Part} {events : List Event} → Derives parts events → tokens_in events ≡ [] → may_vanish parts ≡ true
+no_tokens : {parts : List Part} {events : List Event} → Derives parts events → tokens_in events ≡ [] →
+    may_vanish parts ≡ true
 no_tokens nothing e = refl
 no_tokens (read f d) e = cc
 no_tokens (counted d) e = no_tokens d e
@@ -53,7 +122,9 @@ no_tokens (replaced {n} {rest} side m d) e =
     rw ((vanishing_side n side m both.0).1) both.1
 
 -- what begins with a production, and then with parts that are joined
-start_cases : (v w : Bool) (own sides rests both : List Terminal) (t : Terminal) → (IsAmong t both → IsAmong t sides ⊎ ((w ≡ true) × IsAmong t rests)) → IsAmong t (own ++ (if v then both else [])) → IsAmong t (own ++ (if v then sides else [])) ⊎ (((v && w) ≡ true) × IsAmong t rests)
+start_cases : (v w : Bool) (own sides rests both : List Terminal) (t : Terminal) → (IsAmong t both →
+    IsAmong t sides ⊎ ((w ≡ true) × IsAmong t rests)) → IsAmong t (own ++ (if v then both else [])) →
+    IsAmong t (own ++ (if v then sides else [])) ⊎ (((v && w) ≡ true) × IsAmong t rests)
 start_cases true w own sides rests both t split m = elim (among_either t own both m) [
   | inl a ↦ inl (among_left t own sides a)
   | inr b ↦ elim (split b) [ inl a ↦ inl (among_right t own sides a) | inr r ↦ inr r ]
@@ -61,7 +132,8 @@ start_cases true w own sides rests both t split m = elim (among_either t own bot
 start_cases false w own sides rests both t split m = inl m
 
 -- how joined parts begin
-starts_joined : (side rest : List Part) (t : Terminal) → IsAmong t (starts (side ++ rest)) → IsAmong t (starts side) ⊎ ((may_vanish side ≡ true) × IsAmong t (starts rest))
+starts_joined : (side rest : List Part) (t : Terminal) → IsAmong t (starts (side ++ rest)) →
+    IsAmong t (starts side) ⊎ ((may_vanish side ≡ true) × IsAmong t (starts rest))
 starts_joined [] rest t m = inr (refl, m)
 starts_joined (part.Terminal x ∷ side) rest t m = inl m
 starts_joined (part.Mark x ∷ side) rest t m = starts_joined side rest t m
@@ -72,7 +144,8 @@ fits_itself terminal.Name = first
 fits_itself _ = first
 
 -- what fits a terminal is among the tokens that fit it
-fits_among : (t : Terminal) (lexeme : Lexeme) (x : Terminal) → Fits t lexeme → terminal_of lexeme ≡ Some x → IsAmong x (fitting t)
+fits_among : (t : Terminal) (lexeme : Lexeme) (x : Terminal) → Fits t lexeme → terminal_of lexeme ≡ Some x →
+    IsAmong x (fitting t)
 fits_among t lexeme x (inl same) e = let h : t ≡ x = cc in rw h (fits_itself x)
 fits_among t lexeme x (inr one) e =
     let h : terminal.One ≡ x = cc in
@@ -80,21 +153,24 @@ fits_among t lexeme x (inr one) e =
     rw (k, ← h) (later first)
 
 -- where a production may begin, and what stands behind it where it vanishes
-starts_production : (n : Nonterminal) (side rest : List Part) (t : Terminal) → IsAmong side (alternatives n) → IsAmong t (starts (side ++ rest)) → IsAmong t (starts (part.Nonterminal n ∷ rest))
+starts_production : (n : Nonterminal) (side rest : List Part) (t : Terminal) → IsAmong side (alternatives n) →
+    IsAmong t (starts (side ++ rest)) → IsAmong t (starts (part.Nonterminal n ∷ rest))
 starts_production n side rest t m s = elim (starts_joined side rest t s) [
   | inl a ↦ among_left t (firsts n) (if vanishes n then starts rest else []) (all_in-sound (starts side) (firsts n) (each_side-at (begins_alike n) (alternatives n) side (all_begin_alike n) m) t a)
   | inr b ↦ let v = (vanishing_side n side m b.0).1 in rw v (among_right t (firsts n) (starts rest) b.1)
 ]
 
 -- the first token that parts derive is one with which they may begin
-begins_with : {parts : List Part} {events : List Event} (t : Terminal) → Derives parts events → next_in events ≡ Some t → IsAmong t (starts parts)
+begins_with : {parts : List Part} {events : List Event} (t : Terminal) → Derives parts events →
+    next_in events ≡ Some t → IsAmong t (starts parts)
 begins_with t nothing e = cc
 begins_with t (read {t = u} {x} f d) e = fits_among u x.lexeme t f e
 begins_with t (counted d) e = begins_with t d e
 begins_with t (replaced {n} {rest} side m d) e = starts_production n side rest t m (begins_with t d e)
 
 -- only a bad byte is nothing to the grammar, and none is derived
-next_none : {parts : List Part} {events : List Event} → Derives parts events → next_in events ≡ None → tokens_in events ≡ []
+next_none : {parts : List Part} {events : List Event} → Derives parts events → next_in events ≡ None →
+    tokens_in events ≡ []
 next_none nothing e = refl
 next_none (read {t = u} {x} (inl f) d) e = cc
 next_none (read {t = u} {x} (inr f) d) e = let h : terminal_of x.lexeme ≡ Some terminal.One = f.1 in cc
@@ -109,7 +185,8 @@ if_false : {A : Type 0} (b : Bool) (x y : A) → b ≡ false → (if b then x el
 if_false true x y h = cc
 if_false false x y h = refl
 
-takes_some : (begins : List Terminal) (t : Terminal) (b : Bool) → not (is_nil begins) ≡ true → is_in t begins ≡ b → takes begins (Some t) ≡ b
+takes_some : (begins : List Terminal) (t : Terminal) (b : Bool) → not (is_nil begins) ≡ true →
+    is_in t begins ≡ b → takes begins (Some t) ≡ b
 takes_some [] t b h e = cc
 takes_some (x ∷ begins) t b h e = e
 
@@ -132,7 +209,8 @@ record ChoosesWell (n : Nonterminal) (s : List Part) (begins : List Terminal) (m
   apart : no_later begins n (rows_of more) ≡ true
   others : chooses_well n (rows_of more) ≡ true
 
-row_parts_of : (n : Nonterminal) (s : List Part) (begins : List Terminal) (more : List (List Part)) → (not (is_nil begins) && (not (may_vanish s) && (all_in (taken_with n s) begins && (no_later begins n (rows_of more) && chooses_well n (rows_of more))))) ≡ true → ChoosesWell n s begins more
+row_parts_of : (n : Nonterminal) (s : List Part) (begins : List Terminal) (more : List (List Part)) →
+    (not (is_nil begins) && (not (may_vanish s) && (all_in (taken_with n s) begins && (no_later begins n (rows_of more) && chooses_well n (rows_of more))))) ≡ true → ChoosesWell n s begins more
 row_parts_of n s begins more h =
     let h1 = and_second (not (is_nil begins)) (not (may_vanish s) && (all_in (taken_with n s) begins && (no_later begins n (rows_of more) && chooses_well n (rows_of more)))) h in
     let h2 = and_second (not (may_vanish s)) (all_in (taken_with n s) begins && (no_later begins n (rows_of more) && chooses_well n (rows_of more))) h1 in
@@ -145,12 +223,15 @@ row_parts_of n s begins more h =
       others = and_second (no_later begins n (rows_of more)) (chooses_well n (rows_of more)) h3;
     }
 
-row_parts : (n : Nonterminal) (s other : List Part) (sides : List (List Part)) → chooses_well n (rows_of (s ∷ other ∷ sides)) ≡ true → ChoosesWell n s (starts_within 60 s) (other ∷ sides)
+row_parts : (n : Nonterminal) (s other : List Part) (sides : List (List Part)) →
+    chooses_well n (rows_of (s ∷ other ∷ sides)) ≡ true → ChoosesWell n s (starts_within 60 s) (other ∷ sides)
 row_parts n s other [] h = row_parts_of n s (starts_within 60 s) (other ∷ []) h
 row_parts n s other (x ∷ sides) h = row_parts_of n s (starts_within 60 s) (other ∷ x ∷ sides) h
 
 -- the alternative that is taken with a token is the one that the token chooses
-chosen_row : (n : Nonterminal) (sides : List (List Part)) (side : List Part) (t : Terminal) → chooses_well n (rows_of sides) ≡ true → IsAmong side sides → IsAmong t (taken_with n side) → pick (rows_of sides) (Some t) ≡ side
+chosen_row : (n : Nonterminal) (sides : List (List Part)) (side : List Part) (t : Terminal) →
+    chooses_well n (rows_of sides) ≡ true → IsAmong side sides → IsAmong t (taken_with n side) →
+    pick (rows_of sides) (Some t) ≡ side
 chosen_row n [] side t h m a = elim m [ ]
 chosen_row n (s ∷ []) side t h first a = refl
 chosen_row n (s ∷ []) side t h (later m) a = elim m [ ]
@@ -167,7 +248,9 @@ chosen_row n (s ∷ other ∷ sides) side t h (later m) a =
     ∙ chosen_row n (other ∷ sides) side t p.others m a
 
 -- the alternative that may derive no token is the one that is chosen where no token comes
-vanish_row : (n : Nonterminal) (sides : List (List Part)) (side : List Part) → chooses_well n (rows_of sides) ≡ true → IsAmong side sides → may_vanish side ≡ true → pick (rows_of sides) None ≡ side
+vanish_row : (n : Nonterminal) (sides : List (List Part)) (side : List Part) →
+    chooses_well n (rows_of sides) ≡ true → IsAmong side sides → may_vanish side ≡ true →
+    pick (rows_of sides) None ≡ side
 vanish_row n [] side h m v = elim m [ ]
 vanish_row n (s ∷ []) side h first v = refl
 vanish_row n (s ∷ []) side h (later m) v = elim m [ ]
@@ -180,34 +263,41 @@ vanish_row n (s ∷ other ∷ sides) side h (later m) v =
     if_false (takes (starts_within 60 s) None) s (pick (rows_of (other ∷ sides)) None) (takes_none (starts_within 60 s) p.solid)
     ∙ vanish_row n (other ∷ sides) side p.others m v
 
-if_among : (b : Bool) (s side : List Part) (sides : List (List Part)) → IsAmong side sides → IsAmong (if b then s else side) (s ∷ sides)
+if_among : (b : Bool) (s side : List Part) (sides : List (List Part)) → IsAmong side sides →
+    IsAmong (if b then s else side) (s ∷ sides)
 if_among true s side sides m = first
 if_among false s side sides m = later m
 
 -- what is chosen is an alternative
-pub pick_among : (n : Nonterminal) (sides : List (List Part)) (next : Option Terminal) → chooses_well n (rows_of sides) ≡ true → IsAmong (pick (rows_of sides) next) sides
+pub pick_among : (n : Nonterminal) (sides : List (List Part)) (next : Option Terminal) →
+    chooses_well n (rows_of sides) ≡ true → IsAmong (pick (rows_of sides) next) sides
 pick_among n [] next h = cc
 pick_among n (s ∷ []) next h = first
 pick_among n (s ∷ other ∷ sides) next h =
     if_among (takes (starts_within 60 s) next) s (pick (rows_of (other ∷ sides)) next) (other ∷ sides)
     (pick_among n (other ∷ sides) next (row_parts n s other sides h).others)
 
-taken_where_begins : (n : Nonterminal) (side : List Part) (t : Terminal) → IsAmong t (starts side) → IsAmong t (taken_with n side)
+taken_where_begins : (n : Nonterminal) (side : List Part) (t : Terminal) → IsAmong t (starts side) →
+    IsAmong t (taken_with n side)
 taken_where_begins n [] t a = elim a [ ]
 taken_where_begins n (p ∷ side) t a = a
 
-taken_where_vanishes : (n : Nonterminal) (side : List Part) (t : Terminal) → side ≡ [] → IsAmong t (follow n) → IsAmong t (taken_with n side)
+taken_where_vanishes : (n : Nonterminal) (side : List Part) (t : Terminal) → side ≡ [] → IsAmong t (follow n) →
+    IsAmong t (taken_with n side)
 taken_where_vanishes n side t e a = rw e a
 
 -- with which token an alternative is taken
-taken_side : (n : Nonterminal) (side rest : List Part) (t : Terminal) → IsAmong side (alternatives n) → AreWithin (starts rest) (follow n) → IsAmong t (starts (side ++ rest)) → IsAmong t (taken_with n side)
+taken_side : (n : Nonterminal) (side rest : List Part) (t : Terminal) → IsAmong side (alternatives n) →
+    AreWithin (starts rest) (follow n) → IsAmong t (starts (side ++ rest)) → IsAmong t (taken_with n side)
 taken_side n side rest t m behind a = elim (starts_joined side rest t a) [
   | inl s ↦ taken_where_begins n side t s
   | inr v ↦ taken_where_vanishes n side t ((vanishing_side n side m v.0).0) (behind t v.1)
 ]
 
 -- an alternative of which the events derive is the one that their first token chooses
-pub side_chosen : (n : Nonterminal) (side rest : List Part) (events : List Event) (next : Option Terminal) → next_in events ≡ next → AreWithin (starts rest) (follow n) → IsAmong side (alternatives n) → Derives (side ++ rest) events → chosen n next ≡ side
+pub side_chosen : (n : Nonterminal) (side rest : List Part) (events : List Event) (next : Option Terminal) →
+    next_in events ≡ next → AreWithin (starts rest) (follow n) → IsAmong side (alternatives n) →
+    Derives (side ++ rest) events → chosen n next ≡ side
 unfolding chosen
 side_chosen n side rest events None e behind m d =
     vanish_row n (alternatives n) side (all_choose_well n) m ((vanish_parts side rest (no_tokens d (next_none d e))).0)
@@ -215,7 +305,8 @@ side_chosen n side rest events (Some t) e behind m d =
     chosen_row n (alternatives n) side t (all_choose_well n) m (taken_side n side rest t m behind (begins_with t d e))
 
 -- the alternative keeps what may stand behind each production
-pub stack_joined : (n : Nonterminal) (side rest : List Part) → follows_well n side ≡ true → AreWithin (starts rest) (follow n) → IsStack rest → IsStack (side ++ rest)
+pub stack_joined : (n : Nonterminal) (side rest : List Part) → follows_well n side ≡ true →
+    AreWithin (starts rest) (follow n) → IsStack rest → IsStack (side ++ rest)
 stack_joined n [] rest h behind s = s
 stack_joined n (part.Terminal t ∷ side) rest h behind s = stack_joined n side rest h behind s
 stack_joined n (part.Mark m ∷ side) rest h behind s = stack_joined n side rest h behind s

@@ -1,5 +1,27 @@
 -- Where a text may end.
-use Rattle.std.proofs.Common.{◌≡◌, Bool, true, false, IsTrue, ◌↔◌, List, [], ◌∷◌, ◌++◌, Option, Some, None, is_some, not, refl, sym, ap, subst, ◌∙◌, append-nil}
+use Rattle.std.proofs.Common.{
+  ◌≡◌,
+  Bool,
+  true,
+  false,
+  IsTrue,
+  ◌↔◌,
+  List,
+  [],
+  ◌∷◌,
+  ◌++◌,
+  Option,
+  Some,
+  None,
+  is_some,
+  not,
+  refl,
+  sym,
+  ap,
+  subst,
+  ◌∙◌,
+  append-nil,
+}
 use Rattle.nomos_syntax.specs.Lexeme.{Placed}
 use Rattle.nomos_grammar.specs.declared.part.Terminal.{Terminal}
 use Rattle.nomos_grammar.specs.declared.part.Mark.{Mark}
@@ -17,7 +39,8 @@ next_of_none [] e = refl
 next_of_none (token x ∷ events) e = cc
 next_of_none (mark m ∷ events) e = next_of_none events e
 
-a_token : {t : Terminal} {rest : List Part} {events : List Event} → Derives (part.Terminal t ∷ rest) events → tokens_in events ≡ [] → ⊥
+a_token : {t : Terminal} {rest : List Part} {events : List Event} → Derives (part.Terminal t ∷ rest) events →
+    tokens_in events ≡ [] → ⊥
 a_token (read f d) e = cc
 
 -- nothing has to follow

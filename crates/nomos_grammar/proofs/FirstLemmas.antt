@@ -1,5 +1,30 @@
 -- The first offence among tokens.
-use Rattle.std.proofs.Common.{◌≡◌, ℕ, suc, ◌+◌, ◌<◌, List, [], ◌∷◌, ◌++◌, length, take, drop, get_or, map, Result, Ok, Err, inl, sym, ap, subst, ◌∙◌, append-nil, append_assoc}
+use Rattle.std.proofs.Common.{
+  ◌≡◌,
+  ℕ,
+  suc,
+  ◌+◌,
+  ◌<◌,
+  List,
+  [],
+  ◌∷◌,
+  ◌++◌,
+  length,
+  take,
+  drop,
+  get_or,
+  map,
+  Result,
+  Ok,
+  Err,
+  inl,
+  sym,
+  ap,
+  subst,
+  ◌∙◌,
+  append-nil,
+  append_assoc,
+}
 use Rattle.std.specs.Result.{IsErrAnd}
 use Rattle.std.proofs.lemmas.List.{take_more, map-append, take-append-drop}
 use Rattle.std.proofs.Math.Seq.{drop-cons}
@@ -12,23 +37,27 @@ use Rattle.nomos_grammar.specs.mirror.Reading.{BreaksBy}
 use Rattle.nomos_grammar.specs.mirror.Readers.{ReadsAs}
 
 -- one token more keeps to all rules
-pub keep_more : (behind front : List Placed) (x : Placed) → AllKeep behind front → KeepsAll (behind ++ front) x rules → AllKeep behind (front ++ x ∷ [])
+pub keep_more : (behind front : List Placed) (x : Placed) → AllKeep behind front →
+    KeepsAll (behind ++ front) x rules → AllKeep behind (front ++ x ∷ [])
 keep_more behind [] x kept keeps = (subst (λ (ts : List Placed). KeepsAll ts x rules) (append-nil behind) keeps, tt)
 keep_more behind (y ∷ front) x kept keeps =
     (kept.0, keep_more (behind ++ y ∷ []) front x kept.1 (subst (λ (ts : List Placed). KeepsAll ts x rules) (sym (append_assoc behind (y ∷ []) front)) keeps))
 
 -- the items so far, and one more
-pub map_more : {A : Type 0} (f : A → Placed) (xs : List A) (i : ℕ) (d : A) → i < length xs → map f (take (i + 1) xs) ≡ map f (take i xs) ++ f (get_or xs i d) ∷ []
+pub map_more : {A : Type 0} (f : A → Placed) (xs : List A) (i : ℕ) (d : A) → i < length xs →
+    map f (take (i + 1) xs) ≡ map f (take i xs) ++ f (get_or xs i d) ∷ []
 map_more f xs i d h = ap (map f) (take_more xs i d h) ∙ map-append f (take i xs) (get_or xs i d ∷ [])
 
 -- the items so far, one more, and those behind it
-pub map_split : {A : Type 0} (f : A → Placed) (xs : List A) (i : ℕ) (d : A) → i < length xs → map f (take i xs) ++ f (get_or xs i d) ∷ map f (drop (suc i) xs) ≡ map f xs
+pub map_split : {A : Type 0} (f : A → Placed) (xs : List A) (i : ℕ) (d : A) → i < length xs →
+    map f (take i xs) ++ f (get_or xs i d) ∷ map f (drop (suc i) xs) ≡ map f xs
 map_split f xs i d h =
     let cut : drop i xs ≡ get_or xs i d ∷ drop (suc i) xs = drop-cons xs i d h in
     ap (λ more. map f (take i xs) ++ map f more) (sym cut) ∙ (sym (map-append f (take i xs) (drop i xs)) ∙ ap (map f) (take-append-drop i xs))
 
 -- the error of the token that breaks a rule first is answered
-pub offends_by : (tokens front after : List Placed) (x : Placed) (error : GrammarError) → front ++ x ∷ after ≡ tokens → AllKeep [] front → BreaksBy front x error → Offends tokens error
+pub offends_by : (tokens front after : List Placed) (x : Placed) (error : GrammarError) →
+    front ++ x ∷ after ≡ tokens → AllKeep [] front → BreaksBy front x error → Offends tokens error
 offends_by tokens front after x error stands kept b = (
   front,
   x,

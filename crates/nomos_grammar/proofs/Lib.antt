@@ -12,3 +12,4 @@ pub mod OutcomeLemmas
 pub mod EndLemmas
 pub mod FirstLemmas
 pub mod OffenceLaws
+pub mod LimitLaws

@@ -1,5 +1,28 @@
 -- The numbers among the tokens of a text are numerals.
-use Rattle.std.proofs.Common.{◌≡◌, ℕ, suc, ◌+◌, ◌<◌, Bool, true, false, List, [], ◌∷◌, take, Option, Some, None, IfSome, All, inl, inr, arith, refl, if◌then◌else◌}
+use Rattle.std.proofs.Common.{
+  ◌≡◌,
+  ℕ,
+  suc,
+  ◌+◌,
+  ◌<◌,
+  Bool,
+  true,
+  false,
+  List,
+  [],
+  ◌∷◌,
+  take,
+  Option,
+  Some,
+  None,
+  IfSome,
+  All,
+  inl,
+  inr,
+  arith,
+  refl,
+  if◌then◌else◌,
+}
 use Rattle.std.specs.List.{prefix_len}
 use Rattle.std.specs.Prelude.{nat_le}
 use Rattle.std.specs.Char.{digit_value}
@@ -10,7 +33,23 @@ use Rattle.nomos_ir.specs.declared.word.Word.{Word}
 use Rattle.nomos_ir.specs.Name.{is_letter, is_digit, is_word_byte}
 use Rattle.nomos_ir.specs.Word.{reserved_word}
 use Rattle.nomos_syntax.specs.declared.symbol.Symbol.{Symbol}
-use Rattle.nomos_syntax.specs.Scan.{Piece, is_blank, is_comment_byte, begins_comment, word_lexeme, run_of, word_piece, number_piece, one_byte_piece, two_byte_piece, longest_symbol, single_symbol, symbol_piece, piece_at, tokens_of}
+use Rattle.nomos_syntax.specs.Scan.{
+  Piece,
+  is_blank,
+  is_comment_byte,
+  begins_comment,
+  word_lexeme,
+  run_of,
+  word_piece,
+  number_piece,
+  one_byte_piece,
+  two_byte_piece,
+  longest_symbol,
+  single_symbol,
+  symbol_piece,
+  piece_at,
+  tokens_of,
+}
 use Rattle.nomos_syntax.proofs.NameLaws.{All-tokens_from}
 use Rattle.nomos_grammar.specs.mirror.Reading.{IsWritten}
 
@@ -28,7 +67,8 @@ front_digits (b ∷ bytes) = let more : 1 + prefix_len is_digit bytes ≡ suc (p
 ]
 
 -- a digit and the digits after it are a numeral
-digits_are_numeral : (b : ℕ) (bytes : List ℕ) → is_digit b ≡ true → IsNumeral 10 (b ∷ take (prefix_len is_digit bytes) bytes)
+digits_are_numeral : (b : ℕ) (bytes : List ℕ) → is_digit b ≡ true →
+    IsNumeral 10 (b ∷ take (prefix_len is_digit bytes) bytes)
 digits_are_numeral b bytes digit = (omega arith, (digit_below_ten b digit, front_digits bytes))
 
 -- what the piece says is written so

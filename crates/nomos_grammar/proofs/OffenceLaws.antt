@@ -1,18 +1,49 @@
 -- For the tokens of a text there is one answer.
-use Rattle.std.proofs.Common.{◌≡◌, ℕ, List, [], ◌∷◌, ◌++◌, Ok, Err, ◌⊎◌, inl, inr, refl, sym, ap, subst, ◌∙◌, append-nil, append_assoc}
+use Rattle.std.proofs.Common.{
+  ◌≡◌,
+  ℕ,
+  List,
+  [],
+  ◌∷◌,
+  ◌++◌,
+  Ok,
+  Err,
+  ◌⊎◌,
+  inl,
+  inr,
+  refl,
+  sym,
+  ap,
+  subst,
+  ◌∙◌,
+  append-nil,
+  append_assoc,
+}
 use Rattle.nomos_syntax.specs.Lexeme.{Placed}
 use Rattle.nomos_grammar.specs.declared.offence.GrammarError.{GrammarError}
 use Rattle.nomos_grammar.specs.declared.offence.GrammarError.TheVariants.{Syntax, Limit, NoMemory}
-use Rattle.nomos_grammar.specs.Offence.{Rule, rules, Keeps, KeepsAll, AllKeep, IsFirstOffence, error_of, Offends, Answers}
+use Rattle.nomos_grammar.specs.Offence.{
+  Rule,
+  rules,
+  Keeps,
+  KeepsAll,
+  AllKeep,
+  IsFirstOffence,
+  error_of,
+  Offends,
+  Answers,
+}
 
 -- a token of those that keep to all rules
-kept_at : (behind front after : List Placed) (x : Placed) → AllKeep behind (front ++ x ∷ after) → KeepsAll (behind ++ front) x rules
+pub kept_at : (behind front after : List Placed) (x : Placed) → AllKeep behind (front ++ x ∷ after) →
+    KeepsAll (behind ++ front) x rules
 kept_at behind [] after x kept = subst (λ (ts : List Placed). KeepsAll ts x rules) (sym (append-nil behind)) kept.0
 kept_at behind (y ∷ front) after x kept =
     subst (λ (ts : List Placed). KeepsAll ts x rules) (append_assoc behind (y ∷ []) front) (kept_at (behind ++ y ∷ []) front after x kept.1)
 
 -- a rule of those that are kept
-kept_rule : (front : List Placed) (x : Placed) (before after : List Rule) (rule : Rule) → KeepsAll front x (before ++ rule ∷ after) → Keeps front x rule
+kept_rule : (front : List Placed) (x : Placed) (before after : List Rule) (rule : Rule) →
+    KeepsAll front x (before ++ rule ∷ after) → Keeps front x rule
 kept_rule front x [] after rule kept = kept.0
 kept_rule front x (r ∷ before) after rule kept = kept_rule front x before after rule kept.1
 
@@ -35,7 +66,8 @@ cuts (z ∷ a) more (w ∷ b) others x y e =
     ]
 
 -- one token is the first offence, and by one rule
-rule_once : (tokens front : List Placed) (x : Placed) (rule other : Rule) → IsFirstOffence tokens front x rule → IsFirstOffence tokens front x other → rule ≡ other
+rule_once : (tokens front : List Placed) (x : Placed) (rule other : Rule) → IsFirstOffence tokens front x rule →
+    IsFirstOffence tokens front x other → rule ≡ other
 unfolding Cuts
 rule_once tokens front x rule other a b = elim (cuts a.kept_rules a.other_rules b.kept_rules b.other_rules rule other (a.in_order ∙ sym b.in_order)) [
   | inl s ↦ s.1
@@ -44,10 +76,12 @@ rule_once tokens front x rule other a b = elim (cuts a.kept_rules a.other_rules 
 ]
 
 -- a token that breaks a rule is none of those that keep to all
-rule_kept : (front : List Placed) (x : Placed) (kept_rules other_rules : List Rule) (rule : Rule) → kept_rules ++ rule ∷ other_rules ≡ rules → KeepsAll front x rules → Keeps front x rule
+rule_kept : (front : List Placed) (x : Placed) (kept_rules other_rules : List Rule) (rule : Rule) →
+    kept_rules ++ rule ∷ other_rules ≡ rules → KeepsAll front x rules → Keeps front x rule
 rule_kept front x kept_rules other_rules rule e k = kept_rule front x kept_rules other_rules rule (subst (λ (rs : List Rule). KeepsAll front x rs) (sym e) k)
 
-no_offence : (tokens front : List Placed) (x : Placed) (rule : Rule) → AllKeep [] tokens → IsFirstOffence tokens front x rule → ⊥
+no_offence : (tokens front : List Placed) (x : Placed) (rule : Rule) → AllKeep [] tokens →
+    IsFirstOffence tokens front x rule → ⊥
 no_offence tokens front x rule kept a =
     let all : AllKeep [] (front ++ x ∷ a.after) = subst (λ (ts : List Placed). AllKeep [] ts) (sym a.stands) kept in
     a.broken (rule_kept front x a.kept_rules a.other_rules rule a.in_order (kept_at [] front a.after x all))
@@ -70,7 +104,8 @@ never_kept : (tokens : List Placed) (e : GrammarError) → AllKeep [] tokens →
 never_kept tokens e kept (front, x, rule, a, i) = no_offence tokens front x rule kept a
 
 -- Two answers that are no want of memory are the same.
-pub error_once : (T : Type 0) (tokens : List Placed) (size : ℕ) (e f : GrammarError) → (e ≡ NoMemory → ⊥) → (f ≡ NoMemory → ⊥) → Answers {T = T} tokens size (Err e) → Answers {T = T} tokens size (Err f) → e ≡ f
+pub error_once : (T : Type 0) (tokens : List Placed) (size : ℕ) (e f : GrammarError) → (e ≡ NoMemory → ⊥) →
+    (f ≡ NoMemory → ⊥) → Answers {T = T} tokens size (Err e) → Answers {T = T} tokens size (Err f) → e ≡ f
 error_once T tokens size NoMemory f h k a b = absurd (h refl)
 error_once T tokens size (Limit w at) NoMemory h k a b = absurd (k refl)
 error_once T tokens size (Syntax at) NoMemory h k a b = absurd (k refl)
@@ -85,7 +120,8 @@ error_once T tokens size (Syntax at) (Syntax to) h k (inr a) (inl b) = absurd (n
 error_once T tokens size (Syntax at) (Syntax to) h k (inr a) (inr b) = ap (λ n. Syntax n) (a.1 ∙ sym b.1)
 
 -- tokens that are passed are refused by no error
-pub passed_once : {T : Type 0} (tokens : List Placed) (size : ℕ) (x : T) (e : GrammarError) → (e ≡ NoMemory → ⊥) → Answers tokens size (Ok x) → Answers {T = T} tokens size (Err e) → ⊥
+pub passed_once : {T : Type 0} (tokens : List Placed) (size : ℕ) (x : T) (e : GrammarError) → (e ≡ NoMemory →
+    ⊥) → Answers tokens size (Ok x) → Answers {T = T} tokens size (Err e) → ⊥
 passed_once tokens size x NoMemory h a b = h refl
 passed_once tokens size x (Limit w at) h a b = never_kept tokens (Limit w at) a.0 b
 passed_once tokens size x (Syntax at) h a (inl b) = never_kept tokens (Syntax at) a.0 b

@@ -1,5 +1,25 @@
 -- Any parts derive some events.
-use Rattle.std.proofs.Common.{◌≡◌, ℕ, zero, suc, true, false, List, [], ◌∷◌, ◌++◌, Option, Some, None, is_some, option_map, codes, inl, refl, append_assoc}
+use Rattle.std.proofs.Common.{
+  ◌≡◌,
+  ℕ,
+  zero,
+  suc,
+  true,
+  false,
+  List,
+  [],
+  ◌∷◌,
+  ◌++◌,
+  Option,
+  Some,
+  None,
+  is_some,
+  option_map,
+  codes,
+  inl,
+  refl,
+  append_assoc,
+}
 use Rattle.nomos_syntax.specs.Lexeme.{Lexeme, name, reserved, number, symbol, Placed}
 use Rattle.nomos_grammar.specs.declared.part.Terminal.{Terminal}
 use Rattle.nomos_grammar.specs.declared.part.Terminal.TheVariants as terminal
@@ -7,12 +27,26 @@ use Rattle.nomos_grammar.specs.declared.part.Nonterminal.{Nonterminal}
 use Rattle.nomos_grammar.specs.declared.part.Nonterminal.TheVariants as n
 use Rattle.nomos_grammar.specs.declared.part.Part.{Part}
 use Rattle.nomos_grammar.specs.declared.part.Part.TheVariants as part
-use Rattle.nomos_grammar.specs.Derivation.{Fits, Event, token, mark, IsAmong, first, later, Derives, nothing, read, counted, replaced}
+use Rattle.nomos_grammar.specs.Derivation.{
+  Fits,
+  Event,
+  token,
+  mark,
+  IsAmong,
+  first,
+  later,
+  Derives,
+  nothing,
+  read,
+  counted,
+  replaced,
+}
 use Rattle.nomos_grammar.specs.Grammar.{alternatives}
 use Rattle.nomos_grammar.proofs.TableLemmas.{is_nil}
 
 -- joined parts derive joined events
-pub derives_joined : {parts more : List Part} {events others : List Event} → Derives parts events → Derives more others → Derives (parts ++ more) (events ++ others)
+pub derives_joined : {parts more : List Part} {events others : List Event} → Derives parts events →
+    Derives more others → Derives (parts ++ more) (events ++ others)
 derives_joined nothing b = b
 derives_joined (read f d) b = read f (derives_joined d b)
 derives_joined (counted d) b = counted (derives_joined d b)

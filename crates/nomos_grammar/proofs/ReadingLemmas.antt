@@ -6,7 +6,15 @@ use Rattle.nomos_grammar.specs.declared.part.Mark.{Mark}
 use Rattle.nomos_grammar.specs.declared.part.Mark.TheVariants as mark
 use Rattle.nomos_grammar.specs.declared.part.Part.{Part}
 use Rattle.nomos_grammar.specs.declared.part.Part.TheVariants as part
-use Rattle.nomos_grammar.specs.Counting.{Counts, in_terms, one_operator_more, outer_terms, after_mark, after_token, counts_from}
+use Rattle.nomos_grammar.specs.Counting.{
+  Counts,
+  in_terms,
+  one_operator_more,
+  outer_terms,
+  after_mark,
+  after_token,
+  counts_from,
+}
 use Rattle.nomos_grammar.specs.Derivation.{Event, token, mark as marked, tokens_in, Derives, counted, replaced}
 use Rattle.nomos_grammar.specs.mirror.Table.{chosen}
 use Rattle.nomos_grammar.specs.mirror.Stacks.{next_in, rises, distance}
@@ -15,16 +23,19 @@ use Rattle.nomos_grammar.proofs.GrammarLaws.{chosen_among, chosen_derives, stack
 use Rattle.nomos_grammar.proofs.DistanceLemmas.{distance_replaced, low_replaced}
 
 -- one mark more
-events_push : (marks : List Mark) (m : Mark) (events : List Event) → events_of (marks ++ m ∷ []) ++ events ≡ events_of marks ++ marked m ∷ events
+events_push : (marks : List Mark) (m : Mark) (events : List Event) →
+    events_of (marks ++ m ∷ []) ++ events ≡ events_of marks ++ marked m ∷ events
 events_push [] m events = refl
 events_push (x ∷ marks) m events = ap (λ more. marked x ∷ more) (events_push marks m events)
 
-counts_push : (c : Counts) (marks : List Mark) (m : Mark) → counts_from c (events_of (marks ++ m ∷ [])) ≡ after_mark m (counts_from c (events_of marks))
+counts_push : (c : Counts) (marks : List Mark) (m : Mark) →
+    counts_from c (events_of (marks ++ m ∷ [])) ≡ after_mark m (counts_from c (events_of marks))
 counts_push c [] m = refl
 counts_push c (x ∷ marks) m = counts_push (after_mark x c) marks m
 
 -- what counts behind events that are joined
-pub counts_joined : (c : Counts) (events more : List Event) → counts_from c (events ++ more) ≡ counts_from (counts_from c events) more
+pub counts_joined : (c : Counts) (events more : List Event) →
+    counts_from c (events ++ more) ≡ counts_from (counts_from c events) more
 counts_joined c [] more = refl
 counts_joined c (token x ∷ events) more = counts_joined (after_token c) events more
 counts_joined c (marked m ∷ events) more = counts_joined (after_mark m c) events more
@@ -65,7 +76,8 @@ room_less : (c : Counts) (d e : ℕ) → e ≤ d → HasRoom c d → HasRoom c e
 room_less c d e h r = record { nested = omega (arith, h, r.nested); nodes = omega (arith, h, r.nodes); before = omega (arith, h, r.before); stars = omega (arith, h, r.stars) }
 
 -- the way begins
-pub leads_start : (next : Option Terminal) (parts : List Part) (c : Counts) → IsReady parts c → Leads next parts c [] parts c
+pub leads_start : (next : Option Terminal) (parts : List Part) (c : Counts) → IsReady parts c →
+    Leads next parts c [] parts c
 leads_start next parts c ready = record {
   counted = refl;
   sound = λ events d. d;
@@ -74,7 +86,8 @@ leads_start next parts c ready = record {
 }
 
 -- a mark is counted
-behind_mark : {m : Mark} {rest : List Part} {events : List Event} → Derives (part.Mark m ∷ rest) events → (more : List Event) × (events ≡ marked m ∷ more) × Derives rest more
+behind_mark : {m : Mark} {rest : List Part} {events : List Event} → Derives (part.Mark m ∷ rest) events →
+    (more : List Event) × (events ≡ marked m ∷ more) × Derives rest more
 behind_mark (counted {events = more} d) = (more, refl, d)
 
 pub leads_mark : (next : Option Terminal) (parts : List Part) (c : Counts) (marks : List Mark) (m : Mark) (rest : List Part) (d : Counts) → Leads next parts c marks (part.Mark m ∷ rest) d → Leads next parts c (marks ++ m ∷ []) rest (after_mark m d)

@@ -6,7 +6,18 @@ use Rattle.nomos_grammar.specs.declared.part.Mark.{Mark}
 use Rattle.nomos_grammar.specs.declared.part.Part.{Part}
 use Rattle.nomos_grammar.specs.declared.part.Part.TheVariants as part
 use Rattle.nomos_grammar.specs.Counting.{Counts, nothing_counted, after_token, counts_from, counts}
-use Rattle.nomos_grammar.specs.Derivation.{terminal_of, Fits, Event, token, mark, tokens_in, Derives, nothing, read, file}
+use Rattle.nomos_grammar.specs.Derivation.{
+  terminal_of,
+  Fits,
+  Event,
+  token,
+  mark,
+  tokens_in,
+  Derives,
+  nothing,
+  read,
+  file,
+}
 use Rattle.nomos_grammar.specs.Offence.{MayBecome, MayStand}
 use Rattle.nomos_grammar.specs.mirror.Stacks.{next_in}
 use Rattle.nomos_grammar.specs.mirror.Reading.{events_of, Leads, HasRead}
@@ -18,7 +29,8 @@ same_behind [] a b e = e
 same_behind (x ∷ front) a b e = let f : front ++ a ≡ front ++ b = cc in same_behind front a b f
 
 -- events are cut at one place before a token, if as many tokens stand there
-cut_once : (earlier later others more : List Event) (x : Placed) → earlier ++ token x ∷ later ≡ others ++ token x ∷ more → tokens_in earlier ≡ tokens_in others → earlier ≡ others
+cut_once : (earlier later others more : List Event) (x : Placed) →
+    earlier ++ token x ∷ later ≡ others ++ token x ∷ more → tokens_in earlier ≡ tokens_in others → earlier ≡ others
 cut_once [] later [] more x e t = refl
 cut_once [] later (token y ∷ others) more x e t = cc
 cut_once [] later (mark m ∷ others) more x e t = cc
@@ -36,7 +48,8 @@ cut_once (mark m ∷ earlier) later (mark k ∷ others) more x e t =
     let same = cut_once earlier later others more x f t in
     cc
 
-next_of_tokens : (events : List Event) (x : Placed) (others : List Placed) → tokens_in events ≡ x ∷ others → next_in events ≡ terminal_of x.lexeme
+next_of_tokens : (events : List Event) (x : Placed) (others : List Placed) → tokens_in events ≡ x ∷ others →
+    next_in events ≡ terminal_of x.lexeme
 next_of_tokens [] x others e = cc
 next_of_tokens (token y ∷ events) x others e = let same : y ≡ x = cc in ap (λ (z : Placed). terminal_of z.lexeme) same
 next_of_tokens (mark m ∷ events) x others e = next_of_tokens events x others e
@@ -47,7 +60,9 @@ pub record Comes (front : List Placed) (x : Placed) (rest : List Part) (d : Coun
   pub tokens : tokens_in earlier ≡ front
   pub counted : counts earlier ≡ d
   pub sound : (more : List Event) → Derives rest more → Derives file (earlier ++ more)
-  pub complete : (all : List Event) (others : List Placed) → Derives file all → tokens_in all ≡ front ++ x ∷ others → (more : List Event) × (all ≡ earlier ++ more) × Derives rest more × (tokens_in more ≡ x ∷ others)
+  pub complete : (all : List Event) (others : List Placed) → Derives file all →
+      tokens_in all ≡ front ++ x ∷ others →
+      (more : List Event) × (all ≡ earlier ++ more) × Derives rest more × (tokens_in more ≡ x ∷ others)
 
 completes : (front : List Placed) (parts rest : List Part) (c d : Counts) (next : Option Terminal) (marks : List Mark) (x : Placed) (has : HasRead front parts c) → Leads next parts c marks rest d → terminal_of x.lexeme ≡ next → (all : List Event) (others : List Placed) → Derives file all → tokens_in all ≡ front ++ x ∷ others → (more : List Event) × (all ≡ (has.events ++ events_of marks) ++ more) × Derives rest more × (tokens_in more ≡ x ∷ others)
 completes front parts rest c d next marks x has way sees all others derived e =
@@ -77,7 +92,8 @@ record Reads (t : Terminal) (rest : List Part) (events : List Event) (x : Placed
   fits : Fits t x.lexeme
   derived : Derives rest more
 
-reads : {t : Terminal} {rest : List Part} {events : List Event} (x : Placed) (others : List Placed) → Derives (part.Terminal t ∷ rest) events → tokens_in events ≡ x ∷ others → Reads t rest events x
+reads : {t : Terminal} {rest : List Part} {events : List Event} (x : Placed) (others : List Placed) →
+    Derives (part.Terminal t ∷ rest) events → tokens_in events ≡ x ∷ others → Reads t rest events x
 reads {t} x others (read {x = y} {events = more} f d) e =
     let same : y ≡ x = cc in
     record {
@@ -91,12 +107,15 @@ reads {t} x others (read {x = y} {events = more} f d) e =
 pub stands : (front : List Placed) (x : Placed) (t : Terminal) (rest : List Part) (d : Counts) (c : Comes front x (part.Terminal t ∷ rest) d) → Fits t x.lexeme → (later : List Event) × Derives file (c.earlier ++ token x ∷ later)
 stands front x t rest d c f = let p = productive rest in (p.0, c.sound (token x ∷ p.0) (read f p.1))
 
-pub may_stand : (P : Counts → Type 0) (front : List Placed) (x : Placed) (t : Terminal) (rest : List Part) (d : Counts) → Comes front x (part.Terminal t ∷ rest) d → Fits t x.lexeme → P d → MayStand P front x
+pub may_stand : (P : Counts →
+    Type 0) (front : List Placed) (x : Placed) (t : Terminal) (rest : List Part) (d : Counts) →
+    Comes front x (part.Terminal t ∷ rest) d → Fits t x.lexeme → P d → MayStand P front x
 may_stand P front x t rest d c f p =
     let s = stands front x t rest d c f in
     (c.earlier, s.0, s.1, c.tokens, subst P (sym c.counted) p)
 
-pub may_become : (front : List Placed) (x : Placed) (t : Terminal) (rest : List Part) (d : Counts) → Comes front x (part.Terminal t ∷ rest) d → Fits t x.lexeme → MayBecome (front ++ x ∷ [])
+pub may_become : (front : List Placed) (x : Placed) (t : Terminal) (rest : List Part) (d : Counts) →
+    Comes front x (part.Terminal t ∷ rest) d → Fits t x.lexeme → MayBecome (front ++ x ∷ [])
 may_become front x t rest d c f =
     let s = stands front x t rest d c f in
     let whole : tokens_in (c.earlier ++ token x ∷ s.0) ≡ (front ++ x ∷ []) ++ tokens_in s.0 =
@@ -104,7 +123,9 @@ may_become front x t rest d c f =
     (tokens_in s.0, (c.earlier ++ token x ∷ s.0, s.1, whole))
 
 -- wherever it stands, this counts at it
-pub stands_so : (P : Counts → Type 0) (front : List Placed) (x : Placed) (t : Terminal) (rest : List Part) (d : Counts) → Comes front x (part.Terminal t ∷ rest) d → MayStand P front x → P d
+pub stands_so : (P : Counts →
+    Type 0) (front : List Placed) (x : Placed) (t : Terminal) (rest : List Part) (d : Counts) →
+    Comes front x (part.Terminal t ∷ rest) d → MayStand P front x → P d
 stands_so P front x t rest d c s =
     let whole : tokens_in (s.0 ++ token x ∷ s.1) ≡ front ++ x ∷ tokens_in s.1 = tokens_joined s.0 (token x ∷ s.1) ∙ ap (λ ts. ts ++ x ∷ tokens_in s.1) s.3 in
     let found = c.complete (s.0 ++ token x ∷ s.1) (tokens_in s.1) s.2 whole in
@@ -114,7 +135,8 @@ stands_so P front x t rest d c s =
     subst P (ap counts same ∙ c.counted) s.4
 
 -- a token that does not fit may not stand there
-pub never_fits : (front : List Placed) (x : Placed) (t : Terminal) (rest : List Part) (d : Counts) → Comes front x (part.Terminal t ∷ rest) d → ¬ Fits t x.lexeme → ¬ MayBecome (front ++ x ∷ [])
+pub never_fits : (front : List Placed) (x : Placed) (t : Terminal) (rest : List Part) (d : Counts) →
+    Comes front x (part.Terminal t ∷ rest) d → ¬ Fits t x.lexeme → ¬ MayBecome (front ++ x ∷ [])
 never_fits front x t rest d c misfit m =
     let whole : tokens_in m.1.0 ≡ front ++ x ∷ m.0 = m.1.2 ∙ append_assoc front (x ∷ []) m.0 in
     let found = c.complete m.1.0 m.0 m.1.1 whole in
@@ -134,7 +156,8 @@ never_more front x d c m =
     cc
 
 -- the token is read
-pub read_on : (front : List Placed) (x : Placed) (t : Terminal) (rest : List Part) (d : Counts) → Comes front x (part.Terminal t ∷ rest) d → Fits t x.lexeme → HasRead (front ++ x ∷ []) rest (after_token d)
+pub read_on : (front : List Placed) (x : Placed) (t : Terminal) (rest : List Part) (d : Counts) →
+    Comes front x (part.Terminal t ∷ rest) d → Fits t x.lexeme → HasRead (front ++ x ∷ []) rest (after_token d)
 read_on front x t rest d c f = record {
   events = c.earlier ++ token x ∷ [];
   tokens = tokens_joined c.earlier (token x ∷ []) ∙ ap (λ ts. ts ++ x ∷ []) c.tokens;

@@ -1,5 +1,21 @@
 -- What is computed of the table of the grammar, for each production.
-use Rattle.std.proofs.Common.{◌≡◌, nat_lt, nat_le, nat_eq, length, Bool, true, false, ◌&&◌, ◌||◌, not, List, [], ◌∷◌, refl}
+use Rattle.std.proofs.Common.{
+  ◌≡◌,
+  nat_lt,
+  nat_le,
+  nat_eq,
+  length,
+  Bool,
+  true,
+  false,
+  ◌&&◌,
+  ◌||◌,
+  not,
+  List,
+  [],
+  ◌∷◌,
+  refl,
+}
 use Rattle.nomos_grammar.specs.declared.part.Terminal.{Terminal}
 use Rattle.nomos_grammar.specs.declared.part.Nonterminal.{Nonterminal}
 use Rattle.nomos_grammar.specs.declared.part.Nonterminal.TheVariants as n
@@ -16,7 +32,8 @@ abbrev pub each_side : (List Part → Bool) → List (List Part) → Bool
 each_side p [] = true
 each_side p (side ∷ sides) = p side && each_side p sides
 
-pub each_side-at : (p : List Part → Bool) (sides : List (List Part)) (side : List Part) → each_side p sides ≡ true → IsAmong side sides → p side ≡ true
+pub each_side-at : (p : List Part → Bool) (sides : List (List Part)) (side : List Part) →
+    each_side p sides ≡ true → IsAmong side sides → p side ≡ true
 each_side-at p [] side h m = elim m [ ]
 each_side-at p (s ∷ sides) side h first = and_first (p s) (each_side p sides) h
 each_side-at p (s ∷ sides) side h (later m) = each_side-at p sides side (and_second (p s) (each_side p sides) h) m

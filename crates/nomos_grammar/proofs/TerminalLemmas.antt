@@ -1,5 +1,23 @@
 -- Terminals and lists of them.
-use Rattle.std.proofs.Common.{◌≡◌, Bool, true, false, ◌&&◌, ◌||◌, not, List, [], ◌∷◌, ◌++◌, Decides, ◌⊎◌, inl, inr, refl, ap}
+use Rattle.std.proofs.Common.{
+  ◌≡◌,
+  Bool,
+  true,
+  false,
+  ◌&&◌,
+  ◌||◌,
+  not,
+  List,
+  [],
+  ◌∷◌,
+  ◌++◌,
+  Decides,
+  ◌⊎◌,
+  inl,
+  inr,
+  refl,
+  ap,
+}
 use denote.Enum.Bare.{same_true, true_same}
 use Rattle.nomos_ir.specs.contracts.word.Word.{the_type as word_type}
 use Rattle.nomos_syntax.specs.contracts.symbol.Symbol.{the_type as symbol_type}
@@ -26,7 +44,8 @@ same_decides (t.Symbol w) (t.Symbol v) =
     (λ h. ap t.Symbol (same_true symbol_type tt w v h), λ h. let e : w ≡ v = cc in true_same symbol_type w v e)
 same_decides x y = (λ h. cc, λ h. cc)
 
-found_or_later : (x y : Terminal) (all : List Terminal) (b : Bool) → (b ≡ true → y ≡ x) → (is_in x all ≡ true → IsAmong x all) → (b || is_in x all) ≡ true → IsAmong x (y ∷ all)
+found_or_later : (x y : Terminal) (all : List Terminal) (b : Bool) → (b ≡ true → y ≡ x) → (is_in x all ≡ true →
+    IsAmong x all) → (b || is_in x all) ≡ true → IsAmong x (y ∷ all)
 found_or_later x y all true here there h = let e : y ≡ x = here refl in rw e first
 found_or_later x y all false here there h = later (there h)
 
@@ -50,7 +69,8 @@ abbrev pub none_in : List Terminal → List Terminal → Bool
 none_in [] all = true
 none_in (x ∷ some) all = not (is_in x all) && none_in some all
 
-pub all_in-test : (some all : List Terminal) → all_in some all ≡ true → (x : Terminal) → IsAmong x some → is_in x all ≡ true
+pub all_in-test : (some all : List Terminal) → all_in some all ≡ true → (x : Terminal) → IsAmong x some →
+    is_in x all ≡ true
 all_in-test [] all h x m = elim m [ ]
 all_in-test (y ∷ some) all h x first = and_first (is_in y all) (all_in some all) h
 all_in-test (y ∷ some) all h x (later m) = all_in-test some all (and_second (is_in y all) (all_in some all) h) x m
@@ -59,7 +79,8 @@ not_true : (b : Bool) → not b ≡ true → b ≡ false
 not_true true h = cc
 not_true false h = refl
 
-pub none_in-test : (some all : List Terminal) → none_in some all ≡ true → (x : Terminal) → IsAmong x some → is_in x all ≡ false
+pub none_in-test : (some all : List Terminal) → none_in some all ≡ true → (x : Terminal) → IsAmong x some →
+    is_in x all ≡ false
 none_in-test [] all h x m = elim m [ ]
 none_in-test (y ∷ some) all h x first = not_true (is_in y all) (and_first (not (is_in y all)) (none_in some all) h)
 none_in-test (y ∷ some) all h x (later m) = none_in-test some all (and_second (not (is_in y all)) (none_in some all) h) x m

@@ -70,7 +70,7 @@ impl Reader {
         })
     }
 
-    /// Reads one token.
+    /// Reads one token. The error is that of the first rule that it breaks; the reader is of no use after it.
     pub(crate) fn read(&mut self, sight: Sight) -> Result<(), GrammarError>
         requires { IsSteady self.old }
         ensures reads { ReadsOn self.old sight self.new result }

@@ -1,5 +1,25 @@
 -- Each token keeps to all rules, or is the first offence.
-use Rattle.std.proofs.Common.{◌≡◌, ℕ, suc, ◌+◌, ◌<◌, List, [], ◌∷◌, ◌++◌, All, length, take, drop, get_or, map, sym, ap, subst, ◌∙◌}
+use Rattle.std.proofs.Common.{
+  ◌≡◌,
+  ℕ,
+  suc,
+  ◌+◌,
+  ◌<◌,
+  List,
+  [],
+  ◌∷◌,
+  ◌++◌,
+  All,
+  length,
+  take,
+  drop,
+  get_or,
+  map,
+  sym,
+  ap,
+  subst,
+  ◌∙◌,
+}
 use Rattle.std.proofs.lemmas.List.{length-map}
 use Rattle.std.proofs.Math.ListN.{get_or-map}
 use Rattle.nomos_syntax.specs.declared.token.Token.{Token}
@@ -14,7 +34,9 @@ use Rattle.nomos_grammar.proofs.NumeralLemmas.{numbers_are_numerals}
 use Rattle.nomos_grammar.proofs.FirstLemmas.{keep_more, map_more, map_split, answers_error, answers_so}
 use Rattle.nomos_grammar.proofs.offence.first_offence.Goals as goal
 
-written_at : (text : List ℕ) (tokens : List Token) (i : ℕ) (d : Token) → map (placed_of text) tokens ≡ tokens_of text → i < length tokens → IsWritten (placed_of text (get_or tokens i d)).lexeme
+written_at : (text : List ℕ) (tokens : List Token) (i : ℕ) (d : Token) →
+    map (placed_of text) tokens ≡ tokens_of text → i < length tokens →
+    IsWritten (placed_of text (get_or tokens i d)).lexeme
 written_at text tokens i d same h =
     let all = subst (λ (ts : List Placed). All (λ token. IsWritten token.lexeme) ts) (sym same) (numbers_are_numerals text) in
     let within : i < length (map (placed_of text) tokens) = rw length-map h in

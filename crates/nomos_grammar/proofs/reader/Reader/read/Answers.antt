@@ -6,10 +6,25 @@ use Rattle.nomos_grammar.specs.Counting.{Counts}
 use Rattle.nomos_grammar.specs.Offence.{nodes_before, Keeps}
 use Rattle.nomos_grammar.specs.mirror.Reading.{IsReady, HasRead, PassesItself}
 use Rattle.nomos_grammar.specs.mirror.Tallies.{counts_of}
-use Rattle.nomos_grammar.proofs.OutcomeLemmas.{standing, failing, breaks_before, keeps_before, fails_before, breaks_itself, breaks_syntax, breaks_count, keeps_all, last_read, ready_again}
+use Rattle.nomos_grammar.proofs.OutcomeLemmas.{
+  standing,
+  failing,
+  breaks_before,
+  keeps_before,
+  fails_before,
+  breaks_itself,
+  breaks_syntax,
+  breaks_count,
+  keeps_all,
+  last_read,
+  ready_again,
+}
 use Rattle.nomos_grammar.proofs.StandLemmas.{read_on}
 use Rattle.nomos_grammar.proofs.reader.Reader.read.Goals as goal
-use Rattle.nomos_grammar.proofs.reader.Reader.read.Goals.{else-may_stand-via-then-may_stand+else-self-gt-NODE_LIMIT, else-may_stand-via-else-may_stand}
+use Rattle.nomos_grammar.proofs.reader.Reader.read.Goals.{
+  else-may_stand-via-then-may_stand+else-self-gt-NODE_LIMIT,
+  else-may_stand-via-else-may_stand,
+}
 
 pub returns-then-self-gt-NODE_LIMIT-clause-reads : goal.returns-then-self-gt-NODE_LIMIT-clause-reads
 returns-then-self-gt-NODE_LIMIT-clause-reads c = λ front x seen behind.
