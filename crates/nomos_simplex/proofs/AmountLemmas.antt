@@ -293,15 +293,3 @@ dot_scaled y h u m (v ∷ vs) (c ∷ cs) all =
     (times_swap u c (y v) ∙ ap (λ x. c *ℤ x) (All-head (λ v. u *ℤ y v ≡ m *ℤ pos (h v)) v vs all)
     ∙ times_swap c m (pos (h v)) ∙ ap (λ x. m *ℤ x) (*ℤ_comm c (pos (h v))))
     (dot_scaled y h u m vs cs (All-tail (λ v. u *ℤ y v ≡ m *ℤ pos (h v)) v vs all))
-
--- a count over 0 shows an order
-pub less_by_times : (m : ℕ) (a b : ℤ) → 0 < m → (pos m *ℤ a) ≤ℤ (pos m *ℤ b) → a ≤ℤ b
-less_by_times m a b h le = by_lt_z b a
-    (λ lt. absurd
-    (omega (
-      arith,
-      lt_out (pos m *ℤ b) (pos m *ℤ a) (count_times_lt m b a h lt),
-      le_out (pos m *ℤ a) (pos m *ℤ b)
-          le,
-    )))
-    (λ le'. le')

@@ -16,7 +16,7 @@ use Rattle.nomos_forms.specs.Refuting.{coef_in, least_in, IsOneOf, Refutes, weig
 use Rattle.nomos_forms.specs.declared.found.Found.{Found}
 use Rattle.nomos_forms.specs.declared.row_list.RowList.{RowList}
 use Rattle.nomos_forms.specs.declared.verdict.Weight.{Weight}
-use Rattle.nomos_forms.proofs.WholeLaws.{times_swap, count_times_le}
+use Rattle.nomos_forms.proofs.WholeLaws.{times_swap, count_times_le, less_by_times}
 use Rattle.nomos_simplex.specs.Exchange.{is_large_line}
 use Rattle.nomos_simplex.specs.Exits.{fraction_of, fractions, denominator, common_denominator, amounts_over, found_or_large, with_weight, weights_below, weight_of, of_variable, verdict_of}
 use Rattle.nomos_simplex.specs.Lowest.{is_below, leaving, entering}
@@ -27,7 +27,7 @@ use Rattle.nomos_simplex.specs.declared.solved.Solved.{Solved}
 use Rattle.nomos_simplex.specs.declared.solved.Stop.TheVariants as stop
 use Rattle.nomos_simplex.specs.declared.table.Line.{Line}
 use Rattle.nomos_simplex.specs.declared.table.Table.{Table}
-use Rattle.nomos_simplex.proofs.AmountLemmas.{NoneBelow, value_of, times_product, product_positive, values_hold, values_high, amount_of, amounts_scaled, fraction_over_zero, common-divided_by_each, common_over_zero, dot_scaled, less_by_times}
+use Rattle.nomos_simplex.proofs.AmountLemmas.{NoneBelow, value_of, times_product, product_positive, values_hold, values_high, amount_of, amounts_scaled, fraction_over_zero, common-divided_by_each, common_over_zero, dot_scaled}
 use Rattle.nomos_simplex.proofs.CountLemmas.{All-from_map}
 use Rattle.nomos_simplex.proofs.ExchangedLemmas.{IsLineIn, at_place}
 use Rattle.nomos_simplex.proofs.FirstLemmas.{at_lines_from}

@@ -4,5 +4,6 @@ pub mod Exits
 pub mod Lowest
 pub mod PivotExample
 pub mod PivotRun
+pub mod ShowsLeast
 pub mod Sizes
 pub mod Tables

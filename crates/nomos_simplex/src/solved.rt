@@ -1,6 +1,6 @@
 //! What a solver answers.
 use nomos_forms::found::Found;
-use nomos_forms::verdict::Verdict;
+use nomos_forms::verdict::{Verdict, Weights};
 
 /// Why a run stopped without an answer.
 #[derive(Clone, Copy, PartialEq, Eq, Debug)]
@@ -17,4 +17,14 @@ pub enum Solved {
     Found(Found),
     None(Verdict),
     Unsolved(Stop),
+}
+
+/// Weighted rows and bounds of stars that add up to `scale` times a goal. They show that no amounts that meet the rows
+/// have a smaller goal than `total`, which is in parts of the unit of the amounts that it comes with:
+/// `docs/SOLVER.md`, "The least run".
+#[derive(Drop, Debug)]
+pub struct Proof {
+    pub scale: u64,
+    pub weights: Weights,
+    pub total: u64,
 }
