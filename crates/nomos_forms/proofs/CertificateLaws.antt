@@ -60,7 +60,7 @@ spread_alike f g s [] h = refl
 spread_alike f g s (x ∷ xs) h = let rest = spread_alike f g (suc s) xs (λ t i. h t (omega arith)) in
     λ p. pos x *ℤ h s (omega arith) p +ℤ rest p
 
-spread_row : (cs : List ℤ) (s : ℕ) (xs : List ℕ) → dot cs xs ≡ spread (λ t. get_or cs (t - s) (pos 0)) s xs
+pub spread_row : (cs : List ℤ) (s : ℕ) (xs : List ℕ) → dot cs xs ≡ spread (λ t. get_or cs (t - s) (pos 0)) s xs
 spread_row [] s xs = sym (spread_zero (λ t. pos 0) s xs (λ t i j. refl))
 spread_row (c ∷ cs) s [] = refl
 spread_row (c ∷ cs) s (x ∷ xs) =
