@@ -28,3 +28,12 @@ pub struct Proof {
     pub weights: Weights,
     pub total: u64,
 }
+
+/// Amounts that meet the rows, with a proof that no others have a smaller goal, a verdict that none meet the rows, or
+/// neither.
+#[derive(Drop, Debug)]
+pub enum SolvedLeast {
+    Found(Found, Proof),
+    None(Verdict),
+    Unsolved(Stop),
+}

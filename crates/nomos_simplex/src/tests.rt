@@ -2,11 +2,13 @@
 ghost use Rattle.std.specs.Prelude.{◌≡◌, ◌≤◌, length, All, IfOk};
 ghost use Rattle.nomos_forms.specs.Bounds.{IsSmall, IsForm};
 
-use crate::solved::{Solved, Stop};
+use crate::lowering::solve_least;
+use crate::solved::{Solved, SolvedLeast, Stop};
 use crate::solving::solve;
 use nomos_forms::collecting::rows;
 use nomos_forms::form::{Coefs, Form};
 use nomos_forms::row_list::RowList;
+use nomos_forms::verdict::Of;
 use nomos_ir::amount::Amount;
 use nomos_ir::items::Items;
 use std::alloc::{AllocError, Global};
@@ -113,6 +115,87 @@ fn two_sources(rt: HostRuntime) -> Result<(), Fail> {
     };
     assert_eq!(rt; found.unit, 2);
     assert_eq!(rt; found.stars.as_slice(), [1u64, 1, 1, 1, 1].as_slice());
+    Ok(())
+}
+
+/// The rows of a transaction that starts two jobs and pays for one of them. Star 1 is what the type of a job gets, 2 what a
+/// job has, 3 what it gets, 4 what the transaction has, and 5 what it pays. A job that is paid works 3 units.
+fn two_jobs(alloc: Global) -> Result<RowList, AllocError>
+    ensures { IfOk result (λ made. made.stars ≡ 5) }
+{
+    let has = form(alloc, &[0, 1, 0, 0, 0], 0)?;
+    let gets = form(alloc, &[0, 1, 1, 0, 0], 0)?;
+    let works = form(alloc, &[0, 1, 1, 0, 0], -3)?;
+    let first = form(alloc, &[0, -1, 0, 1, 0], 0)?;
+    let second = form(alloc, &[0, -2, 0, 1, 0], 0)?;
+    let pays = form(alloc, &[0, -2, 0, 1, -1], 0)?;
+    let forms = Items::of_vec(vec![in alloc; has, gets, works, first, second, pays]?);
+    let of_type = Amount::Star(1);
+    let pairs = Items::of_vec(vec![in alloc;
+        (of_type, Amount::Star(3)),
+        (of_type, Amount::Star(5)),
+    ]?);
+    rows(alloc, &forms, &pairs, 5)
+}
+
+/// The pivot run finds 6 units for the transaction of the two jobs, and the least run 3.
+#[test]
+fn two_jobs_at_least(rt: HostRuntime) -> Result<(), Fail> {
+    let alloc = rt.alloc();
+    let list = two_jobs(alloc)?;
+    let Solved::Found(found) = solve(alloc, &list)? else {
+        panic!(&rt; "no amounts");
+    };
+    assert_eq!(rt; found.stars.as_slice(), [0u64, 3, 0, 6, 0].as_slice());
+    let goal = form(alloc, &[0, 0, 0, 1, 0], 0)?;
+    let SolvedLeast::Found(least, proof) = solve_least(alloc, &list, &goal)? else {
+        panic!(&rt; "no least amounts");
+    };
+    assert_eq!(rt; least.stars.as_slice(), [3u64, 0, 3, 3, 3].as_slice());
+    assert_eq!(rt; least.unit, 1);
+    assert_eq!(rt; proof.scale, 1);
+    assert_eq!(rt; proof.total, 3);
+    let wanted: [[i64; 6]; 4] = [
+        [-1, 0, 0, 0, 1, 0],
+        [0, -2, 0, 1, -1, 0],
+        [0, 1, 1, 0, 0, 3],
+        [1, 0, -1, 0, 0, 0],
+    ];
+    let [star, others @ ..] = proof.weights.as_slice() else {
+        panic!(&rt; "no weights");
+    };
+    assert_eq!(rt; star.times, 1);
+    assert_eq!(rt; matches!(&star.of, Of::Star(2)), true);
+    assert_eq!(rt; others.len(), 4);
+    for (weight, numbers) in others.iter().zip(&wanted) {
+        let Of::Row(row) = &weight.of else {
+            panic!(&rt; "a star");
+        };
+        assert_eq!(rt; weight.times, 1);
+        assert_eq!(rt; row.coefs.as_slice(), &numbers[..5]);
+        assert_eq!(rt; row.least, numbers[5]);
+    }
+    Ok(())
+}
+
+/// Without rows and stars the goal is 0; the chain of twenty is too large before there is a goal.
+#[test]
+fn least_of_nothing_and_of_a_chain(rt: HostRuntime) -> Result<(), Fail> {
+    let alloc = rt.alloc();
+    let empty = system(alloc, Vec::new(alloc), 0)?;
+    let SolvedLeast::Found(found, proof) = solve_least(alloc, &empty, &form(alloc, &[], 0)?)? else {
+        panic!(&rt; "no amounts");
+    };
+    assert_eq!(rt; found.unit, 1);
+    assert_eq!(rt; proof.scale, 1);
+    assert_eq!(rt; proof.total, 0);
+    assert_eq!(rt; proof.weights.len(), 0);
+    let goal = form(alloc, &[0; 20], 7)?;
+    let answer = solve_least(alloc, &chain(alloc, 20)?, &goal)?;
+    assert_eq!(rt;
+        matches!(&answer, SolvedLeast::Unsolved(Stop::Large(19))),
+        true
+    );
     Ok(())
 }
 
