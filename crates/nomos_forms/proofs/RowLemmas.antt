@@ -1,15 +1,9 @@
 -- Sums of weighted parts, one weight more.
-use Rattle.std.proofs.Common.{◌≡◌, ℕ, zero, suc, ◌+◌, ◌-◌, ◌<◌, List, [], ◌∷◌, length, get_or, take, ap, sym, ◌∙◌, arith, ℤ, pos, ◌+ℤ◌, ◌*ℤ◌, add-one, All, Bool, true, false, cond, ◌==◌, ⊎_elim, subst}
+use Rattle.std.proofs.Common.{◌≡◌, ℕ, zero, suc, ◌+◌, ◌<◌, List, [], ◌∷◌, length, get_or, take, ap, sym, ◌∙◌, arith, ℤ, pos, ◌+ℤ◌, ◌*ℤ◌, add-one}
 use Rattle.std.proofs.lemmas.Int.{ints}
 use Rattle.std.proofs.Math.IntN.{+ℤ_assoc}
-use Rattle.std.proofs.lemmas.Bool.{cases_lt}
-use Rattle.std.proofs.lemmas.List.{get_or_past}
-use Rattle.std.proofs.lemmas.List.Elements.{All-contains}
-use Rattle.nomos_forms.specs.Bounds.{IsSmall, IsRow}
-use Rattle.nomos_forms.specs.Refuting.{coef_in, least_in, weighted, IsOneOf}
-use Rattle.nomos_forms.specs.declared.row.Row.{Row}
+use Rattle.nomos_forms.specs.Refuting.{weighted}
 use Rattle.nomos_forms.specs.declared.verdict.Of.{Of}
-use Rattle.nomos_forms.specs.declared.verdict.Of.TheVariants as of
 use Rattle.nomos_forms.specs.declared.verdict.Weight.{Weight}
 
 pub weighted_more : (part : Of → ℤ) (ws : List Weight) (k : ℕ) (d : Weight) → k < length ws →

@@ -1,16 +1,13 @@
 -- What is weighted has small numbers where it is one of the rows.
-use Rattle.std.proofs.Common.{◌≡◌, ℕ, zero, suc, ◌+◌, ◌-◌, ◌<◌, List, [], ◌∷◌, length, get_or, take, ap, sym, ◌∙◌, arith, ℤ, pos, ◌+ℤ◌, ◌*ℤ◌, add-one, All, Bool, true, false, cond, ◌==◌, ⊎_elim, subst}
-use Rattle.std.proofs.lemmas.Int.{ints}
-use Rattle.std.proofs.Math.IntN.{+ℤ_assoc}
+use Rattle.std.proofs.Common.{ℕ, ◌-◌, List, length, get_or, sym, arith, ℤ, pos, All, Bool, true, false, cond, ◌==◌, ⊎_elim, subst}
 use Rattle.std.proofs.lemmas.Bool.{cases_lt}
 use Rattle.std.proofs.lemmas.List.{get_or_past}
 use Rattle.std.proofs.lemmas.List.Elements.{All-contains}
 use Rattle.nomos_forms.specs.Bounds.{IsSmall, IsRow}
-use Rattle.nomos_forms.specs.Refuting.{coef_in, least_in, weighted, IsOneOf}
+use Rattle.nomos_forms.specs.Refuting.{coef_in, least_in, IsOneOf}
 use Rattle.nomos_forms.specs.declared.row.Row.{Row}
 use Rattle.nomos_forms.specs.declared.verdict.Of.{Of}
 use Rattle.nomos_forms.specs.declared.verdict.Of.TheVariants as of
-use Rattle.nomos_forms.specs.declared.verdict.Weight.{Weight}
 
 -- a row that is there has small numbers, and so has a bound
 pub small_coef : (n : ℕ) (rows : List Row) (star : ℕ) (o : Of) → All (IsRow n) rows → IsOneOf n rows o →

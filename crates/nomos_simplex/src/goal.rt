@@ -92,7 +92,8 @@ fn added(alloc: Global, count: i64, star: &Line, line: &Line) -> Result<Option<L
     requires lowest_star { IsLowest star.now }
     requires line { IsLine (length line.now.coefs) line.now }
     requires lowest_line { IsLowest line.now }
-    ensures { IfOk result (λ made. made ≡ if_small (in_lowest_terms (with_added count star.now line.now)) (λ l. Some l)) }
+    ensures { IfOk result (λ made. made ≡
+        if_small (in_lowest_terms (with_added count star.now line.now)) (λ l. Some l)) }
 {
     let p = times_to_common(line.times, star.times);
     let q = times_to_common(star.times, line.times);

@@ -38,14 +38,14 @@ use std::alloc::{AllocError, Global};
 
 /// A table, and the line of the goal over its nonbasic variables.
 #[derive(Drop)]
-pub struct Aimed {
-    pub table: Table,
-    pub line: Line,
+pub(crate) struct Aimed {
+    pub(crate) table: Table,
+    pub(crate) line: Line,
 }
 
 /// The least run ends, or goes on.
 #[derive(Drop)]
-pub enum LeastTurn {
+pub(crate) enum LeastTurn {
     Ends(SolvedLeast),
     Goes(Aimed),
 }

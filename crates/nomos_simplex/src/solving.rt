@@ -81,7 +81,7 @@ fn first_table(alloc: Global, rows: &RowList) -> Result<Table, AllocError>
 
 /// Where the run comes to: a table where no basic variable is below its bound, after so many pivots, or another end.
 #[derive(Drop)]
-pub enum Sought {
+pub(crate) enum Sought {
     Stands(Table, u32),
     Ends(Solved),
 }
@@ -115,7 +115,7 @@ fn turn_at(
 }
 
 /// The run, up to where it ends.
-pub fn seek(alloc: Global, rows: &RowList) -> Result<Sought, AllocError>
+pub(crate) fn seek(alloc: Global, rows: &RowList) -> Result<Sought, AllocError>
     ensures { IfOk result (IsSought rows.now) }
 {
     let mut table = first_table(alloc, rows)?;
