@@ -1,12 +1,10 @@
 -- Weights that show a goal least: no amounts over any unit that meet the rows have a smaller goal.
-use Rattle.std.proofs.Common.{◌≡◌, ℕ, ◌+◌, ◌-◌, ◌*◌, ◌<◌, ◌≤◌, List, [], ◌∷◌, length, get_or, refl, ap, sym, subst, ◌∙◌, arith, ℤ, pos, ◌+ℤ◌, ◌-ℤ◌, ◌*ℤ◌, neg_ℤ, ◌≤ℤ◌, ◌<ℤ◌, All, zero, suc}
-use Rattle.std.proofs.lemmas.Int.{ints, by_lt_z}
-use Rattle.std.proofs.Math.IntN.{*ℤ-zero, *ℤ_comm}
-use borrow.Author.Differences.{le_out, lt_out, at_most_in}
+use Rattle.std.proofs.Common.{◌≡◌, ℕ, ◌+◌, ◌*◌, ◌<◌, ◌≤◌, List, [], ◌∷◌, length, ap, sym, subst, ◌∙◌, arith, ℤ, pos, ◌+ℤ◌, ◌-ℤ◌, ◌*ℤ◌, neg_ℤ, ◌≤ℤ◌, All, suc}
+use Rattle.std.proofs.lemmas.Int.{ints}
+use Rattle.std.proofs.Math.IntN.{*ℤ-zero}
 use Rattle.nomos_forms.specs.Bounds.{IsRow}
 use Rattle.nomos_forms.specs.Linear.{dot, form_value}
-use Rattle.nomos_forms.specs.Meeting.{MeetsRows}
-use Rattle.nomos_forms.specs.Refuting.{coef_in, least_in, weighted, IsOneOf}
+use Rattle.nomos_forms.specs.Refuting.{coef_in, least_in, weighted}
 use Rattle.nomos_forms.specs.declared.form.Form.{Form}
 use Rattle.nomos_forms.specs.declared.row.Row.{Row}
 use Rattle.nomos_forms.proofs.CertificateLaws.{value_in, spread, spread_row, weighted_value, low_sum_of}

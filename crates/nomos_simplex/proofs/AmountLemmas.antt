@@ -3,17 +3,16 @@ use Rattle.std.proofs.Common.{◌≡◌, ◌==◌, ℕ, zero, suc, ◌-◌, ◌*
 use Rattle.std.specs.Prelude.{nat_le, slice_get}
 use Rattle.std.specs.List.{find}
 use Rattle.std.specs.Int.{◌∣◌}
-use Rattle.std.proofs.lemmas.Int.{by_lt_z}
 use Rattle.std.proofs.lemmas.Bool.{cond-true, le-leb, cases_lt, eqb-true, eq-eqb}
 use Rattle.std.proofs.lemmas.List.Elements.{All-nil, All-cons, All-head, All-tail, All-weaker}
 use Rattle.std.proofs.lemmas.Nat.Gcd.{dvd_refl, dvd_trans}
 use Rattle.std.proofs.Math.IntN.{*ℤ-zero, *ℤ_comm}
 use Rattle.std.proofs.Math.Nat.{div-one}
 use native.Mathlib.Nat.{one-dvd, dvd-mul_left, dvd-mul_right, dvd-mul_left_of_dvd, mul-dvd-mul, mul-dvd-mul_left, div-mul_cancel}
-use borrow.Author.Differences.{lt_out, le_out, at_most_in}
+use borrow.Author.Differences.{le_out, at_most_in}
 use Rattle.nomos_forms.specs.Linear.{dot}
 use Rattle.nomos_forms.specs.declared.row_list.RowList.{RowList}
-use Rattle.nomos_forms.proofs.WholeLaws.{times_sum, times_assoc, times_swap, count_times_le, count_times_lt}
+use Rattle.nomos_forms.proofs.WholeLaws.{times_sum, times_assoc, times_swap, count_times_le}
 use Rattle.nomos_simplex.specs.Divisors.{gcd, lcm}
 use Rattle.nomos_simplex.specs.Exits.{fraction_in, fraction_of, denominator, common_denominator}
 use Rattle.nomos_simplex.specs.Tables.{least_or_zero, bound_of, sum_at, Holds}

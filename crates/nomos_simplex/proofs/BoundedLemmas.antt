@@ -2,7 +2,7 @@
 use Rattle.std.proofs.Common.{◌≡◌, ◌==◌, ℕ, zero, suc, ◌+◌, ◌*◌, ◌<◌, ◌≤◌, ◌/◌, Bool, true, false, cond, List, [], ◌∷◌, length, get_or, refl, ap, sym, subst, ◌∙◌, arith, ℤ, pos, negsuc, ◌+ℤ◌, ◌*ℤ◌, ◌≤ℤ◌, ◌<ℤ◌, unsigned_abs, int_lt, All, Option, Some, None, find}
 use Rattle.std.specs.List.{range_with_len}
 use Rattle.std.proofs.lemmas.Int.{ints}
-use Rattle.std.proofs.lemmas.Bool.{eq-eqb, eqb-true}
+use Rattle.std.proofs.lemmas.Bool.{eq-eqb}
 use Rattle.std.proofs.lemmas.List.{get_or_default}
 use Rattle.std.proofs.lemmas.List.Elements.{All-head, All-tail}
 use Rattle.std.proofs.lemmas.List.Sums.{sum_by-cons}
@@ -16,11 +16,10 @@ use Rattle.nomos_simplex.specs.declared.table.Table.{Table}
 use Rattle.nomos_simplex.proofs.AmountLemmas.{value_from, value_under, times_product, product_positive, values_hold, value-nonbasic, found_passes}
 use Rattle.nomos_simplex.proofs.CountLemmas.{counted}
 use Rattle.nomos_simplex.proofs.ExchangeLemmas.{HoldsFor}
-use Rattle.nomos_simplex.proofs.ExitLemmas.{range_within}
 use Rattle.nomos_simplex.proofs.PlaceLemmas.{none_foremost}
 use Rattle.nomos_simplex.proofs.SumLemmas.{sum_times_all}
 use Rattle.nomos_simplex.proofs.TableLaws.{IsTableOfRows, are_over_zero}
-use Rattle.nomos_simplex.proofs.VariableLemmas.{nonbasic_times, HasEachOnce}
+use Rattle.nomos_simplex.proofs.VariableLemmas.{nonbasic_times}
 
 -- ---- one variable rises
 -- 1 for this variable, 0 for each other

@@ -1,5 +1,5 @@
 -- A step of the making of the goal's line: what divides its numbers, and that a huge number stays large in lowest terms.
-use Rattle.std.proofs.Common.{◌≡◌, ℕ, zero, suc, ◌+◌, ◌*◌, ◌/◌, ◌<◌, ◌≤◌, ◌^◌, List, [], ◌∷◌, ◌++◌, length, map, get_or, take, refl, ap, ⊎_elim, sym, subst, ◌∙◌, arith, ℤ, pos, negsuc, neg_ℤ, ◌+ℤ◌, ◌-ℤ◌, ◌*ℤ◌, ◌<ℤ◌, unsigned_abs, int_div, All, true, add-one, ◌||◌, Bool, false}
+use Rattle.std.proofs.Common.{◌≡◌, ℕ, zero, suc, ◌+◌, ◌*◌, ◌/◌, ◌<◌, ◌≤◌, ◌^◌, List, [], ◌∷◌, ◌++◌, length, map, get_or, take, refl, ap, ⊎_elim, sym, subst, ◌∙◌, arith, ℤ, pos, ◌+ℤ◌, ◌-ℤ◌, ◌*ℤ◌, ◌<ℤ◌, unsigned_abs, int_div, All, true, add-one, ◌||◌, Bool, false}
 use Rattle.std.specs.Int.{◌∣◌}
 use Rattle.std.specs.List.{list_any}
 use Rattle.std.proofs.lemmas.Int.{ints, unsigned_abs-mul}
@@ -9,15 +9,15 @@ use Rattle.std.proofs.Math.IntN.{*ℤ-zero}
 use Rattle.nomos_forms.proofs.WholeLaws.{count_times_lt}
 use Rattle.std.proofs.lemmas.List.{get_or-map, get_or_default, length-map}
 use Rattle.std.proofs.lemmas.List.Folds.{list_any_at}
-use Rattle.std.proofs.lemmas.Nat.Gcd.{IsGcd-swap, dvd_refl, dvd_trans, dvd_antisymm, le_of_dvd}
-use Rattle.std.proofs.Math.Nat.{one-dvd, dvd-mul_right, dvd-mul_left, dvd-mul_left_of_dvd, dvd-mul_right_of_dvd, mul-dvd-mul_left, mul-le-mul_left, mul-le-mul}
+use Rattle.std.proofs.lemmas.Nat.Gcd.{IsGcd-swap, dvd_trans, dvd_antisymm, le_of_dvd}
+use Rattle.std.proofs.Math.Nat.{one-dvd, dvd-mul_right, dvd-mul_left, dvd-mul_right_of_dvd, mul-le-mul}
 use native.Mathlib.Nat.{div-mul_cancel, pos_of_dvd_of_pos}
-use Rattle.nomos_simplex.specs.Divisors.{gcd, common, signed_like, in_lowest_terms}
+use Rattle.nomos_simplex.specs.Divisors.{gcd, common, in_lowest_terms}
 use Rattle.nomos_simplex.specs.Exchange.{is_large, is_large_line}
 use Rattle.nomos_simplex.specs.GoalLine.{times_to_common, combined, with_added}
 use Rattle.nomos_simplex.specs.Sizes.{IsLowest}
 use Rattle.nomos_simplex.specs.declared.table.Line.{Line}
-use Rattle.nomos_simplex.proofs.DivisorLemmas.{gcd_is, gcd_unique, gcd_times, common_divides_first, exact, signed_positive, lowest_is}
+use Rattle.nomos_simplex.proofs.DivisorLemmas.{gcd_is, gcd_unique, gcd_times, common_divides_first, exact, lowest_is}
 use Rattle.nomos_simplex.proofs.GcdLemmas.{common_divides_each, divides_common, exact_whole}
 use Rattle.nomos_simplex.proofs.SignLemmas.{abs_over, abs_positive}
 use Rattle.nomos_simplex.proofs.SumLemmas.{times_minus}

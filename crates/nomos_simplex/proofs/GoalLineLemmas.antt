@@ -1,5 +1,5 @@
 -- The goal's line is true of the goal, and its numbers are as in every line of the run.
-use Rattle.std.proofs.Common.{◌≡◌, ◌==◌, ℕ, zero, suc, ◌+◌, ◌<◌, ◌≤◌, List, [], ◌∷◌, length, map, get_or, replicate, refl, ap, sym, subst, ◌∙◌, arith, ℤ, pos, ◌+ℤ◌, ◌*ℤ◌, ◌<ℤ◌, unsigned_abs, All, Option, Some, None, Bool, true, false, cond, find, ◌^◌, ◌||◌}
+use Rattle.std.proofs.Common.{◌≡◌, ◌==◌, ℕ, zero, suc, ◌+◌, ◌≤◌, List, [], ◌∷◌, length, map, get_or, replicate, refl, ap, sym, subst, ◌∙◌, arith, ℤ, pos, ◌+ℤ◌, ◌*ℤ◌, All, Option, Some, None, Bool, true, false, cond, find, ◌^◌, ◌||◌}
 use Rattle.std.specs.List.{range_with_len, list_any}
 use Rattle.std.proofs.lemmas.Int.{ints}
 use Rattle.std.proofs.lemmas.Bool.{eqb-true, lt-leb}
@@ -7,16 +7,16 @@ use Rattle.std.proofs.lemmas.List.{length-map, length-replicate, get_or-replicat
 use Rattle.std.proofs.lemmas.List.Elements.{All-map}
 use Rattle.std.proofs.lemmas.List.Folds.{list_any_none}
 use Rattle.std.proofs.lemmas.List.Sums.{sum_by-cons}
-use Rattle.std.proofs.Math.IntN.{*ℤ-zero, *ℤ_comm}
+use Rattle.std.proofs.Math.IntN.{*ℤ-zero}
 use borrow.Author.Differences.{below_in}
 use Rattle.nomos_forms.specs.declared.row_list.RowList.{RowList}
 use Rattle.nomos_forms.specs.declared.form.Form.{Form}
 use Rattle.nomos_forms.proofs.WholeLaws.{times_sum, sum_times, times_assoc, times_swap}
-use Rattle.nomos_simplex.specs.Divisors.{in_lowest_terms, common}
+use Rattle.nomos_simplex.specs.Divisors.{in_lowest_terms}
 use Rattle.nomos_simplex.specs.Exchange.{is_large, is_large_line}
-use Rattle.nomos_simplex.specs.GoalLine.{times_to_common, combined, with_added, itself, line_or_itself, line_of, no_goal, if_small, goal_from, goal_line}
+use Rattle.nomos_simplex.specs.GoalLine.{times_to_common, combined, with_added, itself, line_or_itself, line_of, no_goal, goal_from, goal_line}
 use Rattle.nomos_simplex.specs.Sizes.{IsNumber, IsLine, IsLowest}
-use Rattle.nomos_simplex.specs.Tables.{sum_at, HoldsAt, Holds, first_table}
+use Rattle.nomos_simplex.specs.Tables.{sum_at, HoldsAt, Holds}
 use Rattle.nomos_simplex.specs.declared.table.Line.{Line}
 use Rattle.nomos_simplex.specs.declared.table.Table.{Table}
 use Rattle.nomos_simplex.proofs.AmountLemmas.{found_passes}
@@ -26,7 +26,7 @@ use Rattle.nomos_simplex.proofs.ExchangedLemmas.{IsLineIn}
 use Rattle.nomos_simplex.proofs.GoalLemmas.{length-combined, added_over, same_multiple}
 use Rattle.nomos_simplex.proofs.SignLemmas.{not_zero_over}
 use Rattle.nomos_simplex.proofs.TableLaws.{IsTableOfRows}
-use Rattle.nomos_simplex.proofs.VariableLemmas.{nonbasic_times, basic_times, not_basic}
+use Rattle.nomos_simplex.proofs.VariableLemmas.{nonbasic_times, not_basic}
 
 -- ---- the line of a star
 pub sum_combined : (y : ℕ → ℤ) (p q : ℤ) (vs : List ℕ) (as' cs : List ℤ) → length as' ≡ length cs →

@@ -1,13 +1,12 @@
 -- What the least run answers: amounts that meet the rows with a proof that the goal is least, or a verdict.
-use Rattle.std.proofs.Common.{◌≡◌, ℕ, zero, suc, ◌+◌, ◌*◌, ◌/◌, ◌<◌, ◌≤◌, ◌^◌, Bool, true, false, cond, ◌&&◌, List, [], length, map, get_or, refl, ap, sym, subst, ◌∙◌, arith, ℤ, pos, negsuc, neg_ℤ, ◌+ℤ◌, ◌-ℤ◌, ◌*ℤ◌, ◌<ℤ◌, ◌≤ℤ◌, unsigned_abs, int_lt, int_le, All, None, Some}
+use Rattle.std.proofs.Common.{◌≡◌, ℕ, ◌*◌, ◌/◌, ◌<◌, ◌≤◌, ◌^◌, Bool, true, false, cond, ◌&&◌, List, length, map, get_or, refl, ap, sym, subst, ◌∙◌, arith, ℤ, pos, negsuc, neg_ℤ, ◌+ℤ◌, ◌-ℤ◌, ◌*ℤ◌, ◌≤ℤ◌, unsigned_abs, int_lt, All, None}
 use Rattle.std.specs.Prelude.{nat_lt, nat_le}
 use Rattle.std.specs.List.{range_with_len, list_all}
 use Rattle.std.specs.Int.{◌∣◌}
 use Rattle.std.proofs.lemmas.Int.{ints}
-use Rattle.std.proofs.lemmas.Bool.{ltb-true, and_parts}
 use Rattle.std.proofs.lemmas.List.{get_or-map, get_or_default, length-map}
 use Rattle.std.proofs.lemmas.List.Elements.{All-map, All-weaker}
-use borrow.Author.Differences.{le_out, lt_out, at_most_in, lt-true, lt-false}
+use borrow.Author.Differences.{le_out, at_most_in, lt-false}
 use Rattle.nomos_forms.specs.Bounds.{IsForm, IsFound, IsVerdict}
 use Rattle.nomos_forms.specs.Linear.{dot, form_value}
 use Rattle.nomos_forms.specs.Meeting.{MeetsRows}
@@ -16,13 +15,12 @@ use Rattle.nomos_forms.specs.declared.form.Form.{Form}
 use Rattle.nomos_forms.specs.declared.found.Found.{Found}
 use Rattle.nomos_forms.specs.declared.row_list.RowList.{RowList}
 use Rattle.nomos_forms.specs.declared.verdict.Of.{Of}
-use Rattle.nomos_forms.specs.declared.verdict.Verdict.{Verdict}
 use Rattle.nomos_forms.specs.declared.verdict.Weight.{Weight}
 use Rattle.nomos_forms.proofs.WholeLaws.{times_swap, count_cancel}
-use Rattle.nomos_simplex.specs.Exits.{fraction_of, fractions, denominator, common_denominator, amounts_over, found_or_large, weights_below, weight_of, of_variable}
-use Rattle.nomos_simplex.specs.LeastRun.{Lowers, LeastRun, weights_above, proof_of, is_total, least_or_large}
+use Rattle.nomos_simplex.specs.Exits.{fraction_of, fractions, denominator, common_denominator, amounts_over, found_or_large, weight_of, of_variable}
+use Rattle.nomos_simplex.specs.LeastRun.{LeastRun, weights_above, proof_of, is_total, least_or_large}
 use Rattle.nomos_simplex.specs.Nearest.{lowering}
-use Rattle.nomos_simplex.specs.ShowsLeast.{goal_coef, ShowsLeast, IsProof}
+use Rattle.nomos_simplex.specs.ShowsLeast.{ShowsLeast, IsProof}
 use Rattle.nomos_simplex.specs.Tables.{bound_of, sum_at}
 use Rattle.nomos_simplex.specs.declared.solved.Solved.{Solved}
 use Rattle.nomos_simplex.specs.declared.solved.Solved.TheVariants as solved

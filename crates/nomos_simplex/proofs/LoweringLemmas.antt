@@ -1,33 +1,31 @@
 -- The tables and goal's lines of the least run: what holds of each.
-use Rattle.std.proofs.Common.{◌≡◌, ℕ, zero, suc, ◌+◌, ◌-◌, ◌<◌, ◌≤◌, Bool, true, false, cond, [], length, get_or, set, refl, ap, sym, subst, ◌∙◌, arith, ℤ, pos, ◌<ℤ◌, ◌≤ℤ◌, ◌||◌, int_lt, All, Some, None, Option}
-use Rattle.std.specs.Prelude.{slice_get}
+use Rattle.std.proofs.Common.{◌≡◌, ℕ, ◌-◌, ◌≤◌, true, false, length, get_or, set, sym, subst, ◌∙◌, arith, ℤ, pos, ◌<ℤ◌, ◌≤ℤ◌, int_lt, All, Some, None}
 use Rattle.std.specs.List.{range_with_len}
 use Rattle.std.proofs.lemmas.Int.{ints}
 use Rattle.std.proofs.lemmas.Bool.{or_parts}
 use Rattle.std.proofs.lemmas.List.{length-set}
-use Rattle.std.proofs.lemmas.Option.{get_or_from_slice_get, slice_get-get_or}
+use Rattle.std.proofs.lemmas.Option.{get_or_from_slice_get}
 use borrow.Author.Differences.{lt_out, below_in, lt-true}
 use Rattle.nomos_forms.specs.Bounds.{IsForm}
 use Rattle.nomos_forms.specs.declared.form.Form.{Form}
 use Rattle.nomos_forms.specs.declared.row_list.RowList.{RowList}
 use Rattle.nomos_simplex.specs.Exchange.{coef_at, put_into, exchanged, is_large_line, is_large_table}
-use Rattle.nomos_simplex.specs.GoalLine.{goal_line}
-use Rattle.nomos_simplex.specs.LeastRun.{Reaches, EndsFound, Exchanges, Lowers, line_exchanged, is_large_with}
+use Rattle.nomos_simplex.specs.LeastRun.{Reaches, Exchanges, Lowers, line_exchanged, is_large_with}
 use Rattle.nomos_simplex.specs.Nearest.{lowering, nearest, is_nearer, line_at}
-use Rattle.nomos_simplex.specs.Sizes.{IsLowest, IsTable, IsLine}
+use Rattle.nomos_simplex.specs.Sizes.{IsLine}
 use Rattle.nomos_simplex.specs.Tables.{sum_at, HoldsAt, Holds, first_table}
 use Rattle.nomos_simplex.specs.declared.table.Line.{Line}
 use Rattle.nomos_simplex.specs.declared.table.Table.{Table}
 use Rattle.nomos_simplex.proofs.AmountLemmas.{NoneBelow}
 use Rattle.nomos_simplex.proofs.BoundedLemmas.{some_nearest}
 use Rattle.nomos_simplex.proofs.ExchangeLemmas.{HoldsFor, lowest_holds_for, lowest_over_zero, lowest-is_lowest, lowest_width, put_holds_for, put_width}
-use Rattle.nomos_simplex.proofs.ExchangedLemmas.{IsLineIn, MayExchange, at_place, column_of, left_of, put_not_zero}
+use Rattle.nomos_simplex.proofs.ExchangedLemmas.{at_place, column_of, left_of, put_not_zero}
 use Rattle.nomos_simplex.proofs.ExitLemmas.{none_below}
 use Rattle.nomos_simplex.proofs.GoalLineLemmas.{IsGoalLine, goal_line-holds, goal_line-numbers}
 use Rattle.nomos_simplex.proofs.PlaceLemmas.{place_passes, foremost_passes}
 use Rattle.nomos_simplex.proofs.RatioLemmas.{IsLowered, lowered-none_below}
 use Rattle.nomos_simplex.proofs.RunLaws.{turn-goes_on}
-use Rattle.nomos_simplex.proofs.TableLaws.{IsTableOfRows, first-is_table, exchanged-is_table, table-is_table, small_line, IsSmallLine}
+use Rattle.nomos_simplex.proofs.TableLaws.{IsTableOfRows, first-is_table, exchanged-is_table, table-is_table, small_line}
 
 -- ---- the pivot run
 pub reached-is_table : (rows : RowList) (pivots : ℕ) (table : Table) → Reaches rows pivots table → IsTableOfRows rows table

@@ -1,16 +1,16 @@
 -- The line that comes first is left: so no basic variable falls below its bound.
-use Rattle.std.proofs.Common.{◌≡◌, ℕ, zero, suc, ◌+◌, ◌*◌, ◌<◌, ◌≤◌, Bool, true, false, cond, List, [], ◌∷◌, length, map, get_or, set, refl, ap, sym, subst, ◌∙◌, arith, ℤ, pos, negsuc, neg_ℤ, ◌+ℤ◌, ◌-ℤ◌, ◌*ℤ◌, ◌≤ℤ◌, ◌<ℤ◌, unsigned_abs, int_lt, int_div, All, Some}
-use Rattle.std.specs.Prelude.{nat_lt, slice_get}
+use Rattle.std.proofs.Common.{◌≡◌, ℕ, zero, suc, ◌*◌, ◌<◌, ◌≤◌, Bool, true, false, cond, List, length, map, get_or, set, refl, ap, sym, subst, ◌∙◌, arith, ℤ, pos, negsuc, neg_ℤ, ◌+ℤ◌, ◌-ℤ◌, ◌*ℤ◌, ◌≤ℤ◌, ◌<ℤ◌, unsigned_abs, int_lt, int_div, Some}
+use Rattle.std.specs.Prelude.{nat_lt}
 use Rattle.std.proofs.lemmas.Int.{ints}
-use Rattle.std.proofs.lemmas.Bool.{ltb-true, ltb-false, lt-ltb}
+use Rattle.std.proofs.lemmas.Bool.{ltb-true, ltb-false}
 use Rattle.std.proofs.lemmas.List.{length-map, get_or-map, get_or_default}
-use Rattle.std.proofs.lemmas.Option.{get_or_from_slice_get, slice_get_within}
+use Rattle.std.proofs.lemmas.Option.{get_or_from_slice_get}
 use Rattle.std.proofs.Math.IntN.{*ℤ_comm}
 use Rattle.std.proofs.Math.Nat.{mul-le-mul_left}
 use native.Mathlib.Nat.{pos_of_dvd_of_pos}
-use borrow.Author.Differences.{le_out, lt_out, at_most_in, below_in, lt-true, lt-false}
+use borrow.Author.Differences.{le_out, lt_out, at_most_in, below_in, lt-true}
 use Rattle.nomos_forms.specs.declared.row_list.RowList.{RowList}
-use Rattle.nomos_forms.proofs.WholeLaws.{neg_times, times_neg, times_assoc, times_swap, less_by_times}
+use Rattle.nomos_forms.proofs.WholeLaws.{neg_times, times_assoc, less_by_times}
 use Rattle.nomos_simplex.specs.Divisors.{common, signed_like, in_lowest_terms}
 use Rattle.nomos_simplex.specs.Exchange.{coef_at, solved_for, put_into, exchanged}
 use Rattle.nomos_simplex.specs.Nearest.{distance, reach, is_less, is_nearer, line_at, nearest}
@@ -19,9 +19,9 @@ use Rattle.nomos_simplex.specs.declared.table.Line.{Line}
 use Rattle.nomos_simplex.specs.declared.table.Table.{Table}
 use Rattle.nomos_simplex.proofs.AmountLemmas.{NoneBelow}
 use Rattle.nomos_simplex.proofs.DivisorLemmas.{common_divides_first}
-use Rattle.nomos_simplex.proofs.ExchangeLemmas.{Divides, lowest_divides, put_sum_free}
+use Rattle.nomos_simplex.proofs.ExchangeLemmas.{lowest_divides, put_sum_free}
 use Rattle.nomos_simplex.proofs.ExchangedLemmas.{MayExchange, IsLineIn, All-exchanged, at_place}
-use Rattle.nomos_simplex.proofs.PlaceLemmas.{foremost_passes, foremost-at_most}
+use Rattle.nomos_simplex.proofs.PlaceLemmas.{foremost-at_most}
 use Rattle.nomos_simplex.proofs.SumLemmas.{sum_set, sum_neg, sum_scaled, times_minus}
 
 -- ---- the nearest line: its reach is at most that of each other line with a coefficient below 0

@@ -1,7 +1,7 @@
 -- Each variable stands once in a table, as a nonbasic or as a basic one.
 use Rattle.std.proofs.Common.{◌≡◌, ℕ, zero, suc, ◌+◌, ◌<◌, ◌≤◌, ◌==◌, List, [], ◌∷◌, length, map, get_or, set, Bool, true, false, cond, ap, sym, refl, subst, ◌∙◌, arith, pos, All, ◌⊎◌, ◌≢◌, ⊎_elim, Option, Some, None}
 use Rattle.std.specs.List.{remove, range_with_len, count_by, find}
-use Rattle.std.proofs.lemmas.Bool.{eq-eqb, eqb-true, cases_lt}
+use Rattle.std.proofs.lemmas.Bool.{eq-eqb, cases_lt}
 use Rattle.std.proofs.lemmas.Bool.Decides.{eqb_tells}
 use Rattle.std.proofs.lemmas.List.Sums.{sum_by-set, sum_by-remove, sum_by_push, sum_by-cons}
 use Rattle.std.proofs.lemmas.Option.{get_or_from_slice_get, slice_get_within}

@@ -1,5 +1,5 @@
 -- The least run: it goes on where the pivot run has found amounts, and lowers a goal.
-use Rattle.std.specs.Prelude.{◌≡◌, ◌+◌, ◌-◌, ◌<◌, ◌^◌, ℕ, nat_lt, ◌&&◌, ◌||◌, Bool, true, false, ℤ, pos, neg_ℤ, unsigned_abs, int_le, map, List, Option, Some, None, slice_get, if◌then◌else◌}
+use Rattle.std.specs.Prelude.{◌≡◌, ◌+◌, ◌-◌, ◌<◌, ◌^◌, ℕ, nat_lt, ◌&&◌, ◌||◌, Bool, true, false, ℤ, pos, neg_ℤ, unsigned_abs, int_le, map, List, Some, None, slice_get, if◌then◌else◌}
 use Rattle.nomos_forms.specs.Linear.{form_value}
 use Rattle.nomos_forms.specs.declared.form.Form.{Form}
 use Rattle.nomos_forms.specs.declared.found.Found.{Found}
@@ -22,7 +22,7 @@ use Rattle.nomos_simplex.specs.declared.solved.Stop.{Stop}
 use Rattle.nomos_simplex.specs.declared.solved.Stop.TheVariants as stop
 use Rattle.nomos_simplex.specs.declared.table.Line.{Line}
 use Rattle.nomos_simplex.specs.declared.table.Table.{Table}
-use Rattle.nomos_simplex.specs.declared.turn.Turn.TheVariants.{Ends, Goes}
+use Rattle.nomos_simplex.specs.declared.turn.Turn.TheVariants.{Goes}
 
 -- ---- the runs, table by table
 -- the pivot run comes to a table, after so many pivots

@@ -1,5 +1,5 @@
 -- The choice of variables that lowers a goal.
-use Rattle.std.specs.Prelude.{ℕ, ◌*◌, nat_lt, Bool, true, false, ℤ, pos, ◌*ℤ◌, ◌-ℤ◌, unsigned_abs, int_lt, List, [], length, slice_index, slice_index_or, Option, if◌then◌else◌}
+use Rattle.std.specs.Prelude.{ℕ, ◌*◌, nat_lt, Bool, true, false, pos, ◌*ℤ◌, ◌-ℤ◌, unsigned_abs, int_lt, List, [], length, slice_index, slice_index_or, Option, if◌then◌else◌}
 use Rattle.nomos_forms.specs.declared.row_list.RowList.{RowList}
 use Rattle.nomos_simplex.specs.Exchange.{coef_at}
 use Rattle.nomos_simplex.specs.Lowest.{lowest_place, foremost_place}

@@ -1,4 +1,4 @@
-use Rattle.std.proofs.Common.{◌≡◌, pos, ◌-ℤ◌, ◌*ℤ◌, to_z, of_z, ap, sym, subst, ◌∙◌, arith, unsigned_abs, FitsSigned}
+use Rattle.std.proofs.Common.{pos, ◌-ℤ◌, ◌*ℤ◌, to_z, of_z, sym, subst, ◌∙◌, arith, FitsSigned}
 use Rattle.std.specs.Int.{w128}
 use Rattle.nomos_least.proofs.ProductLemmas.{wide_fits, wide_back, first_size, second_size, difference_size, back_product}
 use Rattle.nomos_least.proofs.products.difference.Goals as goal

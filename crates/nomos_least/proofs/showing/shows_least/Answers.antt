@@ -1,4 +1,4 @@
-use Rattle.std.proofs.Common.{◌<◌, All, length, ap, arith, sym, subst, pos, ◌*ℤ◌, ◌-ℤ◌, ◌≡◌}
+use Rattle.std.proofs.Common.{◌<◌, All, arith, sym, subst, pos, ◌*ℤ◌, ◌-ℤ◌, ◌≡◌}
 use Rattle.std.proofs.lemmas.List.Elements.{All-weaker}
 use Rattle.nomos_forms.specs.Bounds.{IsSmall, IsRow}
 use Rattle.nomos_forms.specs.Refuting.{coef_in, least_in, weighted, IsOneOf}

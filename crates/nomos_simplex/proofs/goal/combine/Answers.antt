@@ -1,7 +1,6 @@
-use Rattle.std.proofs.Common.{◌≡◌, ◌≤◌, ◌^◌, rules, pos, ℤ, [], ◌∷◌, ◌++◌, ◌+ℤ◌, ◌*ℤ◌, length, unsigned_abs, get_or, FitsSigned, to_z, of_z, ap, sym, subst, ◌∙◌, arith}
+use Rattle.std.proofs.Common.{◌≤◌, ◌^◌, rules, pos, [], ◌∷◌, ◌++◌, ◌+ℤ◌, ◌*ℤ◌, unsigned_abs, get_or, FitsSigned, sym, subst, ◌∙◌, arith}
 use Rattle.std.specs.Int.{w128}
 use Rattle.std.proofs.lemmas.Int.{to_z-of_z}
-use Rattle.nomos_simplex.specs.GoalLine.{combined}
 use Rattle.nomos_simplex.proofs.GoalLemmas.{length-combined, get_or-combined, combined_more}
 use Rattle.nomos_simplex.proofs.NumberLemmas.{number_back}
 use Rattle.nomos_simplex.proofs.goal.combine.Goals as goal

@@ -1,4 +1,4 @@
-use Rattle.std.proofs.Common.{◌≡◌, ◌==◌, ℕ, zero, suc, ◌+◌, ◌<◌, ◌≤◌, ◌∷◌, [], Bool, true, false, cond, List, ℤ, pos, length, drop, get_or, find, Option, Some, None, to_z, of_z, refl, ap, sym, subst, ◌∙◌, arith, All, add-one}
+use Rattle.std.proofs.Common.{◌≡◌, ◌==◌, ℕ, zero, suc, ◌+◌, ◌<◌, ◌≤◌, ◌∷◌, [], Bool, true, false, cond, List, ℤ, pos, length, drop, get_or, find, Option, Some, None, to_z, of_z, refl, ap, sym, subst, ◌∙◌, arith, add-one}
 use Rattle.std.specs.Int.{w64}
 use Rattle.std.proofs.lemmas.Int.{to_z-of_z, fits_signed_from_abs}
 use Rattle.std.proofs.lemmas.List.Elements.{All-weaker}

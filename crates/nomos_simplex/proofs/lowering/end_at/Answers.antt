@@ -1,7 +1,5 @@
-use Rattle.std.proofs.Common.{◌≡◌, length, subst, sym, ap, ◌∙◌, arith}
+use Rattle.std.proofs.Common.{subst, sym, ◌∙◌, arith}
 use Rattle.nomos_forms.specs.Bounds.{IsForm, IsFound}
-use Rattle.nomos_forms.specs.Meeting.{MeetsRows}
-use Rattle.nomos_simplex.specs.Exits.{fractions, found_or_large}
 use Rattle.nomos_simplex.proofs.ExitLemmas.{IsRightFor, found_low}
 use Rattle.nomos_simplex.proofs.LoweringLemmas.{aimed, line-is_line, lines-are_lines, few_columns}
 use Rattle.nomos_simplex.proofs.VariableLemmas.{nonbasic-is_variable}

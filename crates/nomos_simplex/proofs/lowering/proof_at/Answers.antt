@@ -1,4 +1,4 @@
-use Rattle.std.proofs.Common.{◌<◌, ◌^◌, ℕ, neg_ℤ, unsigned_abs, All, map, get_or, ap, sym, subst, ◌∙◌}
+use Rattle.std.proofs.Common.{◌<◌, ◌^◌, ℕ, neg_ℤ, All, map, get_or, ap, sym, subst, ◌∙◌}
 use Rattle.std.proofs.lemmas.List.Elements.{All-map}
 use Rattle.nomos_simplex.specs.Sizes.{IsNumber, IsVariable}
 use Rattle.nomos_simplex.proofs.OppositeLemmas.{abs_neg}

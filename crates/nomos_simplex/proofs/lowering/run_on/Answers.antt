@@ -1,4 +1,4 @@
-use Rattle.std.proofs.Common.{◌≡◌, sym, subst, ◌∙◌}
+use Rattle.std.proofs.Common.{sym, ◌∙◌}
 use Rattle.nomos_simplex.specs.LeastRun.{LeastRun}
 use Rattle.nomos_simplex.proofs.LoweringLemmas.{reached-is_table, lines-are_lines, few_columns}
 use Rattle.nomos_simplex.proofs.lowering.run_on.Goals as goal

@@ -1,6 +1,5 @@
-use Rattle.std.proofs.Common.{◌≡◌, sym, subst, ◌∙◌}
+use Rattle.std.proofs.Common.{◌∙◌}
 use Rattle.nomos_simplex.specs.LeastRun.{LeastRun}
-use Rattle.nomos_simplex.specs.mirror.Steps.{IsNotFound}
 use Rattle.nomos_simplex.proofs.lowering.without_amounts.Goals as goal
 
 pub returns-in-None : goal.returns-in-None

@@ -1,4 +1,3 @@
-use Rattle.std.proofs.Common.{◌≡◌, ◌*◌, ◌<◌, sym}
 use Rattle.nomos_simplex.proofs.FractionOrderLemmas.{whole_parts, rest_parts}
 use Rattle.nomos_simplex.proofs.nearest.is_less.Goals as goal
 

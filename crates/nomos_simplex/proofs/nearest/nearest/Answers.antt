@@ -1,9 +1,8 @@
-use Rattle.std.proofs.Common.{◌≡◌, ◌<◌, ℕ, length, pos, int_lt, get_or, IfSome, true, false, ap, sym, subst, ◌∙◌, to_z, of_z, arith}
+use Rattle.std.proofs.Common.{◌<◌, ℕ, length, pos, int_lt, get_or, IfSome, ap, sym, subst, ◌∙◌, to_z, of_z, arith}
 use Rattle.std.specs.Int.{w128}
 use Rattle.std.proofs.lemmas.List.{get_or_default}
 use Rattle.nomos_simplex.specs.Exchange.{coef_at}
 use Rattle.nomos_simplex.specs.Nearest.{is_nearer, line_at}
-use Rattle.nomos_simplex.specs.Sizes.{IsLine}
 use Rattle.nomos_simplex.specs.mirror.Steps.{MayLeave}
 use Rattle.nomos_simplex.specs.declared.table.Line.{Line}
 use Rattle.nomos_simplex.proofs.ChoiceLemmas.{foremost_then, foremost_else}

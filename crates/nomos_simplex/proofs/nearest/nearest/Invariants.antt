@@ -1,4 +1,4 @@
-use Rattle.std.proofs.Common.{◌≡◌, ◌<◌, pos, int_lt, IfSome}
+use Rattle.std.proofs.Common.{◌≡◌, pos, int_lt, IfSome}
 use Rattle.nomos_simplex.specs.Exchange.{coef_at}
 use Rattle.nomos_simplex.specs.Lowest.{foremost_place}
 use Rattle.nomos_simplex.specs.Nearest.{is_nearer, line_at}

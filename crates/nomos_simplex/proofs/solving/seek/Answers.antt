@@ -1,4 +1,4 @@
-use Rattle.std.proofs.Common.{◌≡◌, ◌+◌, ◌-◌, ap, sym, subst, ◌∙◌, arith}
+use Rattle.std.proofs.Common.{◌≡◌, ◌-◌, ap, sym, subst, ◌∙◌, arith}
 use Rattle.nomos_simplex.specs.LeastRun.{Reaches}
 use Rattle.nomos_simplex.specs.PivotRun.{run, answer_to}
 use Rattle.nomos_simplex.proofs.RunLaws.{turn-goes_on}
