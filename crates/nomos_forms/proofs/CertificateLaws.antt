@@ -60,7 +60,7 @@ spread_alike f g s [] h = refl
 spread_alike f g s (x ∷ xs) h = let rest = spread_alike f g (suc s) xs (λ t i. h t (omega arith)) in
     λ p. pos x *ℤ h s (omega arith) p +ℤ rest p
 
-spread_row : (cs : List ℤ) (s : ℕ) (xs : List ℕ) → dot cs xs ≡ spread (λ t. get_or cs (t - s) (pos 0)) s xs
+pub spread_row : (cs : List ℤ) (s : ℕ) (xs : List ℕ) → dot cs xs ≡ spread (λ t. get_or cs (t - s) (pos 0)) s xs
 spread_row [] s xs = sym (spread_zero (λ t. pos 0) s xs (λ t i j. refl))
 spread_row (c ∷ cs) s [] = refl
 spread_row (c ∷ cs) s (x ∷ xs) =
@@ -103,7 +103,7 @@ value_is : (n : ℕ) (rows : List Row) (xs : List ℕ) (o : Of) → length xs �
 value_is n rows xs (of.Star own) w h i = spread_star own 1 xs i.0
 value_is n rows xs (of.Row row) w h i = spread_row row.coefs 1 xs
 
-weighted_value : (n : ℕ) (rows : List Row) (xs : List ℕ) (ws : List Weight) → length xs ≡ n → All (IsRow n) rows →
+pub weighted_value : (n : ℕ) (rows : List Row) (xs : List ℕ) (ws : List Weight) → length xs ≡ n → All (IsRow n) rows →
     All (λ w. IsOneOf n rows w.of) ws → weighted (value_in xs) ws ≡ spread (λ s. weighted (coef_in s) ws) 1 xs
 weighted_value n rows xs [] w h i = sym (spread_zero (λ s. pos 0) 1 xs (λ t j k. refl))
 weighted_value n rows xs (v ∷ vs) w h i =
@@ -118,7 +118,7 @@ low_of : (n : ℕ) (rows : List Row) (xs : List ℕ) (unit : ℕ) (o : Of) → M
 low_of n rows xs unit (of.Star own) h i = at_most_in (pos unit *ℤ pos 0) (pos (get_or xs (own - 1) 0)) (omega arith)
 low_of n rows xs unit (of.Row row) h i = All-contains (MeetsRow xs unit) rows row h i
 
-low_sum_of : (n : ℕ) (rows : List Row) (xs : List ℕ) (unit : ℕ) (ws : List Weight) → MeetsRows xs unit rows →
+pub low_sum_of : (n : ℕ) (rows : List Row) (xs : List ℕ) (unit : ℕ) (ws : List Weight) → MeetsRows xs unit rows →
     All (λ w. IsOneOf n rows w.of) ws → (pos unit *ℤ weighted least_in ws) ≤ℤ weighted (value_in xs) ws
 low_sum_of n rows xs unit [] h i = at_most_in (pos unit *ℤ pos 0) (pos 0) (omega arith)
 low_sum_of n rows xs unit (v ∷ vs) h i =

@@ -3,4 +3,5 @@ pub mod LinearLemmas
 pub mod OrderLaws
 pub mod RowLaws
 pub mod RowLemmas
+pub mod SmallLaws
 pub mod WholeLaws

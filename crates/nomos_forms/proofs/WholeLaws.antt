@@ -66,3 +66,15 @@ count_cancel t a b h e = by_lt_z a b
 
     both : (x y : ℤ) → x ≤ℤ y → y ≤ℤ x → x ≡ y
     both x y le ge = omega (arith, ints)
+
+-- a count over 0 shows an order
+pub less_by_times : (m : ℕ) (a b : ℤ) → 0 < m → (pos m *ℤ a) ≤ℤ (pos m *ℤ b) → a ≤ℤ b
+less_by_times m a b h le = by_lt_z b a
+    (λ lt. absurd
+    (omega (
+      arith,
+      lt_out (pos m *ℤ b) (pos m *ℤ a) (count_times_lt m b a h lt),
+      le_out (pos m *ℤ a) (pos m *ℤ b)
+          le,
+    )))
+    (λ le'. le')

@@ -1,5 +1,5 @@
 //! Whether a verdict refutes rows.
-ghost use Rattle.std.specs.Prelude.{◌≡◌, ℕ, ◌<◌, ◌≤◌, ◌^◌, ◌↔◌, IsTrue, length, pos, All};
+ghost use Rattle.std.specs.Prelude.{◌≡◌, ℕ, ◌<◌, ◌≤◌, ◌^◌, ◌↔◌, IsTrue, length, pos, unsigned_abs, All};
 ghost use Rattle.nomos_forms.specs.Bounds.{IsSmall, IsVerdict};
 ghost use Rattle.nomos_forms.specs.Refuting.{coef_in, least_in, weighted, IsOneOf, LeavesNoStar, Refutes, NoneMeet};
 
@@ -24,8 +24,8 @@ fn is_there(weight: &Weight, rows: &RowList) -> bool
     weight.times > 0 && is_one_of(&weight.of, rows)
 }
 
-/// Whether each weight is over 0, and weighs a row or a bound that there is.
-fn are_all_there(weights: &[Weight], rows: &RowList) -> bool
+/// Whether each weight is over 0, and weighs one of the rows or the bound of one of the stars. It takes no memory.
+pub fn are_all_there(weights: &[Weight], rows: &RowList) -> bool
     ensures { IsTrue result ↔ All (λ w. IsOneOf rows.now.stars rows.now.rows w.of × (0 < w.times)) weights.now }
 {
     for weight in weights {
@@ -60,8 +60,8 @@ fn least(of: &Of) -> i64
     }
 }
 
-/// What the weighted rows and bounds have for a star, from 1 on.
-fn sum_for(weights: &[Weight], star: u16) -> i128
+/// What the weighted rows and bounds have together for a star, from 1 on.
+pub fn sum_for(weights: &[Weight], star: u16) -> i128
     requires star { 1 ≤ star }
     requires few { length weights.now ≤ 65 }
     requires times { All (λ w. w.times < 2 ^ 62) weights.now }
@@ -75,12 +75,13 @@ fn sum_for(weights: &[Weight], star: u16) -> i128
     sum
 }
 
-/// What the weighted rows and bounds are at least.
-fn sum_of_least(weights: &[Weight]) -> i128
+/// What the weighted rows and bounds are together at least, in units of gas.
+pub fn sum_of_least(weights: &[Weight]) -> i128
     requires few { length weights.now ≤ 65 }
     requires times { All (λ w. w.times < 2 ^ 62) weights.now }
     requires small { All (λ w. IsSmall (least_in w.of)) weights.now }
-    ensures { result ≡ weighted least_in weights.now }
+    ensures value { result ≡ weighted least_in weights.now }
+    ensures size { unsigned_abs result ≤ 2 ^ 114 }
 {
     let mut sum: i128 = 0;
     for weight in weights {

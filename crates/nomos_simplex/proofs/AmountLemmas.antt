@@ -3,17 +3,16 @@ use Rattle.std.proofs.Common.{◌≡◌, ◌==◌, ℕ, zero, suc, ◌-◌, ◌*
 use Rattle.std.specs.Prelude.{nat_le, slice_get}
 use Rattle.std.specs.List.{find}
 use Rattle.std.specs.Int.{◌∣◌}
-use Rattle.std.proofs.lemmas.Int.{by_lt_z}
 use Rattle.std.proofs.lemmas.Bool.{cond-true, le-leb, cases_lt, eqb-true, eq-eqb}
 use Rattle.std.proofs.lemmas.List.Elements.{All-nil, All-cons, All-head, All-tail, All-weaker}
 use Rattle.std.proofs.lemmas.Nat.Gcd.{dvd_refl, dvd_trans}
 use Rattle.std.proofs.Math.IntN.{*ℤ-zero, *ℤ_comm}
 use Rattle.std.proofs.Math.Nat.{div-one}
 use native.Mathlib.Nat.{one-dvd, dvd-mul_left, dvd-mul_right, dvd-mul_left_of_dvd, mul-dvd-mul, mul-dvd-mul_left, div-mul_cancel}
-use borrow.Author.Differences.{lt_out, le_out, at_most_in}
+use borrow.Author.Differences.{le_out, at_most_in}
 use Rattle.nomos_forms.specs.Linear.{dot}
 use Rattle.nomos_forms.specs.declared.row_list.RowList.{RowList}
-use Rattle.nomos_forms.proofs.WholeLaws.{times_sum, times_assoc, times_swap, count_times_le, count_times_lt}
+use Rattle.nomos_forms.proofs.WholeLaws.{times_sum, times_assoc, times_swap, count_times_le}
 use Rattle.nomos_simplex.specs.Divisors.{gcd, lcm}
 use Rattle.nomos_simplex.specs.Exits.{fraction_in, fraction_of, denominator, common_denominator}
 use Rattle.nomos_simplex.specs.Tables.{least_or_zero, bound_of, sum_at, Holds}
@@ -26,7 +25,7 @@ use Rattle.nomos_simplex.proofs.SumLemmas.{sum_times_all}
 use Rattle.nomos_simplex.proofs.VariableLemmas.{HasEachOnce, not_found, finds}
 
 -- ---- the unit: a multiple of each denominator
-part_over_zero : (a g : ℕ) → 0 < a → g ∣ a → 0 < a / g
+pub part_over_zero : (a g : ℕ) → 0 < a → g ∣ a → 0 < a / g
 part_over_zero a g h d =
     let e = div-mul_cancel g d in ⊎_elim (λ l. l) (λ z. absurd (no_part (a / g) (omega arith) e)) (cases_lt 0 (a / g))
   where
@@ -101,31 +100,35 @@ product_positive (line ∷ lines) h =
 abbrev pub AreOverZero : Table → Type 0
 AreOverZero table = All (λ line. pos 0 <ℤ line.times) table.lines
 
--- ---- what a variable has, m times
-abbrev pub value_from : ℕ → RowList → List ℕ → ℕ → Option Line → ℤ
-value_from m rows vs v (Some line) = pos (m / unsigned_abs line.times) *ℤ sum_at (bound_of rows) vs line.coefs
-value_from m rows vs v None = pos m *ℤ bound_of rows v
+-- ---- what a variable has, m times, where the nonbasic ones have what b says
+abbrev pub value_from : ℕ → (ℕ → ℤ) → List ℕ → ℕ → Option Line → ℤ
+value_from m b vs v (Some line) = pos (m / unsigned_abs line.times) *ℤ sum_at b vs line.coefs
+value_from m b vs v None = pos m *ℤ b v
 
+abbrev pub value_under : ℕ → (ℕ → ℤ) → Table → ℕ → ℤ
+value_under m b table v = value_from m b table.nonbasic v (find (λ line. line.basic == v) table.lines)
+
+-- at the bounds
 abbrev pub value_of : ℕ → RowList → Table → ℕ → ℤ
-value_of m rows table v = value_from m rows table.nonbasic v (find (λ line. line.basic == v) table.lines)
+value_of m rows table v = value_under m (bound_of rows) table v
 
-pub value-nonbasic : (m : ℕ) (rows : RowList) (table : Table) → HasEachOnce rows table →
-    All (λ v. value_of m rows table v ≡ pos m *ℤ bound_of rows v) table.nonbasic
-value-nonbasic m rows table h k d l =
+pub value-nonbasic : (m : ℕ) (b : ℕ → ℤ) (rows : RowList) (table : Table) → HasEachOnce rows table →
+    All (λ v. value_under m b table v ≡ pos m *ℤ b v) table.nonbasic
+value-nonbasic m b rows table h k d l =
     let v = get_or table.nonbasic k d in
     let one = counted (λ w. w == v) table.nonbasic k d l (eq-eqb v v refl) in
     let once = h.once v in
-    ap (value_from m rows table.nonbasic v) (not_found v table.lines (omega arith))
+    ap (value_from m b table.nonbasic v) (not_found v table.lines (omega arith))
 
-pub value-basic : (m : ℕ) (rows : RowList) (table : Table) (k : ℕ) (d : Line) → HasEachOnce rows table →
+pub value-basic : (m : ℕ) (b : ℕ → ℤ) (rows : RowList) (table : Table) (k : ℕ) (d : Line) → HasEachOnce rows table →
     k < length table.lines →
-    value_of m rows table (get_or table.lines k d).basic ≡ pos
-    (m / unsigned_abs (get_or table.lines k d).times) *ℤ sum_at (bound_of rows) table.nonbasic
+    value_under m b table (get_or table.lines k d).basic ≡ pos
+    (m / unsigned_abs (get_or table.lines k d).times) *ℤ sum_at b table.nonbasic
     (get_or table.lines k d).coefs
-value-basic m rows table k d h l =
+value-basic m b rows table k d h l =
     let v = (get_or table.lines k d).basic in
     let once = h.once v in
-    ap (value_from m rows table.nonbasic v) (finds v table.lines k d l refl (omega arith))
+    ap (value_from m b table.nonbasic v) (finds v table.lines k d l refl (omega arith))
 
 times_part : (t : ℤ) (m : ℕ) (s : ℤ) → pos 0 <ℤ t → unsigned_abs t ∣ m →
     t *ℤ (pos (m / unsigned_abs t) *ℤ s) ≡ pos m *ℤ s
@@ -136,16 +139,16 @@ times_part t m s over d =
     ∙ *ℤ_comm (pos (unsigned_abs t)) (pos (m / unsigned_abs t)) ∙ ap pos (div-mul_cancel (unsigned_abs t) d))
 
 -- each line is true of these
-pub values_hold : (rows : RowList) (table : Table) → HasEachOnce rows table → AreOverZero table →
-    Holds (value_of (times_product table.lines) rows table) table
-values_hold rows table h over k d l =
+pub values_hold : (b : ℕ → ℤ) (rows : RowList) (table : Table) → HasEachOnce rows table → AreOverZero table →
+    Holds (value_under (times_product table.lines) b table) table
+values_hold b rows table h over k d l =
     let m = times_product table.lines in
     let line = get_or table.lines k d in
-    ap (λ x. line.times *ℤ x) (value-basic m rows table k d h l)
-    ∙ times_part line.times m (sum_at (bound_of rows) table.nonbasic line.coefs) (over k d l)
+    ap (λ x. line.times *ℤ x) (value-basic m b rows table k d h l)
+    ∙ times_part line.times m (sum_at b table.nonbasic line.coefs) (over k d l)
     (product-divided table.lines k d l)
-    ∙ sym (sum_times_all (bound_of rows) (value_of m rows table) (pos m) table.nonbasic line.coefs
-    (value-nonbasic m rows table h))
+    ∙ sym (sum_times_all b (value_under m b table) (pos m) table.nonbasic line.coefs
+    (value-nonbasic m b rows table h))
 
 -- ---- none is below its bound
 abbrev pub NoneBelow : RowList → Table → Type 0
@@ -189,8 +192,8 @@ le_same a = at_most_in a a (omega arith)
 
 low_in : (rows : RowList) (table : Table) (v : ℕ) (o : Option Line) →
     ((line : Line) → o ≡ Some line → IsLineOf rows table v line) →
-    (pos (times_product table.lines) *ℤ bound_of rows v) ≤ℤ value_from (times_product table.lines) rows table.nonbasic
-    v o
+    (pos (times_product table.lines) *ℤ bound_of rows v) ≤ℤ value_from (times_product table.lines) (bound_of rows)
+    table.nonbasic v o
 low_in rows table v None h = le_same (pos (times_product table.lines) *ℤ bound_of rows v)
 low_in rows table v (Some line) h =
     let m = times_product table.lines in
@@ -229,7 +232,7 @@ record IsFractionOf (rows : RowList) (table : Table) (v : ℕ) (f : ℕ × ℕ) 
 fraction_is : (rows : RowList) (table : Table) (v : ℕ) (o : Option Line) → v ≤ rows.stars →
     ((line : Line) → o ≡ Some line → IsLineOf rows table v line) →
     IsFractionOf rows table v (fraction_in rows table.nonbasic o)
-    (value_from (times_product table.lines) rows table.nonbasic v o)
+    (value_from (times_product table.lines) (bound_of rows) table.nonbasic v o)
 fraction_is rows table v None few h = record {
   over = omega arith;
   divides = one-dvd (times_product table.lines);
@@ -293,15 +296,3 @@ dot_scaled y h u m (v ∷ vs) (c ∷ cs) all =
     (times_swap u c (y v) ∙ ap (λ x. c *ℤ x) (All-head (λ v. u *ℤ y v ≡ m *ℤ pos (h v)) v vs all)
     ∙ times_swap c m (pos (h v)) ∙ ap (λ x. m *ℤ x) (*ℤ_comm c (pos (h v))))
     (dot_scaled y h u m vs cs (All-tail (λ v. u *ℤ y v ≡ m *ℤ pos (h v)) v vs all))
-
--- a count over 0 shows an order
-pub less_by_times : (m : ℕ) (a b : ℤ) → 0 < m → (pos m *ℤ a) ≤ℤ (pos m *ℤ b) → a ≤ℤ b
-less_by_times m a b h le = by_lt_z b a
-    (λ lt. absurd
-    (omega (
-      arith,
-      lt_out (pos m *ℤ b) (pos m *ℤ a) (count_times_lt m b a h lt),
-      le_out (pos m *ℤ a) (pos m *ℤ b)
-          le,
-    )))
-    (λ le'. le')

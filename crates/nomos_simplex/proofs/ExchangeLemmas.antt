@@ -39,12 +39,12 @@ abs_not_zero : (a : ℤ) → 0 < unsigned_abs a → ¬ (a ≡ pos 0)
 abs_not_zero a h e = let z = ap unsigned_abs e in omega arith
 
 -- ---- lowest terms
-record Divides (d : ℤ) (line : Line) : Type 0 where
-  other : ¬ (d ≡ pos 0)
-  times : int_div line.times d *ℤ d ≡ line.times
-  coefs : All (λ c. int_div c d *ℤ d ≡ c) line.coefs
+pub record Divides (d : ℤ) (line : Line) : Type 0 where
+  pub other : ¬ (d ≡ pos 0)
+  pub times : int_div line.times d *ℤ d ≡ line.times
+  pub coefs : All (λ c. int_div c d *ℤ d ≡ c) line.coefs
 
-lowest_divides : (line : Line) → ¬ (line.times ≡ pos 0) →
+pub lowest_divides : (line : Line) → ¬ (line.times ≡ pos 0) →
     Divides (signed_like line.times (common (unsigned_abs line.times) line.coefs)) line
 lowest_divides line n =
     let g = common (unsigned_abs line.times) line.coefs in
@@ -60,23 +60,31 @@ lowest_divides line n =
           (common_divides_each (unsigned_abs line.times) line.coefs);
     }
 
-divided_holds : (y : ℕ → ℤ) (vs : List ℕ) (d : ℤ) (line : Line) → Divides d line →
-    HoldsAt y vs (divided_by d line) ↔ HoldsAt y vs line
-divided_holds y vs d line h =
-    let left : d *ℤ (int_div line.times d *ℤ y line.basic) ≡ line.times *ℤ y line.basic =
-    sym (times_assoc d (int_div line.times d) (y line.basic))
-    ∙ ap (λ z. z *ℤ y line.basic) (*ℤ_comm d (int_div line.times d) ∙ h.times) in
+-- a line is true of a value for its own variable, beside what the others have
+abbrev pub HoldsFor : ℤ → (ℕ → ℤ) → List ℕ → Line → Type 0
+HoldsFor w y vs line = line.times *ℤ w ≡ sum_at y vs line.coefs
+
+divided_holds : (w : ℤ) (y : ℕ → ℤ) (vs : List ℕ) (d : ℤ) (line : Line) → Divides d line →
+    HoldsFor w y vs (divided_by d line) ↔ HoldsFor w y vs line
+divided_holds w y vs d line h =
+    let left : d *ℤ (int_div line.times d *ℤ w) ≡ line.times *ℤ w =
+    sym (times_assoc d (int_div line.times d) w)
+    ∙ ap (λ z. z *ℤ w) (*ℤ_comm d (int_div line.times d) ∙ h.times) in
     let right = sum_scaled y d (λ c. int_div c d) vs line.coefs h.coefs in (
       (λ e. sym left ∙ ap (λ z. d *ℤ z) e ∙ right),
-      (λ e. cancel d (int_div line.times d *ℤ y line.basic) (sum_at y vs (map (λ c. int_div c d) line.coefs))
+      (λ e. cancel d (int_div line.times d *ℤ w) (sum_at y vs (map (λ c. int_div c d) line.coefs))
           h.other (left ∙ e ∙ sym right)),
     )
 
+pub lowest_holds_for : (w : ℤ) (y : ℕ → ℤ) (vs : List ℕ) (line : Line) → ¬ (line.times ≡ pos 0) →
+    HoldsFor w y vs (in_lowest_terms line) ↔ HoldsFor w y vs line
+lowest_holds_for w y vs line n =
+    divided_holds w y vs (signed_like line.times (common (unsigned_abs line.times) line.coefs)) line
+    (lowest_divides line n)
+
 pub lowest_holds : (y : ℕ → ℤ) (vs : List ℕ) (line : Line) → ¬ (line.times ≡ pos 0) →
     HoldsAt y vs (in_lowest_terms line) ↔ HoldsAt y vs line
-lowest_holds y vs line n =
-    divided_holds y vs (signed_like line.times (common (unsigned_abs line.times) line.coefs)) line
-    (lowest_divides line n)
+lowest_holds y vs line n = lowest_holds_for (y line.basic) y vs line n
 
 pub lowest_over_zero : (line : Line) → ¬ (line.times ≡ pos 0) → pos 0 <ℤ (in_lowest_terms line).times
 lowest_over_zero line n =
@@ -147,38 +155,62 @@ solved_holds y vs j line h i =
     (sum_neg y vs line.coefs)
 
 -- ---- another line
-put_in : (new u v w pa gc : ℤ) → new +ℤ u ≡ v +ℤ w → u ≡ pos 0 → v ≡ pa -ℤ gc → w ≡ gc → new ≡ pa
-put_in new u v w pa gc h i j k = omega (arith, ints)
+put_in : (new u v w pa gc : ℤ) → new +ℤ u ≡ v +ℤ w → u ≡ pos 0 → v ≡ pa -ℤ gc → new ≡ pa -ℤ (gc -ℤ w)
+put_in new u v w pa gc h i j = omega (arith, ints)
 
 nothing_left : (p g z : ℤ) → (p *ℤ g -ℤ g *ℤ p) *ℤ z ≡ pos 0
 nothing_left p g z = ap (λ x. x *ℤ z) (minus_itself (p *ℤ g) (g *ℤ p) (*ℤ_comm p g)) ∙ *ℤ_comm (pos 0) z ∙ *ℤ-zero z
 
-pub put_sum : (y : ℕ → ℤ) (vs : List ℕ) (j : ℕ) (left line : Line) → j < length vs → j < length left.coefs →
-    length line.coefs ≡ length left.coefs → HoldsAt y vs left →
-    sum_at y (set vs j left.basic) (put_into j left line).coefs ≡ coef_at j left *ℤ sum_at y vs line.coefs
-put_sum y vs j left line h i w l =
+-- what is put in comes to p times what the line does, less g times what the line that is left does more than its own
+pub put_sum_free : (y : ℕ → ℤ) (vs : List ℕ) (j : ℕ) (left line : Line) → j < length vs → j < length left.coefs →
+    length line.coefs ≡ length left.coefs →
+    sum_at y (set vs j left.basic) (put_into j left line).coefs ≡ coef_at j left *ℤ sum_at y vs line.coefs -ℤ
+    coef_at j line *ℤ (sum_at y vs left.coefs -ℤ left.times *ℤ y left.basic)
+put_sum_free y vs j left line h i w =
     let p = coef_at j left in
     let g = coef_at j line in
     let e = get_or vs j 0 in
     let many = eliminated p g line.coefs left.coefs in
     put_in (sum_at y (set vs j left.basic) (set many j (g *ℤ left.times))) (get_or many j (pos 0) *ℤ y e)
-    (sum_at y vs many) ((g *ℤ left.times) *ℤ y left.basic) (p *ℤ sum_at y vs line.coefs)
+    (sum_at y vs many) (g *ℤ (left.times *ℤ y left.basic)) (p *ℤ sum_at y vs line.coefs)
     (g *ℤ sum_at y vs left.coefs)
-    (sum_set y vs many j left.basic (g *ℤ left.times) h (omega (arith, length-eliminated p g line.coefs left.coefs w)))
+    (sum_set y vs many j left.basic (g *ℤ left.times) h (omega (arith, length-eliminated p g line.coefs left.coefs w))
+    ∙ ap (λ z. sum_at y vs many +ℤ z) (times_assoc g left.times (y left.basic)))
     (ap (λ z. z *ℤ y e) (get_or-eliminated p g line.coefs left.coefs j w i) ∙ nothing_left p g (y e))
     (sum_eliminated y p g vs line.coefs left.coefs w)
-    (times_assoc g left.times (y left.basic) ∙ ap (λ z. g *ℤ z) l)
+    ∙ ap (λ z. p *ℤ sum_at y vs line.coefs -ℤ z) (sym (times_minus g (sum_at y vs left.coefs)
+    (left.times *ℤ y left.basic)))
+
+less_nothing : (a g b : ℤ) → b ≡ pos 0 → a -ℤ g *ℤ b ≡ a
+less_nothing a g b h = ap (λ z. a -ℤ g *ℤ z) h ∙ ap (λ z. a -ℤ z) (*ℤ-zero g) ∙ less a
+  where
+    less : (a : ℤ) → a -ℤ pos 0 ≡ a
+    less a = omega (arith, ints)
+
+pub put_sum : (y : ℕ → ℤ) (vs : List ℕ) (j : ℕ) (left line : Line) → j < length vs → j < length left.coefs →
+    length line.coefs ≡ length left.coefs → HoldsAt y vs left →
+    sum_at y (set vs j left.basic) (put_into j left line).coefs ≡ coef_at j left *ℤ sum_at y vs line.coefs
+put_sum y vs j left line h i w l =
+    put_sum_free y vs j left line h i w
+    ∙ less_nothing (coef_at j left *ℤ sum_at y vs line.coefs) (coef_at j line)
+    (sum_at y vs left.coefs -ℤ left.times *ℤ y left.basic)
+    (minus_itself (sum_at y vs left.coefs) (left.times *ℤ y left.basic) (sym l))
+
+pub put_holds_for : (value : ℤ) (y : ℕ → ℤ) (vs : List ℕ) (j : ℕ) (left line : Line) → j < length vs →
+    j < length left.coefs → length line.coefs ≡ length left.coefs → ¬ (coef_at j left ≡ pos 0) → HoldsAt y vs left →
+    HoldsFor value y (set vs j left.basic) (put_into j left line) ↔ HoldsFor value y vs line
+put_holds_for value y vs j left line h i w n l =
+    let p = coef_at j left in
+    let sum = put_sum y vs j left line h i w l in
+    let first = times_assoc p line.times value in (
+      (λ e. cancel p (line.times *ℤ value) (sum_at y vs line.coefs) n (sym first ∙ e ∙ sum)),
+      (λ e. first ∙ ap (λ z. p *ℤ z) e ∙ sym sum),
+    )
 
 pub put_holds : (y : ℕ → ℤ) (vs : List ℕ) (j : ℕ) (left line : Line) → j < length vs → j < length left.coefs →
     length line.coefs ≡ length left.coefs → ¬ (coef_at j left ≡ pos 0) → HoldsAt y vs left →
     HoldsAt y (set vs j left.basic) (put_into j left line) ↔ HoldsAt y vs line
-put_holds y vs j left line h i w n l =
-    let p = coef_at j left in
-    let sum = put_sum y vs j left line h i w l in
-    let first = times_assoc p line.times (y line.basic) in (
-      (λ e. cancel p (line.times *ℤ y line.basic) (sum_at y vs line.coefs) n (sym first ∙ e ∙ sum)),
-      (λ e. first ∙ ap (λ z. p *ℤ z) e ∙ sym sum),
-    )
+put_holds y vs j left line h i w n l = put_holds_for (y line.basic) y vs j left line h i w n l
 
 pub put_width : (j : ℕ) (left line : Line) → length line.coefs ≡ length left.coefs →
     length (put_into j left line).coefs ≡ length line.coefs

@@ -61,13 +61,13 @@ last-exchanged P i j left table h =
     All-last P (map (entered j left) (remove table.lines i)) (solved_line j left table) h
 
 -- ---- each of them holds exactly where it held before
-left_of : (i j : ℕ) (left : Line) (table : Table) → MayExchange i j left table → IsLineIn table left
+pub left_of : (i j : ℕ) (left : Line) (table : Table) → MayExchange i j left table → IsLineIn table left
 left_of i j left table m = at_place (IsLineIn table) table.lines i left m.place m.lines
 
-column_of : (i j : ℕ) (left : Line) (table : Table) → MayExchange i j left table → j < length left.coefs
+pub column_of : (i j : ℕ) (left : Line) (table : Table) → MayExchange i j left table → j < length left.coefs
 column_of i j left table m = let l = left_of i j left table m in subst (λ n. j < n) (sym l.width) m.column
 
-put_not_zero : (j : ℕ) (left line : Line) → ¬ (coef_at j left ≡ pos 0) → pos 0 <ℤ line.times →
+pub put_not_zero : (j : ℕ) (left line : Line) → ¬ (coef_at j left ≡ pos 0) → pos 0 <ℤ line.times →
     ¬ ((put_into j left line).times ≡ pos 0)
 put_not_zero j left line n h = not_zero_product (coef_at j left) line.times n (not_zero_over line.times h)
 

@@ -16,7 +16,7 @@ use Rattle.nomos_forms.specs.Refuting.{coef_in, least_in, IsOneOf, Refutes, weig
 use Rattle.nomos_forms.specs.declared.found.Found.{Found}
 use Rattle.nomos_forms.specs.declared.row_list.RowList.{RowList}
 use Rattle.nomos_forms.specs.declared.verdict.Weight.{Weight}
-use Rattle.nomos_forms.proofs.WholeLaws.{times_swap, count_times_le}
+use Rattle.nomos_forms.proofs.WholeLaws.{times_swap, count_times_le, less_by_times}
 use Rattle.nomos_simplex.specs.Exchange.{is_large_line}
 use Rattle.nomos_simplex.specs.Exits.{fraction_of, fractions, denominator, common_denominator, amounts_over, found_or_large, with_weight, weights_below, weight_of, of_variable, verdict_of}
 use Rattle.nomos_simplex.specs.Lowest.{is_below, leaving, entering}
@@ -27,7 +27,7 @@ use Rattle.nomos_simplex.specs.declared.solved.Solved.{Solved}
 use Rattle.nomos_simplex.specs.declared.solved.Stop.TheVariants as stop
 use Rattle.nomos_simplex.specs.declared.table.Line.{Line}
 use Rattle.nomos_simplex.specs.declared.table.Table.{Table}
-use Rattle.nomos_simplex.proofs.AmountLemmas.{NoneBelow, value_of, times_product, product_positive, values_hold, values_high, amount_of, amounts_scaled, fraction_over_zero, common-divided_by_each, common_over_zero, dot_scaled, less_by_times}
+use Rattle.nomos_simplex.proofs.AmountLemmas.{NoneBelow, value_of, times_product, product_positive, values_hold, values_high, amount_of, amounts_scaled, fraction_over_zero, common-divided_by_each, common_over_zero, dot_scaled}
 use Rattle.nomos_simplex.proofs.CountLemmas.{All-from_map}
 use Rattle.nomos_simplex.proofs.ExchangedLemmas.{IsLineIn, at_place}
 use Rattle.nomos_simplex.proofs.FirstLemmas.{at_lines_from}
@@ -44,7 +44,7 @@ IsRightFor rows (solved.None v) = Refutes rows.stars rows.rows v × IsVerdict v
 IsRightFor rows (solved.Unsolved s) = Unit {0}
 
 -- ---- amounts
-none_below : (rows : RowList) (table : Table) → leaving rows table ≡ None → NoneBelow rows table
+pub none_below : (rows : RowList) (table : Table) → leaving rows table ≡ None → NoneBelow rows table
 none_below rows table e k d l =
     let line = get_or table.lines k d in
     let no = none_passes (λ i. get_or (map (is_below rows table.nonbasic) table.lines) i false)
@@ -54,11 +54,11 @@ none_below rows table e k d l =
     at_most_in (line.times *ℤ bound_of rows line.basic) (sum_at (bound_of rows) table.nonbasic line.coefs)
     (lt-false (sum_at (bound_of rows) table.nonbasic line.coefs) (line.times *ℤ bound_of rows line.basic) no')
 
-map_twice : {X Y Z : Type 0} (g : Y → Z) (f : X → Y) (xs : List X) → map g (map f xs) ≡ map (λ x. g (f x)) xs
+pub map_twice : {X Y Z : Type 0} (g : Y → Z) (f : X → Y) (xs : List X) → map g (map f xs) ≡ map (λ x. g (f x)) xs
 map_twice g f [] = refl
 map_twice g f (x ∷ xs) = ap (λ zs. g (f x) ∷ zs) (map_twice g f xs)
 
-range_within : (n : ℕ) → All (λ v. v ≤ n) (range_with_len 1 n)
+pub range_within : (n : ℕ) → All (λ v. v ≤ n) (range_with_len 1 n)
 range_within n k d l =
     let k' : k < n = omega (arith, length-range_with_len 1 n) in omega (arith, get_or-range_with_len 1 n k d k')
 
@@ -74,7 +74,7 @@ meets rows table t none k e l =
     let v = rows.stars + 1 + k in
     let ones =
     at_lines_from (HoldsAt y vs) (rows.stars + 1) rows.rows k e l
-    (t.true_of_rows y (values_hold rows table t.each_once (are_over_zero rows table t))) in
+    (t.true_of_rows y (values_hold (bound_of rows) rows table t.each_once (are_over_zero rows table t))) in
     let divided =
     All-from_map (λ f. denominator f ∣ u) (fraction_of rows table) vs
     (common-divided_by_each 1 (fractions rows table)) in
@@ -99,7 +99,7 @@ meets rows table t none k e l =
     once : (x : ℤ) → pos 1 *ℤ x ≡ x
     once x = omega (arith, ints)
 
-unit_positive : (rows : RowList) (table : Table) → IsTableOfRows rows table → NoneBelow rows table →
+pub unit_positive : (rows : RowList) (table : Table) → IsTableOfRows rows table → NoneBelow rows table →
     0 < common_denominator 1 (fractions rows table)
 unit_positive rows table t none = common_over_zero 1 (fractions rows table) (omega arith)
     (All-map (λ f. 0 < f.1) (fraction_of rows table) (range_with_len 1 rows.stars)
@@ -135,16 +135,19 @@ found_or_none : (rows : RowList) (f : Found) (pivots : ℕ) (t : Bool) →
 found_or_none rows f pivots true h = h refl
 found_or_none rows f pivots false h = tt
 
-pub found_exit : (pivots : ℕ) (rows : RowList) (table : Table) → IsTableOfRows rows table →
-    leaving rows table ≡ None → IsRightFor rows (found_or_large pivots (fractions rows table))
-found_exit pivots rows table t e =
-    let none = none_below rows table e in
+pub found_low : (pivots : ℕ) (rows : RowList) (table : Table) → IsTableOfRows rows table → NoneBelow rows table →
+    IsRightFor rows (found_or_large pivots (fractions rows table))
+found_low pivots rows table t none =
     let fs = fractions rows table in
     let u = common_denominator 1 fs in
     let no_large = list_all (λ x. nat_lt x (2 ^ 62)) (amounts_over u fs) in
     found_or_none rows (record { stars = amounts_over u fs; unit = u }) pivots (nat_le u (2 ^ 31) && no_large)
     (λ passes.
     (meets rows table t none, amounts_found rows table t none (and_parts (nat_le u (2 ^ 31)) no_large passes).1))
+
+pub found_exit : (pivots : ℕ) (rows : RowList) (table : Table) → IsTableOfRows rows table →
+    leaving rows table ≡ None → IsRightFor rows (found_or_large pivots (fractions rows table))
+found_exit pivots rows table t e = found_low pivots rows table t (none_below rows table e)
 
 -- ---- a verdict
 no_positive : (table : Table) (line : Line) → length line.coefs ≡ length table.nonbasic → entering table line ≡ None →
@@ -155,7 +158,7 @@ no_positive table line w e k d l =
     subst (λ c. c ≤ℤ pos 0) (get_or_default line.coefs k (pos 0) d l)
     (at_most_in (get_or line.coefs k (pos 0)) (pos 0) (lt-false (pos 0) (get_or line.coefs k (pos 0)) no))
 
-abs_of_below : (c : ℤ) → int_lt c (pos 0) ≡ true → 0 < unsigned_abs c
+pub abs_of_below : (c : ℤ) → int_lt c (pos 0) ≡ true → 0 < unsigned_abs c
 abs_of_below (pos c) e = absurd (omega (arith, lt-true (pos c) (pos 0) e))
 abs_of_below (negsuc c) e = omega arith
 

@@ -1,4 +1,5 @@
 pub mod AmountLemmas
+pub mod BoundedLemmas
 pub mod ChoiceLemmas
 pub mod CountLemmas
 pub mod DivisorLemmas
@@ -7,10 +8,17 @@ pub mod ExchangedLemmas
 pub mod ExitLemmas
 pub mod FirstLemmas
 pub mod FractionLemmas
+pub mod FractionOrderLemmas
 pub mod GcdLemmas
+pub mod GoalLemmas
+pub mod GoalLineLemmas
+pub mod LeastRunLaws
 pub mod LineLemmas
+pub mod LoweringLemmas
 pub mod NumberLemmas
+pub mod OppositeLemmas
 pub mod PlaceLemmas
+pub mod RatioLemmas
 pub mod RunLaws
 pub mod SignLemmas
 pub mod SolveLemmas

@@ -1,7 +1,7 @@
 -- Each variable stands once in a table, as a nonbasic or as a basic one.
-use Rattle.std.proofs.Common.{◌≡◌, ℕ, zero, suc, ◌+◌, ◌<◌, ◌≤◌, ◌==◌, List, [], ◌∷◌, length, map, get_or, set, Bool, true, false, cond, ap, sym, refl, subst, ◌∙◌, arith, pos, All, ◌⊎◌, ◌≢◌, ⊎_elim, Some, None}
+use Rattle.std.proofs.Common.{◌≡◌, ℕ, zero, suc, ◌+◌, ◌<◌, ◌≤◌, ◌==◌, List, [], ◌∷◌, length, map, get_or, set, Bool, true, false, cond, ap, sym, refl, subst, ◌∙◌, arith, pos, All, ◌⊎◌, ◌≢◌, ⊎_elim, Option, Some, None}
 use Rattle.std.specs.List.{remove, range_with_len, count_by, find}
-use Rattle.std.proofs.lemmas.Bool.{eq-eqb}
+use Rattle.std.proofs.lemmas.Bool.{eq-eqb, cases_lt}
 use Rattle.std.proofs.lemmas.Bool.Decides.{eqb_tells}
 use Rattle.std.proofs.lemmas.List.Sums.{sum_by-set, sum_by-remove, sum_by_push, sum_by-cons}
 use Rattle.std.proofs.lemmas.Option.{get_or_from_slice_get, slice_get_within}
@@ -23,9 +23,10 @@ nonbasic_times v vs = count_by (λ w. w == v) vs
 abbrev pub basic_times : ℕ → List Line → ℕ
 basic_times v lines = count_by (λ line. line.basic == v) lines
 
--- a count of v is at most 1, and 0 outside of a range
+-- a count of v is 1 within a range, and 0 outside of it
 record IsOnceWithin (a b v c : ℕ) : Type 0 where
   once : c ≤ 1
+  within : a ≤ v → v < b → c ≡ 1
   below : v < a → c ≡ 0
   above : b ≤ v → c ≡ 0
 
@@ -34,7 +35,12 @@ once_more : (a b v c r : ℕ) (t : Bool) → a < b → ((t ≡ true) × (a ≡ v
     c ≡ cond t 1 0 + r → IsOnceWithin (a + 1) b v r → IsOnceWithin a b v c
 once_more a b v c r true less tells e h = ⊎_elim
     (λ same. let at : a ≡ v = same.1 in let none =
-    h.below (omega arith) in record { once = omega arith; below = λ l. omega arith; above = λ l. omega arith })
+    h.below (omega arith) in record {
+      once = omega arith;
+      within = λ l m. omega arith;
+      below = λ l. omega arith;
+      above = λ l. omega arith;
+    })
     (λ no. absurd (no_true no.0))
     tells
   where
@@ -44,6 +50,7 @@ once_more a b v c r false less tells e h = ⊎_elim
     (λ same. absurd (no_false same.0))
     (λ no. record {
       once = omega (arith, h.once);
+      within = λ l m. let apart = no.1 in omega (arith, h.within (omega arith) m);
       below = λ l. omega (arith, h.below (omega arith));
       above =
           λ l. omega (arith, h.above l);
@@ -54,7 +61,12 @@ once_more a b v c r false less tells e h = ⊎_elim
     no_false e = cc
 
 none_yet : (a v : ℕ) → IsOnceWithin a (a + 0) v 0
-none_yet a v = record { once = omega arith; below = λ l. refl; above = λ l. refl }
+none_yet a v = record {
+  once = omega arith;
+  within = λ l m. absurd (omega arith);
+  below = λ l. refl;
+  above = λ l. refl;
+}
 
 to_end : (a b c v n : ℕ) → b ≡ c → IsOnceWithin a b v n → IsOnceWithin a c v n
 to_end a b c v n e h = subst (λ x. IsOnceWithin a x v n) e h
@@ -84,9 +96,16 @@ pub record HasEachOnce (rows : RowList) (table : Table) : Type 0 where
   pub least : (v : ℕ) → 0 < nonbasic_times v table.nonbasic + basic_times v table.lines → 1 ≤ v
   pub most : (v : ℕ) → 0 < nonbasic_times v table.nonbasic + basic_times v table.lines →
       v ≤ rows.stars + length rows.rows
+  pub each : (v : ℕ) → 1 ≤ v → v ≤ rows.stars + length rows.rows →
+      nonbasic_times v table.nonbasic + basic_times v table.lines ≡ 1
 
 pub first-has_each_once : (rows : RowList) → HasEachOnce rows (first_table rows)
-first-has_each_once rows = record { once = λ v. once v; least = λ v. least v; most = λ v. most v }
+first-has_each_once rows = record {
+  once = λ v. once v;
+  least = λ v. least v;
+  most = λ v. most v;
+  each = λ v. each v;
+}
   where
     stars : (v : ℕ) → IsOnceWithin 1 (1 + rows.stars) v (nonbasic_times v (range_with_len 1 rows.stars))
     stars v = range_once v 1 rows.stars
@@ -110,6 +129,14 @@ first-has_each_once rows = record { once = λ v. once v; least = λ v. least v; 
         0 < nonbasic_times v (range_with_len 1 rows.stars) + basic_times v (lines_from (rows.stars + 1) rows.rows) →
         v ≤ rows.stars + length rows.rows
     most v h = let a2 = (stars v).above in let b2 = (sums v).above in grind arith
+
+    each : (v : ℕ) → 1 ≤ v → v ≤ rows.stars + length rows.rows →
+        nonbasic_times v (range_with_len 1 rows.stars) + basic_times v (lines_from (rows.stars + 1) rows.rows) ≡ 1
+    each v h i = ⊎_elim
+        (λ few. let a = (stars v).within h (omega arith) in let b = (sums v).below (omega arith) in omega arith)
+        (λ many. let a = (stars v).above (omega arith) in let b = (sums v).within (omega arith) (omega arith) in
+        omega arith)
+        (cases_lt v (rows.stars + 1))
 
 -- ---- an exchange keeps the counts
 same_counts : (a b c d e f x y : ℕ) → a + x ≡ b + y → c + y ≡ d → e ≡ c + x → a + e ≡ b + d
@@ -139,6 +166,7 @@ exchanged-has_each_once rows i j left table m h = record {
   once = λ v. subst (λ n. n ≤ 1) (sym (exchanged_times v i j left table m)) (h.once v);
   least = λ v l. h.least v (subst (λ n. 0 < n) (exchanged_times v i j left table m) l);
   most = λ v l. h.most v (subst (λ n. 0 < n) (exchanged_times v i j left table m) l);
+  each = λ v l k. exchanged_times v i j left table m ∙ h.each v l k;
 }
 
 -- ---- the line of a variable
@@ -191,3 +219,15 @@ basic-is_variable rows table h k d l =
     let v = (get_or table.lines k d).basic in
     let one = counted (λ line. line.basic == v) table.lines k d l (eq-eqb v v refl) in
     (h.least v (omega arith), h.most v (omega arith))
+
+-- a variable without a line is basic no time
+found_no : (t : Bool) (x : Line) (o : Option Line) (n r : ℕ) → cond t (Some x) o ≡ None → n ≡ cond t 1 0 + r →
+    (o ≡ None → r ≡ 0) → n ≡ 0
+found_no true x o n r e c h = cc
+found_no false x o n r e c h = omega (arith, h e)
+
+pub not_basic : (v : ℕ) (lines : List Line) → find (λ line. line.basic == v) lines ≡ None → basic_times v lines ≡ 0
+not_basic v [] e = refl
+not_basic v (line ∷ lines) e =
+    found_no (line.basic == v) line (find (λ line. line.basic == v) lines) (basic_times v (line ∷ lines))
+    (basic_times v lines) e (sum_by-cons (λ line. cond (line.basic == v) 1 0) line lines) (not_basic v lines)

@@ -1,8 +1,13 @@
 pub mod Divisors
 pub mod Exchange
 pub mod Exits
+pub mod GoalLine
+pub mod LeastRun
 pub mod Lowest
+pub mod Nearest
 pub mod PivotExample
 pub mod PivotRun
+pub mod ShowsLeast
 pub mod Sizes
 pub mod Tables
+pub mod mirror

@@ -5,17 +5,25 @@ use Rattle.nomos_simplex.specs.Tables.{bound_of, sum_at}
 use Rattle.nomos_simplex.specs.declared.table.Line.{Line}
 use Rattle.nomos_simplex.specs.declared.table.Table.{Table}
 
+-- the one of two places that comes first
+abbrev pub former_of : (ℕ → ℕ → Bool) → ℕ → Option ℕ → ℕ
+former_of is_former n None = n
+former_of is_former n (Some m) = if is_former n m then n else m
+
+-- the place below n that comes first among those that pass
+abbrev pub foremost_place : (ℕ → Bool) → (ℕ → ℕ → Bool) → ℕ → Option ℕ
+foremost_place passes is_former zero = None
+foremost_place passes is_former (suc n) =
+    let before = foremost_place passes is_former n in
+    if passes n then Some (former_of is_former n before) else before
+
 -- the one of two places that has the lower number
 abbrev pub lower_of : (ℕ → ℕ) → ℕ → Option ℕ → ℕ
-lower_of number n None = n
-lower_of number n (Some m) = if nat_lt (number n) (number m) then n else m
+lower_of number n before = former_of (λ i k. nat_lt (number i) (number k)) n before
 
 -- the place below n with the lowest number among those that pass
 abbrev pub lowest_place : (ℕ → Bool) → (ℕ → ℕ) → ℕ → Option ℕ
-lowest_place passes number zero = None
-lowest_place passes number (suc n) =
-    let before = lowest_place passes number n in
-    if passes n then Some (lower_of number n before) else before
+lowest_place passes number n = foremost_place passes (λ i k. nat_lt (number i) (number k)) n
 
 -- with the nonbasic variables at their bounds, the basic variable of a line is below its own
 abbrev pub is_below : RowList → List ℕ → Line → Bool

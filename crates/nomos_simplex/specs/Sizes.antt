@@ -9,6 +9,10 @@ use Rattle.nomos_simplex.specs.declared.table.Table.{Table}
 abbrev pub IsNumber : ℤ → Type 0
 IsNumber z = unsigned_abs z < 2 ^ 62
 
+pub record HasNumbers (line : Line) : Type 0 where
+  pub times : IsNumber line.times
+  pub coefs : All IsNumber line.coefs
+
 -- one number of this size for each of n columns, and one over 0 before the basic variable
 pub record IsLine (n : ℕ) (line : Line) : Type 0 where
   pub width : length line.coefs ≡ n

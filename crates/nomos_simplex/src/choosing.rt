@@ -64,7 +64,7 @@ pub fn leaving(rows: &RowList, table: &Table) -> Option<usize>
 }
 
 /// The column of the lower nonbasic variable.
-fn lower_column(nonbasic: &[usize], column: usize, best: Option<usize>) -> usize
+pub fn lower_column(nonbasic: &[usize], column: usize, best: Option<usize>) -> usize
     requires column { column < length nonbasic.now }
     requires best { IfSome best (λ other. other < length nonbasic.now) }
     ensures lower { result ≡ lower_of (λ j. slice_index nonbasic.now j) column best }

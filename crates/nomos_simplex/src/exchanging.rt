@@ -4,9 +4,10 @@ ghost use Rattle.std.specs.List.{list_any};
 ghost use Rattle.nomos_simplex.specs.Divisors.{in_lowest_terms};
 ghost use Rattle.nomos_simplex.specs.Exchange.{coef_at, put_into, lines_exchanged, exchanged, is_large as is_large_number, is_large_line, is_large_table};
 ghost use Rattle.nomos_simplex.specs.declared.table.Line.{Line};
-ghost use Rattle.nomos_simplex.specs.Sizes.{IsLine, IsLowest};
+ghost use Rattle.nomos_simplex.specs.Sizes.{HasNumbers, IsLine, IsLowest};
+ghost use Rattle.nomos_simplex.specs.mirror.Opposite.{oriented_of};
 
-use crate::lines::{enter, solved};
+use crate::lines::{enter, opposite_line, solved};
 use crate::table::{Line, Table};
 use nomos_ir::items::Items;
 use std::alloc::{AllocError, Global};
@@ -19,7 +20,7 @@ fn enter_all(
     lines: &mut [Line],
 ) -> Result<(), AllocError>
     requires column { column < length left.now.coefs }
-    requires left { IsLine (length left.now.coefs) left.now }
+    requires left { HasNumbers left.now }
     requires over_zero { pos 0 <ℤ coef_at column left.now }
     requires lines { All (IsLine (length left.now.coefs)) lines.old }
     requires lowest { All IsLowest lines.old }
@@ -39,7 +40,7 @@ fn enter_others(
     lines: &mut Vec<Line>,
 ) -> Result<(), AllocError>
     requires column { column < length left.now.coefs }
-    requires left { IsLine (length left.now.coefs) left.now }
+    requires left { HasNumbers left.now }
     requires over_zero { pos 0 <ℤ coef_at column left.now }
     requires lines { All (IsLine (length left.now.coefs)) lines.old.items }
     requires lowest { All IsLowest lines.old.items }
@@ -47,6 +48,18 @@ fn enter_others(
         (λ _. lines.new.items ≡ map (λ line. in_lowest_terms (put_into column left.now line)) lines.old.items) }
 {
     enter_all(alloc, column, left, lines)
+}
+
+/// A line, or its opposite where the coefficient in a column is below 0.
+fn oriented(alloc: Global, column: usize, line: Line) -> Result<Line, AllocError>
+    requires column { column < length line.coefs }
+    requires line { HasNumbers line }
+    ensures { IfOk result (λ made. made ≡ oriented_of column line) }
+{
+    if line.coefs.as_slice()[column] < 0 {
+        return opposite_line(alloc, &line);
+    }
+    Ok(line)
 }
 
 /// The lines with the entering variable put in, and at their end the line at a place, solved for it.
@@ -62,11 +75,11 @@ fn exchanged_lines(
     requires lines { (left : Line) → slice_get lines.items place ≡ Some left →
         All (IsLine (length left.coefs)) lines.items }
     requires lowest { All IsLowest lines.items }
-    requires over_zero { (left : Line) → slice_get lines.items place ≡ Some left → pos 0 <ℤ coef_at column left }
+    requires not_zero { (left : Line) → slice_get lines.items place ≡ Some left → ¬ (coef_at column left ≡ pos 0) }
     ensures { (left : Line) → slice_get lines.items place ≡ Some left →
         IfOk result (λ made. made.items ≡ lines_exchanged place column entering left lines.items) }
 {
-    let left = lines.remove(place);
+    let left = oriented(alloc, column, lines.remove(place))?;
     enter_others(alloc, column, &left, &mut lines)?;
     let entered = solved(alloc, column, entering, &left)?;
     lines.push(entered)?;
@@ -84,7 +97,7 @@ pub fn exchange(
     requires column { column < length table.nonbasic }
     requires lines { All (IsLine (length table.nonbasic)) table.lines }
     requires lowest { All IsLowest table.lines }
-    requires over_zero { (left : Line) → slice_get table.lines place ≡ Some left → pos 0 <ℤ coef_at column left }
+    requires not_zero { (left : Line) → slice_get table.lines place ≡ Some left → ¬ (coef_at column left ≡ pos 0) }
     ensures { (left : Line) → slice_get table.lines place ≡ Some left →
         IfOk result (λ made. made ≡ exchanged place column left table) }
 {
@@ -121,7 +134,8 @@ fn has_large(numbers: &[i128]) -> bool
     large
 }
 
-fn has_large_number(line: &Line) -> bool
+/// Whether a number of the line is too large.
+pub fn has_large_number(line: &Line) -> bool
     ensures { result ≡ is_large_line line.now }
 {
     let times = is_large(line.times);

@@ -20,7 +20,7 @@ use std::alloc::{AllocError, Global};
 type Fraction = (u128, u128);
 
 /// The line of a basic variable.
-fn line_of(lines: &[Line], variable: usize) -> Option<&Line>
+pub fn line_of(lines: &[Line], variable: usize) -> Option<&Line>
     ensures { option_copied result ≡ find (λ line. line.basic == variable) lines.now }
 {
     lines.iter().find(|line| line.basic == variable)

@@ -1,4 +1,4 @@
-//! The pivot run: amounts that meet rows, or a verdict that none do.
+//! The pivot run: amounts that meet rows, or a verdict that none do. The least run: amounts with the least goal.
 #![tactic(auto)]
 
 mod bounds;
@@ -6,7 +6,10 @@ mod choosing;
 mod divisors;
 mod exchanging;
 mod fractions;
+mod goal;
 mod lines;
+pub mod lowering;
+mod nearest;
 mod refusing;
 pub mod solved;
 pub mod solving;

@@ -2,7 +2,8 @@
 ghost use Rattle.std.specs.Prelude.{◌≡◌, ◌<◌, ◌≤◌, ◌^◌, ◌*ℤ◌, ◌-ℤ◌, neg_ℤ, pos, ◌<ℤ◌, ◌≢◌, unsigned_abs, length, map, All, IfOk, OnOk};
 ghost use Rattle.nomos_simplex.specs.Divisors.{in_lowest_terms};
 ghost use Rattle.nomos_simplex.specs.Exchange.{coef_at, solved_for, eliminated, put_into};
-ghost use Rattle.nomos_simplex.specs.Sizes.{IsNumber, IsLine, IsLowest};
+ghost use Rattle.nomos_simplex.specs.Sizes.{IsNumber, HasNumbers, IsLine, IsLowest};
+ghost use Rattle.nomos_simplex.specs.mirror.Opposite.{opposite_of};
 
 use crate::divisors::lowest_terms;
 use crate::table::Line;
@@ -10,7 +11,7 @@ use nomos_ir::items::Items;
 use std::alloc::{AllocError, Global};
 
 /// The product of two numbers.
-fn product(a: i128, b: i128) -> i128
+pub fn product(a: i128, b: i128) -> i128
     requires a { IsNumber a }
     requires b { IsNumber b }
     ensures value { result ≡ a *ℤ b }
@@ -58,7 +59,7 @@ fn eliminate(
 /// A line multiplied by the coefficient of the entering variable in the line that is left, with that variable put in.
 fn with_entered(alloc: Global, column: usize, left: &Line, line: &Line) -> Result<Line, AllocError>
     requires column { column < length left.now.coefs }
-    requires left { IsLine (length left.now.coefs) left.now }
+    requires left { HasNumbers left.now }
     requires line { IsLine (length left.now.coefs) line.now }
     ensures { IfOk result (λ made. made ≡ put_into column left.now line.now) }
 {
@@ -78,7 +79,7 @@ fn with_entered(alloc: Global, column: usize, left: &Line, line: &Line) -> Resul
 /// Puts the entering variable into a line. A line without it stays as it is.
 pub fn enter(alloc: Global, column: usize, left: &Line, line: &mut Line) -> Result<(), AllocError>
     requires column { column < length left.now.coefs }
-    requires left { IsLine (length left.now.coefs) left.now }
+    requires left { HasNumbers left.now }
     requires over_zero { pos 0 <ℤ coef_at column left.now }
     requires line { IsLine (length left.now.coefs) line.old }
     requires lowest { IsLowest line.old }
@@ -101,7 +102,7 @@ fn opposite(number: i128) -> i128
 }
 
 /// The numbers with their signs changed.
-fn negated(alloc: Global, numbers: &[i128]) -> Result<Vec<i128>, AllocError>
+pub fn negated(alloc: Global, numbers: &[i128]) -> Result<Vec<i128>, AllocError>
     requires { All IsNumber numbers.now }
     ensures { IfOk result (λ v. v.items ≡ map neg_ℤ numbers.now) }
 {
@@ -113,6 +114,19 @@ fn negated(alloc: Global, numbers: &[i128]) -> Result<Vec<i128>, AllocError>
     Ok(negated)
 }
 
+/// A line with the signs of all its numbers changed.
+pub fn opposite_line(alloc: Global, line: &Line) -> Result<Line, AllocError>
+    requires { HasNumbers line.now }
+    ensures { IfOk result (λ made. made ≡ opposite_of line.now) }
+{
+    let coefs = negated(alloc, line.coefs.as_slice())?;
+    Ok(Line {
+        times: opposite(line.times),
+        basic: line.basic,
+        coefs: Items::of_vec(coefs),
+    })
+}
+
 /// The line that is left, solved for the entering variable, in lowest terms.
 pub fn solved(
     alloc: Global,
@@ -121,7 +135,7 @@ pub fn solved(
     left: &Line,
 ) -> Result<Line, AllocError>
     requires column { column < length left.now.coefs }
-    requires left { IsLine (length left.now.coefs) left.now }
+    requires left { HasNumbers left.now }
     requires over_zero { pos 0 <ℤ coef_at column left.now }
     ensures { IfOk result (λ made. made ≡ in_lowest_terms (solved_for column entering left.now)) }
 {

@@ -40,7 +40,7 @@ fn add_weight(weights: &mut Vec<Weighted>, weight: Weighted) -> Result<(), Alloc
 }
 
 /// The absolute value of a number of a table.
-fn times_of(number: i128) -> u64
+pub fn times_of(number: i128) -> u64
     requires { IsNumber number }
     ensures { result ≡ unsigned_abs number }
 {
@@ -48,7 +48,7 @@ fn times_of(number: i128) -> u64
 }
 
 /// The weights of the nonbasic variables with a coefficient below 0, in order of their numbers.
-fn weights_of(
+pub fn weights_of(
     alloc: Global,
     nonbasic: &[usize],
     coefs: &[i128],
@@ -93,7 +93,11 @@ fn of_variable(alloc: Global, rows: &RowList, variable: usize) -> Result<Of, All
 }
 
 /// The weights with what their variables stand for.
-fn resolved(alloc: Global, rows: &RowList, weights: &[Weighted]) -> Result<Vec<Weight>, AllocError>
+pub fn resolved(
+    alloc: Global,
+    rows: &RowList,
+    weights: &[Weighted],
+) -> Result<Vec<Weight>, AllocError>
     requires { All (λ w. IsVariable rows.now w.0) weights.now }
     ensures { IfOk result (λ v. v.items ≡ map (exits.weight_of rows.now) weights.now) }
 {
@@ -121,17 +125,19 @@ fn least_of(rows: &RowList, line: &Line) -> i128
 fn distance(a: i128, b: i128) -> u128
     requires a { unsigned_abs a ≤ 2 ^ 113 }
     requires b { unsigned_abs b ≤ 2 ^ 113 }
-    ensures { result ≡ unsigned_abs (a -ℤ b) }
+    ensures value { result ≡ unsigned_abs (a -ℤ b) }
+    ensures size { result ≤ 2 ^ 114 }
 {
     (a - b).unsigned_abs()
 }
 
-/// How far the variable of a line is below its bound, times the number before it.
-fn missing(rows: &RowList, nonbasic: &[usize], line: &Line) -> u128
+/// How far the variable of a line is from its bound, times the number before it.
+pub fn missing(rows: &RowList, nonbasic: &[usize], line: &Line) -> u128
     requires few { length nonbasic.now ≤ 64 }
     requires line { IsLine (length nonbasic.now) line.now }
-    ensures { result ≡ unsigned_abs (line.now.times *ℤ bound_of rows.now line.now.basic
+    ensures value { result ≡ unsigned_abs (line.now.times *ℤ bound_of rows.now line.now.basic
         -ℤ sum_at (bound_of rows.now) nonbasic.now line.now.coefs) }
+    ensures size { result ≤ 2 ^ 114 }
 {
     let least = least_of(rows, line);
     let sum = sum_at_bounds(rows, nonbasic, line.coefs.as_slice());

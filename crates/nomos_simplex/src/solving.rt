@@ -1,6 +1,8 @@
 //! The run.
-ghost use Rattle.std.specs.Prelude.{◌≡◌, ◌+◌, ◌-◌, ◌<◌, ◌≤◌, IfOk, Ok};
+ghost use Rattle.std.specs.Prelude.{◌≡◌, ◌+◌, ◌-◌, ◌<◌, ◌≤◌, length, IfOk, Ok, Some};
 ghost use Rattle.std.specs.List.{range_with_len};
+ghost use Rattle.nomos_simplex.specs.Lowest as lowest;
+ghost use Rattle.nomos_simplex.specs.mirror.Steps.{IsSought};
 ghost use Rattle.nomos_simplex.specs.PivotRun.{turn, answer_to};
 ghost use Rattle.nomos_simplex.specs.Sizes.{IsTable};
 ghost use Rattle.nomos_simplex.specs.Tables.{lines_from, first_table as table_at_first};
@@ -77,15 +79,27 @@ fn first_table(alloc: Global, rows: &RowList) -> Result<Table, AllocError>
     })
 }
 
-/// What comes at a table, after so many pivots.
-fn turn_at(alloc: Global, rows: &RowList, table: Table, pivots: u32) -> Result<Turn, AllocError>
+/// Where the run comes to: a table where no basic variable is below its bound, after so many pivots, or another end.
+#[derive(Drop)]
+pub(crate) enum Sought {
+    Stands(Table, u32),
+    Ends(Solved),
+}
+
+/// What comes at a table, after so many pivots, where the variable of the line at a place is below its bound.
+fn turn_at(
+    alloc: Global,
+    rows: &RowList,
+    table: Table,
+    place: usize,
+    pivots: u32,
+) -> Result<Turn, AllocError>
     requires pivots { pivots ≤ 2000 }
     requires table { IsTable rows.now table }
+    requires place { lowest.leaving rows.now table ≡ Some place }
+    requires within { place < length table.lines }
     ensures { IfOk result (λ made. made ≡ turn (2000 - pivots) pivots rows.now table) }
 {
-    let Some(place) = leaving(rows, &table) else {
-        return Ok(Turn::Ends(found(alloc, rows, &table, pivots)?));
-    };
     let line = &table.lines.as_slice()[place];
     let Some(column) = entering(&table, line) else {
         return Ok(Turn::Ends(Solved::None(verdict(alloc, rows, &table, line)?)));
@@ -100,20 +114,36 @@ fn turn_at(alloc: Global, rows: &RowList, table: Table, pivots: u32) -> Result<T
     Ok(Turn::Goes(after))
 }
 
+/// The run, up to where it ends.
+pub(crate) fn seek(alloc: Global, rows: &RowList) -> Result<Sought, AllocError>
+    ensures { IfOk result (IsSought rows.now) }
+{
+    let mut table = first_table(alloc, rows)?;
+    for pivots in 0..BUDGET {
+        let Some(place) = leaving(rows, &table) else {
+            return Ok(Sought::Stands(table, pivots));
+        };
+        match turn_at(alloc, rows, table, place, pivots)? {
+            Turn::Ends(solved) => return Ok(Sought::Ends(solved)),
+            Turn::Goes(after) => table = after,
+        }
+    }
+    let Some(place) = leaving(rows, &table) else {
+        return Ok(Sought::Stands(table, BUDGET));
+    };
+    match turn_at(alloc, rows, table, place, BUDGET)? {
+        Turn::Ends(solved) => Ok(Sought::Ends(solved)),
+        Turn::Goes(_) => Ok(Sought::Ends(Solved::Unsolved(Stop::Pivots))),
+    }
+}
+
 /// The run, up to its first exit.
 fn run_all(alloc: Global, rows: &RowList) -> Result<Solved, AllocError>
     ensures { IfOk result (λ answer. answer ≡ answer_to rows.now) }
 {
-    let mut table = first_table(alloc, rows)?;
-    for pivots in 0..BUDGET {
-        match turn_at(alloc, rows, table, pivots)? {
-            Turn::Ends(solved) => return Ok(solved),
-            Turn::Goes(after) => table = after,
-        }
-    }
-    match turn_at(alloc, rows, table, BUDGET)? {
-        Turn::Ends(solved) => Ok(solved),
-        Turn::Goes(_) => Ok(Solved::Unsolved(Stop::Pivots)),
+    match seek(alloc, rows)? {
+        Sought::Stands(table, pivots) => found(alloc, rows, &table, pivots),
+        Sought::Ends(solved) => Ok(solved),
     }
 }
 

@@ -1,12 +1,14 @@
 //! Tests: the answers to small systems of rows.
-ghost use Rattle.std.specs.Prelude.{◌≡◌, ◌≤◌, length, All, IfOk};
+ghost use Rattle.std.specs.Prelude.{◌≡◌, ◌≤◌, pos, ◌≤ℤ◌, length, All, IfOk};
 ghost use Rattle.nomos_forms.specs.Bounds.{IsSmall, IsForm};
 
-use crate::solved::{Solved, Stop};
+use crate::lowering::solve_least;
+use crate::solved::{Solved, SolvedLeast, Stop};
 use crate::solving::solve;
 use nomos_forms::collecting::rows;
 use nomos_forms::form::{Coefs, Form};
 use nomos_forms::row_list::RowList;
+use nomos_forms::verdict::Of;
 use nomos_ir::amount::Amount;
 use nomos_ir::items::Items;
 use std::alloc::{AllocError, Global};
@@ -36,6 +38,7 @@ fn form(alloc: Global, numbers: &[i32], plus: i32) -> Result<Form, AllocError>
 fn system(alloc: Global, forms: Vec<Form>, stars: u16) -> Result<RowList, AllocError>
     requires few { stars ≤ 64 }
     requires forms { All (IsForm stars) forms.items }
+    ensures { IfOk result (λ made. made.stars ≡ stars) }
 {
     let pairs = Items::of_vec(Vec::new(alloc));
     rows(alloc, &Items::of_vec(forms), &pairs, stars)
@@ -67,6 +70,7 @@ fn link_form(alloc: Global, star: u16, stars: u16) -> Result<Form, AllocError>
 /// Star 1 is at least 1, and each other star at least ten times the one before it.
 fn chain(alloc: Global, stars: u16) -> Result<RowList, AllocError>
     requires { stars ≤ 64 }
+    ensures { IfOk result (λ made. made.stars ≡ stars) }
 {
     let mut forms = Vec::new(alloc);
     for star in 0..stars {
@@ -113,6 +117,117 @@ fn two_sources(rt: HostRuntime) -> Result<(), Fail> {
     };
     assert_eq!(rt; found.unit, 2);
     assert_eq!(rt; found.stars.as_slice(), [1u64, 1, 1, 1, 1].as_slice());
+    Ok(())
+}
+
+/// The forms with one more over five stars.
+fn with_form(
+    alloc: Global,
+    mut forms: Vec<Form>,
+    numbers: &[i32; 5],
+    plus: i32,
+) -> Result<Vec<Form>, AllocError>
+    requires { All (IsForm 5) forms.items }
+    ensures { IfOk result (λ made. All (IsForm 5) made.items) }
+{
+    let next = form(alloc, numbers, plus)?;
+    forms.push(next)?;
+    Ok(forms)
+}
+
+/// The rows of a transaction that starts two jobs and pays for one of them. Star 1 is what the type of a job gets, 2 what
+/// a job has, 3 what it gets, 4 what the transaction has, and 5 what it pays. A job that is paid works 3 units.
+fn two_jobs(alloc: Global) -> Result<RowList, AllocError>
+    ensures { IfOk result (λ made. made.stars ≡ 5) }
+{
+    let has = with_form(alloc, Vec::new(alloc), &[0, 1, 0, 0, 0], 0)?;
+    let gets = with_form(alloc, has, &[0, 1, 1, 0, 0], 0)?;
+    let works = with_form(alloc, gets, &[0, 1, 1, 0, 0], -3)?;
+    let starts = with_form(alloc, works, &[0, 0, 0, 1, 0], 0)?;
+    let first = with_form(alloc, starts, &[0, -1, 0, 1, 0], 0)?;
+    let second = with_form(alloc, first, &[0, -2, 0, 1, 0], 0)?;
+    let pays = with_form(alloc, second, &[0, -2, 0, 1, -1], 0)?;
+    let of_type = Amount::Star(1);
+    let pairs = Items::of_vec(vec![in alloc;
+        (of_type, Amount::Star(3)),
+        (of_type, Amount::Star(5)),
+    ]?);
+    rows(alloc, &Items::of_vec(pays), &pairs, 5)
+}
+
+/// A goal with these coefficients.
+fn aim(alloc: Global, numbers: &[u16]) -> Result<Form, AllocError>
+    ensures form { IfOk result (IsForm (length numbers.now)) }
+    ensures coefs { IfOk result (λ made. All (λ c. pos 0 ≤ℤ c) made.coefs) }
+{
+    let mut coefs = Vec::new(alloc);
+    for number in numbers {
+        coefs.push(i64::from(*number))?;
+    }
+    Ok(Form {
+        coefs: Items::of_vec(coefs),
+        plus: 0,
+    })
+}
+
+/// The pivot run finds 6 units for the transaction of the two jobs, and the least run 3.
+#[test]
+fn two_jobs_at_least(rt: HostRuntime) -> Result<(), Fail> {
+    let alloc = rt.alloc();
+    let list = two_jobs(alloc)?;
+    let Solved::Found(found) = solve(alloc, &list)? else {
+        panic!(&rt; "no amounts");
+    };
+    assert_eq!(rt; found.stars.as_slice(), [0u64, 3, 0, 6, 0].as_slice());
+    let goal = aim(alloc, &[0, 0, 0, 1, 0])?;
+    let SolvedLeast::Found(least, proof) = solve_least(alloc, &list, &goal)? else {
+        panic!(&rt; "no least amounts");
+    };
+    assert_eq!(rt; least.stars.as_slice(), [3u64, 0, 3, 3, 3].as_slice());
+    assert_eq!(rt; least.unit, 1);
+    assert_eq!(rt; proof.scale, 1);
+    assert_eq!(rt; proof.total, 3);
+    let wanted: [[i64; 6]; 4] = [
+        [-1, 0, 0, 0, 1, 0],
+        [0, -2, 0, 1, -1, 0],
+        [0, 1, 1, 0, 0, 3],
+        [1, 0, -1, 0, 0, 0],
+    ];
+    let [star, others @ ..] = proof.weights.as_slice() else {
+        panic!(&rt; "no weights");
+    };
+    assert_eq!(rt; star.times, 1);
+    assert_eq!(rt; matches!(&star.of, Of::Star(2)), true);
+    assert_eq!(rt; others.len(), 4);
+    for (weight, numbers) in others.iter().zip(&wanted) {
+        let Of::Row(row) = &weight.of else {
+            panic!(&rt; "a star");
+        };
+        assert_eq!(rt; weight.times, 1);
+        assert_eq!(rt; row.coefs.as_slice(), &numbers[..5]);
+        assert_eq!(rt; row.least, numbers[5]);
+    }
+    Ok(())
+}
+
+/// Without rows and stars the goal is 0; the chain of twenty is too large before there is a goal.
+#[test]
+fn least_of_nothing_and_of_a_chain(rt: HostRuntime) -> Result<(), Fail> {
+    let alloc = rt.alloc();
+    let empty = system(alloc, Vec::new(alloc), 0)?;
+    let SolvedLeast::Found(found, proof) = solve_least(alloc, &empty, &aim(alloc, &[])?)? else {
+        panic!(&rt; "no amounts");
+    };
+    assert_eq!(rt; found.unit, 1);
+    assert_eq!(rt; proof.scale, 1);
+    assert_eq!(rt; proof.total, 0);
+    assert_eq!(rt; proof.weights.len(), 0);
+    let goal = aim(alloc, &[7; 20])?;
+    let answer = solve_least(alloc, &chain(alloc, 20)?, &goal)?;
+    assert_eq!(rt;
+        matches!(&answer, SolvedLeast::Unsolved(Stop::Large(19))),
+        true
+    );
     Ok(())
 }
 

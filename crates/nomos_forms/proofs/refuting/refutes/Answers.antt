@@ -4,7 +4,7 @@ use Rattle.nomos_forms.specs.Bounds.{IsSmall}
 use Rattle.nomos_forms.specs.Refuting.{coef_in, least_in, weighted, IsOneOf, LeavesNoStar}
 use Rattle.nomos_forms.specs.declared.verdict.Weight.{Weight}
 use Rattle.nomos_forms.proofs.CertificateLaws.{none_meet}
-use Rattle.nomos_forms.proofs.RowLemmas.{small_coef}
+use Rattle.nomos_forms.proofs.SmallLaws.{small_coef}
 use Rattle.nomos_forms.proofs.refuting.refutes.Goals as goal
 
 pub add_up-requires-clause-coefs : goal.add_up-requires-clause-coefs

@@ -1,4 +1,4 @@
-use Rattle.std.proofs.Common.{◌≡◌, ℕ, ◌+◌, ◌-◌, true, ℤ, pos, ◌<ℤ◌, int_lt, length, get_or, refl, ap, sym, subst, ◌∙◌, arith}
+use Rattle.std.proofs.Common.{◌≡◌, ℕ, ◌+◌, ◌-◌, true, ℤ, pos, int_lt, length, get_or, refl, ap, sym, subst, ◌∙◌, arith}
 use Rattle.std.specs.Prelude.{slice_index}
 use Rattle.std.proofs.lemmas.Int.{ints}
 use Rattle.std.proofs.lemmas.Option.{get_or_from_slice_get, slice_get_read}
@@ -8,43 +8,43 @@ use Rattle.nomos_simplex.proofs.PlaceLemmas.{place_passes}
 use Rattle.nomos_simplex.proofs.SolveLemmas.{exchanges, stops_large, goes_small}
 use Rattle.nomos_simplex.proofs.solving.turn_at.Goals as goal
 
-over_zero : (z : ℤ) → int_lt (pos 0) z ≡ true → pos 0 <ℤ z
-over_zero z e = omega (arith, ints)
+not_zero : (z : ℤ) → int_lt (pos 0) z ≡ true → ¬ (z ≡ pos 0)
+not_zero z e n = omega (arith, ints)
 
-pub exchange-requires-clause-over_zero : goal.exchange-requires-clause-over_zero
-exchange-requires-clause-over_zero c = λ left h.
+pub exchange-requires-clause-not_zero : goal.exchange-requires-clause-not_zero
+exchange-requires-clause-not_zero c = λ left h.
     let table = c.args.table in
     let line = c.index-as_slice-place.result in
-    let place = c.in-Some.place in
-    let column = c.in-Some-entering.column in
+    let place = c.args.place in
+    let column = c.in-Some.column in
     let same : line ≡ left = c.index-as_slice-place.is ∙ ap (λ xs. get_or xs place line) c.as_slice.ensures
     ∙ get_or_from_slice_get table.lines place left line h in
     let passes = (place_passes (λ (j : ℕ). int_lt (pos 0) (get_or line.coefs j (pos 0))) (λ (j : ℕ). slice_index
-    table.nonbasic j) (length table.nonbasic) column (sym c.in-Some-entering.ensures.choice)).1 in
-    subst (λ (l : Line). pos 0 <ℤ coef_at column l) same (over_zero (coef_at column line) passes)
+    table.nonbasic j) (length table.nonbasic) column (sym c.in-Some.ensures.choice)).1 in
+    subst (λ (l : Line). ¬ (coef_at column l ≡ pos 0)) same (not_zero (coef_at column line) passes)
 
 pub returns-then-is_too_large : goal.returns-then-is_too_large
 returns-then-is_too_large c =
     let table = c.args.table in
     let line = c.index-as_slice-place.result in
-    let place = c.in-Some.place in
+    let place = c.args.place in
     let pivots = c.args.pivots in
-    let there = slice_get_read table.lines (length table.lines) place line refl c.in-Some.ensures.place
+    let there = slice_get_read table.lines (length table.lines) place line refl c.requires.within
     (c.index-as_slice-place.is ∙ ap (λ xs. get_or xs place line) c.as_slice.ensures) in
-    sym (exchanges (2000 - pivots) pivots (2000 - (pivots + 1)) place c.in-Some-entering.column c.args.rows.now table
-    c.in_ok-after.after line (omega arith) (sym c.in-Some.ensures.choice) there
-    (sym c.in-Some-entering.ensures.choice) (c.in_ok-after.ensures line there)
+    sym (exchanges (2000 - pivots) pivots (2000 - (pivots + 1)) place c.in-Some.column c.args.rows.now table
+    c.in_ok-after.after line (omega arith) c.requires.place there
+    (sym c.in-Some.ensures.choice) (c.in_ok-after.ensures line there)
     ∙ stops_large (pivots + 1) c.in_ok-after.after (sym c.is_too_large.ensures ∙ c.if-is_too_large.true))
 
 pub returns : goal.returns
 returns c =
     let table = c.args.table in
     let line = c.index-as_slice-place.result in
-    let place = c.in-Some.place in
+    let place = c.args.place in
     let pivots = c.args.pivots in
-    let there = slice_get_read table.lines (length table.lines) place line refl c.in-Some.ensures.place
+    let there = slice_get_read table.lines (length table.lines) place line refl c.requires.within
     (c.index-as_slice-place.is ∙ ap (λ xs. get_or xs place line) c.as_slice.ensures) in
-    sym (exchanges (2000 - pivots) pivots (2000 - (pivots + 1)) place c.in-Some-entering.column c.args.rows.now table
-    c.in_ok-after.after line (omega arith) (sym c.in-Some.ensures.choice) there
-    (sym c.in-Some-entering.ensures.choice) (c.in_ok-after.ensures line there)
+    sym (exchanges (2000 - pivots) pivots (2000 - (pivots + 1)) place c.in-Some.column c.args.rows.now table
+    c.in_ok-after.after line (omega arith) c.requires.place there
+    (sym c.in-Some.ensures.choice) (c.in_ok-after.ensures line there)
     ∙ goes_small (pivots + 1) c.in_ok-after.after (sym c.is_too_large.ensures ∙ c.if-is_too_large.false))

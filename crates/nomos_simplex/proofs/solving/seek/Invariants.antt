@@ -1,11 +1,13 @@
 use Rattle.std.proofs.Common.{◌≡◌, ◌-◌}
+use Rattle.nomos_simplex.specs.LeastRun.{Reaches}
 use Rattle.nomos_simplex.specs.PivotRun.{run, answer_to}
 use Rattle.nomos_simplex.proofs.TableLaws.{IsTableOfRows}
-use Rattle.nomos_simplex.proofs.solving.run_all.Given as goal
+use Rattle.nomos_simplex.proofs.solving.seek.Given as goal
 
--- the run from the table on has the answer
+-- the run comes to the table, and from there on it has the answer
 abbrev pub invariant-loop-pivots : goal.invariant-loop-pivots
 invariant-loop-pivots l = record {
   answer : run (2000 - l.pivots) l.pivots l.rows l.table ≡ answer_to l.rows;
+  reaches : Reaches l.rows l.pivots l.table;
   table : IsTableOfRows l.rows l.table;
 }

@@ -1,0 +1,66 @@
+-- A mirror of the code: what its steps answer. No promise stands on it.
+use Rattle.std.specs.Prelude.{◌≡◌, ◌+◌, ◌<◌, ◌≤◌, ◌^◌, ℕ, ℤ, pos, unsigned_abs, ◌<ℤ◌, List, length, All, slice_index_or, Vec, Option, Some, None}
+use Rattle.std.specs.Global.{Global}
+use Rattle.nomos_forms.specs.declared.form.Form.{Form}
+use Rattle.nomos_forms.specs.declared.row_list.RowList.{RowList}
+use Rattle.nomos_simplex.specs.Exchange.{coef_at}
+use Rattle.nomos_simplex.specs.Exits.{fractions, found_or_large}
+use Rattle.nomos_simplex.specs.LeastRun.{Reaches, Lowers, LeastRun}
+use Rattle.nomos_simplex.specs.Lowest.{leaving}
+use Rattle.nomos_simplex.specs.Nearest.{line_at}
+use Rattle.nomos_simplex.specs.PivotRun.{answer_to}
+use Rattle.nomos_simplex.specs.Sizes.{IsLine}
+use Rattle.nomos_simplex.specs.declared.lowering.LeastTurn.{LeastTurn}
+use Rattle.nomos_simplex.specs.declared.lowering.LeastTurn.TheVariants as next
+use Rattle.nomos_simplex.specs.declared.solved.Solved.{Solved}
+use Rattle.nomos_simplex.specs.declared.solved.Solved.TheVariants as solved
+use Rattle.nomos_simplex.specs.declared.solving.Sought.{Sought}
+use Rattle.nomos_simplex.specs.declared.solving.Sought.TheVariants as sought
+use Rattle.nomos_simplex.specs.declared.table.Table.{Table}
+
+-- a sum, or nothing where it is at least 2^125
+abbrev pub IsSumOrHuge : ℤ → Option ℤ → Type 0
+IsSumOrHuge z (Some sum) = sum ≡ z
+IsSumOrHuge z None = 2 ^ 125 ≤ unsigned_abs z
+
+-- the sums, or nothing where one of them is at least 2^125
+abbrev pub AreSums : List ℤ → Option (Vec ℤ Global) → Type 0
+AreSums zs (Some v) = v.items ≡ zs
+AreSums zs None = (i : ℕ) × (i < length zs) × (2 ^ 125 ≤ unsigned_abs (slice_index_or zs i (pos 0)))
+
+-- so large that quotients and products of what is left stay below 2^128
+abbrev pub IsReach : ℕ × ℕ → Type 0
+IsReach f = (f.0 ≤ 2 ^ 114) × (0 < f.1) × (f.1 < 2 ^ 62)
+
+-- the lines fit a table of at most 64 columns
+pub record TableFits (table : Table) : Type 0 where
+  pub few : length table.nonbasic ≤ 64
+  pub lines : All (IsLine (length table.nonbasic)) table.lines
+
+-- the line at a place has a coefficient below 0 in a column
+pub record MayLeave (table : Table) (column place : ℕ) : Type 0 where
+  pub within : place < length table.lines
+  pub below : coef_at column (line_at table.lines place) <ℤ pos 0
+
+-- no basic variable is below its bound, and this is the answer of the pivot run
+pub record StandsAt (rows : RowList) (table : Table) (pivots : ℕ) : Type 0 where
+  pub reaches : Reaches rows pivots table
+  pub none_below : leaving rows table ≡ None
+  pub answer : found_or_large pivots (fractions rows table) ≡ answer_to rows
+  pub most : pivots ≤ 2000
+
+-- an answer without amounts
+abbrev pub IsNotFound : Solved → Type 0
+IsNotFound (solved.Found found) = ⊥
+IsNotFound (solved.None verdict) = Unit {0}
+IsNotFound (solved.Unsolved stop) = Unit {0}
+
+-- where the pivot run comes to
+abbrev pub IsSought : RowList → Sought → Type 0
+IsSought rows (sought.Stands table pivots) = StandsAt rows table pivots
+IsSought rows (sought.Ends answer) = (answer ≡ answer_to rows) × IsNotFound answer
+
+-- what a turn of the least run comes to
+abbrev pub IsNext : RowList → Form → ℕ → LeastTurn → Type 0
+IsNext rows goal pivots (next.Ends answer) = LeastRun rows goal answer
+IsNext rows goal pivots (next.Goes after) = Lowers rows goal (pivots + 1) after.table after.line × (pivots < 2000)

@@ -1,0 +1,276 @@
+//! The least run.
+ghost use Rattle.std.specs.Prelude.{◌≡◌, ◌+◌, ◌<◌, ◌≤◌, pos, ◌<ℤ◌, ◌≤ℤ◌, unsigned_abs, length, map, All, IfOk, Ok, Some, None, slice_get, if◌then◌else◌};
+ghost use Rattle.nomos_forms.specs.Bounds.{IsForm, IsFound, IsVerdict};
+ghost use Rattle.nomos_forms.specs.Linear.{form_value};
+ghost use Rattle.nomos_forms.specs.Meeting.{MeetsRows};
+ghost use Rattle.nomos_forms.specs.Refuting.{Refutes};
+ghost use Rattle.nomos_forms.specs.declared.form.Form.{Form};
+ghost use Rattle.nomos_forms.specs.declared.row_list.RowList.{RowList};
+ghost use Rattle.nomos_forms.specs.declared.found.Found.{Found};
+ghost use Rattle.nomos_forms.specs.declared.verdict.Verdict.{Verdict};
+ghost use Rattle.nomos_simplex.specs.Divisors.{in_lowest_terms};
+ghost use Rattle.nomos_simplex.specs.Exchange.{coef_at, exchanged};
+ghost use Rattle.nomos_simplex.specs.Exits.{fractions, found_or_large};
+ghost use Rattle.nomos_simplex.specs.LeastRun.{EndsFound, Lowers, LeastRun, line_exchanged, is_large_with, proof_of, is_total, least_or_large};
+ghost use Rattle.nomos_simplex.specs.PivotRun.{answer_to};
+ghost use Rattle.nomos_simplex.specs.ShowsLeast.{ShowsLeast, IsProof};
+ghost use Rattle.nomos_simplex.specs.Sizes.{IsNumber, IsLine, IsLowest, IsTable, IsVariable};
+ghost use Rattle.nomos_simplex.specs.declared.solved.Proof.{Proof};
+ghost use Rattle.nomos_simplex.specs.declared.solved.SolvedLeast.TheVariants as least;
+ghost use Rattle.nomos_simplex.specs.declared.table.Line.{Line};
+ghost use Rattle.nomos_simplex.specs.mirror.Steps.{IsNext, IsNotFound, MayLeave, StandsAt};
+
+use crate::exchanging::{exchange, has_large_number, is_too_large};
+use crate::fractions::found;
+use crate::goal::goal_line;
+use crate::lines::{enter, negated, opposite_line};
+use crate::nearest::{lowering, nearest};
+use crate::refusing::{resolved, times_of, weights_of};
+use crate::solved::{Proof, Solved, SolvedLeast, Stop};
+use crate::solving::{BUDGET, Sought, seek};
+use crate::table::{Line, Table};
+use nomos_forms::form::Form;
+use nomos_forms::found::Found;
+use nomos_forms::meeting::value_of;
+use nomos_forms::row_list::RowList;
+use nomos_ir::items::Items;
+use std::alloc::{AllocError, Global};
+
+/// A table, and the line of the goal over its nonbasic variables.
+#[derive(Drop)]
+pub(crate) struct Aimed {
+    pub(crate) table: Table,
+    pub(crate) line: Line,
+}
+
+/// The least run ends, or goes on.
+#[derive(Drop)]
+pub(crate) enum LeastTurn {
+    Ends(SolvedLeast),
+    Goes(Aimed),
+}
+
+/// Exchanges the basic variable of the line at a place, where the coefficient is below 0, with the nonbasic variable of
+/// a column, in the goal's line too.
+fn exchange_aimed(
+    alloc: Global,
+    aimed: Aimed,
+    place: usize,
+    column: usize,
+) -> Result<Aimed, AllocError>
+    requires place { MayLeave aimed.table column place }
+    requires column { column < length aimed.table.nonbasic }
+    requires lines { All (IsLine (length aimed.table.nonbasic)) aimed.table.lines }
+    requires lowest { All IsLowest aimed.table.lines }
+    requires line { IsLine (length aimed.table.nonbasic) aimed.line }
+    requires lowest_line { IsLowest aimed.line }
+    ensures { (left : Line) → slice_get aimed.table.lines place ≡ Some left →
+        IfOk result (λ made. (made.table ≡ exchanged place column left aimed.table) ×
+        (made.line ≡ line_exchanged column left aimed.line)) }
+{
+    let Aimed { table, mut line } = aimed;
+    let left = opposite_line(alloc, &table.lines.as_slice()[place])?;
+    enter(alloc, column, &left, &mut line)?;
+    let table = exchange(alloc, table, place, column)?;
+    Ok(Aimed { table, line })
+}
+
+/// A goal's value as a total, if it is one.
+fn total_of(goal: &Form, found: &Found) -> Option<u64>
+    requires few { length found.now.stars ≤ 64 }
+    requires goal { IsForm (length found.now.stars) goal.now }
+    requires found { IsFound (length found.now.stars) found.now }
+    ensures { result ≡ (if is_total (form_value found.now.stars found.now.unit goal.now)
+        then Some (unsigned_abs (form_value found.now.stars found.now.unit goal.now)) else None) }
+{
+    let value = value_of(goal, found);
+    if value >= 0 && value < TOO_MUCH {
+        Some(value as u64)
+    } else {
+        None
+    }
+}
+
+/// The goal from which on a total is too large, in parts.
+const TOO_MUCH: i128 = 1 << 62;
+
+/// The weights of the coefficients over 0 of the goal's line, with its scale.
+fn proof_at(alloc: Global, rows: &RowList, aimed: &Aimed, total: u64) -> Result<Proof, AllocError>
+    requires line { IsLine (length aimed.now.table.nonbasic) aimed.now.line }
+    requires nonbasic { All (IsVariable rows.now) aimed.now.table.nonbasic }
+    ensures { IfOk result (λ made. made ≡ proof_of rows.now aimed.now.table aimed.now.line total) }
+{
+    let negated = negated(alloc, aimed.line.coefs.as_slice())?;
+    let weights = weights_of(alloc, aimed.table.nonbasic.as_slice(), &negated)?;
+    let list = resolved(alloc, rows, &weights)?;
+    Ok(Proof {
+        scale: times_of(aimed.line.times),
+        weights: Items::of_vec(list),
+        total,
+    })
+}
+
+/// The answer where no coefficient of the goal's line is below 0.
+fn end_at(
+    alloc: Global,
+    rows: &RowList,
+    goal: &Form,
+    aimed: &Aimed,
+    pivots: u32,
+) -> Result<SolvedLeast, AllocError>
+    requires goal { IsForm rows.now.stars goal.now }
+    requires run { Lowers rows.now goal.now pivots aimed.now.table aimed.now.line }
+    ensures { IfOk result (λ answer. answer ≡ least_or_large pivots rows.now goal.now aimed.now.table aimed.now.line
+        (found_or_large pivots (fractions rows.now aimed.now.table))) }
+{
+    match found(alloc, rows, &aimed.table, pivots)? {
+        Solved::Found(found) => {
+            let Some(total) = total_of(goal, &found) else {
+                return Ok(SolvedLeast::Unsolved(Stop::Large(pivots)));
+            };
+            let proof = proof_at(alloc, rows, aimed, total)?;
+            Ok(SolvedLeast::Found(found, proof))
+        }
+        Solved::None(verdict) => Ok(SolvedLeast::None(verdict)),
+        Solved::Unsolved(stop) => Ok(SolvedLeast::Unsolved(stop)),
+    }
+}
+
+/// What comes at a table and the goal's line, after so many pivots.
+fn turn_of(
+    alloc: Global,
+    rows: &RowList,
+    goal: &Form,
+    aimed: Aimed,
+    pivots: u32,
+) -> Result<LeastTurn, AllocError>
+    requires goal { IsForm rows.now.stars goal.now }
+    requires coefs { All (λ c. pos 0 ≤ℤ c) goal.now.coefs }
+    requires pivots { pivots ≤ 2000 }
+    requires run { Lowers rows.now goal.now pivots aimed.table aimed.line }
+    ensures { IfOk result (IsNext rows.now goal.now pivots) }
+{
+    let Some(column) = lowering(&aimed.table, &aimed.line) else {
+        return Ok(LeastTurn::Ends(end_at(alloc, rows, goal, &aimed, pivots)?));
+    };
+    let Some(place) = nearest(rows, &aimed.table, column) else {
+        unreachable!()
+    };
+    if pivots >= BUDGET {
+        return Ok(LeastTurn::Ends(SolvedLeast::Unsolved(Stop::Pivots)));
+    }
+    let after = exchange_aimed(alloc, aimed, place, column)?;
+    if is_too_large(&after.table) || has_large_number(&after.line) {
+        return Ok(LeastTurn::Ends(SolvedLeast::Unsolved(Stop::Large(pivots + 1))));
+    }
+    Ok(LeastTurn::Goes(after))
+}
+
+/// The least run from a table and the goal's line on, after so many pivots.
+fn lower(
+    alloc: Global,
+    rows: &RowList,
+    goal: &Form,
+    mut aimed: Aimed,
+    pivots: u32,
+) -> Result<SolvedLeast, AllocError>
+    requires goal { IsForm rows.now.stars goal.now }
+    requires coefs { All (λ c. pos 0 ≤ℤ c) goal.now.coefs }
+    requires pivots { pivots ≤ 2000 }
+    requires run { Lowers rows.now goal.now pivots aimed.table aimed.line }
+    ensures { IfOk result (LeastRun rows.now goal.now) }
+{
+    for made in pivots..BUDGET {
+        match turn_of(alloc, rows, goal, aimed, made)? {
+            LeastTurn::Ends(answer) => return Ok(answer),
+            LeastTurn::Goes(after) => aimed = after,
+        }
+    }
+    match turn_of(alloc, rows, goal, aimed, BUDGET)? {
+        LeastTurn::Ends(answer) => Ok(answer),
+        LeastTurn::Goes(_) => unreachable!(),
+    }
+}
+
+/// The least run from where the pivot run has found amounts, after so many pivots.
+fn lower_from(
+    alloc: Global,
+    rows: &RowList,
+    goal: &Form,
+    table: Table,
+    pivots: u32,
+) -> Result<SolvedLeast, AllocError>
+    requires goal { IsForm rows.now.stars goal.now }
+    requires coefs { All (λ c. pos 0 ≤ℤ c) goal.now.coefs }
+    requires pivots { pivots ≤ 2000 }
+    requires run { EndsFound rows.now pivots table }
+    ensures { IfOk result (LeastRun rows.now goal.now) }
+{
+    let Some(line) = goal_line(alloc, &table, goal)? else {
+        return Ok(SolvedLeast::Unsolved(Stop::Large(pivots)));
+    };
+    lower(alloc, rows, goal, Aimed { table, line }, pivots)
+}
+
+/// An answer of the pivot run without amounts, as one of the least run.
+fn without_amounts(solved: Solved) -> SolvedLeast
+    requires { IsNotFound solved }
+    ensures { (rows : RowList) (goal : Form) → answer_to rows ≡ solved → LeastRun rows goal result }
+{
+    match solved {
+        Solved::None(verdict) => SolvedLeast::None(verdict),
+        Solved::Unsolved(stop) => SolvedLeast::Unsolved(stop),
+        Solved::Found(_) => unreachable!(),
+    }
+}
+
+/// The answer where the pivot run ends at a table, after so many pivots, and no basic variable is below its bound.
+fn run_on(
+    alloc: Global,
+    rows: &RowList,
+    goal: &Form,
+    table: Table,
+    pivots: u32,
+) -> Result<SolvedLeast, AllocError>
+    requires goal { IsForm rows.now.stars goal.now }
+    requires coefs { All (λ c. pos 0 ≤ℤ c) goal.now.coefs }
+    requires stands { StandsAt rows.now table pivots }
+    ensures { IfOk result (LeastRun rows.now goal.now) }
+{
+    match found(alloc, rows, &table, pivots)? {
+        Solved::Found(_) => lower_from(alloc, rows, goal, table, pivots),
+        Solved::None(verdict) => Ok(SolvedLeast::None(verdict)),
+        Solved::Unsolved(stop) => Ok(SolvedLeast::Unsolved(stop)),
+    }
+}
+
+/// Both runs: the answer of the pivot run where that is no amounts, and otherwise that of the least run.
+fn run_both(alloc: Global, rows: &RowList, goal: &Form) -> Result<SolvedLeast, AllocError>
+    requires goal { IsForm rows.now.stars goal.now }
+    requires coefs { All (λ c. pos 0 ≤ℤ c) goal.now.coefs }
+    ensures { IfOk result (LeastRun rows.now goal.now) }
+{
+    match seek(alloc, rows)? {
+        Sought::Stands(table, pivots) => run_on(alloc, rows, goal, table, pivots),
+        Sought::Ends(solved) => Ok(without_amounts(solved)),
+    }
+}
+
+/// Amounts that meet the rows and have the least goal, with a proof of that, or a verdict that none meet the rows, or
+/// why the run stopped: `docs/SOLVER.md`, "The least run". The total of the proof is the goal in parts of the unit of
+/// the amounts, its written part included.
+pub fn solve_least(alloc: Global, rows: &RowList, goal: &Form) -> Result<SolvedLeast, AllocError>
+    requires goal { IsForm rows.now.stars goal.now }
+    requires coefs { All (λ c. pos 0 ≤ℤ c) goal.now.coefs }
+    ensures run { IfOk result (LeastRun rows.now goal.now) }
+
+    // What is found meets the rows, and its proof shows that the goal is least; what is refuted has no amounts. All are
+    // such that the second checks take them.
+    ensures found { (found : Found) (proof : Proof) → result ≡ Ok (least.Found found proof) →
+        IsFound rows.now.stars found × MeetsRows found.stars found.unit rows.now.rows × IsProof proof ×
+        ShowsLeast rows.now.rows goal.now found.unit proof }
+    ensures refuted { (verdict : Verdict) → result ≡ Ok (least.None verdict) →
+        IsVerdict verdict × Refutes rows.now.stars rows.now.rows verdict }
+{
+    run_both(alloc, rows, goal)
+}
