@@ -1,5 +1,5 @@
 -- How the arguments of a spawned or called declaration pass.
-use Rattle.std.proofs.Common.{◌≡◌, ◌<◌, ◌⊎◌, ◌↔◌, ◌∙◌, ℕ, Bool, true, false, IsTrue, List, [], ◌∷◌, All, Contains, Option, Some, None, slice_get, length, inl, inr, refl, ap, sym, subst, arith}
+use Rattle.std.proofs.Common.{◌≡◌, ◌⊎◌, ◌↔◌, ◌∙◌, ℕ, Bool, true, false, List, [], Some, slice_get, inl, inr, refl, ap, sym, subst}
 use Rattle.nomos_ir.specs.declared.amount.Amount.{Amount}
 use Rattle.nomos_ir.specs.declared.code_node.Args.{Args}
 use Rattle.nomos_ir.specs.declared.code_node.CodeNode.TheVariants as code
@@ -11,16 +11,13 @@ use Rattle.nomos_ir.specs.declared.ids.ProcId.{ProcId}
 use Rattle.nomos_ir.specs.declared.ids.TypeId.{TypeId}
 use Rattle.nomos_ir.specs.declared.ids.VarId.{VarId}
 use Rattle.nomos_ir.specs.declared.lists.ProgramLists.{ProgramLists}
-use Rattle.nomos_ir.specs.Amounts.{star_count}
 use Rattle.nomos_ir.specs.Bindings.{bound_to}
 use Rattle.nomos_ir.specs.Ids.{ProcInRange}
 use Rattle.nomos_ir.specs.Program.{IsProgram}
 use Rattle.nomos_ir.proofs.NodeLaws.{All-at}
 use Rattle.nomos_equality.specs.Paths.{StandAtEqualPaths}
-use Rattle.nomos_types.specs.Alike.{AlikeTypes}
-use Rattle.nomos_types.specs.Amount.{Annotations, dths}
-use Rattle.nomos_types.specs.Arguments.{PassesValue, term, list, PassesValues, value, PassesChannels, ArgumentsFit}
-use Rattle.nomos_types.specs.Arguments as passing
+use Rattle.nomos_types.specs.Amount.{Annotations}
+use Rattle.nomos_types.specs.Arguments.{term, list, PassesValues, value, PassesChannels, ArgumentsFit}
 use Rattle.nomos_types.specs.Equality.{no_amounts}
 use Rattle.nomos_types.specs.Judgement.{Judgement, IsJudgement}
 use Rattle.nomos_types.specs.Premises.{Calls, Spawns}
@@ -30,12 +27,12 @@ use Rattle.nomos_typing.specs.Account.{Account}
 use Rattle.nomos_typing.specs.Asking.{AsksPair, IsOfType}
 use Rattle.nomos_typing.specs.declared.asked.Asked.{Asked}
 use Rattle.nomos_typing.specs.declared.standing.Standing.{Standing}
-use Rattle.nomos_typing.specs.mirror.Passing.{ValuesPassed, ChannelsPassed, TellsChannels, ArgumentsPassed, TellsArguments, PairOfValues, PairOfChannels, carried_by_all}
-use Rattle.nomos_typing.specs.mirror.Standing.{amount_of, each_bound, shape_of, HasPair, Joins, NoRow}
-use Rattle.nomos_typing.proofs.AskingLaws.{ArgumentsAsk, CarriesPair, PassesPair, asks-at, asked-at}
+use Rattle.nomos_typing.specs.mirror.Passing.{ValuesPassed, TellsChannels, TellsArguments, PairOfValues, PairOfChannels, carried_by_all}
+use Rattle.nomos_typing.specs.mirror.Standing.{amount_of, each_bound, shape_of, Joins, NoRow}
+use Rattle.nomos_typing.proofs.AskingLaws.{ArgumentsAsk, asks-at, asked-at}
 use Rattle.nomos_typing.proofs.GivingSteps.{values-same}
 use Rattle.nomos_typing.proofs.PassingSteps.{channels-one}
-use Rattle.nomos_typing.proofs.StepRows.{spawn-stuck, call-stuck, worth-nothing}
+use Rattle.nomos_typing.proofs.StepRows.{spawn-stuck, call-stuck}
 
 -- what is left after values is a judgement
 pub values-judgement : (lists : ProgramLists) (j k : Judgement) (d : ProcDecl) (args : Args) → IsJudgement lists j

@@ -1,15 +1,13 @@
 -- Inversion: at an instruction the node fixes which pairs of amounts it asks for.
-use Rattle.std.proofs.Common.{◌≡◌, ◌⊎◌, inl, inr, ℕ, List, [], ◌∷◌, Contains, Some, slice_get, refl, sym, subst}
+use Rattle.std.proofs.Common.{◌≡◌, ◌⊎◌, inl, inr, Contains, Some, slice_get, refl, sym, subst}
 use Rattle.std.specs.Prelude.{zip}
 use Rattle.nomos_ir.specs.declared.amount.Amount.{Amount}
 use Rattle.nomos_ir.specs.declared.code_node.Args.{Args}
 use Rattle.nomos_ir.specs.declared.code_node.CodeNode.{CodeNode}
 use Rattle.nomos_ir.specs.declared.code_node.CodeNode.TheVariants as code
-use Rattle.nomos_ir.specs.declared.code_node.ValueArg.{ValueArg}
 use Rattle.nomos_ir.specs.declared.code_node.ValueArg.TheVariants as arg
 use Rattle.nomos_ir.specs.declared.declaration.Par.{Par}
 use Rattle.nomos_ir.specs.declared.declaration.ProcDecl.{ProcDecl}
-use Rattle.nomos_ir.specs.declared.ids.ProcId.{ProcId}
 use Rattle.nomos_ir.specs.declared.ids.TypeId.{TypeId}
 use Rattle.nomos_ir.specs.declared.ids.VarId.{VarId}
 use Rattle.nomos_ir.specs.declared.lists.ProgramLists.{ProgramLists}

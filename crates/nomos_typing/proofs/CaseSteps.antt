@@ -1,8 +1,7 @@
 -- Where the arms of a `case` lead.
-use Rattle.std.proofs.Common.{◌≡◌, ◌<◌, ◌+◌, ◌↔◌, ◌∙◌, ℕ, zero, suc, ◌==◌, nat_eq, IsTrue, find, option_map, Bool, true, false, cond, List, [], ◌∷◌, ◌++◌, map, length, get_or, take, All, Contains, Option, Some, None, inl, inr, ap, refl, subst, sym, arith, eq-eqb, eqb-true, add-one}
+use Rattle.std.proofs.Common.{◌≡◌, ◌<◌, ◌+◌, ◌↔◌, ◌∙◌, ℕ, zero, suc, ◌==◌, nat_eq, find, option_map, Bool, true, false, cond, List, [], ◌∷◌, ◌++◌, map, length, get_or, take, All, Contains, Option, Some, inl, inr, ap, refl, subst, sym, arith, eq-eqb, eqb-true, add-one}
 use Rattle.std.specs.Cmp.{unsigned_Decides}
 use Rattle.std.specs.HashSet as bag
-use Rattle.std.specs.Set.{is_member}
 use Rattle.std.proofs.lemmas.Map.Made.{is_member-Decides}
 use Rattle.std.proofs.Math.Seq.{take-suc}
 use Rattle.std.proofs.lemmas.Bool.{cases_lt}
@@ -10,7 +9,6 @@ use Rattle.std.proofs.lemmas.List.{get_or_default}
 use Rattle.std.proofs.lemmas.List.Elements.{All-cons, All-nil, All-contains, Contains-get_or}
 use Rattle.nomos_ir.specs.declared.code_node.Arm.{Arm}
 use Rattle.nomos_ir.specs.declared.code_node.Chan.{Chan}
-use Rattle.nomos_ir.specs.declared.code_node.Chan.TheVariants as chan
 use Rattle.nomos_ir.specs.declared.code_node.CodeNode.TheVariants as code
 use Rattle.nomos_ir.specs.declared.ids.Label.{Label}
 use Rattle.nomos_ir.specs.declared.ids.TypeId.{TypeId}
@@ -21,7 +19,6 @@ use Rattle.nomos_types.specs.Branches.{goes_by}
 use Rattle.nomos_types.specs.Judgement.{Judgement}
 use Rattle.nomos_types.specs.Premises.{HasType, by_side, ArmsGoOn, AwaitsLabel}
 use Rattle.nomos_types.specs.Row.{StandsAtCode}
-use Rattle.nomos_ir.specs.Amounts.{star_count}
 use Rattle.nomos_typing.specs.Account.{Account}
 use Rattle.nomos_typing.specs.declared.standing.Standing.{Standing}
 use Rattle.nomos_typing.specs.declared.standing.Way.{Way}

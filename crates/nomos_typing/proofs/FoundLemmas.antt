@@ -1,5 +1,5 @@
 -- What a search found, where the answer of a call is known; names that are free; kinds that were found.
-use Rattle.std.proofs.Common.{◌≡◌, ◌≢◌, ◌↔◌, ◌∙◌, ◌+◌, ℕ, Bool, true, false, not, IsTrue, List, Option, Some, None, refl, ap, sym, subst, arith}
+use Rattle.std.proofs.Common.{◌≡◌, ◌↔◌, ◌∙◌, ℕ, Bool, true, false, not, IsTrue, Option, Some, None, refl, ap, subst, arith}
 use Rattle.std.specs.Option.{option_map, is_some}
 use Rattle.nomos_ir.specs.declared.code_node.CodeNode.{CodeNode}
 use Rattle.nomos_ir.specs.declared.ids.TermId.{TermId}
@@ -18,7 +18,7 @@ use Rattle.nomos_types.specs.Row.{StandsAtCode}
 use Rattle.nomos_typing.specs.declared.standing.Carried.{Carried}
 use Rattle.nomos_typing.specs.declared.standing.Standing.{Standing}
 use Rattle.nomos_typing.specs.mirror.Finding.{IsFound}
-use Rattle.nomos_typing.specs.mirror.Standing.{shape_of, shape_of_list, each_bound}
+use Rattle.nomos_typing.specs.mirror.Standing.{shape_of, shape_of_list}
 use Rattle.nomos_typing.proofs.StandingLemmas.{each-bound}
 
 -- what was found has the property

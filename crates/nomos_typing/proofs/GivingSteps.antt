@@ -29,7 +29,7 @@ use Rattle.nomos_typing.specs.Accounting.{without_passed}
 use Rattle.nomos_typing.specs.declared.asked.Asked.{Asked}
 use Rattle.nomos_typing.specs.declared.standing.Carried.{Carried}
 use Rattle.nomos_typing.specs.declared.standing.Standing.{Standing}
-use Rattle.nomos_typing.specs.mirror.Passing.{ListPassed, TellsList, ValuePassed, TellsValue, ValuesPassed, TellsValues, PairOfValues, carried_by_all}
+use Rattle.nomos_typing.specs.mirror.Passing.{TellsList, ValuePassed, TellsValue, ValuesPassed, PairOfValues, carried_by_all}
 use Rattle.nomos_typing.specs.mirror.Standing.{amount_of, each_bound, shape_of, shape_of_list, HasPair, Joins}
 use Rattle.nomos_typing.proofs.ListSteps.{list-bound}
 use Rattle.nomos_typing.proofs.PairLemmas.{joins-none, joins-same}

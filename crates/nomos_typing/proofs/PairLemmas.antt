@@ -1,5 +1,5 @@
 -- Which pairs join those that were asked for.
-use Rattle.std.proofs.Common.{◌≡◌, ◌⊎◌, ◌↔◌, ◌∙◌, ℕ, inl, inr, ap}
+use Rattle.std.proofs.Common.{◌≡◌, ◌↔◌, ◌∙◌, ℕ, inl, inr, ap}
 use Rattle.std.specs.declared.alloc.AllocError.{AllocError}
 use Rattle.std.specs.declared.result.Result.{Result}
 use Rattle.std.specs.declared.result.Result.TheVariants.{Ok, Err}
@@ -21,7 +21,7 @@ use Rattle.nomos_typing.specs.declared.asked.Asked.{Asked}
 use Rattle.nomos_typing.specs.declared.standing.Standing.{Standing}
 use Rattle.nomos_typing.specs.declared.standing.Step.{Step}
 use Rattle.nomos_typing.specs.declared.standing.Step.TheVariants as step
-use Rattle.nomos_typing.specs.mirror.Standing.{shape_of, HasPair, Joins, StepAsks}
+use Rattle.nomos_typing.specs.mirror.Standing.{shape_of, Joins, StepAsks}
 use Rattle.nomos_typing.proofs.AskingLaws.{AsksAt, asks-at, asked-at}
 use Rattle.nomos_typing.proofs.ChannelLaws.{head-unique}
 use Rattle.nomos_typing.proofs.SideLaws.{paid_amount-same, got_amount-same}

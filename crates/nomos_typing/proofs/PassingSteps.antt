@@ -1,5 +1,5 @@
 -- How channels pass.
-use Rattle.std.proofs.Common.{◌≡◌, ◌≢◌, ◌<◌, ◌≤◌, ◌+◌, ◌⊎◌, ◌↔◌, ◌∙◌, ℕ, zero, suc, ◌==◌, Bool, true, false, List, [], ◌∷◌, All, Contains, Option, Some, None, drop, get_or, length, subst₂, inl, inr, refl, ap, sym, subst, arith, eqb-true}
+use Rattle.std.proofs.Common.{◌≡◌, ◌<◌, ◌+◌, ◌⊎◌, ◌∙◌, ℕ, zero, suc, ◌==◌, Bool, true, false, List, [], ◌∷◌, Contains, Option, Some, None, drop, get_or, length, subst₂, inl, inr, refl, ap, sym, subst, arith, eqb-true}
 use Rattle.std.specs.Prelude.{zip}
 use Rattle.std.proofs.lemmas.Bool.{eqb-false}
 use Rattle.std.proofs.lemmas.List.{drop_more}
@@ -23,7 +23,7 @@ use Rattle.nomos_types.proofs.ModeLaws.{mode-in_range}
 use Rattle.nomos_typing.specs.Asking.{IsOfType}
 use Rattle.nomos_typing.specs.declared.asked.Asked.{Asked}
 use Rattle.nomos_typing.specs.declared.standing.Standing.{Standing}
-use Rattle.nomos_typing.specs.mirror.Passing.{TellsAlike, TellsChannel, ChannelPassed, TellsChannels, ChannelsPassed, PairOfChannels}
+use Rattle.nomos_typing.specs.mirror.Passing.{TellsAlike, TellsChannel, ChannelPassed, ChannelsPassed, PairOfChannels}
 use Rattle.nomos_typing.specs.mirror.Standing.{shape_of, Joins, HasPair}
 use Rattle.nomos_typing.proofs.LeadLemmas.{keeps-through}
 

@@ -1,5 +1,5 @@
 -- What is bound, found by its place.
-use Rattle.std.proofs.Common.{◌≡◌, ◌≢◌, ◌<◌, ◌≤◌, ◌+◌, ℕ, suc, ◌==◌, Bool, true, false, cond, List, ◌∷◌, [], ◌++◌, map, length, get_or, take, drop, set, All, Option, Some, None, Result, Ok, Err, Ordering, Less, Equal, Greater, ap, sym, subst, refl, ◌∙◌, arith, ne_eqb, eq-eqb, add-one}
+use Rattle.std.proofs.Common.{◌≡◌, ◌<◌, ◌+◌, ℕ, cond, List, ◌∷◌, [], ◌++◌, length, get_or, take, drop, set, All, Some, None, Result, Ok, Err, Less, Equal, Greater, ap, sym, subst, refl, ◌∙◌, arith, ne_eqb, eq-eqb, add-one}
 use Rattle.std.proofs.lemmas.Cmp.{ranked, nat_cmp_total}
 use Rattle.std.proofs.lemmas.List.{take-append-drop, drop_more, set_split, get_or-take, get_or-drop, get_or-map, length-take-le, length-drop, length-map}
 use Rattle.std.proofs.lemmas.List.Elements.{All-head, All-tail}

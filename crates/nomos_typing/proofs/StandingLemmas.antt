@@ -1,5 +1,5 @@
 -- What is bound, changed in one way; amounts that are ignored; the types of channels in the program.
-use Rattle.std.proofs.Common.{◌≡◌, ◌<◌, ℕ, ◌==◌, Bool, true, false, cond, List, ◌∷◌, [], map, length, All, Option, Some, None, Ordering, Less, Equal, Greater, ap, refl, ◌∙◌, arith}
+use Rattle.std.proofs.Common.{◌≡◌, ◌<◌, ℕ, ◌==◌, Bool, true, false, cond, List, ◌∷◌, [], map, length, Option, Some, Ordering, Less, Equal, Greater, ap, refl, ◌∙◌, arith}
 use Rattle.std.specs.Option.{option_map}
 use Rattle.std.specs.Ordering.{match_ordering}
 use Rattle.nomos_ir.proofs.BindingLaws.{all-bound}
@@ -15,10 +15,9 @@ use Rattle.nomos_ir.specs.Program.{IsProgram}
 use Rattle.nomos_types.proofs.ModeLaws.{mode-in_range}
 use Rattle.nomos_types.specs.Amount.{dths}
 use Rattle.nomos_types.specs.Equality.{no_amounts}
-use Rattle.nomos_types.specs.Judgement.{IsJudgement}
 use Rattle.nomos_types.specs.Modes.{HasMode, IsLinearMode, may_hold}
 use Rattle.nomos_typing.specs.declared.standing.Standing.{Standing}
-use Rattle.nomos_typing.specs.mirror.Standing.{IsWithin, each_bound, shape_of}
+use Rattle.nomos_typing.specs.mirror.Standing.{IsWithin, each_bound}
 
 module _ {X Y : Type 0} (f : X → Y) where
   abbrev change : VarId × X → VarId × Y

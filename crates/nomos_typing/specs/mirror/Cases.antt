@@ -1,5 +1,5 @@
 -- A mirror of the code: where the arms of a `case` lead.
-use Rattle.std.specs.Prelude.{◌≡◌, List, [], ◌∷◌, Contains, None, Option, Some}
+use Rattle.std.specs.Prelude.{◌≡◌, List, [], ◌∷◌, Contains, None, Some}
 use Rattle.nomos_ir.specs.declared.code_node.Arm.{Arm}
 use Rattle.nomos_ir.specs.declared.code_node.Chan.{Chan}
 use Rattle.nomos_ir.specs.declared.ids.Label.{Label}

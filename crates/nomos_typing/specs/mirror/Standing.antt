@@ -17,7 +17,6 @@ use Rattle.nomos_typing.specs.Accounting.{accounts_after}
 use Rattle.nomos_typing.specs.Asking.{AsksPair}
 use Rattle.nomos_typing.specs.declared.asked.Asked.{Asked}
 use Rattle.nomos_typing.specs.declared.standing.Carried.{Carried}
-use Rattle.nomos_typing.specs.declared.standing.Parts.{Parts}
 use Rattle.nomos_typing.specs.declared.standing.Standing.{Standing}
 use Rattle.nomos_typing.specs.declared.standing.Step.{Step}
 use Rattle.nomos_typing.specs.declared.standing.Step.TheVariants as step

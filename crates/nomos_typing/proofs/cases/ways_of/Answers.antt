@@ -1,6 +1,6 @@
 use Rattle.std.proofs.Common.{[], subst, sym, arith}
 use Rattle.std.proofs.lemmas.List.{get_or_default, take_all}
-use Rattle.std.proofs.Common.{List, refl}
+use Rattle.std.proofs.Common.{List}
 use Rattle.nomos_ir.specs.declared.code_node.Arm.{Arm}
 use Rattle.nomos_typing.specs.declared.standing.Way.{Way}
 use Rattle.nomos_typing.specs.mirror.Cases.{AreWays, none}

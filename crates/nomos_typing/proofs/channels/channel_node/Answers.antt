@@ -1,4 +1,4 @@
-use Rattle.std.proofs.Common.{sym, ◌∙◌}
+use Rattle.std.proofs.Common.{sym}
 use Rattle.nomos_typing.specs.mirror.Standing.{shape_of}
 use Rattle.nomos_typing.proofs.ChannelLaws.{channel-in_range, channel-unfolds, no-channel}
 use Rattle.nomos_typing.proofs.channels.channel_node.Goals as goal

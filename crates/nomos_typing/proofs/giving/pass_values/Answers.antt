@@ -1,4 +1,4 @@
-use Rattle.std.proofs.Common.{Bool, List, [], length, subst, subst₂, sym, arith}
+use Rattle.std.proofs.Common.{List, length, subst, subst₂, sym, arith}
 use Rattle.std.proofs.lemmas.List.{drop_all}
 use Rattle.nomos_ir.specs.declared.code_node.ValueArg.{ValueArg}
 use Rattle.nomos_ir.specs.declared.declaration.Par.{Par}

@@ -1,4 +1,4 @@
-use Rattle.std.proofs.Common.{List, drop}
+use Rattle.std.proofs.Common.{drop}
 use Rattle.nomos_ir.specs.Bindings.{IsAscending}
 use Rattle.nomos_types.specs.Arguments.{PassesValues}
 use Rattle.nomos_types.specs.Equality.{no_amounts}

@@ -1,7 +1,7 @@
 use Rattle.std.proofs.Common.{sym, subst, arith}
 use Rattle.nomos_ir.specs.TermKind.{HasKind}
 use Rattle.nomos_types.specs.Judgement.{ListType}
-use Rattle.nomos_typing.specs.mirror.Standing.{shape_of, shape_of_list}
+use Rattle.nomos_typing.specs.mirror.Standing.{shape_of}
 use Rattle.nomos_typing.proofs.ListSteps.{list-unbound, list-bound, list-is}
 use Rattle.nomos_typing.proofs.LeadLemmas.{not-true}
 use Rattle.nomos_typing.proofs.lists.list_grows.Goals as goal

@@ -1,4 +1,3 @@
-use Rattle.nomos_typing.specs.mirror.Standing.{shape_of}
 use Rattle.nomos_typing.proofs.LeadLemmas.{not-true}
 use Rattle.nomos_typing.proofs.ListSteps.{parts-found}
 use Rattle.nomos_typing.proofs.lists.list_parts.Goals as goal

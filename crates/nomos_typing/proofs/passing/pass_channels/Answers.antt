@@ -1,6 +1,6 @@
-use Rattle.std.proofs.Common.{[], length, subst, subst₂, sym, arith}
+use Rattle.std.proofs.Common.{subst, subst₂, sym, arith}
 use Rattle.std.proofs.lemmas.List.{drop_all}
-use Rattle.std.proofs.Common.{◌≡◌, List}
+use Rattle.std.proofs.Common.{List}
 use Rattle.nomos_ir.specs.declared.ids.TypeId.{TypeId}
 use Rattle.nomos_ir.specs.declared.ids.VarId.{VarId}
 use Rattle.nomos_types.proofs.ArgumentsLaws.{passes-channel_left}

@@ -1,6 +1,5 @@
-use Rattle.std.proofs.Common.{Bool, [], ◌∷◌, ap, sym, subst}
+use Rattle.std.proofs.Common.{Bool, subst}
 use Rattle.nomos_equality.specs.Paths.{StandAtEqualPaths}
-use Rattle.nomos_ir.specs.declared.code_node.Chan.TheVariants as chan
 use Rattle.nomos_types.specs.Row as row
 use Rattle.nomos_types.proofs.ModeLaws.{mode-in_range}
 use Rattle.nomos_typing.specs.Asking.{AsksPair}

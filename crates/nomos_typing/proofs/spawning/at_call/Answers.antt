@@ -1,28 +1,20 @@
-use Rattle.std.proofs.Common.{◌≡◌, ◌⊎◌, ◌∙◌, Bool, IsTrue, [], ◌∷◌, refl, ap, sym, subst, arith}
+use Rattle.std.proofs.Common.{◌≡◌, ◌⊎◌, ◌∙◌, Bool, ap, sym, subst, arith}
 use Rattle.nomos_equality.specs.Paths.{StandAtEqualPaths}
-use Rattle.nomos_forms.specs.declared.form.Form.{Form}
 use Rattle.nomos_ir.specs.declared.amount.Amount.{Amount}
 use Rattle.nomos_ir.specs.declared.code_node.CodeNode.TheVariants as code
-use Rattle.nomos_ir.specs.Amounts.{star_count}
 use Rattle.nomos_types.specs.Equality.{no_amounts}
-use Rattle.nomos_types.specs.Judgement.{Judgement, at_code, binds_channel}
-use Rattle.nomos_types.specs.Modes.{may_spawn}
+use Rattle.nomos_types.specs.Judgement.{Judgement}
 use Rattle.nomos_types.specs.Row as row
 use Rattle.nomos_types.proofs.ModeLaws.{mode-in_range}
-use Rattle.nomos_typing.specs.Account.{spends, with_lists}
-use Rattle.nomos_typing.specs.Accounting.{spends_for, without_passed}
 use Rattle.nomos_typing.specs.Asking.{AsksPair}
-use Rattle.nomos_typing.specs.mirror.Limits.{HasRoom}
 use Rattle.nomos_typing.specs.mirror.Passing.{TellsAlike, TellsArguments, PairOfValues, PairOfChannels, carried_by_all}
-use Rattle.nomos_typing.specs.mirror.Standing.{amount_of, each_bound, shape_of}
-use Rattle.nomos_typing.proofs.ArgumentSteps.{arguments-ask, arguments-one, call-asks, call-stays, declared-in_range, joins-both, spawn-asks, spawn-stays}
+use Rattle.nomos_typing.specs.mirror.Standing.{shape_of}
+use Rattle.nomos_typing.proofs.ArgumentSteps.{arguments-ask, arguments-one, call-asks, call-stays, declared-in_range, joins-both}
 use Rattle.nomos_typing.proofs.FoundLemmas.{code-in_range}
-use Rattle.nomos_typing.proofs.LeadLemmas.{leads-with, keeps-through, not-true}
-use Rattle.nomos_typing.proofs.LimitLemmas.{room-at, proc-amount}
+use Rattle.nomos_typing.proofs.LeadLemmas.{not-true}
 use Rattle.nomos_typing.proofs.PairLemmas.{joins-same}
-use Rattle.nomos_typing.proofs.StepRows.{spawn-steps, worth-nothing}
+use Rattle.nomos_typing.proofs.StepRows.{worth-nothing}
 use Rattle.nomos_ir.specs.declared.declaration.ProcDecl.{ProcDecl}
-use Rattle.nomos_ir.specs.declared.mode.Mode.{Mode}
 use Rattle.nomos_types.specs.Alike.{AlikeTypes}
 use Rattle.nomos_types.specs.Arguments.{ArgumentsFit}
 use Rattle.nomos_typing.proofs.AskingLaws.{ArgumentsAsk}

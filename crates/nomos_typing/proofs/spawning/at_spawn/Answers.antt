@@ -1,26 +1,22 @@
-use Rattle.std.proofs.Common.{◌≡◌, ◌⊎◌, ◌∙◌, Bool, IsTrue, [], ◌∷◌, refl, ap, sym, subst, arith}
-use Rattle.nomos_equality.specs.Paths.{StandAtEqualPaths}
+use Rattle.std.proofs.Common.{◌⊎◌, ◌∙◌, Bool, IsTrue, [], ◌∷◌, refl, ap, sym, subst, arith}
 use Rattle.nomos_forms.specs.declared.form.Form.{Form}
 use Rattle.nomos_ir.specs.declared.amount.Amount.{Amount}
 use Rattle.nomos_ir.specs.declared.code_node.CodeNode.TheVariants as code
 use Rattle.nomos_ir.specs.Amounts.{star_count}
-use Rattle.nomos_types.specs.Equality.{no_amounts}
 use Rattle.nomos_types.specs.Judgement.{Judgement, at_code, binds_channel}
 use Rattle.nomos_types.specs.Modes.{may_spawn}
-use Rattle.nomos_types.specs.Row as row
-use Rattle.nomos_types.proofs.ModeLaws.{mode-in_range}
 use Rattle.nomos_typing.specs.Account.{spends, with_lists}
 use Rattle.nomos_typing.specs.Accounting.{spends_for, without_passed}
 use Rattle.nomos_typing.specs.Asking.{AsksPair}
 use Rattle.nomos_typing.specs.mirror.Limits.{HasRoom}
-use Rattle.nomos_typing.specs.mirror.Passing.{TellsAlike, TellsArguments, PairOfValues, PairOfChannels, carried_by_all}
+use Rattle.nomos_typing.specs.mirror.Passing.{TellsArguments, PairOfValues, PairOfChannels, carried_by_all}
 use Rattle.nomos_typing.specs.mirror.Standing.{amount_of, each_bound, shape_of}
-use Rattle.nomos_typing.proofs.ArgumentSteps.{arguments-ask, call-asks, call-stays, declared-in_range, joins-both, spawn-asks, spawn-stays}
+use Rattle.nomos_typing.proofs.ArgumentSteps.{arguments-ask, declared-in_range, spawn-asks, spawn-stays}
 use Rattle.nomos_typing.proofs.FoundLemmas.{code-in_range}
 use Rattle.nomos_typing.proofs.LeadLemmas.{leads-with, keeps-through, not-true}
 use Rattle.nomos_typing.proofs.LimitLemmas.{room-at, proc-amount}
 use Rattle.nomos_typing.proofs.PairLemmas.{joins-same}
-use Rattle.nomos_typing.proofs.StepRows.{spawn-steps, worth-nothing}
+use Rattle.nomos_typing.proofs.StepRows.{spawn-steps}
 use Rattle.nomos_typing.proofs.spawning.at_spawn.Goals as goal
 
 pub proc-child-requires : goal.proc-child-requires

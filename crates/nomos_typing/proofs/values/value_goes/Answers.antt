@@ -1,5 +1,3 @@
-use Rattle.std.proofs.Common.{sym}
-use Rattle.nomos_ir.specs.TermKind.{HasKind}
 use Rattle.nomos_typing.specs.mirror.Standing.{shape_of}
 use Rattle.nomos_typing.proofs.LeadLemmas.{not-true}
 use Rattle.nomos_typing.proofs.PremiseLemmas.{value-sent}

@@ -1,7 +1,6 @@
-use Rattle.std.proofs.Common.{Some, List, subst, ap, ◌∙◌}
+use Rattle.std.proofs.Common.{List, ap, ◌∙◌}
 use Rattle.nomos_ir.specs.declared.ids.VarId.{VarId}
 use Rattle.nomos_ir.specs.Bindings.{bound_to}
-use Rattle.nomos_typing.specs.mirror.Places.{StandsAt, PartsAt}
 use Rattle.nomos_typing.proofs.PlaceLemmas.{place-bound, place-unbound}
 use Rattle.nomos_typing.proofs.bound.Bound.get.Goals as goal
 

@@ -1,5 +1,4 @@
 use Rattle.std.proofs.Common.{List, [], subst, sym, ◌∙◌}
-use Rattle.std.specs.List.Sorted.{IsStrictlySortedBy}
 use Rattle.nomos_ir.specs.declared.ids.VarId.{VarId}
 use Rattle.nomos_ir.specs.Bindings.{IsAscending}
 use Rattle.nomos_ir.proofs.BindingLaws.{bindings_of-ascending}

@@ -1,12 +1,11 @@
-use Rattle.std.proofs.Common.{◌≡◌, ◌<◌, ◌≤◌, ◌-◌, ℕ, List, set, get_or, length, ℤ, pos, ◌+ℤ◌, ◌-ℤ◌, ap, ap₂, sym, subst, refl, ◌∙◌, arith}
+use Rattle.std.proofs.Common.{◌≡◌, ◌≤◌, ◌-◌, ℕ, List, set, get_or, length, ℤ, pos, ◌-ℤ◌, ap, ap₂, sym, subst, refl, ◌∙◌, arith}
 use Rattle.std.proofs.lemmas.List.Elements.{All-get_or}
 use Rattle.std.proofs.lemmas.List.FromFn.{length-map-range_with_len}
 use Rattle.nomos_ir.specs.declared.amount.Amount.{Amount}
-use Rattle.nomos_ir.specs.declared.amount.Amount.TheVariants.{Written, Star}
 use Rattle.nomos_ir.specs.Amounts.{IsAmount, star_of}
 use Rattle.nomos_forms.specs.declared.form.Form.{Form}
 use Rattle.nomos_forms.specs.Bounds.{IsForm, IsSmall}
-use Rattle.nomos_typing.specs.Account.{Account, spends, form_of}
+use Rattle.nomos_typing.specs.Account.{spends, form_of}
 use Rattle.nomos_typing.proofs.FormLemmas.{spent-written, spent-star, difference-in_machine, less-in_machine, coef_of, units_of}
 use Rattle.nomos_typing.proofs.potential.Potential.spend.Goals as goal
 
