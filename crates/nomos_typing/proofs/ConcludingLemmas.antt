@@ -1,30 +1,26 @@
 -- What follows from all that was gathered.
-use Rattle.std.proofs.Common.{◌≡◌, ◌≤◌, ◌⊎◌, ◌↔◌, ◌<◌, inl, inr, ⊎_elim, ℕ, zero, suc, List, [], ◌∷◌, ◌++◌, length, All, Contains, Option, Some, None, Result, Ok, Err, MatchOption, slice_get, refl, sym, ap, subst, ◌∙◌, arith}
+use Rattle.std.proofs.Common.{◌≡◌, ◌≤◌, ◌<◌, inl, inr, ⊎_elim, ℕ, zero, suc, List, [], ◌∷◌, ◌++◌, length, All, Contains, Option, Some, None, Result, Ok, Err, MatchOption, slice_get, refl, sym, ap, subst, ◌∙◌, arith}
 use Rattle.std.proofs.lemmas.List.{append-nil}
 use Rattle.std.proofs.lemmas.List.Elements.{All-weaker, All-contains_itself, Contains-append_left, Contains-append_right, Contains-append_cases}
 use Rattle.nomos_ir.specs.declared.amount.Amount.{Amount}
-use Rattle.nomos_ir.specs.declared.code_form.CodeForm.{CodeForm}
-use Rattle.nomos_ir.specs.declared.code_node.CodeNode.{CodeNode}
 use Rattle.nomos_ir.specs.declared.declaration.ProcDecl.{ProcDecl}
 use Rattle.nomos_ir.specs.declared.lists.ProgramLists.{ProgramLists}
 use Rattle.nomos_ir.specs.Amounts.{star_count}
 use Rattle.nomos_equality.specs.Comparing.{Compared, nothing_compared}
 use Rattle.nomos_forms.specs.Bounds.{IsForm}
 use Rattle.nomos_forms.specs.declared.form.Form.{Form}
-use Rattle.nomos_types.specs.Amount.{Annotations}
-use Rattle.nomos_types.specs.Derivation.{Follows}
 use Rattle.nomos_types.specs.Equality.{no_amounts}
 use Rattle.nomos_types.specs.Judgement.{Judgement, start_of}
 use Rattle.nomos_types.specs.Typed.{IsWellFormed}
 use Rattle.nomos_typing.proofs.MemberLemmas.{contains-none}
-use Rattle.nomos_typing.proofs.PlacesLemmas.{reaches-leads, leads-reaches}
+use Rattle.nomos_typing.proofs.PlacesLemmas.{reaches-leads}
 use Rattle.nomos_typing.proofs.ReachingLaws.{follows-reaches, reaches-follows}
 use Rattle.nomos_typing.proofs.RowsLaws.{needs-rows-law, derives-skeleton}
 use Rattle.nomos_typing.proofs.SizeLaws.{point-is_form}
 use Rattle.nomos_typing.proofs.StuckLaws.{rows-skeleton, rowless-stuck, stuck-rowless, stuck-no_skeleton}
 use Rattle.nomos_typing.specs.Account.{Account, start_account, form_of}
 use Rattle.nomos_typing.specs.Asking.{IsAsked}
-use Rattle.nomos_typing.specs.Checking.{code_offset, code_form, IsStuckAt, IsFirstStuck, NeedsRows, NeedsChecked, NeedsBeside, AnswersProcess, AnswersBeside}
+use Rattle.nomos_typing.specs.Checking.{code_offset, IsFirstStuck, NeedsRows, NeedsChecked, NeedsBeside, AnswersProcess, AnswersBeside}
 use Rattle.nomos_typing.specs.Reaching.{Reaches, IsPoint, IsFormOf}
 use Rattle.nomos_typing.specs.declared.checking.Checked.{Checked}
 use Rattle.nomos_typing.specs.declared.checking.ProcError.{ProcError}
@@ -34,9 +30,8 @@ use Rattle.nomos_typing.specs.declared.walk.Stuck.{Stuck}
 use Rattle.nomos_typing.specs.declared.walk.Walk.{Walk}
 use Rattle.nomos_typing.specs.mirror.Answers.{IsGathered, JoinsPairs}
 use Rattle.nomos_typing.specs.mirror.Fresh.{IsFresh}
-use Rattle.nomos_typing.specs.mirror.Standing.{shape_of, HasAccount, HasPair}
 use Rattle.nomos_typing.specs.mirror.Starting.{IsStartOf}
-use Rattle.nomos_typing.specs.mirror.Walking.{LeadsFrom, IsPointAt, IsStuckBy, IsDone, AtStanding, IsPending, IsReached, IsOpen, IsOnWay, IsWalk, Walking, Goes, StuckOf}
+use Rattle.nomos_typing.specs.mirror.Walking.{LeadsFrom, IsPointAt, IsStuckBy, AtStanding, IsPending, IsReached, IsOpen, IsOnWay, IsWalk, Walking, Goes}
 
 -- a declaration is reached where it begins
 pub start-reached : {lists : ProgramLists} {n : ℕ} (d : ProcDecl) (s : Standing) → IsStartOf lists n d s → IsReached lists n d s

@@ -1,5 +1,5 @@
 -- How a gain and an expense change the form of an account.
-use Rattle.std.proofs.Common.{◌≡◌, ◌≢◌, ◌<◌, ◌≤◌, ◌+◌, ◌-◌, ℕ, zero, suc, ◌==◌, cond, List, ◌∷◌, [], map, replicate, get_or, set, ℤ, pos, ◌+ℤ◌, ◌-ℤ◌, ◌*◌, ◌^◌, unsigned_abs, sum_by, ap, ap₂, sym, refl, ◌∙◌, arith, ne_eqb, eq-eqb}
+use Rattle.std.proofs.Common.{◌≡◌, ◌≢◌, ◌<◌, ◌≤◌, ◌+◌, ◌-◌, ℕ, zero, suc, cond, List, ◌∷◌, map, replicate, get_or, set, ℤ, pos, ◌+ℤ◌, ◌-ℤ◌, ◌^◌, unsigned_abs, sum_by, ap, ap₂, sym, refl, ◌∙◌, arith, ne_eqb, eq-eqb}
 use Rattle.std.proofs.lemmas.Int.{ints}
 use Rattle.std.proofs.lemmas.List.FromFn.{get_or-map-range_with_len}
 use Rattle.std.proofs.lemmas.List.Sums.{sum_by-cons}

@@ -1,20 +1,13 @@
 -- How what is gathered grows.
-use Rattle.std.proofs.Common.{◌≡◌, ◌≤◌, ◌<◌, ◌⊎◌, inl, inr, ⊎_elim, ℕ, Bool, true, false, cond, ltb, List, [], ◌∷◌, ◌++◌, Contains, Option, Some, None, refl, sym, ap, subst, ◌∙◌, arith}
-use Rattle.nomos_ir.specs.declared.amount.Amount.{Amount}
-use Rattle.nomos_ir.specs.declared.code_node.CodeNode.{CodeNode}
+use Rattle.std.proofs.Common.{◌≡◌, ◌≤◌, ◌<◌, ◌⊎◌, inl, inr, ⊎_elim, ℕ, Bool, true, false, cond, ltb, Option, Some, None, refl, arith}
 use Rattle.nomos_ir.specs.declared.declaration.ProcDecl.{ProcDecl}
 use Rattle.nomos_ir.specs.declared.lists.ProgramLists.{ProgramLists}
-use Rattle.nomos_forms.specs.declared.form.Form.{Form}
 use Rattle.nomos_types.specs.Judgement.{Judgement}
-use Rattle.nomos_types.specs.Row.{StandsAtCode}
 use Rattle.nomos_typing.specs.Account.{Account}
-use Rattle.nomos_typing.specs.Asking.{IsAsked}
-use Rattle.nomos_typing.specs.Reaching.{IsFormOf}
 use Rattle.nomos_typing.specs.declared.walk.Stuck.{Stuck}
 use Rattle.nomos_typing.specs.declared.walk.Walk.{Walk}
-use Rattle.nomos_typing.specs.mirror.Standing.{NoRow, HasPair}
 use Rattle.nomos_typing.specs.mirror.Stops.{first_stuck}
-use Rattle.nomos_typing.specs.mirror.Walking.{IsDone, Grows, Gathers, StuckOf, IsStuckBy}
+use Rattle.nomos_typing.specs.mirror.Walking.{IsDone, Grows, Gathers, IsStuckBy}
 
 -- nothing changes
 pub grows-same : {w : Walk} → Grows w w

@@ -1,5 +1,5 @@
 -- Along the code, from one standing to the next.
-use Rattle.std.proofs.Common.{◌≡◌, ◌<◌, ◌≤◌, ◌⊎◌, inl, inr, ⊎_elim, ℕ, List, [], ◌∷◌, ◌++◌, All, Contains, refl, sym, ap, subst, ◌∙◌, arith}
+use Rattle.std.proofs.Common.{◌≡◌, inl, inr, ⊎_elim, ℕ, List, [], ◌∷◌, refl, ap, ◌∙◌, arith}
 use Rattle.std.proofs.lemmas.List.Elements.{All-nil, All-cons}
 use Rattle.nomos_ir.specs.declared.declaration.ProcDecl.{ProcDecl}
 use Rattle.nomos_ir.specs.declared.lists.ProgramLists.{ProgramLists}
@@ -10,7 +10,7 @@ use Rattle.nomos_types.specs.Row.{Row}
 use Rattle.nomos_types.specs.Typed.{IsWellFormed}
 use Rattle.nomos_typing.proofs.GatherLemmas.{grows-same, grows-through, done-grows, gathers-none, gathers-through}
 use Rattle.nomos_typing.proofs.LeavingLemmas.{leaves-none, leaves-next, leaves-along, reached-next, open-along}
-use Rattle.nomos_typing.proofs.MemberLemmas.{contains-head, contains-none}
+use Rattle.nomos_typing.proofs.MemberLemmas.{contains-head}
 use Rattle.nomos_typing.proofs.StuckLaws.{row-descends}
 use Rattle.nomos_typing.proofs.VisitLemmas.{visits-grows, visits-gathers}
 use Rattle.nomos_typing.proofs.WeightLemmas.{weight-positive, weight-rises, forks-light, work-one}
@@ -19,7 +19,7 @@ use Rattle.nomos_typing.specs.declared.standing.Forks.{Forks}
 use Rattle.nomos_typing.specs.declared.standing.Standing.{Standing}
 use Rattle.nomos_typing.specs.declared.walk.Walk.{Walk}
 use Rattle.nomos_typing.specs.mirror.Standing.{shape_of, HasAccount, LeadsTo, LeadsAlong}
-use Rattle.nomos_typing.specs.mirror.Walking.{LeadsFrom, IsDone, AtStanding, IsPending, IsReached, IsOpen, Visits, Going, Goes, Gathers, Grows, width, weight, work}
+use Rattle.nomos_typing.specs.mirror.Walking.{IsReached, IsOpen, Visits, Going, Goes, Gathers, Grows, width}
 
 module _ (lists : ProgramLists) where
   abbrev stars : ℕ

@@ -1,5 +1,5 @@
 -- Where the code leads from a standing that was visited.
-use Rattle.std.proofs.Common.{◌≡◌, ◌<◌, ◌⊎◌, inl, inr, ⊎_elim, ℕ, List, [], ◌∷◌, map, zip, All, Contains, refl, sym, ap, ap₂, subst, ◌∙◌}
+use Rattle.std.proofs.Common.{◌≡◌, ◌⊎◌, inl, inr, ⊎_elim, List, [], ◌∷◌, map, zip, Contains, refl, sym, ap, subst}
 use Rattle.nomos_ir.specs.declared.code_node.CodeNode.{CodeNode}
 use Rattle.nomos_ir.specs.declared.declaration.ProcDecl.{ProcDecl}
 use Rattle.nomos_ir.specs.declared.lists.ProgramLists.{ProgramLists}
@@ -19,7 +19,7 @@ use Rattle.nomos_typing.specs.declared.standing.Forks.{Forks}
 use Rattle.nomos_typing.specs.declared.standing.Standing.{Standing}
 use Rattle.nomos_typing.specs.declared.standing.Way.{Way}
 use Rattle.nomos_typing.specs.declared.walk.Walk.{Walk}
-use Rattle.nomos_typing.specs.mirror.Standing.{shape_of, HasAccount, NoRow, LeadsTo, LeadsAlong, way_shape, way_account}
+use Rattle.nomos_typing.specs.mirror.Standing.{shape_of, HasAccount, LeadsTo, LeadsAlong, way_shape, way_account}
 use Rattle.nomos_typing.specs.mirror.Walking.{LeadsFrom, IsDone, AtStanding, IsPending, IsReached, IsOpen, Visits}
 
 -- the code leads from the one place to the other over a first instruction

@@ -1,5 +1,5 @@
 -- Amounts of the program have room in a potential.
-use Rattle.std.proofs.Common.{◌≡◌, ◌≤◌, ℕ, length, Contains, Some, slice_get, All, refl, arith}
+use Rattle.std.proofs.Common.{◌≡◌, ◌≤◌, ℕ, Contains, Some, slice_get, refl, arith}
 use Rattle.std.proofs.lemmas.List.Elements.{All-contains}
 use Rattle.nomos_ir.proofs.BindingLaws.{all-bound}
 use Rattle.nomos_ir.specs.declared.amount.Amount.{Amount}

@@ -1,5 +1,5 @@
 -- Where a declaration begins.
-use Rattle.std.proofs.Common.{◌≡◌, ◌<◌, ◌≤◌, ℕ, Bool, true, false, List, [], ◌∷◌, ◌++◌, map, filter, length, get_or, All, Contains, Some, None, Option, slice_get, ℤ, pos, refl, sym, ap, subst, ◌∙◌, arith, lit<}
+use Rattle.std.proofs.Common.{◌≡◌, ℕ, true, false, List, [], ◌∷◌, ◌++◌, map, filter, length, get_or, All, Contains, Some, None, Option, slice_get, pos, refl, sym, ap, subst, ◌∙◌, arith, lit<}
 use Rattle.std.proofs.lemmas.List.{map-append}
 use Rattle.std.proofs.lemmas.List.Elements.{Contains-get_or, All-map, All-weaker, All-contains_itself}
 use Rattle.std.proofs.lemmas.List.FromFn.{length-map-range_with_len}
@@ -14,7 +14,7 @@ use Rattle.nomos_ir.specs.declared.lists.ProgramLists.{ProgramLists}
 use Rattle.nomos_ir.specs.Amounts.{star_count}
 use Rattle.nomos_ir.specs.Bindings.{bind, bindings_of}
 use Rattle.nomos_forms.specs.declared.form.Form.{Form}
-use Rattle.nomos_forms.specs.Bounds.{IsForm, IsSmall}
+use Rattle.nomos_forms.specs.Bounds.{IsSmall}
 use Rattle.nomos_types.proofs.ModeLaws.{parameter-has_mode}
 use Rattle.nomos_types.specs.Equality.{no_amounts}
 use Rattle.nomos_types.specs.Judgement.{Judgement, ListType, list_par, is_shared}
@@ -23,7 +23,6 @@ use Rattle.nomos_typing.proofs.FormLemmas.{coef_of}
 use Rattle.nomos_typing.proofs.StandingLemmas.{each-bind, dths-none}
 use Rattle.nomos_typing.specs.Account.{Account, gains, form_of, carried_by}
 use Rattle.nomos_typing.specs.declared.standing.Carried.{Carried}
-use Rattle.nomos_typing.specs.declared.standing.Standing.{Standing}
 use Rattle.nomos_typing.specs.mirror.Limits.{IsAmountOf, HasRoom}
 use Rattle.nomos_typing.specs.mirror.Nothing.{no_account}
 use Rattle.nomos_typing.specs.mirror.Standing.{each_bound, shape_of_list, amount_of}

@@ -1,12 +1,10 @@
 -- What one step tells on the way along the code.
-use Rattle.std.proofs.Common.{◌≡◌, ◌<◌, inl, inr, ℕ, List, [], ◌∷◌, Contains, Option, None, refl, sym, ap, subst, ◌∙◌}
+use Rattle.std.proofs.Common.{◌≡◌, ◌<◌, inl, inr, List, [], ◌∷◌, Option, refl, sym, ap, subst, ◌∙◌}
 use Rattle.nomos_ir.specs.declared.code_node.CodeNode.{CodeNode}
-use Rattle.nomos_ir.specs.declared.declaration.ProcDecl.{ProcDecl}
 use Rattle.nomos_ir.specs.declared.lists.ProgramLists.{ProgramLists}
 use Rattle.nomos_ir.specs.Amounts.{star_count}
 use Rattle.nomos_types.proofs.UniqueRows.{row-unique}
 use Rattle.nomos_types.specs.Equality.{no_amounts}
-use Rattle.nomos_types.specs.Judgement.{Judgement}
 use Rattle.nomos_types.specs.Row.{Row, StandsAtCode}
 use Rattle.nomos_types.specs.Typed.{IsWellFormed}
 use Rattle.nomos_typing.proofs.GatherLemmas.{first-some}
@@ -20,12 +18,11 @@ use Rattle.nomos_typing.specs.declared.standing.Forks.{Forks}
 use Rattle.nomos_typing.specs.declared.standing.Standing.{Standing}
 use Rattle.nomos_typing.specs.declared.standing.Step.{Step}
 use Rattle.nomos_typing.specs.declared.standing.Step.TheVariants as step
-use Rattle.nomos_typing.specs.declared.standing.Way.{Way}
 use Rattle.nomos_typing.specs.declared.walk.Stuck.{Stuck}
 use Rattle.nomos_typing.specs.declared.walk.Walk.{Walk}
 use Rattle.nomos_typing.specs.mirror.Standing.{shape_of, HasAccount, NoRow, LeadsTo, LeadsAlong, StepTells, StepAsks, JoinsAsked}
 use Rattle.nomos_typing.specs.mirror.Stops.{first_stuck}
-use Rattle.nomos_typing.specs.mirror.Walking.{HasRow, IsFirstStop, Notes, Visits, Going, Goes, IsOnWay}
+use Rattle.nomos_typing.specs.mirror.Walking.{HasRow, Notes, Visits, Going, Goes, IsOnWay}
 
 module _ (lists : ProgramLists) (s : Standing) (old noted : Walk) (notes : Notes lists s old noted) (asked : Asked) where
   -- a standing at which a rule applies was visited

@@ -1,24 +1,20 @@
 -- A standing that is visited.
-use Rattle.std.proofs.Common.{◌≡◌, ◌⊎◌, inl, inr, ⊎_elim, ℕ, List, Contains, Option, Some, None, refl, sym, ap, subst, ◌∙◌}
-use Rattle.nomos_ir.specs.declared.amount.Amount.{Amount}
+use Rattle.std.proofs.Common.{◌≡◌, inl, inr, ⊎_elim, Option, sym, ap, subst, ◌∙◌}
 use Rattle.nomos_ir.specs.declared.code_node.CodeNode.{CodeNode}
 use Rattle.nomos_ir.specs.declared.declaration.ProcDecl.{ProcDecl}
 use Rattle.nomos_ir.specs.declared.lists.ProgramLists.{ProgramLists}
 use Rattle.nomos_ir.specs.Amounts.{star_count}
 use Rattle.nomos_forms.specs.declared.form.Form.{Form}
-use Rattle.nomos_types.specs.Judgement.{Judgement}
 use Rattle.nomos_types.specs.Row.{StandsAtCode}
 use Rattle.nomos_typing.proofs.GatherLemmas.{first-keeps, first-here, first-some, first-one}
 use Rattle.nomos_typing.specs.Account.{Account, spends}
-use Rattle.nomos_typing.specs.Asking.{IsAsked}
 use Rattle.nomos_typing.specs.Checking.{code_offset, code_form}
-use Rattle.nomos_typing.specs.Reaching.{Reaches, IsFormOf, IsPoint}
+use Rattle.nomos_typing.specs.Reaching.{IsFormOf, IsPoint}
 use Rattle.nomos_typing.specs.declared.standing.Standing.{Standing}
 use Rattle.nomos_typing.specs.declared.walk.Stuck.{Stuck}
 use Rattle.nomos_typing.specs.declared.walk.Walk.{Walk}
-use Rattle.nomos_typing.specs.mirror.Standing.{shape_of, HasAccount, NoRow, HasPair}
-use Rattle.nomos_typing.specs.mirror.Stops.{first_stuck}
-use Rattle.nomos_typing.specs.mirror.Walking.{IsPointAt, IsStuckBy, IsDone, Grows, Gathers, StuckOf, IsReached, HasRow, IsFirstStop, Visits}
+use Rattle.nomos_typing.specs.mirror.Standing.{shape_of, HasAccount}
+use Rattle.nomos_typing.specs.mirror.Walking.{IsPointAt, IsStuckBy, IsDone, Grows, Gathers, StuckOf, IsReached, IsFirstStop, Visits}
 
 -- what is stuck there
 abbrev stop_of : CodeNode → Stuck

@@ -1,5 +1,5 @@
 -- What holds of the code's data wherever a declaration reaches.
-use Rattle.std.proofs.Common.{◌≡◌, ◌<◌, ◌∙◌, ℕ, List, map, length, get_or, All, Contains, Some, slice_get, sym, subst, arith}
+use Rattle.std.proofs.Common.{◌≡◌, ◌<◌, ℕ, List, map, length, get_or, All, Contains, Some, slice_get, sym, subst, arith}
 use Rattle.std.proofs.lemmas.List.{length-map, get_or-map}
 use Rattle.std.proofs.lemmas.Option.{slice_get_within}
 use Rattle.nomos_ir.proofs.NodeLaws.{All-at}
@@ -19,14 +19,13 @@ use Rattle.nomos_typing.proofs.ListLemmas.{paired-first}
 use Rattle.nomos_typing.proofs.ReachingLaws.{stands-reached}
 use Rattle.nomos_typing.proofs.SizeLaws.{point-is_form}
 use Rattle.nomos_typing.proofs.StuckLaws.{row-descends}
-use Rattle.nomos_typing.specs.Account.{Account, form_of}
+use Rattle.nomos_typing.specs.Account.{Account}
 use Rattle.nomos_typing.specs.Accounting.{accounts_after}
 use Rattle.nomos_typing.specs.Reaching.{Reaches, IsPoint}
 use Rattle.nomos_typing.specs.declared.standing.Carried.{Carried}
 use Rattle.nomos_typing.specs.declared.standing.Standing.{Standing}
-use Rattle.nomos_typing.specs.mirror.Limits.{IsAmountOf}
 use Rattle.nomos_typing.specs.mirror.Standing.{shape_of, each_bound, amount_of, HasAccount, IsWithin}
-use Rattle.nomos_typing.specs.mirror.Walking.{IsReached, IsOnWay}
+use Rattle.nomos_typing.specs.mirror.Walking.{IsOnWay}
 
 -- what holds of all that is mapped holds of what it is mapped from
 all-unmap : {X Y : Type 0} (P : Y → Type 0) (f : X → Y) (xs : List X) → All P (map f xs) → All (λ x. P (f x)) xs

@@ -1,5 +1,5 @@
 -- A mirror of the code: what was gathered of the places to which the code leads, and what is left to do.
-use Rattle.std.specs.Prelude.{◌≡◌, ◌<◌, ◌≤◌, ◌+◌, ◌*◌, ◌⊎◌, ◌↔◌, ℕ, zero, suc, List, [], ◌∷◌, ◌++◌, map, All, Contains, Option, Some, None, length, slice_get, zip, sum_by}
+use Rattle.std.specs.Prelude.{◌≡◌, ◌<◌, ◌≤◌, ◌+◌, ◌*◌, ◌⊎◌, ◌↔◌, ℕ, zero, suc, List, ◌++◌, map, All, Contains, Option, Some, None, length, slice_get, zip, sum_by}
 use Rattle.nomos_ir.specs.declared.amount.Amount.{Amount}
 use Rattle.nomos_ir.specs.declared.code_node.Args.{Args}
 use Rattle.nomos_ir.specs.declared.code_node.CodeNode.{CodeNode}
@@ -10,7 +10,6 @@ use Rattle.nomos_ir.specs.declared.lists.ProgramLists.{ProgramLists}
 use Rattle.nomos_ir.specs.Amounts.{star_count, greatest}
 use Rattle.nomos_ir.specs.CodeParts.{code_next}
 use Rattle.nomos_forms.specs.declared.form.Form.{Form}
-use Rattle.nomos_forms.specs.Bounds.{IsForm}
 use Rattle.nomos_types.specs.Equality.{no_amounts}
 use Rattle.nomos_types.specs.Judgement.{Judgement}
 use Rattle.nomos_types.specs.Row.{Row, StandsAtCode}
@@ -26,7 +25,7 @@ use Rattle.nomos_typing.specs.declared.standing.Way.TheVariants as way
 use Rattle.nomos_typing.specs.declared.walk.Stuck.{Stuck}
 use Rattle.nomos_typing.specs.declared.walk.Walk.{Walk}
 use Rattle.nomos_typing.specs.mirror.Stops.{first_stuck}
-use Rattle.nomos_typing.specs.mirror.Standing.{shape_of, HasAccount, IsWithin, way_shape, way_account, IsWayOf, NoRow, HasPair, JoinsAsked}
+use Rattle.nomos_typing.specs.mirror.Standing.{shape_of, HasAccount, way_shape, way_account, IsWayOf, NoRow, HasPair, JoinsAsked}
 
 -- ---- places
 

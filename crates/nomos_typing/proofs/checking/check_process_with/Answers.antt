@@ -1,4 +1,4 @@
-use Rattle.std.proofs.Common.{◌∙◌, sym, subst, refl}
+use Rattle.std.proofs.Common.{◌∙◌, subst, refl}
 use Rattle.nomos_ir.specs.Amounts.{star_count}
 use Rattle.nomos_equality.specs.Comparing.{Compared}
 use Rattle.nomos_typing.proofs.ConcludingLemmas.{answers-by}

@@ -1,7 +1,6 @@
-use Rattle.std.proofs.Common.{◌≡◌, ◌<◌, ◌∙◌, ◌∷◌, [], List, refl, sym, subst}
+use Rattle.std.proofs.Common.{◌<◌, ◌∷◌, [], List, sym, subst}
 use Rattle.nomos_ir.specs.Amounts.{star_count}
 use Rattle.nomos_typing.specs.declared.standing.Forks.{Forks}
-use Rattle.nomos_typing.specs.declared.walk.Walk.{Walk}
 use Rattle.nomos_typing.specs.mirror.Walking.{IsWalk, WalksOn, width, work}
 use Rattle.nomos_typing.proofs.WalkingLemmas.{walk-beside, walks-beside, walk-on, walks-through, popped-walks}
 use Rattle.nomos_typing.proofs.going.go_all.Goals as goal

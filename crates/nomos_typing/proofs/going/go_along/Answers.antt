@@ -1,13 +1,12 @@
-use Rattle.std.proofs.Common.{◌≡◌, ◌∙◌, Some, sym, ap, subst, refl}
+use Rattle.std.proofs.Common.{sym, subst, refl}
 use Rattle.nomos_ir.specs.Amounts.{star_count}
 use Rattle.nomos_typing.proofs.GoingLemmas.{going-start}
 use Rattle.nomos_typing.proofs.StrideLemmas.{stride-ends, stride-stops, stride-next, stride-on_way, stride-lower, stride-parts}
 use Rattle.nomos_typing.proofs.WithinLemmas.{within-on_way}
 use Rattle.nomos_typing.specs.declared.asked.Asked.{Asked}
-use Rattle.nomos_typing.specs.declared.standing.Standing.{Standing}
 use Rattle.nomos_typing.specs.declared.standing.Forks.{Forks}
 use Rattle.nomos_typing.specs.declared.walk.Walk.{Walk}
-use Rattle.nomos_typing.specs.mirror.Standing.{IsReady, StepAsks}
+use Rattle.nomos_typing.specs.mirror.Standing.{IsReady}
 use Rattle.nomos_typing.specs.mirror.Walking.{Goes}
 use Rattle.nomos_typing.proofs.going.go_along.Goals as goal
 

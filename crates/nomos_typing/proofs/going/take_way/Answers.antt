@@ -1,12 +1,11 @@
-use Rattle.std.proofs.Common.{◌≡◌, ◌<◌, ◌-◌, ℕ, ◌∙◌, ◌++◌, ◌∷◌, [], List, take, Contains, refl, sym, subst, ap}
+use Rattle.std.proofs.Common.{◌≡◌, ◌-◌, ℕ, ◌∙◌, ◌++◌, ◌∷◌, [], List, take, Contains, refl, sym, subst, ap}
 use Rattle.std.proofs.lemmas.List.Elements.{Contains-push}
 use Rattle.std.proofs.lemmas.Result.{on_ok_weaker}
 use Rattle.nomos_ir.specs.Amounts.{star_count}
 use Rattle.nomos_typing.specs.declared.standing.Forks.{Forks}
 use Rattle.nomos_typing.specs.declared.standing.Way.{Way}
-use Rattle.nomos_typing.specs.declared.walk.Walk.{Walk}
-use Rattle.nomos_typing.specs.mirror.Walking.{Goes, WalksOn, width, work}
-use Rattle.nomos_typing.proofs.WalkingLemmas.{walks-none, walks-way, way-light, none-light, way-room, way-on_way}
+use Rattle.nomos_typing.specs.mirror.Walking.{Goes}
+use Rattle.nomos_typing.proofs.WalkingLemmas.{walks-none, walks-way, way-light, way-room, way-on_way}
 use Rattle.nomos_typing.proofs.going.take_way.Goals as goal
 
 pub returns-in-None-clause-walks : goal.returns-in-None-clause-walks

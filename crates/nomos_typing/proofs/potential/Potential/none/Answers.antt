@@ -1,4 +1,4 @@
-use Rattle.std.proofs.Common.{◌≡◌, ◌∙◌, ℕ, ℤ, pos, List, replicate, ap}
+use Rattle.std.proofs.Common.{◌≡◌, ◌∙◌, ℕ, pos, replicate, ap}
 use Rattle.nomos_typing.proofs.FormLemmas.{none-form}
 use Rattle.nomos_typing.proofs.potential.Potential.none.Goals as goal
 

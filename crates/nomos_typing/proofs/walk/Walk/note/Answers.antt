@@ -1,10 +1,9 @@
-use Rattle.std.proofs.Common.{◌≡◌, ◌<◌, ◌∙◌, ◌++◌, ◌∷◌, [], ◌⊎◌, ◌↔◌, List, length, All, Contains, Some, slice_get, refl, sym, ap, subst}
+use Rattle.std.proofs.Common.{◌≡◌, ◌<◌, ◌∙◌, ◌++◌, ◌∷◌, [], List, length, Some, refl, ap, subst}
 use Rattle.std.proofs.lemmas.List.Elements.{All-contains, Contains-push}
 use Rattle.nomos_ir.proofs.NodeLaws.{All-at}
 use Rattle.nomos_ir.specs.declared.code_node.CodeNode.{CodeNode}
 use Rattle.nomos_ir.specs.declared.code_node.CodeNode.TheVariants as code
 use Rattle.nomos_ir.specs.Amounts.{star_count}
-use Rattle.nomos_ir.specs.CodeParts.{code_calls}
 use Rattle.nomos_ir.specs.Ids.{CodeInRange}
 use Rattle.nomos_forms.specs.declared.form.Form.{Form}
 use Rattle.nomos_types.specs.Row.{StandsAtCode}
