@@ -14,7 +14,7 @@ use Rattle.nomos_types.proofs.StartLaws.{start-is_judgement}
 use Rattle.nomos_typing.specs.Account.{Account, start_account, spends, Affords}
 use Rattle.nomos_typing.specs.Accounting.{accounts_after}
 use Rattle.nomos_typing.specs.Asking.{IsAsked}
-use Rattle.nomos_typing.specs.Reaching.{Reaches, IsPoint}
+use Rattle.nomos_typing.specs.Reaching.{GetsTo, IsPoint}
 use Rattle.nomos_typing.specs.Reaching as reaching
 use Rattle.nomos_typing.proofs.AskedLaws.{asked-worth, call-affords}
 use Rattle.nomos_typing.proofs.Beside.{Beside, at-place}
@@ -43,7 +43,7 @@ module _ {lists : ProgramLists} (formed : IsWellFormed lists) (p : ℕ) (d : Pro
 
   -- each judgement that the declaration reaches stands beside one that has a derivation
   reached-under : (x : Annotations) (k : Judgement) (a : Account) → Derives lists x (start_of lists x d)
-      → Reaches lists d k a → ReachedUnder lists x k a
+      → GetsTo lists d k a → ReachedUnder lists x k a
   reached-under x _ _ derivation reaching.start =
       record {
         judgement = start_of lists x d;
@@ -105,7 +105,7 @@ module _ {lists : ProgramLists} (formed : IsWellFormed lists) (p : ℕ) (d : Pro
   derivation-from : (x : Annotations) → HasSkeleton lists d → ((a : Account) → IsPoint lists d a → Affords x a)
       → ((q : Amount × Amount) → IsAsked lists d q → dths x q.0 ≡ dths x q.1) → Derives lists x (start_of lists x d)
   derivation-from x skeleton points pairs =
-      let provides : Provides lists no_amounts x (Reaches lists d) =
+      let provides : Provides lists no_amounts x (GetsTo lists d) =
       record {
         next = λ j k a b n after reached there row among. reaching.next n after reached there row among;
         afforded = λ j a reached. points a (reaching.before reached);
@@ -114,7 +114,7 @@ module _ {lists : ProgramLists} (formed : IsWellFormed lists) (p : ℕ) (d : Pro
         pairs = λ j a q reached asks. pairs q (record { judgement = j; account = a; reached = reached; asks = asks });
       }
       in
-      derivation-carried formed no_amounts x (Reaches lists d) provides (suc d.first.0)
+      derivation-carried formed no_amounts x (GetsTo lists d) provides (suc d.first.0)
       (start_of lists no_amounts d) (start_of lists x d) (start_account d) (omega arith) reaching.start
       (start-is_judgement no_amounts p formed declared) (start-is_judgement x p formed declared)
       (start-beside lists no_amounts x d) skeleton

@@ -22,7 +22,7 @@ use Rattle.nomos_ir.proofs.BindingLaws.{all-after_bind, all-after_unbind, all-in
 use Rattle.nomos_types.specs.Judgement.{Judgement}
 use Rattle.nomos_typing.specs.Account.{Account, start_account, gains, spends, with_lists, carried_by}
 use Rattle.nomos_typing.specs.Accounting.{accounts_after, without_passed, spends_for, grows_list, parts_list}
-use Rattle.nomos_typing.specs.Reaching.{Reaches, IsPoint}
+use Rattle.nomos_typing.specs.Reaching.{GetsTo, IsPoint}
 use Rattle.nomos_typing.specs.Reaching as reaching
 use Rattle.nomos_typing.proofs.ListLemmas.{contains-part, paired-second}
 
@@ -233,7 +233,7 @@ module _ (lists : ProgramLists) where
 
   -- each account that the declaration reaches
   pub reached-amounts : (p : ℕ) (d : ProcDecl) (j : Judgement) (a : Account) → slice_get lists.procs p ≡ Some d
-      → Reaches lists d j a → HasAmountsOf lists a
+      → GetsTo lists d j a → HasAmountsOf lists a
   reached-amounts p d _ _ there reaching.start = start-amounts p d there
   reached-amounts p d k b there (reaching.next {j} {a = a} n after before stands row among) =
       All-contains (HasAmountsOf lists) (accounts_after lists n a) b

@@ -21,7 +21,7 @@ use Rattle.nomos_typing.proofs.StuckLaws.{rows-skeleton, rowless-stuck, stuck-ro
 use Rattle.nomos_typing.specs.Account.{Account, start_account, form_of}
 use Rattle.nomos_typing.specs.Asking.{IsAsked}
 use Rattle.nomos_typing.specs.Checking.{code_offset, IsFirstStuck, NeedsRows, NeedsChecked, NeedsBeside, AnswersProcess, AnswersBeside}
-use Rattle.nomos_typing.specs.Reaching.{Reaches, IsPoint, IsFormOf}
+use Rattle.nomos_typing.specs.Reaching.{GetsTo, IsPoint, IsFormOf}
 use Rattle.nomos_typing.specs.declared.checking.Checked.{Checked}
 use Rattle.nomos_typing.specs.declared.checking.ProcError.{ProcError}
 use Rattle.nomos_typing.specs.declared.checking.ProcError.TheVariants as error
@@ -38,7 +38,7 @@ pub start-reached : {lists : ProgramLists} {n : ℕ} (d : ProcDecl) (s : Standin
 start-reached {lists} d s is = record {
   account = start_account d;
   has = is.has;
-  reached = subst (λ (j : Judgement). Reaches lists d j (start_account d)) (sym is.shape) Reaches.start;
+  reached = subst (λ (j : Judgement). GetsTo lists d j (start_account d)) (sym is.shape) GetsTo.start;
 }
 
 module _ {lists : ProgramLists} {n : ℕ} (p : ℕ) (d : ProcDecl) (found : slice_get lists.procs p ≡ Some d) (s : Standing)

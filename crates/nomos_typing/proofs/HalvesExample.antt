@@ -25,7 +25,7 @@ use Rattle.nomos_types.specs.Row as row
 use Rattle.nomos_types.specs.Row.{Row, gives_up}
 use Rattle.nomos_typing.specs.Account.{Account, start_account, gains, spends, Affords, form_of}
 use Rattle.nomos_typing.specs.Asking.{IsAsked, paid, got}
-use Rattle.nomos_typing.specs.Reaching.{Reaches, IsPoint}
+use Rattle.nomos_typing.specs.Reaching.{GetsTo, IsPoint}
 use Rattle.nomos_typing.specs.Reaching as reaching
 
 -- ---- the program
@@ -135,7 +135,7 @@ row-one =
     row.get refl (type_id 0)
     (record { amount = Star 1; channel = (type_id 2, refl, source-unfolds 2 refl); same = refl })
 
-reaches-one : Reaches halves taker taker_one after_one
+reaches-one : GetsTo halves taker taker_one after_one
 reaches-one =
     reaching.next (code.Get 0 (held 0) (Star 2) (code_id 4)) (taker_one ∷ []) reaching.start refl row-one
     (0, omega arith, refl)
@@ -146,7 +146,7 @@ row-two =
     row.get refl (type_id 0)
     (record { amount = Star 1; channel = (type_id 3, refl, source-unfolds 3 refl); same = refl })
 
-reaches-two : Reaches halves taker taker_two after_two
+reaches-two : GetsTo halves taker taker_two after_two
 reaches-two =
     reaching.next (code.Get 0 (held 1) (Star 3) (code_id 3)) (taker_two ∷ []) reaches-one refl row-two
     (0, omega arith, refl)
@@ -155,7 +155,7 @@ reaches-two =
 row-work : Row halves no_amounts taker_two (taker_worked ∷ [])
 row-work = row.work refl (omega arith)
 
-reaches-work : Reaches halves taker taker_worked after_work
+reaches-work : GetsTo halves taker taker_worked after_work
 reaches-work =
     reaching.next (code.Work 0 (Written 1) (code_id 2)) (taker_worked ∷ []) reaches-two refl row-work
     (0, omega arith, refl)

@@ -14,7 +14,7 @@ use Rattle.nomos_typing.proofs.MemberLemmas.{contains-head, contains-none, conta
 use Rattle.nomos_typing.proofs.VisitLemmas.{visits-done}
 use Rattle.nomos_typing.specs.Account.{Account}
 use Rattle.nomos_typing.specs.Accounting.{accounts_after}
-use Rattle.nomos_typing.specs.Reaching.{Reaches}
+use Rattle.nomos_typing.specs.Reaching.{GetsTo}
 use Rattle.nomos_typing.specs.declared.standing.Forks.{Forks}
 use Rattle.nomos_typing.specs.declared.standing.Standing.{Standing}
 use Rattle.nomos_typing.specs.declared.standing.Way.{Way}
@@ -132,7 +132,7 @@ module _ {lists : ProgramLists} {d : ProcDecl} where
       let among : Among (accounts_after lists n r.account) =
       subst Among (sym is) (contains-head (shape_of next, b) (shape_of next, b) [] refl)
       in
-      record { account = b; has = has; reached = Reaches.next n (shape_of next ∷ []) r.reached stands leads.row among }
+      record { account = b; has = has; reached = GetsTo.next n (shape_of next ∷ []) r.reached stands leads.row among }
 
   -- the ways that are reached
   pub open-along : (f : Forks) → LeadsAlong lists f.before f.ways.items → IsReached lists (star_count lists) d f.before
@@ -158,5 +158,5 @@ module _ {lists : ProgramLists} {d : ProcDecl} where
             let among : Among (zip after (accounts_after lists n r.account)) =
             subst (λ (l : List Account). Among (zip after l)) (sym is) there
             in
-            Reaches.next n after r.reached stands leads.row among;
+            GetsTo.next n after r.reached stands leads.row among;
       }

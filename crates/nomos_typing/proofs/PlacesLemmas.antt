@@ -8,7 +8,7 @@ use Rattle.nomos_types.specs.Judgement.{Judgement, start_of}
 use Rattle.nomos_types.specs.Row.{Row, StandsAtCode}
 use Rattle.nomos_typing.specs.Account.{Account, start_account}
 use Rattle.nomos_typing.specs.Accounting.{accounts_after}
-use Rattle.nomos_typing.specs.Reaching.{Reaches}
+use Rattle.nomos_typing.specs.Reaching.{GetsTo}
 use Rattle.nomos_typing.specs.mirror.Walking.{LeadsFrom, here, later}
 
 module _ {lists : ProgramLists} where
@@ -27,18 +27,18 @@ module _ {lists : ProgramLists} where
   leads-through (later m first there line inside rest) second = later m first there line inside (leads-through rest second)
 
   -- what a declaration reaches is where its start leads
-  pub reaches-leads : {d : ProcDecl} {j : Judgement} {a : Account} → Reaches lists d j a
+  pub reaches-leads : {d : ProcDecl} {j : Judgement} {a : Account} → GetsTo lists d j a
       → LeadsFrom lists (start_of lists no_amounts d) (start_account d) j a
-  reaches-leads Reaches.start = here
-  reaches-leads (Reaches.next n after before stands row among) =
+  reaches-leads GetsTo.start = here
+  reaches-leads (GetsTo.next n after before stands row among) =
       leads-more (reaches-leads before) n after stands row among
 
-  leads-on_reached : {d : ProcDecl} {i j : Judgement} {c a : Account} → Reaches lists d i c → LeadsFrom lists i c j a
-      → Reaches lists d j a
+  leads-on_reached : {d : ProcDecl} {i j : Judgement} {c a : Account} → GetsTo lists d i c → LeadsFrom lists i c j a
+      → GetsTo lists d j a
   leads-on_reached reached here = reached
   leads-on_reached reached (later n after stands row among rest) =
-      leads-on_reached (Reaches.next n after reached stands row among) rest
+      leads-on_reached (GetsTo.next n after reached stands row among) rest
 
   pub leads-reaches : {d : ProcDecl} {j : Judgement} {a : Account}
-      → LeadsFrom lists (start_of lists no_amounts d) (start_account d) j a → Reaches lists d j a
-  leads-reaches leads = leads-on_reached Reaches.start leads
+      → LeadsFrom lists (start_of lists no_amounts d) (start_account d) j a → GetsTo lists d j a
+  leads-reaches leads = leads-on_reached GetsTo.start leads

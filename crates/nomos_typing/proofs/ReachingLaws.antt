@@ -16,7 +16,7 @@ use Rattle.nomos_types.proofs.StartLaws.{start-is_judgement}
 use Rattle.nomos_types.proofs.UniqueRows.{row-unique}
 use Rattle.nomos_typing.specs.Account.{Account, start_account}
 use Rattle.nomos_typing.specs.Accounting.{accounts_after}
-use Rattle.nomos_typing.specs.Reaching.{Reaches}
+use Rattle.nomos_typing.specs.Reaching.{GetsTo}
 use Rattle.nomos_typing.specs.Reaching as reaching
 use Rattle.nomos_typing.proofs.Beside.{Beside, at-place, its-account, judgements-paired, second-beside}
 use Rattle.nomos_typing.proofs.Carrying.{each-beside, next-is_judgement, start-beside}
@@ -38,7 +38,7 @@ pub record StandsReached (lists : ProgramLists) (j : Judgement) (a : Account) : 
 module _ {lists : ProgramLists} {d : ProcDecl} (p : ℕ) (formed : IsWellFormed lists)
     (declared : slice_get lists.procs p ≡ Some d) where
   -- each judgement that is reached does so
-  pub stands-reached : (j : Judgement) (a : Account) → Reaches lists d j a → StandsReached lists j a
+  pub stands-reached : (j : Judgement) (a : Account) → GetsTo lists d j a → StandsReached lists j a
   stands-reached _ _ reaching.start =
       record {
         judgement = start-is_judgement no_amounts p formed declared;
@@ -53,11 +53,11 @@ module _ {lists : ProgramLists} {d : ProcDecl} (p : ℕ) (formed : IsWellFormed 
       }
 
   -- its lists are those of the account
-  pub reached-lists : (j : Judgement) (a : Account) → Reaches lists d j a → keys_of j.lists ≡ keys_of a.lists
+  pub reached-lists : (j : Judgement) (a : Account) → GetsTo lists d j a → keys_of j.lists ≡ keys_of a.lists
   reached-lists j a reached = keys-both (stands-reached j a reached).beside.lists
 
   -- what is reached follows from the start
-  pub reaches-follows : (j : Judgement) (a : Account) → Reaches lists d j a
+  pub reaches-follows : (j : Judgement) (a : Account) → GetsTo lists d j a
       → Follows lists no_amounts (start_of lists no_amounts d) j
   reaches-follows _ _ reaching.start = following.first
   reaches-follows k b (reaching.next {j} {a = a} n after before there row among) =
@@ -65,7 +65,7 @@ module _ {lists : ProgramLists} {d : ProcDecl} (p : ℕ) (formed : IsWellFormed 
 
   -- and what follows from the start is reached
   pub follows-reaches : (j : Judgement) → Follows lists no_amounts (start_of lists no_amounts d) j
-      → (a : Account) × Reaches lists d j a
+      → (a : Account) × GetsTo lists d j a
   follows-reaches _ following.first = (start_account d, reaching.start)
   follows-reaches k (following.next {j} after before row among) =
       let (a, reached) = follows-reaches j before in
@@ -75,7 +75,7 @@ module _ {lists : ProgramLists} {d : ProcDecl} (p : ℕ) (formed : IsWellFormed 
       (b, reaching.next n after reached there row paired)
 
   -- no instruction leads up to the first one
-  never-above : (j : Judgement) (a : Account) → Reaches lists d j a → j.code.0 ≤ d.first.0
+  never-above : (j : Judgement) (a : Account) → GetsTo lists d j a → j.code.0 ≤ d.first.0
   never-above _ _ reaching.start = omega arith
   never-above k b (reaching.next {j} {a = a} n after before there row among) =
       let lower = row-descends formed row (paired-first after (accounts_after lists n a) k b among) in
@@ -83,14 +83,14 @@ module _ {lists : ProgramLists} {d : ProcDecl} (p : ℕ) (formed : IsWellFormed 
 
   -- so none leads to it
   not-first : (k : Judgement) (b : Account) {j : Judgement} {a : Account} (n : CodeNode) (after : List Judgement)
-      → Reaches lists d j a → Row lists no_amounts j after → Contains (zip after (accounts_after lists n a)) (k, b)
+      → GetsTo lists d j a → Row lists no_amounts j after → Contains (zip after (accounts_after lists n a)) (k, b)
       → k.code ≡ d.first → ⊥
   not-first k b {j} {a} n after before row among first =
       let lower = row-descends formed row (paired-first after (accounts_after lists n a) k b among) in
       omega (arith, lower, never-above j a before, ap (λ (c : CodeId). c.0) first)
 
   -- at a place one judgement is reached, with one account
-  pub reaches-unique : (j k : Judgement) (a b : Account) → Reaches lists d j a → Reaches lists d k b → j.code ≡ k.code
+  pub reaches-unique : (j k : Judgement) (a b : Account) → GetsTo lists d j a → GetsTo lists d k b → j.code ≡ k.code
       → (j ≡ k) × (a ≡ b)
   reaches-unique _ _ _ _ reaching.start reaching.start same = (refl, refl)
   reaches-unique _ k _ b reaching.start (reaching.next n after before there row among) same =

@@ -26,7 +26,7 @@ use Rattle.nomos_types.specs.Judgement.{Judgement}
 use Rattle.nomos_types.specs.Typed.{IsWellFormed}
 use Rattle.nomos_typing.specs.Account.{Account, shares, form_of}
 use Rattle.nomos_typing.specs.Accounting.{accounts_after, spends_for, grows_list, parts_list}
-use Rattle.nomos_typing.specs.Reaching.{Reaches, IsPoint}
+use Rattle.nomos_typing.specs.Reaching.{GetsTo, IsPoint}
 use Rattle.nomos_typing.specs.Reaching as reaching
 use Rattle.nomos_typing.proofs.AmountLaws.{HasAmountsOf, point-amounts}
 use Rattle.nomos_typing.proofs.ListLemmas.{paired-first, paired-second}
@@ -86,7 +86,7 @@ module _ (a : Account) where
 module _ {lists : ProgramLists} {d : ProcDecl} (p : ℕ) (formed : IsWellFormed lists)
     (declared : slice_get lists.procs p ≡ Some d) where
   -- an account has no more amounts than instructions are behind its place, and one
-  pub reached-count : (j : Judgement) (a : Account) → Reaches lists d j a
+  pub reached-count : (j : Judgement) (a : Account) → GetsTo lists d j a
       → amount_count a + j.code.0 ≤ length lists.code
   reached-count _ _ reaching.start =
       let first = (All-at (ProcInRange lists) lists.procs p d formed.program.ids.procs declared).first in

@@ -11,7 +11,7 @@ use Rattle.nomos_ir.specs.Program.{IsProgram}
 use Rattle.nomos_forms.specs.Bounds.{HasStarUpTo}
 use Rattle.nomos_types.specs.Judgement.{Judgement}
 use Rattle.nomos_typing.specs.Account.{Account}
-use Rattle.nomos_typing.specs.Reaching.{Reaches, IsPoint}
+use Rattle.nomos_typing.specs.Reaching.{GetsTo, IsPoint}
 use Rattle.nomos_typing.proofs.AmountLaws.{HasAmountsOf, reached-amounts, point-amounts}
 use Rattle.nomos_typing.proofs.FormLaws.{HasStarsUpTo}
 use Rattle.nomos_typing.proofs.ListLemmas.{contains-map}
@@ -49,7 +49,7 @@ module _ {lists : ProgramLists} (is_program : IsProgram lists) where
 
   -- each account that the declaration reaches
   pub reached-stars : (p : ℕ) (d : ProcDecl) (j : Judgement) (a : Account) → slice_get lists.procs p ≡ Some d
-      → Reaches lists d j a → HasStarsUpTo (star_count lists) a
+      → GetsTo lists d j a → HasStarsUpTo (star_count lists) a
   reached-stars p d j a declared reached = account-stars a (reached-amounts lists p d j a declared reached)
 
   -- and each point of it

@@ -14,7 +14,7 @@ use Rattle.nomos_typing.proofs.MemberLemmas.{contains-head, contains-tail, conta
 use Rattle.nomos_typing.proofs.WeightLemmas.{work-append, way-place}
 use Rattle.nomos_typing.proofs.WithinLemmas.{within-on_way}
 use Rattle.nomos_typing.specs.Account.{Account}
-use Rattle.nomos_typing.specs.Reaching.{Reaches}
+use Rattle.nomos_typing.specs.Reaching.{GetsTo}
 use Rattle.nomos_typing.specs.declared.standing.Forks.{Forks}
 use Rattle.nomos_typing.specs.declared.standing.Standing.{Standing}
 use Rattle.nomos_typing.specs.declared.standing.Way.{Way}
@@ -80,7 +80,7 @@ module _ (lists : ProgramLists) (n : ℕ) (f : Forks) (todo : List Forks) (w : W
       account = way_account is_open.account taken;
       has = goes_way.account n is_open.account is_open.has;
       reached =
-          subst (λ (j : Judgement). Reaches lists d j (way_account is_open.account taken)) (sym goes_way.shape)
+          subst (λ (j : Judgement). GetsTo lists d j (way_account is_open.account taken)) (sym goes_way.shape)
           (is_open.reached taken inside-all);
     }
 
@@ -106,11 +106,11 @@ module _ (lists : ProgramLists) (n : ℕ) (f : Forks) (todo : List Forks) (w : W
         record {
           account = is_open.account;
           has = subst Open (sym before) is_open.has;
-          base = subst (λ (k : Standing). Reaches lists d (shape_of k) is_open.account) (sym before) is_open.base;
+          base = subst (λ (k : Standing). GetsTo lists d (shape_of k) is_open.account) (sym before) is_open.base;
           there = subst (λ (k : Standing). All (IsWayOf k) rest.ways.items) (sym before) parts.0;
           reached =
               λ v inside.
-              subst (λ (k : Standing). Reaches lists d (way_shape (shape_of k) v) (way_account is_open.account v)) (sym before)
+              subst (λ (k : Standing). GetsTo lists d (way_shape (shape_of k) v) (way_account is_open.account v)) (sym before)
               (is_open.reached v (subst (λ (l : List Way). Contains l v) (sym all) (Contains-append_left rest.ways.items (taken ∷ []) v inside)));
         }
 

@@ -21,7 +21,7 @@ use Rattle.nomos_typing.proofs.SizeLaws.{point-is_form}
 use Rattle.nomos_typing.proofs.StuckLaws.{row-descends}
 use Rattle.nomos_typing.specs.Account.{Account}
 use Rattle.nomos_typing.specs.Accounting.{accounts_after}
-use Rattle.nomos_typing.specs.Reaching.{Reaches, IsPoint}
+use Rattle.nomos_typing.specs.Reaching.{GetsTo, IsPoint}
 use Rattle.nomos_typing.specs.declared.standing.Carried.{Carried}
 use Rattle.nomos_typing.specs.declared.standing.Standing.{Standing}
 use Rattle.nomos_typing.specs.mirror.Standing.{shape_of, each_bound, amount_of, HasAccount, IsWithin}
@@ -35,16 +35,16 @@ all-unmap P f xs all =
 module _ {lists : ProgramLists} {d : ProcDecl} (p : ℕ) (formed : IsWellFormed lists)
     (declared : slice_get lists.procs p ≡ Some d) where
   -- an instruction that is reached is one of the program
-  reached-code : (j : Judgement) (a : Account) → Reaches lists d j a → j.code.0 < length lists.code
-  reached-code _ _ Reaches.start =
+  reached-code : (j : Judgement) (a : Account) → GetsTo lists d j a → j.code.0 < length lists.code
+  reached-code _ _ GetsTo.start =
       (All-at (λ (e : ProcDecl). ProcInRange lists e) lists.procs p d formed.program.ids.procs declared).first
-  reached-code k b (Reaches.next {j} {a = a} n after before stands row among) =
+  reached-code k b (GetsTo.next {j} {a = a} n after before stands row among) =
       let lower = row-descends formed row (paired-first after (accounts_after lists n a) k b among) in
       let inside = slice_get_within lists.code j.code.0 n stands in
       omega arith
 
   -- what the process has in hand there is in order
-  within-reached : (s : Standing) (a : Account) → HasAccount (star_count lists) s a → Reaches lists d (shape_of s) a
+  within-reached : (s : Standing) (a : Account) → HasAccount (star_count lists) s a → GetsTo lists d (shape_of s) a
       → IsWithin lists s
   within-reached s a has reached =
       let amounts = reached-amounts lists p d (shape_of s) a declared reached in

@@ -19,7 +19,7 @@ use Rattle.nomos_types.specs.Judgement.{Judgement}
 use Rattle.nomos_types.specs.Premises.{HasType, by_side}
 use Rattle.nomos_types.specs.Row.{StandsAtCode}
 use Rattle.nomos_typing.specs.Account.{Account}
-use Rattle.nomos_typing.specs.Reaching.{Reaches}
+use Rattle.nomos_typing.specs.Reaching.{GetsTo}
 
 -- the variable is that of a channel or a reference of this type
 abbrev pub IsOfType : Judgement → VarId → TypeId → Type 0
@@ -68,5 +68,5 @@ pub data AsksPair (lists : ProgramLists) (j : Judgement) (a : Account) : Amount 
 pub record IsAsked (lists : ProgramLists) (d : ProcDecl) (pair : Amount × Amount) : Type 0 where
   pub judgement : Judgement
   pub account : Account
-  pub reached : Reaches lists d judgement account
+  pub reached : GetsTo lists d judgement account
   pub asks : AsksPair lists judgement account pair

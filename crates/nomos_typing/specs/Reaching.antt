@@ -14,18 +14,18 @@ use Rattle.nomos_typing.specs.Account.{Account, start_account, spends, form_of}
 use Rattle.nomos_typing.specs.Accounting.{accounts_after}
 
 -- The judgement follows from the start of the declaration where amounts are ignored, and with it goes this account.
-pub data Reaches (lists : ProgramLists) (d : ProcDecl) : Judgement → Account → Type 0 where
-  start : Reaches lists d (start_of lists no_amounts d) (start_account d)
-  next : {j k : Judgement} {a b : Account} → (n : CodeNode) (after : List Judgement) → Reaches lists d j a
+pub data GetsTo (lists : ProgramLists) (d : ProcDecl) : Judgement → Account → Type 0 where
+  start : GetsTo lists d (start_of lists no_amounts d) (start_account d)
+  next : {j k : Judgement} {a b : Account} → (n : CodeNode) (after : List Judgement) → GetsTo lists d j a
       → StandsAtCode lists j n → Row lists no_amounts j after
       → Contains (zip after (accounts_after lists n a)) (k, b)
-      → Reaches lists d k b
+      → GetsTo lists d k b
 
 -- The declaration has to afford the account: that before an instruction, and at a call that less what the called
 -- declaration needs.
 pub data IsPoint (lists : ProgramLists) (d : ProcDecl) : Account → Type 0 where
-  before : {j : Judgement} {a : Account} → Reaches lists d j a → IsPoint lists d a
-  called : {j : Judgement} {a : Account} {at : ℕ} {f : ProcId} {args : Args} → Reaches lists d j a
+  before : {j : Judgement} {a : Account} → GetsTo lists d j a → IsPoint lists d a
+  called : {j : Judgement} {a : Account} {at : ℕ} {f : ProcId} {args : Args} → GetsTo lists d j a
       → StandsAtCode lists j (code.Call at f args) → (e : ProcDecl) → slice_get lists.procs f.0 ≡ Some e
       → IsPoint lists d (spends e.amount a)
 

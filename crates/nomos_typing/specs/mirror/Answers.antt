@@ -12,7 +12,7 @@ use Rattle.nomos_forms.specs.declared.form.Form.{Form}
 use Rattle.nomos_types.specs.Judgement.{Judgement}
 use Rattle.nomos_typing.specs.Account.{Account}
 use Rattle.nomos_typing.specs.Asking.{IsAsked}
-use Rattle.nomos_typing.specs.Reaching.{Reaches, IsFormOf}
+use Rattle.nomos_typing.specs.Reaching.{GetsTo, IsFormOf}
 use Rattle.nomos_typing.specs.declared.checking.Checked.{Checked}
 use Rattle.nomos_typing.specs.declared.checking.ProcError.{ProcError}
 use Rattle.nomos_typing.specs.declared.checking.ProcError.TheVariants as error
@@ -23,7 +23,7 @@ use Rattle.nomos_typing.specs.mirror.Walking.{IsDone, StuckOf}
 
 -- what the declaration asks for was gathered, beside what was compared before
 pub record IsGathered (lists : ProgramLists) (n : ℕ) (d : ProcDecl) (known : Compared) (w : Walk) : Type 0 where
-  pub done : (j : Judgement) (a : Account) → Reaches lists d j a → IsDone lists n w j a
+  pub done : (j : Judgement) (a : Account) → GetsTo lists d j a → IsDone lists n w j a
   pub forms : (f : Form) → Contains w.forms.items f → IsFormOf lists n d f
   pub pairs : w.stuck ≡ None → (pair : Amount × Amount) → HasPair w.asked pair
       → Contains known.amounts pair ⊎ IsAsked lists d pair

@@ -17,7 +17,7 @@ use Rattle.nomos_typing.specs.Account.{Account, spends, form_of}
 use Rattle.nomos_typing.specs.Accounting.{accounts_after}
 use Rattle.nomos_typing.specs.Asking.{AsksPair, IsAsked}
 use Rattle.nomos_typing.specs.Checking.{code_offset, code_form}
-use Rattle.nomos_typing.specs.Reaching.{Reaches, IsFormOf}
+use Rattle.nomos_typing.specs.Reaching.{GetsTo, IsFormOf}
 use Rattle.nomos_typing.specs.declared.standing.Forks.{Forks}
 use Rattle.nomos_typing.specs.declared.standing.Standing.{Standing}
 use Rattle.nomos_typing.specs.declared.standing.Way.{Way}
@@ -69,7 +69,7 @@ pub record Grows (old new : Walk) : Type 0 where
 pub record StuckOf (lists : ProgramLists) (d : ProcDecl) (s : Stuck) : Type 0 where
   pub judgement : Judgement
   pub account : Account
-  pub reached : Reaches lists d judgement account
+  pub reached : GetsTo lists d judgement account
   pub no_row : NoRow lists judgement
   pub node : CodeNode
   pub stands : StandsAtCode lists judgement node
@@ -120,16 +120,16 @@ pub record IsPending (lists : ProgramLists) (n : ℕ) (todo : List Forks) (j : J
 pub record IsReached (lists : ProgramLists) (n : ℕ) (d : ProcDecl) (s : Standing) : Type 0 where
   pub account : Account
   pub has : HasAccount n s account
-  pub reached : Reaches lists d (shape_of s) account
+  pub reached : GetsTo lists d (shape_of s) account
 
 -- the declaration reaches the ways, and what stands before them
 pub record IsOpen (lists : ProgramLists) (n : ℕ) (d : ProcDecl) (f : Forks) : Type 0 where
   pub account : Account
   pub has : HasAccount n f.before account
-  pub base : Reaches lists d (shape_of f.before) account
+  pub base : GetsTo lists d (shape_of f.before) account
   pub there : All (IsWayOf f.before) f.ways.items
   pub reached : (w : Way) → Contains f.ways.items w
-      → Reaches lists d (way_shape (shape_of f.before) w) (way_account account w)
+      → GetsTo lists d (way_shape (shape_of f.before) w) (way_account account w)
 
 -- Of what the code leads to from a first judgement and account, all is done but what is left to do.
 pub record Walking (lists : ProgramLists) (n : ℕ) (d : ProcDecl) (i : Judgement) (c : Account) (first : Walk)
