@@ -9,9 +9,19 @@ ghost use Rattle.nomos_typing.specs.mirror.Standing.{shape_of, IsWithin, StepTel
 use crate::operands::{Adding, Matching};
 use crate::standing::{Carried, Parts, Standing, Step, Way};
 use crate::variables::{is_free, is_of_kind, is_same_variable};
+use nomos_ir::amount::Amount;
 use nomos_ir::ids::{CodeId, VarId};
+use nomos_ir::kind::Kind;
 use nomos_ir::program::Program;
 use std::alloc::{AllocError, Global};
+
+/// A list of this kind of elements, each of which carries this amount.
+pub(crate) fn carrying(kind: Kind, amount: Amount) -> Carried
+    ensures kind { result.kind ≡ kind }
+    ensures amount { result.amount ≡ amount }
+{
+    Carried { kind, amount }
+}
 
 /// The rule of an empty list.
 pub(crate) fn at_empty(

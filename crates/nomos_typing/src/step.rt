@@ -7,14 +7,14 @@ use crate::asked::Asked;
 use crate::cases::at_case;
 use crate::choices::at_label;
 use crate::ending::{at_close, at_wait};
-use crate::lists::{at_add, at_empty, at_match};
+use crate::lists::{at_add, at_empty, at_match, carrying};
 use crate::operands::{Adding, Choosing, Letting, Matching, Over, Spawning};
 use crate::paying::{at_get, at_pay, at_work};
 use crate::receiving::at_recv;
 use crate::sending::{at_fwd, at_send};
 use crate::sharing::{at_accept, at_acquire, at_detach, at_release};
 use crate::spawning::{at_call, at_spawn};
-use crate::standing::{Carried, Standing, Step};
+use crate::standing::{Standing, Step};
 use crate::values::{at_emit, at_if, at_let, at_put, at_take};
 use nomos_ir::code_node::CodeNode;
 use nomos_ir::program::Program;
@@ -35,18 +35,12 @@ pub(crate) fn step(
     ensures asks { IfOk result (StepAsks program.now now.old asked.old asked.new) }
 {
     let alloc = asked.alloc;
+    let modes = asked.modes.as_slice();
     match program.code(now.code) {
         CodeNode::Label(_, c, l, next) => at_label(program, now, *c, *l, *next),
         CodeNode::Case(_, c, arms) => at_case(program, alloc, now, *c, arms.as_slice()),
         CodeNode::Send(_, c, y, next) => at_send(program, asked, now, Over::new(*c, *y, *next)),
-        CodeNode::Recv(_, c, y, next) => {
-            at_recv(
-                program,
-                asked.modes.as_slice(),
-                now,
-                Over::new(*c, *y, *next),
-            )
-        }
+        CodeNode::Recv(_, c, y, next) => at_recv(program, modes, now, Over::new(*c, *y, *next)),
         CodeNode::Put(_, c, e, next) => at_put(program, alloc, now, Over::new(*c, *e, *next)),
         CodeNode::Take(_, c, v, next) => at_take(program, now, Over::new(*c, *v, *next)),
         CodeNode::Pay(_, c, r, next) => at_pay(program, asked, now, Over::new(*c, *r, *next)),
@@ -54,7 +48,7 @@ pub(crate) fn step(
         CodeNode::Work(_, r, next) => Ok(at_work(program, now, *r, *next)),
         CodeNode::Wait(_, v, next) => Ok(at_wait(program, now, *v, *next)),
         CodeNode::Accept(_, next) => Ok(at_accept(program, now, *next)),
-        CodeNode::Detach(_, next) => Ok(at_detach(program, asked.modes.as_slice(), now, *next)),
+        CodeNode::Detach(_, next) => Ok(at_detach(program, modes, now, *next)),
         CodeNode::Acquire(_, a, v, next) => at_acquire(program, now, *a, *v, *next),
         CodeNode::Release(_, v, a, next) => at_release(program, now, *v, *a, *next),
         CodeNode::Spawn(_, v, f, args, next) => {
@@ -66,28 +60,15 @@ pub(crate) fn step(
         CodeNode::Close(_) => Ok(at_close(program, now)),
         CodeNode::Fwd(_, v) => at_fwd(program, asked, now, *v),
         CodeNode::Call(_, f, args) => at_call(program, asked, now, *f, args),
-        CodeNode::Empty(_, v, r, kind, next) => {
-            at_empty(
-                program,
-                now,
-                *v,
-                Carried {
-                    kind: *kind,
-                    amount: *r,
-                },
-                *next,
-            )
-        }
-        CodeNode::Add(_, v, e, w, next) => {
-            at_add(program, alloc, now, Adding::new(*v, *e, *w, *next))
-        }
-        CodeNode::Match(_, w, none, head, tail, some) => {
-            at_match(
-                program,
-                alloc,
-                now,
-                Matching::new(*w, *none, *head, *tail, *some),
-            )
+        CodeNode::Empty(_, v, r, k, next) => at_empty(program, now, *v, carrying(*k, *r), *next),
+        CodeNode::Add(_, v, e, w, next) => at_add(
+            program,
+            alloc,
+            now,
+            Adding::new(*v, *e, *w, *next),
+        ),
+        CodeNode::Match(_, w, none, h, t, some) => {
+            at_match(program, alloc, now, Matching::new(*w, *none, *h, *t, *some))
         }
     }
 }

@@ -81,7 +81,7 @@ returns-in-Close-clause-asks c =
 
 pub returns-in-Empty-clause-asks : goal.returns-in-Empty-clause-asks
 returns-in-Empty-clause-asks c =
-    quiet-result c.args.program.now c.args.now.now c.args.asked.now (code.Empty c.in-Empty.field-0 c.in-Empty.v c.in-Empty.r c.in-Empty.kind c.in-Empty.next)
+    quiet-result c.args.program.now c.args.now.now c.args.asked.now (code.Empty c.in-Empty.field-0 c.in-Empty.v c.in-Empty.r c.in-Empty.k c.in-Empty.next)
     (c.code.ensures ∙ ap Some c.in-Empty.is) (λ a pair asks. asks) c.at_empty.result
 
 pub returns-in-Add-clause-asks : goal.returns-in-Add-clause-asks
@@ -91,5 +91,5 @@ returns-in-Add-clause-asks c =
 
 pub returns-in-Match-clause-asks : goal.returns-in-Match-clause-asks
 returns-in-Match-clause-asks c =
-    quiet-result c.args.program.now c.args.now.now c.args.asked.now (code.Match c.in-Match.field-0 c.in-Match.w c.in-Match.none c.in-Match.head c.in-Match.tail c.in-Match.some)
+    quiet-result c.args.program.now c.args.now.now c.args.asked.now (code.Match c.in-Match.field-0 c.in-Match.w c.in-Match.none c.in-Match.h c.in-Match.t c.in-Match.some)
     (c.code.ensures ∙ ap Some c.in-Match.is) (λ a pair asks. asks) c.at_match.result
