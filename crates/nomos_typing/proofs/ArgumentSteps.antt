@@ -56,8 +56,16 @@ values-channels (value (list amount its found) rest) = values-channels rest
 of-type_same : (j k : Judgement) (v : VarId) (own : TypeId) → (k.shared ≡ j.shared) × (k.linear ≡ j.linear)
     → IsOfType k v own ↔ IsOfType j v own
 of-type_same j k v own (shared, linear) = (
-  λ is. elim is [ inl reference ↦ inl (ap (bound_to v.0) (sym shared) ∙ reference) | inr held ↦ inr (ap (bound_to v.0) (sym linear) ∙ held) ],
-  λ is. elim is [ inl reference ↦ inl (ap (bound_to v.0) shared ∙ reference) | inr held ↦ inr (ap (bound_to v.0) linear ∙ held) ],
+  λ is. elim is [
+    | inl reference ↦ inl (ap (bound_to v.0) (sym shared) ∙ reference)
+    | inr held
+        ↦ inr (ap (bound_to v.0) (sym linear) ∙ held)
+  ],
+  λ is. elim is [
+    | inl reference ↦ inl (ap (bound_to v.0) shared ∙ reference)
+    | inr held
+        ↦ inr (ap (bound_to v.0) linear ∙ held)
+  ],
 )
 
 -- the pairs of channels are the same before and after values
@@ -65,8 +73,24 @@ channels-same : (lists : ProgramLists) (j k : Judgement) (vs : List VarId) (pars
     (pair : Amount × Amount) → (k.shared ≡ j.shared) × (k.linear ≡ j.linear)
     → PairOfChannels lists k vs pars pair ↔ PairOfChannels lists j vs pars pair
 channels-same lists j k vs pars pair same = (
-  λ p. record { v = p.v; par = p.par; own = p.own; passes = p.passes; is_of = (of-type_same j k p.v p.own same).0 p.is_of; paths = p.paths },
-  λ p. record { v = p.v; par = p.par; own = p.own; passes = p.passes; is_of = (of-type_same j k p.v p.own same).1 p.is_of; paths = p.paths },
+  λ p. record {
+    v = p.v;
+    par = p.par;
+    own = p.own;
+    passes = p.passes;
+    is_of =
+        (of-type_same j k p.v p.own same).0 p.is_of;
+    paths = p.paths;
+  },
+  λ p. record {
+    v = p.v;
+    par = p.par;
+    own = p.own;
+    passes = p.passes;
+    is_of =
+        (of-type_same j k p.v p.own same).1 p.is_of;
+    paths = p.paths;
+  },
 )
 
 -- what joins in two steps
@@ -88,7 +112,8 @@ joins-both old mid new P Q R first second same =
     )
 
 -- arguments pass where values pass and then channels
-pub arguments-pass : (lists : ProgramLists) (s mid next : Standing) (d : ProcDecl) (args : Args) (old between new : Asked)
+pub arguments-pass : (lists : ProgramLists) (s mid next : Standing) (d : ProcDecl) (args : Args)
+    (old between new : Asked)
     → ValuesPassed lists s mid args.values d.values old between → (b : Bool)
     → TellsChannels lists mid next args.channels d.channels between new b → TellsArguments lists s next d args old new b
 arguments-pass lists s mid next d args old between new values true channels = record {
@@ -107,7 +132,8 @@ arguments-pass lists s mid next d args old between new values false stays =
     let same =
     values-same lists args.values d.values (shape_of s) fit.between (shape_of mid) fit.values values.passes
     in
-    stays left (subst (λ (k : Judgement). PassesChannels lists no_amounts k args.channels d.channels left) same fit.channels)
+    stays left (subst (λ (k : Judgement). PassesChannels lists no_amounts k args.channels d.channels left) same
+    fit.channels)
 
 -- what is left after arguments is one judgement
 pub arguments-one : (lists : ProgramLists) (j : Judgement) (d : ProcDecl) (args : Args) (l r : Judgement)
@@ -120,7 +146,8 @@ arguments-one lists j d args l r left right =
 -- ---- spawning and calling
 
 -- the ids of a declaration have their places
-pub declared-in_range : (lists : ProgramLists) (p : ℕ) (d : ProcDecl) → IsProgram lists → slice_get lists.procs p ≡ Some d
+pub declared-in_range : (lists : ProgramLists) (p : ℕ) (d : ProcDecl) → IsProgram lists
+    → slice_get lists.procs p ≡ Some d
     → ProcInRange lists d
 declared-in_range lists p d is_program found = All-at (ProcInRange lists) lists.procs p d is_program.ids.procs found
 
@@ -139,15 +166,30 @@ module _ (lists : ProgramLists) (j : Judgement) where
   -- the pairs of arguments are those that they ask for
   pub arguments-ask : (s : Standing) (a : Account) (d : ProcDecl) (args : Args) → carried_by_all s ≡ a.lists
       → (pair : Amount × Amount)
-      → (PairOfValues (carried_by_all s) args.values d.values pair ⊎ PairOfChannels lists j args.channels d.channels pair)
+      → (PairOfValues (carried_by_all s) args.values d.values pair
+      ⊎ PairOfChannels lists j args.channels d.channels pair)
       ↔ ArgumentsAsk lists j a d args pair
   arguments-ask s a d args same pair = (
     λ either. elim either [
-      | inl p ↦ inl (record { w = p.w; par = p.par; passes = p.passes; carries = ap (bound_to p.w.0) (sym same) ∙ p.carries; says = p.says })
+      | inl p ↦ inl (record {
+        w = p.w;
+        par = p.par;
+        passes = p.passes;
+        carries = ap (bound_to p.w.0)
+            (sym same) ∙ p.carries;
+        says = p.says;
+      })
       | inr p ↦ inr (record { v = p.v; par = p.par; own = p.own; passes = p.passes; is_of = p.is_of; paths = p.paths })
     ],
     λ either. elim either [
-      | inl p ↦ inl (record { w = p.w; par = p.par; passes = p.passes; carries = ap (bound_to p.w.0) same ∙ p.carries; says = p.says })
+      | inl p ↦ inl (record {
+        w = p.w;
+        par = p.par;
+        passes = p.passes;
+        carries = ap
+            (bound_to p.w.0) same ∙ p.carries;
+        says = p.says;
+      })
       | inr p ↦ inr (record { v = p.v; par = p.par; own = p.own; passes = p.passes; is_of = p.is_of; paths = p.paths })
     ],
   )

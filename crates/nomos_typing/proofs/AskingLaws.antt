@@ -71,7 +71,8 @@ module _ {lists : ProgramLists} {j : Judgement} {a : Account} where
   arguments-asked pair (spawns {d = d} stands found) says = (_, stands, (d, found, says))
   arguments-asked pair (calls {d = d} stands found) says = (_, stands, (d, found, inl says))
 
-  compared-asked : {t u : TypeId} (pair : Amount × Amount) → ComparesTypes lists j t u → StandAtEqualPaths lists t u pair
+  compared-asked : {t u : TypeId} (pair : Amount × Amount) → ComparesTypes lists j t u
+      → StandAtEqualPaths lists t u pair
       → AsksSomewhere lists j a pair
   compared-asked pair (sent {own = own} {carried = its} stands is_of t channel) paths =
       (_, stands, (own, its, t, is_of, channel, paths))

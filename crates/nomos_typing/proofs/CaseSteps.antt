@@ -50,19 +50,24 @@ module _ {X Y : Type 0} (f : X → Y) where
       (suc rest.0, omega (arith, rest.1), rest.2)
 
 -- the set of the labels of arms has the labels of arms
-pub labels-HasArm : {S : Type 0} (arms : List Arm) (labels : bag.HashSet ℕ S) → bag.IsFromIterResult nat_eq (map (λ (a : Arm). a.label.0) arms) labels → (l : Label) → (bag.contains nat_eq labels l.0 ≡ true) ↔ HasArm arms l
+pub labels-HasArm : {S : Type 0} (arms : List Arm) (labels : bag.HashSet ℕ S)
+    → bag.IsFromIterResult nat_eq (map (λ (a : Arm). a.label.0) arms) labels → (l : Label)
+    → (bag.contains nat_eq labels l.0 ≡ true) ↔ HasArm arms l
 labels-HasArm arms labels made l =
     let tells = is_member-Decides {eq = nat_eq} unsigned_Decides (map (λ (a : Arm). a.label.0) arms) l.0 in (
       λ yes. item-of_image (λ (a : Arm). a.label.0) arms l.0 (tells.0 (sym (made.0 l.0) ∙ yes)),
-      λ (a, held, same). made.0 l.0 ∙ tells.1 (subst (Contains (map (λ (x : Arm). x.label.0) arms)) same (image-of_item (λ (x : Arm). x.label.0) arms a held)),
+      λ (a, held, same). made.0 l.0 ∙ tells.1 (subst (Contains (map (λ (x : Arm). x.label.0) arms)) same
+          (image-of_item (λ (x : Arm). x.label.0) arms a held)),
     )
 
 -- what holds of the items so far and of the next one
-pub more-items : {X : Type 0} (P : X → Type 0) (xs : List X) (i : ℕ) (d : X) → i < length xs → ((k : ℕ) (e : X) → k < i → P (get_or xs k e)) → P (get_or xs i d) → (k : ℕ) (e : X) → k < i + 1 → P (get_or xs k e)
+pub more-items : {X : Type 0} (P : X → Type 0) (xs : List X) (i : ℕ) (d : X) → i < length xs → ((k : ℕ) (e : X)
+    → k < i → P (get_or xs k e)) → P (get_or xs i d) → (k : ℕ) (e : X) → k < i + 1 → P (get_or xs k e)
 more-items P xs i d inside before here k e below =
     elim (cases_lt k i) [
       | inl lower ↦ before k e lower
-      | inr above ↦ let same : i ≡ k = omega arith in subst (λ (n : ℕ). P (get_or xs n e)) same (subst P (get_or_default xs i d e inside) here)
+      | inr above ↦ let same : i ≡ k = omega arith in subst (λ (n : ℕ). P (get_or xs n e)) same (subst P
+          (get_or_default xs i d e inside) here)
     ]
 
 -- one more arm leads on one more way
@@ -74,7 +79,8 @@ ways-more c bs _ _ a t (arm {arms = arms} {ways = ways} u goes rest) found =
     arm u goes (ways-more c bs arms ways a t rest found)
 
 -- the arms go on where their ways lead
-pub ways-go_on : (j : Judgement) (c : Chan) (bs : List Branch) {arms : List Arm} {ways : List Way} → AreWays c bs arms ways
+pub ways-go_on : (j : Judgement) (c : Chan) (bs : List Branch) {arms : List Arm} {ways : List Way}
+    → AreWays c bs arms ways
     → ArmsGoOn j c bs arms (map (way_shape j) ways)
 ways-go_on j c bs none = ArmsGoOn.none
 ways-go_on j c bs (arm t found rest) = ArmsGoOn.arm t found (ways-go_on j c bs rest)
@@ -85,7 +91,8 @@ pub ways-step : (c : Chan) (bs : List Branch) (arms : List Arm) (ways made : Lis
     → made ≡ ways ++ way.Label c t (get_or arms i d).goes ∷ [] → AreWays c bs (take (i + 1) arms) made
 ways-step c bs arms ways made i d t inside before found put =
     let a = get_or arms i d in
-    let all : take (i + 1) arms ≡ take i arms ++ a ∷ [] = ap (λ (n : ℕ). take n arms) (add-one i) ∙ take-suc arms i d inside in
+    let all : take (i + 1) arms ≡ take i arms ++ a ∷ [] = ap (λ (n : ℕ). take n arms)
+    (add-one i) ∙ take-suc arms i d inside in
     let more = ways-more c bs (take i arms) ways a t before found in
     let with_arms : AreWays c bs (take (i + 1) arms) (ways ++ way.Label c t a.goes ∷ []) =
     subst (λ (xs : List Arm). AreWays c bs xs (ways ++ way.Label c t a.goes ∷ [])) (sym all) more
@@ -174,12 +181,14 @@ module _ (lists : ProgramLists) (s : Standing) (at : ℕ) (c : Chan) (arms : Lis
   arm-stuck (a, among, odd) =
       case-stuck stands
       (λ after says.
-      let each = subst (λ (cs : List Branch). ArmsGoOn (shape_of s) c cs arms after) (same-branches says) says.each_arm in
+      let each = subst (λ (cs : List Branch). ArmsGoOn (shape_of s) c cs arms after)
+      (same-branches says) says.each_arm in
       let (t, goes) = arms-have (shape_of s) c bs each a among in
       cc)
 
   -- the arms lead on their ways
-  pub case-leads : (ways : List Way) → All (λ b. HasArm arms b.label) bs → AreWays c bs arms ways → LeadsAlong lists s ways
+  pub case-leads : (ways : List Way) → All (λ b. HasArm arms b.label) bs → AreWays c bs arms ways
+      → LeadsAlong lists s ways
   case-leads ways covered are =
       let j = shape_of s in
       let says : AwaitsLabel lists j c arms (map (way_shape j) ways) = record {

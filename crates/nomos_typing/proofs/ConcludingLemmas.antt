@@ -34,7 +34,8 @@ use Rattle.nomos_typing.specs.mirror.Starting.{IsStartOf}
 use Rattle.nomos_typing.specs.mirror.Walking.{LeadsFrom, IsPointAt, IsStuckBy, AtStanding, IsPending, IsReached, IsOpen, IsOnWay, IsWalk, Walking, Goes}
 
 -- a declaration is reached where it begins
-pub start-reached : {lists : ProgramLists} {n : ℕ} (d : ProcDecl) (s : Standing) → IsStartOf lists n d s → IsReached lists n d s
+pub start-reached : {lists : ProgramLists} {n : ℕ} (d : ProcDecl) (s : Standing) → IsStartOf lists n d s
+    → IsReached lists n d s
 start-reached {lists} d s is = record {
   account = start_account d;
   has = is.has;
@@ -89,14 +90,16 @@ module _ {lists : ProgramLists} {n : ℕ} (p : ℕ) (d : ProcDecl) (found : slic
         (walking.complete j a (reaches-leads reached));
     forms =
         λ f among.
-        ⊎_elim (λ early. absurd (contains-none f (subst (λ (l : List Form). Contains l f) fresh.forms early))) (λ of. of)
+        ⊎_elim (λ early. absurd (contains-none f (subst (λ (l : List Form). Contains l f) fresh.forms early)))
+        (λ of. of)
         (walking.gathers.forms f among);
     pairs =
         λ free pair has.
         ⊎_elim
         (λ early.
         ⊎_elim (λ known. inl known)
-        (λ given. absurd (contains-none pair (subst (λ (l : List (Amount × Amount)). Contains l pair) fresh.pairs given))) early)
+        (λ given. absurd (contains-none pair (subst (λ (l : List (Amount
+        × Amount)). Contains l pair) fresh.pairs given))) early)
         (λ asked. inr asked) (walking.gathers.pairs free pair has);
     keeps = λ free pair known. walking.grows.pairs free pair (inl known);
     stuck =
@@ -107,7 +110,8 @@ module _ {lists : ProgramLists} {n : ℕ} (p : ℕ) (d : ProcDecl) (found : slic
 module _ {lists : ProgramLists} (p : ℕ) (d : ProcDecl) (formed : IsWellFormed lists)
     (found : slice_get lists.procs p ≡ Some d) where
   module _ (known : Compared) (w : Walk) (gathered : IsGathered lists (star_count lists) d known w) where
-    point-there : (f : Form) (a : Account) → IsPoint lists d a → f ≡ form_of (star_count lists) a → Contains w.forms.items f
+    point-there : (f : Form) (a : Account) → IsPoint lists d a → f ≡ form_of (star_count lists) a
+        → Contains w.forms.items f
     point-there f _ (IsPoint.before {j} {a} reached) same = (gathered.done j a reached).forms f (IsPointAt.before same)
     point-there f _ (IsPoint.called {j} {a} reached stands e there) same =
         (gathered.done j a reached).forms f (IsPointAt.called stands e there same)
@@ -116,11 +120,13 @@ module _ {lists : ProgramLists} (p : ℕ) (d : ProcDecl) (formed : IsWellFormed 
     form-there f of = point-there f of.account of.point of.same
 
     -- nothing is stuck
-    pub needs-beside : w.stuck ≡ None → NeedsBeside lists (star_count lists) d known w.asked.equalities w.forms.items w.asked.pairs.items
+    pub needs-beside : w.stuck ≡ None → NeedsBeside lists (star_count lists) d known w.asked.equalities w.forms.items
+        w.asked.pairs.items
     needs-beside free = record {
       skeleton =
           rows-skeleton p formed found
-          (λ j follows. let (a, reached) = follows-reaches p formed found j follows in (gathered.done j a reached).row free);
+          (λ j follows. let (a, reached) = follows-reaches p formed found j follows in
+          (gathered.done j a reached).row free);
       points = λ f. (gathered.forms f, form-there f);
       asked =
           λ pair. (
@@ -137,7 +143,8 @@ module _ {lists : ProgramLists} (p : ℕ) (d : ProcDecl) (formed : IsWellFormed 
           All-weaker (Contains w.forms.items) (IsForm (star_count lists))
           (λ f among.
           let of = gathered.forms f among in
-          subst (λ (g : Form). IsForm (star_count lists) g) (sym of.same) (point-is_form p (star_count lists) formed found of.point))
+          subst (λ (g : Form). IsForm (star_count lists) g) (sym of.same) (point-is_form p
+          (star_count lists) formed found of.point))
           w.forms.items (All-contains_itself w.forms.items);
     }
 
@@ -184,7 +191,8 @@ module _ {lists : ProgramLists} (p : ℕ) (d : ProcDecl) (formed : IsWellFormed 
 
   -- with all pairs
   needs-checked : (new : Compared) (forms : List Form) (pairs all : List (Amount × Amount)) → all ≡ new.amounts ++ pairs
-      → NeedsBeside lists (star_count lists) d nothing_compared new forms pairs → NeedsChecked lists (star_count lists) d forms all
+      → NeedsBeside lists (star_count lists) d nothing_compared new forms pairs
+      → NeedsChecked lists (star_count lists) d forms all
   needs-checked new forms pairs all is needs =
       let Among : (Amount × Amount) → List (Amount × Amount) → Type 0 = λ q l. Contains l q in
       let rows : NeedsRows lists (star_count lists) d forms all = record {

@@ -76,8 +76,18 @@ free-exactly s v a b c d true a_is b_is c_is d_is no_a no_b no_c no_d =
     let in_a = ap (λ (p : Option Kind). count_one p) a_is in
     let in_b = ap (λ (p : Option Carried). count_one p) b_is in
     let in_c = ap (λ (p : Option TypeId). count_one p) c_is in
-    let in_d = ap (λ (p : Option TypeId). count_one p) d_is in
-    (λ yes. omega (arith, list-counts s v.0, none-counts a no_a, none-counts b no_b, none-counts c no_c, none-counts d no_d), λ free. refl)
+    let in_d = ap (λ (p : Option TypeId). count_one p) d_is in (
+      λ yes. omega (
+        arith,
+        list-counts s v.0,
+        none-counts a no_a,
+        none-counts b no_b,
+        none-counts c no_c,
+        none-counts d
+            no_d,
+      ),
+      λ free. refl,
+    )
 free-exactly s v a b c d false a_is b_is c_is d_is no_a no_b no_c some_d =
     let in_d = ap (λ (p : Option TypeId). count_one p) d_is in
     (λ no. absurd cc, λ free. absurd (omega (arith, some-counts d some_d, free)))

@@ -75,7 +75,8 @@ term-no_pair carry e par pair p = let (same, rest) = first-pair (arg.Term e) par
 
 -- a term passes where it has the kind
 pub term-passes : (lists : ProgramLists) (s : Standing) (e : TermId) (par : Par) (old : Asked) → par.amount ≡ None
-    → (b : Bool) → (IsTrue b ↔ HasKind lists (shape_of s).kinds e par.kind) → TellsValue lists s s (arg.Term e) par old old b
+    → (b : Bool) → (IsTrue b ↔ HasKind lists (shape_of s).kinds e par.kind)
+    → TellsValue lists s s (arg.Term e) par old old b
 term-passes lists s e par old no_list true has = record {
   passes = term no_list (has.0 refl);
   lists_left = refl;
@@ -108,7 +109,8 @@ list-pair carry w par r said carries says pair = (
       let (same, its_par) = first-pair (arg.List w) par (arg.List p.w, p.par) p.passes in
       let its_w : p.w ≡ w = cc in
       let its_carries = p.carries in
-      let here : bound_to w.0 carry ≡ Some pair.0 = subst (λ (v : VarId). bound_to v.0 carry ≡ Some pair.0) its_w p.carries in
+      let here : bound_to w.0 carry ≡ Some pair.0 = subst (λ (v : VarId). bound_to v.0 carry ≡ Some pair.0) its_w
+      p.carries in
       let there : par.amount ≡ Some pair.1 = subst (λ (q : Par). q.amount ≡ Some pair.1) (sym its_par) p.says in
       let first : pair.0 ≡ r = cc in
       let second : pair.1 ≡ said = cc in
@@ -133,7 +135,8 @@ list-passes lists s next w par said old new says true passed =
     let next_shape : shape_of next ≡ Shaped (unbind w.0 j.lists) = ap shape_of passed.next_is ∙ ap Shaped shapes in
     record {
       passes =
-          subst (λ (k : Judgement). PassesValue lists no_amounts j (arg.List w) par k) (sym next_shape) (list said says shape);
+          subst (λ (k : Judgement). PassesValue lists no_amounts j (arg.List w) par k) (sym next_shape)
+          (list said says shape);
       lists_left = ap (each_bound amount_of) left_is ∙ each-unbind amount_of w.0 s.lists;
       potential = ap (λ (t : Standing). t.potential) passed.next_is;
       joins =
@@ -199,9 +202,11 @@ value-pairs : (lists : ProgramLists) (s between next : Standing) (a : ValueArg) 
     → Joins old new (PairOfValues (carried_by_all s) (a ∷ args) (par ∷ pars))
 value-pairs lists s between next a args par pars old mid new ascends first rest = λ pair. (to pair, from pair)
   where
-    back : (w : VarId) (r : Amount) → bound_to w.0 (carried_by_all between) ≡ Some r → bound_to w.0 (carried_by_all s) ≡ Some r
+    back : (w : VarId) (r : Amount) → bound_to w.0 (carried_by_all between) ≡ Some r
+        → bound_to w.0 (carried_by_all s) ≡ Some r
     back w r found =
-        passed-back a w.0 r (carried_by_all s) (carried_by_all between) (carried-ascends s ascends) first.lists_left found
+        passed-back a w.0 r (carried_by_all s) (carried_by_all between)
+        (carried-ascends s ascends) first.lists_left found
 
     to : (pair : Amount × Amount) → HasPair new pair
         → HasPair old pair ⊎ PairOfValues (carried_by_all s) (a ∷ args) (par ∷ pars) pair
@@ -210,7 +215,13 @@ value-pairs lists s between next a args par pars old mid new ascends first rest 
         | inl before ↦ inl before
         | inr p ↦ let (same, its_par) = first-pair a par (arg.List p.w, p.par) p.passes in
             let made : ValueArg → Par → ValueArg × Par = λ x y. (x, y) in
-            inr (record { w = p.w; par = p.par; passes = (0, omega arith, ap₂ made same its_par); carries = p.carries; says = p.says })
+            inr (record {
+              w = p.w;
+              par = p.par;
+              passes = (0, omega arith, ap₂ made same its_par);
+              carries = p.carries;
+              says = p.says;
+            })
       ]
       | inr p ↦ inr (record {
         w = p.w;
@@ -322,24 +333,28 @@ module _ (lists : ProgramLists) (args : List ValueArg) (pars : List Par) (i : �
       → ValuePassed lists now between (get_or args i da) (get_or pars i dp) asked mid
       → ((next : Standing) (new : Asked) → ValuesPassed lists now next (drop i args) (drop i pars) asked new
       → ValuesPassed lists start next args pars first new)
-      → (next : Standing) (new : Asked) → ValuesPassed lists between next (drop (i + 1) args) (drop (i + 1) pars) mid new
+      → (next : Standing) (new : Asked) → ValuesPassed lists between next (drop (i + 1) args) (drop
+      (i + 1) pars) mid new
       → ValuesPassed lists start next args pars first new
   turn-whole start now between first asked mid ascends here whole next new rest =
       let a = get_or args i da in
       let par = get_or pars i dp in
-      let more = values-more lists now between next a (drop (i + 1) args) par (drop (i + 1) pars) asked mid new ascends here rest in
+      let more = values-more lists now between next a (drop (i + 1) args) par (drop
+      (i + 1) pars) asked mid new ascends here rest in
       let Passed : List ValueArg → List Par → Type 0 = λ x y. ValuesPassed lists now next x y asked new in
       whole next new (subst₂ Passed (sym (drop_more args i da in_args)) (sym (drop_more pars i dp in_pars)) more)
 
   -- where all values pass, those after this turn pass
-  pub turn-rest : (start now between : Judgement) → PassesValue lists no_amounts now (get_or args i da) (get_or pars i dp) between
+  pub turn-rest : (start now between : Judgement) → PassesValue lists no_amounts now (get_or args i da)
+      (get_or pars i dp) between
       → ((left : Judgement) → PassesValues lists no_amounts start args pars left
       → PassesValues lists no_amounts now (drop i args) (drop i pars) left)
       → (left : Judgement) → PassesValues lists no_amounts start args pars left
       → PassesValues lists no_amounts between (drop (i + 1) args) (drop (i + 1) pars) left
   turn-rest start now between here rest left all =
       let Passes : List ValueArg → List Par → Type 0 = λ x y. PassesValues lists no_amounts now x y left in
-      values-rest lists now between left (get_or args i da) (drop (i + 1) args) (get_or pars i dp) (drop (i + 1) pars) here
+      values-rest lists now between left (get_or args i da) (drop (i + 1) args) (get_or pars i dp) (drop
+      (i + 1) pars) here
       (subst₂ Passes (drop_more args i da in_args) (drop_more pars i dp in_pars) (rest left all))
 
   -- where the value of this turn does not pass, all do not

@@ -43,7 +43,8 @@ module _ (lists : ProgramLists) where
     grown = grows-through going.grows (visits-grows visits a has)
 
     gathered : (d : ProcDecl) → IsReached lists stars d first → Gathers lists stars d old new
-    gathered d r = gathers-through (going.gathers d r) (visits-grows visits a has) (visits-gathers visits (going.reached d r))
+    gathered d r = gathers-through (going.gathers d r) (visits-grows visits a has) (visits-gathers visits
+        (going.reached d r))
 
     -- to the next instruction
     pub going-next : (next : Standing) → LeadsTo lists s next → Going lists stars first next old new
@@ -102,5 +103,6 @@ module _ (lists : ProgramLists) where
         gathers = λ d r. gathers-through (going.gathers d r) grows (visits-gathers visits (going.reached d r));
         is_open =
             λ d r.
-            All-cons (IsOpen lists stars d) f [] (open-along f leads (going.reached d r)) (All-nil (IsOpen lists stars d));
+            All-cons (IsOpen lists stars d) f [] (open-along f leads (going.reached d r)) (All-nil
+            (IsOpen lists stars d));
       }

@@ -38,7 +38,17 @@ leads-cases : {lists : ProgramLists} {j i : Judgement} {a c : Account} → Leads
     → ((j ≡ i) × (a ≡ c)) ⊎ LeadsOver lists j a i c
 leads-cases LeadsFrom.here = inl (refl, refl)
 leads-cases (LeadsFrom.later n after stands row among rest) =
-    inr (record { node = n; after = after; stands = stands; row = row; judgement = _; account = _; among = among; rest = rest })
+    inr (record {
+      node = n;
+      after = after;
+      stands = stands;
+      row = row;
+      judgement = _;
+      account = _;
+      among = among;
+      rest
+          = rest;
+    })
 
 pairs-parts : (j k : Judgement) (a b : Account) → ◌≡◌ {A = Judgement × Account} (j, a) (k, b) → (j ≡ k) × (a ≡ b)
 pairs-parts j k a b same = (ap (λ (q : Judgement × Account). q.0) same, ap (λ (q : Judgement × Account). q.1) same)
@@ -77,7 +87,8 @@ module _ {lists : ProgramLists} (is_program : IsProgram lists) {s : Standing} {o
       subst (Among (shape_of next ∷ [])) is
       (subst (λ (l : List Judgement). Among l (accounts_after lists over.node at.account)) one over.among)
       in
-      let same = pairs-parts (shape_of next) over.judgement b over.account (contains-one (shape_of next, b) (over.judgement, over.account) there) in
+      let same = pairs-parts (shape_of next) over.judgement b over.account (contains-one (shape_of next, b)
+      (over.judgement, over.account) there) in
       let From : Judgement → Account → Type 0 = λ k c. LeadsFrom lists k c j a in
       let rest : From (shape_of next) b =
       subst (λ (k : Judgement). From k b) (sym same.0) (subst (From over.judgement) (sym same.1) over.rest)
@@ -99,18 +110,22 @@ leaves-along {lists} is_program f {old} {new} visits leads j a at =
     let all : over.after ≡ map (way_shape (shape_of s)) ways = row-unique no_amounts is_program over.row leads.row in
     let Among : List Judgement → List Account → Type 0 = λ l m. Contains (zip l m) (over.judgement, over.account) in
     let lead : Way → Judgement × Account = λ w. (way_shape (shape_of s) w, way_account at.account w) in
-    let paired : Contains (zip (map (way_shape (shape_of s)) ways) (map (way_account at.account) ways)) (over.judgement, over.account) =
+    let paired : Contains (zip (map (way_shape (shape_of s)) ways) (map (way_account at.account) ways))
+    (over.judgement, over.account) =
     subst (Among (map (way_shape (shape_of s)) ways)) is
     (subst (λ (l : List Judgement). Among l (accounts_after lists over.node at.account)) all over.among)
     in
     let there : Contains (map lead ways) (over.judgement, over.account) =
-    subst (λ (l : List (Judgement × Account)). Contains l (over.judgement, over.account)) (zip-maps (way_shape (shape_of s)) (way_account at.account) ways) paired
+    subst (λ (l : List (Judgement × Account)). Contains l (over.judgement, over.account)) (zip-maps (way_shape
+    (shape_of s)) (way_account at.account) ways) paired
     in
     let (w, inside, leads_there) = contains-unmap lead ways (over.judgement, over.account) there in
-    let same = pairs-parts (way_shape (shape_of s) w) over.judgement (way_account at.account w) over.account leads_there in
+    let same = pairs-parts (way_shape (shape_of s) w) over.judgement
+    (way_account at.account w) over.account leads_there in
     let From : Judgement → Account → Type 0 = λ k c. LeadsFrom lists k c j a in
     let rest : From (way_shape (shape_of s) w) (way_account at.account w) =
-    subst (λ (k : Judgement). From k (way_account at.account w)) (sym same.0) (subst (From over.judgement) (sym same.1) over.rest)
+    subst (λ (k : Judgement). From k (way_account at.account w)) (sym same.0) (subst (From over.judgement)
+    (sym same.1) over.rest)
     in
     inr (record {
       forks = f;
@@ -153,7 +168,8 @@ module _ {lists : ProgramLists} {d : ProcDecl} where
             λ w inside.
             let Among : List (Judgement × Account) → Type 0 = λ l. Contains l (lead w) in
             let there : Among (zip after (map (way_account r.account) ways)) =
-            subst Among (sym (zip-maps (way_shape (shape_of s)) (way_account r.account) ways)) (contains-map lead ways w inside)
+            subst Among (sym (zip-maps (way_shape (shape_of s)) (way_account r.account) ways))
+            (contains-map lead ways w inside)
             in
             let among : Among (zip after (accounts_after lists n r.account)) =
             subst (λ (l : List Account). Among (zip after l)) (sym is) there

@@ -25,7 +25,8 @@ star-below n (amount.Written units) up = omega arith
 star-below n (amount.Star star) up = up.1
 
 -- an amount of a program is small, and its star occurs
-pub is-amount : {lists : ProgramLists} → IsProgram lists → (r : Amount) → Contains (amounts_of lists) r → IsAmountOf lists r
+pub is-amount : {lists : ProgramLists} → IsProgram lists → (r : Amount) → Contains (amounts_of lists) r
+    → IsAmountOf lists r
 is-amount {lists} is_program r among = record {
   small = All-contains (λ q. IsAmount q) (amounts_of lists) r is_program.amounts among;
   star = star-below (star_count lists) r (program-star r is_program among);
@@ -33,7 +34,8 @@ is-amount {lists} is_program r among = record {
 
 module _ {lists : ProgramLists} (is_program : IsProgram lists) where
   -- those of an instruction, of a declaration
-  pub code-amount : (i : ℕ) (n : CodeNode) (r : Amount) → slice_get lists.code i ≡ Some n → Contains (code_amounts n) r → IsAmountOf lists r
+  pub code-amount : (i : ℕ) (n : CodeNode) (r : Amount) → slice_get lists.code i ≡ Some n
+      → Contains (code_amounts n) r → IsAmountOf lists r
   code-amount i n r found inside = is-amount is_program r (amounts.code-amount lists i n r found inside)
 
   pub proc-amount : (p : ℕ) (d : ProcDecl) → slice_get lists.procs p ≡ Some d → IsAmountOf lists d.amount
@@ -50,7 +52,8 @@ module _ {lists : ProgramLists} (is_program : IsProgram lists) where
       }
 
 -- what a list carries is an amount of the program
-pub list-amount : {lists : ProgramLists} (s : Standing) (v : ℕ) (c : Carried) → IsWithin lists s → bound_to v s.lists ≡ Some c → IsAmountOf lists c.amount
+pub list-amount : {lists : ProgramLists} (s : Standing) (v : ℕ) (c : Carried) → IsWithin lists s
+    → bound_to v s.lists ≡ Some c → IsAmountOf lists c.amount
 list-amount {lists} s v c within found =
     let Its : Carried → Type 0 = λ d. IsAmountOf lists d.amount in
     all-bound Its v c s.lists within.amounts found

@@ -45,17 +45,22 @@ list-is s w c list found shape = let its = list-bound s w c found in cc
 -- a list that may be taken apart
 pub parts-found : (s : Standing) (w head tail : VarId) (o : Option Carried) → head ≢ tail → IsFree (shape_of s) head
     → IsFree (shape_of s) tail → o ≡ bound_to w.0 s.lists → FindsList s w (TakesApart (shape_of s) w head tail) o
-parts-found s w head tail (Some c) differ head_free tail_free is =
-    (record { there = list-bound s w c (sym is); differ = differ; head_free = head_free; tail_free = tail_free }, sym is)
+parts-found s w head tail (Some c) differ head_free tail_free is = (
+  record { there = list-bound s w c (sym is); differ = differ; head_free = head_free; tail_free = tail_free },
+  sym
+      is,
+)
 parts-found s w head tail None differ head_free tail_free is = λ list says. list-unbound s w list (sym is) says.there
 
 -- the list that was found
-pub found-list : (s : Standing) (w : VarId) (P : ListType → Type 0) (o : Option Carried) (c : Carried) → FindsList s w P o
+pub found-list : (s : Standing) (w : VarId) (P : ListType → Type 0) (o : Option Carried) (c : Carried)
+    → FindsList s w P o
     → o ≡ Some c → P (shape_of_list c) × (bound_to w.0 s.lists ≡ Some c)
 found-list s w P o c found is = subst (FindsList s w P) is found
 
 -- no list was found
-pub found-no_list : (s : Standing) (w : VarId) (P : ListType → Type 0) (o : Option Carried) → FindsList s w P o → o ≡ None
+pub found-no_list : (s : Standing) (w : VarId) (P : ListType → Type 0) (o : Option Carried) → FindsList s w P o
+    → o ≡ None
     → (list : ListType) → ¬ (P list)
 found-no_list s w P o found is = subst (FindsList s w P) is found
 
@@ -112,7 +117,14 @@ add-leads lists s at it c ls p is spent stands (says, found) =
 
 -- a list is taken apart
 pub match-leads : (lists : ProgramLists) (s : Standing) (at : ℕ) (it : Matching) (c : Carried) (made : List Way)
-    → made ≡ way.Empty it.list it.empty_next ∷ way.Full (record { list = it.list; carried = c; head = it.head; tail = it.tail; next = it.full_next }) ∷ []
+    → made ≡ way.Empty it.list it.empty_next ∷ way.Full (record {
+      list = it.list;
+      carried = c;
+      head = it.head;
+      tail =
+          it.tail;
+      next = it.full_next;
+    }) ∷ []
     → StandsAtCode lists (shape_of s) (code.Match at it.list it.empty_next it.head it.tail it.full_next)
     → TakesApart (shape_of s) it.list it.head it.tail (shape_of_list c) × (bound_to it.list.0 s.lists ≡ Some c)
     → LeadsAlong lists s made
@@ -120,7 +132,8 @@ match-leads lists s at it c made is stands (says, found) =
     let parts : Parts = record { list = it.list; carried = c; head = it.head; tail = it.tail; next = it.full_next } in
     let first = way.Empty it.list it.empty_next in
     let second = way.Full parts in
-    leads-along s (code.Match at it.list it.empty_next it.head it.tail it.full_next) made (first ∷ second ∷ []) is stands
+    leads-along s (code.Match at it.list it.empty_next it.head it.tail it.full_next) made
+    (first ∷ second ∷ []) is stands
     (match-steps stands (shape_of_list c) says refl)
     (λ a has.
     ap (λ o. parts_list o it.list it.tail a) (carried-amount (star_count lists) s a it.list c has found))

@@ -8,7 +8,8 @@ contains-head x y xs same = (zero, omega arith, same)
 pub contains-tail : {X : Type 0} (x y : X) (xs : List X) → Contains xs y → Contains (x ∷ xs) y
 contains-tail x y xs there = (suc there.0, omega arith, there.2)
 
-contains-at : {X : Type 0} (x y : X) (xs : List X) (k : ℕ) → k < length (x ∷ xs) → get_or (x ∷ xs) k y ≡ y → (x ≡ y) ⊎ Contains xs y
+contains-at : {X : Type 0} (x y : X) (xs : List X) (k : ℕ) → k < length (x ∷ xs) → get_or (x ∷ xs) k y ≡ y
+    → (x ≡ y) ⊎ Contains xs y
 contains-at x y xs zero inside at = inl at
 contains-at x y xs (suc k) inside at = inr (k, omega arith, at)
 
@@ -23,14 +24,19 @@ contains-none y there = omega (arith, there.1)
 -- a list of one item has only that
 pub contains-one : {X : Type 0} (x y : X) → Contains (x ∷ []) y → x ≡ y
 contains-one {X} x y there =
-    elim (contains-cases x y [] there) as (λ (_ : (x ≡ y) ⊎ Contains {X = X} [] y). x ≡ y) [ inl same ↦ same | inr rest ↦ absurd (contains-none y rest) ]
+    elim (contains-cases x y [] there) as (λ (_ : (x ≡ y) ⊎ Contains {X = X} [] y). x ≡ y) [
+      | inl same
+          ↦ same
+      | inr rest ↦ absurd (contains-none y rest)
+    ]
 
 pub contains-map : {X Y : Type 0} (f : X → Y) (xs : List X) (x : X) → Contains xs x → Contains (map f xs) (f x)
 contains-map f xs x there =
     let inside : there.0 < length (map f xs) = rw length-map there.1 in
     (there.0, inside, get_or-map f xs there.0 x (f x) there.1 ∙ ap f there.2)
 
-pub contains-unmap : {X Y : Type 0} (f : X → Y) (xs : List X) (y : Y) → Contains (map f xs) y → (x : X) × Contains xs x × (f x ≡ y)
+pub contains-unmap : {X Y : Type 0} (f : X → Y) (xs : List X) (y : Y) → Contains (map f xs) y → (x : X)
+    × Contains xs x × (f x ≡ y)
 contains-unmap f [] y there = absurd (contains-none y there)
 contains-unmap f (x ∷ xs) y there =
     elim (contains-cases (f x) y (map f xs) there) [
@@ -39,6 +45,7 @@ contains-unmap f (x ∷ xs) y there =
     ]
 
 -- two lists that are mapped from one, paired
-pub zip-maps : {X Y Z : Type 0} (f : X → Y) (g : X → Z) (xs : List X) → zip (map f xs) (map g xs) ≡ map (λ x. (f x, g x)) xs
+pub zip-maps : {X Y Z : Type 0} (f : X → Y) (g : X → Z) (xs : List X)
+    → zip (map f xs) (map g xs) ≡ map (λ x. (f x, g x)) xs
 zip-maps f g [] = refl
 zip-maps f g (x ∷ xs) = ap (λ r. (f x, g x) ∷ r) (zip-maps f g xs)

@@ -55,7 +55,8 @@ module _ (lists : ProgramLists) (s : Standing) (n : ℕ) (a : Account) (has : Ha
         subst (λ (r : ProcId). slice_get lists.procs r.0 ≡ Some d) (sym callee) declared
         in
         let equal : e ≡ d = cc in
-        pushed (old ++ form ∷ []) left f (left_is ∙ ap (λ (c : ProcDecl). form_of n (spends c.amount a)) equal ∙ sym same)
+        pushed (old ++ form ∷ []) left f (left_is ∙ ap (λ (c : ProcDecl). form_of n
+        (spends c.amount a)) equal ∙ sym same)
 
     pub call-notes : (new : List Form) → new ≡ (old ++ form ∷ []) ++ left ∷ [] → (f : Form)
         → Contains new f ↔ (Contains old f ⊎ Point f)
@@ -67,6 +68,7 @@ module _ (lists : ProgramLists) (s : Standing) (n : ℕ) (a : Account) (has : Ha
           λ either.
               subst Among (sym items)
               (⊎_elim
-              (λ early. Contains-append_left (old ++ form ∷ []) (left ∷ []) f (Contains-append_left old (form ∷ []) f early))
+              (λ early. Contains-append_left (old ++ form ∷ []) (left ∷ []) f (Contains-append_left old
+              (form ∷ []) f early))
               (call-point f) either),
         )

@@ -37,7 +37,8 @@ joins-same old new P Q joins same =
     )
 
 -- where nothing is asked for, nothing joins
-pub joins-none : (old : Asked) (Q : Amount × Amount → Type 0) → ((pair : Amount × Amount) → ¬ (Q pair)) → Joins old old Q
+pub joins-none : (old : Asked) (Q : Amount × Amount → Type 0) → ((pair : Amount × Amount) → ¬ (Q pair))
+    → Joins old old Q
 joins-none old Q none =
     λ pair. (λ has. inl has, λ either. elim either [ inl before ↦ before | inr q ↦ absurd (none pair q) ])
 
@@ -84,7 +85,8 @@ quiet-step lists s old n stands none (step.Branches ways) =
     λ a has. joins-none old (AsksPair lists (shape_of s) a) (quiet-asks lists (shape_of s) a n stands (none a))
 
 -- the same where memory may run out
-pub quiet-result : (lists : ProgramLists) (s : Standing) (old : Asked) (n : CodeNode) → StandsAtCode lists (shape_of s) n
+pub quiet-result : (lists : ProgramLists) (s : Standing) (old : Asked) (n : CodeNode)
+    → StandsAtCode lists (shape_of s) n
     → ((a : Account) (pair : Amount × Amount) → ¬ (AsksAt lists (shape_of s) a n pair))
     → (r : Result Step AllocError) → IfOk r (StepAsks lists s old old)
 quiet-result lists s old n stands none (Ok st) = quiet-step lists s old n stands none st

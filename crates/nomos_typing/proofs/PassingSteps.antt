@@ -40,14 +40,27 @@ some-counts : {X : Type 0} (o : Option X) (x : X) → o ≡ Some x → count_one
 some-counts o x is = ap (λ p. count_one p) is
 
 -- a variable has one type
-pub of-type_unique : (lists : ProgramLists) (j : Judgement) (v : VarId) (a b : TypeId) → IsJudgement lists j → IsOfType j v a
+pub of-type_unique : (lists : ProgramLists) (j : Judgement) (v : VarId) (a b : TypeId) → IsJudgement lists j
+    → IsOfType j v a
     → IsOfType j v b → a ≡ b
 of-type_unique lists j v a b h (inl first) (inl second) = cc
 of-type_unique lists j v a b h (inr first) (inr second) = cc
 of-type_unique lists j v a b h (inl first) (inr second) =
-    absurd (omega (arith, h.apart v.0, some-counts (bound_to v.0 j.shared) a first, some-counts (bound_to v.0 j.linear) b second))
+    absurd (omega (
+      arith,
+      h.apart v.0,
+      some-counts (bound_to v.0 j.shared) a first,
+      some-counts
+          (bound_to v.0 j.linear) b second,
+    ))
 of-type_unique lists j v a b h (inr first) (inl second) =
-    absurd (omega (arith, h.apart v.0, some-counts (bound_to v.0 j.linear) a first, some-counts (bound_to v.0 j.shared) b second))
+    absurd (omega (
+      arith,
+      h.apart v.0,
+      some-counts (bound_to v.0 j.linear) a first,
+      some-counts
+          (bound_to v.0 j.shared) b second,
+    ))
 
 -- what is bound after a binding was given up was bound before
 pub unbound-back : {X : Type 0} (w v : ℕ) (b : List (VarId × X)) (y : X) (t : Bool) → (w == v) ≡ t
@@ -67,7 +80,8 @@ module _ {lists : ProgramLists} {x : Annotations} where
   passes-of_type (linear own unshared found alike) = (own, inr found, alike)
 
   -- a type after a channel has passed was there before
-  pub of-type_back : {j : Judgement} {v : VarId} {t : TypeId} {k : Judgement} → (w : VarId) (own : TypeId) → IsJudgement lists j
+  pub of-type_back : {j : Judgement} {v : VarId} {t : TypeId} {k : Judgement} → (w : VarId) (own : TypeId)
+      → IsJudgement lists j
       → PassesChannel lists x j v t k → IsOfType k w own → IsOfType j w own
   of-type_back w own h (shared its found alike) is_of = is_of
   of-type_back w own h (linear its unshared found alike) (inl reference) = inl reference
@@ -76,7 +90,8 @@ module _ {lists : ProgramLists} {x : Annotations} where
 
   -- what passes among others has a type before them
   pub passed-of_type : {j : Judgement} {vs : List VarId} {pars : List (VarId × TypeId)} {left : Judgement} {v : VarId}
-      {par : VarId × TypeId} → IsJudgement lists j → PassesChannels lists x j vs pars left → Contains (zip vs pars) (v, par)
+      {par : VarId × TypeId} → IsJudgement lists j → PassesChannels lists x j vs pars left
+      → Contains (zip vs pars) (v, par)
       → (own : TypeId) × IsOfType j v own
   passed-of_type h none (i, inside, same) = absurd (omega arith)
   passed-of_type {j = j} {v = v} h (channel {v = w} first rest) (zero, inside, same) =
@@ -100,7 +115,8 @@ module _ {lists : ProgramLists} {x : Annotations} where
 
 -- a reference does not pass where the types are not alike
 reference-stays : (lists : ProgramLists) (j : Judgement) (v : VarId) (own t : TypeId) (k : Judgement)
-    → bound_to v.0 j.shared ≡ Some own → ¬ (AlikeTypes lists no_amounts own t) → ¬ (PassesChannel lists no_amounts j v t k)
+    → bound_to v.0 j.shared ≡ Some own → ¬ (AlikeTypes lists no_amounts own t)
+    → ¬ (PassesChannel lists no_amounts j v t k)
 reference-stays lists j v own t k found differ (shared its there alike) =
     let same : its ≡ own = cc in
     differ (subst (λ (u : TypeId). AlikeTypes lists no_amounts u t) same alike)
@@ -117,17 +133,21 @@ reference-passes lists s v own t old new found true (alike, joins) = record {
   is_of = inl found;
   joins = joins;
 }
-reference-passes lists s v own t old new found false differ = λ k. reference-stays lists (shape_of s) v own t k found differ
+reference-passes lists s v own t old new found false differ = λ k. reference-stays lists
+    (shape_of s) v own t k found differ
 
 -- a channel that is not there does not pass
-pub nothing-passes : (lists : ProgramLists) (j : Judgement) (v : VarId) (t : TypeId) (k : Judgement) → bound_to v.0 j.shared ≡ None
+pub nothing-passes : (lists : ProgramLists) (j : Judgement) (v : VarId) (t : TypeId) (k : Judgement)
+    → bound_to v.0 j.shared ≡ None
     → bound_to v.0 j.linear ≡ None → ¬ (PassesChannel lists no_amounts j v t k)
 nothing-passes lists j v t k unshared unheld (shared own there alike) = cc
 nothing-passes lists j v t k unshared unheld (linear own _ there alike) = cc
 
 -- a channel does not pass where the types are not alike
-pub channel-stays : (lists : ProgramLists) (j : Judgement) (v : VarId) (own t : TypeId) (k : Judgement) → bound_to v.0 j.shared ≡ None
-    → bound_to v.0 j.linear ≡ Some own → ¬ (AlikeTypes lists no_amounts own t) → ¬ (PassesChannel lists no_amounts j v t k)
+pub channel-stays : (lists : ProgramLists) (j : Judgement) (v : VarId) (own t : TypeId) (k : Judgement)
+    → bound_to v.0 j.shared ≡ None
+    → bound_to v.0 j.linear ≡ Some own → ¬ (AlikeTypes lists no_amounts own t)
+    → ¬ (PassesChannel lists no_amounts j v t k)
 channel-stays lists j v own t k unshared held differ (shared its there alike) = cc
 channel-stays lists j v own t k unshared held differ (linear its _ there alike) =
     let same : its ≡ own = cc in
@@ -140,7 +160,8 @@ pub channel-passes : (lists : ProgramLists) (s : Standing) (v : VarId) (own t : 
     → ChannelPassed lists s (record s { linear = left }) v t old new
 channel-passes lists s v own t old new left unshared held is (alike, joins) =
     let j = shape_of s in
-    let Passes : List (VarId × TypeId) → Type 0 = λ cs. PassesChannel lists no_amounts j v t (record j { linear = cs }) in
+    let Passes : List (VarId × TypeId) → Type 0 = λ cs. PassesChannel lists no_amounts j v t
+    (record j { linear = cs }) in
     record {
       passes = subst Passes (sym is) (linear own unshared held alike);
       amounts = record { lists = refl; potential = refl };
@@ -175,7 +196,15 @@ channel-pairs lists s between next v vs par pars old mid new h first rest = λ p
     to pair has = elim ((rest.joins pair).0 has) [
       | inl middle ↦ elim ((first.joins pair).0 middle) [
         | inl before ↦ inl before
-        | inr paths ↦ inr (record { v = v; par = par; own = first.own; passes = (0, omega arith, refl); is_of = first.is_of; paths = paths })
+        | inr paths ↦ inr (record {
+          v = v;
+          par = par;
+          own = first.own;
+          passes =
+              (0, omega arith, refl);
+          is_of = first.is_of;
+          paths = paths;
+        })
       ]
       | inr p ↦ inr (record {
         v = p.v;
@@ -192,9 +221,18 @@ channel-pairs lists s between next v vs par pars old mid new h first rest = λ p
     later pair i p among =
         let after = (passes-channel_left h first.passes).judgement in
         let (its, is_of) = passed-of_type after rest.passes among in
-        let one : its ≡ p.own = of-type_unique lists (shape_of s) p.v its p.own h (of-type_back p.v its h first.passes is_of) p.is_of in
+        let one : its ≡ p.own = of-type_unique lists (shape_of s) p.v its p.own h
+        (of-type_back p.v its h first.passes is_of) p.is_of in
         let of_own = subst (λ (t : TypeId). IsOfType (shape_of between) p.v t) one is_of in
-        (rest.joins pair).1 (inr (record { v = p.v; par = p.par; own = p.own; passes = among; is_of = of_own; paths = p.paths }))
+        (rest.joins pair).1 (inr (record {
+          v = p.v;
+          par = p.par;
+          own = p.own;
+          passes = among;
+          is_of = of_own;
+          paths =
+              p.paths;
+        }))
 
     at : (pair : Amount × Amount) (p : PairOfChannels lists (shape_of s) (v ∷ vs) (par ∷ pars) pair)
         → Contains (zip (v ∷ vs) (par ∷ pars)) (p.v, p.par) → HasPair new pair
@@ -214,7 +252,8 @@ channel-pairs lists s between next v vs par pars old mid new h first rest = λ p
     from pair (inr p) = at pair p p.passes
 
 -- one channel passes, and then the others
-pub channels-more : (lists : ProgramLists) (s between next : Standing) (v : VarId) (vs : List VarId) (par : VarId × TypeId)
+pub channels-more : (lists : ProgramLists) (s between next : Standing) (v : VarId) (vs : List VarId) (par : VarId
+    × TypeId)
     (pars : List (VarId × TypeId)) (old mid new : Asked) → IsJudgement lists (shape_of s)
     → ChannelPassed lists s between v par.1 old mid → ChannelsPassed lists between next vs pars mid new
     → ChannelsPassed lists s next (v ∷ vs) (par ∷ pars) old new
@@ -238,7 +277,8 @@ pub channels-first : (lists : ProgramLists) (j left : Judgement) (v : VarId) (vs
 channels-first lists j left v vs par pars (channel {k = k} first rest) = (k, first)
 
 -- there are as many channels as parameters
-pub channels-count : (lists : ProgramLists) (j : Judgement) (vs : List VarId) (pars : List (VarId × TypeId)) (left : Judgement)
+pub channels-count : (lists : ProgramLists) (j : Judgement) (vs : List VarId) (pars : List (VarId
+    × TypeId)) (left : Judgement)
     → PassesChannels lists no_amounts j vs pars left → length vs ≡ length pars
 channels-count lists j _ _ left none = refl
 channels-count lists j _ _ left (channel {k = k} {vs = vs} {pars = pars} first rest) =
@@ -262,24 +302,28 @@ module _ (lists : ProgramLists) (vs : List VarId) (pars : List (VarId × TypeId)
       → ChannelPassed lists now between (get_or vs i dv) (get_or pars i dp).1 asked mid
       → ((next : Standing) (new : Asked) → ChannelsPassed lists now next (drop i vs) (drop i pars) asked new
       → ChannelsPassed lists start next vs pars first new)
-      → (next : Standing) (new : Asked) → ChannelsPassed lists between next (drop (i + 1) vs) (drop (i + 1) pars) mid new
+      → (next : Standing) (new : Asked) → ChannelsPassed lists between next (drop (i + 1) vs) (drop
+      (i + 1) pars) mid new
       → ChannelsPassed lists start next vs pars first new
   turn-whole start now between first asked mid h here whole next new rest =
       let v = get_or vs i dv in
       let par = get_or pars i dp in
-      let more = channels-more lists now between next v (drop (i + 1) vs) par (drop (i + 1) pars) asked mid new h here rest in
+      let more = channels-more lists now between next v (drop (i + 1) vs) par (drop
+      (i + 1) pars) asked mid new h here rest in
       let Passed : List VarId → List (VarId × TypeId) → Type 0 = λ a b. ChannelsPassed lists now next a b asked new in
       whole next new (subst₂ Passed (sym (drop_more vs i dv in_vs)) (sym (drop_more pars i dp in_pars)) more)
 
   -- where all channels pass, those after this turn pass
-  pub turn-rest : (start now between : Judgement) → PassesChannel lists no_amounts now (get_or vs i dv) (get_or pars i dp).1 between
+  pub turn-rest : (start now between : Judgement) → PassesChannel lists no_amounts now (get_or vs i dv)
+      (get_or pars i dp).1 between
       → ((left : Judgement) → PassesChannels lists no_amounts start vs pars left
       → PassesChannels lists no_amounts now (drop i vs) (drop i pars) left)
       → (left : Judgement) → PassesChannels lists no_amounts start vs pars left
       → PassesChannels lists no_amounts between (drop (i + 1) vs) (drop (i + 1) pars) left
   turn-rest start now between here rest left all =
       let Passes : List VarId → List (VarId × TypeId) → Type 0 = λ a b. PassesChannels lists no_amounts now a b left in
-      channels-rest lists now between left (get_or vs i dv) (drop (i + 1) vs) (get_or pars i dp) (drop (i + 1) pars) here
+      channels-rest lists now between left (get_or vs i dv) (drop (i + 1) vs) (get_or pars i dp) (drop
+      (i + 1) pars) here
       (subst₂ Passes (drop_more vs i dv in_vs) (drop_more pars i dp in_pars) (rest left all))
 
   -- where the channel of this turn does not pass, all do not

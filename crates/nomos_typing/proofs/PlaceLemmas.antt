@@ -32,7 +32,8 @@ module _ {X : Type 0} (v : VarId) where
       ∙ bound-behind front back (All-tail Lower e front lower)
 
   -- it is bound there
-  bind-behind : (x : X) (front back : List (VarId × X)) → All Lower front → bind v x (front ++ back) ≡ front ++ bind v x back
+  bind-behind : (x : X) (front back : List (VarId × X)) → All Lower front
+      → bind v x (front ++ back) ≡ front ++ bind v x back
   bind-behind x [] back lower = refl
   bind-behind x (e ∷ front) back lower =
       let first : e.0.0 < v.0 = All-head Lower e front lower in
@@ -42,7 +43,8 @@ module _ {X : Type 0} (v : VarId) where
       ∙ ap (λ r. e ∷ r) (bind-behind x front back (All-tail Lower e front lower))
 
   -- and unbound there
-  unbind-behind : (front back : List (VarId × X)) → All Lower front → unbind v.0 (front ++ back) ≡ front ++ unbind v.0 back
+  unbind-behind : (front back : List (VarId × X)) → All Lower front
+      → unbind v.0 (front ++ back) ≡ front ++ unbind v.0 back
   unbind-behind [] back lower = refl
   unbind-behind (e ∷ front) back lower =
       let first : e.0.0 < v.0 = All-head Lower e front lower in
@@ -95,11 +97,13 @@ module _ {X : Type 0} (v : VarId) where
     pub place-bound : (d : VarId × X) → StandsAt v b i → Some (get_or b i d).1 ≡ bound_to v.0 b
     place-bound d at =
         let back = get_or b i d ∷ drop (i + 1) b in
-        sym (ap (bound_to v.0) (parted d at.within) ∙ bound-behind (take i b) back at.front ∙ bound-here (get_or b i d) (drop (i + 1) b) (at.here d))
+        sym (ap (bound_to v.0) (parted d at.within) ∙ bound-behind (take i b) back at.front ∙ bound-here
+        (get_or b i d) (drop (i + 1) b) (at.here d))
 
     pub place-unbound : PartsAt v b i → None ≡ bound_to v.0 b
     place-unbound at =
-        sym (ap (bound_to v.0) (sym (take-append-drop i b)) ∙ bound-behind (take i b) (drop i b) at.front ∙ bound-before (drop i b) at.back)
+        sym (ap (bound_to v.0) (sym (take-append-drop i b)) ∙ bound-behind (take i b)
+        (drop i b) at.front ∙ bound-before (drop i b) at.back)
 
     -- how it is bound
     pub place-set : (d : VarId × X) (x : X) → StandsAt v b i → set b i ((get_or b i d).0, x) ≡ bind v x b
@@ -107,11 +111,13 @@ module _ {X : Type 0} (v : VarId) where
         let e = get_or b i d in
         let rest = drop (i + 1) b in
         let made : set b i (e.0, x) ≡ take i b ++ ((e.0, x) ∷ rest) = rw add-one (set_split b i (e.0, x) at.within) in
-        made ∙ sym (ap (bind v x) (parted d at.within) ∙ bind-behind x (take i b) (e ∷ rest) at.front ∙ ap (λ r. take i b ++ r) (bind-here x e rest (at.here d)))
+        made ∙ sym (ap (bind v x) (parted d at.within) ∙ bind-behind x (take i b) (e ∷ rest) at.front ∙ ap
+        (λ r. take i b ++ r) (bind-here x e rest (at.here d)))
 
     pub place-insert : (x : X) → PartsAt v b i → insert b i (v, x) ≡ bind v x b
     place-insert x at =
-        sym (ap (bind v x) (sym (take-append-drop i b)) ∙ bind-behind x (take i b) (drop i b) at.front ∙ ap (λ r. take i b ++ r) (bind-before x (drop i b) at.back))
+        sym (ap (bind v x) (sym (take-append-drop i b)) ∙ bind-behind x (take i b) (drop i b) at.front ∙ ap
+        (λ r. take i b ++ r) (bind-before x (drop i b) at.back))
 
     -- how it is unbound
     pub place-remove : (d : VarId × X) → StandsAt v b i → remove b i ≡ unbind v.0 b
@@ -119,16 +125,19 @@ module _ {X : Type 0} (v : VarId) where
         let e = get_or b i d in
         let rest = drop (i + 1) b in
         let made : remove b i ≡ take i b ++ rest = rw add-one refl in
-        made ∙ sym (ap (unbind v.0) (parted d at.within) ∙ unbind-behind (take i b) (e ∷ rest) at.front ∙ ap (λ r. take i b ++ r) (unbind-here e rest (at.here d)))
+        made ∙ sym (ap (unbind v.0) (parted d at.within) ∙ unbind-behind (take i b) (e ∷ rest) at.front ∙ ap
+        (λ r. take i b ++ r) (unbind-here e rest (at.here d)))
 
     pub place-absent : PartsAt v b i → b ≡ unbind v.0 b
     place-absent at =
-        sym (ap (unbind v.0) (sym (take-append-drop i b)) ∙ unbind-behind (take i b) (drop i b) at.front ∙ ap (λ r. take i b ++ r) (unbind-before (drop i b) at.back) ∙ take-append-drop i b)
+        sym (ap (unbind v.0) (sym (take-append-drop i b)) ∙ unbind-behind (take i b) (drop i b) at.front ∙ ap
+        (λ r. take i b ++ r) (unbind-before (drop i b) at.back) ∙ take-append-drop i b)
 
   -- ---- what a binary search finds
 
   -- the variables rise with their places
-  rises : (b : List (VarId × X)) (i j : ℕ) (d e : VarId × X) → IsAscending b → i < j → j < length b → (get_or b i d).0.0 < (get_or b j e).0.0
+  rises : (b : List (VarId × X)) (i j : ℕ) (d e : VarId × X) → IsAscending b → i < j → j < length b
+      → (get_or b i d).0.0 < (get_or b j e).0.0
   rises b i j d e ascending lower within =
       let less = Less-from_sorted by_number (keys_of b) i j d.0 ascending lower (rw length-map within) in
       let first = get_or-map (λ (p : VarId × X). p.0) b i d d.0 (omega arith) in
@@ -139,13 +148,16 @@ module _ {X : Type 0} (v : VarId) where
   -- so the pairs are sorted as a search needs it
   sorted : (b : List (VarId × X)) → IsAscending b → IsSortedBy (λ (e f : VarId × X). is_lt (nat_cmp e.0.0 f.0.0)) b
   sorted b ascending = λ k d from within.
-      let rising : (get_or b k d).0.0 < (get_or b (k + 1) d).0.0 = rises b k (k + 1) d d ascending (omega arith) within in
+      let rising : (get_or b k d).0.0 < (get_or b (k + 1) d).0.0 = rises b k (k + 1) d d ascending
+      (omega arith) within in
       ap is_lt (sym (nat_cmp_is (get_or b (k + 1) d).0.0 (get_or b k d).0.0 Greater rising))
 
   -- what a search by the variable finds is its place
-  pub place-found : (b : List (VarId × X)) (r : Result ℕ ℕ) → IsAscending b → IsSearchInRange r (length b) → IsBinarySearchResult (λ e. nat_cmp e.0.0 v.0) b r → IsPlaceOf v b r
+  pub place-found : (b : List (VarId × X)) (r : Result ℕ ℕ) → IsAscending b → IsSearchInRange r (length b)
+      → IsBinarySearchResult (λ e. nat_cmp e.0.0 v.0) b r → IsPlaceOf v b r
   place-found b (Ok i) ascending within found =
-      let here : (e : VarId × X) → (get_or b i e).0.0 ≡ v.0 = λ e. ranked (get_or b i e).0.0 v.0 Equal (sym (found e)) in
+      let here : (e : VarId × X) → (get_or b i e).0.0 ≡ v.0 = λ e. ranked (get_or b i e).0.0 v.0 Equal (sym
+      (found e)) in
       record {
         within = within;
         front = λ k d before.
@@ -164,11 +176,13 @@ module _ {X : Type 0} (v : VarId) where
             rw (get_or-take i b k d below) (ranked (get_or b k d).0.0 v.0 Less (sym (parts.0 k d (omega arith) below)));
         back = λ k d behind.
             let below : i + k < length b = omega (arith, length-drop i b) in
-            rw (get_or-drop i b k d) (ranked (get_or b (i + k) d).0.0 v.0 Greater (sym (parts.1 (i + k) d (omega arith) below)));
+            rw (get_or-drop i b k d) (ranked (get_or b (i + k) d).0.0 v.0 Greater (sym (parts.1 (i + k) d
+            (omega arith) below)));
       }
 
 -- pairs stay in order whether or not the variable was bound in them
-pub put-ascending : {X T E : Type 0} (r : Result T E) (v : VarId) (x : X) (old new : List (VarId × X)) → OnOk r (new ≡ bind v x old) → OnErr r (new ≡ old) → IsAscending old → IsAscending new
+pub put-ascending : {X T E : Type 0} (r : Result T E) (v : VarId) (x : X) (old new : List (VarId × X))
+    → OnOk r (new ≡ bind v x old) → OnErr r (new ≡ old) → IsAscending old → IsAscending new
 put-ascending {X = X} (Ok done) v x old new made kept ascending =
     subst (λ (l : List (VarId × X)). IsAscending l) (sym made) (bind-ascending v x old ascending)
 put-ascending {X = X} (Err why) v x old new made kept ascending =

@@ -13,7 +13,8 @@ use Rattle.nomos_typing.specs.mirror.Walking.{LeadsFrom, here, later}
 
 module _ {lists : ProgramLists} where
   -- one place further
-  pub leads-more : {i j k : Judgement} {c a b : Account} → LeadsFrom lists i c j a → (n : CodeNode) (after : List Judgement)
+  pub leads-more : {i j k : Judgement} {c a b : Account} → LeadsFrom lists i c j a
+      → (n : CodeNode) (after : List Judgement)
       → StandsAtCode lists j n → Row lists no_amounts j after → Contains (zip after (accounts_after lists n a)) (k, b)
       → LeadsFrom lists i c k b
   leads-more here n after stands row among = later n after stands row among here
@@ -24,7 +25,8 @@ module _ {lists : ProgramLists} where
   pub leads-through : {i j k : Judgement} {c a b : Account} → LeadsFrom lists i c j a → LeadsFrom lists j a k b
       → LeadsFrom lists i c k b
   leads-through here second = second
-  leads-through (later m first there line inside rest) second = later m first there line inside (leads-through rest second)
+  leads-through (later m first there line inside rest) second = later m first there line inside
+      (leads-through rest second)
 
   -- what a declaration reaches is where its start leads
   pub reaches-leads : {d : ProcDecl} {j : Judgement} {a : Account} → GetsTo lists d j a

@@ -74,7 +74,8 @@ module _ (lists : ProgramLists) (j : Judgement) where
   released-found v a None free none = λ t says. none t says.channel
 
   -- what stands behind a reference
-  pub reference-found : (a : VarId) (own u : TypeId) (n : TypeNode) (o : Option TypeId) → bound_to a.0 j.shared ≡ Some own
+  pub reference-found : (a : VarId) (own u : TypeId) (n : TypeNode) (o : Option TypeId)
+      → bound_to a.0 j.shared ≡ Some own
       → IsUnfolding lists own.0 u.0 → type_node lists u.0 ≡ Some n → IsFound (λ t. node.Up t ≡ n) o
       → IsFound (λ t. (s : TypeId) × (bound_to a.0 j.shared ≡ Some s) × Unfolds lists s.0 (node.Up t)) o
   reference-found a own u n (Some t) bound at there found =
@@ -117,7 +118,10 @@ module _ (lists : ProgramLists) (j : Judgement) where
   carried-in_range chan.Own a t formed h typed =
       part-in_range chan.Own (node.Lolli a t) a formed h typed (λ m. (carried_mode lists m a, (0, omega arith, refl)))
   carried-in_range (chan.Var v) a t formed h typed =
-      part-in_range (chan.Var v) (node.Tensor a t) a formed h typed (λ m. (carried_mode lists m a, (0, omega arith, refl)))
+      part-in_range (chan.Var v) (node.Tensor a t) a formed h typed (λ m. (
+        carried_mode lists m a,
+        (0, omega arith, refl),
+      ))
 
   -- and so has one that is sent
   pub sent-in_range : (c : Chan) (a t : TypeId) → IsWellFormed lists → IsJudgement lists j
@@ -125,4 +129,7 @@ module _ (lists : ProgramLists) (j : Judgement) where
   sent-in_range chan.Own a t formed h typed =
       part-in_range chan.Own (node.Tensor a t) a formed h typed (λ m. (carried_mode lists m a, (0, omega arith, refl)))
   sent-in_range (chan.Var v) a t formed h typed =
-      part-in_range (chan.Var v) (node.Lolli a t) a formed h typed (λ m. (carried_mode lists m a, (0, omega arith, refl)))
+      part-in_range (chan.Var v) (node.Lolli a t) a formed h typed (λ m. (
+        carried_mode lists m a,
+        (0, omega arith, refl),
+      ))

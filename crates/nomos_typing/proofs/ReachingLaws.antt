@@ -123,4 +123,5 @@ module _ {lists : ProgramLists} {d : ProcDecl} (p : ℕ) (formed : IsWellFormed 
       let firsts = judgements-paired (each-beside formed s.judgement s.beside row there row) in
       let pairs = zip after (accounts_after lists n c) in
       pair-parts j k a b
-      (one-at_place formed.program (λ (q : Judgement × Account). q.0) pairs after (j, a) (k, b) row firsts among here same)
+      (one-at_place formed.program (λ (q : Judgement × Account). q.0) pairs after (j, a)
+      (k, b) row firsts among here same)

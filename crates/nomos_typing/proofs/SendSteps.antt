@@ -36,7 +36,8 @@ module _ (lists : ProgramLists) (j : Judgement) where
       subst (λ (u : TypeId). PassesChannel lists no_amounts j y u left) same says.passes
 
   -- the pairs that sending a channel asks for
-  pub send-asks : (a : Account) (at : ℕ) (c : Chan) (y : VarId) (next : CodeId) (carried t own : TypeId) → IsJudgement lists j
+  pub send-asks : (a : Account) (at : ℕ) (c : Chan) (y : VarId) (next : CodeId) (carried t own : TypeId)
+      → IsJudgement lists j
       → StandsAtCode lists j (code.Send at c y next)
       → HasType lists j c (by_side c (node.Tensor carried t) (node.Lolli carried t)) → IsOfType j y own
       → (pair : Amount × Amount) → StandAtEqualPaths lists own carried pair ↔ AsksPair lists j a pair

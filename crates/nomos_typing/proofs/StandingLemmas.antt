@@ -36,9 +36,11 @@ module _ {X Y : Type 0} (f : X → Y) where
   each-bind v x (e ∷ b) =
       let others = map change b in
       each-placed v x e b (bind v x b) (by_number v e.0)
-      ∙ ap (λ (rest : List (VarId × Y)). match_ordering (by_number v e.0) ((v, f x) ∷ change e ∷ others) ((e.0, f x) ∷ others) (change e ∷ rest)) (each-bind v x b)
+      ∙ ap (λ (rest : List (VarId × Y)). match_ordering (by_number v e.0) ((v, f x) ∷ change e ∷ others)
+      ((e.0, f x) ∷ others) (change e ∷ rest)) (each-bind v x b)
 
-  each-dropped : (e : VarId × X) (b rest : List (VarId × X)) (t : Bool) → map change (cond t b (e ∷ rest)) ≡ cond t (map change b) (change e ∷ map change rest)
+  each-dropped : (e : VarId × X) (b rest : List (VarId × X)) (t : Bool)
+      → map change (cond t b (e ∷ rest)) ≡ cond t (map change b) (change e ∷ map change rest)
   each-dropped e b rest true = refl
   each-dropped e b rest false = refl
 
@@ -48,7 +50,8 @@ module _ {X Y : Type 0} (f : X → Y) where
       each-dropped e b (unbind v b) (e.0.0 == v)
       ∙ ap (λ (rest : List (VarId × Y)). cond (e.0.0 == v) (map change b) (change e ∷ rest)) (each-unbind v b)
 
-  each-found : (x : X) (rest : Option X) (t : Bool) → cond t (Some (f x)) (option_map f rest) ≡ option_map f (cond t (Some x) rest)
+  each-found : (x : X) (rest : Option X) (t : Bool) → cond t (Some (f x)) (option_map f rest) ≡ option_map f (cond t
+      (Some x) rest)
   each-found x rest true = refl
   each-found x rest false = refl
 

@@ -29,7 +29,8 @@ use Rattle.nomos_typing.specs.mirror.Standing.{each_bound, shape_of_list, amount
 use Rattle.nomos_typing.specs.mirror.Starting.{carried_par, kinds_of, lists_of, picks, IsStartOf}
 
 -- channel parameters have the modes as which they are taken
-pub channels-have : (lists : ProgramLists) (p : ℕ) (d : ProcDecl) (cs : List (VarId × TypeId)) → slice_get lists.procs p ≡ Some d
+pub channels-have : (lists : ProgramLists) (p : ℕ) (d : ProcDecl) (cs : List (VarId × TypeId))
+    → slice_get lists.procs p ≡ Some d
     → cs ≡ d.channels → All (λ par. HasMode lists par.1 (parameter_mode lists par.1)) cs
 channels-have lists p d cs found same =
     let Has : VarId × TypeId → Type 0 = λ par. HasMode lists par.1 (parameter_mode lists par.1) in
@@ -52,7 +53,8 @@ none-room n f r lists is amount count =
         width = refl;
         coefs =
             All-map IsSmall (coef_of no_account) stars
-            (All-weaker (Contains stars) (λ (k : ℕ). IsSmall (coef_of no_account k)) (λ k among. zero) stars (All-contains_itself stars));
+            (All-weaker (Contains stars) (λ (k : ℕ). IsSmall (coef_of no_account k)) (λ k among. zero) stars
+            (All-contains_itself stars));
         plus = zero;
       };
       small = amount.small;
@@ -79,7 +81,8 @@ par-amount v kind (Some r) = refl
 
 module _ {Y : Type 0} (f : Carried → Y) (to : Par → List (VarId × Y))
     (each : (par : Par) → each_bound f (carried_par par.var par.kind par.amount) ≡ to par) where
-  pars-mapped : (pars : List Par) → each_bound f (flat_map (λ par. carried_par par.var par.kind par.amount) pars) ≡ flat_map to pars
+  pars-mapped : (pars : List Par) → each_bound f (flat_map (λ par. carried_par par.var par.kind par.amount) pars) ≡
+      flat_map to pars
   pars-mapped [] = refl
   pars-mapped (par ∷ pars) =
       let here = carried_par par.var par.kind par.amount in
@@ -90,20 +93,44 @@ module _ {Y : Type 0} (f : Carried → Y) (to : Par → List (VarId × Y))
 
   lists-mapped : (d : ProcDecl) → each_bound f (lists_of d) ≡ bindings_of (flat_map to d.values)
   lists-mapped d =
-      each-bindings f (flat_map (λ (q : Par). carried_par q.var q.kind q.amount) d.values) ∙ ap bindings_of (pars-mapped d.values)
+      each-bindings f (flat_map (λ (q : Par). carried_par q.var q.kind q.amount) d.values) ∙ ap bindings_of
+      (pars-mapped d.values)
 
 -- the standing that is made so is that where the declaration begins
-pub start-is : (lists : ProgramLists) (n : ℕ) (d : ProcDecl) (kinds : List (VarId × Kind)) (carried : List (VarId × Carried))
+pub start-is : (lists : ProgramLists) (n : ℕ) (d : ProcDecl) (kinds : List (VarId × Kind)) (carried : List (VarId
+    × Carried))
     (shared linear : List (VarId × TypeId)) (zero potential : Form) → kinds ≡ kinds_of d → carried ≡ lists_of d
     → shared ≡ bindings_of (filter (λ par. picks true (is_shared lists par)) d.channels)
     → linear ≡ bindings_of (filter (λ par. picks false (is_shared lists par)) d.channels) → zero ≡ form_of n no_account
     → ((m : ℕ) (a : Account) → zero ≡ form_of m a → potential ≡ form_of m (gains d.amount a))
-    → IsStartOf lists n d (record { mode = d.mode; kinds = kinds; lists = carried; shared = shared; linear = linear; potential = potential; code = d.first; offers = d.offers })
-start-is lists n d kinds carried shared linear zero potential of_kinds of_lists of_shared of_linear of_zero of_potential =
-    let shapes = lists-mapped shape_of_list (λ (par : Par). list_par no_amounts par.var par.kind par.amount) (λ par. par-shape par.var par.kind par.amount) d in
-    let amounts = lists-mapped amount_of (λ (par : Par). carried_by par.var par.amount) (λ par. par-amount par.var par.kind par.amount) d in
-    let J : List (VarId × Kind) → List (VarId × ListType) → List (VarId × TypeId) → List (VarId × TypeId) → ℕ → Judgement =
-    λ ks ls sh li q. record { mode = d.mode; kinds = ks; lists = ls; shared = sh; linear = li; q = q; code = d.first; offers = d.offers }
+    → IsStartOf lists n d (record {
+      mode = d.mode;
+      kinds = kinds;
+      lists = carried;
+      shared = shared;
+      linear = linear;
+      potential = potential;
+      code = d.first;
+      offers = d.offers;
+    })
+start-is lists n d kinds carried shared linear zero potential of_kinds of_lists of_shared of_linear of_zero
+    of_potential =
+    let shapes = lists-mapped shape_of_list (λ (par : Par). list_par no_amounts par.var par.kind par.amount)
+    (λ par. par-shape par.var par.kind par.amount) d in
+    let amounts = lists-mapped amount_of (λ (par : Par). carried_by par.var par.amount)
+    (λ par. par-amount par.var par.kind par.amount) d in
+    let J : List (VarId × Kind) → List (VarId × ListType) → List (VarId × TypeId) → List (VarId × TypeId) → ℕ
+    → Judgement =
+    λ ks ls sh li q. record {
+      mode = d.mode;
+      kinds = ks;
+      lists = ls;
+      shared = sh;
+      linear = li;
+      q = q;
+      code = d.first;
+      offers = d.offers;
+    }
     in
     let ls = each_bound shape_of_list carried in
     let to_lists = bindings_of (flat_map (λ (par : Par). list_par no_amounts par.var par.kind par.amount) d.values) in
@@ -112,9 +139,14 @@ start-is lists n d kinds carried shared linear zero potential of_kinds of_lists 
     record {
       shape =
           ap (λ (ks : List (VarId × Kind)). J ks ls shared linear 0) of_kinds
-          ∙ ap (λ (l : List (VarId × ListType)). J (kinds_of d) l shared linear 0) (ap (each_bound shape_of_list) of_lists ∙ shapes)
+          ∙ ap (λ (l : List (VarId × ListType)). J (kinds_of d) l shared linear 0) (ap
+          (each_bound shape_of_list) of_lists ∙ shapes)
           ∙ ap (λ (s : List (VarId × TypeId)). J (kinds_of d) to_lists s linear 0) of_shared
           ∙ ap (λ (l : List (VarId × TypeId)). J (kinds_of d) to_lists to_shared l 0) of_linear
           ∙ ap (λ (q : ℕ). J (kinds_of d) to_lists to_shared to_linear q) (sym (dths-none d.amount));
-      has = record { lists = ap (each_bound amount_of) of_lists ∙ amounts; potential = of_potential n no_account of_zero };
+      has = record {
+        lists = ap (each_bound amount_of) of_lists ∙ amounts;
+        potential = of_potential n no_account
+            of_zero;
+      };
     }

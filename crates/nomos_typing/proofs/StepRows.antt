@@ -91,7 +91,8 @@ module _ {lists : ProgramLists} {j : Judgement} where
       subst After rest (row.pay stands t says)
 
   pub pay-stuck : {at : ℕ} {c : Chan} {r : Amount} {next : CodeId} → StandsAtCode lists j (code.Pay at c r next)
-      → ((s : Amount) (t : TypeId) → ¬ (HasType lists j c (by_side c (node.PotOut s t) (node.PotIn s t)))) → NoRow lists j
+      → ((s : Amount) (t : TypeId) → ¬ (HasType lists j c (by_side c (node.PotOut s t) (node.PotIn s t))))
+      → NoRow lists j
   pay-stuck {at} {c} {r} {next} stands none after steps =
       let (t, says, same) = row-inverted (code.Pay at c r next) stands steps in none says.amount t says.channel
 
@@ -108,7 +109,8 @@ module _ {lists : ProgramLists} {j : Judgement} where
       subst After rest (row.get stands t says)
 
   pub get-stuck : {at : ℕ} {c : Chan} {r : Amount} {next : CodeId} → StandsAtCode lists j (code.Get at c r next)
-      → ((s : Amount) (t : TypeId) → ¬ (HasType lists j c (by_side c (node.PotIn s t) (node.PotOut s t)))) → NoRow lists j
+      → ((s : Amount) (t : TypeId) → ¬ (HasType lists j c (by_side c (node.PotIn s t) (node.PotOut s t))))
+      → NoRow lists j
   get-stuck {at} {c} {r} {next} stands none after steps =
       let (t, says, same) = row-inverted (code.Get at c r next) stands steps in none says.amount t says.channel
 
@@ -226,7 +228,8 @@ module _ {lists : ProgramLists} {j : Judgement} where
       subst After rest (row.add stands list says)
 
   pub add-stuck : {at : ℕ} {v : VarId} {e : TermId} {w : VarId} {next : CodeId}
-      → StandsAtCode lists j (code.Add at v e w next) → ((list : ListType) → ¬ (Adds lists j v e w list)) → NoRow lists j
+      → StandsAtCode lists j (code.Add at v e w next) → ((list : ListType) → ¬ (Adds lists j v e w list))
+      → NoRow lists j
   add-stuck {at} {v} {e} {w} {next} stands none after steps =
       let (list, says, same) = row-inverted (code.Add at v e w next) stands steps in none list says
 

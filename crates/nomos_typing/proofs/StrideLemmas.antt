@@ -24,7 +24,8 @@ use Rattle.nomos_typing.specs.mirror.Standing.{shape_of, HasAccount, NoRow, Lead
 use Rattle.nomos_typing.specs.mirror.Stops.{first_stuck}
 use Rattle.nomos_typing.specs.mirror.Walking.{HasRow, Notes, Visits, Going, Goes, IsOnWay}
 
-module _ (lists : ProgramLists) (s : Standing) (old noted : Walk) (notes : Notes lists s old noted) (asked : Asked) where
+module _ (lists : ProgramLists) (s : Standing) (old noted : Walk) (notes : Notes lists s old noted)
+    (asked : Asked) where
   -- a standing at which a rule applies was visited
   visits-row : (todo : List Forks) → JoinsAsked lists s noted.asked asked → HasRow lists (shape_of s)
       → Visits lists s old (record noted { asked = asked; todo = todo })
@@ -36,13 +37,23 @@ module _ (lists : ProgramLists) (s : Standing) (old noted : Walk) (notes : Notes
 
   -- one that is stuck was visited
   visits-stop : (n : CodeNode) → StandsAtCode lists (shape_of s) n → NoRow lists (shape_of s)
-      → Visits lists s old (record noted { asked = asked; stuck = first_stuck noted.stuck (record { at = code_offset n; form = code_form n }) })
+      → Visits lists s old (record noted {
+        asked = asked;
+        stuck = first_stuck noted.stuck
+            (record { at = code_offset n; form = code_form n });
+      })
   visits-stop n stands none =
       let here : Stuck = record { at = code_offset n; form = code_form n } in
       record {
         forms = notes.forms;
         pairs = λ free. absurd (first-some noted.stuck here free);
-        stuck = inr (record { no_row = none; node = n; stands = stands; counts = ap (λ (o : Option Stuck). first_stuck o here) notes.stuck });
+        stuck = inr (record {
+          no_row = none;
+          node = n;
+          stands = stands;
+          counts = ap (λ
+              (o : Option Stuck). first_stuck o here) notes.stuck;
+        });
       }
 
 module _ (lists : ProgramLists) (formed : IsWellFormed lists) (first s next : Standing) (old between noted : Walk)
@@ -55,15 +66,24 @@ module _ (lists : ProgramLists) (formed : IsWellFormed lists) (first s next : St
       let row : Row lists no_amounts (shape_of s) [] = subst (StepTells lists s next) is tells in
       let joins : JoinsAsked lists s noted.asked asked = subst (StepAsks lists s noted.asked asked) is asks in
       let visits = visits-row lists s between noted notes asked noted.todo joins ([], row) in
-      goes-end lists formed first s old between (record noted { asked = asked }) going visits notes.todo on_way.reached.account on_way.reached.has
+      goes-end lists formed first s old between (record noted { asked = asked }) going visits notes.todo
+      on_way.reached.account on_way.reached.has
       (λ after other. row-unique no_amounts formed.program other row)
 
   -- the code is stuck
   pub stride-stops : found ≡ step.Stuck → (n : CodeNode) → StandsAtCode lists (shape_of s) n
-      → Goes lists (star_count lists) first old (record noted { asked = asked; stuck = first_stuck noted.stuck (record { at = code_offset n; form = code_form n }) })
+      → Goes lists (star_count lists) first old (record noted {
+        asked = asked;
+        stuck = first_stuck noted.stuck
+            (record { at = code_offset n; form = code_form n });
+      })
   stride-stops is n stands =
       let none : NoRow lists (shape_of s) = subst (StepTells lists s next) is tells in
-      let new : Walk = record noted { asked = asked; stuck = first_stuck noted.stuck (record { at = code_offset n; form = code_form n }) } in
+      let new : Walk = record noted {
+        asked = asked;
+        stuck = first_stuck noted.stuck
+            (record { at = code_offset n; form = code_form n });
+      } in
       let visits = visits-stop lists s between noted notes asked n stands none in
       goes-end lists formed first s old between new going visits notes.todo on_way.reached.account on_way.reached.has
       (λ after other. absurd (none after other))
@@ -77,7 +97,8 @@ module _ (lists : ProgramLists) (formed : IsWellFormed lists) (first s next : St
     stride-next =
         let joins : JoinsAsked lists s noted.asked asked = subst (StepAsks lists s noted.asked asked) is asks in
         let visits = visits-row lists s between noted notes asked noted.todo joins (shape_of next ∷ [], leads.row) in
-        going-next lists formed first s old between (record noted { asked = asked }) going visits notes.todo on_way.reached.account on_way.reached.has
+        going-next lists formed first s old between (record noted { asked = asked }) going visits notes.todo
+        on_way.reached.account on_way.reached.has
         next leads
 
     pub stride-on_way : IsOnWay lists (star_count lists) next
@@ -102,7 +123,9 @@ module _ (lists : ProgramLists) (formed : IsWellFormed lists) (first s next : St
       let same : s ≡ f.before = sym (before ∙ parts.1) in
       let visits = visits-row lists s between noted notes asked todo joins (_, parts.0.row) in
       let a = on_way.reached.account in
-      goes-along lists formed first f old between new (subst (λ (k : Standing). Going lists n first k old between) same going)
-      (subst (λ (k : Standing). Visits lists k between new) same visits) (put ∙ ap (λ (l : List Forks). f ∷ l) notes.todo) a
+      goes-along lists formed first f old between new (subst (λ
+      (k : Standing). Going lists n first k old between) same going)
+      (subst (λ (k : Standing). Visits lists k between new) same visits) (put ∙ ap (λ
+      (l : List Forks). f ∷ l) notes.todo) a
       (subst (λ (k : Standing). HasAccount n k a) same on_way.reached.has)
       (subst (λ (k : Standing). LeadsAlong lists k f.ways.items) same parts.0)

@@ -24,12 +24,33 @@ module _ {lists : ProgramLists} {x : Annotations} where
   -- judgements that are alike cover one another
   pub alike-covers : {j k : Judgement} → Alike lists x j k → Covers lists x j k
   alike-covers alike =
-      record { mode = alike.mode; kinds = alike.kinds; same_lists = alike.same_lists; shared = alike.shared; linear = alike.linear; q = omega (arith, alike.q); code = alike.code; offers = alike.offers }
+      record {
+        mode = alike.mode;
+        kinds = alike.kinds;
+        same_lists = alike.same_lists;
+        shared = alike.shared;
+        linear =
+            alike.linear;
+        q = omega (arith, alike.q);
+        code = alike.code;
+        offers = alike.offers;
+      }
 
   -- a row applies to a judgement that has a derivation
   pub derives-row : {j : Judgement} → IsWellFormed lists → Derives lists x j → HasRow lists x j
   derives-row {j} formed (by_row k q after alike enough row each) =
-      let covers : Covers lists x j (with_potential k q) = record { mode = alike.mode; kinds = alike.kinds; same_lists = alike.same_lists; shared = alike.shared; linear = alike.linear; q = omega (arith, alike.q); code = alike.code; offers = alike.offers } in
+      let covers : Covers lists x j (with_potential k q) = record {
+        mode = alike.mode;
+        kinds = alike.kinds;
+        same_lists
+            = alike.same_lists;
+        shared = alike.shared;
+        linear = alike.linear;
+        q = omega
+            (arith, alike.q);
+        code = alike.code;
+        offers = alike.offers;
+      } in
       row-covers formed covers row
 
 -- what an element is mapped to is among the mapped
@@ -39,16 +60,20 @@ contains-mapped f xs x there =
     (there.0, inside, get_or-map f xs there.0 x (f x) there.1 ∙ ap f there.2)
 
 -- a row leads to an instruction with a lower number
-pub row-descends : {lists : ProgramLists} {x : Annotations} {j k : Judgement} {after : List Judgement} → IsWellFormed lists → Row lists x j after → Contains after k → place k < place j
+pub row-descends : {lists : ProgramLists} {x : Annotations} {j k : Judgement} {after : List Judgement}
+    → IsWellFormed lists → Row lists x j after → Contains after k → place k < place j
 row-descends {lists} {x} {j} {k} {after} formed row among =
     let (n, there, says) = row-at row in
     let to : Contains (map place after) (place k) = contains-mapped place after k among in
-    let next : Contains (code_next n) (place k) = subst (λ (ns : List ℕ). Contains ns (place k)) (row-places lists x j after n says) to in
+    let next : Contains (code_next n) (place k) = subst (λ (ns : List ℕ). Contains ns (place k))
+    (row-places lists x j after n says) to in
     All-contains (λ (m : ℕ). m < place j) (code_next n) (place k) (formed.program.parts.code (place j) n there) next
 
-module _ {lists : ProgramLists} {d : ProcDecl} (p : ℕ) (formed : IsWellFormed lists) (declared : slice_get lists.procs p ≡ Some d) where
+module _ {lists : ProgramLists} {d : ProcDecl} (p : ℕ) (formed : IsWellFormed lists)
+    (declared : slice_get lists.procs p ≡ Some d) where
   -- an instruction without a row is stuck
-  pub rowless-stuck : {j : Judgement} → Follows lists no_amounts (start_of lists no_amounts d) j → ¬ (HasRow lists no_amounts j) → IsStuck lists d j
+  pub rowless-stuck : {j : Judgement} → Follows lists no_amounts (start_of lists no_amounts d) j
+      → ¬ (HasRow lists no_amounts j) → IsStuck lists d j
   rowless-stuck follows rowless =
       record { follows = follows; no_row = λ k after alike row. rowless (row-covers formed (alike-covers alike) row) }
 
@@ -64,19 +89,25 @@ module _ {lists : ProgramLists} {d : ProcDecl} (p : ℕ) (formed : IsWellFormed 
       stuck-rowless stuck (derives-row formed (derives-following formed skeleton stuck.follows))
 
   -- where each judgement that follows has a row, each has a derivation
-  rows-derive : (m : ℕ) → ((j : Judgement) → Follows lists no_amounts (start_of lists no_amounts d) j → HasRow lists no_amounts j) → (j : Judgement) → place j < m → Follows lists no_amounts (start_of lists no_amounts d) j → Derives lists no_amounts j
+  rows-derive : (m : ℕ) → ((j : Judgement) → Follows lists no_amounts (start_of lists no_amounts d) j
+      → HasRow lists no_amounts j) → (j : Judgement) → place j < m
+      → Follows lists no_amounts (start_of lists no_amounts d) j → Derives lists no_amounts j
   rows-derive zero rows j below follows = absurd (omega arith)
   rows-derive (suc m) rows j below follows =
       let is_judgement = follows-is_judgement no_amounts p formed declared follows in
       let (after, row) = rows j follows in
       by_row j j.q after (alike-same no_amounts formed.program formed.contractive is_judgement) (omega arith) row
-      (λ next among. rows-derive m rows next (omega (arith, row-descends formed row among)) (Follows.next after follows row among))
+      (λ next among. rows-derive m rows next (omega (arith, row-descends formed row among))
+      (Follows.next after follows row among))
 
   -- so there is a skeleton
-  pub rows-skeleton : ((j : Judgement) → Follows lists no_amounts (start_of lists no_amounts d) j → HasRow lists no_amounts j) → HasSkeleton lists d
+  pub rows-skeleton : ((j : Judgement) → Follows lists no_amounts (start_of lists no_amounts d) j
+      → HasRow lists no_amounts j) → HasSkeleton lists d
   rows-skeleton rows =
-      rows-derive (suc (place (start_of lists no_amounts d))) rows (start_of lists no_amounts d) (omega arith) Follows.first
+      rows-derive (suc (place (start_of lists no_amounts d))) rows (start_of lists no_amounts d)
+      (omega arith) Follows.first
 
   -- where there is a skeleton, each judgement that follows has a row
-  pub skeleton-rows : HasSkeleton lists d → (j : Judgement) → Follows lists no_amounts (start_of lists no_amounts d) j → HasRow lists no_amounts j
+  pub skeleton-rows : HasSkeleton lists d → (j : Judgement) → Follows lists no_amounts
+      (start_of lists no_amounts d) j → HasRow lists no_amounts j
   skeleton-rows skeleton j follows = derives-row formed (derives-following formed skeleton follows)

@@ -30,7 +30,8 @@ module _ {lists : ProgramLists} {s : Standing} {old new : Walk} (visits : Visits
         λ at by.
         ⊎_elim (λ kept. subst (λ (o : Option Stuck). IsStuckBy o at) (sym kept.0) by)
         (λ (stop : IsFirstStop lists s old.stuck new.stuck).
-        subst (λ (o : Option Stuck). IsStuckBy o at) (sym stop.counts) (first-keeps old.stuck (stop_of stop.node) at by))
+        subst (λ (o : Option Stuck). IsStuckBy o at) (sym stop.counts) (first-keeps old.stuck
+        (stop_of stop.node) at by))
         visits.stuck;
     none =
         λ free.
@@ -46,12 +47,14 @@ module _ {lists : ProgramLists} {s : Standing} {old new : Walk} (visits : Visits
       let there = stop.stands in
       let same : stop.node ≡ n = cc in
       let by : IsStuckBy new.stuck (code_offset stop.node) =
-      subst (λ (o : Option Stuck). IsStuckBy o (code_offset stop.node)) (sym stop.counts) (first-here old.stuck (stop_of stop.node))
+      subst (λ (o : Option Stuck). IsStuckBy o (code_offset stop.node)) (sym stop.counts) (first-here old.stuck
+      (stop_of stop.node))
       in
       subst (λ (m : CodeNode). IsStuckBy new.stuck (code_offset m)) same by
 
   -- all that it asks for is done
-  pub visits-done : (a : Account) → HasAccount (star_count lists) s a → IsDone lists (star_count lists) new (shape_of s) a
+  pub visits-done : (a : Account) → HasAccount (star_count lists) s a
+      → IsDone lists (star_count lists) new (shape_of s) a
   visits-done a has = record {
     forms = λ f is. (visits.forms a has f).1 (inr is);
     pairs = λ free pair asks. (visits.pairs free a has pair).1 (inr asks);
@@ -68,7 +71,8 @@ module _ {lists : ProgramLists} {s : Standing} {old new : Walk} (visits : Visits
 
   -- and all that is gathered comes from there
   module _ {d : ProcDecl} (r : IsReached lists (star_count lists) d s) where
-    point-form : (f : Form) → IsPointAt lists (star_count lists) (shape_of s) r.account f → IsFormOf lists (star_count lists) d f
+    point-form : (f : Form) → IsPointAt lists (star_count lists) (shape_of s) r.account f
+        → IsFormOf lists (star_count lists) d f
     point-form f (IsPointAt.before same) = record { account = r.account; point = IsPoint.before r.reached; same = same }
     point-form f (IsPointAt.called stands e found same) =
         record { account = spends e.amount r.account; point = IsPoint.called r.reached stands e found; same = same }
@@ -87,7 +91,8 @@ module _ {lists : ProgramLists} {s : Standing} {old new : Walk} (visits : Visits
 
     pub visits-gathers : Gathers lists (star_count lists) d old new
     visits-gathers = record {
-      forms = λ f among. ⊎_elim (λ early. inl early) (λ is. inr (point-form f is)) ((visits.forms r.account r.has f).0 among);
+      forms = λ f among. ⊎_elim (λ early. inl early) (λ is. inr (point-form f is))
+          ((visits.forms r.account r.has f).0 among);
       pairs =
           λ free pair asked.
           ⊎_elim (λ early. inl early)
@@ -97,6 +102,7 @@ module _ {lists : ProgramLists} {s : Standing} {old new : Walk} (visits : Visits
           λ t is.
           ⊎_elim (λ kept. inl (sym kept.0 ∙ is))
           (λ (stop : IsFirstStop lists s old.stuck new.stuck).
-          ⊎_elim (λ early. inl early) (λ same. inr (stop-of stop t same)) (first-one old.stuck (stop_of stop.node) t (sym stop.counts ∙ is)))
+          ⊎_elim (λ early. inl early) (λ same. inr (stop-of stop t same)) (first-one old.stuck (stop_of stop.node) t
+          (sym stop.counts ∙ is)))
           visits.stuck;
     }

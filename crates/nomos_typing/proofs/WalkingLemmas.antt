@@ -33,7 +33,8 @@ grows-beside w todo = record {
   none = λ free. free;
 }
 
-gathers-beside : {lists : ProgramLists} {n : ℕ} {d : ProcDecl} (w : Walk) (todo : List Forks) → Gathers lists n d w (record w { todo = todo })
+gathers-beside : {lists : ProgramLists} {n : ℕ} {d : ProcDecl} (w : Walk) (todo : List Forks)
+    → Gathers lists n d w (record w { todo = todo })
 gathers-beside w todo = record {
   forms = λ f among. inl among;
   pairs = λ free pair has. inl has;
@@ -43,7 +44,8 @@ gathers-beside w todo = record {
 pub walks-beside : (lists : ProgramLists) (n : ℕ) (todo : List Forks) (w : Walk) (beside : List Forks)
     → WalksOn lists n todo w todo (record w { todo = beside })
 walks-beside lists n todo w beside = λ d i c first walking. record {
-  complete = λ j a leads. ⊎_elim (λ done. inl (done-grows (grows-beside w beside) done)) (λ left. inr left) (walking.complete j a leads);
+  complete = λ j a leads. ⊎_elim (λ done. inl (done-grows (grows-beside w beside) done)) (λ left. inr left)
+      (walking.complete j a leads);
   gathers = gathers-through walking.gathers (grows-beside w beside) (gathers-beside w beside);
   grows = grows-through walking.grows (grows-beside w beside);
   is_open = walking.is_open;
@@ -61,7 +63,14 @@ module _ (lists : ProgramLists) (n : ℕ) (f : Forks) (todo : List Forks) (w : W
         (λ here.
         let ways = ap (λ (g : Forks). g.ways.items) here in
         absurd (contains-none left.way (subst (λ (l : List Way). Contains l left.way) (sym ways ∙ none) left.inside)))
-        (λ later. inr (record { forks = left.forks; among = later; way = left.way; inside = left.inside; along = left.along }))
+        (λ later. inr (record {
+          forks = left.forks;
+          among = later;
+          way = left.way;
+          inside = left.inside;
+          along =
+              left.along;
+        }))
         (contains-cases f left.forks todo left.among))
         (walking.complete j a leads);
     gathers = walking.gathers;
@@ -70,7 +79,8 @@ module _ (lists : ProgramLists) (n : ℕ) (f : Forks) (todo : List Forks) (w : W
   }
 
   -- one way is gone
-  module _ (rest : Forks) (before : rest.before ≡ f.before) (taken : Way) (all : f.ways.items ≡ rest.ways.items ++ taken ∷ [])
+  module _ (rest : Forks) (before : rest.before ≡ f.before) (taken : Way)
+      (all : f.ways.items ≡ rest.ways.items ++ taken ∷ [])
       (s : Standing) (goes_way : GoesWay f.before taken s) where
     inside-all : Contains f.ways.items taken
     inside-all = subst (λ (l : List Way). Contains l taken) (sym all) (Contains-push rest.ways.items taken)
@@ -89,14 +99,16 @@ module _ (lists : ProgramLists) (n : ℕ) (f : Forks) (todo : List Forks) (w : W
       account = way_account along.account taken;
       has = goes_way.account n along.account along.has;
       leads =
-          subst (λ (k : Judgement). LeadsFrom lists k (way_account along.account taken) j a) (sym goes_way.shape) along.leads;
+          subst (λ (k : Judgement). LeadsFrom lists k (way_account along.account taken) j a)
+          (sym goes_way.shape) along.leads;
     }
 
     along-rest : (v : Way) (j : Judgement) (a : Account) → AlongWay lists n f v j a → AlongWay lists n rest v j a
     along-rest v j a along = record {
       account = along.account;
       has = subst (λ (k : Standing). HasAccount n k along.account) (sym before) along.has;
-      leads = subst (λ (k : Standing). LeadsFrom lists (way_shape (shape_of k) v) (way_account along.account v) j a) (sym before) along.leads;
+      leads = subst (λ (k : Standing). LeadsFrom lists (way_shape (shape_of k) v) (way_account along.account v) j a)
+          (sym before) along.leads;
     }
 
     open-rest : (d : ProcDecl) → IsOpen lists n d f → IsOpen lists n d rest
@@ -110,8 +122,10 @@ module _ (lists : ProgramLists) (n : ℕ) (f : Forks) (todo : List Forks) (w : W
           there = subst (λ (k : Standing). All (IsWayOf k) rest.ways.items) (sym before) parts.0;
           reached =
               λ v inside.
-              subst (λ (k : Standing). GetsTo lists d (way_shape (shape_of k) v) (way_account is_open.account v)) (sym before)
-              (is_open.reached v (subst (λ (l : List Way). Contains l v) (sym all) (Contains-append_left rest.ways.items (taken ∷ []) v inside)));
+              subst (λ (k : Standing). GetsTo lists d (way_shape (shape_of k) v) (way_account is_open.account v))
+              (sym before)
+              (is_open.reached v (subst (λ (l : List Way). Contains l v) (sym all)
+              (Contains-append_left rest.ways.items (taken ∷ []) v inside)));
         }
 
     -- the others are left to do, with what is added
@@ -125,7 +139,14 @@ module _ (lists : ProgramLists) (n : ℕ) (f : Forks) (todo : List Forks) (w : W
         let put : (j : Judgement) (a : Account) (g : Forks) (v : Way) → Contains (goes.added ++ rest ∷ todo) g
         → Contains g.ways.items v → AlongWay lists n g v j a → Left j a =
         λ j a g v among inside along.
-        inr (record { forks = g; among = subst (λ (l : List Forks). Contains l g) (sym goes.todo) among; way = v; inside = inside; along = along })
+        inr (record {
+          forks = g;
+          among = subst (λ (l : List Forks). Contains l g)
+              (sym goes.todo) among;
+          way = v;
+          inside = inside;
+          along = along;
+        })
         in
         record {
           complete =
@@ -135,23 +156,29 @@ module _ (lists : ProgramLists) (n : ℕ) (f : Forks) (todo : List Forks) (w : W
               ⊎_elim
               (λ here.
               let v = left.way in
-              let along : AlongWay lists n f v j a = subst (λ (g : Forks). AlongWay lists n g v j a) (sym here) left.along in
+              let along : AlongWay lists n f v j a = subst (λ (g : Forks). AlongWay lists n g v j a)
+              (sym here) left.along in
               let ways = ap (λ (g : Forks). g.ways.items) here in
-              let inside : Contains (rest.ways.items ++ taken ∷ []) v = subst (λ (l : List Way). Contains l v) (sym ways ∙ all) left.inside in
+              let inside : Contains (rest.ways.items ++ taken ∷ []) v = subst (λ (l : List Way). Contains l v)
+              (sym ways ∙ all) left.inside in
               ⊎_elim
               (λ early.
-              put j a rest v (Contains-append_right goes.added (rest ∷ todo) rest (contains-head rest rest todo refl)) early
+              put j a rest v (Contains-append_right goes.added (rest ∷ todo) rest
+              (contains-head rest rest todo refl)) early
               (along-rest v j a along))
               (λ same.
-              let mine : AlongWay lists n f taken j a = subst (λ (u : Way). AlongWay lists n f u j a) (sym same) along in
+              let mine : AlongWay lists n f taken j a = subst (λ (u : Way). AlongWay lists n f u j a)
+              (sym same) along in
               ⊎_elim (λ done. inl done)
               (λ (added : IsPending lists n goes.added j a).
-              put j a added.forks added.way (Contains-append_left goes.added (rest ∷ todo) added.forks added.among) added.inside added.along)
+              put j a added.forks added.way (Contains-append_left goes.added
+              (rest ∷ todo) added.forks added.among) added.inside added.along)
               (goes.complete j a (along-standing j a mine)))
               (Contains-push_cases rest.ways.items taken v inside))
               (λ later.
               put j a left.forks left.way
-              (Contains-append_right goes.added (rest ∷ todo) left.forks (contains-tail rest left.forks todo later)) left.inside left.along)
+              (Contains-append_right goes.added (rest ∷ todo) left.forks
+              (contains-tail rest left.forks todo later)) left.inside left.along)
               (contains-cases f left.forks todo left.among))
               (walking.complete j a leads);
           gathers =
@@ -161,7 +188,8 @@ module _ (lists : ProgramLists) (n : ℕ) (f : Forks) (todo : List Forks) (w : W
           is_open =
               subst (All (IsOpen lists n d)) (sym goes.todo)
               (All-append (IsOpen lists n d) goes.added (rest ∷ todo) (goes.is_open d reached)
-              (All-cons (IsOpen lists n d) rest todo (open-rest d is_open) (All-tail (IsOpen lists n d) f todo walking.is_open)));
+              (All-cons (IsOpen lists n d) rest todo (open-rest d is_open) (All-tail
+              (IsOpen lists n d) f todo walking.is_open)));
         }
 
     -- and less is left to do
@@ -175,14 +203,25 @@ module _ (lists : ProgramLists) (n : ℕ) (f : Forks) (todo : List Forks) (w : W
         let same : weight b s.code.0 ≡ weight b (way_next taken) = ap (weight b) code in
         let sums = ap (work b) goes.todo ∙ work-append b goes.added (rest ∷ todo) in
         let ways = ap (sum_by of_way) all ∙ sum_by-append of_way rest.ways.items (taken ∷ []) in
-        omega (arith, sum_by-cons (forks_work b) rest todo, sum_by-cons (forks_work b) f todo, sum_by-cons of_way taken [], sums, ways, same, lighter)
+        omega (
+          arith,
+          sum_by-cons (forks_work b) rest todo,
+          sum_by-cons
+              (forks_work b) f todo,
+          sum_by-cons of_way taken [],
+          sums,
+          ways,
+          same,
+          lighter,
+        )
 
 -- where nothing is left of the first one, less is left to do
 pub none-light : (b : ℕ) (f : Forks) (todo : List Forks) → work b todo < work b (f ∷ todo)
 none-light b f todo = omega (arith, sum_by-cons (forks_work b) f todo)
 
 -- there is room for what a way frees
-room-by : {lists : ProgramLists} (s : Standing) (v : Way) → IsWellFormed lists → IsWithin lists s → IsWayOf s v → HasWayRoom s v
+room-by : {lists : ProgramLists} (s : Standing) (v : Way) → IsWellFormed lists → IsWithin lists s → IsWayOf s v
+    → HasWayRoom s v
 room-by s (way.Label c t next) formed within there = tt
 room-by s (way.Truth next) formed within there = tt
 room-by s (way.Empty u next) formed within there = tt
@@ -205,7 +244,8 @@ module _ {lists : ProgramLists} (f : Forks) (todo : List Forks) (w : Walk) (form
       room-by f.before v formed (within-on_way f.before formed on_way)
       (All-contains (IsWayOf f.before) f.ways.items v first-open.there inside)
 
-  pub way-on_way : (rest : Forks) → rest.before ≡ f.before → (taken : Way) → f.ways.items ≡ rest.ways.items ++ taken ∷ []
+  pub way-on_way : (rest : Forks) → rest.before ≡ f.before → (taken : Way)
+      → f.ways.items ≡ rest.ways.items ++ taken ∷ []
       → (s : Standing) → GoesWay f.before taken s → IsOnWay lists (star_count lists) s
   way-on_way rest before taken all s goes_way = record {
     place = walk.place;

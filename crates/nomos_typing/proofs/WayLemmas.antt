@@ -16,7 +16,8 @@ use Rattle.nomos_typing.specs.mirror.Standing.{shape_of, shape_of_list, amount_o
 use Rattle.nomos_typing.specs.mirror.Ways.{GoesWay}
 
 -- a list is taken apart
-pub full-goes : (s : Standing) (p : Parts) (kinds : List (VarId × Kind)) (lists : List (VarId × Carried)) (potential : Form)
+pub full-goes : (s : Standing) (p : Parts) (kinds : List (VarId × Kind)) (lists : List (VarId
+    × Carried)) (potential : Form)
     → kinds ≡ bind p.head p.carried.kind s.kinds → lists ≡ bind p.tail p.carried (unbind p.list.0 s.lists)
     → ((n : ℕ) (a : Account) → s.potential ≡ form_of n a → potential ≡ form_of n (gains p.carried.amount a))
     → GoesWay s (way.Full p) (record s { kinds = kinds; lists = lists; potential = potential; code = p.next })
@@ -44,7 +45,8 @@ full-goes s p kinds lists potential of_kinds of_lists of_potential =
     }
 
 -- a list is empty, and used up
-pub empty-goes : (s : Standing) (w : VarId) (next : CodeId) (lists : List (VarId × Carried)) → lists ≡ unbind w.0 s.lists
+pub empty-goes : (s : Standing) (w : VarId) (next : CodeId) (lists : List (VarId × Carried))
+    → lists ≡ unbind w.0 s.lists
     → GoesWay s (way.Empty w next) (record s { lists = lists; code = next })
 empty-goes s w next lists of_lists =
     let Made : List (VarId × ListType) → Judgement = λ ls. record (shape_of s) { lists = ls; code = next } in

@@ -32,10 +32,12 @@ weight-positive b zero = omega arith
 weight-positive b (suc p) = omega (arith, weight-positive b p, doubled b (weight b p))
 
 pub weight-rises : (b q p : ℕ) → q ≤ p → weight b q ≤ weight b p
-weight-rises b q zero low = let none : q ≡ 0 = omega arith in subst (λ (n : ℕ). weight b n ≤ weight b 0) (sym none) (omega arith)
+weight-rises b q zero low = let none : q ≡ 0 = omega arith in subst (λ (n : ℕ). weight b n ≤ weight b 0) (sym none)
+    (omega arith)
 weight-rises b q (suc p) low =
     ⊎_elim (λ (below : q < suc p). omega (arith, weight-rises b q p (omega arith), doubled b (weight b p)))
-    (λ (above : suc p ≤ q). let same : q ≡ suc p = omega arith in subst (λ (n : ℕ). weight b n ≤ weight b (suc p)) (sym same) (omega arith))
+    (λ (above : suc p ≤ q). let same : q ≡ suc p = omega arith in subst (λ (n : ℕ). weight b n ≤ weight b (suc p))
+    (sym same) (omega arith))
     (cases_lt q (suc p))
 
 few-times : (n b m : ℕ) → n ≤ b → n * m ≤ b * m
@@ -45,11 +47,13 @@ few-times n b m few = mul-le-mul_right m few
 light-ways : (b p : ℕ) (ways : List Way) → length ways ≤ b → All (λ w. way_next w < p) ways
     → 1 + sum_by (λ w. weight b (way_next w)) ways < weight b p
 light-ways b zero ways few lower =
-    let none = sum_by-le (λ (w : Way). weight b (way_next w)) 0 ways (All-weaker (λ (w : Way). way_next w < 0) (λ (w : Way). weight b (way_next w) ≤ 0) (λ w below. absurd (omega arith)) ways lower) in
+    let none = sum_by-le (λ (w : Way). weight b (way_next w)) 0 ways (All-weaker (λ (w : Way). way_next w < 0) (λ
+    (w : Way). weight b (way_next w) ≤ 0) (λ w below. absurd (omega arith)) ways lower) in
     omega arith
 light-ways b (suc p) ways few lower =
     let m = weight b p in
-    let most = sum_by-le (λ (w : Way). weight b (way_next w)) m ways (All-weaker (λ (w : Way). way_next w < suc p) (λ (w : Way). weight b (way_next w) ≤ m) (λ w below. weight-rises b (way_next w) p (omega arith)) ways lower) in
+    let most = sum_by-le (λ (w : Way). weight b (way_next w)) m ways (All-weaker (λ (w : Way). way_next w < suc p) (λ
+    (w : Way). weight b (way_next w) ≤ m) (λ w below. weight-rises b (way_next w) p (omega arith)) ways lower) in
     let times = few-times (length ways) b m few in
     omega (arith, weight-positive b p, doubled b m)
 
@@ -73,11 +77,17 @@ forks-light {lists} f formed leads =
     simp length-map at (ap length places)
     in
     let counts = map (λ (m : CodeNode). length (code_next m)) lists.code in
-    let among = contains-map (λ (m : CodeNode). length (code_next m)) lists.code n (contains-found lists.code s.code.0 n stands) in
+    let among = contains-map (λ (m : CodeNode). length (code_next m)) lists.code n
+    (contains-found lists.code s.code.0 n stands) in
     let few : length ways ≤ width lists = omega (arith, count, at_most-greatest counts (length (code_next n)) among) in
     let lower : All (λ w. way_next w < s.code.0) ways =
     All-weaker (Contains ways) (λ (w : Way). way_next w < s.code.0)
-    (λ w inside. omega (arith, row-descends formed leads.row (contains-map (way_shape (shape_of s)) ways w inside), way-place (shape_of s) w))
+    (λ w inside. omega (
+      arith,
+      row-descends formed leads.row (contains-map (way_shape
+          (shape_of s)) ways w inside),
+      way-place (shape_of s) w,
+    ))
     ways (All-contains_itself ways)
     in
     light-ways (width lists) s.code.0 ways few lower

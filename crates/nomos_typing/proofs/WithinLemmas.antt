@@ -64,4 +64,5 @@ module _ {lists : ProgramLists} {d : ProcDecl} (p : ℕ) (formed : IsWellFormed 
 pub within-on_way : {lists : ProgramLists} (s : Standing) → IsWellFormed lists → IsOnWay lists (star_count lists) s
     → IsWithin lists s
 within-on_way s formed on_way =
-    within-reached {d = on_way.declared} on_way.place formed on_way.found s on_way.reached.account on_way.reached.has on_way.reached.reached
+    within-reached {d = on_way.declared} on_way.place formed on_way.found s on_way.reached.account on_way.reached.has
+    on_way.reached.reached

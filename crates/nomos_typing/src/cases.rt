@@ -44,7 +44,8 @@ fn ways_of(
     branches: &[Branch],
     arms: &[Arm],
 ) -> Result<Option<Vec<Way>>, AllocError>
-    ensures { IfOk result (λ found. MatchOption found (HasOddArm branches.now arms.now) (λ ways. AreWays c branches.now arms.now ways.items)) }
+    ensures { IfOk result (λ found. MatchOption found (HasOddArm branches.now arms.now)
+        (λ ways. AreWays c branches.now arms.now ways.items)) }
 {
     let mut ways = Vec::new(alloc);
     for a in arms {

@@ -27,7 +27,8 @@ pub(crate) fn sends_choice<'p>(
 ) -> Option<&'p Branches>
     requires formed { IsWellFormed program.now }
     requires within { IsWithin program.now now.now }
-    ensures { IsFound (λ branches. HasType program.now (shape_of now.now) c (by_side c (TypeNode.Plus branches) (TypeNode.With branches))) (option_copied result) }
+    ensures { IsFound (λ branches. HasType program.now (shape_of now.now) c (by_side c (TypeNode.Plus branches)
+        (TypeNode.With branches))) (option_copied result) }
 {
     let node = channel_node(program, now, c)?;
     sent_choice(c, node)
@@ -41,7 +42,8 @@ pub(crate) fn awaits_choice<'p>(
 ) -> Option<&'p Branches>
     requires formed { IsWellFormed program.now }
     requires within { IsWithin program.now now.now }
-    ensures { IsFound (λ branches. HasType program.now (shape_of now.now) c (by_side c (TypeNode.With branches) (TypeNode.Plus branches))) (option_copied result) }
+    ensures { IsFound (λ branches. HasType program.now (shape_of now.now) c (by_side c (TypeNode.With branches)
+        (TypeNode.Plus branches))) (option_copied result) }
 {
     let node = channel_node(program, now, c)?;
     awaited_choice(c, node)
@@ -51,7 +53,8 @@ pub(crate) fn awaits_choice<'p>(
 pub(crate) fn sends_channel(program: &Program, now: &Standing, c: Chan) -> Option<(TypeId, TypeId)>
     requires formed { IsWellFormed program.now }
     requires within { IsWithin program.now now.now }
-    ensures { IsFound (λ p. HasType program.now (shape_of now.now) c (by_side c (TypeNode.Tensor p.0 p.1) (TypeNode.Lolli p.0 p.1))) result }
+    ensures { IsFound (λ p. HasType program.now (shape_of now.now) c (by_side c (TypeNode.Tensor p.0 p.1)
+        (TypeNode.Lolli p.0 p.1))) result }
 {
     let node = channel_node(program, now, c)?;
     sent_channel(c, node)
@@ -65,7 +68,8 @@ pub(crate) fn receives_channel(
 ) -> Option<(TypeId, TypeId)>
     requires formed { IsWellFormed program.now }
     requires within { IsWithin program.now now.now }
-    ensures { IsFound (λ p. HasType program.now (shape_of now.now) c (by_side c (TypeNode.Lolli p.0 p.1) (TypeNode.Tensor p.0 p.1))) result }
+    ensures { IsFound (λ p. HasType program.now (shape_of now.now) c (by_side c (TypeNode.Lolli p.0 p.1)
+        (TypeNode.Tensor p.0 p.1))) result }
 {
     let node = channel_node(program, now, c)?;
     received_channel(c, node)
@@ -75,7 +79,8 @@ pub(crate) fn receives_channel(
 pub(crate) fn sends_value(program: &Program, now: &Standing, c: Chan) -> Option<(Kind, TypeId)>
     requires formed { IsWellFormed program.now }
     requires within { IsWithin program.now now.now }
-    ensures { IsFound (λ p. HasType program.now (shape_of now.now) c (by_side c (TypeNode.ValueOut p.0 p.1) (TypeNode.ValueIn p.0 p.1))) result }
+    ensures { IsFound (λ p. HasType program.now (shape_of now.now) c (by_side c (TypeNode.ValueOut p.0 p.1)
+        (TypeNode.ValueIn p.0 p.1))) result }
 {
     let node = channel_node(program, now, c)?;
     sent_value(c, node)
@@ -85,7 +90,8 @@ pub(crate) fn sends_value(program: &Program, now: &Standing, c: Chan) -> Option<
 pub(crate) fn receives_value(program: &Program, now: &Standing, c: Chan) -> Option<(Kind, TypeId)>
     requires formed { IsWellFormed program.now }
     requires within { IsWithin program.now now.now }
-    ensures { IsFound (λ p. HasType program.now (shape_of now.now) c (by_side c (TypeNode.ValueIn p.0 p.1) (TypeNode.ValueOut p.0 p.1))) result }
+    ensures { IsFound (λ p. HasType program.now (shape_of now.now) c (by_side c (TypeNode.ValueIn p.0 p.1)
+        (TypeNode.ValueOut p.0 p.1))) result }
 {
     let node = channel_node(program, now, c)?;
     received_value(c, node)
@@ -95,7 +101,8 @@ pub(crate) fn receives_value(program: &Program, now: &Standing, c: Chan) -> Opti
 pub(crate) fn pays_amount(program: &Program, now: &Standing, c: Chan) -> Option<(Amount, TypeId)>
     requires formed { IsWellFormed program.now }
     requires within { IsWithin program.now now.now }
-    ensures { IsFound (λ p. HasType program.now (shape_of now.now) c (by_side c (TypeNode.PotOut p.0 p.1) (TypeNode.PotIn p.0 p.1))) result }
+    ensures { IsFound (λ p. HasType program.now (shape_of now.now) c (by_side c (TypeNode.PotOut p.0 p.1)
+        (TypeNode.PotIn p.0 p.1))) result }
 {
     let node = channel_node(program, now, c)?;
     paid_amount(c, node)
@@ -105,7 +112,8 @@ pub(crate) fn pays_amount(program: &Program, now: &Standing, c: Chan) -> Option<
 pub(crate) fn gets_amount(program: &Program, now: &Standing, c: Chan) -> Option<(Amount, TypeId)>
     requires formed { IsWellFormed program.now }
     requires within { IsWithin program.now now.now }
-    ensures { IsFound (λ p. HasType program.now (shape_of now.now) c (by_side c (TypeNode.PotIn p.0 p.1) (TypeNode.PotOut p.0 p.1))) result }
+    ensures { IsFound (λ p. HasType program.now (shape_of now.now) c (by_side c (TypeNode.PotIn p.0 p.1)
+        (TypeNode.PotOut p.0 p.1))) result }
 {
     let node = channel_node(program, now, c)?;
     got_amount(c, node)

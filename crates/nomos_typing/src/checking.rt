@@ -66,7 +66,8 @@ fn answer(
     pairs: Vec<(Amount, Amount)>,
     stuck: Option<Stuck>,
 ) -> Result<Checked, ProcError>
-    ensures { MatchOption stuck (result ≡ Ok (record { forms = forms.items; pairs = pairs.items })) (λ s. result ≡ Err (ProcError.ProcType s.at s.form)) }
+    ensures { MatchOption stuck (result ≡ Ok (record { forms = forms.items; pairs = pairs.items }))
+        (λ s. result ≡ Err (ProcError.ProcType s.at s.form)) }
 {
     match stuck {
         None => Ok(Checked {
@@ -78,8 +79,8 @@ fn answer(
 }
 
 /// What the process declaration with this number asks for, in units of gas; `docs/LANGUAGE.md`, "The whole language",
-/// has the rules. The pairs that the equality of types needs join those of `equalities`; the others are given. What was
-/// compared stays there also where the process is refused. `ProcType` comes exactly where some instruction is stuck, and
+/// has the rules. The pairs that the equality of types needs join those of `equalities`; the others are given. What
+/// was compared stays there also where the process is refused. `ProcType` comes exactly where some instruction is stuck, and
 /// names the first one.
 pub fn check_process_with(
     alloc: Global,
@@ -91,7 +92,8 @@ pub fn check_process_with(
     requires p { p.0 < length program.now.procs }
     requires compared { HasCompared program.now equalities.old }
     ensures compared { HasCompared program.now equalities.new }
-    ensures answers { (d : ProcDecl) → slice_get program.now.procs p.0 ≡ Some d → AnswersBeside program.now (star_count program.now) d equalities.old equalities.new result }
+    ensures answers { (d : ProcDecl) → slice_get program.now.procs p.0 ≡ Some d →
+        AnswersBeside program.now (star_count program.now) d equalities.old equalities.new result }
 {
     let modes = match mode_table(alloc, program) {
         Ok(modes) => modes,
@@ -141,7 +143,8 @@ fn all_pairs(equalities: Equalities, checked: Checked) -> Result<Checked, ProcEr
 pub fn check_process(alloc: Global, program: &Program, p: ProcId) -> Result<Checked, ProcError>
     requires formed { IsWellFormed program.now }
     requires p { p.0 < length program.now.procs }
-    ensures { (d : ProcDecl) → slice_get program.now.procs p.0 ≡ Some d → AnswersProcess program.now (star_count program.now) d result }
+    ensures { (d : ProcDecl) → slice_get program.now.procs p.0 ≡ Some d →
+        AnswersProcess program.now (star_count program.now) d result }
 {
     let mut equalities = Equalities::new(alloc);
     let checked = check_process_with(alloc, &mut equalities, program, p)?;

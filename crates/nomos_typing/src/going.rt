@@ -46,8 +46,10 @@ fn take_way(program: &Program, walk: &mut Walk, forks: Forks) -> Result<(), Allo
     requires walk { IsWalk program.now (star_count program.now) (forks ∷ walk.old.todo) walk.old }
     requires ready { IsReady program.now walk.old.asked }
     ensures ready { IsReady program.now walk.new.asked }
-    ensures walks { OnOk result (WalksOn program.now (star_count program.now) (forks ∷ walk.old.todo) walk.old walk.new.todo walk.new) }
-    ensures light { OnOk result (work (width program.now) walk.new.todo < work (width program.now) (forks ∷ walk.old.todo)) }
+    ensures walks { OnOk result (WalksOn program.now (star_count program.now)
+        (forks ∷ walk.old.todo) walk.old walk.new.todo walk.new) }
+    ensures light { OnOk result (work (width program.now) walk.new.todo < work (width program.now)
+        (forks ∷ walk.old.todo)) }
 {
     let mut rest = forks;
     let way = match rest.ways.pop() {

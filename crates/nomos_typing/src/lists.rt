@@ -31,7 +31,8 @@ pub(crate) fn at_empty(
     carried: Carried,
     next: CodeId,
 ) -> Result<Step, AllocError>
-    requires stands { (at : ℕ) × StandsAtCode program.now (shape_of now.old) (CodeNode.Empty at v carried.amount carried.kind next) }
+    requires stands { (at : ℕ) × StandsAtCode program.now (shape_of now.old)
+        (CodeNode.Empty at v carried.amount carried.kind next) }
     ensures { IfOk result (StepTells program.now now.old now.new) }
 {
     if !is_free(now, v) {
@@ -50,7 +51,8 @@ fn list_grows(
     adding: Adding,
 ) -> Result<Option<Carried>, AllocError>
     requires { adding.element.0 < length program.now.terms }
-    ensures { IfOk result (FindsList now.now adding.list (Adds program.now (shape_of now.now) adding.longer adding.element adding.list)) }
+    ensures { IfOk result (FindsList now.now adding.list (Adds program.now
+        (shape_of now.now) adding.longer adding.element adding.list)) }
 {
     if !is_free(now, adding.longer) {
         return Ok(None);
@@ -74,7 +76,8 @@ pub(crate) fn at_add(
     adding: Adding,
 ) -> Result<Step, AllocError>
     requires within { IsWithin program.now now.old }
-    requires stands { (at : ℕ) × StandsAtCode program.now (shape_of now.old) (CodeNode.Add at adding.longer adding.element adding.list adding.next) }
+    requires stands { (at : ℕ) × StandsAtCode program.now (shape_of now.old)
+        (CodeNode.Add at adding.longer adding.element adding.list adding.next) }
     ensures { IfOk result (StepTells program.now now.old now.new) }
 {
     let _lists = program.lists();
@@ -92,7 +95,8 @@ pub(crate) fn at_add(
 
 /// The list that is to be taken apart, if the names of its parts are free and differ.
 fn list_parts(now: &Standing, matching: Matching) -> Option<Carried>
-    ensures { FindsList now.now matching.list (TakesApart (shape_of now.now) matching.list matching.head matching.tail) result }
+    ensures { FindsList now.now matching.list (TakesApart (shape_of now.now) matching.list matching.head
+        matching.tail) result }
 {
     if is_same_variable(matching.head, matching.tail) {
         return None;
@@ -113,7 +117,8 @@ pub(crate) fn at_match(
     now: &Standing,
     matching: Matching,
 ) -> Result<Step, AllocError>
-    requires stands { (at : ℕ) × StandsAtCode program.now (shape_of now.now) (CodeNode.Match at matching.list matching.empty_next matching.head matching.tail matching.full_next) }
+    requires stands { (at : ℕ) × StandsAtCode program.now (shape_of now.now)
+        (CodeNode.Match at matching.list matching.empty_next matching.head matching.tail matching.full_next) }
     ensures { IfOk result (StepTells program.now now.now now.now) }
 {
     let carried = match list_parts(now, matching) {

@@ -37,7 +37,8 @@ pub(crate) fn at_pay(
     requires formed { IsWellFormed program.now }
     requires within { IsWithin program.now now.old }
     requires ready { IsReady program.now asked.old }
-    requires stands { (at : ℕ) × StandsAtCode program.now (shape_of now.old) (CodeNode.Pay at over.channel over.what over.next) }
+    requires stands { (at : ℕ) × StandsAtCode program.now (shape_of now.old)
+        (CodeNode.Pay at over.channel over.what over.next) }
     ensures ready { IsReady program.now asked.new }
     ensures tells { IfOk result (StepTells program.now now.old now.new) }
     ensures asks { IfOk result (StepAsks program.now now.old asked.old asked.new) }
@@ -63,7 +64,8 @@ pub(crate) fn at_get(
     requires formed { IsWellFormed program.now }
     requires within { IsWithin program.now now.old }
     requires ready { IsReady program.now asked.old }
-    requires stands { (at : ℕ) × StandsAtCode program.now (shape_of now.old) (CodeNode.Get at over.channel over.what over.next) }
+    requires stands { (at : ℕ) × StandsAtCode program.now (shape_of now.old)
+        (CodeNode.Get at over.channel over.what over.next) }
     ensures ready { IsReady program.now asked.new }
     ensures tells { IfOk result (StepTells program.now now.old now.new) }
     ensures asks { IfOk result (StepAsks program.now now.old asked.old asked.new) }

@@ -62,7 +62,8 @@ pub(crate) fn at_recv(
     requires formed { IsWellFormed program.now }
     requires within { IsWithin program.now now.old }
     requires modes { AreModesOf program.now modes.now }
-    requires stands { (at : ℕ) × StandsAtCode program.now (shape_of now.old) (CodeNode.Recv at over.channel over.what over.next) }
+    requires stands { (at : ℕ) × StandsAtCode program.now (shape_of now.old)
+        (CodeNode.Recv at over.channel over.what over.next) }
     ensures { IfOk result (StepTells program.now now.old now.new) }
 {
     match channel_comes(program, modes, now, over.channel, over.what) {

@@ -91,7 +91,8 @@ pub(crate) fn at_detach(program: &Program, modes: &[Mode], now: &mut Standing, n
 fn reference_held(program: &Program, now: &Standing, a: VarId) -> Option<TypeId>
     requires formed { IsWellFormed program.now }
     requires within { IsWithin program.now now.now }
-    ensures { IsFound (λ t. (own : TypeId) × (bound_to a.0 (shape_of now.now).shared ≡ Some own) × Unfolds program.now own.0 (TypeNode.Up t)) result }
+    ensures { IsFound (λ t. (own : TypeId) × (bound_to a.0 (shape_of now.now).shared ≡ Some own) ×
+        Unfolds program.now own.0 (TypeNode.Up t)) result }
 {
     let own = now.shared.get(a)?;
     behind_up(program.node(unfold(program, own)))

@@ -12,7 +12,8 @@ use nomos_ir::type_node::{Branches, TypeNode};
 
 /// The branches of a choice that the process makes.
 pub(crate) fn sent_choice(c: Chan, node: &TypeNode) -> Option<&Branches>
-    ensures { IsFound (λ branches. by_side c (TypeNode.Plus branches) (TypeNode.With branches) ≡ node.now) (option_copied result) }
+    ensures { IsFound (λ branches. by_side c (TypeNode.Plus branches) (TypeNode.With branches) ≡ node.now)
+        (option_copied result) }
 {
     match (c, node) {
         (Chan::Own, TypeNode::Plus(branches)) => Some(branches),
@@ -23,7 +24,8 @@ pub(crate) fn sent_choice(c: Chan, node: &TypeNode) -> Option<&Branches>
 
 /// The branches of a choice that is made at the other end.
 pub(crate) fn awaited_choice(c: Chan, node: &TypeNode) -> Option<&Branches>
-    ensures { IsFound (λ branches. by_side c (TypeNode.With branches) (TypeNode.Plus branches) ≡ node.now) (option_copied result) }
+    ensures { IsFound (λ branches. by_side c (TypeNode.With branches) (TypeNode.Plus branches) ≡ node.now)
+        (option_copied result) }
 {
     match (c, node) {
         (Chan::Own, TypeNode::With(branches)) => Some(branches),

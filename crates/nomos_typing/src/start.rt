@@ -117,7 +117,8 @@ fn channels_of(
 ) -> Result<Bound<TypeId>, AllocError>
     requires modes { AreModesOf program.now asked.now.modes.items }
     requires have { All (λ par. HasMode program.now par.1 (parameter_mode program.now par.1)) channels.now }
-    ensures { IfOk result (λ made. made ≡ bindings_of (filter (λ par. picks references (is_shared program.now par)) channels.now)) }
+    ensures { IfOk result (λ made. made ≡ bindings_of (filter (λ par. picks references
+        (is_shared program.now par)) channels.now)) }
 {
     let mut made = Bound::new(asked.alloc);
     let mut i = channels.len();
@@ -135,7 +136,8 @@ pub(crate) fn start(program: &Program, asked: &Asked, p: ProcId) -> Result<Stand
     requires formed { IsWellFormed program.now }
     requires p { p.0 < length program.now.procs }
     requires modes { AreModesOf program.now asked.now.modes.items }
-    ensures { IfOk result (λ s. (d : ProcDecl) → slice_get program.now.procs p.0 ≡ Some d → IsStartOf program.now (star_count program.now) d s) }
+    ensures { IfOk result (λ s. (d : ProcDecl) → slice_get program.now.procs p.0 ≡ Some d →
+        IsStartOf program.now (star_count program.now) d s) }
 {
     let alloc = asked.alloc;
     let d = program.proc(p);

@@ -53,7 +53,8 @@ pub(crate) fn at_put(
 ) -> Result<Step, AllocError>
     requires formed { IsWellFormed program.now }
     requires within { IsWithin program.now now.old }
-    requires stands { (at : ℕ) × StandsAtCode program.now (shape_of now.old) (CodeNode.Put at over.channel over.what over.next) }
+    requires stands { (at : ℕ) × StandsAtCode program.now (shape_of now.old)
+        (CodeNode.Put at over.channel over.what over.next) }
     ensures { IfOk result (StepTells program.now now.old now.new) }
 {
     match value_goes(program, alloc, now, over.channel, over.what)? {
@@ -85,7 +86,8 @@ pub(crate) fn at_take(
 ) -> Result<Step, AllocError>
     requires formed { IsWellFormed program.now }
     requires within { IsWithin program.now now.old }
-    requires stands { (at : ℕ) × StandsAtCode program.now (shape_of now.old) (CodeNode.Take at over.channel over.what over.next) }
+    requires stands { (at : ℕ) × StandsAtCode program.now (shape_of now.old)
+        (CodeNode.Take at over.channel over.what over.next) }
     ensures { IfOk result (StepTells program.now now.old now.new) }
 {
     match value_comes(program, now, over.channel, over.what) {
@@ -106,7 +108,8 @@ pub(crate) fn at_let(
     letting: Letting,
 ) -> Result<Step, AllocError>
     requires within { IsWithin program.now now.old }
-    requires stands { (at : ℕ) × StandsAtCode program.now (shape_of now.old) (CodeNode.Let at letting.var letting.term letting.next) }
+    requires stands { (at : ℕ) × StandsAtCode program.now (shape_of now.old)
+        (CodeNode.Let at letting.var letting.term letting.next) }
     ensures { IfOk result (StepTells program.now now.old now.new) }
 {
     let _lists = program.lists();
@@ -153,7 +156,8 @@ pub(crate) fn at_if(
     choosing: Choosing,
 ) -> Result<Step, AllocError>
     requires within { IsWithin program.now now.now }
-    requires stands { (at : ℕ) × StandsAtCode program.now (shape_of now.now) (CodeNode.If at choosing.test choosing.then_next choosing.else_next) }
+    requires stands { (at : ℕ) × StandsAtCode program.now (shape_of now.now)
+        (CodeNode.If at choosing.test choosing.then_next choosing.else_next) }
     ensures { IfOk result (StepTells program.now now.now now.now) }
 {
     let _lists = program.lists();

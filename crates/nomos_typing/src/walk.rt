@@ -106,7 +106,10 @@ impl Walk {
 
     /// The instruction is stuck.
     pub(crate) fn stop(&mut self, node: &CodeNode)
-        ensures { self.new ≡ record self.old { stuck = first_stuck self.old.stuck (record { at = code_offset node.now; form = code_form node.now }) } }
+        ensures { self.new ≡ record self.old {
+          stuck = first_stuck self.old.stuck
+              (record { at = code_offset node.now; form = code_form node.now });
+        } }
     {
         let found = Stuck {
             at: code_offset(node),

@@ -62,7 +62,8 @@ pub record ChannelsPassed (lists : ProgramLists) (s next : Standing) (vs : List 
   pub amounts : KeepsAmounts s next
   pub joins : Joins old new (PairOfChannels lists (shape_of s) vs pars)
 
-abbrev pub TellsChannels : ProgramLists → Standing → Standing → List VarId → List (VarId × TypeId) → Asked → Asked → Bool
+abbrev pub TellsChannels : ProgramLists → Standing → Standing → List VarId → List (VarId × TypeId) → Asked → Asked
+    → Bool
     → Type 0
 TellsChannels lists s next vs pars old new true = ChannelsPassed lists s next vs pars old new
 TellsChannels lists s next vs pars old new false =
@@ -71,7 +72,8 @@ TellsChannels lists s next vs pars old new false =
 -- ---- values and lists
 
 -- what a list carries and what its parameter says
-pub record PairOfValues (carry : List (VarId × Amount)) (args : List ValueArg) (pars : List Par) (pair : Amount × Amount)
+pub record PairOfValues (carry : List (VarId × Amount)) (args : List ValueArg) (pars : List Par) (pair : Amount
+    × Amount)
     : Type 0 where
   pub w : VarId
   pub par : Par

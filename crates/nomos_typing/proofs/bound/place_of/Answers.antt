@@ -7,4 +7,5 @@ use Rattle.nomos_typing.proofs.bound.place_of.Goals as goal
 pub returns : goal.returns
 returns g c =
     place-found c.args.v c.args.pairs.now c.binary_search_by_key.result c.requires c.binary_search_by_key.ensures.bound
-    (c.binary_search_by_key.ensures.position (λ (e : VarId × g.row.X.Denot). e.0.0) (always_returns_same _ _ _ (λ a r f k. search rules)))
+    (c.binary_search_by_key.ensures.position (λ (e : VarId × g.row.X.Denot). e.0.0) (always_returns_same _ _ _
+    (λ a r f k. search rules)))

@@ -38,8 +38,11 @@ returns-in-Some-2 c =
     let Found : Option (Vec Way Global) → Type 0 =
     λ o. MatchOption o (HasOddArm bs c.args.arms.now) (λ ways. AreWays c.args.c bs c.args.arms.now ways.items)
     in
-    let ways = subst Found c.in-Some-2.is c.in_ok-ways.ensures in
-    (case-leads lists s c.requires.stands.0 c.args.c c.args.arms.now c.requires.stands.1 bs typed c.in-Some-2.ways.items covered ways, refl)
+    let ways = subst Found c.in-Some-2.is c.in_ok-ways.ensures in (
+      case-leads lists s c.requires.stands.0 c.args.c c.args.arms.now c.requires.stands.1 bs typed
+          c.in-Some-2.ways.items covered ways,
+      refl,
+    )
 
 pub returns-in-None-2 : goal.returns-in-None-2
 returns-in-None-2 c =

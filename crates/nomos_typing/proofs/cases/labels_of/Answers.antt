@@ -7,4 +7,5 @@ use Rattle.nomos_typing.proofs.cases.labels_of.Goals as goal
 
 pub returns : goal.returns
 returns c =
-    IfOk-weaker c.collect.result (bag.IsFromIterResult nat_eq (map (λ (a : Arm). a.label.0) c.args.arms.now)) _ (labels-HasArm c.args.arms.now) (search rules)
+    IfOk-weaker c.collect.result (bag.IsFromIterResult nat_eq (map (λ (a : Arm). a.label.0) c.args.arms.now)) _
+    (labels-HasArm c.args.arms.now) (search rules)

@@ -13,4 +13,5 @@ returns-in_err-node c =
 pub returns : goal.returns
 returns c =
     let j = shape_of c.args.now.now in
-    form-found c.args.program.now j (λ t. node.Down t) c.args.c c.in_ok-node.node.now _ c.in_ok-node.ensures c.behind_down.ensures
+    form-found c.args.program.now j (λ t. node.Down t) c.args.c c.in_ok-node.node.now _ c.in_ok-node.ensures
+    c.behind_down.ensures

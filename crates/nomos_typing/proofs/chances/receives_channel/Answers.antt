@@ -17,4 +17,5 @@ pub returns : goal.returns
 returns c =
     let j = shape_of c.args.now.now in
     let form : TypeId × TypeId → TypeNode = λ p. by_side c.args.c (node.Lolli p.0 p.1) (node.Tensor p.0 p.1) in
-    form-found c.args.program.now j form c.args.c c.in_ok-node.node.now _ c.in_ok-node.ensures c.received_channel.ensures
+    form-found c.args.program.now j form c.args.c c.in_ok-node.node.now _ c.in_ok-node.ensures
+    c.received_channel.ensures

@@ -13,4 +13,5 @@ returns-in-Ok-gathered-clause-answers c = λ d found.
     let gathered : IsGathered lists (star_count lists) d c.args.equalities.now w =
     subst (λ (k : Compared). IsGathered lists (star_count lists) d k w) same (c.in-Ok-gathered.ensures.gathers d found)
     in
-    answers-by c.args.p.0 d c.requires.formed found c.args.equalities.now w gathered w.stuck refl c.answer.result c.answer.ensures
+    answers-by c.args.p.0 d c.requires.formed found c.args.equalities.now w gathered w.stuck refl c.answer.result
+    c.answer.ensures

@@ -19,7 +19,8 @@ pub go_all-requires-clause-walk : goal.go_all-requires-clause-walk
 go_all-requires-clause-walk c =
     let p = c.args.p.0 in
     let (d, found) = declared-there c.args.program.now.procs p c.requires.p in
-    start-walk p d found c.in_ok-first.first (c.in_ok-first.ensures d found) c.args.walk.now c.requires.fresh c.go_along.new.walk c.in_ok-go_along.ensures.goes
+    start-walk p d found c.in_ok-first.first (c.in_ok-first.ensures d found) c.args.walk.now c.requires.fresh
+    c.go_along.new.walk c.in_ok-go_along.ensures.goes
 
 pub returns-clause-gathers : goal.returns-clause-gathers
 returns-clause-gathers c =
@@ -30,7 +31,8 @@ returns-clause-gathers c =
     let between = c.go_along.new.walk in
     let new = c.go_all.new.walk in
     let s = c.in_ok-first.first in
-    on_ok_weaker {P = WalksOn lists n between.todo between [] new} {Q = GathersAll lists c.args.p old new} c.go_all.result
+    on_ok_weaker {P = WalksOn lists n between.todo between [] new} {Q = GathersAll lists c.args.p old new}
+    c.go_all.result
     (λ walks d found.
     let is = c.in_ok-first.ensures d found in
     let begun = start-walking p d found s is old c.requires.fresh between c.in_ok-go_along.ensures.goes in

@@ -15,4 +15,5 @@ pub returns : goal.returns
 returns c =
     leads-on c.args.now.now c.give_up.new.now (at_code (gives_up (shape_of c.args.now.now) c.args.v) c.args.next)
     (code.Wait c.requires.stands.0 c.args.v c.args.next) c.requires.stands.1 (λ a. refl)
-    (row.wait c.requires.stands.1 (c.ends.ensures.0 c.if-not-ends.false)) c.give_up.ensures.shape c.give_up.ensures.amounts
+    (row.wait c.requires.stands.1 (c.ends.ensures.0 c.if-not-ends.false)) c.give_up.ensures.shape
+    c.give_up.ensures.amounts

@@ -21,7 +21,8 @@ loop-forks-preserved c =
     let n = star_count lists in
     let w = c.loop-forks.walk in
     let todo = c.in-Some.forks ∷ c.pop.new.self in
-    let step = popped-walks lists n w.todo w c.in-Some.forks c.pop.new.self c.take_way.new.walk c.in-Some.ensures c.in_ok-take_way.ensures.walks in
+    let step = popped-walks lists n w.todo w c.in-Some.forks c.pop.new.self c.take_way.new.walk c.in-Some.ensures
+    c.in_ok-take_way.ensures.walks in
     record {
       ready = c.in_ok-take_way.ensures.ready;
       walk = walk-on lists n w.todo w c.take_way.new.walk.todo c.take_way.new.walk step c.loop-forks.invariant.walk;
@@ -40,6 +41,7 @@ returns-clause-walks c =
     let n = star_count lists in
     let w = c.loop-forks.walk in
     let none : WalksOn lists n c.args.walk.now.todo c.args.walk.now [] w =
-    subst (λ (l : List Forks). WalksOn lists n c.args.walk.now.todo c.args.walk.now l w) c.in_default.ensures.0 c.loop-forks.invariant.walks
+    subst (λ (l : List Forks). WalksOn lists n c.args.walk.now.todo c.args.walk.now l w) c.in_default.ensures.0
+    c.loop-forks.invariant.walks
     in
     walks-through lists n (walks-beside lists n [] w c.pop.new.self) none

@@ -32,12 +32,18 @@ code-requires c =
 pub returns-in-Stuck-clause-goes : goal.returns-in-Stuck-clause-goes
 returns-in-Stuck-clause-goes c =
     let lists = c.args.program.now in
-    let goes = stride-stops lists c.requires.formed c.args.now c.loop-at.at c.step.new.now c.args.walk.now c.loop-at.walk c.note.new.self c.step.new.asked c.loop-at.invariant.going c.in_ok-note.ensures.notes c.loop-at.invariant.on_way c.in_ok-step.field-0 c.in_ok-step.ensures.tells c.in_ok-step.ensures.asks c.in-Stuck.is c.code.result.now c.code.ensures in
+    let goes = stride-stops lists c.requires.formed c.args.now c.loop-at.at c.step.new.now c.args.walk.now
+    c.loop-at.walk c.note.new.self c.step.new.asked c.loop-at.invariant.going c.in_ok-note.ensures.notes
+    c.loop-at.invariant.on_way c.in_ok-step.field-0 c.in_ok-step.ensures.tells c.in_ok-step.ensures.asks
+    c.in-Stuck.is c.code.result.now c.code.ensures in
     subst (λ (w : Walk). Goes lists (star_count lists) c.args.now c.args.walk.now w) (sym c.stop.ensures) goes
 
 pub returns-in-Done-clause-goes : goal.returns-in-Done-clause-goes
 returns-in-Done-clause-goes c =
-    stride-ends c.args.program.now c.requires.formed c.args.now c.loop-at.at c.step.new.now c.args.walk.now c.loop-at.walk c.note.new.self c.step.new.asked c.loop-at.invariant.going c.in_ok-note.ensures.notes c.loop-at.invariant.on_way c.in_ok-step.field-0 c.in_ok-step.ensures.tells c.in_ok-step.ensures.asks c.in-Done.is
+    stride-ends c.args.program.now c.requires.formed c.args.now c.loop-at.at c.step.new.now c.args.walk.now
+    c.loop-at.walk c.note.new.self c.step.new.asked c.loop-at.invariant.going c.in_ok-note.ensures.notes
+    c.loop-at.invariant.on_way c.in_ok-step.field-0 c.in_ok-step.ensures.tells c.in_ok-step.ensures.asks
+    c.in-Done.is
 
 pub loop-at-init : goal.loop-at-init
 loop-at-init c = record {
@@ -48,18 +54,30 @@ loop-at-init c = record {
 
 pub loop-at-smaller : goal.loop-at-smaller
 loop-at-smaller c =
-    stride-lower c.args.program.now c.requires.formed c.args.now c.loop-at.at c.step.new.now c.args.walk.now c.loop-at.walk c.note.new.self c.step.new.asked c.loop-at.invariant.going c.in_ok-note.ensures.notes c.loop-at.invariant.on_way c.in_ok-step.field-0 c.in_ok-step.ensures.tells c.in_ok-step.ensures.asks c.in-Next.is
+    stride-lower c.args.program.now c.requires.formed c.args.now c.loop-at.at c.step.new.now c.args.walk.now
+    c.loop-at.walk c.note.new.self c.step.new.asked c.loop-at.invariant.going c.in_ok-note.ensures.notes
+    c.loop-at.invariant.on_way c.in_ok-step.field-0 c.in_ok-step.ensures.tells c.in_ok-step.ensures.asks
+    c.in-Next.is
 
 pub loop-at-preserved : goal.loop-at-preserved
 loop-at-preserved c = record {
   ready = c.in_ok-step.ensures.ready;
   on_way =
-      stride-on_way c.args.program.now c.requires.formed c.args.now c.loop-at.at c.step.new.now c.args.walk.now c.loop-at.walk c.note.new.self c.step.new.asked c.loop-at.invariant.going c.in_ok-note.ensures.notes c.loop-at.invariant.on_way c.in_ok-step.field-0 c.in_ok-step.ensures.tells c.in_ok-step.ensures.asks c.in-Next.is;
+      stride-on_way c.args.program.now c.requires.formed c.args.now c.loop-at.at c.step.new.now c.args.walk.now
+      c.loop-at.walk c.note.new.self c.step.new.asked c.loop-at.invariant.going c.in_ok-note.ensures.notes
+      c.loop-at.invariant.on_way c.in_ok-step.field-0 c.in_ok-step.ensures.tells c.in_ok-step.ensures.asks
+      c.in-Next.is;
   going =
-      stride-next c.args.program.now c.requires.formed c.args.now c.loop-at.at c.step.new.now c.args.walk.now c.loop-at.walk c.note.new.self c.step.new.asked c.loop-at.invariant.going c.in_ok-note.ensures.notes c.loop-at.invariant.on_way c.in_ok-step.field-0 c.in_ok-step.ensures.tells c.in_ok-step.ensures.asks c.in-Next.is;
+      stride-next c.args.program.now c.requires.formed c.args.now c.loop-at.at c.step.new.now c.args.walk.now
+      c.loop-at.walk c.note.new.self c.step.new.asked c.loop-at.invariant.going c.in_ok-note.ensures.notes
+      c.loop-at.invariant.on_way c.in_ok-step.field-0 c.in_ok-step.ensures.tells c.in_ok-step.ensures.asks
+      c.in-Next.is;
 }
 
 pub returns-in-Branches-clause-goes : goal.returns-in-Branches-clause-goes
 returns-in-Branches-clause-goes c =
     let f : Forks = record { before = c.step.new.now; ways = c.in-Branches.ways } in
-    stride-parts c.args.program.now c.requires.formed c.args.now c.loop-at.at c.step.new.now c.args.walk.now c.loop-at.walk c.note.new.self c.step.new.asked c.loop-at.invariant.going c.in_ok-note.ensures.notes c.loop-at.invariant.on_way c.in_ok-step.field-0 c.in_ok-step.ensures.tells c.in_ok-step.ensures.asks f refl c.in-Branches.is c.push.new.self c.in_ok-push-in-Branches.ensures
+    stride-parts c.args.program.now c.requires.formed c.args.now c.loop-at.at c.step.new.now c.args.walk.now
+    c.loop-at.walk c.note.new.self c.step.new.asked c.loop-at.invariant.going c.in_ok-note.ensures.notes
+    c.loop-at.invariant.on_way c.in_ok-step.field-0 c.in_ok-step.ensures.tells c.in_ok-step.ensures.asks f refl
+    c.in-Branches.is c.push.new.self c.in_ok-push-in-Branches.ensures

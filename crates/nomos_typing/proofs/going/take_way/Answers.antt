@@ -29,7 +29,8 @@ pub go_along-requires-clause-on_way : goal.go_along-requires-clause-on_way
 go_along-requires-clause-on_way c =
     let f = c.args.forks in
     let rest : Forks = record { before = f.before; ways = c.pop.new.self } in
-    way-on_way f c.args.walk.now.todo c.args.walk.now c.requires.formed c.requires.walk rest refl c.in-Some.way c.in-Some.ensures.items c.in_ok-branch.branch c.in_ok-branch.ensures
+    way-on_way f c.args.walk.now.todo c.args.walk.now c.requires.formed c.requires.walk rest refl c.in-Some.way
+    c.in-Some.ensures.items c.in_ok-branch.branch c.in_ok-branch.ensures
 
 pub returns-clause-walks : goal.returns-clause-walks
 returns-clause-walks c =

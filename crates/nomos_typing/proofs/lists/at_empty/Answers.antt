@@ -9,5 +9,6 @@ returns-then-not-is_free c =
 
 pub returns : goal.returns
 returns c =
-    empty-leads c.args.program.now c.args.now.now c.requires.stands.0 c.args.v c.args.carried c.args.next c.bind.new.self
+    empty-leads c.args.program.now c.args.now.now c.requires.stands.0 c.args.v c.args.carried c.args.next
+    c.bind.new.self
     c.in_ok-bind.ensures c.requires.stands.1 (c.is_free.ensures.0 c.if-not-is_free.false)

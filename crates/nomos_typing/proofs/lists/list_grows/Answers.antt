@@ -25,4 +25,5 @@ returns-else-branch c =
     λ list says.
     let same = list-is c.args.now.now c.args.adding.list c.in-Some.carried list (sym c.in-Some.ensures) says.there in
     not-true c.if-branch.false (c.in_ok-is_of_kind.ensures.1
-    (subst (λ (l : ListType). HasKind c.args.program.now (shape_of c.args.now.now).kinds c.args.adding.element l.kind) (sym same) says.element))
+    (subst (λ (l : ListType). HasKind c.args.program.now (shape_of c.args.now.now).kinds c.args.adding.element l.kind)
+    (sym same) says.element))

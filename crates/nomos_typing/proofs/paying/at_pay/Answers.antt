@@ -43,7 +43,8 @@ returns-in_ok-go_on-in-Some-clause-asks c =
     let over = c.args.over in
     let IsNoted : Amount × Amount → Type 0 = λ pair. pair ≡ (over.what, c.in-Some.said) in
     λ a has.
-    joins-same c.args.asked.now c.note.new.self IsNoted (AsksPair c.args.program.now j a) c.in_ok-note-in-Some.ensures.joins
+    joins-same c.args.asked.now c.note.new.self IsNoted (AsksPair c.args.program.now j a)
+    c.in_ok-note-in-Some.ensures.joins
     (pay-asks c.args.program.now j a c.requires.stands.0 over.channel over.what c.in-Some.said c.in-Some.t over.next
     c.requires.stands.1 c.in-Some.ensures)
 

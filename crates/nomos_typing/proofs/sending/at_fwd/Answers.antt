@@ -47,7 +47,8 @@ returns-then-branch-clause-asks c =
     let Tells : Bool → Type 0 = TellsAlike lists s.offers own c.args.asked.now c.are_alike.new.asked in
     let tells = subst Tells c.if-branch.true c.in_ok-are_alike.ensures.tells in
     λ a has.
-    joins-same c.args.asked.now c.are_alike.new.asked (StandAtEqualPaths lists s.offers own) (AsksPair lists (shape_of s) a)
+    joins-same c.args.asked.now c.are_alike.new.asked (StandAtEqualPaths lists s.offers own) (AsksPair lists
+    (shape_of s) a)
     tells.1
     (forward-asks lists (shape_of s) a c.requires.stands.0 c.args.v own c.requires.stands.1 c.in-Some.ensures)
 

@@ -16,7 +16,8 @@ returns-in-Some c =
     let s = c.args.now.now in
     let t = c.in-Some.t in
     leads-on s (record s { mode = mode.L; offers = t; code = c.args.next })
-    (record (shape_of s) { mode = mode.L; offers = t; code = c.args.next }) (code.Accept c.requires.stands.0 c.args.next)
+    (record (shape_of s) { mode = mode.L; offers = t; code = c.args.next })
+    (code.Accept c.requires.stands.0 c.args.next)
     c.requires.stands.1 (λ a. refl)
     (row.accept c.requires.stands.1 t
     (record { mode = c.is_mode.ensures.0 c.if-not-is_mode.false; channel = c.in-Some.ensures }))

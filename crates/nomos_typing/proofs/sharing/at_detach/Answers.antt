@@ -40,7 +40,8 @@ returns-in-Some c =
     let same = c.as_slice.ensures ∙ c.pairs.ensures in
     let held = c.all_at_r.ensures.0 c.if-not-all_at_r.false in
     leads-on s (record s { mode = mode.S; offers = t; code = c.args.next })
-    (record (shape_of s) { mode = mode.S; offers = t; code = c.args.next }) (code.Detach c.requires.stands.0 c.args.next)
+    (record (shape_of s) { mode = mode.S; offers = t; code = c.args.next })
+    (code.Detach c.requires.stands.0 c.args.next)
     c.requires.stands.1 (λ a. refl)
     (row.detach c.requires.stands.1 t (record {
       mode = c.is_mode.ensures.0 c.if-not-is_mode.false;

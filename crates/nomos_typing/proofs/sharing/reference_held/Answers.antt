@@ -23,5 +23,6 @@ returns-in_err-own c =
 
 pub returns : goal.returns
 returns c =
-    reference-found c.args.program.now (shape_of c.args.now.now) c.args.a c.in_ok-own.own c.unfold.result c.node.result.now _
+    reference-found c.args.program.now (shape_of c.args.now.now) c.args.a c.in_ok-own.own c.unfold.result
+    c.node.result.now _
     (sym c.in_ok-own.ensures) c.unfold.ensures.unfolds c.node.ensures c.behind_up.ensures

@@ -23,7 +23,8 @@ use Rattle.nomos_typing.proofs.spawning.at_call.Goals as goal
 pub proc-called-requires : goal.proc-called-requires
 proc-called-requires c =
     let node = code.Call c.requires.stands.0 c.args.f c.args.args.now in
-    (code-in_range c.args.program.now (shape_of c.args.now.now) node c.requires.formed.program c.requires.stands.1).calls 0 0 (omega arith)
+    (code-in_range c.args.program.now (shape_of c.args.now.now) node c.requires.formed.program
+    c.requires.stands.1).calls 0 0 (omega arith)
 
 pub returns-then-not-is_mode-clause-tells : goal.returns-then-not-is_mode-clause-tells
 returns-then-not-is_mode-clause-tells c =
@@ -39,7 +40,8 @@ are_alike-requires-clause-own c = mode-in_range c.requires.formed.program c.requ
 
 pub are_alike-requires-clause-other : goal.are_alike-requires-clause-other
 are_alike-requires-clause-other c =
-    (declared-in_range c.args.program.now c.args.f.0 c.proc-called.result.now c.requires.formed.program c.proc-called.ensures).offers
+    (declared-in_range c.args.program.now c.args.f.0 c.proc-called.result.now c.requires.formed.program
+    c.proc-called.ensures).offers
 
 pub returns-then-not-branch-clause-tells : goal.returns-then-not-branch-clause-tells
 returns-then-not-branch-clause-tells c =
@@ -55,11 +57,13 @@ returns-then-not-branch-clause-tells c =
 pub pass_arguments-requires-clause-terms : goal.pass_arguments-requires-clause-terms
 pass_arguments-requires-clause-terms c =
     let node = code.Call c.requires.stands.0 c.args.f c.args.args.now in
-    (code-in_range c.args.program.now (shape_of c.args.now.now) node c.requires.formed.program c.requires.stands.1).terms
+    (code-in_range c.args.program.now (shape_of c.args.now.now) node c.requires.formed.program
+    c.requires.stands.1).terms
 
 pub pass_arguments-requires-clause-in_range : goal.pass_arguments-requires-clause-in_range
 pass_arguments-requires-clause-in_range c =
-    (declared-in_range c.args.program.now c.args.f.0 c.proc-called.result.now c.requires.formed.program c.proc-called.ensures).channels
+    (declared-in_range c.args.program.now c.args.f.0 c.proc-called.result.now c.requires.formed.program
+    c.proc-called.ensures).channels
 
 pub returns-then-not-branch-2-clause-tells : goal.returns-then-not-branch-2-clause-tells
 returns-then-not-branch-2-clause-tells c =
@@ -121,7 +125,8 @@ returns-then-is_empty-clause-asks c =
     let args = c.args.args.now in
     let Paths : Amount × Amount → Type 0 = StandAtEqualPaths lists s.offers d.offers in
     let Pairs : Amount × Amount → Type 0 =
-    λ pair. PairOfValues (carried_by_all s) args.values d.values pair ⊎ PairOfChannels lists j args.channels d.channels pair
+    λ pair. PairOfValues (carried_by_all s) args.values d.values pair
+    ⊎ PairOfChannels lists j args.channels d.channels pair
     in
     λ a has.
     joins-same old new (λ pair. Paths pair ⊎ ArgumentsAsk lists j a d args pair) (AsksPair lists j a)
@@ -146,5 +151,7 @@ returns-else-is_empty-clause-tells c =
     c.proc-called.result.now c.requires.stands.1 c.proc-called.ensures
     (λ says same.
     let Fits : ProcDecl → Type 0 = λ p. ArgumentsFit lists no_amounts (shape_of s) p c.args.args.now says.left in
-    let one : says.left ≡ shape_of mid = arguments-one lists (shape_of s) d c.args.args.now says.left (shape_of mid) (subst Fits same says.arguments) passed.fit in
-    not-true c.if-is_empty.false (c.is_empty.ensures.1 (ap (λ (k : Judgement). k.linear) (sym one) ∙ says.nothing_held)))
+    let one : says.left ≡ shape_of mid = arguments-one lists (shape_of s) d c.args.args.now says.left (shape_of mid)
+    (subst Fits same says.arguments) passed.fit in
+    not-true c.if-is_empty.false (c.is_empty.ensures.1 (ap (λ (k : Judgement). k.linear)
+    (sym one) ∙ says.nothing_held)))

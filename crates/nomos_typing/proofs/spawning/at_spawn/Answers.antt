@@ -23,7 +23,8 @@ pub proc-child-requires : goal.proc-child-requires
 proc-child-requires c =
     let it = c.args.spawning in
     let node = code.Spawn c.requires.stands.0 it.name it.callee it.args.now it.next in
-    (code-in_range c.args.program.now (shape_of c.args.now.now) node c.requires.formed.program c.requires.stands.1).calls 0 0 (omega arith)
+    (code-in_range c.args.program.now (shape_of c.args.now.now) node c.requires.formed.program
+    c.requires.stands.1).calls 0 0 (omega arith)
 
 pub returns-then-not-may_spawn-clause-tells : goal.returns-then-not-may_spawn-clause-tells
 returns-then-not-may_spawn-clause-tells c =
@@ -43,12 +44,14 @@ pub pass_arguments-requires-clause-terms : goal.pass_arguments-requires-clause-t
 pass_arguments-requires-clause-terms c =
     let it = c.args.spawning in
     let node = code.Spawn c.requires.stands.0 it.name it.callee it.args.now it.next in
-    (code-in_range c.args.program.now (shape_of c.args.now.now) node c.requires.formed.program c.requires.stands.1).terms
+    (code-in_range c.args.program.now (shape_of c.args.now.now) node c.requires.formed.program
+    c.requires.stands.1).terms
 
 pub pass_arguments-requires-clause-in_range : goal.pass_arguments-requires-clause-in_range
 pass_arguments-requires-clause-in_range c =
     let it = c.args.spawning in
-    (declared-in_range c.args.program.now it.callee.0 c.proc-child.result.now c.requires.formed.program c.proc-child.ensures).channels
+    (declared-in_range c.args.program.now it.callee.0 c.proc-child.result.now c.requires.formed.program
+    c.proc-child.ensures).channels
 
 pub returns-then-not-branch-clause-tells : goal.returns-then-not-branch-clause-tells
 returns-then-not-branch-clause-tells c =
@@ -124,13 +127,15 @@ returns-clause-asks c =
     let j = shape_of s in
     let args = it.args.now in
     let Pairs : Amount × Amount → Type 0 =
-    λ pair. PairOfValues (carried_by_all s) args.values d.values pair ⊎ PairOfChannels lists j args.channels d.channels pair
+    λ pair. PairOfValues (carried_by_all s) args.values d.values pair
+    ⊎ PairOfChannels lists j args.channels d.channels pair
     in
     λ a has.
     joins-same old new Pairs (AsksPair lists j a) passed.joins
     (λ pair.
     let first = arguments-ask lists j s a d args has.lists pair in
     let second =
-    spawn-asks lists j a c.requires.stands.0 it.name it.callee args it.next d c.requires.stands.1 c.proc-child.ensures pair
+    spawn-asks lists j a c.requires.stands.0 it.name it.callee args it.next d c.requires.stands.1 c.proc-child.ensures
+    pair
     in
     (λ p. second.0 (first.0 p), λ asks. first.1 (second.1 asks)))

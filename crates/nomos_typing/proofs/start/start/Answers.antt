@@ -15,11 +15,13 @@ use Rattle.nomos_typing.proofs.start.start.Goals as goal
 
 pub channels_of-requires-clause-have : goal.channels_of-requires-clause-have
 channels_of-requires-clause-have c =
-    channels-have c.args.program.now c.args.p.0 c.proc-d.result.now c.as_slice.result.now c.proc-d.ensures c.as_slice.ensures
+    channels-have c.args.program.now c.args.p.0 c.proc-d.result.now c.as_slice.result.now c.proc-d.ensures
+    c.as_slice.ensures
 
 pub channels_of-requires-2-clause-have : goal.channels_of-requires-2-clause-have
 channels_of-requires-2-clause-have c =
-    channels-have c.args.program.now c.args.p.0 c.proc-d.result.now c.as_slice-2.result.now c.proc-d.ensures c.as_slice-2.ensures
+    channels-have c.args.program.now c.args.p.0 c.proc-d.result.now c.as_slice-2.result.now c.proc-d.ensures
+    c.as_slice-2.ensures
 
 pub gain-requires : goal.gain-requires
 gain-requires c =

@@ -12,7 +12,8 @@ pub is_of_kind-requires : goal.is_of_kind-requires
 is_of_kind-requires c =
     let it = c.args.choosing in
     let node = code.If c.requires.stands.0 it.test it.then_next it.else_next in
-    (code-in_range c.args.program.now (shape_of c.args.now.now) node c.lists-lists.ensures.program c.requires.stands.1).terms 0 0 (omega arith)
+    (code-in_range c.args.program.now (shape_of c.args.now.now) node c.lists-lists.ensures.program
+    c.requires.stands.1).terms 0 0 (omega arith)
 
 pub returns-then-not-branch : goal.returns-then-not-branch
 returns-then-not-branch c =
@@ -26,6 +27,7 @@ returns c =
     let first = way.Truth it.then_next in
     let second = way.Truth it.else_next in (
       leads-along s node _ (first ∷ second ∷ []) c.in_ok-ways.ensures.items c.requires.stands.1
-          (row.choose c.requires.stands.1 (c.in_ok-is_of_kind.ensures.0 c.if-not-branch.false)) (λ a has. refl) (both-ways s first second tt tt),
+          (row.choose c.requires.stands.1 (c.in_ok-is_of_kind.ensures.0 c.if-not-branch.false)) (λ a has. refl)
+          (both-ways s first second tt tt),
       refl,
     )

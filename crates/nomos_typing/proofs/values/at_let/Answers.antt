@@ -17,14 +17,16 @@ pub kind_of-requires : goal.kind_of-requires
 kind_of-requires c =
     let it = c.args.letting in
     let node = code.Let c.requires.stands.0 it.var it.term it.next in
-    (code-in_range c.args.program.now (shape_of c.args.now.now) node c.lists-lists.ensures.program c.requires.stands.1).terms 0 0 (omega arith)
+    (code-in_range c.args.program.now (shape_of c.args.now.now) node c.lists-lists.ensures.program
+    c.requires.stands.1).terms 0 0 (omega arith)
 
 pub returns-in_ok-bind_value-in-Some : goal.returns-in_ok-bind_value-in-Some
 returns-in_ok-bind_value-in-Some c =
     let it = c.args.letting in
     let j = shape_of c.args.now.now in
     let node = code.Let c.requires.stands.0 it.var it.term it.next in
-    let has = found-some (HasKind c.args.program.now j.kinds it.term) _ c.in-Some.kind c.in_ok-kind.ensures c.in-Some.is in
+    let has = found-some (HasKind c.args.program.now j.kinds it.term) _ c.in-Some.kind c.in_ok-kind.ensures
+    c.in-Some.is in
     let Bound : Judgement → Judgement = λ k. binds_value k it.var c.in-Some.kind in
     leads-on c.args.now.now c.bind_value.new.now (Bound (at_code j it.next)) node c.requires.stands.1 (λ a. refl)
     (row.«let» c.requires.stands.1 c.in-Some.kind has (c.is_free.ensures.0 c.if-not-is_free.false))

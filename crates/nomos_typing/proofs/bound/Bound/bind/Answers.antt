@@ -12,5 +12,6 @@ invariant_of-self g c =
     let same = sym (c.into_vec-pairs.ensures ∙ c.replace.ensures.value) in
     let before : Ascends old = subst Ascends same c.self.invariant in
     let done = c.put-done in
-    let after : Ascends done.new.pairs.items = put-ascending done.result c.args.v c.args.x old done.new.pairs.items done.ensures.ok done.ensures.err before in
+    let after : Ascends done.new.pairs.items = put-ascending done.result c.args.v c.args.x old done.new.pairs.items
+    done.ensures.ok done.ensures.err before in
     subst Ascends (sym c.of_vec-2.ensures) after

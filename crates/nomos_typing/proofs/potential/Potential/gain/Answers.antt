@@ -38,16 +38,19 @@ returns-in-Star c = λ n a is.
     let least : 1 ≤ s = (subst (λ (r : Amount). IsAmount r) c.in-Star.is c.requires.small).0 in
     let width : length inside.coefs.items ≡ n = ap length coefs ∙ length-map-range_with_len (coef_of a) 1 n in
     let wide : s ≤ length inside.coefs.items =
-    subst (λ (f : Form). s ≤ length f.coefs) (sym c.self.view_is) (subst (λ (r : Amount). star_of r ≤ length c.args.self.now.coefs) c.in-Star.is c.requires.star)
+    subst (λ (f : Form). s ≤ length f.coefs) (sym c.self.view_is) (subst (λ
+    (r : Amount). star_of r ≤ length c.args.self.now.coefs) c.in-Star.is c.requires.star)
     in
     let place : at ≡ s - 1 = ap (λ (k : ℕ). k - 1) c.from-in-Star.ensures in
     let read : here ≡ get_or inside.coefs.items at here = c.index_mut.ensures.value in
     let all : IsForm (length inside.coefs.items) (Made inside.coefs.items inside.plus) =
     subst (λ (f : Form). IsForm (length f.coefs) f) (sym c.self.view_is) c.requires.form
     in
-    let small : IsSmall here = subst IsSmall (sym read) (All-get_or IsSmall inside.coefs.items at here (omega (arith, place)) all.coefs) in
+    let small : IsSmall here = subst IsSmall (sym read) (All-get_or IsSmall inside.coefs.items at here (omega
+    (arith, place)) all.coefs) in
     let sum = more-in_machine here small in
-    let there : here ≡ get_or (form_of n a).coefs (s - 1) here = read ∙ ap₂ (λ (l : List ℤ) (k : ℕ). get_or l k here) coefs place in
+    let there : here ≡ get_or (form_of n a).coefs (s - 1) here = read ∙ ap₂ (λ (l : List ℤ)
+    (k : ℕ). get_or l k here) coefs place in
     let z = here +ℤ pos 1 in
     ap₂ Made (ap (set inside.coefs.items at) sum ∙ ap₂ (λ (l : List ℤ) (k : ℕ). set l k z) coefs place) plus
     ∙ gained-star n a s z here least (omega arith) (ap (λ (y : ℤ). y +ℤ pos 1) there)
