@@ -1,0 +1,4 @@
+pub mod Grammar
+pub mod Derivation
+pub mod Counting
+pub mod Offence
