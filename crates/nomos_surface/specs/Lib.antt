@@ -1,5 +1,9 @@
 pub mod CodeView
 pub mod FileView
+pub mod Grammatical
+pub mod Print
+pub mod Reading
+pub mod Shown
 pub mod StepView
 pub mod TermView
 pub mod Tree
