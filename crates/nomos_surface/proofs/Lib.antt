@@ -1,2 +1,5 @@
+pub mod Fitting
+pub mod Makes
 pub mod PrintLaws
+pub mod TreeLaws
 pub mod Yields
