@@ -1,6 +1,7 @@
 pub mod CodeView
 pub mod FileView
 pub mod Grammatical
+pub mod mirror
 pub mod Print
 pub mod Reading
 pub mod Shown

@@ -8,5 +8,8 @@ pub mod potential;
 pub mod steps;
 pub mod surface;
 pub mod terms;
+mod tokens;
+mod type_reader;
+mod value_reader;
 pub mod types;
 pub mod value_type;

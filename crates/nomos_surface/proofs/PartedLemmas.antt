@@ -1,0 +1,49 @@
+-- Items one after another, as a loop reads them.
+use Rattle.std.proofs.Common.{◌≡◌, ℕ, zero, suc, ◌+◌, ◌-◌, ◌<◌, ◌≤◌, Bool, true, false, List, [], ◌∷◌, ◌++◌, map, Option, refl, sym, ap, ◌∙◌, arith}
+use Rattle.nomos_surface.specs.mirror.Front.{Reader, front_at, front_kind, is_list, read_lists, rest_of, read_parted}
+use Rattle.nomos_syntax.specs.declared.token.TokenKind.{TokenKind}
+use Rattle.nomos_syntax.specs.Lexeme.{Placed}
+
+mapped-end : {X A : Type 0} (f : X → A) (xs : List X) (x : X) → map f (xs ++ x ∷ []) ≡ map f xs ++ f x ∷ []
+mapped-end f [] x = refl
+mapped-end f (y ∷ xs) x = ap (λ l. f y ∷ l) (mapped-end f xs x)
+
+module _ {X A : Type 0} (f : X → A) (item : Reader A) (between : Option TokenKind → Bool) (n i : ℕ) (xs : List X) (tokens : List Placed)
+    (total : List A × List Placed) where
+
+  pub last_item : (x : X) (rest : List Placed) (ys : List X) → i < n → (f x, rest) ≡ item tokens → between (front_kind rest) ≡ false → ys ≡ xs ++ x ∷ [] →
+      read_parted item between (n - i) (map f xs) tokens ≡ total → (map f ys, rest) ≡ total
+  unfolding read_parted
+  last_item x rest ys lt read ends pushed so_far =
+      let k : n - i ≡ suc (n - (i + 1)) = omega arith in
+      let one : read_parted item between (n - i) (map f xs) tokens ≡ (map f xs ++ f x ∷ [], rest) = rw (k, ← read, ends) refl in
+      rw (pushed, mapped-end f xs x) (sym one ∙ so_far)
+
+  pub next_item : (x : X) (rest : List Placed) (ys : List X) (others : List Placed) → i < n → (f x, rest) ≡ item tokens → between (front_kind rest) ≡ true →
+      ys ≡ xs ++ x ∷ [] → others ≡ rest_of rest →
+      read_parted item between (n - i) (map f xs) tokens ≡ total → read_parted item between (n - (i + 1)) (map f ys) others ≡ total
+  unfolding read_parted
+  next_item x rest ys others lt read goes_on pushed left so_far =
+      let k : n - i ≡ suc (n - (i + 1)) = omega arith in
+      let one : read_parted item between (n - i) (map f xs) tokens ≡ read_parted item between (n - (i + 1)) (map f xs ++ f x ∷ []) (rest_of rest) = rw (k, ← read, goes_on) refl in
+      rw (pushed, left, mapped-end f xs x) (sym one ∙ so_far)
+
+  pub no_item : n ≤ i → read_parted item between (n - i) (map f xs) tokens ≡ total → (map f xs, tokens) ≡ total
+  unfolding read_parted
+  no_item le so_far =
+      let k : n - i ≡ 0 = omega arith in
+      let one : read_parted item between (n - i) (map f xs) tokens ≡ (map f xs, tokens) = rw k refl in
+      sym one ∙ so_far
+
+-- one more word `list`
+pub more_lists : (lists : List ℕ) (tokens : List Placed) → is_list (front_kind tokens) ≡ true →
+    read_lists lists tokens ≡ read_lists (lists ++ front_at tokens ∷ []) (rest_of tokens)
+unfolding read_lists
+more_lists lists [] e = cc
+more_lists lists (x ∷ rest) e = rw e refl
+
+-- no more words `list`
+pub no_lists : (lists : List ℕ) (tokens : List Placed) → is_list (front_kind tokens) ≡ false → read_lists lists tokens ≡ (lists, tokens)
+unfolding read_lists
+no_lists lists [] e = refl
+no_lists lists (x ∷ rest) e = rw e refl
