@@ -1,3 +1,4 @@
+pub mod ChainLemmas
 pub mod Fitting
 pub mod Makes
 pub mod PartedLemmas

@@ -1,10 +1,11 @@
 -- Items one after another, as a loop reads them.
 use Rattle.std.proofs.Common.{◌≡◌, ℕ, zero, suc, ◌+◌, ◌-◌, ◌<◌, ◌≤◌, Bool, true, false, List, [], ◌∷◌, ◌++◌, map, Option, refl, sym, ap, ◌∙◌, arith}
-use Rattle.nomos_surface.specs.mirror.Front.{Reader, front_at, front_kind, is_list, read_lists, rest_of, read_parted}
+use Rattle.nomos_surface.specs.mirror.Front.{Reader, front_at, front_kind, is_comma, is_list, is_list_end, read_lists, read_parted, read_until, rest_of}
 use Rattle.nomos_syntax.specs.declared.token.TokenKind.{TokenKind}
 use Rattle.nomos_syntax.specs.Lexeme.{Placed}
 
-mapped-end : {X A : Type 0} (f : X → A) (xs : List X) (x : X) → map f (xs ++ x ∷ []) ≡ map f xs ++ f x ∷ []
+-- what is mapped behind the others
+pub mapped-end : {X A : Type 0} (f : X → A) (xs : List X) (x : X) → map f (xs ++ x ∷ []) ≡ map f xs ++ f x ∷ []
 mapped-end f [] x = refl
 mapped-end f (y ∷ xs) x = ap (λ l. f y ∷ l) (mapped-end f xs x)
 
@@ -47,3 +48,15 @@ pub no_lists : (lists : List ℕ) (tokens : List Placed) → is_list (front_kind
 unfolding read_lists
 no_lists lists [] e = refl
 no_lists lists (x ∷ rest) e = rw e refl
+
+-- no items before the end of their list
+pub until_none : {A : Type 0} (item : Reader A) (n : ℕ) (tokens : List Placed) → is_list_end (front_kind tokens) ≡ true →
+    read_until item n tokens ≡ ([], tokens)
+unfolding read_until
+until_none item n tokens e = rw e refl
+
+-- one item or more
+pub until_some : {A : Type 0} (item : Reader A) (n : ℕ) (tokens : List Placed) → is_list_end (front_kind tokens) ≡ false →
+    read_until item n tokens ≡ read_parted item is_comma n [] tokens
+unfolding read_until
+until_some item n tokens e = rw e refl

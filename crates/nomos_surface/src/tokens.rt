@@ -2,7 +2,7 @@
 ghost use Rattle.std.specs.Prelude.{◌≡◌, ◌≤◌, IfOk, IsTrue, MatchOption, [], ◌∷◌, length, map, Some, None};
 ghost use Rattle.std.specs.Str.Parse.{IsNumeral, digits_value};
 ghost use Rattle.nomos_grammar.specs.Offence.{number_limit};
-ghost use Rattle.nomos_surface.specs.mirror.Front.{is_bar, is_comma, front_kind, front_at, front_number, front_text, rest_of, read_name};
+ghost use Rattle.nomos_surface.specs.mirror.Front.{is_bar, is_comma, is_list_end, is_open_paren, front_kind, front_at, front_number, front_text, rest_of, read_name};
 ghost use Rattle.nomos_surface.specs.mirror.Numerals.{AreLeft};
 ghost use Rattle.nomos_syntax.specs.Spans.{placed_of};
 
@@ -77,6 +77,23 @@ impl<'a> Tokens<'a> {
         ensures { result ≡ is_bar (front_kind self.now) }
     {
         matches!(self.kind(), Some(TokenKind::Symbol(Symbol::Bar)))
+    }
+
+    /// Whether a `(` is next.
+    pub(crate) fn at_open_paren(&self) -> bool
+        ensures { result ≡ is_open_paren (front_kind self.now) }
+    {
+        matches!(self.kind(), Some(TokenKind::Symbol(Symbol::OpenParen)))
+    }
+
+    /// Whether a list ends here: its `)` or `;` is next.
+    pub(crate) fn at_list_end(&self) -> bool
+        ensures { result ≡ is_list_end (front_kind self.now) }
+    {
+        matches!(
+            self.kind(),
+            Some(TokenKind::Symbol(Symbol::CloseParen | Symbol::Semicolon))
+        )
     }
 
     /// How many tokens are left.

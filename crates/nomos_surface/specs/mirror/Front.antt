@@ -78,13 +78,11 @@ abbrev pub is_open_paren : Option TokenKind → Bool
 is_open_paren (Some (kind.Symbol sym.OpenParen)) = true
 is_open_paren _ = false
 
-abbrev pub is_close_paren : Option TokenKind → Bool
-is_close_paren (Some (kind.Symbol sym.CloseParen)) = true
-is_close_paren _ = false
-
-abbrev pub is_semicolon : Option TokenKind → Bool
-is_semicolon (Some (kind.Symbol sym.Semicolon)) = true
-is_semicolon _ = false
+-- whether a list ends here: its `)` or `;` is next
+abbrev pub is_list_end : Option TokenKind → Bool
+is_list_end (Some (kind.Symbol sym.CloseParen)) = true
+is_list_end (Some (kind.Symbol sym.Semicolon)) = true
+is_list_end _ = false
 
 -- Items behind those that were read, with such a token between them, at most n of them.
 unfoldable pub read_parted : {A : Type 0} → Reader A → (Option TokenKind → Bool) → ℕ → List A → Reader (List A)
@@ -93,9 +91,9 @@ read_parted item between (suc n) items tokens =
     let r = item tokens in
     if between (front_kind r.1) then read_parted item between n (items ++ r.0 ∷ []) (rest_of r.1) else (items ++ r.0 ∷ [], r.1)
 
--- items that may be none, up to such a token
-abbrev pub read_until : {A : Type 0} → Reader A → (Option TokenKind → Bool) → ℕ → Reader (List A)
-read_until item ends n tokens = if ends (front_kind tokens) then ([], tokens) else read_parted item is_comma n [] tokens
+-- items with a `,` between them, which may be none, up to the end of their list
+unfoldable pub read_until : {A : Type 0} → Reader A → ℕ → Reader (List A)
+read_until item n tokens = if is_list_end (front_kind tokens) then ([], tokens) else read_parted item is_comma n [] tokens
 
 -- potentials
 
