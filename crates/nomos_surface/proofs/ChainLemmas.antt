@@ -60,7 +60,6 @@ last_mapped f xs ys x t e =
     ∙ last_head (map f xs) (f x) t
 
 module _ (operand : Reader TermTree) (c : Chain) (n i : ℕ) (left : TermTree) (tokens : List Placed) (total : TermTree × List Placed) where
-
   -- one more operator of the chain, and what stands behind it
   pub next_operator : (op : Operator) (right : TermTree) (rest : List Placed) → i < n → operator_in c (front_kind tokens) ≡ Some op →
       (right, rest) ≡ operand (rest_of tokens) → read_more operand c (n - i) left tokens ≡ total →
@@ -69,7 +68,7 @@ module _ (operand : Reader TermTree) (c : Chain) (n i : ℕ) (left : TermTree) (
   next_operator op right rest lt is read so_far =
       let k : n - i ≡ suc (n - (i + 1)) = omega arith in
       let step : read_more operand c (n - i) left tokens ≡ read_more operand c (n - (i + 1)) (binary op (front_at tokens) left right) rest =
-          rw k (more_step (read_more operand c (n - (i + 1))) operand (operator_in c (front_kind tokens)) op left right tokens rest is read) in
+      rw k (more_step (read_more operand c (n - (i + 1))) operand (operator_in c (front_kind tokens)) op left right tokens rest is read) in
       sym step ∙ so_far
 
   -- no operator of the chain is next
@@ -89,7 +88,6 @@ module _ (operand : Reader TermTree) (c : Chain) (n i : ℕ) (left : TermTree) (
       sym step ∙ so_far
 
 module _ (sum : Reader TermTree) (n i : ℕ) (heads : Heads) (tokens : List Placed) (total : TermTree × List Placed) where
-
   -- a sum with a `::` behind it
   pub next_head : (t : TermTree) (rest others : List Placed) → i < n → (t, rest) ≡ sum tokens → is_cons (front_kind rest) ≡ true →
       others ≡ rest_of rest → read_conses sum (n - i) heads tokens ≡ total →

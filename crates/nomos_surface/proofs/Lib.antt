@@ -4,5 +4,6 @@ pub mod Makes
 pub mod PartedLemmas
 pub mod PrintLaws
 pub mod RoomLemmas
+pub mod StepLemmas
 pub mod TreeLaws
 pub mod Yields

@@ -11,7 +11,6 @@ mapped-end f (y ∷ xs) x = ap (λ l. f y ∷ l) (mapped-end f xs x)
 
 module _ {X A : Type 0} (f : X → A) (item : Reader A) (between : Option TokenKind → Bool) (n i : ℕ) (xs : List X) (tokens : List Placed)
     (total : List A × List Placed) where
-
   pub last_item : (x : X) (rest : List Placed) (ys : List X) → i < n → (f x, rest) ≡ item tokens → between (front_kind rest) ≡ false → ys ≡ xs ++ x ∷ [] →
       read_parted item between (n - i) (map f xs) tokens ≡ total → (map f ys, rest) ≡ total
   unfolding read_parted
@@ -34,6 +33,35 @@ module _ {X A : Type 0} (f : X → A) (item : Reader A) (between : Option TokenK
   no_item le so_far =
       let k : n - i ≡ 0 = omega arith in
       let one : read_parted item between (n - i) (map f xs) tokens ≡ (map f xs, tokens) = rw k refl in
+      sym one ∙ so_far
+
+-- the same of items that are read as they are
+
+module _ {A : Type 0} (item : Reader A) (between : Option TokenKind → Bool) (n i : ℕ) (xs : List A) (tokens : List Placed)
+    (total : List A × List Placed) where
+  pub last_plain : (x : A) (rest : List Placed) (ys : List A) → i < n → (x, rest) ≡ item tokens → between (front_kind rest) ≡ false →
+      ys ≡ xs ++ x ∷ [] → read_parted item between (n - i) xs tokens ≡ total → (ys, rest) ≡ total
+  unfolding read_parted
+  last_plain x rest ys lt read ends pushed so_far =
+      let k : n - i ≡ suc (n - (i + 1)) = omega arith in
+      let one : read_parted item between (n - i) xs tokens ≡ (xs ++ x ∷ [], rest) = rw (k, ← read, ends) refl in
+      rw pushed (sym one ∙ so_far)
+
+  pub next_plain : (x : A) (rest : List Placed) (ys : List A) (others : List Placed) → i < n → (x, rest) ≡ item tokens →
+      between (front_kind rest) ≡ true → ys ≡ xs ++ x ∷ [] → others ≡ rest_of rest →
+      read_parted item between (n - i) xs tokens ≡ total → read_parted item between (n - (i + 1)) ys others ≡ total
+  unfolding read_parted
+  next_plain x rest ys others lt read goes_on pushed left so_far =
+      let k : n - i ≡ suc (n - (i + 1)) = omega arith in
+      let one : read_parted item between (n - i) xs tokens ≡ read_parted item between (n - (i + 1)) (xs ++ x ∷ []) (rest_of rest) =
+      rw (k, ← read, goes_on) refl in
+      rw (pushed, left) (sym one ∙ so_far)
+
+  pub no_plain : n ≤ i → read_parted item between (n - i) xs tokens ≡ total → (xs, tokens) ≡ total
+  unfolding read_parted
+  no_plain le so_far =
+      let k : n - i ≡ 0 = omega arith in
+      let one : read_parted item between (n - i) xs tokens ≡ (xs, tokens) = rw k refl in
       sym one ∙ so_far
 
 -- one more word `list`

@@ -43,7 +43,6 @@ StandsFor p printer = (rest : List Part) (after : List Shown) → Yields rest af
 
 module _ (more : Nonterminal) (item : Part) (sep : Symbol)
     (again : IsAmong (sign_part sep ∷ item ∷ the more ∷ []) (alternatives more)) (none : IsAmong [] (alternatives more)) where
-
   pub more_stand : (printers : List Printer) → Each (StandsFor item) printers → StandsFor (the more) (print_more sep printers)
   more_stand [] each rest after y = chooses [] none y
   more_stand (p ∷ ps) each rest after y =

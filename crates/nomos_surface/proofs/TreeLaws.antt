@@ -297,9 +297,13 @@ mutual
       record {
         tree = choosing x.at t.tree u.tree v.tree;
         is = is_choosing t.is u.is v.is;
-        reads = λ after h. (meets_keyword_at word.If x f,
-          t.reads (keyword word.Then ∷ print_term u.tree (keyword word.Else ∷ print_term v.tree after)) (meets_keyword word.Then y g,
-          u.reads (keyword word.Else ∷ print_term v.tree after) (meets_keyword word.Else z k, v.reads after h)));
+        reads = λ after h. (
+          meets_keyword_at word.If x f,
+          t.reads (keyword word.Then ∷ print_term u.tree (keyword word.Else ∷ print_term v.tree after)) (
+            meets_keyword word.Then y g,
+            u.reads (keyword word.Else ∷ print_term v.tree after) (meets_keyword word.Else z k, v.reads after h),
+          ),
+        );
       }
   term_made (made _ (later first) (made_more made_mark (made_more made_mark (made_more (made_token {x} f) (made_more matched (made_more (made_token {x = x1} f1) (made_more (made_token {x = x2} f2) (made_more (made_token {x = x3} f3) (made_more empty (made_more (made_token {x = x4} f4) (made_more (made_token {x = x5} f5) (made_more (made_token {x = x6} f6) (made_more (made_token {x = x7} f7) (made_more (made_token {x = x8} f8) (made_more more (made_more (made_token {x = x9} f9) (made_more made_mark made_none))))))))))))))))) =
       let t = term_made matched in
@@ -308,12 +312,34 @@ mutual
       record {
         tree = matching x.at t.tree u.tree (name_of x5 f5) (name_of x7 f7) v.tree;
         is = is_matching t.is u.is v.is;
-        reads = λ after h. (meets_keyword_at word.Match x f,
-          t.reads (sign sym.OpenBrace ∷ keyword word.Nil ∷ sign sym.FatArrow ∷ print_term u.tree (sign sym.Bar ∷ print_heading (name_of x5 f5) (name_of x7 f7) (print_term v.tree (sign sym.CloseBrace ∷ after))))
-          (meets_sign sym.OpenBrace x1 f1, (meets_keyword word.Nil x2 f2, (meets_sign sym.FatArrow x3 f3,
-          u.reads (sign sym.Bar ∷ print_heading (name_of x5 f5) (name_of x7 f7) (print_term v.tree (sign sym.CloseBrace ∷ after)))
-          (meets_sign sym.Bar x4 f4, (meets_name x5 f5, (meets_sign sym.DoubleColon x6 f6, (meets_name x7 f7, (meets_sign sym.FatArrow x8 f8,
-          v.reads (sign sym.CloseBrace ∷ after) (meets_sign sym.CloseBrace x9 f9, h))))))))));
+        reads = λ after h. (
+          meets_keyword_at word.Match x f,
+          t.reads (sign sym.OpenBrace ∷ keyword word.Nil ∷ sign sym.FatArrow ∷ print_term u.tree (sign sym.Bar ∷ print_heading (name_of x5 f5) (name_of x7 f7) (print_term v.tree (sign sym.CloseBrace ∷ after)))) (
+            meets_sign sym.OpenBrace x1 f1,
+            (
+              meets_keyword word.Nil x2 f2,
+              (
+                meets_sign sym.FatArrow x3 f3,
+                u.reads (sign sym.Bar ∷ print_heading (name_of x5 f5) (name_of x7 f7) (print_term v.tree (sign sym.CloseBrace ∷ after))) (
+                  meets_sign sym.Bar x4 f4,
+                  (
+                    meets_name x5 f5,
+                    (
+                      meets_sign sym.DoubleColon x6 f6,
+                      (
+                        meets_name x7 f7,
+                        (
+                          meets_sign sym.FatArrow x8 f8,
+                          v.reads (sign sym.CloseBrace ∷ after) (meets_sign sym.CloseBrace x9 f9, h),
+                        ),
+                      ),
+                    ),
+                  ),
+                ),
+              ),
+            ),
+          ),
+        );
       }
   term_made (made _ (later (later first)) (made_more made_mark (made_more inner (made_more made_mark made_none)))) =
       let r = disjunction_made inner in record { tree = r.tree; is = is_disjunction r.is; reads = r.reads }
@@ -474,8 +500,13 @@ mutual
       record {
         tree = application (name_of x f) (term_trees r.tree);
         is = is_application (are_terms r.tree r.is);
-        reads = λ after h. (meets_name x f, (meets_sign sym.OpenParen y g,
-          rw (printed_terms r.tree) (r.reads (sign sym.CloseParen ∷ after) (meets_sign sym.CloseParen z k, h))));
+        reads = λ after h. (
+          meets_name x f,
+          (
+            meets_sign sym.OpenParen y g,
+            rw (printed_terms r.tree) (r.reads (sign sym.CloseParen ∷ after) (meets_sign sym.CloseParen z k, h)),
+          ),
+        );
       }
   call_made x f (made _ (later first) made_none) =
       record { tree = variable (name_of x f); is = is_variable; reads = λ after h. (meets_name x f, h) }
@@ -535,9 +566,11 @@ args_made (made _ first (made_more (made_token {x} f) (made_more values (made_mo
     record {
       tree = record { values = v.tree; channels = c.tree };
       is = v.is;
-      reads = λ after h. (meets_sign sym.OpenParen x f,
+      reads = λ after h. (
+        meets_sign sym.OpenParen x f,
         v.reads (sign sym.Semicolon ∷ print_parted sym.Comma (map print_named c.tree) (sign sym.CloseParen ∷ after))
-        (meets_sign sym.Semicolon y g, c.reads (sign sym.CloseParen ∷ after) (meets_sign sym.CloseParen z k, h)));
+            (meets_sign sym.Semicolon y g, c.reads (sign sym.CloseParen ∷ after) (meets_sign sym.CloseParen z k, h)),
+      );
     }
 args_made (made _ (later gap) _) = elim gap [ ]
 
@@ -551,16 +584,38 @@ after_list_made x n e l fx fn fe fl (made _ first (made_more made_mark (made_mor
     record {
       tree = empty_list x.at (name_of n fn) l.at q.tree t.tree;
       is = tt;
-      reads = λ after h. (meets_keyword_at word.Let x fx, (meets_name n fn, (meets_sign sym.Equals e fe, (meets_keyword_at word.List l fl,
-        q.reads (print_value_type t.tree after) (t.reads after h)))));
+      reads = λ after h. (
+        meets_keyword_at word.Let x fx,
+        (
+          meets_name n fn,
+          (
+            meets_sign sym.Equals e fe,
+            (
+              meets_keyword_at word.List l fl,
+              q.reads (print_value_type t.tree after) (t.reads after h),
+            ),
+          ),
+        ),
+      );
     }
 after_list_made x n e l fx fn fe fl (made _ (later first) (made_more value (made_more (made_token {x = y} g) (made_more (made_token {x = z} k) made_none)))) =
     let t = term_made value in
     record {
       tree = longer_list x.at (name_of n fn) t.tree (name_of z k);
       is = t.is;
-      reads = λ after h. (meets_keyword_at word.Let x fx, (meets_name n fn, (meets_sign sym.Equals e fe, (meets_keyword word.List l fl,
-        t.reads (sign sym.Comma ∷ print_name (name_of z k) ∷ after) (meets_sign sym.Comma y g, (meets_name z k, h))))));
+      reads = λ after h. (
+        meets_keyword_at word.Let x fx,
+        (
+          meets_name n fn,
+          (
+            meets_sign sym.Equals e fe,
+            (
+              meets_keyword word.List l fl,
+              t.reads (sign sym.Comma ∷ print_name (name_of z k) ∷ after) (meets_sign sym.Comma y g, (meets_name z k, h)),
+            ),
+          ),
+        ),
+      );
     }
 after_list_made _ _ _ _ _ _ _ _ (made _ (later (later gap)) _) = elim gap [ ]
 
@@ -723,8 +778,10 @@ mutual
       record {
         tree = code_if x.at t.tree u.tree v.tree;
         is = (t.is, u.is, v.is);
-        reads = λ after h. (meets_keyword_at word.If x f,
-          t.reads _ (u.reads (keyword word.Else ∷ print_braced v.tree after) (meets_keyword word.Else y g, v.reads after h)));
+        reads = λ after h. (
+          meets_keyword_at word.If x f,
+          t.reads _ (u.reads (keyword word.Else ∷ print_braced v.tree after) (meets_keyword word.Else y g, v.reads after h)),
+        );
       }
   last_made (made _ (later (later (later first))) (made_more made_mark (made_more (made_token {x = x} f) (made_more ch (made_more (made_token {x = y} g) (made_more branches (made_more (made_token {x = z} k) made_none))))))) =
       let c = chan_made ch in
@@ -732,9 +789,11 @@ mutual
       record {
         tree = case x.at c.tree r.tree;
         is = r.is;
-        reads = λ after h. (meets_keyword_at word.Case x f,
+        reads = λ after h. (
+          meets_keyword_at word.Case x f,
           c.reads (sign sym.OpenBrace ∷ print_parted sym.Bar (print_arms r.tree) (sign sym.CloseBrace ∷ after))
-          (meets_sign sym.OpenBrace y g, r.reads (sign sym.CloseBrace ∷ after) (meets_sign sym.CloseBrace z k, h)));
+              (meets_sign sym.OpenBrace y g, r.reads (sign sym.CloseBrace ∷ after) (meets_sign sym.CloseBrace z k, h)),
+        );
       }
   last_made (made _ (later (later (later (later first)))) (made_more made_mark (made_more (made_token {x = x} f) (made_more (made_token {x = x1} f1) (made_more (made_token {x = x2} f2) (made_more made_mark (made_more (made_token {x = x3} f3) (made_more (made_token {x = x4} f4) (made_more empty (made_more made_mark (made_more (made_token {x = x5} f5) (made_more made_mark (made_more (made_token {x = x6} f6) (made_more (made_token {x = x7} f7) (made_more (made_token {x = x8} f8) (made_more (made_token {x = x9} f9) (made_more more (made_more made_mark (made_more (made_token {x = y1} g1) made_none))))))))))))))))))) =
       let u = steps_made empty in
@@ -742,10 +801,37 @@ mutual
       record {
         tree = code_match x.at (name_of x1 f1) (code u.tree.0 u.tree.1) (name_of x6 f6) (name_of x8 f8) (code v.tree.0 v.tree.1);
         is = (u.is, v.is);
-        reads = λ after h. (meets_keyword_at word.Match x f, (meets_name x1 f1, (meets_sign sym.OpenBrace x2 f2, (meets_keyword word.Nil x3 f3, (meets_sign sym.FatArrow x4 f4,
-          u.reads (sign sym.Bar ∷ print_heading (name_of x6 f6) (name_of x8 f8) (print_whole v.tree (sign sym.CloseBrace ∷ after)))
-          (meets_sign sym.Bar x5 f5, (meets_name x6 f6, (meets_sign sym.DoubleColon x7 f7, (meets_name x8 f8, (meets_sign sym.FatArrow x9 f9,
-          v.reads (sign sym.CloseBrace ∷ after) (meets_sign sym.CloseBrace y1 g1, h)))))))))));
+        reads = λ after h. (
+          meets_keyword_at word.Match x f,
+          (
+            meets_name x1 f1,
+            (
+              meets_sign sym.OpenBrace x2 f2,
+              (
+                meets_keyword word.Nil x3 f3,
+                (
+                  meets_sign sym.FatArrow x4 f4,
+                  u.reads (sign sym.Bar ∷ print_heading (name_of x6 f6) (name_of x8 f8) (print_whole v.tree (sign sym.CloseBrace ∷ after))) (
+                    meets_sign sym.Bar x5 f5,
+                    (
+                      meets_name x6 f6,
+                      (
+                        meets_sign sym.DoubleColon x7 f7,
+                        (
+                          meets_name x8 f8,
+                          (
+                            meets_sign sym.FatArrow x9 f9,
+                            v.reads (sign sym.CloseBrace ∷ after) (meets_sign sym.CloseBrace y1 g1, h),
+                          ),
+                        ),
+                      ),
+                    ),
+                  ),
+                ),
+              ),
+            ),
+          ),
+        );
       }
   last_made (made _ (later (later (later (later (later first))))) (made_more made_mark (made_more (made_token {x = x} f) made_none))) =
       record { tree = close x.at; is = tt; reads = λ after h. (meets_keyword_at word.Close x f, h) }
@@ -926,9 +1012,11 @@ pars_together_made (made _ first (made_more (made_token {x = x} f) (made_more va
     record {
       tree = record { values = v.tree; channels = c.tree };
       is = c.is;
-      reads = λ after h. (meets_sign sym.OpenParen x f,
+      reads = λ after h. (
+        meets_sign sym.OpenParen x f,
         v.reads (sign sym.Semicolon ∷ print_parted sym.Comma (map print_chan_par c.tree) (sign sym.CloseParen ∷ after))
-        (meets_sign sym.Semicolon y g, c.reads (sign sym.CloseParen ∷ after) (meets_sign sym.CloseParen z k, h)));
+            (meets_sign sym.Semicolon y g, c.reads (sign sym.CloseParen ∷ after) (meets_sign sym.CloseParen z k, h)),
+      );
     }
 pars_together_made (made _ (later gap) _) = elim gap [ ]
 
@@ -949,9 +1037,17 @@ proc_made x f (made _ first (made_more (made_token {x = x1} f1) (made_more (made
     record {
       tree = transaction x.at (name_of x2 f2) p.tree q.tree c.tree;
       is = (p.is, c.is);
-      reads = λ after h. (meets_keyword_at word.Proc x f, (meets_keyword word.T x1 f1, (meets_name x2 f2,
-        p.reads (print_optional q.tree (print_body c.tree after)) (q.reads (print_body c.tree after)
-        (meets_sign sym.Equals x3 f3, c.reads (sign sym.Semicolon ∷ after) (meets_sign sym.Semicolon x4 f4, h))))));
+      reads = λ after h. (
+        meets_keyword_at word.Proc x f,
+        (
+          meets_keyword word.T x1 f1,
+          (
+            meets_name x2 f2,
+            p.reads (print_optional q.tree (print_body c.tree after)) (q.reads (print_body c.tree after)
+                (meets_sign sym.Equals x3 f3, c.reads (sign sym.Semicolon ∷ after) (meets_sign sym.Semicolon x4 f4, h))),
+          ),
+        ),
+      );
     }
 proc_made x f (made _ (later first) (made_more mode_part (made_more (made_token {x = x2} f2) (made_more pars (made_more amount (made_more (made_token {x = x3} f3) (made_more offers (made_more (made_token {x = x4} f4) (made_more inner (made_more (made_token {x = x5} f5) made_none)))))))))) =
     let m = mode_made mode_part in
@@ -962,13 +1058,18 @@ proc_made x f (made _ (later first) (made_more mode_part (made_more (made_token 
     record {
       tree = process x.at m.tree (name_of x2 f2) p.tree q.tree t.tree c.tree;
       is = (p.is, t.is, c.is);
-      reads = λ after h. (meets_keyword_at word.Proc x f,
-        m.reads (print_name (name_of x2 f2) ∷ print_pars p.tree (print_optional q.tree (sign sym.Colon ∷ print_type t.tree (print_body c.tree after))))
-        (meets_name x2 f2,
-        p.reads (print_optional q.tree (sign sym.Colon ∷ print_type t.tree (print_body c.tree after)))
-        (q.reads (sign sym.Colon ∷ print_type t.tree (print_body c.tree after)) (meets_sign sym.Colon x3 f3,
-        t.reads (print_body c.tree after)
-        (meets_sign sym.Equals x4 f4, c.reads (sign sym.Semicolon ∷ after) (meets_sign sym.Semicolon x5 f5, h))))));
+      reads = λ after h. (
+        meets_keyword_at word.Proc x f,
+        m.reads (print_name (name_of x2 f2) ∷ print_pars p.tree (print_optional q.tree (sign sym.Colon ∷ print_type t.tree (print_body c.tree after)))) (
+          meets_name x2 f2,
+          p.reads (print_optional q.tree (sign sym.Colon ∷ print_type t.tree (print_body c.tree after)))
+              (q.reads (sign sym.Colon ∷ print_type t.tree (print_body c.tree after)) (
+                meets_sign sym.Colon x3 f3,
+                t.reads (print_body c.tree after)
+                    (meets_sign sym.Equals x4 f4, c.reads (sign sym.Semicolon ∷ after) (meets_sign sym.Semicolon x5 f5, h)),
+              )),
+        ),
+      );
     }
 proc_made _ _ (made _ (later (later gap)) _) = elim gap [ ]
 
@@ -979,10 +1080,16 @@ decl_made (made _ first (made_more made_mark (made_more (made_token {x = x} f) (
     record {
       tree = definition x.at m.tree (name_of x1 f1) t.tree;
       is = t.is;
-      reads = λ after h. (meets_keyword_at word.«Type» x f,
-        m.reads (print_name (name_of x1 f1) ∷ sign sym.Equals ∷ print_type t.tree (sign sym.Semicolon ∷ after))
-        (meets_name x1 f1, (meets_sign sym.Equals x2 f2,
-        t.reads (sign sym.Semicolon ∷ after) (meets_sign sym.Semicolon x3 f3, h))));
+      reads = λ after h. (
+        meets_keyword_at word.«Type» x f,
+        m.reads (print_name (name_of x1 f1) ∷ sign sym.Equals ∷ print_type t.tree (sign sym.Semicolon ∷ after)) (
+          meets_name x1 f1,
+          (
+            meets_sign sym.Equals x2 f2,
+            t.reads (sign sym.Semicolon ∷ after) (meets_sign sym.Semicolon x3 f3, h),
+          ),
+        ),
+      );
     }
 decl_made (made _ (later first) (made_more made_mark (made_more (made_token {x = x} f) (made_more (made_token {x = x1} f1) (made_more (made_token {x = x2} f2) (made_more pars (made_more (made_token {x = x3} f3) (made_more (made_token {x = x4} f4) (made_more gives (made_more (made_token {x = x5} f5) (made_more body (made_more (made_token {x = x6} f6) made_none)))))))))))) =
     let p = value_pars_made pars in
@@ -991,11 +1098,25 @@ decl_made (made _ (later first) (made_more made_mark (made_more (made_token {x =
     record {
       tree = function x.at (name_of x1 f1) p.tree v.tree t.tree;
       is = t.is;
-      reads = λ after h. (meets_keyword_at word.Fn x f, (meets_name x1 f1, (meets_sign sym.OpenParen x2 f2,
-        p.reads (sign sym.CloseParen ∷ sign sym.Colon ∷ print_value_type v.tree (sign sym.Equals ∷ print_term t.tree (sign sym.Semicolon ∷ after)))
-        (meets_sign sym.CloseParen x3 f3, (meets_sign sym.Colon x4 f4,
-        v.reads (sign sym.Equals ∷ print_term t.tree (sign sym.Semicolon ∷ after)) (meets_sign sym.Equals x5 f5,
-        t.reads (sign sym.Semicolon ∷ after) (meets_sign sym.Semicolon x6 f6, h)))))));
+      reads = λ after h. (
+        meets_keyword_at word.Fn x f,
+        (
+          meets_name x1 f1,
+          (
+            meets_sign sym.OpenParen x2 f2,
+            p.reads (sign sym.CloseParen ∷ sign sym.Colon ∷ print_value_type v.tree (sign sym.Equals ∷ print_term t.tree (sign sym.Semicolon ∷ after))) (
+              meets_sign sym.CloseParen x3 f3,
+              (
+                meets_sign sym.Colon x4 f4,
+                v.reads (sign sym.Equals ∷ print_term t.tree (sign sym.Semicolon ∷ after)) (
+                  meets_sign sym.Equals x5 f5,
+                  t.reads (sign sym.Semicolon ∷ after) (meets_sign sym.Semicolon x6 f6, h),
+                ),
+              ),
+            ),
+          ),
+        ),
+      );
     }
 decl_made (made _ (later (later first)) (made_more made_mark (made_more (made_token {x = x} f) (made_more others made_none)))) = proc_made x f others
 decl_made (made _ (later (later (later gap))) _) = elim gap [ ]
@@ -1027,8 +1148,10 @@ file_made (made _ first (made_more (made_token {x = x} f) (made_more model (made
     record {
       tree = record { cost = Some (record { at = x.at; model = m.tree }); decls = r.tree };
       is = r.is;
-      reads = λ after h. (meets_keyword_at word.Cost x f,
-        m.reads (sign sym.Semicolon ∷ print_decls r.tree after) (meets_sign sym.Semicolon y g, r.reads after h));
+      reads = λ after h. (
+        meets_keyword_at word.Cost x f,
+        m.reads (sign sym.Semicolon ∷ print_decls r.tree after) (meets_sign sym.Semicolon y g, r.reads after h),
+      );
     }
 file_made (made _ (later first) (made_more others made_none)) =
     let r = decls_made others in

@@ -69,8 +69,8 @@ fits_number value (name text) h = absurd h
 fits_number value (reserved w) h = absurd h
 fits_number value (number digits) h =
     elim (bytes_eq digits (codes "1")) as
-      (λ b. (cond b (Some terminal.One) (Some terminal.Number) ≡ Some terminal.Number) ⊎ ((terminal.Number ≡ terminal.Number) × (cond b (Some terminal.One) (Some terminal.Number) ≡ Some terminal.One)))
-      [ true ↦ inr (refl, refl) | false ↦ inl refl ]
+    (λ b. (cond b (Some terminal.One) (Some terminal.Number) ≡ Some terminal.Number) ⊎ ((terminal.Number ≡ terminal.Number) × (cond b (Some terminal.One) (Some terminal.Number) ≡ Some terminal.One)))
+    [ true ↦ inr (refl, refl) | false ↦ inl refl ]
 fits_number value (symbol s) h = absurd h
 fits_number value (bad byte) h = absurd h
 

@@ -2,16 +2,19 @@
 #![tactic(auto)]
 
 mod chain;
+mod code_reader;
 pub mod codes;
+mod decl_reader;
 pub mod declarations;
 pub mod name_at;
 pub mod potential;
+mod step_reader;
 pub mod steps;
 pub mod surface;
 mod term_reader;
 pub mod terms;
 mod tokens;
 mod type_reader;
-mod value_reader;
 pub mod types;
+mod value_reader;
 pub mod value_type;

@@ -67,10 +67,7 @@ fn comparison_in(kind: Option<TokenKind>) -> Option<Operator>
 fn at_cons(tokens: &Tokens<'_>) -> bool
     ensures { result ≡ is_cons (front_kind tokens.now) }
 {
-    matches!(
-        tokens.kind(),
-        Some(TokenKind::Symbol(Symbol::DoubleColon))
-    )
+    matches!(tokens.kind(), Some(TokenKind::Symbol(Symbol::DoubleColon)))
 }
 
 /// Whether `not` is next.
@@ -102,11 +99,7 @@ fn negated(alloc: Global, at: u32, term: SurfaceTerm) -> Result<SurfaceTerm, All
 }
 
 /// A term with words `not` at these offsets before it.
-fn with_nots(
-    alloc: Global,
-    nots: Vec<u32>,
-    term: SurfaceTerm,
-) -> Result<SurfaceTerm, AllocError>
+fn with_nots(alloc: Global, nots: Vec<u32>, term: SurfaceTerm) -> Result<SurfaceTerm, AllocError>
     ensures { IfOk result (λ t. term_tree t ≡ with_nots nots.items (term_tree term)) }
 {
     let mut nots = nots;
@@ -246,11 +239,7 @@ fn read_operand(
 
 /// Reads terms with the operators of a chain between them.
 #[cycle(reading_terms)]
-fn read_chain(
-    room: usize,
-    chain: Chain,
-    tokens: &mut Tokens<'_>,
-) -> Result<SurfaceTerm, AllocError>
+fn read_chain(room: usize, chain: Chain, tokens: &mut Tokens<'_>) -> Result<SurfaceTerm, AllocError>
     ensures { IfOk result (λ t. (term_tree t, tokens.new) ≡ read_chain (operand_of (read_term room) chain) chain tokens.old) }
 {
     let mut left = read_operand(room, chain, tokens)?;

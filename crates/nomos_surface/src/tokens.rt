@@ -2,7 +2,7 @@
 ghost use Rattle.std.specs.Prelude.{◌≡◌, ◌≤◌, IfOk, IsTrue, MatchOption, [], ◌∷◌, length, map, Some, None};
 ghost use Rattle.std.specs.Str.Parse.{IsNumeral, digits_value};
 ghost use Rattle.nomos_grammar.specs.Offence.{number_limit};
-ghost use Rattle.nomos_surface.specs.mirror.Front.{is_bar, is_comma, is_list_end, is_open_paren, front_kind, front_at, front_number, front_text, rest_of, read_name};
+ghost use Rattle.nomos_surface.specs.mirror.Front.{is_bar, is_comma, is_list_end, is_open_brace, is_open_paren, none_left, front_kind, front_at, front_number, front_text, rest_of, read_name};
 ghost use Rattle.nomos_surface.specs.mirror.Numerals.{AreLeft};
 ghost use Rattle.nomos_syntax.specs.Spans.{placed_of};
 
@@ -94,6 +94,23 @@ impl<'a> Tokens<'a> {
             self.kind(),
             Some(TokenKind::Symbol(Symbol::CloseParen | Symbol::Semicolon))
         )
+    }
+
+    /// Whether a `{` stands behind the next token.
+    pub(crate) fn brace_behind(&self) -> bool
+        ensures { result ≡ is_open_brace (front_kind (rest_of self.now)) }
+    {
+        match self.left {
+            [_, second, ..] => matches!(second.kind, TokenKind::Symbol(Symbol::OpenBrace)),
+            _ => false,
+        }
+    }
+
+    /// Whether no token is left.
+    pub(crate) fn is_empty(&self) -> bool
+        ensures { result ≡ none_left self.now }
+    {
+        self.left.is_empty()
     }
 
     /// How many tokens are left.

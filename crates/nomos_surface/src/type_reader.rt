@@ -204,10 +204,7 @@ fn read_choice(
 
 /// Reads branches.
 #[cycle(reading_types)]
-fn read_branches(
-    room: usize,
-    tokens: &mut Tokens<'_>,
-) -> Result<Vec<SurfaceBranch>, AllocError>
+fn read_branches(room: usize, tokens: &mut Tokens<'_>) -> Result<Vec<SurfaceBranch>, AllocError>
     ensures { IfOk result (λ bs. (map branch_tree bs.items, tokens.new) ≡
         read_parted (read_branch (read_type room)) is_bar (length tokens.old) [] tokens.old) }
 {

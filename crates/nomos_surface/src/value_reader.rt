@@ -38,13 +38,10 @@ pub(crate) fn read_potential(tokens: &mut Tokens<'_>) -> Potential
 }
 
 /// Whether a potential begins here.
-fn begins_potential(tokens: &Tokens<'_>) -> bool
+pub(crate) fn begins_potential(tokens: &Tokens<'_>) -> bool
     ensures { result ≡ is_open_brace (front_kind tokens.now) }
 {
-    matches!(
-        tokens.kind(),
-        Some(TokenKind::Symbol(Symbol::OpenBrace))
-    )
+    matches!(tokens.kind(), Some(TokenKind::Symbol(Symbol::OpenBrace)))
 }
 
 /// Reads a potential, where one stands.

@@ -135,14 +135,18 @@ model_from (Some (kind.Reserved word.Sends)) = cost.Sends
 model_from (Some (kind.Reserved word.All)) = cost.All
 model_from _ = cost.Ticks
 
+abbrev pub is_cost : Option TokenKind → Bool
+is_cost (Some (kind.Reserved word.Cost)) = true
+is_cost _ = false
+
 -- the line of the cost model, where it stands
-abbrev pub cost_from : Option TokenKind → Reader (Option CostLine)
-cost_from (Some (kind.Reserved word.Cost)) tokens =
+abbrev pub cost_from : Bool → Reader (Option CostLine)
+cost_from true tokens =
     let model = rest_of tokens in
     (Some (record { at = front_at tokens; model = model_from (front_kind model) }), rest_of (rest_of model))
-cost_from _ tokens = (None, tokens)
+cost_from false tokens = (None, tokens)
 
 unfoldable pub read_file : List Placed → FileTree
 read_file tokens =
-    let c = cost_from (front_kind tokens) tokens in
+    let c = cost_from (is_cost (front_kind tokens)) tokens in
     record { cost = c.0; decls = read_decls (length c.1) [] c.1 }

@@ -45,6 +45,11 @@ abbrev pub rest_of : List Placed → List Placed
 rest_of [] = []
 rest_of (x ∷ rest) = rest
 
+-- whether no token is left
+abbrev pub none_left : List Placed → Bool
+none_left [] = true
+none_left (x ∷ rest) = false
+
 -- the value of the next token, where it is a number
 abbrev pub number_of : Lexeme → ℕ
 number_of (number digits) = digits_value 10 digits

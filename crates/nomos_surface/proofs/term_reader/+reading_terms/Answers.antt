@@ -51,16 +51,16 @@ read_chain-loop-init t c =
 pub read_chain-returns-in_default : goal.read_chain-returns-in_default
 read_chain-returns-in_default t c =
     let e : operator_in c.args.chain (front_kind c.loop.tokens) ≡ None =
-        sym (ap (operator_in c.args.chain) c.kind.ensures) ∙ sym c.operator_in.ensures ∙ c.in_default.is in
+    sym (ap (operator_in c.args.chain) c.kind.ensures) ∙ sym c.operator_in.ensures ∙ c.in_default.is in
     no_operator (operand_of (read_term c.args.room) c.args.chain) c.args.chain c.len-end.result c.loop.counter (term_tree c.loop.left) c.loop.tokens
     (read_chain (operand_of (read_term c.args.room) c.args.chain) c.args.chain c.args.tokens.now) c.loop-test.true e c.loop.invariant
 
 pub read_chain-loop-preserved : goal.read_chain-loop-preserved
 read_chain-loop-preserved t c =
     let e : operator_in c.args.chain (front_kind c.loop.tokens) ≡ Some c.in-Some.operator =
-        sym (ap (operator_in c.args.chain) c.kind.ensures) ∙ sym c.operator_in.ensures ∙ c.in-Some.is in
+    sym (ap (operator_in c.args.chain) c.kind.ensures) ∙ sym c.operator_in.ensures ∙ c.in-Some.is in
     let read : (term_tree c.in_ok-right.right, c.read_operand-in-loop.new.tokens) ≡ operand_of (read_term c.args.room) c.args.chain _ =
-        rw (← c.skip-at.ensures.rest) c.in_ok-right.ensures in
+    rw (← c.skip-at.ensures.rest) c.in_ok-right.ensures in
     rw (c.in_ok-left-2.ensures, c.skip-at.ensures.at)
     (next_operator (operand_of (read_term c.args.room) c.args.chain) c.args.chain c.len-end.result c.loop.counter (term_tree c.loop.left) c.loop.tokens
     (read_chain (operand_of (read_term c.args.room) c.args.chain) c.args.chain c.args.tokens.now)
@@ -80,10 +80,10 @@ pub read_list_term-returns-then-not-at_cons : goal.read_list_term-returns-then-n
 read_list_term-returns-then-not-at_cons t c =
     if_ok (λ (u : SurfaceTerm). term_tree u ≡ with_heads (map head_tree c.loop.heads.items) (term_tree c.in_ok-sum.sum)) _ c.with_heads.result
     (λ u made. ap (λ (v : TermTree). let p : TermTree × List Placed = (v, c.read_chain.new.tokens) in p) made
-      ∙ last_sum (read_chain (read_chain (read_primary (read_term c.args.room)) chain.Product) chain.Sum) c.len-end.result c.loop.counter
-        (map head_tree c.loop.heads.items) c.loop.tokens (read_list_term (read_term c.args.room) c.args.tokens.now)
-        (term_tree c.in_ok-sum.sum) c.read_chain.new.tokens c.loop-test.true c.in_ok-sum.ensures
-        (sym c.at_cons.ensures ∙ c.if-not-at_cons.true) c.loop.invariant)
+    ∙ last_sum (read_chain (read_chain (read_primary (read_term c.args.room)) chain.Product) chain.Sum) c.len-end.result c.loop.counter
+    (map head_tree c.loop.heads.items) c.loop.tokens (read_list_term (read_term c.args.room) c.args.tokens.now)
+    (term_tree c.in_ok-sum.sum) c.read_chain.new.tokens c.loop-test.true c.in_ok-sum.ensures
+    (sym c.at_cons.ensures ∙ c.if-not-at_cons.true) c.loop.invariant)
     c.with_heads.ensures
 
 pub read_list_term-loop-preserved : goal.read_list_term-loop-preserved
@@ -98,7 +98,7 @@ pub read_list_term-returns : goal.read_list_term-returns
 read_list_term-returns t c =
     if_ok (λ (u : SurfaceTerm). term_tree u ≡ with_heads (map head_tree c.loop.heads.items) (term_tree c.read_number-last.result)) _ c.with_heads-2.result
     (λ u made. ap (λ (v : TermTree). let p : TermTree × List Placed = (v, c.read_number-last.new.tokens) in p) made
-      ∙ no_sum (read_chain (read_chain (read_primary (read_term c.args.room)) chain.Product) chain.Sum) c.len-end.result c.loop.counter
-        (map head_tree c.loop.heads.items) c.loop.tokens (read_list_term (read_term c.args.room) c.args.tokens.now)
-        (term_tree c.read_number-last.result) c.read_number-last.new.tokens c.loop-test.false c.read_number-last.ensures c.loop.invariant)
+    ∙ no_sum (read_chain (read_chain (read_primary (read_term c.args.room)) chain.Product) chain.Sum) c.len-end.result c.loop.counter
+    (map head_tree c.loop.heads.items) c.loop.tokens (read_list_term (read_term c.args.room) c.args.tokens.now)
+    (term_tree c.read_number-last.result) c.read_number-last.new.tokens c.loop-test.false c.read_number-last.ensures c.loop.invariant)
     c.with_heads-2.ensures
