@@ -1,9 +1,11 @@
 pub mod ChainLemmas
 pub mod Fitting
+pub mod Found
 pub mod Makes
 pub mod PartedLemmas
 pub mod PrintLaws
 pub mod RoomLemmas
 pub mod StepLemmas
 pub mod TreeLaws
+pub mod TypeFound
 pub mod Yields
