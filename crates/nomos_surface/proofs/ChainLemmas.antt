@@ -44,7 +44,7 @@ unfolding read_term
 open_term zero tokens lt = absurd (omega arith)
 open_term (suc room) tokens lt = let e : suc room - 1 ≡ room = omega arith in rw e refl
 
-more_step : (next : TermTree → Reader TermTree) (operand : Reader TermTree) (found : Option Operator) (op : Operator) (left right : TermTree)
+pub more_step : (next : TermTree → Reader TermTree) (operand : Reader TermTree) (found : Option Operator) (op : Operator) (left right : TermTree)
     (tokens rest : List Placed) → found ≡ Some op → (right, rest) ≡ operand (rest_of tokens) →
     more_from next operand left found tokens ≡ next (binary op (front_at tokens) left right) rest
 more_step next operand found op left right tokens rest is read =

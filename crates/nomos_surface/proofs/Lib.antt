@@ -5,7 +5,9 @@ pub mod Makes
 pub mod PartedLemmas
 pub mod PrintLaws
 pub mod RoomLemmas
+pub mod StepFound
 pub mod StepLemmas
+pub mod TermFound
 pub mod TreeLaws
 pub mod TypeFound
 pub mod Yields
