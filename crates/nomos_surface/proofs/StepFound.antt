@@ -4,7 +4,7 @@ use Rattle.nomos_grammar.specs.declared.part.Nonterminal.TheVariants as the_prod
 use Rattle.nomos_ir.specs.declared.word.Word.{Word}
 use Rattle.nomos_ir.specs.declared.word.Word.TheVariants as word
 use Rattle.nomos_surface.proofs.Found.{Found, First, AllBegin, Begins, Finds, FindsAll, at_this, first_of_shown, name_found, potential_found, until_found, value_type_found, with_this}
-use Rattle.nomos_surface.proofs.TermFound.{Ends, any_ends, no_term, term_begins, term_found}
+use Rattle.nomos_surface.proofs.TermFound.{Ends, any_ends, no_term, term_begins, term_found, term_no_brace, term_no_list}
 use Rattle.nomos_surface.specs.declared.name_at.NameAt.{NameAt}
 use Rattle.nomos_surface.specs.declared.potential.Potential.{Potential}
 use Rattle.nomos_surface.specs.declared.steps.ChanAt.{ChanAt}
@@ -258,3 +258,171 @@ spawn_made x ts n us f vs a ws e k g =
     two_parts NameAt (NameAt × ArgTrees) StepTree read_name (λ ts. let p : (NameAt × ArgTrees) × List Placed = (((read_name (rest_of ts)).0, (read_args (read_name (rest_of ts)).1).0), (read_args (read_name (rest_of ts)).1).1) in p)
     (λ m p. spawn x.at m p.0 p.1) ts n us (f, a) ws e
     (two_parts NameAt ArgTrees (NameAt × ArgTrees) (λ ts. read_name (rest_of ts)) read_args (λ m b. let p : NameAt × ArgTrees = (m, b) in p) us f vs a ws k g)
+
+send_like : (w : Word) (form : ℕ → ChanAt → NameAt → StepTree) (at : ℕ) (c : ChanAt) (n : NameAt) (after : List Shown) (tokens : List Placed) →
+    ((x : Placed) (ts : List Placed) → Meets (keyword_at at w) x → read_step (x ∷ ts) ≡ read_named_step form (record { at = at; lexeme = reserved w } ∷ ts)) →
+    Spells (keyword_at at w ∷ print_chan c ∷ print_name n ∷ after) tokens → Found StepTree read_step (form at c n) after tokens
+send_like w form at c n after [] front h = absurd h
+send_like w form at c n after (x ∷ ts) front h =
+    let f = chan_found c (print_name n ∷ after) ts h.1 in
+    let g = name_found n after f.rest f.spelled in
+    record {
+      rest = g.rest;
+      read = front x ts h.0 ∙ named_made form (record { at = at; lexeme = reserved w }) ts c f.rest n g.rest f.read g.read;
+      spelled = g.spelled;
+      shorter = omega (arith, f.shorter, g.shorter);
+    }
+
+as_like : (w : Word) (form : ℕ → NameAt → NameAt → StepTree) (at : ℕ) (n m : NameAt) (after : List Shown) (tokens : List Placed) →
+    ((x : Placed) (ts : List Placed) → Meets (keyword_at at w) x → read_step (x ∷ ts) ≡ read_as form (record { at = at; lexeme = reserved w } ∷ ts)) →
+    Spells (keyword_at at w ∷ print_name n ∷ keyword word.As ∷ print_name m ∷ after) tokens → Found StepTree read_step (form at n m) after tokens
+as_like w form at n m after [] front h = absurd h
+as_like w form at n m after (x ∷ ts) front h =
+    let f = name_found n (keyword word.As ∷ print_name m ∷ after) ts h.1 in
+    let y = first_of_shown (keyword word.As) (print_name m ∷ after) f.rest f.spelled in
+    let g = name_found m after y.others y.spelled in
+    record {
+      rest = g.rest;
+      read = front x ts h.0 ∙ as_made form (record { at = at; lexeme = reserved w }) ts n f.rest m g.rest f.read
+          (passed NameAt read_name f.rest y.first y.others m g.rest y.whole g.read);
+      spelled = g.spelled;
+      shorter = omega (arith, f.shorter, g.shorter, ap length y.whole);
+    }
+
+-- `let v =`, and what is bound
+let_made : (x : Placed) (ts : List Placed) (v : NameAt) (us : List Placed) (y : Placed) (vs : List Placed) (s : StepTree) (ws : List Placed) →
+    read_name ts ≡ (v, us) → us ≡ y ∷ vs → bound_from x.at v (is_list (front_kind vs)) vs ≡ (s, ws) → read_let (x ∷ ts) ≡ (s, ws)
+unfolding read_let
+let_made x ts v us y vs s ws e w f =
+    ap (λ (p : NameAt × List Placed). bound_from x.at p.0 (is_list (front_kind (rest_of p.1))) (rest_of p.1)) e
+    ∙ ap (λ os. bound_from x.at v (is_list (front_kind (rest_of os))) (rest_of os)) w ∙ f
+
+term_bound : (at : ℕ) (v : NameAt) (tokens : List Placed) (t : TermTree) (us : List Placed) → is_list (front_kind tokens) ≡ false → whole_term tokens ≡ (t, us) →
+    bound_from at v (is_list (front_kind tokens)) tokens ≡ (binding at v t, us)
+unfolding bound_from
+term_bound at v tokens t us no_list e = rw no_list (one_part TermTree StepTree whole_term (binding at v) tokens t us e)
+
+list_bound : (at : ℕ) (v : NameAt) (x : Placed) (ts : List Placed) (s : StepTree) (us : List Placed) → is_list (front_kind (x ∷ ts)) ≡ true →
+    list_from at v x.at (is_open_brace (front_kind ts)) ts ≡ (s, us) → bound_from at v (is_list (front_kind (x ∷ ts))) (x ∷ ts) ≡ (s, us)
+unfolding bound_from
+list_bound at v x ts s us list e = rw list e
+
+let_found : (at : ℕ) (v : NameAt) (s : StepTree) (shown after : List Shown) (tokens : List Placed) →
+    ((us : List Placed) → Spells shown us → (ws : List Placed) × (bound_from at v (is_list (front_kind us)) us ≡ (s, ws)) × Spells after ws × (length ws ≤ length us)) →
+    Spells (keyword_at at word.Let ∷ print_name v ∷ sign sym.Equals ∷ shown) tokens → Found StepTree read_step s after tokens
+let_found at v s shown after [] bound h = absurd h
+let_found at v s shown after (x ∷ ts) bound h =
+    let f = name_found v (sign sym.Equals ∷ shown) ts h.1 in
+    let y = first_of_shown (sign sym.Equals) shown f.rest f.spelled in
+    let b = bound y.others y.spelled in
+    record {
+      rest = b.0;
+      read = let_front at x ts h.0 ∙ let_made (record { at = at; lexeme = reserved word.Let }) ts v f.rest y.first y.others s b.0 f.read y.whole b.1;
+      spelled = b.2;
+      shorter = omega (arith, f.shorter, b.3, ap length y.whole);
+    }
+
+empty_bound : (at : ℕ) (v : NameAt) (list_at : ℕ) (q : Potential) (t : ValueType) (after : List Shown) (us : List Placed) →
+    Spells (keyword_at list_at word.List ∷ print_potential q (print_value_type t after)) us →
+    (ws : List Placed) × (bound_from at v (is_list (front_kind us)) us ≡ (empty_list at v list_at q t, ws)) × Spells after ws × (length ws ≤ length us)
+empty_bound at v list_at q t after [] h = absurd h
+empty_bound at v list_at q t after (x ∷ []) h = absurd h.1
+empty_bound at v list_at q t after (x ∷ y ∷ us) h =
+    let f = potential_found q (print_value_type t after) (y ∷ us) h.1 in
+    let g = value_type_found t after f.rest f.spelled in
+    let brace : is_open_brace (front_kind (y ∷ us)) ≡ true =
+        at_this (λ z. is_open_brace (front_kind (z ∷ us)) ≡ true) q.at (symbol sym.OpenBrace) y h.1.0 refl in
+    let made : list_from at v list_at (is_open_brace (front_kind (y ∷ us))) (y ∷ us) ≡ (empty_list at v list_at q t, g.rest) =
+        rw brace (list_made at v list_at (y ∷ us) q f.rest t g.rest f.read g.read) in
+    (g.rest,
+      at_this (λ z. bound_from at v (is_list (front_kind (z ∷ y ∷ us))) (z ∷ y ∷ us) ≡ (empty_list at v list_at q t, g.rest)) list_at (reserved word.List) x h.0
+      (list_bound at v (record { at = list_at; lexeme = reserved word.List }) (y ∷ us) (empty_list at v list_at q t) g.rest refl made),
+      g.spelled, omega (arith, f.shorter, g.shorter))
+
+longer_bound : (at : ℕ) (v : NameAt) (t : TermTree) (w : NameAt) → IsTerm the_production.Term t → (after : List Shown) (us : List Placed) →
+    Spells (keyword word.List ∷ print_term t (sign sym.Comma ∷ print_name w ∷ after)) us →
+    (ws : List Placed) × (bound_from at v (is_list (front_kind us)) us ≡ (longer_list at v t w, ws)) × Spells after ws × (length ws ≤ length us)
+longer_bound at v t w is after [] h = absurd h
+longer_bound at v t w is after (x ∷ us) h =
+    let f = whole_found t is (sign sym.Comma ∷ print_name w ∷ after) us (comma_ends (print_name w ∷ after)) h.1 in
+    let y = first_of_shown (sign sym.Comma) (print_name w ∷ after) f.rest f.spelled in
+    let g = name_found w after y.others y.spelled in
+    let made : list_from at v x.at (is_open_brace (front_kind us)) us ≡ (longer_list at v t w, g.rest) =
+        rw (term_no_brace is (sign sym.Comma ∷ print_name w ∷ after) us h.1)
+        (longer_made at v x.at us t f.rest w g.rest f.read (passed NameAt read_name f.rest y.first y.others w g.rest y.whole g.read)) in
+    let list : is_list (front_kind (x ∷ us)) ≡ true = with_this (λ z. is_list (front_kind (z ∷ us)) ≡ true) (reserved word.List) x h.0 refl in
+    (g.rest, list_bound at v x us (longer_list at v t w) g.rest list made, g.spelled, omega (arith, f.shorter, g.shorter, ap length y.whole))
+
+pub step_found : (s : StepTree) → IsStep s → (after : List Shown) (tokens : List Placed) → Spells (print_step s (sign sym.Semicolon ∷ after)) tokens →
+    Found StepTree read_step s (sign sym.Semicolon ∷ after) tokens
+step_found (send at c n) is after tokens h = send_like word.Send send at c n (sign sym.Semicolon ∷ after) tokens (send_front at) h
+step_found (recv at c n) is after tokens h = send_like word.Recv recv at c n (sign sym.Semicolon ∷ after) tokens (recv_front at) h
+step_found (taking at c n) is after tokens h = send_like word.Take taking at c n (sign sym.Semicolon ∷ after) tokens (taking_front at) h
+step_found (acquire at n m) is after tokens h = as_like word.Acquire acquire at n m (sign sym.Semicolon ∷ after) tokens (acquire_front at) h
+step_found (release at n m) is after tokens h = as_like word.Release release at n m (sign sym.Semicolon ∷ after) tokens (release_front at) h
+step_found (accept at) is after [] h = absurd h
+step_found (accept at) is after (x ∷ ts) h = record { rest = ts; read = accept_front at x ts h.0; spelled = h.1; shorter = omega arith }
+step_found (detach at) is after [] h = absurd h
+step_found (detach at) is after (x ∷ ts) h = record { rest = ts; read = detach_front at x ts h.0; spelled = h.1; shorter = omega arith }
+step_found (wait at n) is after [] h = absurd h
+step_found (wait at n) is after (x ∷ ts) h =
+    let f = name_found n (sign sym.Semicolon ∷ after) ts h.1 in
+    record { rest = f.rest; read = wait_front at x ts h.0 ∙ wait_made (record { at = at; lexeme = reserved word.Wait }) ts n f.rest f.read; spelled = f.spelled; shorter = omega (arith, f.shorter) }
+step_found (work at q) is after [] h = absurd h
+step_found (work at q) is after (x ∷ ts) h =
+    let f = potential_found q (sign sym.Semicolon ∷ after) ts h.1 in
+    record { rest = f.rest; read = work_front at x ts h.0 ∙ work_made (record { at = at; lexeme = reserved word.Work }) ts q f.rest f.read; spelled = f.spelled; shorter = omega (arith, f.shorter) }
+step_found (emit at t) is after [] h = absurd h
+step_found (emit at t) is after (x ∷ ts) h =
+    let f = whole_found t is (sign sym.Semicolon ∷ after) ts (semicolon_ends after) h.1 in
+    record { rest = f.rest; read = emit_front at x ts h.0 ∙ emit_made (record { at = at; lexeme = reserved word.Emit }) ts t f.rest f.read; spelled = f.spelled; shorter = omega (arith, f.shorter) }
+step_found (put at c t) is after [] h = absurd h
+step_found (put at c t) is after (x ∷ ts) h =
+    let f = chan_found c (print_term t (sign sym.Semicolon ∷ after)) ts h.1 in
+    let g = whole_found t is (sign sym.Semicolon ∷ after) f.rest (semicolon_ends after) f.spelled in
+    record { rest = g.rest; read = put_front at x ts h.0 ∙ put_made (record { at = at; lexeme = reserved word.Put }) ts c f.rest t g.rest f.read g.read; spelled = g.spelled; shorter = omega (arith, f.shorter, g.shorter) }
+step_found (pay at c q) is after [] h = absurd h
+step_found (pay at c q) is after (x ∷ ts) h =
+    let f = chan_found c (print_potential q (sign sym.Semicolon ∷ after)) ts h.1 in
+    let g = potential_found q (sign sym.Semicolon ∷ after) f.rest f.spelled in
+    record { rest = g.rest; read = pay_front at x ts h.0 ∙ pay_made (record { at = at; lexeme = reserved word.Pay }) ts c f.rest q g.rest f.read g.read; spelled = g.spelled; shorter = omega (arith, f.shorter, g.shorter) }
+step_found (getting at c q) is after [] h = absurd h
+step_found (getting at c q) is after (x ∷ ts) h =
+    let f = chan_found c (print_potential q (sign sym.Semicolon ∷ after)) ts h.1 in
+    let g = potential_found q (sign sym.Semicolon ∷ after) f.rest f.spelled in
+    record { rest = g.rest; read = getting_front at x ts h.0 ∙ get_made (record { at = at; lexeme = reserved word.Get }) ts c f.rest q g.rest f.read g.read; spelled = g.spelled; shorter = omega (arith, f.shorter, g.shorter) }
+step_found (spawn at n p a) is after [] h = absurd h
+step_found (spawn at n p a) is after (x ∷ ts) h =
+    let f = name_found n (sign sym.Equals ∷ print_name p ∷ print_args a (sign sym.Semicolon ∷ after)) ts h.1 in
+    let y = first_of_shown (sign sym.Equals) (print_name p ∷ print_args a (sign sym.Semicolon ∷ after)) f.rest f.spelled in
+    let g = name_found p (print_args a (sign sym.Semicolon ∷ after)) y.others y.spelled in
+    let k = args_found a is (sign sym.Semicolon ∷ after) g.rest g.spelled in
+    record {
+      rest = k.rest;
+      read = spawn_front at x ts h.0 ∙ spawn_made (record { at = at; lexeme = reserved word.Spawn }) ts n f.rest p g.rest a k.rest f.read
+          (passed NameAt read_name f.rest y.first y.others p g.rest y.whole g.read) k.read;
+      spelled = k.spelled;
+      shorter = omega (arith, f.shorter, g.shorter, k.shorter, ap length y.whole);
+    }
+step_found (label c l) is after tokens h =
+    let f = chan_found c (sign sym.Dot ∷ print_name l ∷ sign sym.Semicolon ∷ after) tokens h in
+    let y = first_of_shown (sign sym.Dot) (print_name l ∷ sign sym.Semicolon ∷ after) f.rest f.spelled in
+    let g = name_found l (sign sym.Semicolon ∷ after) y.others y.spelled in
+    record {
+      rest = g.rest;
+      read = label_front c (sign sym.Dot ∷ print_name l ∷ sign sym.Semicolon ∷ after) tokens h
+          ∙ label_made tokens c f.rest l g.rest f.read (passed NameAt read_name f.rest y.first y.others l g.rest y.whole g.read);
+      spelled = g.spelled;
+      shorter = omega (arith, f.shorter, g.shorter, ap length y.whole);
+    }
+step_found (binding at v t) is after tokens h =
+    let_found at v (binding at v t) (print_term t (sign sym.Semicolon ∷ after)) (sign sym.Semicolon ∷ after) tokens
+    (λ us s.
+      let f = whole_found t is (sign sym.Semicolon ∷ after) us (semicolon_ends after) s in
+      (f.rest, term_bound at v us t f.rest (term_no_list is (sign sym.Semicolon ∷ after) us s) f.read, f.spelled, f.shorter)) h
+step_found (empty_list at v list_at q t) is after tokens h =
+    let_found at v (empty_list at v list_at q t) (keyword_at list_at word.List ∷ print_potential q (print_value_type t (sign sym.Semicolon ∷ after))) (sign sym.Semicolon ∷ after) tokens
+    (empty_bound at v list_at q t (sign sym.Semicolon ∷ after)) h
+step_found (longer_list at v t w) is after tokens h =
+    let_found at v (longer_list at v t w) (keyword word.List ∷ print_term t (sign sym.Comma ∷ print_name w ∷ sign sym.Semicolon ∷ after)) (sign sym.Semicolon ∷ after) tokens
+    (longer_bound at v t w is (sign sym.Semicolon ∷ after)) h

@@ -12,7 +12,7 @@ use Rattle.nomos_surface.specs.declared.terms.Operator.{Operator}
 use Rattle.nomos_surface.specs.declared.terms.Operator.TheVariants as operator
 use Rattle.nomos_surface.specs.declared.value_type.ValueType.{ValueType}
 use Rattle.nomos_surface.specs.Grammatical.{IsTerm, is_choosing, is_matching, is_disjunction, is_or, is_conjunction, is_and, is_negation, is_not as is_opposite, is_comparison, is_less, is_equal, is_list_term, is_cons as is_consed, is_sum, is_add, is_sub, is_product, is_mul, is_div, is_rem, is_primary, is_number, is_truth, is_me, is_variable, is_application, is_no_items, is_parenthesized, AreTerms, are_none, are_more}
-use Rattle.nomos_surface.specs.mirror.Front.{Reader, front_at, front_kind, is_list_end, is_open_paren, kind_of, number_of, read_name, read_until, read_value_type, rest_of}
+use Rattle.nomos_surface.specs.mirror.Front.{Reader, front_at, front_kind, is_list, is_list_end, is_open_brace, is_open_paren, kind_of, number_of, read_name, read_until, read_value_type, rest_of}
 use Rattle.nomos_surface.specs.mirror.Terms.{Heads, compared_from, comparison_in, is_cons, is_not, more_from, named_from, operand_of, operator_in, primary_from, read_chain, read_comparison, read_conses, read_if, read_list_term, read_match, read_more, read_named, read_negation, read_nil, read_nots, read_number, read_parenthesized, read_primary, read_term, term_from, with_heads, with_nots}
 use Rattle.nomos_surface.specs.Print.{print_heading, print_operator, print_term, print_terms, print_value_type, truth_word}
 use Rattle.nomos_surface.specs.Shown.{Shown, anywhere, at_offset, number_at, HasValue, Meets, Printer, Spells, sign, sign_at, keyword, keyword_at, print_name, print_parted}
@@ -148,6 +148,14 @@ begins_item : (k : Option TokenKind) → begins k ≡ true → is_list_end k ≡
 begins_item (Some (kind.Symbol sym.CloseParen)) e = cc
 begins_item (Some (kind.Symbol sym.Semicolon)) e = cc
 begins_item _ e = refl
+
+begins_no_list : (k : Option TokenKind) → begins k ≡ true → is_list k ≡ false
+begins_no_list (Some (kind.Reserved word.List)) e = cc
+begins_no_list _ e = refl
+
+begins_no_brace : (k : Option TokenKind) → begins k ≡ true → is_open_brace k ≡ false
+begins_no_brace (Some (kind.Symbol sym.OpenBrace)) e = cc
+begins_no_brace _ e = refl
 
 begins_chain : (inner : Reader TermTree) (k : Option TokenKind) (tokens : List Placed) → begins k ≡ true →
     term_from inner k tokens ≡ read_chain (operand_of inner chain.Disjunction) chain.Disjunction tokens
@@ -382,7 +390,7 @@ Mid _ = ⊥
 abbrev Chains : Reader TermTree → List Placed → Type 0
 Chains inner tokens =
     (term_from inner (front_kind tokens) tokens ≡ read_chain (operand_of inner chain.Disjunction) chain.Disjunction tokens)
-    × (is_list_end (front_kind tokens) ≡ false)
+    × (is_list_end (front_kind tokens) ≡ false) × (is_list (front_kind tokens) ≡ false) × (is_open_brace (front_kind tokens) ≡ false)
 
 mid_front : {n : Nonterminal} {t : TermTree} → IsTerm n t → Mid n → (inner : Reader TermTree) (after : List Shown) (tokens : List Placed) →
     Spells (print_term t after) tokens → Chains inner tokens
@@ -392,9 +400,9 @@ mid_front (is_conjunction a) mid inner after tokens h = mid_front a tt inner aft
 mid_front (is_and a b) mid inner after tokens h = mid_front a tt inner _ tokens h
 mid_front (is_negation a) mid inner after tokens h = mid_front a tt inner after tokens h
 mid_front (is_opposite a) mid inner after [] h = absurd h
-mid_front (is_opposite {at} a) mid inner after (x ∷ tokens) h = at_this (λ y. Chains inner (y ∷ tokens)) at (reserved word.Not) x h.0 (refl, refl)
+mid_front (is_opposite {at} a) mid inner after (x ∷ tokens) h = at_this (λ y. Chains inner (y ∷ tokens)) at (reserved word.Not) x h.0 (refl, refl, refl, refl)
 mid_front (is_comparison a) mid inner after tokens h =
-    let b = low_front a tt after tokens h in (begins_chain inner (front_kind tokens) tokens b, begins_item (front_kind tokens) b)
+    let b = low_front a tt after tokens h in (begins_chain inner (front_kind tokens) tokens b, begins_item (front_kind tokens) b, begins_no_list (front_kind tokens) b, begins_no_brace (front_kind tokens) b)
 mid_front (is_choosing a b c) mid inner after tokens h = absurd mid
 mid_front (is_matching a b c) mid inner after tokens h = absurd mid
 mid_front (is_disjunction a) mid inner after tokens h = absurd mid
@@ -426,6 +434,20 @@ term_begins (is_matching a b c) after [] h = absurd h
 term_begins (is_matching {at} a b c) after (x ∷ tokens) h =
     at_this (λ y. is_list_end (front_kind (y ∷ tokens)) ≡ false) at (reserved word.Match) x h.0 refl
 term_begins (is_disjunction a) after tokens h = (mid_front a tt (read_term 0) after tokens h).1
+
+pub term_no_list : {t : TermTree} → IsTerm the_production.Term t → (after : List Shown) (tokens : List Placed) → Spells (print_term t after) tokens → is_list (front_kind tokens) ≡ false
+term_no_list (is_choosing a b c) after [] h = absurd h
+term_no_list (is_choosing {at} a b c) after (x ∷ tokens) h = at_this (λ y. is_list (front_kind (y ∷ tokens)) ≡ false) at (reserved word.If) x h.0 refl
+term_no_list (is_matching a b c) after [] h = absurd h
+term_no_list (is_matching {at} a b c) after (x ∷ tokens) h = at_this (λ y. is_list (front_kind (y ∷ tokens)) ≡ false) at (reserved word.Match) x h.0 refl
+term_no_list (is_disjunction a) after tokens h = (mid_front a tt (read_term 0) after tokens h).2
+
+pub term_no_brace : {t : TermTree} → IsTerm the_production.Term t → (after : List Shown) (tokens : List Placed) → Spells (print_term t after) tokens → is_open_brace (front_kind tokens) ≡ false
+term_no_brace (is_choosing a b c) after [] h = absurd h
+term_no_brace (is_choosing {at} a b c) after (x ∷ tokens) h = at_this (λ y. is_open_brace (front_kind (y ∷ tokens)) ≡ false) at (reserved word.If) x h.0 refl
+term_no_brace (is_matching a b c) after [] h = absurd h
+term_no_brace (is_matching {at} a b c) after (x ∷ tokens) h = at_this (λ y. is_open_brace (front_kind (y ∷ tokens)) ≡ false) at (reserved word.Match) x h.0 refl
+term_no_brace (is_disjunction a) after tokens h = (mid_front a tt (read_term 0) after tokens h).3
 
 -- what follows a part of each production, for the reader to find it
 abbrev pub Needs : Nonterminal → Nonterminal
