@@ -1,4 +1,5 @@
 pub mod ChainLemmas
+pub mod CodeFound
 pub mod Fitting
 pub mod Found
 pub mod Makes

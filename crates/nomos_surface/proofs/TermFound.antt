@@ -561,19 +561,19 @@ three_of s1 s2 s3 after (a ∷ []) h = absurd h.1
 three_of s1 s2 s3 after (a ∷ b ∷ []) h = absurd h.1.1
 three_of s1 s2 s3 after (a ∷ b ∷ c ∷ ts) h = record { x1 = a; x2 = b; x3 = c; others = ts; whole = refl; spelled = h.1.1.1 }
 
-record First5 (s1 s2 s3 s4 s5 : Shown) (after : List Shown) (tokens : List Placed) : Type 0 where
-  x1 : Placed
-  x2 : Placed
-  x3 : Placed
-  x4 : Placed
-  x5 : Placed
-  others : List Placed
-  whole : tokens ≡ x1 ∷ x2 ∷ x3 ∷ x4 ∷ x5 ∷ others
-  meets2 : Meets s2 x2
-  meets4 : Meets s4 x4
-  spelled : Spells after others
+pub record First5 (s1 s2 s3 s4 s5 : Shown) (after : List Shown) (tokens : List Placed) : Type 0 where
+  pub x1 : Placed
+  pub x2 : Placed
+  pub x3 : Placed
+  pub x4 : Placed
+  pub x5 : Placed
+  pub others : List Placed
+  pub whole : tokens ≡ x1 ∷ x2 ∷ x3 ∷ x4 ∷ x5 ∷ others
+  pub meets2 : Meets s2 x2
+  pub meets4 : Meets s4 x4
+  pub spelled : Spells after others
 
-five_of : (s1 s2 s3 s4 s5 : Shown) (after : List Shown) (tokens : List Placed) → Spells (s1 ∷ s2 ∷ s3 ∷ s4 ∷ s5 ∷ after) tokens → First5 s1 s2 s3 s4 s5 after tokens
+pub five_of : (s1 s2 s3 s4 s5 : Shown) (after : List Shown) (tokens : List Placed) → Spells (s1 ∷ s2 ∷ s3 ∷ s4 ∷ s5 ∷ after) tokens → First5 s1 s2 s3 s4 s5 after tokens
 five_of s1 s2 s3 s4 s5 after [] h = absurd h
 five_of s1 s2 s3 s4 s5 after (a ∷ []) h = absurd h.1
 five_of s1 s2 s3 s4 s5 after (a ∷ b ∷ []) h = absurd h.1.1
