@@ -1,0 +1,14 @@
+pub mod ChainLemmas
+pub mod CodeFound
+pub mod Fitting
+pub mod Found
+pub mod Makes
+pub mod PartedLemmas
+pub mod PrintLaws
+pub mod RoomLemmas
+pub mod StepFound
+pub mod StepLemmas
+pub mod TermFound
+pub mod TreeLaws
+pub mod TypeFound
+pub mod Yields

@@ -1,0 +1,11 @@
+pub mod CodeView
+pub mod FileView
+pub mod Grammatical
+pub mod mirror
+pub mod Print
+pub mod Reading
+pub mod Shown
+pub mod StepView
+pub mod TermView
+pub mod Tree
+pub mod TypeView

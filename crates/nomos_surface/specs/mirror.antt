@@ -1,0 +1,8 @@
+-- Mirrors of the code, on which no promise stands.
+pub mod Codes
+pub mod Files
+pub mod Front
+pub mod Numerals
+pub mod TermParts
+pub mod Terms
+pub mod Types
