@@ -1,0 +1,12 @@
+use Rattle.std.proofs.Common.{ap, sym, ◌∙◌}
+use Rattle.nomos_ir.specs.declared.code_node.CodeNode.{CodeNode}
+use Rattle.nomos_ir.specs.declared.ids.CodeId.{CodeId}
+use Rattle.nomos_elaborate.specs.CostModel.{put_code}
+use Rattle.nomos_elaborate.specs.mirror.Following.{put_before}
+use Rattle.nomos_elaborate.proofs.StepLoops.{step_next}
+use Rattle.nomos_elaborate.proofs.builder.Builder.put_steps.Goals as goal
+
+pub loop-step-preserved : goal.loop-step-preserved
+loop-step-preserved c =
+    step_next c.args.model c.loop-step.steps.items c.pop.new.self.items c.in-Some.step c.loop-step.self c.loop-step.next c.with_next.result (c.put_code.new.self, c.in_ok-next.next) _
+    c.in-Some.ensures.items c.with_next.ensures c.in_ok-next.ensures c.loop-step.invariant
