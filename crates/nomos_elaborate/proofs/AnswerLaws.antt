@@ -1,7 +1,7 @@
 -- What the code answers is what is to be answered.
-use Rattle.std.proofs.Common.{◌≡◌, ℕ, List, Option, Some, None, Ok, Err, refl, sym, ap, ◌∙◌}
+use Rattle.std.proofs.Common.{◌≡◌, ℕ, Option, Some, None, Ok, Err, refl, sym, ◌∙◌}
 use Rattle.nomos_elaborate.proofs.FileLaws.{lists_law}
-use Rattle.nomos_elaborate.specs.Answer.{Answers, ElaboratesTo, BreaksCosts, ObeysNames}
+use Rattle.nomos_elaborate.specs.Answer.{Answers, ObeysNames}
 use Rattle.nomos_elaborate.specs.Claim.{first_broken}
 use Rattle.nomos_elaborate.specs.FileBuild.{program_of}
 use Rattle.nomos_elaborate.specs.FileClaims.{claims_of}
@@ -9,7 +9,7 @@ use Rattle.nomos_elaborate.specs.WrittenWork.{written_work}
 use Rattle.nomos_elaborate.specs.declared.elab_error.ElabError.{ElabError}
 use Rattle.nomos_elaborate.specs.declared.elab_error.ElabError.TheVariants as error
 use Rattle.nomos_elaborate.specs.mirror.Agrees.{unless_broken}
-use Rattle.nomos_elaborate.specs.mirror.Checked.{Checked, found, broken, Stops}
+use Rattle.nomos_elaborate.specs.mirror.Checked.{found, broken, Stops}
 use Rattle.nomos_elaborate.specs.mirror.FileCheck.{check_lists}
 use Rattle.nomos_ir.specs.declared.lists.ProgramLists.{ProgramLists}
 use Rattle.nomos_surface.specs.Tree.{FileTree}

@@ -1,5 +1,5 @@
 -- What is known where claims hold.
-use Rattle.std.proofs.Common.{◌≡◌, ℕ, Bool, true, false, List, [], ◌∷◌, ◌++◌, Option, Some, None, refl, sym, ap, ◌∙◌}
+use Rattle.std.proofs.Common.{◌≡◌, Bool, true, false, List, [], ◌∷◌, ◌++◌, Some, None, refl, ap, ◌∙◌}
 use Rattle.std.specs.Prelude.{if◌then◌else◌}
 use Rattle.nomos_elaborate.specs.Claim.{Claim, first_broken}
 use Rattle.nomos_elaborate.specs.mirror.Agrees.{unless_broken, where_all_hold}

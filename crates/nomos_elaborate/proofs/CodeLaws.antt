@@ -1,5 +1,5 @@
 -- What the code makes of a code, and where it ends early, is what the definitions say.
-use Rattle.std.proofs.Common.{◌≡◌, List, [], ◌∷◌, ◌++◌, length, take, refl, sym, ap, ◌∙◌, append_assoc}
+use Rattle.std.proofs.Common.{◌≡◌, List, [], ◌∷◌, ◌++◌, refl, ap, ◌∙◌, append_assoc}
 use Rattle.nomos_elaborate.proofs.CheckedLaws.{demand-then, law-then, law-last, grouped-law, bind-then, now_bound, Bounds, bounds-none, bounds-bind, bounds-kept}
 use Rattle.nomos_elaborate.proofs.ClaimLaws.{AllHold, left_hold, right_hold, law-knowing}
 use Rattle.nomos_elaborate.proofs.StepLaws.{place_of, value_built, channel_law, list_law, chan_law, process_law, arguments_built, arguments_law, after_step, step_built, step_law, step_bounds, step_next}
@@ -16,7 +16,7 @@ use Rattle.nomos_elaborate.specs.declared.sort.Sort.TheVariants as sort
 use Rattle.nomos_elaborate.specs.declared.spaces.Spaces.{Spaces}
 use Rattle.nomos_elaborate.specs.mirror.Agrees.{where_all_hold}
 use Rattle.nomos_elaborate.specs.mirror.Checked.{Checked, found}
-use Rattle.nomos_elaborate.specs.mirror.CodeCheck.{check_step, check_code, check_last, check_arm, check_arms, the_arm, no_code, steps_before}
+use Rattle.nomos_elaborate.specs.mirror.CodeCheck.{check_step, check_code, check_last, check_arm, check_arms, the_arm, no_code}
 use Rattle.nomos_elaborate.specs.mirror.Each.{each}
 use Rattle.nomos_elaborate.specs.mirror.Following.{put_before, with_next}
 use Rattle.nomos_elaborate.specs.mirror.TypeCheck.{Labelled}

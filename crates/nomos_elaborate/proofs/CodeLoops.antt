@@ -1,5 +1,5 @@
 -- The branches of a `case`, one after the other.
-use Rattle.std.proofs.Common.{◌≡◌, List, [], ◌∷◌, map, refl, ap, ◌∙◌}
+use Rattle.std.proofs.Common.{◌≡◌, List, [], ◌∷◌, map, refl, ap}
 use Rattle.nomos_elaborate.proofs.Loops.{ahead}
 use Rattle.nomos_elaborate.specs.mirror.Checked.{Checked, found, broken, ◌>>=◌}
 use Rattle.nomos_elaborate.specs.mirror.CodeCheck.{check_code, check_arm, check_arms}

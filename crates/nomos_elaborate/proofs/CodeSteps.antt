@@ -1,8 +1,7 @@
 -- The steps of a code and its last instruction, together.
-use Rattle.std.proofs.Common.{◌≡◌, ℕ, List, length, Result, Ok, Err, refl, sym, ap, ◌∙◌}
-use Rattle.nomos_elaborate.specs.declared.elab_error.ElabError.{ElabError}
+use Rattle.std.proofs.Common.{◌≡◌, ℕ, List, length, refl, sym, ap, ◌∙◌}
 use Rattle.nomos_elaborate.specs.declared.elaborator.Elaborator.{Elaborator}
-use Rattle.nomos_elaborate.specs.mirror.Checked.{Checked, found, Gives}
+use Rattle.nomos_elaborate.specs.mirror.Checked.{found}
 use Rattle.nomos_elaborate.specs.mirror.CodeCheck.{check_code, check_last, check_step, steps_before}
 use Rattle.nomos_elaborate.specs.mirror.Each.{each}
 use Rattle.nomos_elaborate.specs.mirror.TermCheck.{kept}

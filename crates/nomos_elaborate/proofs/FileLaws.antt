@@ -1,18 +1,17 @@
 -- What the code makes of declarations, and where it ends early, is what the definitions say.
-use Rattle.std.proofs.Common.{◌≡◌, Bool, true, false, List, [], ◌∷◌, ◌++◌, Option, Some, None, refl, sym, ap, ◌∙◌}
+use Rattle.std.proofs.Common.{◌≡◌, Bool, true, false, List, [], ◌∷◌, ◌++◌, refl, ap, ◌∙◌}
 use Rattle.nomos_elaborate.proofs.CheckedLaws.{demand-then, law-then, law-last, grouped-law, bind-then, now_bound}
-use Rattle.nomos_elaborate.proofs.ClaimLaws.{law-knowing}
 use Rattle.nomos_elaborate.proofs.CodeLaws.{code_law}
 use Rattle.nomos_elaborate.proofs.TermLaws.{term_law}
 use Rattle.nomos_elaborate.proofs.TypeLaws.{type_law}
-use Rattle.nomos_elaborate.specs.Built.{Built, kind_of, put_type}
-use Rattle.nomos_elaborate.specs.Claim.{Claim, new_among, new_on_way}
+use Rattle.nomos_elaborate.specs.Built.{kind_of}
+use Rattle.nomos_elaborate.specs.Claim.{new_among, new_on_way}
 use Rattle.nomos_elaborate.specs.CodeBuild.{build_code}
 use Rattle.nomos_elaborate.specs.CodeClaims.{code_claims}
 use Rattle.nomos_elaborate.specs.CostModel.{model_of}
-use Rattle.nomos_elaborate.specs.FileBuild.{Declared, nothing_declared, build_value_pars, build_process_pars, build_chan_pars, par_amount, declared_amount, with_payer, add_decl, add_decls, lists_of, program_of}
+use Rattle.nomos_elaborate.specs.FileBuild.{Declared, build_value_pars, build_process_pars, build_chan_pars, par_amount, declared_amount, add_decl, add_decls, lists_of, program_of}
 use Rattle.nomos_elaborate.specs.FileClaims.{value_pars_claims, value_pars_scope, par_sort, process_pars_claims, process_pars_scope, chan_pars_claims, chan_pars_scope, pars_claims, pars_scope, decl_claims, decls_claims, claims_of}
-use Rattle.nomos_elaborate.specs.Scope.{Scope, bind}
+use Rattle.nomos_elaborate.specs.Scope.{Scope}
 use Rattle.nomos_elaborate.specs.Spaces.{declaring, declaring_all, no_names}
 use Rattle.nomos_elaborate.specs.TermBuild.{build_term}
 use Rattle.nomos_elaborate.specs.TermClaims.{term_claims}
@@ -20,23 +19,18 @@ use Rattle.nomos_elaborate.specs.TypeBuild.{build_type}
 use Rattle.nomos_elaborate.specs.TypeClaims.{type_claims}
 use Rattle.nomos_elaborate.specs.declared.elaborator.Elaborator.{Elaborator}
 use Rattle.nomos_elaborate.specs.declared.sort.Sort.TheVariants as sort
-use Rattle.nomos_elaborate.specs.declared.spaces.Spaces.{Spaces}
 use Rattle.nomos_elaborate.specs.mirror.Agrees.{where_all_hold}
-use Rattle.nomos_elaborate.specs.mirror.Checked.{Checked, found}
+use Rattle.nomos_elaborate.specs.mirror.Checked.{found}
 use Rattle.nomos_elaborate.specs.mirror.Each.{each}
-use Rattle.nomos_elaborate.specs.mirror.FileCheck.{Head, Progress, at_head, begun, check_value_par, check_process_par, check_chan_par, check_pars, check_def, check_fn, check_proc, check_transaction, check_body, check_decl, check_decls, check_lists, head, and_def, and_fn, and_proc, named_too, the_def, the_fn, the_proc, the_transaction, ended, lists_made, all_made}
+use Rattle.nomos_elaborate.specs.mirror.FileCheck.{Head, Progress, at_head, begun, check_value_par, check_process_par, check_chan_par, check_pars, check_def, check_fn, check_proc, check_transaction, check_body, check_decls, check_lists, head, named_too, the_def, the_fn, the_proc, the_transaction, ended, all_made}
 use Rattle.nomos_elaborate.specs.mirror.Work.{made, payer_seen}
 use Rattle.nomos_ir.specs.declared.declaration.Par.{Par}
-use Rattle.nomos_ir.specs.declared.ids.CodeId.{CodeId}
-use Rattle.nomos_ir.specs.declared.ids.TermId.{TermId}
 use Rattle.nomos_ir.specs.declared.ids.TypeId.{TypeId}
 use Rattle.nomos_ir.specs.declared.ids.VarId.{VarId}
 use Rattle.nomos_ir.specs.declared.kind.Kind.{Kind}
-use Rattle.nomos_ir.specs.declared.lists.ProgramLists.{ProgramLists}
 use Rattle.nomos_surface.specs.declared.declarations.ProcessPar.{ProcessPar}
 use Rattle.nomos_surface.specs.declared.declarations.ValuePar.{ValuePar}
-use Rattle.nomos_surface.specs.declared.name_at.NameAt.{NameAt}
-use Rattle.nomos_surface.specs.Tree.{TermTree, TypeTree, CodeTree, ChanParTree, ParTrees, DeclTree, definition, function, process, transaction, FileTree}
+use Rattle.nomos_surface.specs.Tree.{ChanParTree, ParTrees, DeclTree, definition, function, process, transaction, FileTree}
 
 -- parameters of functions
 abbrev value_pars_built : Elaborator → List ValuePar → Elaborator × List (VarId × Kind)

@@ -1,6 +1,6 @@
 -- What holds of a loop over a list that gives something for each item.
-use Rattle.std.proofs.Common.{◌≡◌, ℕ, ◌+◌, ◌<◌, ◌≤◌, List, [], ◌∷◌, ◌++◌, length, map, take, drop, get_or, refl, sym, ap, ◌∙◌, append_assoc, arith}
-use Rattle.std.proofs.lemmas.List.{take_all, take_more, take-append-drop, drop_more}
+use Rattle.std.proofs.Common.{◌≡◌, ℕ, ◌+◌, ◌<◌, ◌≤◌, List, [], ◌∷◌, ◌++◌, length, map, take, drop, get_or, refl, sym, ap, ◌∙◌}
+use Rattle.std.proofs.lemmas.List.{take_all, take_more, take-append-drop}
 use Rattle.nomos_elaborate.specs.declared.elab_error.ElabError.{ElabError}
 use Rattle.nomos_elaborate.specs.declared.elab_error.ElabError.TheVariants as stop
 use Rattle.nomos_elaborate.specs.mirror.Checked.{Checked, found, broken, Stops, ◌>>=◌}

@@ -1,5 +1,5 @@
 -- Names under their numbers, beside the texts that are kept.
-use Rattle.std.proofs.Common.{◌≡◌, ℕ, ◌+◌, ◌<◌, ◌≤◌, Bool, true, false, not, ltb, List, [], ◌∷◌, ◌++◌, length, map, Some, None, Result, Ok, Err, unwrap_or, refl, sym, ap, ◌∙◌, arith}
+use Rattle.std.proofs.Common.{◌≡◌, ℕ, ◌≤◌, Bool, true, false, not, ltb, List, [], ◌∷◌, ◌++◌, length, map, Result, Ok, Err, unwrap_or, refl, sym, ap, ◌∙◌, arith}
 use Rattle.std.specs.Prelude.{if◌then◌else◌}
 use Rattle.std.specs.List.{list_any, position, position_or_len}
 use Rattle.std.specs.Str.{bytes_eq}
@@ -7,7 +7,7 @@ use Rattle.std.proofs.lemmas.Bool.Decides.{nat_tests}
 use Rattle.std.proofs.lemmas.Cmp.{nat_list_eq_equiv}
 use Rattle.std.proofs.lemmas.List.{map-append}
 use Rattle.std.proofs.lemmas.List.Sums.{prefix_len-le-length}
-use Rattle.nomos_elaborate.specs.mirror.Checked.{Gives, Checked, found}
+use Rattle.nomos_elaborate.specs.mirror.Checked.{Gives, found}
 use Rattle.nomos_elaborate.specs.mirror.Seeing.{name_seen}
 use Rattle.nomos_elaborate.specs.Names.{Names, is_among, number_of, seen}
 use Rattle.nomos_elaborate.specs.declared.elab_error.ElabError.{ElabError}

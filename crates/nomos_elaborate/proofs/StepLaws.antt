@@ -1,11 +1,11 @@
 -- What the code makes of a step, and where it ends early, is what the definitions say.
-use Rattle.std.proofs.Common.{◌≡◌, true, List, [], ◌∷◌, ◌++◌, map, Option, Some, None, refl, sym, ap, ◌∙◌}
+use Rattle.std.proofs.Common.{◌≡◌, List, [], ◌∷◌, ◌++◌, map, Option, Some, None, refl}
 use Rattle.std.specs.List.{flat_map}
 use Rattle.nomos_elaborate.proofs.CheckedLaws.{demand-then, law-then, law-last, new-then, bind-then, Bounds, bounds-none, bounds-bind}
 use Rattle.nomos_elaborate.proofs.ClaimLaws.{AllHold, first_holds, right_hold}
 use Rattle.nomos_elaborate.proofs.TermLaws.{term_law}
-use Rattle.nomos_elaborate.specs.Built.{Built, variable_id, with_variable}
-use Rattle.nomos_elaborate.specs.Claim.{Claim, declared, bound_channel, bound_list, new_on_way, chan_claims}
+use Rattle.nomos_elaborate.specs.Built.{Built, variable_id}
+use Rattle.nomos_elaborate.specs.Claim.{declared, bound_channel, bound_list, new_on_way, chan_claims}
 use Rattle.nomos_elaborate.specs.CodeBuild.{build_step, build_value, build_unless_list, build_argument, build_values, build_arguments, chan_of, process_id}
 use Rattle.nomos_elaborate.specs.CodeClaims.{Place, value_claims, unless_list, argument_claims, arguments_claims, step_claims, scope_after}
 use Rattle.nomos_elaborate.specs.ListArgument.{list_argument}
@@ -14,8 +14,7 @@ use Rattle.nomos_elaborate.specs.declared.elaborator.Elaborator.{Elaborator}
 use Rattle.nomos_elaborate.specs.declared.sort.Sort.TheVariants as sort
 use Rattle.nomos_elaborate.specs.declared.spaces.Spaces.{Spaces}
 use Rattle.nomos_elaborate.specs.mirror.Agrees.{where_all_hold}
-use Rattle.nomos_elaborate.specs.mirror.Checked.{Checked, found}
-use Rattle.nomos_elaborate.specs.mirror.CodeCheck.{check_channel, check_list, check_chan, check_process, check_unless_list, check_argument, check_passed, check_arguments, check_step, as_term, no_code}
+use Rattle.nomos_elaborate.specs.mirror.CodeCheck.{check_channel, check_list, check_chan, check_process, check_unless_list, check_argument, check_passed, check_arguments, check_step, no_code}
 use Rattle.nomos_elaborate.specs.mirror.Each.{each}
 use Rattle.nomos_elaborate.specs.mirror.Following.{with_next}
 use Rattle.nomos_elaborate.specs.mirror.Work.{made, variable_seen}
@@ -24,7 +23,6 @@ use Rattle.nomos_ir.specs.declared.code_node.CodeNode.{CodeNode}
 use Rattle.nomos_ir.specs.declared.code_node.ValueArg.{ValueArg}
 use Rattle.nomos_ir.specs.declared.ids.CodeId.{CodeId}
 use Rattle.nomos_ir.specs.declared.ids.TermId.{TermId}
-use Rattle.nomos_ir.specs.declared.ids.VarId.{VarId}
 use Rattle.nomos_surface.specs.declared.name_at.NameAt.{NameAt}
 use Rattle.nomos_surface.specs.declared.steps.ChanAt.{ChanAt}
 use Rattle.nomos_surface.specs.declared.steps.ChanAt.TheVariants as chan

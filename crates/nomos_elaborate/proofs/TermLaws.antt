@@ -1,15 +1,14 @@
 -- What the code makes of a term, and where it ends early, is what the definitions say.
-use Rattle.std.proofs.Common.{◌≡◌, Bool, true, List, [], ◌∷◌, ◌++◌, length, take, refl, sym, ap, ◌∙◌}
+use Rattle.std.proofs.Common.{◌≡◌, List, [], ◌∷◌, ◌++◌, refl, ◌∙◌}
 use Rattle.nomos_elaborate.proofs.CheckedLaws.{demand-then, law-then, law-last, grouped-law, bind-then, bounds-none, bounds-bind, bounds-kept, now_bound}
-use Rattle.nomos_elaborate.specs.Built.{Built}
 use Rattle.nomos_elaborate.specs.Claim.{declared, bound_value, within, new_on_way}
-use Rattle.nomos_elaborate.specs.Scope.{sort_of, is_unbound, bind}
+use Rattle.nomos_elaborate.specs.Scope.{bind}
 use Rattle.nomos_elaborate.specs.TermBuild.{build_term, build_terms}
 use Rattle.nomos_elaborate.specs.TermClaims.{term_claims, terms_claims, matched_value}
 use Rattle.nomos_elaborate.specs.declared.elaborator.Elaborator.{Elaborator}
 use Rattle.nomos_elaborate.specs.declared.sort.Sort.TheVariants as sort
 use Rattle.nomos_elaborate.specs.mirror.Agrees.{where_all_hold}
-use Rattle.nomos_elaborate.specs.mirror.Checked.{Checked, found}
+use Rattle.nomos_elaborate.specs.mirror.Checked.{found}
 use Rattle.nomos_elaborate.specs.mirror.TermCheck.{check_term, check_terms}
 use Rattle.nomos_elaborate.specs.mirror.Work.{made}
 use Rattle.nomos_ir.specs.declared.ids.TermId.{TermId}

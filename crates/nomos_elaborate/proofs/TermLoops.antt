@@ -1,12 +1,12 @@
 -- The terms of a call, one after the other.
-use Rattle.std.proofs.Common.{◌≡◌, List, [], ◌∷◌, map, refl, ap, ◌∙◌}
+use Rattle.std.proofs.Common.{◌≡◌, List, [], ◌∷◌, map, refl, ap}
 use Rattle.nomos_elaborate.proofs.Loops.{ahead}
 use Rattle.nomos_elaborate.specs.declared.elaborator.Elaborator.{Elaborator}
 use Rattle.nomos_elaborate.specs.mirror.Checked.{Checked, found, broken, ◌>>=◌}
 use Rattle.nomos_elaborate.specs.mirror.Each.{each}
 use Rattle.nomos_elaborate.specs.mirror.TermCheck.{check_term, check_terms}
 use Rattle.nomos_ir.specs.declared.ids.TermId.{TermId}
-use Rattle.nomos_surface.specs.Tree.{TermTree, no_terms, term}
+use Rattle.nomos_surface.specs.Tree.{TermTree}
 use Rattle.nomos_surface.specs.TermView.{term_trees}
 
 -- what terms give is what each gives

@@ -1,14 +1,14 @@
 -- What the code makes of a type, and where it ends early, is what the definitions say.
-use Rattle.std.proofs.Common.{◌≡◌, List, [], ◌∷◌, ◌++◌, refl, sym, ap, ◌∙◌}
+use Rattle.std.proofs.Common.{◌≡◌, List, [], ◌∷◌, refl}
 use Rattle.nomos_elaborate.proofs.CheckedLaws.{demand-then, law-then, law-last}
-use Rattle.nomos_elaborate.specs.Built.{Built, amount_of}
+use Rattle.nomos_elaborate.specs.Built.{amount_of}
 use Rattle.nomos_elaborate.specs.Claim.{Claim, declared, new_among}
 use Rattle.nomos_elaborate.specs.Names.{Names, seen}
 use Rattle.nomos_elaborate.specs.TypeBuild.{build_type, build_branches}
 use Rattle.nomos_elaborate.specs.TypeClaims.{type_claims, branch_claims}
 use Rattle.nomos_elaborate.specs.declared.elaborator.Elaborator.{Elaborator}
 use Rattle.nomos_elaborate.specs.mirror.Agrees.{where_all_hold}
-use Rattle.nomos_elaborate.specs.mirror.Checked.{Checked, found}
+use Rattle.nomos_elaborate.specs.mirror.Checked.{Checked}
 use Rattle.nomos_elaborate.specs.mirror.TypeCheck.{Labelled, check_branch, check_branches, check_type, the_branch}
 use Rattle.nomos_elaborate.specs.mirror.Work.{made, label_seen}
 use Rattle.nomos_ir.specs.declared.ids.TypeId.{TypeId}

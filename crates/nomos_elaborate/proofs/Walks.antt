@@ -1,5 +1,5 @@
 -- Declarations, one after the other.
-use Rattle.std.proofs.Common.{◌≡◌, ℕ, ◌+◌, ◌<◌, ◌≤◌, List, [], ◌∷◌, length, map, drop, get_or, refl, sym, ap, ◌∙◌, arith}
+use Rattle.std.proofs.Common.{◌≡◌, ℕ, ◌+◌, ◌<◌, ◌≤◌, List, [], ◌∷◌, length, map, drop, get_or, sym, ap, ◌∙◌}
 use Rattle.std.proofs.lemmas.List.{drop_more, drop_all}
 use Rattle.nomos_elaborate.proofs.Loops.{stops-then}
 use Rattle.nomos_elaborate.specs.CostModel.{model_of}
@@ -7,7 +7,7 @@ use Rattle.nomos_elaborate.specs.Spaces.{declaring, declaring_all, no_names}
 use Rattle.nomos_elaborate.specs.declared.elab_error.ElabError.{ElabError}
 use Rattle.nomos_elaborate.specs.declared.elab_error.ElabError.TheVariants as stop
 use Rattle.nomos_elaborate.specs.declared.spaces.Spaces.{Spaces}
-use Rattle.nomos_elaborate.specs.mirror.Checked.{Checked, found, broken, Stops, ◌>>=◌}
+use Rattle.nomos_elaborate.specs.mirror.Checked.{Checked, found, Stops, ◌>>=◌}
 use Rattle.nomos_elaborate.specs.mirror.FileCheck.{Progress, all_made, begun, check_decl, check_decls, check_lists}
 use Rattle.nomos_surface.specs.declared.surface.CostModel.{CostModel}
 use Rattle.nomos_surface.specs.Tree.{DeclTree, FileTree}

@@ -5,8 +5,8 @@ use Rattle.nomos_elaborate.specs.Built.{Built, with_label, with_variable, label_
 use Rattle.nomos_elaborate.specs.CodeClaims.{scope_after, matched_list}
 use Rattle.nomos_elaborate.specs.CostModel.{put_code}
 use Rattle.nomos_elaborate.specs.ListArgument.{list_argument}
-use Rattle.nomos_elaborate.specs.Names.{Names, number_of}
-use Rattle.nomos_elaborate.specs.Scope.{Scope, bind}
+use Rattle.nomos_elaborate.specs.Names.{number_of}
+use Rattle.nomos_elaborate.specs.Scope.{Scope}
 use Rattle.nomos_elaborate.specs.declared.spaces.Spaces.{Spaces}
 use Rattle.nomos_elaborate.specs.TermBuild.{build_term}
 use Rattle.nomos_ir.specs.declared.code_node.Args.{Args}

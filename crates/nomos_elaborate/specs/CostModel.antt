@@ -1,5 +1,5 @@
 -- The `work {1}` that a cost model puts in, and the next code node.
-use Rattle.std.specs.Prelude.{ℕ, Bool, true, false, List, [], ◌∷◌, ◌++◌, length, Option, Some, None, if◌then◌else◌}
+use Rattle.std.specs.Prelude.{ℕ, Bool, true, false, [], ◌∷◌, ◌++◌, length, Option, Some, None, if◌then◌else◌}
 use Rattle.nomos_elaborate.specs.Built.{Built}
 use Rattle.nomos_ir.specs.declared.amount.Amount.TheVariants as amount
 use Rattle.nomos_ir.specs.declared.code_node.CodeNode.{CodeNode}

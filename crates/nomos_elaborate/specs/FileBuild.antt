@@ -1,9 +1,9 @@
 -- The program of a text.
-use Rattle.std.specs.Prelude.{ℕ, List, [], ◌∷◌, ◌++◌, codes, Option, Some, None}
+use Rattle.std.specs.Prelude.{List, [], ◌∷◌, ◌++◌, codes, Option, Some, None}
 use Rattle.nomos_elaborate.specs.Built.{Built, nothing_built, with_variable, variable_id, put_type, amount_of, kind_of}
 use Rattle.nomos_elaborate.specs.CodeBuild.{build_code}
 use Rattle.nomos_elaborate.specs.CostModel.{model_of}
-use Rattle.nomos_elaborate.specs.FileClaims.{value_pars_scope, pars_scope}
+use Rattle.nomos_elaborate.specs.FileClaims.{pars_scope}
 use Rattle.nomos_elaborate.specs.Names.{Names, seen}
 use Rattle.nomos_elaborate.specs.Spaces.{no_names, declaring_all}
 use Rattle.nomos_elaborate.specs.declared.spaces.Spaces.{Spaces}
@@ -29,7 +29,7 @@ use Rattle.nomos_surface.specs.declared.declarations.ProcessPar.{ProcessPar}
 use Rattle.nomos_surface.specs.declared.declarations.ValuePar.{ValuePar}
 use Rattle.nomos_surface.specs.declared.potential.Potential.{Potential}
 use Rattle.nomos_surface.specs.declared.surface.CostModel.{CostModel}
-use Rattle.nomos_surface.specs.Tree.{ChanParTree, ParTrees, DeclTree, definition, function, process, transaction, FileTree}
+use Rattle.nomos_surface.specs.Tree.{ChanParTree, DeclTree, definition, function, process, transaction, FileTree}
 
 -- the declarations that were built, and the nodes
 pub record Declared : Type 0 where

@@ -1,7 +1,7 @@
 -- The claims of a text about its names, in order of text.
 use Rattle.std.specs.Prelude.{true, false, List, [], ◌∷◌, ◌++◌, Option, Some, None}
 use Rattle.nomos_elaborate.specs.Claim.{Claim, new_among, new_on_way}
-use Rattle.nomos_elaborate.specs.CodeClaims.{Place, code_claims}
+use Rattle.nomos_elaborate.specs.CodeClaims.{code_claims}
 use Rattle.nomos_elaborate.specs.Names.{Names}
 use Rattle.nomos_elaborate.specs.Scope.{Scope, bind}
 use Rattle.nomos_elaborate.specs.Spaces.{no_names, declaring, declaring_all}

@@ -1,6 +1,6 @@
 -- The three name spaces of a text, each with its declared names as first seen.
-use Rattle.std.specs.Prelude.{ℕ, List, [], ◌∷◌}
-use Rattle.nomos_elaborate.specs.Names.{Names, seen}
+use Rattle.std.specs.Prelude.{List, [], ◌∷◌}
+use Rattle.nomos_elaborate.specs.Names.{seen}
 use Rattle.nomos_elaborate.specs.declared.spaces.Spaces.{Spaces}
 use Rattle.nomos_surface.specs.Tree.{DeclTree, definition, function, process, transaction}
 

@@ -1,6 +1,6 @@
 -- A mirror of how the code goes over a code. No promise stands on it.
-use Rattle.std.specs.Prelude.{ℕ, List, [], ◌∷◌, length, Option, Some, None}
-use Rattle.nomos_elaborate.specs.Built.{Built, variable_id, amount_of, kind_of}
+use Rattle.std.specs.Prelude.{List, [], ◌∷◌, length, Option, Some, None}
+use Rattle.nomos_elaborate.specs.Built.{variable_id, amount_of, kind_of}
 use Rattle.nomos_elaborate.specs.Claim.{declared, new_among, bound_channel, bound_list}
 use Rattle.nomos_elaborate.specs.CodeBuild.{chan_offset}
 use Rattle.nomos_elaborate.specs.CostModel.{put_code}
@@ -10,7 +10,7 @@ use Rattle.nomos_elaborate.specs.declared.elaborator.Elaborator.{Elaborator}
 use Rattle.nomos_elaborate.specs.declared.sort.Sort.TheVariants as sort
 use Rattle.nomos_elaborate.specs.mirror.Checked.{Checked, found, demand, ◌>>=◌}
 use Rattle.nomos_elaborate.specs.mirror.Each.{each}
-use Rattle.nomos_elaborate.specs.mirror.Following.{with_next, put_before}
+use Rattle.nomos_elaborate.specs.mirror.Following.{put_before}
 use Rattle.nomos_elaborate.specs.mirror.TermCheck.{check_term, kept}
 use Rattle.nomos_elaborate.specs.mirror.TypeCheck.{Labelled}
 use Rattle.nomos_elaborate.specs.mirror.Work.{made, bound, check_new, check_bind, label_seen}

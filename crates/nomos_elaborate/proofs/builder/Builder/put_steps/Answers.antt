@@ -1,8 +1,3 @@
-use Rattle.std.proofs.Common.{ap, sym, ◌∙◌}
-use Rattle.nomos_ir.specs.declared.code_node.CodeNode.{CodeNode}
-use Rattle.nomos_ir.specs.declared.ids.CodeId.{CodeId}
-use Rattle.nomos_elaborate.specs.CostModel.{put_code}
-use Rattle.nomos_elaborate.specs.mirror.Following.{put_before}
 use Rattle.nomos_elaborate.proofs.StepLoops.{step_next}
 use Rattle.nomos_elaborate.proofs.builder.Builder.put_steps.Goals as goal
 
