@@ -17,3 +17,4 @@ pub mod StepLaws
 pub mod CodeLaws
 pub mod FileLaws
 pub mod AnswerLaws
+pub mod Examples
