@@ -1,0 +1,76 @@
+//! The `work` that a cost model puts in.
+ghost use Rattle.std.specs.Prelude.{◌≡◌};
+ghost use Rattle.nomos_elaborate.specs.CostModel.{code_offset, is_charged, put_code};
+ghost use Rattle.nomos_elaborate.specs.mirror.Checked.{Gives, found};
+
+use crate::builder::Builder;
+use crate::elab_error::ElabError;
+use nomos_ir::amount::Amount;
+use nomos_ir::code_node::CodeNode;
+use nomos_ir::ids::CodeId;
+use nomos_surface::surface::CostModel;
+
+/// The offset of an instruction in the text, in bytes.
+fn code_offset(node: &CodeNode) -> u32
+    ensures { result ≡ code_offset node.now }
+{
+    match node {
+        CodeNode::Label(at, _, _, _)
+        | CodeNode::Case(at, _, _)
+        | CodeNode::Send(at, _, _, _)
+        | CodeNode::Recv(at, _, _, _)
+        | CodeNode::Put(at, _, _, _)
+        | CodeNode::Take(at, _, _, _)
+        | CodeNode::Pay(at, _, _, _)
+        | CodeNode::Get(at, _, _, _)
+        | CodeNode::Work(at, _, _)
+        | CodeNode::Wait(at, _, _)
+        | CodeNode::Accept(at, _)
+        | CodeNode::Detach(at, _)
+        | CodeNode::Acquire(at, _, _, _)
+        | CodeNode::Release(at, _, _, _)
+        | CodeNode::Spawn(at, _, _, _, _)
+        | CodeNode::Let(at, _, _, _)
+        | CodeNode::Emit(at, _, _)
+        | CodeNode::If(at, _, _, _)
+        | CodeNode::Close(at)
+        | CodeNode::Fwd(at, _)
+        | CodeNode::Call(at, _, _)
+        | CodeNode::Empty(at, _, _, _, _)
+        | CodeNode::Add(at, _, _, _, _)
+        | CodeNode::Match(at, _, _, _, _, _) => *at,
+    }
+}
+
+/// Whether the cost model puts `work {1}` before an instruction.
+fn is_charged(model: CostModel, node: &CodeNode) -> bool
+    ensures { result ≡ is_charged model node.now }
+{
+    match model {
+        CostModel::Ticks => false,
+        CostModel::Sends => matches!(
+            node,
+            CodeNode::Label(_, _, _, _)
+                | CodeNode::Send(_, _, _, _)
+                | CodeNode::Put(_, _, _, _)
+                | CodeNode::Close(_)
+        ),
+        CostModel::All => true,
+    }
+}
+
+impl Builder {
+    /// Puts a code node, and behind it the `work` that the cost model puts before the instruction.
+    pub(crate) fn put_code(&mut self, model: CostModel, node: CodeNode) -> Result<CodeId, ElabError>
+        ensures { Gives (λ c. (self.new, c)) result (found (put_code model self.old node)) }
+    {
+        let at = code_offset(&node);
+        let charged = is_charged(model, &node);
+        let next = self.put_node(node)?;
+        if charged {
+            self.put_node(CodeNode::Work(at, Amount::Written(1), next))
+        } else {
+            Ok(next)
+        }
+    }
+}

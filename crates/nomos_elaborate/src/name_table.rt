@@ -1,0 +1,71 @@
+//! Names under their numbers.
+ghost use Rattle.std.specs.Prelude.{◌≡◌, []};
+ghost use Rattle.nomos_elaborate.specs.mirror.Checked.{Gives, found};
+ghost use Rattle.nomos_elaborate.specs.mirror.Seeing.{name_seen};
+ghost use Rattle.nomos_elaborate.specs.Names.{is_among, number_of};
+
+use crate::elab_error::ElabError;
+use crate::names::id_of;
+use indexmap::IndexSet;
+use nomos_ir::name::Name;
+use std::alloc::Global;
+use std::marker::Model;
+
+/// Names that differ, in the order in which they were put, each found by its text in one step.
+#[derive(Drop)]
+pub(crate) struct NameTable {
+    alloc: Global,
+    texts: IndexSet<Vec<u8>>,
+}
+
+impl Model for NameTable {
+    ghost use Rattle.std.specs.Prelude.{List, ℕ, map};
+
+    ghost Value = { List (List ℕ) };
+
+    ghost view = { λ t. map (λ text. text.items) t.texts.keys };
+}
+
+impl NameTable {
+    /// No names.
+    pub(crate) fn new(alloc: Global) -> NameTable
+        ensures { result ≡ [] }
+    {
+        NameTable {
+            alloc,
+            texts: IndexSet::new(alloc),
+        }
+    }
+
+    /// Whether a name is among the names.
+    pub(crate) fn has(&self, text: &[u8]) -> bool
+        ensures { result ≡ is_among self.now text.now }
+    {
+        self.texts.contains(text)
+    }
+
+    /// The place of a name among the names, or their number where it is not among them.
+    pub(crate) fn number_of(&self, text: &[u8]) -> usize
+        ensures { result ≡ number_of self.now text.now }
+    {
+        self.texts.get_index_of(text).unwrap_or(self.texts.len())
+    }
+
+    /// Puts a name at the end, where it is not among the names yet, and gives its place.
+    pub(crate) fn see(&mut self, text: &[u8]) -> Result<u32, ElabError>
+        ensures { Gives (λ place. (self.new, place)) result (found (name_seen self.old text.now)) }
+    {
+        let text = Vec::from_slice(self.alloc, text)?;
+        let (place, _) = self.texts.insert_full(text)?;
+        id_of(place)
+    }
+
+    /// The names, in their order.
+    pub(crate) fn into_names(self) -> Result<Vec<Name>, ElabError>
+        ensures { Gives (λ names. names.items) result (found self) }
+    {
+        let NameTable { alloc, texts } = self;
+        let names = texts.into_iter().map(Name::of_vec).collect(alloc)?;
+        Ok(names)
+    }
+}

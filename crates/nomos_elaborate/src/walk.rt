@@ -1,0 +1,161 @@
+//! The walk over the declarations of a text.
+ghost use Rattle.std.specs.Prelude.{◌≡◌, [], map};
+ghost use Rattle.nomos_elaborate.specs.mirror.Checked.{Gives, found};
+ghost use Rattle.nomos_elaborate.specs.mirror.FileCheck.{check_body, check_decl, check_decls, begun};
+ghost use Rattle.nomos_elaborate.specs.Spaces.{declaring, declaring_all, no_names};
+ghost use Rattle.nomos_surface.specs.FileView.{decl_tree};
+
+use crate::builder::Builder;
+use crate::claims::new_among;
+use crate::elab_error::ElabError;
+use crate::elaborator::Elaborator;
+use crate::name_table::NameTable;
+use crate::scope::Scope;
+use crate::spaces::Spaces;
+use nomos_ir::declaration::{FnDecl, ProcDecl};
+use nomos_ir::type_node::Def;
+use nomos_surface::declarations::SurfaceDecl;
+use nomos_surface::surface::CostModel;
+use std::alloc::Global;
+use std::marker::Model;
+
+impl Spaces {
+    /// No names.
+    fn new(alloc: Global) -> Spaces
+        ensures { result ≡ no_names }
+    {
+        Spaces {
+            types: NameTable::new(alloc),
+            functions: NameTable::new(alloc),
+            processes: NameTable::new(alloc),
+        }
+    }
+
+    /// Puts the name of a declaration into its space.
+    fn declare(&mut self, decl: &SurfaceDecl) -> Result<(), ElabError>
+        ensures { Gives (λ _. self.new) result (found (declaring self.old (decl_tree decl.now))) }
+    {
+        match decl {
+            SurfaceDecl::Definition(tree) => {
+                self.types.see(tree.name.name.as_bytes())?;
+            }
+            SurfaceDecl::Function(tree) => {
+                self.functions.see(tree.name.name.as_bytes())?;
+            }
+            SurfaceDecl::Process(tree) => {
+                self.processes.see(tree.name.name.as_bytes())?;
+            }
+            SurfaceDecl::Transaction(tree) => {
+                self.processes.see(tree.name.name.as_bytes())?;
+            }
+        }
+        Ok(())
+    }
+
+    /// The names of all declarations.
+    pub(crate) fn of_all(alloc: Global, decls: &[SurfaceDecl]) -> Result<Spaces, ElabError>
+        ensures { Gives (λ s. s) result (found (declaring_all no_names (map decl_tree decls.now))) }
+    {
+        let mut spaces = Spaces::new(alloc);
+        for decl in decls {
+            spaces.declare(decl)?;
+        }
+        Ok(spaces)
+    }
+}
+
+/// What is declared so far, the names of that, and the state of the walk.
+#[derive(Drop)]
+pub(crate) struct Walk {
+    pub(crate) defs: Vec<Def>,
+    pub(crate) fns: Vec<FnDecl>,
+    pub(crate) procs: Vec<ProcDecl>,
+    before: Spaces,
+    pub(crate) work: Elaborator,
+}
+
+impl Model for Walk {
+    ghost use Rattle.nomos_elaborate.specs.mirror.FileCheck.{Progress};
+
+    ghost Value = { Progress };
+
+    ghost view = { λ v. record {
+      defs = v.defs.items;
+      fns = v.fns.items;
+      procs = v.procs.items;
+      before = v.before;
+      work = v.work;
+    } };
+}
+
+impl Walk {
+    /// Nothing declared, in a text with these names and this cost model.
+    pub(crate) fn new(alloc: Global, spaces: Spaces, model: CostModel) -> Walk
+        ensures { result ≡ begun spaces model }
+    {
+        Walk {
+            defs: Vec::new(alloc),
+            fns: Vec::new(alloc),
+            procs: Vec::new(alloc),
+            before: Spaces::new(alloc),
+            work: Elaborator {
+                spaces,
+                model,
+                inside: false,
+                scope: Scope::new(alloc),
+                built: Builder::new(alloc),
+            },
+        }
+    }
+
+    /// A declaration, whose name is not to be among those before it.
+    #[tactic(auto, unfolding(crate::specs::mirror::FileCheck::check_body))]
+    fn body(&mut self, decl: &SurfaceDecl) -> Result<(), ElabError>
+        ensures { Gives (λ _. self.new) result (check_body self.old (decl_tree decl.now)) }
+    {
+        match decl {
+            SurfaceDecl::Definition(tree) => {
+                new_among(&self.before.types, &tree.name)?;
+                let def = self.work.definition_of(tree)?;
+                self.defs.push(def)?;
+                Ok(())
+            }
+            SurfaceDecl::Function(tree) => {
+                new_among(&self.before.functions, &tree.name)?;
+                let function = self.work.function_of(tree)?;
+                self.fns.push(function)?;
+                Ok(())
+            }
+            SurfaceDecl::Process(tree) => {
+                new_among(&self.before.processes, &tree.name)?;
+                let process = self.work.process_of(tree)?;
+                self.procs.push(process)?;
+                Ok(())
+            }
+            SurfaceDecl::Transaction(tree) => {
+                new_among(&self.before.processes, &tree.name)?;
+                let process = self.work.transaction_of(tree)?;
+                self.procs.push(process)?;
+                Ok(())
+            }
+        }
+    }
+
+    /// A declaration, whose name is declared from then on.
+    fn declare(&mut self, decl: &SurfaceDecl) -> Result<(), ElabError>
+        ensures { Gives (λ _. self.new) result (check_decl self.old (decl_tree decl.now)) }
+    {
+        self.body(decl)?;
+        self.before.declare(decl)
+    }
+
+    /// Declarations, in order of text.
+    pub(crate) fn declare_all(&mut self, decls: &[SurfaceDecl]) -> Result<(), ElabError>
+        ensures { Gives (λ _. self.new) result (check_decls self.old (map decl_tree decls.now)) }
+    {
+        for decl in decls {
+            self.declare(decl)?;
+        }
+        Ok(())
+    }
+}
