@@ -1,7 +1,7 @@
 -- A program has no more type and term nodes than the forms of its tree.
-use Rattle.std.proofs.Common.{◌≡◌, ℕ, ◌+◌, ◌≤◌, Bool, true, false, List, [], ◌∷◌, ◌++◌, length, Option, Some, None, refl, sym, ap, ◌∙◌, arith, length-append}
+use Rattle.std.proofs.Common.{◌≡◌, ℕ, ◌+◌, ◌≤◌, Bool, true, false, List, [], ◌∷◌, ◌++◌, length, Option, Some, None, refl, ◌∙◌, arith}
 use Rattle.std.specs.Prelude.{if◌then◌else◌}
-use Rattle.nomos_elaborate.specs.Built.{Built, with_label, with_variable, label_id, variable_id, put_type, put_term, quantity_amount, amount_of, kind_of}
+use Rattle.nomos_elaborate.specs.Built.{Built, with_label, with_variable, put_type, put_term, quantity_amount, amount_of}
 use Rattle.nomos_elaborate.specs.CodeBuild.{build_value, build_unless_list, build_argument, build_values, build_step, build_steps, build_code, build_last, build_arms}
 use Rattle.nomos_elaborate.specs.CodeClaims.{scope_after, matched_list}
 use Rattle.nomos_elaborate.specs.CostModel.{put_code, put_node, put_work, is_charged, code_offset, model_of}
