@@ -1,5 +1,5 @@
 -- The definitions, tried on small texts.
-use Rattle.std.proofs.Common.{◌≡◌, ℕ, Bool, true, false, List, [], ◌∷◌, Option, Some, None, refl}
+use Rattle.std.proofs.Common.{◌≡◌, true, [], ◌∷◌, Some, None, refl}
 use Rattle.std.specs.Prelude.{codes}
 use Rattle.nomos_elaborate.specs.Claim.{first_broken}
 use Rattle.nomos_elaborate.specs.CodeBuild.{build_code, build_last, build_arms}
@@ -25,7 +25,7 @@ use Rattle.nomos_surface.specs.declared.steps.ChanAt.TheVariants as chan
 use Rattle.nomos_surface.specs.declared.surface.CostModel.TheVariants as cost
 use Rattle.nomos_surface.specs.declared.terms.Operator.TheVariants as op
 use Rattle.nomos_surface.specs.declared.types.Sender.TheVariants as side
-use Rattle.nomos_surface.specs.Tree.{TypeTree, one, named, choice, channel, valued, paying, going_up, going_down, grouped, BranchTrees, no_branches, branch, TermTree, number, truth, me, variable, application, no_items, binary, negation, choosing, matching, parenthesized, TermTrees, no_terms, term, StepTree, label, send, recv, put, taking, pay, getting, work, wait, accept, detach, acquire, release, spawn, binding, empty_list, longer_list, emit, CodeTree, code, LastTree, close, fwd, calling, code_if, case, code_match, ArmTrees, no_arms, arm, DeclTree, definition, function, process, transaction, FileTree}
+use Rattle.nomos_surface.specs.Tree.{one, named, choice, valued, paying, no_branches, branch, number, truth, me, variable, application, binary, negation, matching, parenthesized, no_terms, term, label, put, taking, pay, getting, work, wait, spawn, binding, empty_list, longer_list, emit, code, close, fwd, calling, code_if, case, code_match, no_arms, arm, definition, function, process, transaction, FileTree}
 
 -- type R a = b;
 abbrev undeclared_type : FileTree

@@ -18,3 +18,4 @@ pub mod CodeLaws
 pub mod FileLaws
 pub mod AnswerLaws
 pub mod Examples
+pub mod CountLaws
