@@ -7,7 +7,19 @@ use Rattle.nomos_syntax.specs.declared.symbol.Symbol.TheVariants as sym
 use Rattle.nomos_syntax.specs.Lexeme.{Lexeme, name, reserved, number, symbol}
 use Rattle.nomos_grammar.specs.declared.part.Mark.TheVariants as mark
 use Rattle.nomos_grammar.specs.Counting.{depth, counts}
-use Rattle.nomos_grammar.specs.Derivation.{Event, token, mark as marked, nothing, read, counted, replaced, first, later, Derives, file}
+use Rattle.nomos_grammar.specs.Derivation.{
+  Event,
+  token,
+  mark as marked,
+  nothing,
+  read,
+  counted,
+  replaced,
+  first,
+  later,
+  Derives,
+  file,
+}
 
 -- a token, wherever it stands
 abbrev pub says : Lexeme → Event
@@ -28,13 +40,29 @@ definition =
 
 pub definition_derived : Derives file definition
 definition_derived =
-    replaced _ (later first) (replaced _ first (replaced _ first (counted (read (inl refl)
+    replaced _ (later first) (replaced _ first (counted (read (inl refl)
     (replaced _ first (read (inl refl) (read (inl refl) (read (inl refl)
     (replaced _ (later (later (later (later (later first))))) (counted
     (replaced _ (later (later (later (later first)))) (counted (read (inl refl)
     (replaced _ (later (later first)) (counted (read (inl refl)
-    (replaced _ (later first) nothing)))))))))))))))))
+    (replaced _ (later first) nothing))))))))))))))))
 
 -- one production is open at the `1`, and it is the second node
 pub definition_depth : depth (counts (marked mark.OpenPart ∷ marked mark.Node ∷ [])) ≡ 1
 definition_depth = refl
+
+-- let v = list {1} int, from its `list` on: the word is a node, but it is counted only behind it
+pub empty_list : counts (word_said word.List ∷ marked mark.NodeBefore ∷ []) ≡ record { parts = 0; terms = []; nodes = 1; before = 1; stars = 0 }
+empty_list = refl
+
+-- 1 + 2 < 3 in a term: at the `3` the term, its `notx` and two operators are open
+pub operators : depth (counts
+    (marked mark.OpenTerm ∷ marked mark.OpenPart ∷ marked mark.Node ∷ says (number (codes "1")) ∷ marked mark.Node ∷
+    sign_said sym.Plus ∷ marked mark.Operator ∷ marked mark.Node ∷ says (number (codes "2")) ∷ marked mark.Node ∷
+    sign_said sym.Less ∷ marked mark.Operator ∷ marked mark.Node ∷ [])) ≡ 4
+operators = refl
+
+-- a term that is closed leaves nothing open
+pub closed_term : depth (counts
+    (marked mark.OpenTerm ∷ marked mark.Operator ∷ marked mark.CloseTerm ∷ [])) ≡ 0
+closed_term = refl

@@ -1,1 +1,15 @@
 pub mod Examples
+pub mod TerminalLemmas
+pub mod TableLemmas
+pub mod ChoiceLemmas
+pub mod GrammarLaws
+pub mod DistanceLemmas
+pub mod ProductiveLaws
+pub mod ReadingLemmas
+pub mod StandLemmas
+pub mod NumeralLemmas
+pub mod OutcomeLemmas
+pub mod EndLemmas
+pub mod FirstLemmas
+pub mod OffenceLaws
+pub mod LimitLaws

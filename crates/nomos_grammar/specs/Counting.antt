@@ -1,5 +1,5 @@
 -- What counts at a place between the tokens of a text.
-use Rattle.std.specs.Prelude.{ℕ, ◌+◌, ◌-◌, List, [], ◌∷◌, length, sum, drop}
+use Rattle.std.specs.Prelude.{ℕ, ◌+◌, ◌-◌, List, [], ◌∷◌}
 use Rattle.nomos_grammar.specs.declared.part.Mark.{Mark}
 use Rattle.nomos_grammar.specs.declared.part.Mark.TheVariants as mark
 use Rattle.nomos_grammar.specs.Derivation.{Event, token, mark as marked}
@@ -20,20 +20,30 @@ pub record Counts : Type 0 where
 abbrev pub nothing_counted : Counts
 nothing_counted = record { parts = 0; terms = []; nodes = 0; before = 0; stars = 0 }
 
+-- open terms count one each, and one for each of their operators
+abbrev pub in_terms : List ℕ → ℕ
+in_terms [] = 0
+in_terms (n ∷ terms) = 1 + n + in_terms terms
+
 -- how deep the next token is nested
 abbrev pub depth : Counts → ℕ
-depth c = c.parts + length c.terms + sum c.terms
+depth c = c.parts + in_terms c.terms
 
 -- one operator more in the innermost open term
 abbrev pub one_operator_more : List ℕ → List ℕ
 one_operator_more [] = []
 one_operator_more (n ∷ terms) = (n + 1) ∷ terms
 
+-- the open terms around the innermost one
+abbrev pub outer_terms : List ℕ → List ℕ
+outer_terms [] = []
+outer_terms (n ∷ terms) = terms
+
 abbrev pub after_mark : Mark → Counts → Counts
 after_mark mark.OpenPart c = record c { parts = c.parts + 1 }
 after_mark mark.ClosePart c = record c { parts = c.parts - 1 }
 after_mark mark.OpenTerm c = record c { terms = 0 ∷ c.terms }
-after_mark mark.CloseTerm c = record c { terms = drop 1 c.terms }
+after_mark mark.CloseTerm c = record c { terms = outer_terms c.terms }
 after_mark mark.Operator c = record c { terms = one_operator_more c.terms }
 after_mark mark.Node c = record c { nodes = c.nodes + 1 }
 after_mark mark.NodeBefore c = record c { nodes = c.nodes + 1; before = c.before + 1 }

@@ -34,10 +34,10 @@ tokens_in [] = []
 tokens_in (token x ∷ events) = x ∷ tokens_in events
 tokens_in (mark m ∷ events) = tokens_in events
 
--- a right side is among these
-pub data IsAmong (side : List Part) : List (List Part) → Type 0 where
-  first : {sides : List (List Part)} → IsAmong side (side ∷ sides)
-  later : {other : List Part} {sides : List (List Part)} → IsAmong side sides → IsAmong side (other ∷ sides)
+-- it is one of these
+pub data IsAmong {A : Type 0} (x : A) : List A → Type 0 where
+  first : {xs : List A} → IsAmong x (x ∷ xs)
+  later : {y : A} {xs : List A} → IsAmong x xs → IsAmong x (y ∷ xs)
 
 -- The parts derive the events: a terminal a token that fits it, a mark itself, and a production what one of its
 -- alternatives derives in its place.

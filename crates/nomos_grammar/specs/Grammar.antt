@@ -6,7 +6,68 @@ use Rattle.nomos_syntax.specs.declared.symbol.Symbol.{Symbol}
 use Rattle.nomos_syntax.specs.declared.symbol.Symbol.TheVariants as sym
 use Rattle.nomos_grammar.specs.declared.part.Terminal.TheVariants as terminal
 use Rattle.nomos_grammar.specs.declared.part.Nonterminal.{Nonterminal}
-use Rattle.nomos_grammar.specs.declared.part.Nonterminal.TheVariants.{File, CostModel, Declarations, Declaration, DefinitionMode, Process, FunctionParameters, MoreFunctionParameters, FunctionParameter, Parameters, ValueParameters, MoreValueParameters, ValueParameter, ParameterKind, AfterParameterList, ChannelParameters, MoreChannelParameters, ChannelParameter, OptionalPotential, Potential, Amount, ValueType, SessionType, ValueArrow, AfterAtom, Atom, Labels, MoreLabels, LabelledType, Channel, Arguments, ValueArguments, MoreValueArguments, ChannelArguments, MoreChannelArguments, Code, Step, BoundValue, AfterList, Last, BracedCode, Branches, MoreBranches, Branch, Term, Disjunction, MoreDisjuncts, Conjunction, MoreConjuncts, Negation, Comparison, MoreComparison, ListTerm, MoreListTerm, Sum, MoreSummands, Product, MoreFactors, Primary, CallArguments}
+use Rattle.nomos_grammar.specs.declared.part.Nonterminal.TheVariants.{
+  File,
+  CostModel,
+  Declarations,
+  Declaration,
+  DefinitionMode,
+  Process,
+  FunctionParameters,
+  MoreFunctionParameters,
+  FunctionParameter,
+  Parameters,
+  ValueParameters,
+  MoreValueParameters,
+  ValueParameter,
+  ParameterKind,
+  AfterParameterList,
+  ChannelParameters,
+  MoreChannelParameters,
+  ChannelParameter,
+  OptionalPotential,
+  Potential,
+  Amount,
+  ValueType,
+  SessionType,
+  ValueArrow,
+  AfterAtom,
+  Atom,
+  Labels,
+  MoreLabels,
+  LabelledType,
+  Channel,
+  Arguments,
+  ValueArguments,
+  MoreValueArguments,
+  ChannelArguments,
+  MoreChannelArguments,
+  Code,
+  Step,
+  BoundValue,
+  AfterList,
+  Last,
+  BracedCode,
+  Branches,
+  MoreBranches,
+  Branch,
+  Term,
+  Disjunction,
+  MoreDisjuncts,
+  Conjunction,
+  MoreConjuncts,
+  Negation,
+  Comparison,
+  MoreComparison,
+  ListTerm,
+  MoreListTerm,
+  Sum,
+  MoreSummands,
+  Product,
+  MoreFactors,
+  Primary,
+  CallArguments,
+}
 use Rattle.nomos_grammar.specs.declared.part.Mark.TheVariants as mark
 use Rattle.nomos_grammar.specs.declared.part.Part.{Part}
 use Rattle.nomos_grammar.specs.declared.part.Part.TheVariants as part
@@ -60,7 +121,7 @@ abbrev pub alternatives : Nonterminal → List (List Part)
 -- file = [ "cost" ("ticks" | "sends" | "all") ";" ] { decl }
 alternatives File =
     (keyword word.Cost ∷ the CostModel ∷ sign sym.Semicolon ∷ the Declarations ∷ []) ∷
-    (the Declarations ∷ []) ∷ []
+    (the Declaration ∷ the Declarations ∷ []) ∷ [] ∷ []
 alternatives CostModel = (keyword word.Ticks ∷ []) ∷ (keyword word.Sends ∷ []) ∷ (keyword word.All ∷ []) ∷ []
 alternatives Declarations = (the Declaration ∷ the Declarations ∷ []) ∷ [] ∷ []
 -- decl = "type" ("R" | "S" | "L") NAME "=" type ";"
@@ -97,8 +158,8 @@ alternatives ChannelParameters = (the ChannelParameter ∷ the MoreChannelParame
 alternatives MoreChannelParameters =
     (sign sym.Comma ∷ the ChannelParameter ∷ the MoreChannelParameters ∷ []) ∷ [] ∷ []
 alternatives ChannelParameter = (NAME ∷ sign sym.Colon ∷ the SessionType ∷ []) ∷ []
--- What stands behind the `:` of a value parameter. Where no potential follows, its word `list` begins a value type, which
--- counts from the next token on: nothing else is open at the word.
+-- What stands behind the `:` of a value parameter. Where no potential follows, its word `list` begins a value type,
+-- which counts from the next token on: nothing else is open at the word.
 alternatives ParameterKind =
     (NODE ∷ keyword word.List ∷ the AfterParameterList ∷ []) ∷
     (OPEN ∷ NODE ∷ keyword word.Int ∷ CLOSE ∷ []) ∷

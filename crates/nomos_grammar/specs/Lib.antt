@@ -2,3 +2,4 @@ pub mod Grammar
 pub mod Derivation
 pub mod Counting
 pub mod Offence
+pub mod mirror

@@ -92,7 +92,8 @@ error_of front x syntax = Syntax x.at
 
 abbrev pub Offends : List Placed → GrammarError → Type 0
 Offends tokens error =
-    (front : List Placed) × (x : Placed) × (rule : Rule) × IsFirstOffence tokens front x rule × (error_of front x rule ≡ error)
+    (front : List Placed) × (x : Placed) × (rule : Rule) ×
+    IsFirstOffence tokens front x rule × (error_of front x rule ≡ error)
 
 -- the tokens keep to all rules, and are no file: the text ends too early
 abbrev pub EndsTooEarly : List Placed → Type 0

@@ -3,3 +3,9 @@
 
 pub mod offence;
 pub mod part;
+mod reader;
+mod sight;
+mod table;
+mod tally;
+#[cfg(test)]
+mod tests;

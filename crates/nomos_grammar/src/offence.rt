@@ -1,5 +1,15 @@
 //! The first token of a text that the grammar or a limit does not allow.
+ghost use Rattle.std.specs.Prelude.{◌≡◌, ◌≤◌, length};
+ghost use Rattle.nomos_syntax.specs.Limits.{text_limit};
+ghost use Rattle.nomos_syntax.specs.Scan.{tokens_of};
+ghost use Rattle.nomos_syntax.specs.Spans.{StandFor};
+ghost use Rattle.nomos_grammar.specs.declared.offence.GrammarError.TheVariants.{NoMemory as memory};
+ghost use Rattle.nomos_grammar.specs.Offence.{Answers};
 
+use crate::reader::Reader;
+use crate::sight::look_at;
+use nomos_syntax::token::TokenList;
+use std::alloc::{AllocError, Global};
 use thiserror::Error;
 
 /// What a limit is of.
@@ -28,4 +38,31 @@ pub enum GrammarError {
     Limit(Which, u32),
     #[error("out of memory")]
     NoMemory,
+}
+
+impl From<AllocError> for GrammarError {
+    ghost from_gives = { λ _ e. e ≡ memory };
+
+    fn from(_e: AllocError) -> GrammarError {
+        GrammarError::NoMemory
+    }
+}
+
+/// Whether the tokens of a text are a text of the grammar within its limits, as docs/LANGUAGE.md, "Grammar of the whole
+/// language", has them, and if not, why: the first token that breaks a rule, and the first rule that it breaks, or that
+/// the text ends too early. Offsets count bytes from 0.
+pub fn first_offence(alloc: Global, text: &[u8], tokens: &TokenList) -> Result<(), GrammarError>
+    requires short { length text.now ≤ text_limit }
+    requires tokens { StandFor text.now tokens.now (tokens_of text.now) }
+    ensures { Answers (tokens_of text.now) (length text.now) result }
+{
+    let mut reader = Reader::new(alloc)?;
+    for token in tokens.as_slice() {
+        reader.read(look_at(text, *token))?;
+    }
+    if reader.may_end()? {
+        Ok(())
+    } else {
+        Err(GrammarError::Syntax(text.len() as u32))
+    }
 }

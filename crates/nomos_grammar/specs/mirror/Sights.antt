@@ -1,0 +1,12 @@
+-- A mirror of the code: what is seen of a token.
+use Rattle.std.specs.Prelude.{◌≡◌}
+use Rattle.nomos_syntax.specs.Lexeme.{Placed}
+use Rattle.nomos_grammar.specs.declared.sight.Sight.{Sight}
+use Rattle.nomos_grammar.specs.Derivation.{terminal_of}
+use Rattle.nomos_grammar.specs.mirror.Reading.{PassesItself}
+
+-- this is seen of the token
+pub record IsSeen (x : Placed) (sight : Sight) : Type 0 where
+  pub terminal : sight.terminal ≡ terminal_of x.lexeme
+  pub passed : PassesItself x.lexeme sight.passed
+  pub at : sight.at ≡ x.at
