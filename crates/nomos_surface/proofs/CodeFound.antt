@@ -192,9 +192,10 @@ if_read inner at t c d x ts us vs y ws os m e f w g =
     (refl, ap (if_of inner at) e ∙ rw (f, w, g) refl)
 
 abbrev case_of : Reader CodeTree → ℕ → ChanAt × List Placed → LastTree × List Placed
-case_of inner at c =
-    (case at c.0 (arm_trees (read_parted (read_arm inner) is_bar (length (rest_of c.1)) [] (rest_of c.1)).0),
-      rest_of (read_parted (read_arm inner) is_bar (length (rest_of c.1)) [] (rest_of c.1)).1)
+case_of inner at c = (
+  case at c.0 (arm_trees (read_parted (read_arm inner) is_bar (length (rest_of c.1)) [] (rest_of c.1)).0),
+  rest_of (read_parted (read_arm inner) is_bar (length (rest_of c.1)) [] (rest_of c.1)).1,
+)
 
 case_read : (inner : Reader CodeTree) (at : ℕ) (c : ChanAt) (arms : List Arm) (x : Placed) (ts us : List Placed) (y : Placed) (vs ws : List Placed) (z : Placed) (os : List Placed) →
     Meets (keyword_at at word.Case) x → read_chan ts ≡ (c, us) → us ≡ y ∷ vs → read_parted (read_arm inner) is_bar (length vs) [] vs ≡ (arms, ws) → ws ≡ z ∷ os →
@@ -217,15 +218,17 @@ match_read : (inner : Reader CodeTree) (at : ℕ) (w head tail : NameAt) (c d : 
 unfolding last_from read_code_match
 match_read inner at w head tail c d x n y1 y2 y3 vs ws z1 z2 z3 z4 z5 os bs last cs m mn e k mh mt g l =
     let hd : (read_name (z2 ∷ z3 ∷ z4 ∷ z5 ∷ os)).0 ≡ head =
-        at_this (λ q. (read_name (q ∷ z3 ∷ z4 ∷ z5 ∷ os)).0 ≡ head) head.at (name head.name) z2 mh refl in
+    at_this (λ q. (read_name (q ∷ z3 ∷ z4 ∷ z5 ∷ os)).0 ≡ head) head.at (name head.name) z2 mh refl in
     let tl : (read_name (z4 ∷ z5 ∷ os)).0 ≡ tail = at_this (λ q. (read_name (q ∷ z5 ∷ os)).0 ≡ tail) tail.at (name tail.name) z4 mt refl in
     let nm : (read_name (n ∷ y1 ∷ y2 ∷ y3 ∷ vs)).0 ≡ w = at_this (λ q. (read_name (q ∷ y1 ∷ y2 ∷ y3 ∷ vs)).0 ≡ w) w.at (name w.name) n mn refl in
     at_this (λ q. (is_last (front_kind (q ∷ n ∷ y1 ∷ y2 ∷ y3 ∷ vs)) ≡ true) × (read_last inner (q ∷ n ∷ y1 ∷ y2 ∷ y3 ∷ vs) ≡ (code_match at w c head tail d, cs)))
-    at (reserved word.Match) x m
-    (refl, rw (e, k, g, l)
-      (ap (λ (a : NameAt). let p : LastTree × List Placed = (code_match at a c (read_name (z2 ∷ z3 ∷ z4 ∷ z5 ∷ os)).0 (read_name (z4 ∷ z5 ∷ os)).0 d, cs) in p) nm
-      ∙ ap (λ (a : NameAt). let p : LastTree × List Placed = (code_match at w c a (read_name (z4 ∷ z5 ∷ os)).0 d, cs) in p) hd
-      ∙ ap (λ (a : NameAt). let p : LastTree × List Placed = (code_match at w c head a d, cs) in p) tl))
+    at (reserved word.Match) x m (
+      refl,
+      rw (e, k, g, l)
+          (ap (λ (a : NameAt). let p : LastTree × List Placed = (code_match at a c (read_name (z2 ∷ z3 ∷ z4 ∷ z5 ∷ os)).0 (read_name (z4 ∷ z5 ∷ os)).0 d, cs) in p) nm
+          ∙ ap (λ (a : NameAt). let p : LastTree × List Placed = (code_match at w c a (read_name (z4 ∷ z5 ∷ os)).0 d, cs) in p) hd
+          ∙ ap (λ (a : NameAt). let p : LastTree × List Placed = (code_match at w c head a d, cs) in p) tl),
+    )
 
 arm_list : ArmTrees → List Arm
 arm_list no_arms = []
@@ -275,7 +278,7 @@ if_found room at t c d is find_c find_d after [] le h = absurd h
 if_found room at t c d is find_c find_d after (x ∷ ts) le h =
     let else_shown : List Shown = keyword word.Else ∷ sign sym.OpenBrace ∷ print_code d (sign sym.CloseBrace ∷ after) in
     let f = whole_found t is (sign sym.OpenBrace ∷ print_code c (sign sym.CloseBrace ∷ else_shown)) ts
-        (any_ends the_production.Term (symbol sym.OpenBrace) (print_code c (sign sym.CloseBrace ∷ else_shown)) (refl, refl, refl, refl, refl, refl, refl)) h.1 in
+    (any_ends the_production.Term (symbol sym.OpenBrace) (print_code c (sign sym.CloseBrace ∷ else_shown)) (refl, refl, refl, refl, refl, refl, refl)) h.1 in
     let g = braced_found room c find_c else_shown f.rest (omega (arith, le, f.shorter)) f.spelled in
     let y = first_of_shown (keyword word.Else) (sign sym.OpenBrace ∷ print_code d (sign sym.CloseBrace ∷ after)) g.rest g.spelled in
     let k = braced_found room d find_d after y.others (omega (arith, le, f.shorter, g.shorter, ap length y.whole)) y.spelled in
@@ -291,16 +294,18 @@ case_found room at c l goes arms all after (x ∷ ts) le h =
     let f = chan_found c (sign sym.OpenBrace ∷ inside) ts h.1 in
     let y = first_of_shown (sign sym.OpenBrace) inside f.rest f.spelled in
     let g = parted_found Arm (read_arm (λ us. read_code room us)) is_bar sym.Bar AnyEnds room refl (λ after2. tt) (l, goes) (arm_list arms)
-        (λ after2. print_name l ∷ sign sym.FatArrow ∷ print_code goes after2) (print_arms arms) (length y.others) [] (sign sym.CloseBrace ∷ after) y.others
-        all tt (sign_ends_list is_bar sym.CloseBrace after refl) (omega arith) (omega (arith, le, f.shorter, ap length y.whole)) y.spelled in
+    (λ after2. print_name l ∷ sign sym.FatArrow ∷ print_code goes after2) (print_arms arms) (length y.others) [] (sign sym.CloseBrace ∷ after) y.others
+    all tt (sign_ends_list is_bar sym.CloseBrace after refl) (omega arith) (omega (arith, le, f.shorter, ap length y.whole)) y.spelled in
     let z = first_of_shown (sign sym.CloseBrace) after g.rest g.spelled in
-    let r = case_read (λ us. read_code room us) at c (arm_list (arm l goes arms)) x ts f.rest y.first y.others g.rest z.first z.others h.0 f.read y.whole g.read z.whole in
-    (r.0, record {
-      rest = z.others;
-      read = r.1 ∙ ap (λ (arms2 : ArmTrees). let p : LastTree × List Placed = (case at c arms2, z.others) in p) (trees_of_arms (arm l goes arms));
-      spelled = z.spelled;
-      shorter = omega (arith, f.shorter, g.shorter, ap length y.whole, ap length z.whole);
-    })
+    let r = case_read (λ us. read_code room us) at c (arm_list (arm l goes arms)) x ts f.rest y.first y.others g.rest z.first z.others h.0 f.read y.whole g.read z.whole in (
+      r.0,
+      record {
+        rest = z.others;
+        read = r.1 ∙ ap (λ (arms2 : ArmTrees). let p : LastTree × List Placed = (case at c arms2, z.others) in p) (trees_of_arms (arm l goes arms));
+        spelled = z.spelled;
+        shorter = omega (arith, f.shorter, g.shorter, ap length y.whole, ap length z.whole);
+      },
+    )
 
 match_found : (room at : ℕ) (w head tail : NameAt) (c d : CodeTree) → FindsCode room c → FindsCode room d → (after : List Shown) (tokens : List Placed) →
     length tokens ≤ suc room → Spells (print_last (code_match at w c head tail d) after) tokens → LastFoundAt room (code_match at w c head tail d) after tokens
@@ -316,7 +321,7 @@ match_found room at w head tail c d find_c find_d after (x ∷ n ∷ y1 ∷ y2 �
     let k = find_d (sign sym.CloseBrace ∷ after) z.others (omega (arith, le, f.shorter, ap length z.whole)) z.spelled in
     let l = first_of_shown (sign sym.CloseBrace) after k.rest k.spelled in
     let r = match_read (λ us. read_code room us) at w head tail c d x n y1 y2 y3 vs f.rest z.x1 z.x2 z.x3 z.x4 z.x5 z.others k.rest l.first l.others
-        h.0 h.1.0 f.read z.whole z.meets2 z.meets4 k.read l.whole in
+    h.0 h.1.0 f.read z.whole z.meets2 z.meets4 k.read l.whole in
     (r.0, record { rest = l.others; read = r.1; spelled = l.spelled; shorter = omega (arith, f.shorter, k.shorter, ap length z.whole, ap length l.whole) })
 
 code_start : (room : ℕ) (tokens : List Placed) → read_code (suc room) tokens ≡ read_steps (λ us. read_code room us) (length tokens) [] tokens
@@ -333,7 +338,7 @@ mutual
   code_found (code steps last) is zero after tokens le h = absurd (no_room (code steps last) after tokens le h)
   code_found (code steps last) is (suc room) after tokens le h =
       let f = steps_found (λ us. read_code room us) steps last (suc room) (length tokens) [] after tokens is.0
-          (λ ts le2 h2. last_found last is.1 room after ts le2 h2) (omega arith) le h in
+      (λ ts le2 h2. last_found last is.1 room after ts le2 h2) (omega arith) le h in
       record { rest = f.rest; read = code_start room tokens ∙ f.read; spelled = f.spelled; shorter = f.shorter }
 
   last_found : (l : LastTree) → IsLast l → (room : ℕ) (after : List Shown) (tokens : List Placed) → length tokens ≤ suc room → Spells (print_last l after) tokens →

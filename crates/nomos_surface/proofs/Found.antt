@@ -184,7 +184,6 @@ sign_ends_list between s after e (x ∷ tokens) h = with_this (λ y. between (fr
 
 module _ (A : Type 0) (item : Reader A) (between : Option TokenKind → Bool) (sep : Symbol) (Ends : List Shown → Type 0) (room : ℕ)
     (is_sep : between (Some (kind.Symbol sep)) ≡ true) (ends_sep : (after : List Shown) → Ends (sign sep ∷ after)) where
-
   pub parted_found : (v : A) (vs : List A) (p : Printer) (ps : List Printer) (n : ℕ) (before : List A) (after : List Shown) (tokens : List Placed) →
       FindsAll A item Ends room (v ∷ vs) (p ∷ ps) → Ends after → EndsList between after → length tokens ≤ n → length tokens ≤ room →
       Spells (print_parted sep (p ∷ ps) after) tokens → Found (List A) (read_parted item between n before) (before ++ v ∷ vs) after tokens
@@ -205,7 +204,7 @@ module _ (A : Type 0) (item : Reader A) (between : Option TokenKind → Bool) (s
       let s = first_of_shown (sign sep) (print_parted sep (q ∷ ps) after) f.rest f.spelled in
       let len : suc (length s.others) ≤ suc (length tokens) = omega (arith, f.shorter, ap length s.whole) in
       let again : between (front_kind (s.first ∷ s.others)) ≡ true =
-          with_this (λ y. between (front_kind (y ∷ s.others)) ≡ true) (symbol sep) s.first s.meets is_sep in
+      with_this (λ y. between (front_kind (y ∷ s.others)) ≡ true) (symbol sep) s.first s.meets is_sep in
       let g = parted_found w vs q ps m (before ++ v ∷ []) after s.others all.1 ends ended (omega (arith, le, len)) (omega (arith, in_room, len)) s.spelled in
       record {
         rest = g.rest;
@@ -247,7 +246,7 @@ until_found A item Ends room commas [] (p ∷ ps) n s after tokens all begin end
 until_found A item Ends room commas (v ∷ vs) [] n s after tokens all begin ends is_end ended le in_room h = absurd all
 until_found A item Ends room commas (v ∷ vs) (p ∷ ps) n s after tokens all begin ends is_end ended le in_room h =
     let f = parted_found A item is_comma sym.Comma Ends room refl commas v vs p ps n [] (sign s ∷ after) tokens all ends
-        (sign_ends_list is_comma s after ended) le in_room h in
+    (sign_ends_list is_comma s after ended) le in_room h in
     record {
       rest = f.rest;
       read = some_read item n tokens (begin.0 _ tokens h) ∙ f.read;

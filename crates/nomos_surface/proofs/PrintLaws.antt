@@ -524,15 +524,17 @@ model_stands cost.Ticks rest after y = chooses _ first (shows (suits_keyword wor
 model_stands cost.Sends rest after y = chooses _ (later first) (shows (suits_keyword word.Sends) y)
 model_stands cost.All rest after y = chooses _ (later (later first)) (shows (suits_keyword word.All) y)
 
-cost_stands : (c : Option CostLine) (rest : List Part) (after : List Shown) →
-    Yields (the the_production.Declarations ∷ rest) after → Yields (the the_production.File ∷ rest) (print_cost c after)
-cost_stands None rest after y = chooses _ (later first) y
-cost_stands (Some c) rest after y =
-    chooses _ first (shows (suits_keyword_at c.at word.Cost) (model_stands c.model _ _ (shows (suits_sign sym.Semicolon) y)))
+file_stand : (c : Option CostLine) (ds : List DeclTree) → Each IsDecl ds → Yields file (print_cost c (print_decls ds []))
+file_stand None [] each = chooses [] (later (later first)) ends
+file_stand None (d ∷ ds) each =
+    chooses _ (later first) (decl_stands d each.0 _ _ (decls_stand ds each.1 [] [] ends))
+file_stand (Some c) ds each =
+    chooses _ first (shows (suits_keyword_at c.at word.Cost) (model_stands c.model _ _
+    (shows (suits_sign sym.Semicolon) (decls_stand ds each [] [] ends))))
 
 -- the grammar derives what a tree that stands for a text prints
 pub file_yields : (f : FileTree) → IsGrammatical f → Yields file (print_file f)
-file_yields f is = cost_stands f.cost [] _ (decls_stand f.decls is [] [] ends)
+file_yields f is = file_stand f.cost f.decls is
 
 -- So tokens that a tree prints are a file of the grammar.
 pub printed-is-file : (f : FileTree) → IsGrammatical f → (tokens : List Placed) → Spells (print_file f) tokens → IsFile tokens

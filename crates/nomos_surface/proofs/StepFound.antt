@@ -109,10 +109,10 @@ args_found a are after [] h = absurd h
 args_found a are after (x ∷ ts) h =
     let back : List Shown = print_parted sym.Comma (map print_named a.channels) (sign sym.CloseParen ∷ after) in
     let v = until_found TermTree (read_term (length ts)) (Ends the_production.Term) (length ts) comma_ends a.values (map print_term a.values) (length ts) sym.Semicolon back ts
-        (args_all (length ts) a.values are) (args_start a.values are) (semicolon_ends back) refl refl (omega arith) (omega arith) h.1 in
+    (args_all (length ts) a.values are) (args_start a.values are) (semicolon_ends back) refl refl (omega arith) (omega arith) h.1 in
     let y = first_of_shown (sign sym.Semicolon) back v.rest v.spelled in
     let c = until_found NameAt read_name AnyEnds (length y.others) (λ after2. tt) a.channels (map print_named a.channels) (length y.others) sym.CloseParen after y.others
-        (names_all (length y.others) a.channels) (names_start a.channels) tt refl refl (omega arith) (omega arith) y.spelled in
+    (names_all (length y.others) a.channels) (names_start a.channels) tt refl refl (omega arith) (omega arith) y.spelled in
     let z = first_of_shown (sign sym.CloseParen) after c.rest c.spelled in
     record {
       rest = z.others;
@@ -331,13 +331,15 @@ empty_bound at v list_at q t after (x ∷ y ∷ us) h =
     let f = potential_found q (print_value_type t after) (y ∷ us) h.1 in
     let g = value_type_found t after f.rest f.spelled in
     let brace : is_open_brace (front_kind (y ∷ us)) ≡ true =
-        at_this (λ z. is_open_brace (front_kind (z ∷ us)) ≡ true) q.at (symbol sym.OpenBrace) y h.1.0 refl in
+    at_this (λ z. is_open_brace (front_kind (z ∷ us)) ≡ true) q.at (symbol sym.OpenBrace) y h.1.0 refl in
     let made : list_from at v list_at (is_open_brace (front_kind (y ∷ us))) (y ∷ us) ≡ (empty_list at v list_at q t, g.rest) =
-        rw brace (list_made at v list_at (y ∷ us) q f.rest t g.rest f.read g.read) in
-    (g.rest,
+    rw brace (list_made at v list_at (y ∷ us) q f.rest t g.rest f.read g.read) in (
+      g.rest,
       at_this (λ z. bound_from at v (is_list (front_kind (z ∷ y ∷ us))) (z ∷ y ∷ us) ≡ (empty_list at v list_at q t, g.rest)) list_at (reserved word.List) x h.0
-      (list_bound at v (record { at = list_at; lexeme = reserved word.List }) (y ∷ us) (empty_list at v list_at q t) g.rest refl made),
-      g.spelled, omega (arith, f.shorter, g.shorter))
+          (list_bound at v (record { at = list_at; lexeme = reserved word.List }) (y ∷ us) (empty_list at v list_at q t) g.rest refl made),
+      g.spelled,
+      omega (arith, f.shorter, g.shorter),
+    )
 
 longer_bound : (at : ℕ) (v : NameAt) (t : TermTree) (w : NameAt) → IsTerm the_production.Term t → (after : List Shown) (us : List Placed) →
     Spells (keyword word.List ∷ print_term t (sign sym.Comma ∷ print_name w ∷ after)) us →
@@ -348,8 +350,8 @@ longer_bound at v t w is after (x ∷ us) h =
     let y = first_of_shown (sign sym.Comma) (print_name w ∷ after) f.rest f.spelled in
     let g = name_found w after y.others y.spelled in
     let made : list_from at v x.at (is_open_brace (front_kind us)) us ≡ (longer_list at v t w, g.rest) =
-        rw (term_no_brace is (sign sym.Comma ∷ print_name w ∷ after) us h.1)
-        (longer_made at v x.at us t f.rest w g.rest f.read (passed NameAt read_name f.rest y.first y.others w g.rest y.whole g.read)) in
+    rw (term_no_brace is (sign sym.Comma ∷ print_name w ∷ after) us h.1)
+    (longer_made at v x.at us t f.rest w g.rest f.read (passed NameAt read_name f.rest y.first y.others w g.rest y.whole g.read)) in
     let list : is_list (front_kind (x ∷ us)) ≡ true = with_this (λ z. is_list (front_kind (z ∷ us)) ≡ true) (reserved word.List) x h.0 refl in
     (g.rest, list_bound at v x us (longer_list at v t w) g.rest list made, g.spelled, omega (arith, f.shorter, g.shorter, ap length y.whole))
 
@@ -418,8 +420,8 @@ step_found (label c l) is after tokens h =
 step_found (binding at v t) is after tokens h =
     let_found at v (binding at v t) (print_term t (sign sym.Semicolon ∷ after)) (sign sym.Semicolon ∷ after) tokens
     (λ us s.
-      let f = whole_found t is (sign sym.Semicolon ∷ after) us (semicolon_ends after) s in
-      (f.rest, term_bound at v us t f.rest (term_no_list is (sign sym.Semicolon ∷ after) us s) f.read, f.spelled, f.shorter)) h
+    let f = whole_found t is (sign sym.Semicolon ∷ after) us (semicolon_ends after) s in
+    (f.rest, term_bound at v us t f.rest (term_no_list is (sign sym.Semicolon ∷ after) us s) f.read, f.spelled, f.shorter)) h
 step_found (empty_list at v list_at q t) is after tokens h =
     let_found at v (empty_list at v list_at q t) (keyword_at list_at word.List ∷ print_potential q (print_value_type t (sign sym.Semicolon ∷ after))) (sign sym.Semicolon ∷ after) tokens
     (empty_bound at v list_at q t (sign sym.Semicolon ∷ after)) h

@@ -249,7 +249,7 @@ unfolding read_more
 more_next operand c zero op at left right rest x us ws le w is k e = absurd (omega (arith, le, ap length w))
 more_next operand c (suc m) op at left right rest x us ws le w is k e =
     let step : more_from (read_more operand c m) operand left (operator_in c (front_kind (x ∷ us))) (x ∷ us) ≡ read_more operand c m (binary op x.at left right) ws =
-        more_step (read_more operand c m) operand (operator_in c (front_kind (x ∷ us))) op left right (x ∷ us) ws is (sym e) in
+    more_step (read_more operand c m) operand (operator_in c (front_kind (x ∷ us))) op left right (x ∷ us) ws is (sym e) in
     (m, refl, rw w (step ∙ ap (λ a. read_more operand c m (binary op a left right) ws) k))
 
 chain_next : (operand : Reader TermTree) (c : Chain) (op : Operator) (at : ℕ) (left right : TermTree) (s : Shown) (after : List Shown) (tokens : List Placed)
@@ -325,7 +325,7 @@ unfolding read_nots
 nots_front a before [] = refl
 nots_front a before (x ∷ tokens) =
     let P : Bool → Type 0 = λ b. cond b (read_nots ((a ∷ before) ++ x.at ∷ []) tokens) (a ∷ before, x ∷ tokens)
-        ≡ put_not a (cond b (read_nots (before ++ x.at ∷ []) tokens) (before, x ∷ tokens)) in
+    ≡ put_not a (cond b (read_nots (before ++ x.at ∷ []) tokens) (before, x ∷ tokens)) in
     elim (is_not (front_kind (x ∷ tokens))) as P [ true ↦ nots_front a (before ++ x.at ∷ []) tokens | false ↦ refl ]
 
 abbrev opposite : ℕ → TermTree × List Placed → TermTree × List Placed
@@ -336,7 +336,7 @@ not_read : (inner : Reader TermTree) (at : ℕ) (t : TermTree) (x : Placed) (ts 
 unfolding read_negation
 not_read inner at t x ts rest m e =
     let seen : (is_not (front_kind (x ∷ ts)) ≡ true) × (x.at ≡ at) =
-        at_this (λ y. (is_not (front_kind (y ∷ ts)) ≡ true) × (y.at ≡ at)) at (reserved word.Not) x m (refl, refl) in
+    at_this (λ y. (is_not (front_kind (y ∷ ts)) ≡ true) × (y.at ≡ at)) at (reserved word.Not) x m (refl, refl) in
     let nots : read_nots [] (x ∷ ts) ≡ put_not x.at (read_nots [] ts) = more_nots [] (x ∷ ts) seen.0 ∙ nots_front x.at [] ts in
     ap (λ (n : List ℕ × List Placed). let p : TermTree × List Placed = (with_nots n.0 (read_comparison inner n.1).0, (read_comparison inner n.1).1) in p) nots
     ∙ ap (opposite x.at) e
@@ -368,7 +368,7 @@ match_read : (room at : ℕ) (t u v : TermTree) (head tail : NameAt) (x : Placed
 unfolding read_term term_from read_match
 match_read room at t u v head tail x ts us y1 y2 y3 vs ws z1 z2 z3 z4 z5 os bs last cs m e w f k mh mt g l =
     let hd : (read_name (z2 ∷ z3 ∷ z4 ∷ z5 ∷ os)).0 ≡ head =
-        at_this (λ q. (read_name (q ∷ z3 ∷ z4 ∷ z5 ∷ os)).0 ≡ head) head.at (name head.name) z2 mh refl in
+    at_this (λ q. (read_name (q ∷ z3 ∷ z4 ∷ z5 ∷ os)).0 ≡ head) head.at (name head.name) z2 mh refl in
     let tl : (read_name (z4 ∷ z5 ∷ os)).0 ≡ tail = at_this (λ q. (read_name (q ∷ z5 ∷ os)).0 ≡ tail) tail.at (name tail.name) z4 mt refl in
     at_this (λ q. read_term (suc room) (q ∷ ts) ≡ (matching at t u head tail v, cs)) at (reserved word.Match) x m
     (rw (e, w, f, k, g, l) (ap (λ (n : NameAt × NameAt). let p : TermTree × List Placed = (matching at t u n.0 n.1 v, cs) in p) (both (read_name (z2 ∷ z3 ∷ z4 ∷ z5 ∷ os)).0 head (read_name (z4 ∷ z5 ∷ os)).0 tail hd tl)))
@@ -490,7 +490,7 @@ list_next room at l r after tokens f x g some zero heads in_n = absurd (some in_
 list_next room at l r after tokens f x g some (suc m) heads in_n =
     let len : suc (length x.others) ≤ length tokens = omega (arith, f.shorter, ap length x.whole) in
     let said : (is_cons (front_kind (x.first ∷ x.others)) ≡ true) × (x.first.at ≡ at) =
-        at_this (λ y. (is_cons (front_kind (y ∷ x.others)) ≡ true) × (y.at ≡ at)) at (symbol sym.DoubleColon) x.first x.meets (refl, refl) in
+    at_this (λ y. (is_cons (front_kind (y ∷ x.others)) ≡ true) × (y.at ≡ at)) at (symbol sym.DoubleColon) x.first x.meets (refl, refl) in
     let k = g m (heads ++ (l, at) ∷ []) (omega (arith, in_n, len)) in
     record {
       rest = k.rest;
@@ -594,14 +594,14 @@ matching_found room at t u v head tail x ts after m le h find_t find_u find_v =
     let tail_shown : List Shown = print_term v (sign sym.CloseBrace ∷ after) in
     let bar_shown : List Shown = sign sym.Bar ∷ print_heading head tail tail_shown in
     let f = find_t (sign sym.OpenBrace ∷ keyword word.Nil ∷ sign sym.FatArrow ∷ print_term u bar_shown) ts
-        (any_ends the_production.Term (symbol sym.OpenBrace) (keyword word.Nil ∷ sign sym.FatArrow ∷ print_term u bar_shown) (refl, refl, refl, refl, refl, refl, refl)) le h in
+    (any_ends the_production.Term (symbol sym.OpenBrace) (keyword word.Nil ∷ sign sym.FatArrow ∷ print_term u bar_shown) (refl, refl, refl, refl, refl, refl, refl)) le h in
     let y = three_of (sign sym.OpenBrace) (keyword word.Nil) (sign sym.FatArrow) (print_term u bar_shown) f.rest f.spelled in
     let len : suc (length y.others) ≤ length ts = omega (arith, f.shorter, ap length y.whole) in
     let g = find_u bar_shown y.others (any_ends the_production.Term (symbol sym.Bar) (print_heading head tail tail_shown) (refl, refl, refl, refl, refl, refl, refl)) (omega (arith, le, len)) y.spelled in
     let z = five_of (sign sym.Bar) (print_name head) (sign sym.DoubleColon) (print_name tail) (sign sym.FatArrow) tail_shown g.rest g.spelled in
     let len2 : suc (length z.others) ≤ length y.others = omega (arith, g.shorter, ap length z.whole) in
     let k = find_v (sign sym.CloseBrace ∷ after) z.others
-        (any_ends the_production.Term (symbol sym.CloseBrace) after (refl, refl, refl, refl, refl, refl, refl)) (omega (arith, le, len, len2)) z.spelled in
+    (any_ends the_production.Term (symbol sym.CloseBrace) after (refl, refl, refl, refl, refl, refl, refl)) (omega (arith, le, len, len2)) z.spelled in
     let l = first_of_shown (sign sym.CloseBrace) after k.rest k.spelled in
     record {
       rest = l.others;
@@ -618,11 +618,11 @@ mutual
   term_found (is_choosing a b c) (suc room) after [] ends le h = absurd h
   term_found (is_choosing {at} {test = t} {holds = u} {fails = v} a b c) (suc room) after (x ∷ ts) ends le h =
       let f = term_found a room (keyword word.Then ∷ print_term u (keyword word.Else ∷ print_term v after)) ts
-          (any_ends the_production.Term (reserved word.Then) (print_term u (keyword word.Else ∷ print_term v after)) (refl, refl, refl, refl, refl, refl, refl)) (omega (arith, le)) h.1 in
+      (any_ends the_production.Term (reserved word.Then) (print_term u (keyword word.Else ∷ print_term v after)) (refl, refl, refl, refl, refl, refl, refl)) (omega (arith, le)) h.1 in
       let y = first_of_shown (keyword word.Then) (print_term u (keyword word.Else ∷ print_term v after)) f.rest f.spelled in
       let len : suc (length y.others) ≤ length ts = omega (arith, f.shorter, ap length y.whole) in
       let g = term_found b room (keyword word.Else ∷ print_term v after) y.others
-          (any_ends the_production.Term (reserved word.Else) (print_term v after) (refl, refl, refl, refl, refl, refl, refl)) (omega (arith, le, len)) y.spelled in
+      (any_ends the_production.Term (reserved word.Else) (print_term v after) (refl, refl, refl, refl, refl, refl, refl)) (omega (arith, le, len)) y.spelled in
       let z = first_of_shown (keyword word.Else) (print_term v after) g.rest g.spelled in
       let len2 : suc (length z.others) ≤ length y.others = omega (arith, g.shorter, ap length z.whole) in
       let k = term_found c room after z.others ends (omega (arith, le, len, len2)) z.spelled in
@@ -640,7 +640,7 @@ mutual
       (λ after2 tokens2 ends2 le2 h2. term_found c room after2 tokens2 ends2 le2 h2)
   term_found (is_disjunction {t} a) (suc room) after tokens ends le h =
       let c = part_found a room after tokens
-          (λ us s. let q = ends us s in (q.0, q.1, q.2, q.3, q.4, q.5)) le h in
+      (λ us s. let q = ends us s in (q.0, q.1, q.2, q.3, q.4, q.5)) le h in
       let f = chain_end (read_chain (read_negation (read_term room)) chain.Conjunction) chain.Disjunction t after tokens c (ends c.rest c.spelled).6 in
       record {
         rest = f.rest;
@@ -656,7 +656,7 @@ mutual
   part_found (is_disjunction a) room after tokens ends le h = tt
   part_found (is_or {at} {left = l} {right = r} a b) room after tokens ends le h =
       let f = part_found a room (keyword_at at word.Or ∷ print_term r after) tokens
-          (at_ends the_production.Conjunction at (reserved word.Or) (print_term r after) (refl, refl, refl, refl, refl, refl)) le h in
+      (at_ends the_production.Conjunction at (reserved word.Or) (print_term r after) (refl, refl, refl, refl, refl, refl)) le h in
       let x = first_of_shown (keyword_at at word.Or) (print_term r after) f.rest f.spelled in
       let g = part_found b room after x.others (λ us s. let q = ends us s in (q.0, q.1, q.2, q.3, q.4)) (omega (arith, le, f.shorter, ap length x.whole)) x.spelled in
       let said = operator_said chain.Disjunction operator.Or at (reserved word.Or) x.first x.others x.meets refl in
@@ -667,7 +667,7 @@ mutual
       chain_first (read_chain (read_negation (read_term room)) chain.Conjunction) chain.Disjunction t after tokens (chain_end (read_negation (read_term room)) chain.Conjunction t after tokens g (ends g.rest g.spelled).5)
   part_found (is_and {at} {left = l} {right = r} a b) room after tokens ends le h =
       let f = part_found a room (keyword_at at word.And ∷ print_term r after) tokens
-          (at_ends the_production.Comparison at (reserved word.And) (print_term r after) (refl, refl, refl, refl, refl)) le h in
+      (at_ends the_production.Comparison at (reserved word.And) (print_term r after) (refl, refl, refl, refl, refl)) le h in
       let x = first_of_shown (keyword_at at word.And) (print_term r after) f.rest f.spelled in
       let g = part_found b room after x.others ends (omega (arith, le, f.shorter, ap length x.whole)) x.spelled in
       let said = operator_said chain.Conjunction operator.And at (reserved word.And) x.first x.others x.meets refl in
@@ -693,17 +693,17 @@ mutual
       }
   part_found (is_less {at} {left = l} {right = r} a b) room after tokens ends le h =
       let f = list_found room l _ tokens (part_found a room (sign_at at sym.Less ∷ print_term r after) tokens
-          (at_ends the_production.ListTerm at (symbol sym.Less) (print_term r after) (refl, refl, refl, refl)) le h) in
+      (at_ends the_production.ListTerm at (symbol sym.Less) (print_term r after) (refl, refl, refl, refl)) le h) in
       let x = first_of_shown (sign_at at sym.Less) (print_term r after) f.rest f.spelled in
       let g = list_found room r after x.others (part_found b room after x.others (λ us s. let q = ends us s in (q.0, q.1, q.2, q.3))
-          (omega (arith, le, f.shorter, ap length x.whole)) x.spelled) in
+      (omega (arith, le, f.shorter, ap length x.whole)) x.spelled) in
       comparison_found room operator.Less at (symbol sym.Less) l r after tokens refl f x g
   part_found (is_equal {at} {left = l} {right = r} a b) room after tokens ends le h =
       let f = list_found room l _ tokens (part_found a room (sign_at at sym.Equals ∷ print_term r after) tokens
-          (at_ends the_production.ListTerm at (symbol sym.Equals) (print_term r after) (refl, refl, refl, refl)) le h) in
+      (at_ends the_production.ListTerm at (symbol sym.Equals) (print_term r after) (refl, refl, refl, refl)) le h) in
       let x = first_of_shown (sign_at at sym.Equals) (print_term r after) f.rest f.spelled in
       let g = list_found room r after x.others (part_found b room after x.others (λ us s. let q = ends us s in (q.0, q.1, q.2, q.3))
-          (omega (arith, le, f.shorter, ap length x.whole)) x.spelled) in
+      (omega (arith, le, f.shorter, ap length x.whole)) x.spelled) in
       comparison_found room operator.Equal at (symbol sym.Equals) l r after tokens refl f x g
   part_found (is_list_term {t} a) room after tokens ends le h =
       let f = list_found room t after tokens (part_found a room after tokens (λ us s. let q = ends us s in (q.0, q.1, q.2, q.3)) le h) in
@@ -715,7 +715,7 @@ mutual
       }
   part_found (is_consed {at} {left = l} {right = r} a b) room after tokens ends le h =
       let c = part_found a room (sign_at at sym.DoubleColon ∷ print_term r after) tokens
-          (at_ends the_production.Product at (symbol sym.DoubleColon) (print_term r after) (refl, refl)) le h in
+      (at_ends the_production.Product at (symbol sym.DoubleColon) (print_term r after) (refl, refl)) le h in
       let q = at_ends the_production.Sum at (symbol sym.DoubleColon) (print_term r after) (refl, refl, refl) c.rest c.spelled in
       let f = chain_end (read_chain (read_primary (read_term room)) chain.Product) chain.Sum l (sign_at at sym.DoubleColon ∷ print_term r after) tokens c q.2 in
       let x = first_of_shown (sign_at at sym.DoubleColon) (print_term r after) f.rest f.spelled in
@@ -776,9 +776,9 @@ mutual
   part_found (is_application are) room after (x ∷ []) ends le h = absurd h.1
   part_found (is_application {f = n} {arguments = l} are) room after (x ∷ y ∷ ts) ends le h =
       let f = until_found TermTree (read_term room) (Ends the_production.Term) room
-          (λ after2. any_ends the_production.Term (symbol sym.Comma) after2 (refl, refl, refl, refl, refl, refl, refl))
-          (arg_list l) (print_terms l) (length ts) sym.CloseParen after ts (args_found are room) (args_begin are)
-          (any_ends the_production.Term (symbol sym.CloseParen) after (refl, refl, refl, refl, refl, refl, refl)) refl refl (omega arith) (omega (arith, le)) h.1.1 in
+      (λ after2. any_ends the_production.Term (symbol sym.Comma) after2 (refl, refl, refl, refl, refl, refl, refl))
+      (arg_list l) (print_terms l) (length ts) sym.CloseParen after ts (args_found are room) (args_begin are)
+      (any_ends the_production.Term (symbol sym.CloseParen) after (refl, refl, refl, refl, refl, refl, refl)) refl refl (omega arith) (omega (arith, le)) h.1.1 in
       let z = first_of_shown (sign sym.CloseParen) after f.rest f.spelled in
       record {
         rest = z.others;
@@ -794,7 +794,7 @@ mutual
   part_found (is_parenthesized i) room after [] ends le h = absurd h
   part_found (is_parenthesized {inner = t} i) room after (x ∷ ts) ends le h =
       let f = term_found i room (sign sym.CloseParen ∷ after) ts
-          (any_ends the_production.Term (symbol sym.CloseParen) after (refl, refl, refl, refl, refl, refl, refl)) (omega (arith, le)) h.1 in
+      (any_ends the_production.Term (symbol sym.CloseParen) after (refl, refl, refl, refl, refl, refl, refl)) (omega (arith, le)) h.1 in
       let z = first_of_shown (sign sym.CloseParen) after f.rest f.spelled in
       record {
         rest = z.others;

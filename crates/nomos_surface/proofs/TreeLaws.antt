@@ -1153,10 +1153,17 @@ file_made (made _ first (made_more (made_token {x = x} f) (made_more model (made
         m.reads (sign sym.Semicolon ∷ print_decls r.tree after) (meets_sign sym.Semicolon y g, r.reads after h),
       );
     }
-file_made (made _ (later first) (made_more others made_none)) =
+file_made (made _ (later first) (made_more item (made_more others made_none))) =
+    let d = decl_made item in
     let r = decls_made others in
-    record { tree = record { cost = None; decls = r.tree }; is = r.is; reads = r.reads }
-file_made (made _ (later (later gap)) _) = elim gap [ ]
+    record {
+      tree = record { cost = None; decls = d.tree ∷ r.tree };
+      is = (d.is, r.is);
+      reads = λ after h. d.reads _ (r.reads after h);
+    }
+file_made (made _ (later (later first)) made_none) =
+    record { tree = record { cost = None; decls = [] }; is = tt; reads = λ after h. h }
+file_made (made _ (later (later (later gap))) _) = elim gap [ ]
 
 -- the whole of the tokens
 whole_made : {tokens : List Placed} {others : List Placed} → others ≡ [] → MakesAll file tokens others →

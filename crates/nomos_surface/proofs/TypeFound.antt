@@ -297,7 +297,7 @@ mutual
   atom_found (is_choice are) room after (x ∷ []) le h = absurd h.1
   atom_found (is_choice {s} {at} {branches = bs} are) room after (x ∷ y ∷ ts) le h =
       let p = branches_found are room (length ts) [] (sign sym.CloseBrace ∷ after) ts
-          (sign_ends_type sym.CloseBrace after refl) (sign_ends_list is_bar sym.CloseBrace after refl) (omega arith) (omega (arith, le)) h.1.1 in
+      (sign_ends_type sym.CloseBrace after refl) (sign_ends_list is_bar sym.CloseBrace after refl) (omega arith) (omega (arith, le)) h.1.1 in
       let z = first_of_shown (sign sym.CloseBrace) after p.rest p.spelled in
       record {
         rest = z.others;
