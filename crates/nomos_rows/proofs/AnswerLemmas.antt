@@ -35,7 +35,7 @@ module _ {lists : ProgramLists} where
   astray-never : (at : ℕ) (path : List Hop) → LeadsAstray lists at path → IsNeverTyped lists
   astray-never at path astray x typed =
       offends-not_synchronizing lists x astray.body astray.shared path astray.offends
-          (typed.synchronizing astray.shared astray.body astray.is_up)
+      (typed.synchronizing astray.shared astray.body astray.is_up)
 
   -- so does a function of another kind
   other-never : (at : ℕ) → HasOtherKind lists at → IsNeverTyped lists
@@ -49,14 +49,20 @@ module _ {lists : ProgramLists} where
       let Has : _ → Type 0 = λ d. Derives lists x (start_of lists x d) in
       let derivation = All-at Has lists.procs stuck.place stuck.declaration typed.procs stuck.declared in
       stuck-no_skeleton stuck.place typed.formed stuck.declared stuck.stuck.stuck
-          (derives-skeleton stuck.place x typed.formed stuck.declared derivation)
+      (derives-skeleton stuck.place x typed.formed stuck.declared derivation)
 
   -- the first shared type that goes astray is the cause
   pub astray-cause : (a : ℕ × List Hop) → TellsBelow (GoesAstray lists) (GoesBack lists) (length lists.types)
       (Some a) → IsCause lists (error.NotSync a.0 a.1)
   astray-cause a ((t, below, astray), first) =
-      let leads : LeadsAstray lists a.0 a.1 = record { shared = record { 0 = t }; body = astray.body; is_up =
-          astray.is_up; offset = astray.offset; offends = astray.offends } in (
+      let leads : LeadsAstray lists a.0 a.1 = record {
+        shared = record { 0 = t };
+        body = astray.body;
+        is_up =
+            astray.is_up;
+        offset = astray.offset;
+        offends = astray.offends;
+      } in (
         leads,
         λ other p given.
             first given.shared.0 other p (there-below lists given.shared.0 _ given.is_up)
@@ -97,10 +103,21 @@ module _ {lists : ProgramLists} where
       program-pair-known : {q : Amount × Amount} → IsProgramPair lists q → Contains known.amounts q
           ⊎ SomeBelow (length lists.procs) (AsksFor lists q)
       program-pair-known {q} (leads_back shared body up stands) =
-          inl ((pairs q).1 (inr (shared.0, there-below lists shared.0 _ up, record { body = body; is_up = up; stand =
-              stands })))
-      program-pair-known (asked k d declared asks) = inr (k, slice_get_within lists.procs k d declared,
-          (d, declared, asks))
+          inl ((pairs q).1 (inr (
+            shared.0,
+            there-below lists shared.0 _ up,
+            record {
+              body = body;
+              is_up = up;
+              stand =
+                  stands;
+            },
+          )))
+      program-pair-known (asked k d declared asks) = inr (
+        k,
+        slice_get_within lists.procs k d declared,
+        (d, declared, asks),
+      )
 
   -- the rows of the program
   pub rows-found : IsWellFormed lists → TellsBelow (GoesAstray lists) (GoesBack lists) (length lists.types) None
@@ -125,8 +142,11 @@ module _ {lists : ProgramLists} where
                     let (k, below, (d, declared, is)) = (inside.points f).0 among in
                     record { place = k; declaration = d; declared = declared; is_form = is },
                 λ is.
-                    (inside.points f).1 (is.place, slice_get_within lists.procs is.place is.declaration is.declared,
-                        (is.declaration, is.declared, is.is_form)),
+                    (inside.points f).1 (
+                      is.place,
+                      slice_get_within lists.procs is.place is.declaration is.declared,
+                      (is.declaration, is.declared, is.is_form),
+                    ),
               );
           are_pairs =
               λ p. (

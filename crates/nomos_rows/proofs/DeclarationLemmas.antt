@@ -62,8 +62,14 @@ module _ (lists : ProgramLists) where
   function-at : (k at : ℕ) (f : Fault) → FunctionFault lists k at f → IsFaultAt lists at f
   function-at k at f given =
       subst (IsFaultAt lists at) (sym given.is)
-      (record { place = k; function = given.function; declared = given.declared; offset = given.offset; other =
-          given.other })
+      (record {
+        place = k;
+        function = given.function;
+        declared = given.declared;
+        offset = given.offset;
+        other =
+            given.other;
+      })
 
   process-at : (k at : ℕ) (f : Fault) → ProcessFault lists k at f → IsFaultAt lists at f
   process-at k at f given =
@@ -75,16 +81,28 @@ module _ (lists : ProgramLists) where
       → least ≤ n) → HasOtherKind lists at → least ≤ at
   functions-after least at first other =
       first other.place at fault.OtherKind (slice_get_within lists.fns other.place other.function other.declared)
-      (record { function = other.function; declared = other.declared; offset = other.offset; other = other.other; is =
-          refl })
+      (record {
+        function = other.function;
+        declared = other.declared;
+        offset = other.offset;
+        other = other.other;
+        is =
+            refl;
+      })
 
   processes-after : (least at : ℕ) (form : CodeForm) → ((k n : ℕ) (f : Fault) → k < length lists.procs
       → ProcessFault lists k n f → least ≤ n) → GetsStuck lists at form → least ≤ at
   processes-after least at form first stuck =
       first stuck.place at (fault.Stuck form) (slice_get_within lists.procs stuck.place stuck.declaration
-          stuck.declared)
-      (record { declaration = stuck.declaration; declared = stuck.declared; form = form; stuck = stuck.stuck; is =
-          refl })
+      stuck.declared)
+      (record {
+        declaration = stuck.declaration;
+        declared = stuck.declared;
+        form = form;
+        stuck = stuck.stuck;
+        is =
+            refl;
+      })
 
   first-of_all : (least : ℕ) → ((k n : ℕ) (f : Fault) → k < length lists.fns → FunctionFault lists k n f
       → least ≤ n) → ((k n : ℕ) (f : Fault) → k < length lists.procs → ProcessFault lists k n f → least ≤ n)
@@ -101,14 +119,18 @@ module _ (lists : ProgramLists) where
         → DeclarationsTell lists (cond t (Some a) (Some b))
     both-told a b true le functions processes =
         let lower : a.0 ≤ b.0 = le_from a.0 b.0 le in
-        let (k, below, given) = functions.0 in
-        (function-at k a.0 a.1 given, first-of_all a.0 functions.1
-            (λ i n f inside stuck. let known = processes.1 i n f inside stuck in omega arith))
+        let (k, below, given) = functions.0 in (
+          function-at k a.0 a.1 given,
+          first-of_all a.0 functions.1
+              (λ i n f inside stuck. let known = processes.1 i n f inside stuck in omega arith),
+        )
     both-told a b false le functions processes =
         let above : b.0 < a.0 = lt_from a.0 b.0 le in
-        let (k, below, given) = processes.0 in
-        (process-at k b.0 b.1 given, first-of_all b.0 (λ i n f inside other. let known = functions.1 i n f inside
-            other in omega arith) processes.1)
+        let (k, below, given) = processes.0 in (
+          process-at k b.0 b.1 given,
+          first-of_all b.0 (λ i n f inside other. let known = functions.1 i n f inside
+              other in omega arith) processes.1,
+        )
 
     -- what is found of both
     pub declarations-told : (functions processes : Option (ℕ × Fault)) → FunctionsTell functions
@@ -119,13 +141,17 @@ module _ (lists : ProgramLists) where
           processes = λ k d declared. processes k (slice_get_within lists.procs k d declared) d declared;
         }
     declarations-told None (Some b) functions processes =
-        let (k, below, given) = processes.0 in
-        (process-at k b.0 b.1 given, first-of_all b.0 (λ i n f inside other. absurd (function_apart i n f
-            (functions i inside) other)) processes.1)
+        let (k, below, given) = processes.0 in (
+          process-at k b.0 b.1 given,
+          first-of_all b.0 (λ i n f inside other. absurd (function_apart i n f
+              (functions i inside) other)) processes.1,
+        )
     declarations-told (Some a) None functions processes =
-        let (k, below, given) = functions.0 in
-        (function-at k a.0 a.1 given, first-of_all a.0 functions.1 (λ i n f inside stuck. absurd (process_apart i n f
-            (processes i inside) stuck)))
+        let (k, below, given) = functions.0 in (
+          function-at k a.0 a.1 given,
+          first-of_all a.0 functions.1 (λ i n f inside stuck. absurd (process_apart i n f
+              (processes i inside) stuck)),
+        )
     declarations-told (Some a) (Some b) functions processes = both-told a b (nat_le a.0 b.0) refl functions processes
 
   -- where nothing is found the forms and pairs are gathered

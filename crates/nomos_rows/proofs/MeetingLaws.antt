@@ -48,7 +48,7 @@ module _ {lists : ProgramLists} (formed : IsWellFormed lists) where
     rows-say =
         rows_met (star_count lists) are.forms are.pairs rows x.stars x.unit are.are_rows
         (all-from (IsPairUpTo (star_count lists)) are.pairs (λ q among. program_pair-up_to q
-            ((are.are_pairs q).0 among))) width
+        ((are.are_pairs q).0 among))) width
 
     -- amounts under which the program is typed meet the rows
     typed-meets_rows : IsTypedProgram lists x → MeetsRows x.stars x.unit rows
@@ -58,7 +58,7 @@ module _ {lists : ProgramLists} (formed : IsWellFormed lists) where
         λ f is.
         subst IsMet (sym is.is_form.same)
         ((point-affords is.place x formed is.declared is.is_form.point width).1
-            (meets.points is.place is.declaration is.is_form.account is.declared is.is_form.point))
+        (meets.points is.place is.declaration is.is_form.account is.declared is.is_form.point))
         in
         rows-say.1 (
           all-from IsMet are.forms (λ f among. met f ((are.are_forms f).0 among)),
@@ -76,14 +76,19 @@ module _ {lists : ProgramLists} (formed : IsWellFormed lists) where
           points =
               λ p d a declared point.
               let f = form_of (star_count lists) a in
-              let is : IsProgramForm lists (star_count lists) f = record { place = p; declaration = d; declared =
-                  declared; is_form = record { account = a; point = point; same = refl } } in
+              let is : IsProgramForm lists (star_count lists) f = record {
+                place = p;
+                declaration = d;
+                declared =
+                    declared;
+                is_form = record { account = a; point = point; same = refl };
+              } in
               (point-affords p x formed declared point width).0 (All-contains IsMet are.forms f forms
-                  ((are.are_forms f).1 is));
+              ((are.are_forms f).1 is));
           pairs =
               λ q is.
               sym (worth-dths x q.0) ∙ All-contains AreWorth are.pairs q pairs
-                  ((are.are_pairs q).1 is) ∙ worth-dths x q.1;
+              ((are.are_pairs q).1 is) ∙ worth-dths x q.1;
         })
 
   -- the law

@@ -28,8 +28,11 @@ use Rattle.nomos_rows.specs.mirror.Ups.{IfNone}
 -- what stands at a place within a list
 pub found-at : {X : Type 0} (xs : List X) (k : ℕ) → k < length xs → (x : X) × (slice_get xs k ≡ Some x)
 found-at xs k inside =
-    elim ((slice_get_cases xs k).1) [ inl (x, within, there, is) ↦ (x, there) | inr (past, none)
-        ↦ absurd (omega arith) ]
+    elim ((slice_get_cases xs k).1) [
+      | inl (x, within, there, is) ↦ (x, there)
+      | inr (past, none)
+          ↦ absurd (omega arith)
+    ]
 
 module _ (lists : ProgramLists) where
   -- a process that has a skeleton is not stuck
@@ -113,7 +116,7 @@ module _ (lists : ProgramLists) where
             elim given [
               | inl among ↦
                   elim (Contains-append_cases before pairs p (subst (λ (ps : List (Amount
-                      × Amount)). Contains ps p) joined among)) [
+                  × Amount)). Contains ps p) joined among)) [
                     | inl first ↦ inl (inl first)
                     | inr its ↦ asked-new before p (inl its)
                   ]
@@ -204,8 +207,11 @@ module _ (lists : ProgramLists) where
   pub gathers-none : (old : Compared) → Gathers lists 0 old old [] []
   gathers-none old =
       record {
-        points = λ f. (λ among. absurd (let below = among.1 in omega arith), λ some. absurd
-            (let below = some.1 in omega arith));
+        points = λ f. (
+          λ among. absurd (let below = among.1 in omega arith),
+          λ some. absurd
+              (let below = some.1 in omega arith),
+        );
         asked =
             λ p. (
               λ given. elim given [ inl among ↦ absurd (let below = among.1 in omega arith) | inr known ↦ inl known ],

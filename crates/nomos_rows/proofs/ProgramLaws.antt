@@ -75,9 +75,11 @@ module _ {lists : ProgramLists} (formed : IsWellFormed lists) (x : Annotations) 
       record {
         formed = formed;
         synchronizing =
-            (synchronizing-exact lists x).1
-            (meets.skeletons.synchronizing, λ shared body pair up stands. meets.pairs pair
-                (leads_back shared body up stands));
+            (synchronizing-exact lists x).1 (
+              meets.skeletons.synchronizing,
+              λ shared body pair up stands. meets.pairs pair
+                  (leads_back shared body up stands),
+            );
         functions = meets.skeletons.functions;
         procs =
             λ k e inside.

@@ -37,7 +37,7 @@ module _ {X : Type 0} (Fault : ℕ → ℕ → X → Type 0) (Fine : ℕ → Typ
       → Fault place at x → least ≤ at) → (k at : ℕ) (x : X) → k < place + 1 → Fault k at x → least ≤ at
   least-next place least before here k at x below fault =
       each-next (λ i. (n : ℕ) (y : X) → Fault i n y → least ≤ n) place
-          (λ i lower n y f. before i n y lower f) here k below at x fault
+      (λ i lower n y f. before i n y lower f) here k below at x fault
 
   -- the earlier of the first and that of this one
   earlier-told : (place : ℕ) (a b : ℕ × X) (d : Bool) → nat_le a.0 b.0 ≡ d → TellsBelow Fault Fine place (Some a)

@@ -20,7 +20,7 @@ module _ (lists : ProgramLists) where
   pub back-not_astray : (t at : ℕ) (path : List Hop) → GoesBack lists t → GoesAstray lists t at path → ⊥
   back-not_astray t at path back astray =
       offends-not_synchronizing lists no_amounts astray.body (record { 0 = t }) path astray.offends
-          (back astray.body astray.is_up)
+      (back astray.body astray.is_up)
 
   -- a node has one offset
   pub astray-offset : (t at other : ℕ) (path way : List Hop) → GoesAstray lists t at path

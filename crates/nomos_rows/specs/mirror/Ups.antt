@@ -31,7 +31,7 @@ pub record GoesAstray (lists : ProgramLists) (t : ℕ) (at : ℕ) (path : List H
 abbrev pub GoesBack : ProgramLists → ℕ → Type 0
 GoesBack lists t =
     (body : TypeId) → type_node lists t ≡ Some (node.Up body)
-        → IsSynchronizingAt lists no_amounts body (record { 0 = t })
+    → IsSynchronizingAt lists no_amounts body (record { 0 = t })
 
 -- the pairs of amounts are those of before and those that P tells
 abbrev pub PairsJoin : Compared → Compared → (Amount × Amount → Type 0) → Type 0

@@ -15,11 +15,11 @@ loop-p-preserved c =
     let k = c.loop-p.p in
     let found = c.in_ok-found.found in
     let tells = tells-more (ProcessFault lists) (ProcessFine lists)
-        (skeleton-no_fault lists c.requires.formed) k c.loop-p.first found c.loop-p.invariant.1
-        c.in_ok-found.ensures.tells in
+    (skeleton-no_fault lists c.requires.formed) k c.loop-p.first found c.loop-p.invariant.1
+    c.in_ok-found.ensures.tells in
     let gathers = gathers-more lists k c.args.equalities.now c.loop-p.equalities c.process_fault.new.equalities
-        c.loop-p.gathered c.process_fault.new.gathered c.loop-p.first found c.loop-p.invariant.2
-        c.in_ok-found.ensures.adds in
+    c.loop-p.gathered c.process_fault.new.gathered c.loop-p.first found c.loop-p.invariant.2
+    c.in_ok-found.ensures.adds in
     rw c.earliest-first.ensures (c.process_fault.ensures.compared, tells, gathers, c.in_ok-found.ensures.small)
 
 pub returns-clause-tell : goal.returns-clause-tell
@@ -35,4 +35,4 @@ returns-clause-gathers c =
     let same = ap (λ (l : ProgramLists). length l.procs) c.lists.ensures.lists in
     let all : c.loop-p.p ≡ length lists.procs = omega arith in
     subst (λ (n : ℕ). IfNone (Gathers lists n c.args.equalities.now c.loop-p.equalities c.loop-p.gathered.forms.items
-        c.loop-p.gathered.pairs.items) c.loop-p.first) all c.loop-p.invariant.2
+    c.loop-p.gathered.pairs.items) c.loop-p.first) all c.loop-p.invariant.2

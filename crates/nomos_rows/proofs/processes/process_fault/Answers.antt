@@ -14,7 +14,7 @@ returns-in_ok-join-in-Ok-clause-adds c =
     let (d, declared) = found-at lists.procs c.args.p.0 c.requires.p in
     let needs = c.in-Ok.ensures.answers d declared in
     adds-joined lists c.args.p.0 d declared needs c.args.gathered.now c.join.new.self c.in_ok-join-in-Ok.ensures.forms
-        c.in_ok-join-in-Ok.ensures.pairs
+    c.in_ok-join-in-Ok.ensures.pairs
 
 pub returns-in_ok-join-in-Ok-clause-small : goal.returns-in_ok-join-in-Ok-clause-small
 returns-in_ok-join-in-Ok-clause-small c =

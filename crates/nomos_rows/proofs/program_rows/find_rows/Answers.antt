@@ -29,7 +29,7 @@ returns-in-Ok c =
     let back = subst Tells none c.in_ok-at.ensures.tell in
     let joined : Pairs = subst (IfNone Pairs) none c.in_ok-at.ensures.pairs in
     let pairs = subst (λ (old : Compared). PairsBelow lists (length lists.types) old known) c.new-equalities.ensures
-        joined in
+    joined in
     let Says : Result RowList (ℕ × Fault) → Type 0 = AnswersDeclarations lists known in
     let answer = subst Says c.in-Ok.is c.in_ok-rows.ensures in
     rows-found c.requires.formed back known pairs c.in-Ok.rows answer.0 answer.1
@@ -45,4 +45,4 @@ returns-in-Err c =
     let Says : Result RowList (ℕ × Fault) → Type 0 = AnswersDeclarations lists known in
     let answer = subst Says c.in-Err.is c.in_ok-rows.ensures in
     subst (IsCause lists) (sym c.error_of.ensures) (fault-cause
-        (back-synchronizing back) c.in-Err.at c.in-Err.fault answer)
+    (back-synchronizing back) c.in-Err.at c.in-Err.fault answer)

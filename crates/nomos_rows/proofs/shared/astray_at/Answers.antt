@@ -14,5 +14,5 @@ returns-in-Equal-clause-pairs c =
     let new = c.synchronizing_with.new.equalities in
     let Tells : Comparison → Type 0 = AnswersBeside lists body c.args.t c.args.equalities.now new in
     let found : FindsSynchronizing lists body c.args.t c.args.equalities.now new = subst Tells c.in-Equal.is
-        (c.in_ok-synchronizing_with.ensures.answers body is_up) in
+    (c.in_ok-synchronizing_with.ensures.answers body is_up) in
     up-pairs lists c.args.t.0 body is_up c.args.equalities.now new found.amounts

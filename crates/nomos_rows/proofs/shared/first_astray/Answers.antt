@@ -12,9 +12,9 @@ loop-t-preserved c =
     let lists = c.args.program.now in
     let found = c.in_ok-found.found in
     let more = tells-more (GoesAstray lists) (GoesBack lists)
-        (back-not_astray lists) c.loop-t.t c.loop-t.first found c.loop-t.invariant.1 c.in_ok-found.ensures.tells in
+    (back-not_astray lists) c.loop-t.t c.loop-t.first found c.loop-t.invariant.1 c.in_ok-found.ensures.tells in
     let pairs = pairs-more lists c.loop-t.t c.args.equalities.now c.loop-t.equalities c.astray_at.new.equalities
-        c.loop-t.first found c.loop-t.invariant.2 c.in_ok-found.ensures.pairs in
+    c.loop-t.first found c.loop-t.invariant.2 c.in_ok-found.ensures.pairs in
     rw c.earliest-first.ensures (c.astray_at.ensures.compared, more, pairs)
 
 pub returns-clause-tell : goal.returns-clause-tell
@@ -30,4 +30,4 @@ returns-clause-pairs c =
     let same = ap (λ (l : ProgramLists). length l.types) c.lists.ensures.lists in
     let all : c.loop-t.t ≡ length lists.types = omega arith in
     subst (λ (n : ℕ). IfNone (PairsBelow lists n c.args.equalities.now c.loop-t.equalities) c.loop-t.first) all
-        c.loop-t.invariant.2
+    c.loop-t.invariant.2
