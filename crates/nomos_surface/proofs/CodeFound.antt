@@ -1,24 +1,22 @@
 -- What the reader of codes finds in tokens that a code prints.
-use Rattle.std.proofs.Common.{◌≡◌, ℕ, zero, suc, ◌+◌, ◌≤◌, Bool, true, false, List, [], ◌∷◌, ◌++◌, length, map, Option, Some, None, refl, sym, ap, ◌∙◌, arith}
+use Rattle.std.proofs.Common.{◌≡◌, ℕ, zero, suc, ◌≤◌, true, false, List, [], ◌∷◌, ◌++◌, length, refl, sym, ap, ◌∙◌, arith}
 use Rattle.nomos_grammar.specs.declared.part.Nonterminal.TheVariants as the_production
 use Rattle.nomos_ir.specs.declared.word.Word.TheVariants as word
-use Rattle.nomos_surface.proofs.Found.{Found, First, EndsList, Finds, FindsAll, append_more, at_this, first_of_shown, name_found, parted_found, sign_ends_list, with_this}
-use Rattle.nomos_surface.proofs.StepFound.{AnyEnds, args_found, chan_found, one_part, passed, step_found, two_parts, whole_found}
-use Rattle.nomos_surface.proofs.TermFound.{Ends, First5, any_ends, five_of}
+use Rattle.nomos_surface.proofs.Found.{Found, FindsAll, append_more, at_this, first_of_shown, name_found, parted_found, sign_ends_list}
+use Rattle.nomos_surface.proofs.StepFound.{AnyEnds, args_found, chan_found, one_part, step_found, two_parts, whole_found}
+use Rattle.nomos_surface.proofs.TermFound.{any_ends, five_of}
 use Rattle.nomos_surface.specs.CodeView.{Arm, arm_trees}
 use Rattle.nomos_surface.specs.declared.name_at.NameAt.{NameAt}
 use Rattle.nomos_surface.specs.declared.steps.ChanAt.{ChanAt}
 use Rattle.nomos_surface.specs.declared.steps.ChanAt.TheVariants as chan
-use Rattle.nomos_surface.specs.Grammatical.{AreArguments, AreArms, Each, HasArms, IsCode, IsLast, IsStep, IsTerm}
-use Rattle.nomos_surface.specs.mirror.Codes.{code_of_tokens, is_last, last_from, read_arm, read_args, read_braced, read_call, read_case, read_chan, read_close, read_code, read_code_if, read_code_match, read_fwd, read_last, read_step, read_steps, whole_term}
-use Rattle.nomos_surface.specs.mirror.Front.{Reader, front_at, front_kind, is_bar, read_name, read_parted, rest_of}
-use Rattle.nomos_surface.specs.Print.{print_args, print_arms, print_chan, print_code, print_heading, print_last, print_step, print_steps, print_term}
-use Rattle.nomos_surface.specs.Shown.{Shown, anywhere, at_offset, Meets, Printer, Spells, sign, sign_at, keyword, keyword_at, print_name, print_more, print_parted}
+use Rattle.nomos_surface.specs.Grammatical.{AreArms, Each, IsCode, IsLast, IsStep, IsTerm}
+use Rattle.nomos_surface.specs.mirror.Codes.{is_last, last_from, read_arm, read_args, read_braced, read_call, read_case, read_chan, read_code, read_code_if, read_code_match, read_fwd, read_last, read_step, read_steps, whole_term}
+use Rattle.nomos_surface.specs.mirror.Front.{Reader, front_kind, is_bar, read_name, read_parted, rest_of}
+use Rattle.nomos_surface.specs.Print.{print_args, print_arms, print_chan, print_code, print_heading, print_last, print_step}
+use Rattle.nomos_surface.specs.Shown.{Shown, Meets, Spells, sign, keyword, keyword_at, print_name, print_parted}
 use Rattle.nomos_surface.specs.Tree.{TermTree, ArgTrees, StepTree, label, send, recv, put, taking, pay, getting, work, wait, accept, detach, acquire, release, spawn, binding, empty_list, longer_list, emit, CodeTree, code, LastTree, close, fwd, calling, code_if, case, code_match, ArmTrees, no_arms, arm}
 use Rattle.nomos_syntax.specs.declared.symbol.Symbol.TheVariants as sym
-use Rattle.nomos_syntax.specs.declared.token.TokenKind.{TokenKind}
-use Rattle.nomos_syntax.specs.declared.token.TokenKind.TheVariants as kind
-use Rattle.nomos_syntax.specs.Lexeme.{Lexeme, name, reserved, symbol, Placed}
+use Rattle.nomos_syntax.specs.Lexeme.{name, reserved, symbol, Placed}
 
 -- a step does not begin as a last instruction does
 

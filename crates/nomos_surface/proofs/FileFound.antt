@@ -1,13 +1,13 @@
 -- What the reader of files finds in tokens that a file prints, so that a list of tokens has at most one tree.
-use Rattle.std.proofs.Common.{◌≡◌, ℕ, zero, suc, ◌+◌, ◌≤◌, Bool, true, false, List, [], ◌∷◌, ◌++◌, length, map, Option, Some, None, refl, sym, ap, ◌∙◌, arith}
+use Rattle.std.proofs.Common.{◌≡◌, ℕ, zero, suc, ◌≤◌, true, false, List, [], ◌∷◌, ◌++◌, length, map, Option, Some, None, refl, sym, ap, ◌∙◌, arith}
 use Rattle.nomos_grammar.specs.declared.part.Nonterminal.TheVariants as the_production
 use Rattle.nomos_ir.specs.declared.kind.Base.{Base}
 use Rattle.nomos_ir.specs.declared.kind.Base.TheVariants as base
 use Rattle.nomos_ir.specs.declared.word.Word.TheVariants as word
 use Rattle.nomos_surface.proofs.CodeFound.{code_found}
-use Rattle.nomos_surface.proofs.Found.{Found, First, AllBegin, Begins, Finds, FindsAll, append_more, at_this, first_of_shown, name_found, potential_found, until_found, value_type_found, with_this}
-use Rattle.nomos_surface.proofs.StepFound.{AnyEnds, passed, whole_found}
-use Rattle.nomos_surface.proofs.TermFound.{Ends, any_ends}
+use Rattle.nomos_surface.proofs.Found.{Found, AllBegin, Begins, FindsAll, append_more, at_this, first_of_shown, potential_found, until_found, value_type_found, with_this}
+use Rattle.nomos_surface.proofs.StepFound.{AnyEnds, whole_found}
+use Rattle.nomos_surface.proofs.TermFound.{any_ends}
 use Rattle.nomos_surface.proofs.TypeFound.{EndsType, sign_ends_type, type_found}
 use Rattle.nomos_surface.specs.declared.declarations.ListPotential.{ListPotential}
 use Rattle.nomos_surface.specs.declared.declarations.OfferedMode.{OfferedMode}
@@ -23,15 +23,14 @@ use Rattle.nomos_surface.specs.declared.value_type.ValueType.{ValueType}
 use Rattle.nomos_surface.specs.Grammatical.{ArePars, Each, IsChanPar, IsCode, IsDecl, IsGrammatical, IsTerm, IsType}
 use Rattle.nomos_surface.specs.mirror.Codes.{whole_term}
 use Rattle.nomos_surface.specs.mirror.Files.{begins_list, cost_from, decl_from, is_cost, list_potential_from, mode_from, model_from, proc_from, read_all_pars, read_body, read_chan_par, read_chan_pars, read_decl, read_decls, read_definition, read_file, read_function, read_par, read_pars, read_process, read_transaction, read_value_par, read_value_pars, whole_code, whole_type}
-use Rattle.nomos_surface.specs.mirror.Front.{Reader, front_at, front_kind, is_list, is_list_end, is_open_brace, read_name, read_optional, read_potential, read_until, read_value_type, rest_of}
-use Rattle.nomos_surface.specs.Print.{base_word, cost_word, mode_word, print_body, print_chan_par, print_code, print_cost, print_decl, print_decls, print_file, print_list_potential, print_lists, print_optional, print_par, print_pars, print_potential, print_term, print_type, print_value_par, print_value_type}
-use Rattle.nomos_surface.specs.Shown.{Shown, anywhere, at_offset, Meets, Printer, Spells, sign, sign_at, keyword, keyword_at, print_name, print_parted}
+use Rattle.nomos_surface.specs.mirror.Front.{front_kind, is_list_end, is_open_brace, read_optional, read_value_type, rest_of}
+use Rattle.nomos_surface.specs.Print.{base_word, cost_word, mode_word, print_body, print_chan_par, print_code, print_cost, print_decl, print_decls, print_file, print_list_potential, print_lists, print_optional, print_par, print_pars, print_term, print_type, print_value_par, print_value_type}
+use Rattle.nomos_surface.specs.Shown.{Shown, Meets, Printer, Spells, sign, keyword, keyword_at, print_name, print_parted}
 use Rattle.nomos_surface.specs.Tree.{TypeTree, TermTree, CodeTree, ChanParTree, ParTrees, DeclTree, definition, function, process, transaction, FileTree}
 use Rattle.nomos_syntax.specs.declared.symbol.Symbol.{Symbol}
 use Rattle.nomos_syntax.specs.declared.symbol.Symbol.TheVariants as sym
-use Rattle.nomos_syntax.specs.declared.token.TokenKind.{TokenKind}
 use Rattle.nomos_syntax.specs.declared.token.TokenKind.TheVariants as kind
-use Rattle.nomos_syntax.specs.Lexeme.{Lexeme, name, reserved, symbol, Placed}
+use Rattle.nomos_syntax.specs.Lexeme.{name, reserved, symbol, Placed}
 
 -- a type, and a code, with as much room as there are tokens
 

@@ -1,15 +1,14 @@
 -- Tokens that fit what the grammar asks for are what has to be shown of them.
-use Rattle.std.proofs.Common.{◌≡◌, ◌⊎◌, cond, ℕ, Bool, true, false, List, [], ◌∷◌, Some, None, refl, ap, sym, inl, inr}
+use Rattle.std.proofs.Common.{◌≡◌, ◌⊎◌, cond, ℕ, Bool, true, false, List, Some, refl, ap, inl, inr}
 use Rattle.std.specs.Prelude.{codes}
 use Rattle.std.specs.Str.{bytes_eq}
 use Rattle.std.specs.Str.Parse.{digits_value}
 use Rattle.std.proofs.lemmas.Slice.Eq.{bytes_eq-Decides}
-use Rattle.nomos_grammar.specs.declared.part.Terminal.{Terminal}
 use Rattle.nomos_grammar.specs.declared.part.Terminal.TheVariants as terminal
 use Rattle.nomos_grammar.specs.Derivation.{Fits, terminal_of}
 use Rattle.nomos_ir.specs.declared.word.Word.{Word}
 use Rattle.nomos_surface.specs.declared.name_at.NameAt.{NameAt}
-use Rattle.nomos_surface.specs.Shown.{Shown, at_offset, number_at, HasValue, Meets, sign, sign_at, keyword, keyword_at, print_name}
+use Rattle.nomos_surface.specs.Shown.{at_offset, number_at, HasValue, Meets, sign, sign_at, keyword, keyword_at, print_name}
 use Rattle.nomos_syntax.specs.declared.symbol.Symbol.{Symbol}
 use Rattle.nomos_syntax.specs.Lexeme.{Lexeme, name, reserved, number, symbol, bad, Placed}
 

@@ -1,17 +1,16 @@
 -- What a reader finds in tokens that are what something prints.
-use Rattle.std.proofs.Common.{◌≡◌, ℕ, zero, suc, ◌+◌, ◌≤◌, ◌<◌, Bool, true, false, List, [], ◌∷◌, ◌++◌, length, Option, Some, None, refl, sym, ap, ◌∙◌, subst, arith}
+use Rattle.std.proofs.Common.{◌≡◌, ℕ, zero, suc, ◌≤◌, Bool, true, false, List, [], ◌∷◌, ◌++◌, length, Option, Some, refl, sym, ap, ◌∙◌, subst, arith}
 use Rattle.nomos_ir.specs.declared.kind.Base.{Base}
 use Rattle.nomos_ir.specs.declared.kind.Base.TheVariants as base
-use Rattle.nomos_ir.specs.declared.word.Word.{Word}
 use Rattle.nomos_ir.specs.declared.word.Word.TheVariants as word
 use Rattle.nomos_surface.specs.declared.name_at.NameAt.{NameAt}
 use Rattle.nomos_surface.specs.declared.potential.Potential.{Potential}
 use Rattle.nomos_surface.specs.declared.potential.Quantity.{Quantity}
 use Rattle.nomos_surface.specs.declared.potential.Quantity.TheVariants as quantity
 use Rattle.nomos_surface.specs.declared.value_type.ValueType.{ValueType}
-use Rattle.nomos_surface.specs.mirror.Front.{Reader, base_from, front_at, front_kind, front_number, front_quantity, is_bar, is_comma, is_list, is_list_end, is_open_brace, kind_of, number_of, quantity_from, read_lists, read_name, read_optional, read_parted, read_potential, read_until, read_value_type, rest_of}
-use Rattle.nomos_surface.specs.Print.{base_word, print_lists, print_optional, print_potential, print_quantity, print_value_type}
-use Rattle.nomos_surface.specs.Shown.{Shown, anywhere, at_offset, number_at, HasValue, Meets, Printer, Spells, sign, sign_at, keyword, keyword_at, print_name, print_more, print_parted}
+use Rattle.nomos_surface.specs.mirror.Front.{Reader, base_from, front_kind, front_quantity, is_comma, is_list_end, kind_of, number_of, quantity_from, read_lists, read_name, read_parted, read_potential, read_until, read_value_type}
+use Rattle.nomos_surface.specs.Print.{base_word, print_lists, print_potential, print_quantity, print_value_type}
+use Rattle.nomos_surface.specs.Shown.{Shown, HasValue, Meets, Printer, Spells, sign, keyword_at, print_name, print_parted}
 use Rattle.nomos_syntax.specs.declared.symbol.Symbol.{Symbol}
 use Rattle.nomos_syntax.specs.declared.symbol.Symbol.TheVariants as sym
 use Rattle.nomos_syntax.specs.declared.token.TokenKind.{TokenKind}

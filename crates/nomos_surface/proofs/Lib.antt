@@ -1,5 +1,6 @@
 pub mod ChainLemmas
 pub mod CodeFound
+pub mod Examples
 pub mod FileFound
 pub mod Fitting
 pub mod Found

@@ -1,5 +1,5 @@
 -- What a production makes of the front of some tokens, as a tree of productions.
-use Rattle.std.proofs.Common.{◌≡◌, ℕ, zero, suc, ◌+◌, ◌≤◌, List, [], ◌∷◌, ◌++◌, refl, arith, append_assoc, subst}
+use Rattle.std.proofs.Common.{ℕ, zero, suc, ◌≤◌, List, [], ◌∷◌, ◌++◌, arith}
 use Rattle.nomos_grammar.specs.declared.part.Mark.{Mark}
 use Rattle.nomos_grammar.specs.declared.part.Nonterminal.{Nonterminal}
 use Rattle.nomos_grammar.specs.declared.part.Part.{Part}

@@ -1,5 +1,5 @@
 -- Items one after another, as a loop reads them.
-use Rattle.std.proofs.Common.{◌≡◌, ℕ, zero, suc, ◌+◌, ◌-◌, ◌<◌, ◌≤◌, Bool, true, false, List, [], ◌∷◌, ◌++◌, map, Option, refl, sym, ap, ◌∙◌, arith}
+use Rattle.std.proofs.Common.{◌≡◌, ℕ, suc, ◌+◌, ◌-◌, ◌<◌, ◌≤◌, Bool, true, false, List, [], ◌∷◌, ◌++◌, map, Option, refl, sym, ap, ◌∙◌, arith}
 use Rattle.nomos_surface.specs.mirror.Front.{Reader, front_at, front_kind, is_comma, is_list, is_list_end, read_lists, read_parted, read_until, rest_of}
 use Rattle.nomos_syntax.specs.declared.token.TokenKind.{TokenKind}
 use Rattle.nomos_syntax.specs.Lexeme.{Placed}

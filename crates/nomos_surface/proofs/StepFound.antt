@@ -1,9 +1,9 @@
 -- What the reader of steps finds in tokens that a step prints.
-use Rattle.std.proofs.Common.{◌≡◌, ℕ, zero, suc, ◌+◌, ◌≤◌, Bool, true, false, List, [], ◌∷◌, ◌++◌, length, map, Option, Some, None, refl, sym, ap, ◌∙◌, arith}
+use Rattle.std.proofs.Common.{◌≡◌, ℕ, ◌≤◌, true, false, List, [], ◌∷◌, length, map, refl, ap, ◌∙◌, arith}
 use Rattle.nomos_grammar.specs.declared.part.Nonterminal.TheVariants as the_production
 use Rattle.nomos_ir.specs.declared.word.Word.{Word}
 use Rattle.nomos_ir.specs.declared.word.Word.TheVariants as word
-use Rattle.nomos_surface.proofs.Found.{Found, First, AllBegin, Begins, Finds, FindsAll, at_this, first_of_shown, name_found, potential_found, until_found, value_type_found, with_this}
+use Rattle.nomos_surface.proofs.Found.{Found, AllBegin, Begins, FindsAll, at_this, first_of_shown, name_found, potential_found, until_found, value_type_found, with_this}
 use Rattle.nomos_surface.proofs.TermFound.{Ends, any_ends, no_term, term_begins, term_found, term_no_brace, term_no_list}
 use Rattle.nomos_surface.specs.declared.name_at.NameAt.{NameAt}
 use Rattle.nomos_surface.specs.declared.potential.Potential.{Potential}
@@ -11,16 +11,14 @@ use Rattle.nomos_surface.specs.declared.steps.ChanAt.{ChanAt}
 use Rattle.nomos_surface.specs.declared.steps.ChanAt.TheVariants as chan
 use Rattle.nomos_surface.specs.declared.value_type.ValueType.{ValueType}
 use Rattle.nomos_surface.specs.Grammatical.{AreArguments, Each, IsStep, IsTerm}
-use Rattle.nomos_surface.specs.mirror.Codes.{bound_from, is_last, list_from, read_args, read_as, read_chan, read_emit, read_get, read_label, read_let, read_named_step, read_names, read_pay, read_put, read_spawn, read_step, read_values, read_wait, read_work, step_from, whole_term}
-use Rattle.nomos_surface.specs.mirror.Front.{Reader, front_at, front_kind, is_list, is_list_end, is_open_brace, read_name, read_potential, read_until, read_value_type, rest_of}
+use Rattle.nomos_surface.specs.mirror.Codes.{bound_from, list_from, read_args, read_as, read_chan, read_emit, read_get, read_label, read_let, read_named_step, read_names, read_pay, read_put, read_spawn, read_step, read_values, read_wait, read_work, step_from, whole_term}
+use Rattle.nomos_surface.specs.mirror.Front.{Reader, front_kind, is_list, is_list_end, is_open_brace, read_name, read_potential, read_value_type, rest_of}
 use Rattle.nomos_surface.specs.mirror.Terms.{read_term}
 use Rattle.nomos_surface.specs.Print.{print_args, print_chan, print_named, print_potential, print_step, print_term, print_value_type}
-use Rattle.nomos_surface.specs.Shown.{Shown, anywhere, at_offset, Meets, Printer, Spells, sign, sign_at, keyword, keyword_at, print_name, print_parted}
+use Rattle.nomos_surface.specs.Shown.{Shown, Meets, Spells, sign, keyword, keyword_at, print_name, print_parted}
 use Rattle.nomos_surface.specs.Tree.{TermTree, ArgTrees, StepTree, label, send, recv, put, taking, pay, getting, work, wait, accept, detach, acquire, release, spawn, binding, empty_list, longer_list, emit}
 use Rattle.nomos_syntax.specs.declared.symbol.Symbol.TheVariants as sym
-use Rattle.nomos_syntax.specs.declared.token.TokenKind.{TokenKind}
-use Rattle.nomos_syntax.specs.declared.token.TokenKind.TheVariants as kind
-use Rattle.nomos_syntax.specs.Lexeme.{Lexeme, name, reserved, symbol, Placed}
+use Rattle.nomos_syntax.specs.Lexeme.{name, reserved, symbol, Placed}
 
 -- one part, and two, one after another
 abbrev pub seen : (A C : Type 0) → (A → C) → A × List Placed → C × List Placed

@@ -1,5 +1,5 @@
 -- Steps one after another, as a loop reads them.
-use Rattle.std.proofs.Common.{◌≡◌, ℕ, zero, suc, ◌+◌, ◌-◌, ◌<◌, ◌≤◌, Bool, true, false, List, [], ◌∷◌, ◌++◌, map, refl, sym, ap, ◌∙◌, arith}
+use Rattle.std.proofs.Common.{◌≡◌, ℕ, zero, suc, ◌+◌, ◌-◌, ◌<◌, ◌≤◌, true, false, List, [], ◌∷◌, ◌++◌, map, refl, sym, ap, ◌∙◌, arith}
 use Rattle.nomos_surface.proofs.PartedLemmas.{mapped-end}
 use Rattle.nomos_surface.specs.declared.steps.SurfaceStep.{SurfaceStep}
 use Rattle.nomos_surface.specs.mirror.Codes.{code_of_tokens, is_last, read_close, read_code, read_last, read_step, read_steps}

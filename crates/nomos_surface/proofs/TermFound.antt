@@ -1,10 +1,10 @@
 -- What the reader of terms finds in tokens that a term prints.
-use Rattle.std.proofs.Common.{◌≡◌, cond, ℕ, zero, suc, ◌+◌, ◌≤◌, Bool, true, false, List, [], ◌∷◌, ◌++◌, length, Option, Some, None, refl, sym, ap, ◌∙◌, subst, arith}
+use Rattle.std.proofs.Common.{◌≡◌, cond, ℕ, zero, suc, ◌≤◌, Bool, true, false, List, [], ◌∷◌, ◌++◌, length, Option, Some, None, refl, sym, ap, ◌∙◌, arith}
 use Rattle.nomos_grammar.specs.declared.part.Nonterminal.{Nonterminal}
 use Rattle.nomos_grammar.specs.declared.part.Nonterminal.TheVariants as the_production
 use Rattle.nomos_ir.specs.declared.word.Word.TheVariants as word
 use Rattle.nomos_surface.proofs.ChainLemmas.{last_head, more_nots, more_step, no_nots}
-use Rattle.nomos_surface.proofs.Found.{Found, First, AllBegin, Begins, Finds, FindsAll, at_this, behind, first_of_shown, until_found, value_type_found, with_this}
+use Rattle.nomos_surface.proofs.Found.{Found, First, AllBegin, Begins, Finds, FindsAll, at_this, first_of_shown, until_found, value_type_found, with_this}
 use Rattle.nomos_surface.specs.declared.chain.Chain.{Chain}
 use Rattle.nomos_surface.specs.declared.chain.Chain.TheVariants as chain
 use Rattle.nomos_surface.specs.declared.name_at.NameAt.{NameAt}
@@ -12,13 +12,12 @@ use Rattle.nomos_surface.specs.declared.terms.Operator.{Operator}
 use Rattle.nomos_surface.specs.declared.terms.Operator.TheVariants as operator
 use Rattle.nomos_surface.specs.declared.value_type.ValueType.{ValueType}
 use Rattle.nomos_surface.specs.Grammatical.{IsTerm, is_choosing, is_matching, is_disjunction, is_or, is_conjunction, is_and, is_negation, is_not as is_opposite, is_comparison, is_less, is_equal, is_list_term, is_cons as is_consed, is_sum, is_add, is_sub, is_product, is_mul, is_div, is_rem, is_primary, is_number, is_truth, is_me, is_variable, is_application, is_no_items, is_parenthesized, AreTerms, are_none, are_more}
-use Rattle.nomos_surface.specs.mirror.Front.{Reader, front_at, front_kind, is_list, is_list_end, is_open_brace, is_open_paren, kind_of, number_of, read_name, read_until, read_value_type, rest_of}
-use Rattle.nomos_surface.specs.mirror.Terms.{Heads, compared_from, comparison_in, is_cons, is_not, more_from, named_from, operand_of, operator_in, primary_from, read_chain, read_comparison, read_conses, read_if, read_list_term, read_match, read_more, read_named, read_negation, read_nil, read_nots, read_number, read_parenthesized, read_primary, read_term, term_from, with_heads, with_nots}
-use Rattle.nomos_surface.specs.Print.{print_heading, print_operator, print_term, print_terms, print_value_type, truth_word}
-use Rattle.nomos_surface.specs.Shown.{Shown, anywhere, at_offset, number_at, HasValue, Meets, Printer, Spells, sign, sign_at, keyword, keyword_at, print_name, print_parted}
+use Rattle.nomos_surface.specs.mirror.Front.{Reader, front_kind, is_list, is_list_end, is_open_brace, is_open_paren, kind_of, number_of, read_name, read_until, read_value_type}
+use Rattle.nomos_surface.specs.mirror.Terms.{Heads, compared_from, comparison_in, is_cons, is_not, more_from, named_from, operand_of, operator_in, primary_from, read_chain, read_comparison, read_conses, read_if, read_list_term, read_match, read_more, read_negation, read_nil, read_nots, read_parenthesized, read_primary, read_term, term_from, with_heads, with_nots}
+use Rattle.nomos_surface.specs.Print.{print_heading, print_term, print_terms, truth_word}
+use Rattle.nomos_surface.specs.Shown.{Shown, anywhere, at_offset, number_at, HasValue, Meets, Spells, sign, sign_at, keyword, keyword_at, print_name}
 use Rattle.nomos_surface.specs.TermView.{term_trees}
 use Rattle.nomos_surface.specs.Tree.{TermTree, number, truth, me, variable, application, no_items, binary, negation, choosing, matching, parenthesized, TermTrees, no_terms, term}
-use Rattle.nomos_syntax.specs.declared.symbol.Symbol.{Symbol}
 use Rattle.nomos_syntax.specs.declared.symbol.Symbol.TheVariants as sym
 use Rattle.nomos_syntax.specs.declared.token.TokenKind.{TokenKind}
 use Rattle.nomos_syntax.specs.declared.token.TokenKind.TheVariants as kind

@@ -1,28 +1,27 @@
 -- What the reader of types finds in tokens that a type prints.
-use Rattle.std.proofs.Common.{◌≡◌, ℕ, zero, suc, ◌+◌, ◌≤◌, Bool, true, false, List, [], ◌∷◌, ◌++◌, length, Option, Some, None, refl, sym, ap, ◌∙◌, subst, arith}
+use Rattle.std.proofs.Common.{◌≡◌, ℕ, zero, suc, ◌≤◌, true, false, List, [], ◌∷◌, ◌++◌, length, Some, None, refl, ap, ◌∙◌, arith}
 use Rattle.std.specs.Prelude.{codes}
-use Rattle.nomos_grammar.specs.declared.part.Nonterminal.{Nonterminal}
 use Rattle.nomos_grammar.specs.declared.part.Nonterminal.TheVariants as the_production
 use Rattle.nomos_ir.specs.declared.kind.Base.{Base}
 use Rattle.nomos_ir.specs.declared.kind.Base.TheVariants as base
 use Rattle.nomos_ir.specs.declared.word.Word.TheVariants as word
-use Rattle.nomos_surface.proofs.Found.{Found, First, EndsList, append_more, at_this, behind, first_of_shown, last_read, more_read, potential_found, sign_ends_list, value_type_found, with_this}
+use Rattle.nomos_surface.proofs.Found.{Found, EndsList, append_more, at_this, behind, first_of_shown, last_read, more_read, potential_found, sign_ends_list, value_type_found, with_this}
 use Rattle.nomos_surface.specs.declared.name_at.NameAt.{NameAt}
 use Rattle.nomos_surface.specs.declared.potential.Potential.{Potential}
 use Rattle.nomos_surface.specs.declared.types.Sender.{Sender}
 use Rattle.nomos_surface.specs.declared.types.Sender.TheVariants as sender
 use Rattle.nomos_surface.specs.declared.value_type.ValueType.{ValueType}
 use Rattle.nomos_surface.specs.Grammatical.{IsType, is_up, is_down, is_paying, is_valued, is_channel, is_atom, is_one, is_named, is_choice, is_grouped, AreBranches, last_branch, more_branches}
-use Rattle.nomos_surface.specs.mirror.Front.{Reader, front_at, front_kind, is_bar, read_name, read_parted, read_potential, read_value_type, rest_of}
-use Rattle.nomos_surface.specs.mirror.Types.{atom_from, carried_from, channel_sender, read_atom, read_branch, read_carrying, read_choice, read_grouped, read_one, read_paying, read_shift, read_type, read_valued, type_from, value_sender}
-use Rattle.nomos_surface.specs.Print.{base_word, channel_sign, choice_sign, print_branches, print_lists, print_payment, print_potential, print_type, print_value_type, value_sign}
-use Rattle.nomos_surface.specs.Shown.{Shown, at_offset, Meets, Printer, Spells, sign, sign_at, keyword_at, print_name, print_more, print_parted}
+use Rattle.nomos_surface.specs.mirror.Front.{Reader, front_at, front_kind, is_bar, read_parted, read_potential, read_value_type, rest_of}
+use Rattle.nomos_surface.specs.mirror.Types.{atom_from, carried_from, channel_sender, read_atom, read_branch, read_carrying, read_choice, read_grouped, read_paying, read_shift, read_type, read_valued, type_from, value_sender}
+use Rattle.nomos_surface.specs.Print.{base_word, channel_sign, choice_sign, print_branches, print_lists, print_payment, print_potential, print_type, value_sign}
+use Rattle.nomos_surface.specs.Shown.{Shown, at_offset, Meets, Spells, sign, sign_at, keyword_at, print_name, print_more, print_parted}
 use Rattle.nomos_surface.specs.Tree.{TypeTree, one, named, choice, channel, valued, paying, going_up, going_down, grouped, BranchTrees, no_branches, branch}
 use Rattle.nomos_surface.specs.TypeView.{Branch, branch_trees}
 use Rattle.nomos_syntax.specs.declared.symbol.Symbol.{Symbol}
 use Rattle.nomos_syntax.specs.declared.symbol.Symbol.TheVariants as sym
 use Rattle.nomos_syntax.specs.declared.token.TokenKind.TheVariants as kind
-use Rattle.nomos_syntax.specs.Lexeme.{Lexeme, name, reserved, number, symbol, Placed}
+use Rattle.nomos_syntax.specs.Lexeme.{name, reserved, number, symbol, Placed}
 
 -- what follows does not carry on a type
 abbrev pub EndsType : List Shown → Type 0

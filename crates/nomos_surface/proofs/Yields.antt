@@ -1,5 +1,5 @@
 -- What parts yield: what is printed where they stand, whatever marks are between.
-use Rattle.std.proofs.Common.{◌≡◌, ◌⊎◌, cond, ℕ, Bool, true, false, List, [], ◌∷◌, ◌++◌, Some, refl, ap, inl, inr}
+use Rattle.std.proofs.Common.{◌≡◌, ◌⊎◌, cond, ℕ, true, false, List, [], ◌∷◌, ◌++◌, Some, refl, ap, inl, inr}
 use Rattle.std.specs.Str.{bytes_eq}
 use Rattle.std.specs.Prelude.{codes}
 use Rattle.nomos_grammar.specs.declared.part.Mark.{Mark}
@@ -12,7 +12,7 @@ use Rattle.nomos_grammar.specs.Derivation.{Fits, terminal_of, Event, token, mark
 use Rattle.nomos_grammar.specs.Grammar.{alternatives}
 use Rattle.nomos_ir.specs.declared.word.Word.{Word}
 use Rattle.nomos_surface.specs.declared.name_at.NameAt.{NameAt}
-use Rattle.nomos_surface.specs.Shown.{Shown, anywhere, at_offset, number_at, HasValue, Meets, Spells, sign, sign_at, keyword, keyword_at, print_name}
+use Rattle.nomos_surface.specs.Shown.{Shown, at_offset, number_at, HasValue, Meets, Spells, sign, sign_at, keyword, keyword_at, print_name}
 use Rattle.nomos_syntax.specs.declared.symbol.Symbol.{Symbol}
 use Rattle.nomos_syntax.specs.Lexeme.{Lexeme, name, reserved, number, symbol, bad, Placed}
 

@@ -1,5 +1,5 @@
 -- A mirror of the code: how steps and codes are read.
-use Rattle.std.specs.Prelude.{ℕ, zero, suc, Bool, true, false, List, [], ◌∷◌, ◌++◌, length, Option, Some, None, if◌then◌else◌}
+use Rattle.std.specs.Prelude.{ℕ, zero, suc, Bool, true, false, List, [], ◌∷◌, ◌++◌, length, Option, Some, if◌then◌else◌}
 use Rattle.nomos_ir.specs.declared.word.Word.TheVariants as word
 use Rattle.nomos_surface.specs.CodeView.{Arm, arm_trees}
 use Rattle.nomos_surface.specs.declared.name_at.NameAt.{NameAt}
@@ -10,7 +10,6 @@ use Rattle.nomos_surface.specs.mirror.Terms.{read_term}
 use Rattle.nomos_surface.specs.Tree.{TermTree, ArgTrees, StepTree, label, send, recv, put, taking, pay, getting, work, wait, accept, detach, acquire, release, spawn, binding, empty_list, longer_list, emit, CodeTree, code, LastTree, close, fwd, calling, code_if, case, code_match}
 use Rattle.nomos_syntax.specs.declared.token.TokenKind.{TokenKind}
 use Rattle.nomos_syntax.specs.declared.token.TokenKind.TheVariants as kind
-use Rattle.nomos_syntax.specs.Lexeme.{Placed}
 
 -- a term with as much room as there are tokens
 abbrev pub whole_term : Reader TermTree

@@ -1,7 +1,6 @@
 -- A mirror of the code: what it sees of the next token, and what it makes of lists.
 use Rattle.std.specs.Prelude.{ℕ, zero, suc, Bool, true, false, List, [], ◌∷◌, ◌++◌, Option, Some, None, if◌then◌else◌}
 use Rattle.std.specs.Str.Parse.{digits_value}
-use Rattle.nomos_ir.specs.declared.word.Word.{Word}
 use Rattle.nomos_ir.specs.declared.word.Word.TheVariants as word
 use Rattle.nomos_ir.specs.declared.kind.Base.{Base}
 use Rattle.nomos_ir.specs.declared.kind.Base.TheVariants as base
@@ -10,7 +9,6 @@ use Rattle.nomos_surface.specs.declared.potential.Potential.{Potential}
 use Rattle.nomos_surface.specs.declared.potential.Quantity.{Quantity}
 use Rattle.nomos_surface.specs.declared.potential.Quantity.TheVariants as quantity
 use Rattle.nomos_surface.specs.declared.value_type.ValueType.{ValueType}
-use Rattle.nomos_syntax.specs.declared.symbol.Symbol.{Symbol}
 use Rattle.nomos_syntax.specs.declared.symbol.Symbol.TheVariants as sym
 use Rattle.nomos_syntax.specs.declared.token.TokenKind.{TokenKind}
 use Rattle.nomos_syntax.specs.declared.token.TokenKind.TheVariants as kind

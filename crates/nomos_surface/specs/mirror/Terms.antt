@@ -11,7 +11,6 @@ use Rattle.nomos_surface.specs.TermView.{term_trees}
 use Rattle.nomos_syntax.specs.declared.symbol.Symbol.TheVariants as sym
 use Rattle.nomos_syntax.specs.declared.token.TokenKind.{TokenKind}
 use Rattle.nomos_syntax.specs.declared.token.TokenKind.TheVariants as kind
-use Rattle.nomos_syntax.specs.Lexeme.{Placed}
 
 -- a number
 abbrev pub read_number : Reader TermTree

@@ -1,5 +1,5 @@
 -- A mirror of the code: how types are read.
-use Rattle.std.specs.Prelude.{ℕ, zero, suc, Bool, true, false, List, [], ◌∷◌, ◌++◌, length, Option, Some, None, if◌then◌else◌}
+use Rattle.std.specs.Prelude.{ℕ, zero, suc, [], length, Option, Some, None}
 use Rattle.nomos_ir.specs.declared.word.Word.TheVariants as word
 use Rattle.nomos_surface.specs.declared.types.Sender.{Sender}
 use Rattle.nomos_surface.specs.declared.types.Sender.TheVariants as sender
@@ -9,7 +9,6 @@ use Rattle.nomos_surface.specs.TypeView.{Branch, branch_trees}
 use Rattle.nomos_syntax.specs.declared.symbol.Symbol.TheVariants as sym
 use Rattle.nomos_syntax.specs.declared.token.TokenKind.{TokenKind}
 use Rattle.nomos_syntax.specs.declared.token.TokenKind.TheVariants as kind
-use Rattle.nomos_syntax.specs.Lexeme.{Placed}
 
 -- `1`
 abbrev pub read_one : Reader TypeTree

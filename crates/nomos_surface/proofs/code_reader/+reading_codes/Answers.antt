@@ -1,4 +1,4 @@
-use Rattle.std.proofs.Common.{◌≡◌, [], length, sym, ◌∙◌}
+use Rattle.std.proofs.Common.{[], length, sym, ◌∙◌}
 use Rattle.nomos_surface.specs.CodeView.{arm_tree, last_tree}
 use Rattle.nomos_surface.specs.mirror.Codes.{code_of_tokens, read_arm, read_code}
 use Rattle.nomos_surface.specs.mirror.Front.{is_bar, read_parted}

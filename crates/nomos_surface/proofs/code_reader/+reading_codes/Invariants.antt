@@ -1,4 +1,4 @@
-use Rattle.std.proofs.Common.{◌≡◌, ℕ, ◌+◌, ◌-◌, ◌*◌, [], length, map}
+use Rattle.std.proofs.Common.{◌≡◌, ◌+◌, ◌-◌, ◌*◌, [], length, map}
 use Rattle.nomos_surface.specs.CodeView.{arm_tree}
 use Rattle.nomos_surface.specs.mirror.Codes.{code_of_tokens, read_arm, read_code, read_steps}
 use Rattle.nomos_surface.specs.mirror.Front.{is_bar, read_parted}

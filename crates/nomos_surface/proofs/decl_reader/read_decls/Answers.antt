@@ -1,4 +1,4 @@
-use Rattle.std.proofs.Common.{◌≡◌, [], length, sym, ◌∙◌}
+use Rattle.std.proofs.Common.{[], length, sym, ◌∙◌}
 use Rattle.nomos_surface.specs.mirror.Files.{read_decls}
 use Rattle.nomos_surface.proofs.StepLemmas.{next_decl, no_decl, no_decl_turn}
 use Rattle.nomos_surface.proofs.decl_reader.read_decls.Goals as goal

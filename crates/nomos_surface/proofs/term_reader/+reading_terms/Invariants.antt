@@ -1,4 +1,4 @@
-use Rattle.std.proofs.Common.{◌≡◌, ℕ, ◌+◌, ◌-◌, ◌*◌, [], length, map}
+use Rattle.std.proofs.Common.{◌≡◌, ℕ, ◌+◌, ◌-◌, ◌*◌, length, map}
 use Rattle.nomos_surface.specs.declared.chain.Chain.{Chain}
 use Rattle.nomos_surface.specs.declared.chain.Chain.TheVariants as chain
 use Rattle.nomos_surface.specs.mirror.Front.{is_comma, read_parted, read_until}

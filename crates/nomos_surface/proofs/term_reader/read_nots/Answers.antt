@@ -1,4 +1,4 @@
-use Rattle.std.proofs.Common.{◌≡◌, sym, ◌∙◌}
+use Rattle.std.proofs.Common.{sym, ◌∙◌}
 use Rattle.nomos_surface.proofs.ChainLemmas.{more_nots, no_nots}
 use Rattle.nomos_surface.proofs.term_reader.read_nots.Goals as goal
 

@@ -1,4 +1,4 @@
-use Rattle.std.proofs.Common.{◌≡◌, ℕ, List, sym, ap, ◌∙◌}
+use Rattle.std.proofs.Common.{ℕ, List, sym, ap, ◌∙◌}
 use Rattle.nomos_surface.specs.mirror.Terms.{with_nots}
 use Rattle.nomos_surface.specs.TermView.{term_tree}
 use Rattle.nomos_surface.proofs.ChainLemmas.{last_not}

@@ -1,4 +1,4 @@
-use Rattle.std.proofs.Common.{◌≡◌, ℕ, ◌+◌, ◌-◌, ◌*◌, [], length, map}
+use Rattle.std.proofs.Common.{◌≡◌, ◌+◌, ◌-◌, ◌*◌, [], length, map}
 use Rattle.nomos_surface.specs.mirror.Front.{is_bar, read_parted}
 use Rattle.nomos_surface.specs.mirror.Types.{read_branch, read_type}
 use Rattle.nomos_surface.specs.TypeView.{branch_tree}

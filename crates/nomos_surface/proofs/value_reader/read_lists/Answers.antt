@@ -1,4 +1,4 @@
-use Rattle.std.proofs.Common.{◌≡◌, sym, ◌∙◌}
+use Rattle.std.proofs.Common.{sym, ◌∙◌}
 use Rattle.nomos_surface.proofs.PartedLemmas.{more_lists, no_lists}
 use Rattle.nomos_surface.proofs.value_reader.read_lists.Goals as goal
 
