@@ -14,3 +14,4 @@ pub mod TermFound
 pub mod TreeLaws
 pub mod TypeFound
 pub mod Yields
+pub mod ParsingLaws

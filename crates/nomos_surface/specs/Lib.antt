@@ -9,3 +9,4 @@ pub mod StepView
 pub mod TermView
 pub mod Tree
 pub mod TypeView
+pub mod Parsing

@@ -6,3 +6,4 @@ pub mod Numerals
 pub mod TermParts
 pub mod Terms
 pub mod Types
+pub mod Errors

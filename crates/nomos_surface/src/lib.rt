@@ -7,6 +7,7 @@ pub mod codes;
 mod decl_reader;
 pub mod declarations;
 pub mod name_at;
+pub mod parse;
 pub mod potential;
 mod step_reader;
 pub mod steps;
