@@ -1,4 +1,6 @@
+pub mod Bounds
 pub mod CodeView
+pub mod Counts
 pub mod FileView
 pub mod Grammatical
 pub mod mirror

@@ -3,6 +3,7 @@ pub mod Codes
 pub mod Files
 pub mod Front
 pub mod Numerals
+pub mod Shallow
 pub mod TermParts
 pub mod Terms
 pub mod Types
