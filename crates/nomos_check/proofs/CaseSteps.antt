@@ -1,176 +1,208 @@
--- Where a `case` leads.
-use Rattle.std.proofs.Common.{◌≡◌, ◌<◌, ◌↔◌, ◌∙◌, ℕ, List, [], ◌∷◌, All, Contains, length, map, get_or, ap, subst, sym, refl, arith}
-use Rattle.std.proofs.lemmas.List.{get_or-map, length-map}
-use Rattle.std.proofs.lemmas.List.Elements.{Contains-get_or}
-use Rattle.nomos_ir.specs.Naming.{AllDiffer}
-use Rattle.nomos_ir.specs.Program.{IsProgram}
+-- Where the arms of a `case` lead.
+use Rattle.std.proofs.Common.{◌≡◌, ◌<◌, ◌+◌, ◌↔◌, ◌∙◌, ℕ, zero, suc, ◌==◌, nat_eq, find, option_map, Bool, true, false, cond, List, [], ◌∷◌, ◌++◌, map, length, get_or, take, All, Contains, Option, Some, inl, inr, ap, refl, subst, sym, arith, eq-eqb, eqb-true, add-one}
+use Rattle.std.specs.Cmp.{unsigned_Decides}
+use Rattle.std.specs.HashSet as bag
+use Rattle.std.proofs.lemmas.Map.Made.{is_member-Decides}
+use Rattle.std.proofs.Math.Seq.{take-suc}
+use Rattle.std.proofs.lemmas.Bool.{cases_lt}
+use Rattle.std.proofs.lemmas.List.{get_or_default}
+use Rattle.std.proofs.lemmas.List.Elements.{All-cons, All-nil, All-contains, Contains-get_or}
 use Rattle.nomos_ir.specs.declared.code_node.Arm.{Arm}
 use Rattle.nomos_ir.specs.declared.code_node.Chan.{Chan}
-use Rattle.nomos_ir.specs.declared.code_node.Chan.TheVariants as chan
 use Rattle.nomos_ir.specs.declared.code_node.CodeNode.TheVariants as code
-use Rattle.nomos_ir.specs.declared.ids.CodeId.{CodeId}
 use Rattle.nomos_ir.specs.declared.ids.Label.{Label}
 use Rattle.nomos_ir.specs.declared.ids.TypeId.{TypeId}
 use Rattle.nomos_ir.specs.declared.lists.ProgramLists.{ProgramLists}
 use Rattle.nomos_ir.specs.declared.type_node.Branch.{Branch}
-use Rattle.nomos_types.proofs.FragmentRowLaws.{CaseRow, row-at}
-use Rattle.nomos_types.specs.Amount.{Annotations}
-use Rattle.nomos_types.specs.Fragment.Derivation.{StandsAtCode, HasSameLabels, Derives, case}
-use Rattle.nomos_types.specs.Fragment.Judgement.{Judgement, goes_on}
-use Rattle.nomos_check.specs.Cases.{Awaits, AwaitsNothing, HasArm, HasOddArm, LeadsBy, EachGoes, EachLeads}
-use Rattle.nomos_check.specs.Standing.{IsInRange, PartsInto, Splits, way_of, whole_units}
+use Rattle.nomos_ir.specs.declared.type_node.TypeNode.TheVariants as node
+use Rattle.nomos_types.specs.Branches.{goes_by}
+use Rattle.nomos_types.specs.Judgement.{Judgement}
+use Rattle.nomos_types.specs.Premises.{HasType, by_side, ArmsGoOn, AwaitsLabel}
+use Rattle.nomos_types.specs.Row.{StandsAtCode}
+use Rattle.nomos_check.specs.Account.{Account}
+use Rattle.nomos_check.specs.declared.standing.Standing.{Standing}
 use Rattle.nomos_check.specs.declared.standing.Way.{Way}
-use Rattle.nomos_check.proofs.CaseLemmas.{awaits-unique, awaits-differs, awaits-in_range}
-use Rattle.nomos_check.proofs.LabelLemmas.{label-unique}
-use Rattle.nomos_check.proofs.LabelSteps.{goes_on-in_range}
+use Rattle.nomos_check.specs.declared.standing.Way.TheVariants as way
+use Rattle.nomos_check.specs.mirror.Cases.{HasArm, AreWays, none, arm, HasOddArm}
+use Rattle.nomos_check.specs.mirror.Standing.{IsWayOf, LeadsAlong, NoRow, shape_of, way_account, way_shape}
+use Rattle.nomos_check.proofs.ChannelLaws.{head-unique}
+use Rattle.nomos_check.proofs.LeadLemmas.{leads-along}
+use Rattle.nomos_check.proofs.StepRows.{case-stuck}
+use Rattle.nomos_types.specs.Row as row
+use Rattle.nomos_check.proofs.SideLaws.{awaited_choice-same}
 
--- labels of one number are the same
-same-label : (k l : Label) → k.0 ≡ l.0 → k ≡ l
-same-label k l e = let make : ℕ → Label = λ n. record { 0 = n } in ap make e
+module _ {X Y : Type 0} (f : X → Y) where
+  -- what is among the images is the image of an item
+  pub item-of_image : (xs : List X) (y : Y) → Contains (map f xs) y → (x : X) × Contains xs x × (f x ≡ y)
+  item-of_image [] y (k, inside, e) = absurd (omega arith)
+  item-of_image (x ∷ xs) y (zero, inside, e) = (x, (0, omega arith, refl), e)
+  item-of_image (x ∷ xs) y (suc k, inside, e) =
+      let rest = item-of_image xs y (k, omega arith, e) in
+      let later : Contains (x ∷ xs) rest.0 = (suc rest.1.0, omega (arith, rest.1.1), rest.1.2) in
+      (rest.0, later, rest.2)
 
--- a list with a place has an item
-some-item : {X : Type 0} (xs : List X) (k : ℕ) → k < length xs → X
-some-item [] k inside = absurd (omega arith)
-some-item (x ∷ xs) k inside = x
+  -- the image of an item is among the images
+  pub image-of_item : (xs : List X) (x : X) → Contains xs x → Contains (map f xs) (f x)
+  image-of_item [] x (k, inside, e) = absurd (omega arith)
+  image-of_item (z ∷ xs) x (zero, inside, e) = (0, omega arith, ap f e)
+  image-of_item (z ∷ xs) x (suc k, inside, e) =
+      let rest = image-of_item xs x (k, omega arith, e) in
+      (suc rest.0, omega (arith, rest.1), rest.2)
 
--- a `case` on a channel whose type is no awaited choice has no derivation
-pub case-unawaited : (lists : ProgramLists) (x : Annotations) (j : Judgement) (at : ℕ) (c : Chan) (arms : List Arm) → StandsAtCode lists j (code.Case at c arms) → AwaitsNothing lists j c → Derives lists x j → ⊥
-case-unawaited lists x j at c arms there nothing derivation =
-    let row : CaseRow lists x j c arms = row-at lists x j (code.Case at c arms) there derivation in nothing row.branches row.typed
-
--- where a `case` has a derivation, its labels are those of the awaited choice
-case-labels : (lists : ProgramLists) (x : Annotations) (j : Judgement) (at : ℕ) (c : Chan) (arms : List Arm) (branches : List Branch) → StandsAtCode lists j (code.Case at c arms) → Awaits lists j c branches → Derives lists x j → HasSameLabels arms branches
-case-labels lists x j at c arms branches there awaits derivation =
-    let row : CaseRow lists x j c arms = row-at lists x j (code.Case at c arms) there derivation in
-    let same : row.branches ≡ branches = awaits-unique lists j c row.branches branches row.typed awaits in
-    subst (λ (bs : List Branch). HasSameLabels arms bs) same row.labels
-
--- a `case` that lacks an arm has no derivation
-pub case-lacks_arm : (lists : ProgramLists) (x : Annotations) (j : Judgement) (at : ℕ) (c : Chan) (arms : List Arm) (branches : List Branch) → StandsAtCode lists j (code.Case at c arms) → Awaits lists j c branches → (All (λ b. HasArm arms b.label) branches → ⊥) → Derives lists x j → ⊥
-case-lacks_arm lists x j at c arms branches there awaits lacks derivation =
-    let labels : HasSameLabels arms branches = case-labels lists x j at c arms branches there awaits derivation in
-    lacks
-    (λ k d inside.
-    let arm = labels.each_label (get_or branches k d) (Contains-get_or branches k d inside) in
-    (arm.0, arm.1, ap (λ (l : Label). l.0) arm.2))
-
--- a `case` with an arm too many has no derivation
-pub case-odd_arm : (lists : ProgramLists) (x : Annotations) (j : Judgement) (at : ℕ) (c : Chan) (arms : List Arm) (branches : List Branch) → StandsAtCode lists j (code.Case at c arms) → Awaits lists j c branches → HasOddArm arms branches → Derives lists x j → ⊥
-case-odd_arm lists x j at c arms branches there awaits odd derivation =
-    let labels : HasSameLabels arms branches = case-labels lists x j at c arms branches there awaits derivation in
-    let branch = labels.each_arm odd.0 odd.1 in
-    odd.2 branch.1.0 branch.0 branch.1.1 (ap (λ (b : Branch). b.label.0) branch.1.2 ∙ ap (λ (l : Label). l.0) branch.2)
-
--- what each arm and its branch has, the one to which the arm leads has
-arm-forth : (lists : ProgramLists) (x : Annotations) (j : Judgement) (c : Chan) (branches : List Branch) (a : Arm) (s : Judgement) → ((b : Branch) → Contains branches b → a.label ≡ b.label → Derives lists x (goes_on j c b.goes a.goes)) → LeadsBy j c branches a s → Derives lists x s
-arm-forth lists x j c branches a s each leads =
-    let by = leads.1 in
-    let rest : Derives lists x (goes_on j c by.0.goes a.goes) = each by.0 by.1 (same-label a.label by.0.label (sym by.2)) in
-    let moved : Derives lists x (goes_on j c leads.0 a.goes) = subst (λ (t : TypeId). Derives lists x (goes_on j c t a.goes)) by.3 rest in
-    subst (λ (k : Judgement). Derives lists x k) (sym leads.2) moved
-
--- what the one to which an arm leads has, the arm has with its branch
-arm-back : (lists : ProgramLists) (x : Annotations) (j : Judgement) (c : Chan) (branches : List Branch) (a : Arm) (b : Branch) (s : Judgement) → AllDiffer (map (λ y. y.label.0) branches) → Contains branches b → a.label ≡ b.label → LeadsBy j c branches a s → Derives lists x s → Derives lists x (goes_on j c b.goes a.goes)
-arm-back lists x j c branches a b s differ held same leads derivation =
-    let by = leads.1 in
-    let one : by.0 ≡ b = label-unique branches by.0 b differ by.1 held (by.2 ∙ ap (λ (l : Label). l.0) same) in
-    let goes : leads.0 ≡ b.goes = sym by.3 ∙ ap (λ (y : Branch). y.goes) one in
-    let moved : Derives lists x (goes_on j c leads.0 a.goes) = subst (λ (k : Judgement). Derives lists x k) leads.2 derivation in
-    subst (λ (t : TypeId). Derives lists x (goes_on j c t a.goes)) goes moved
-
--- where a `case` has a derivation, so has each of those to which its arms lead
-case-forth : (lists : ProgramLists) (x : Annotations) (j : Judgement) (at : ℕ) (c : Chan) (arms : List Arm) (branches : List Branch) (made : List Judgement) → StandsAtCode lists j (code.Case at c arms) → Awaits lists j c branches → EachLeads j c branches arms made → Derives lists x j → All (Derives lists x) made
-case-forth lists x j at c arms branches made there awaits leads derivation k d inside =
-    let row : CaseRow lists x j c arms = row-at lists x j (code.Case at c arms) there derivation in
-    let same : branches ≡ row.branches = awaits-unique lists j c branches row.branches awaits row.typed in
-    let within : k < length arms = subst (λ (n : ℕ). k < n) leads.count inside in
-    let other : Arm = some-item arms k within in
-    let a : Arm = get_or arms k other in
-    arm-forth lists x j c branches a (get_or made k d)
-    (λ b held labelled. row.each a b (Contains-get_or arms k other within) (subst (λ (bs : List Branch). Contains bs b) same held) labelled)
-    (leads.each k other d within)
-
--- where each of those to which the arms lead has a derivation, so has each arm with its branch
-case-each : (lists : ProgramLists) (x : Annotations) (j : Judgement) (c : Chan) (arms : List Arm) (branches : List Branch) (made : List Judgement) → AllDiffer (map (λ y. y.label.0) branches) → EachLeads j c branches arms made → All (Derives lists x) made → (a : Arm) (b : Branch) → Contains arms a → Contains branches b → a.label ≡ b.label → Derives lists x (goes_on j c b.goes a.goes)
-case-each lists x j c arms branches made differ leads all a b (k, inside, is) held same =
-    let within : k < length made = subst (λ (n : ℕ). k < n) (sym leads.count) inside in
-    let other : Judgement = some-item made k within in
-    let led : LeadsBy j c branches a (get_or made k other) =
-    subst (λ (y : Arm). LeadsBy j c branches y (get_or made k other)) is (leads.each k a other inside) in
-    arm-back lists x j c branches a b (get_or made k other) differ held same led (all k other within)
-
--- where each branch has an arm and each arm leads on, the labels are the same
-same-labels : (j : Judgement) (c : Chan) (arms : List Arm) (branches : List Branch) (made : List Judgement) → All (λ b. HasArm arms b.label) branches → EachLeads j c branches arms made → HasSameLabels arms branches
-same-labels j c arms branches made covered leads = record {
-  each_arm =
-      λ a held.
-      let within : held.0 < length made = subst (λ (n : ℕ). held.0 < n) (sym leads.count) held.1 in
-      let other : Judgement = some-item made held.0 within in
-      let led : LeadsBy j c branches a (get_or made held.0 other) =
-      subst (λ (y : Arm). LeadsBy j c branches y (get_or made held.0 other)) held.2 (leads.each held.0 a other held.1) in
-      (led.1.0, led.1.1, same-label led.1.0.label a.label led.1.2);
-  each_label =
-      λ b held.
-      let P : Branch → Type 0 = λ y. HasArm arms y.label in
-      let arm : HasArm arms b.label = subst P held.2 (covered held.0 b held.1) in
-      (arm.0, arm.1, same-label arm.0.label b.label arm.2);
-}
-
--- it stands at the next instruction
-goes_on-code : (j : Judgement) (c : Chan) (t : TypeId) (next : CodeId) → (goes_on j c t next).code ≡ next
-goes_on-code j chan.Own t next = refl
-goes_on-code j (chan.Var v) t next = refl
-
--- the one to which an arm leads is later in the code
-arm-splits : (lists : ProgramLists) (j : Judgement) (c : Chan) (branches : List Branch) (a : Arm) (s : Judgement) → IsProgram lists → Awaits lists j c branches → IsInRange lists j → (a.goes.0 < j.code.0) × (a.goes.0 < length lists.code) → LeadsBy j c branches a s → Splits lists j s
-arm-splits lists j c branches a s is_program awaits in_range later leads =
-    let by = leads.1 in
-    let P : TypeId → Type 0 = λ t. t.0 < length lists.types in
-    let type_below : P leads.0 = subst P by.3 (awaits-in_range lists j c branches by.0 is_program awaits by.1) in
-    let same_code : s.code ≡ a.goes = ap (λ (k : Judgement). k.code) leads.2 ∙ goes_on-code j c leads.0 a.goes in
-    record {
-      lower = subst (λ (n : CodeId). n.0 < j.code.0) (sym same_code) later.0;
-      in_range =
-          subst
-          (λ (k : Judgement). IsInRange lists k)
-          (sym leads.2)
-          (goes_on-in_range lists j c leads.0 a.goes in_range type_below later.1);
-    }
-
--- each of those to which the arms lead is later in the code
-case-later : (lists : ProgramLists) (j : Judgement) (c : Chan) (arms : List Arm) (branches : List Branch) (made : List Judgement) → IsProgram lists → Awaits lists j c branches → EachLeads j c branches arms made → IsInRange lists j → All (λ a. (a.goes.0 < j.code.0) × (a.goes.0 < length lists.code)) arms → All (Splits lists j) made
-case-later lists j c arms branches made is_program awaits leads in_range later k d inside =
-    let within : k < length arms = subst (λ (n : ℕ). k < n) leads.count inside in
-    let other : Arm = some-item arms k within in
-    arm-splits lists j c branches (get_or arms k other) (get_or made k d) is_program awaits in_range (later k other within) (leads.each k other d within)
-
--- the rule of `case`
-pub case-row : (lists : ProgramLists) (x : Annotations) (j : Judgement) (at : ℕ) (c : Chan) (arms : List Arm) (branches : List Branch) (made : List Judgement) → IsProgram lists → StandsAtCode lists j (code.Case at c arms) → Awaits lists j c branches → All (λ b. HasArm arms b.label) branches → EachLeads j c branches arms made → Derives lists x j ↔ All (Derives lists x) made
-case-row lists x j at c arms branches made is_program there awaits covered leads = (
-  λ derivation. case-forth lists x j at c arms branches made there awaits leads derivation,
-  λ all. case at c arms branches there awaits (same-labels j c arms branches made covered leads)
-      (case-each lists x j c arms branches made (awaits-differs lists j c branches is_program awaits) leads all),
-)
-
--- along the ways each arm leads on
-ways-lead : (j : Judgement) (c : Chan) (branches : List Branch) (arms : List Arm) (ways : List Way) → EachGoes branches arms ways → EachLeads j c branches arms (map (way_of j c) ways)
-ways-lead j c branches arms ways goes = record {
-  count = length-map ways (way_of j c) ∙ goes.count;
-  each =
-      λ k a s inside.
-      let within : k < length ways = subst (λ (n : ℕ). k < n) (sym goes.count) inside in
-      let other : Way = some-item ways k within in
-      let along = goes.each k a other inside in (
-        (get_or ways k other).goes,
-        along.0,
-        get_or-map (way_of j c) ways k other s within ∙ ap (λ (n : CodeId). goes_on j c (get_or ways k other).goes n) along.1,
-      );
-}
-
--- a `case` whose labels are those of the awaited choice splits into those to which its arms lead
-pub case-splits : (lists : ProgramLists) (j : Judgement) (at : ℕ) (c : Chan) (arms : List Arm) (branches : List Branch) (ways : List Way) → IsProgram lists → StandsAtCode lists j (code.Case at c arms) → Awaits lists j c branches → All (λ b. HasArm arms b.label) branches → EachGoes branches arms ways → IsInRange lists j → All (λ a. (a.goes.0 < j.code.0) × (a.goes.0 < length lists.code)) arms → PartsInto lists j (map (way_of j c) ways)
-case-splits lists j at c arms branches ways is_program there awaits covered goes in_range later =
-    let leads : EachLeads j c branches arms (map (way_of j c) ways) = ways-lead j c branches arms ways goes in (
-      case-row lists whole_units j at c arms branches (map (way_of j c) ways) is_program there awaits covered leads,
-      case-later lists j c arms branches (map (way_of j c) ways) is_program awaits leads in_range later,
+-- the set of the labels of arms has the labels of arms
+pub labels-HasArm : {S : Type 0} (arms : List Arm) (labels : bag.HashSet ℕ S)
+    → bag.IsFromIterResult nat_eq (map (λ (a : Arm). a.label.0) arms) labels → (l : Label)
+    → (bag.contains nat_eq labels l.0 ≡ true) ↔ HasArm arms l
+labels-HasArm arms labels made l =
+    let tells = is_member-Decides {eq = nat_eq} unsigned_Decides (map (λ (a : Arm). a.label.0) arms) l.0 in (
+      λ yes. item-of_image (λ (a : Arm). a.label.0) arms l.0 (tells.0 (sym (made.0 l.0) ∙ yes)),
+      λ (a, held, same). made.0 l.0 ∙ tells.1 (subst (Contains (map (λ (x : Arm). x.label.0) arms)) same
+          (image-of_item (λ (x : Arm). x.label.0) arms a held)),
     )
+
+-- what holds of the items so far and of the next one
+pub more-items : {X : Type 0} (P : X → Type 0) (xs : List X) (i : ℕ) (d : X) → i < length xs → ((k : ℕ) (e : X)
+    → k < i → P (get_or xs k e)) → P (get_or xs i d) → (k : ℕ) (e : X) → k < i + 1 → P (get_or xs k e)
+more-items P xs i d inside before here k e below =
+    elim (cases_lt k i) [
+      | inl lower ↦ before k e lower
+      | inr above ↦ let same : i ≡ k = omega arith in subst (λ (n : ℕ). P (get_or xs n e)) same (subst P
+          (get_or_default xs i d e inside) here)
+    ]
+
+-- one more arm leads on one more way
+pub ways-more : (c : Chan) (bs : List Branch) (arms : List Arm) (ways : List Way) (a : Arm) (t : TypeId)
+    → AreWays c bs arms ways → goes_by bs a.label ≡ Some t
+    → AreWays c bs (arms ++ a ∷ []) (ways ++ way.Label c t a.goes ∷ [])
+ways-more c bs _ _ a t none found = arm t found none
+ways-more c bs _ _ a t (arm {arms = arms} {ways = ways} u goes rest) found =
+    arm u goes (ways-more c bs arms ways a t rest found)
+
+-- the arms go on where their ways lead
+pub ways-go_on : (j : Judgement) (c : Chan) (bs : List Branch) {arms : List Arm} {ways : List Way}
+    → AreWays c bs arms ways
+    → ArmsGoOn j c bs arms (map (way_shape j) ways)
+ways-go_on j c bs none = ArmsGoOn.none
+ways-go_on j c bs (arm t found rest) = ArmsGoOn.arm t found (ways-go_on j c bs rest)
+
+-- the ways after one more turn
+pub ways-step : (c : Chan) (bs : List Branch) (arms : List Arm) (ways made : List Way) (i : ℕ) (d : Arm) (t : TypeId)
+    → i < length arms → AreWays c bs (take i arms) ways → goes_by bs (get_or arms i d).label ≡ Some t
+    → made ≡ ways ++ way.Label c t (get_or arms i d).goes ∷ [] → AreWays c bs (take (i + 1) arms) made
+ways-step c bs arms ways made i d t inside before found put =
+    let a = get_or arms i d in
+    let all : take (i + 1) arms ≡ take i arms ++ a ∷ [] = ap (λ (n : ℕ). take n arms)
+    (add-one i) ∙ take-suc arms i d inside in
+    let more = ways-more c bs (take i arms) ways a t before found in
+    let with_arms : AreWays c bs (take (i + 1) arms) (ways ++ way.Label c t a.goes ∷ []) =
+    subst (λ (xs : List Arm). AreWays c bs xs (ways ++ way.Label c t a.goes ∷ [])) (sym all) more
+    in
+    subst (λ (ws : List Way). AreWays c bs (take (i + 1) arms) ws) (sym put) with_arms
+
+-- each way leaves the account as it is
+ways-account : (a : Account) (c : Chan) (bs : List Branch) {arms : List Arm} {ways : List Way} → AreWays c bs arms ways
+    → map (λ (x : Arm). a) arms ≡ map (way_account a) ways
+ways-account a c bs none = refl
+ways-account a c bs (arm t found rest) = ap (λ (others : List Account). a ∷ others) (ways-account a c bs rest)
+
+-- no way takes a list apart
+ways-there : (s : Standing) (c : Chan) (bs : List Branch) {arms : List Arm} {ways : List Way} → AreWays c bs arms ways
+    → All (IsWayOf s) ways
+ways-there s c bs none = All-nil (IsWayOf s)
+ways-there s c bs (arm {a = a} {ways = ways} t found rest) =
+    All-cons (IsWayOf s) (way.Label c t a.goes) ways tt (ways-there s c bs rest)
+
+-- ---- branches by their labels
+
+-- the branch with which a choice goes on, where the test of the first one is known
+branch-first : (b : Branch) (bs : List Branch) (l : Label) (t : TypeId) (passes : Bool) → (b.label.0 == l.0) ≡ passes
+    → (goes_by bs l ≡ Some t → (x : Branch) × Contains bs x × (x.label.0 ≡ l.0))
+    → option_map (λ (c : Branch). c.goes) (cond passes (Some b) (find (λ (c : Branch). c.label.0 == l.0) bs)) ≡ Some t
+    → (x : Branch) × Contains (b ∷ bs) x × (x.label.0 ≡ l.0)
+branch-first b bs l t true here rest found = (b, (0, omega arith, refl), eqb-true b.label.0 l.0 here)
+branch-first b bs l t false here rest found =
+    let (x, among, same) = rest found in (x, (suc among.0, omega (arith, among.1), among.2), same)
+
+-- the branch with which a choice goes on
+branch-found : (bs : List Branch) (l : Label) (t : TypeId) → goes_by bs l ≡ Some t
+    → (x : Branch) × Contains bs x × (x.label.0 ≡ l.0)
+branch-found [] l t found = absurd cc
+branch-found (b ∷ bs) l t found = branch-first b bs l t (b.label.0 == l.0) refl (branch-found bs l t) found
+
+goes-first : (b : Branch) (others : Option Branch) (passes : Bool)
+    → ((t : TypeId) × (option_map (λ (c : Branch). c.goes) others ≡ Some t))
+    → (t : TypeId) × (option_map (λ (c : Branch). c.goes) (cond passes (Some b) others) ≡ Some t)
+goes-first b others true rest = (b.goes, refl)
+goes-first b others false rest = rest
+
+-- a choice goes on after the label of each branch
+goes-there : (bs : List Branch) (b : Branch) → Contains bs b → (t : TypeId) × (goes_by bs b.label ≡ Some t)
+goes-there [] b (k, inside, same) = absurd (omega arith)
+goes-there (x ∷ bs) b (zero, inside, same) =
+    let here : (x.label.0 == b.label.0) ≡ true = eq-eqb x.label.0 b.label.0 (ap (λ (y : Branch). y.label.0) same) in
+    let others = find (λ (c : Branch). c.label.0 == b.label.0) bs in
+    (x.goes, ap (λ t. option_map (λ (c : Branch). c.goes) (cond t (Some x) others)) here)
+goes-there (x ∷ bs) b (suc k, inside, same) =
+    let others = find (λ (c : Branch). c.label.0 == b.label.0) bs in
+    goes-first x others (x.label.0 == b.label.0) (goes-there bs b (k, omega arith, same))
+
+-- ---- the rule
+
+-- each arm of a rule has a type
+arms-have : (j : Judgement) (c : Chan) (bs : List Branch) {arms : List Arm} {after : List Judgement}
+    → ArmsGoOn j c bs arms after → (a : Arm) → Contains arms a → (t : TypeId) × (goes_by bs a.label ≡ Some t)
+arms-have j c bs ArmsGoOn.none a (k, inside, same) = absurd (omega arith)
+arms-have j c bs (ArmsGoOn.arm t goes rest) a (zero, inside, same) =
+    (t, subst (λ (x : Arm). goes_by bs x.label ≡ Some t) same goes)
+arms-have j c bs (ArmsGoOn.arm t goes rest) a (suc k, inside, same) = arms-have j c bs rest a (k, omega arith, same)
+
+module _ (lists : ProgramLists) (s : Standing) (at : ℕ) (c : Chan) (arms : List Arm)
+    (stands : StandsAtCode lists (shape_of s) (code.Case at c arms)) (bs : List Branch)
+    (typed : HasType lists (shape_of s) c (by_side c (node.With bs) (node.Plus bs))) where
+  -- the branches of a rule are those of the channel's type
+  same-branches : {after : List Judgement} → (says : AwaitsLabel lists (shape_of s) c arms after) → says.branches ≡ bs
+  same-branches says = awaited_choice-same c says.branches bs (head-unique lists (shape_of s) c _ _ says.channel typed)
+
+  -- without an arm for each branch no rule applies
+  pub branch-stuck : ¬ (All (λ b. HasArm arms b.label) bs) → NoRow lists (shape_of s)
+  branch-stuck lacks =
+      case-stuck stands
+      (λ after says.
+      lacks
+      (λ k d inside.
+      let b = get_or bs k d in
+      let (t, goes) = goes-there bs b (Contains-get_or bs k d inside) in
+      let goes_too = subst (λ (cs : List Branch). goes_by cs b.label ≡ Some t) (sym (same-branches says)) goes in
+      let (a, among, same) = item-of_image (λ (x : Arm). x.label) arms b.label (says.each_label b.label t goes_too) in
+      (a, among, ap (λ (l : Label). l.0) same)))
+
+  -- with an arm for no branch no rule applies
+  pub arm-stuck : HasOddArm bs arms → NoRow lists (shape_of s)
+  arm-stuck (a, among, odd) =
+      case-stuck stands
+      (λ after says.
+      let each = subst (λ (cs : List Branch). ArmsGoOn (shape_of s) c cs arms after)
+      (same-branches says) says.each_arm in
+      let (t, goes) = arms-have (shape_of s) c bs each a among in
+      cc)
+
+  -- the arms lead on their ways
+  pub case-leads : (ways : List Way) → All (λ b. HasArm arms b.label) bs → AreWays c bs arms ways
+      → LeadsAlong lists s ways
+  case-leads ways covered are =
+      let j = shape_of s in
+      let says : AwaitsLabel lists j c arms (map (way_shape j) ways) = record {
+        branches = bs;
+        channel = typed;
+        each_label =
+            λ l t goes.
+            let (b, among, same) = branch-found bs l t goes in
+            let (a, there, label) = All-contains (λ (x : Branch). HasArm arms x.label) bs b covered among in
+            let made : ℕ → Label = λ n. record { 0 = n } in
+            subst (λ (k : Label). Contains (map (λ (x : Arm). x.label) arms) k) (ap made (label ∙ same))
+            (image-of_item (λ (x : Arm). x.label) arms a there);
+        each_arm = ways-go_on j c bs are;
+      }
+      in
+      leads-along s (code.Case at c arms) ways ways refl stands (row.case stands (map (way_shape j) ways) says)
+      (λ a has. ways-account a c bs are) (ways-there s c bs are)

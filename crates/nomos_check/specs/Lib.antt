@@ -1,6 +1,6 @@
-pub mod Standing
-pub mod Choices
-pub mod Labels
-pub mod Cases
-pub mod Spawns
+pub mod Account
+pub mod Accounting
+pub mod Reaching
+pub mod Asking
 pub mod Checking
+pub mod mirror

@@ -1,63 +1,68 @@
-//! Variables and the types of their channels.
-ghost use Rattle.std.specs.Prelude.{◌≡◌, ◌≢◌, ◌<◌, ◌↔◌, IsTrue, MatchOption, All, length, slice_get};
-ghost use Rattle.nomos_ir.specs.Unfold.{IsContractive};
-ghost use Rattle.nomos_types.specs.Fragment.Judgement.{type_in, retyped, without, channel_type};
-ghost use Rattle.nomos_check.specs.Standing.{judgement_of, IsInRange, HasNodeAt};
+//! The channels that a process has in hand, and the types to which they unfold.
+ghost use Rattle.std.specs.Prelude.{◌≡◌, ◌<◌, OnOk, length, option_copied};
+ghost use Rattle.nomos_ir.specs.declared.code_node.Chan.{Chan};
+ghost use Rattle.nomos_types.specs.Judgement.{at_code, channel_type, goes_on};
+ghost use Rattle.nomos_types.specs.Premises.{HasType};
+ghost use Rattle.nomos_types.specs.Row.{gives_up};
+ghost use Rattle.nomos_types.specs.Typed.{IsWellFormed};
+ghost use Rattle.nomos_check.specs.mirror.Finding.{IsFound};
+ghost use Rattle.nomos_check.specs.mirror.Moves.{KeepsAmounts};
+ghost use Rattle.nomos_check.specs.mirror.Standing.{shape_of, IsWithin};
 
 use crate::standing::Standing;
 use nomos_ir::code_node::Chan;
-use nomos_ir::ids::{TypeId, VarId};
+use nomos_ir::ids::{CodeId, TypeId, VarId};
 use nomos_ir::program::Program;
+use nomos_ir::type_node::TypeNode;
 use nomos_types::unfolding::unfold;
-
-/// The type of a variable among channels.
-fn type_in(channels: &[(VarId, TypeId)], v: VarId) -> Option<TypeId>
-    ensures { result ≡ type_in channels.now v }
-{
-    for c in channels {
-        if c.0.0 == v.0 {
-            return Some(c.1);
-        }
-    }
-    None
-}
-
-/// Gives the variable's channel another type.
-pub(crate) fn retype(channels: &mut [(VarId, TypeId)], v: VarId, t: TypeId)
-    ensures { channels.new ≡ retyped channels.old v t }
-{
-    for c in channels {
-        if c.0.0 == v.0 {
-            c.1 = t;
-        }
-    }
-}
-
-/// Takes the variable's channel away.
-pub(crate) fn give_up(channels: &mut Vec<(VarId, TypeId)>, v: VarId)
-    ensures { channels.new.items ≡ without channels.old.items v }
-{
-    channels.retain(|c| c.0.0 != v.0);
-}
+use std::alloc::AllocError;
 
 /// The type of the process's own channel, or of one that it holds.
-fn channel_type(now: &Standing, c: Chan) -> Option<TypeId>
-    ensures { result ≡ channel_type (judgement_of now.now) c }
+pub(crate) fn channel_type(now: &Standing, c: Chan) -> Option<TypeId>
+    ensures { result ≡ channel_type (shape_of now.now) c }
 {
     match c {
         Chan::Own => Some(now.offers),
-        Chan::Var(v) => type_in(now.linear.as_slice(), v),
+        Chan::Var(v) => now.linear.get(v),
     }
 }
 
-/// The type node to which a channel's type unfolds.
-pub(crate) fn channel_node(program: &Program, now: &Standing, c: Chan) -> Option<TypeId>
-    requires contractive { IsContractive program.now }
-    requires in_range { IsInRange program.now (judgement_of now.now) }
-    ensures { MatchOption result (channel_type (judgement_of now.now) c ≡ None) (λ u. HasNodeAt program.now (judgement_of now.now) c u.0) }
+/// The node to which the channel's type unfolds.
+pub(crate) fn channel_node<'p>(
+    program: &'p Program,
+    now: &Standing,
+    c: Chan,
+) -> Option<&'p TypeNode>
+    requires formed { IsWellFormed program.now }
+    requires within { IsWithin program.now now.now }
+    ensures { IsFound (HasType program.now (shape_of now.now) c) (option_copied result) }
 {
     match channel_type(now, c) {
+        Some(t) => Some(program.node(unfold(program, t))),
         None => None,
-        Some(t) => Some(unfold(program, t)),
     }
+}
+
+/// The channel goes on at the type, and the process at the instruction.
+pub(crate) fn go_on(now: &mut Standing, c: Chan, t: TypeId, next: CodeId) -> Result<(), AllocError>
+    ensures shape { OnOk result (shape_of now.new ≡ goes_on (shape_of now.old) c t next) }
+    ensures amounts { KeepsAmounts now.old now.new }
+{
+    now.code = next;
+    match c {
+        Chan::Own => {
+            now.offers = t;
+            Ok(())
+        }
+        Chan::Var(v) => now.linear.bind(v, t),
+    }
+}
+
+/// The process uses the channel up, and goes on at the instruction.
+pub(crate) fn give_up(now: &mut Standing, v: VarId, next: CodeId)
+    ensures shape { shape_of now.new ≡ at_code (gives_up (shape_of now.old) v) next }
+    ensures amounts { KeepsAmounts now.old now.new }
+{
+    now.linear.unbind(v);
+    now.code = next;
 }

@@ -1,71 +1,152 @@
-//! Whether a process has a derivation from where it stands.
-ghost use Rattle.std.specs.Prelude.{◌≡◌, ◌<◌, ◌↔◌, IsTrue, IfOk, Some, length, slice_get};
+//! Whether a process is typed, and which rows its potential and its types give.
+ghost use Rattle.std.specs.Prelude.{◌≡◌, ◌<◌, [], MatchOption, Some, None, Ok, Err, OnOk, slice_get, length};
+ghost use Rattle.nomos_ir.specs.declared.amount.Amount.{Amount};
 ghost use Rattle.nomos_ir.specs.declared.declaration.ProcDecl.{ProcDecl};
-ghost use Rattle.nomos_ir.specs.Unfold.{IsContractive};
-ghost use Rattle.nomos_types.specs.Fragment.Derivation.{Derives};
-ghost use Rattle.nomos_types.specs.Fragment.Judgement.{start_of};
-ghost use Rattle.nomos_types.specs.Fragment.Modes.{ObeysModes};
-ghost use Rattle.nomos_check.specs.Checking.{AheadTells};
-ghost use Rattle.nomos_check.specs.Standing.{judgement_of, whole_units, IsInRange};
+ghost use Rattle.nomos_ir.specs.Amounts.{star_count};
+ghost use Rattle.nomos_equality.specs.Comparing.{HasCompared};
+ghost use Rattle.nomos_types.specs.Typed.{IsWellFormed};
+ghost use Rattle.nomos_check.specs.Checking.{AnswersProcess, AnswersBeside};
+ghost use Rattle.nomos_check.specs.mirror.Answers.{GathersAll, JoinsPairs};
+ghost use Rattle.nomos_check.specs.mirror.Fresh.{IsFresh};
+ghost use Rattle.nomos_check.specs.mirror.Standing.{IsReady};
 
-use crate::cases::after_way;
-use crate::standing::{Ahead, Forks, Standing, Step};
+use crate::asked::Asked;
+use crate::going::{go_all, go_along};
 use crate::start::start;
-use crate::step::step;
+use crate::walk::{Stuck, Walk};
+use nomos_equality::equalities::Equalities;
+use nomos_forms::form::{Form, Forms};
+use nomos_ir::amount::Amount;
+use nomos_ir::code_form::CodeForm;
 use nomos_ir::ids::ProcId;
+use nomos_ir::items::Items;
+use nomos_ir::lists::AmountPairs;
 use nomos_ir::program::Program;
+use nomos_ir::stack::Stack;
+use nomos_types::mode_table::mode_table;
 use std::alloc::{AllocError, Global};
+use std::mem;
+use thiserror::Error;
 
-/// Where the code leads: into the branches into which it parts next, to its end, or to an instruction that
-/// has no rule that applies.
-fn ahead(alloc: Global, program: &Program, now: Standing) -> Result<Ahead, AllocError>
-    requires contractive { IsContractive program.now }
-    requires in_range { IsInRange program.now (judgement_of now) }
-    ensures { IfOk result (AheadTells program.now (judgement_of now)) }
+/// Why nothing is said of the potential of a process.
+#[derive(Clone, Copy, PartialEq, Eq, Debug, Error)]
+pub enum ProcError {
+    /// No rule applies to the instruction of this form at this offset in bytes, the first such in the process.
+    #[error("no rule applies to the instruction at {0}")]
+    ProcType(u32, CodeForm),
+    #[error("out of memory")]
+    NoMemory,
+}
+
+/// What the amounts of a program have to meet so that a process is typed: each form, in parts of which the unit of the
+/// amounts has so many, is 0 or more, and the two amounts of each pair are worth the same.
+#[derive(Drop, Debug)]
+pub struct Checked {
+    pub forms: Forms,
+    pub pairs: AmountPairs,
+}
+
+/// Gathers what the process asks for.
+fn gather(program: &Program, walk: &mut Walk, p: ProcId) -> Result<(), AllocError>
+    requires formed { IsWellFormed program.now }
+    requires p { p.0 < length program.now.procs }
+    requires ready { IsReady program.now walk.old.asked }
+    requires fresh { IsFresh walk.old }
+    ensures ready { IsReady program.now walk.new.asked }
+    ensures gathers { OnOk result (GathersAll program.now p walk.old walk.new) }
 {
-    let mut at = now;
-    loop {
-        match step(alloc, program, at)? {
-            Step::Refused => return Ok(Ahead::Refused),
-            Step::Done => return Ok(Ahead::Done),
-            Step::Next(next) => at = next,
-            Step::Branches(forks) => return Ok(Ahead::Branches(forks)),
-        }
+    let first = start(program, &walk.asked, p)?;
+    go_along(program, walk, first)?;
+    go_all(program, walk)
+}
+
+/// What is answered where this was gathered.
+fn answer(
+    forms: Vec<Form>,
+    pairs: Vec<(Amount, Amount)>,
+    stuck: Option<Stuck>,
+) -> Result<Checked, ProcError>
+    ensures { MatchOption stuck (result ≡ Ok (record { forms = forms.items; pairs = pairs.items }))
+        (λ s. result ≡ Err (ProcError.ProcType s.at s.form)) }
+{
+    match stuck {
+        None => Ok(Checked {
+            forms: Items::of_vec(forms),
+            pairs: Items::of_vec(pairs),
+        }),
+        Some(found) => Err(ProcError::ProcType(found.at, found.form)),
     }
 }
 
-/// Whether the process has a derivation from where it stands.
-fn derives(alloc: Global, program: &Program, now: Standing) -> Result<bool, AllocError>
-    requires contractive { IsContractive program.now }
-    requires in_range { IsInRange program.now (judgement_of now) }
-    ensures { IfOk result (λ yes. IsTrue yes ↔ Derives program.now whole_units (judgement_of now)) }
+/// What the process declaration with this number asks for, in units of gas; `docs/LANGUAGE.md`, "The whole language",
+/// has the rules. The pairs that the equality of types needs join those of `equalities`; the others are given. What
+/// was compared stays there also where the process is refused. `ProcType` comes exactly where some instruction is stuck, and
+/// names the first one.
+pub fn check_process_with(
+    alloc: Global,
+    equalities: &mut Equalities,
+    program: &Program,
+    p: ProcId,
+) -> Result<Checked, ProcError>
+    requires formed { IsWellFormed program.now }
+    requires p { p.0 < length program.now.procs }
+    requires compared { HasCompared program.now equalities.old }
+    ensures compared { HasCompared program.now equalities.new }
+    ensures answers { (d : ProcDecl) → slice_get program.now.procs p.0 ≡ Some d →
+        AnswersBeside program.now (star_count program.now) d equalities.old equalities.new result }
 {
-    let Forks {
-        before,
-        channel,
-        mut ways,
-    } = match ahead(alloc, program, now)? {
-        Ahead::Refused => return Ok(false),
-        Ahead::Done => return Ok(true),
-        Ahead::Branches(forks) => forks,
+    let modes = match mode_table(alloc, program) {
+        Ok(modes) => modes,
+        Err(_) => return Err(ProcError::NoMemory),
     };
-    while let Some(way) = ways.pop() {
-        let branch = after_way(alloc, &before, channel, way)?;
-        if !derives(alloc, program, branch)? {
-            return Ok(false);
-        }
+    let known = mem::replace(equalities, Equalities::new(alloc));
+    let mut walk = Walk::new(alloc, modes, known);
+    let gathered = gather(program, &mut walk, p);
+    let Walk {
+        asked,
+        forms,
+        stuck,
+        todo: _,
+    } = walk;
+    let Asked {
+        alloc: _,
+        modes: _,
+        equalities: found,
+        pairs,
+    } = asked;
+    *equalities = found;
+    match gathered {
+        Ok(()) => answer(forms, pairs, stuck),
+        Err(_) => Err(ProcError::NoMemory),
     }
-    Ok(true)
 }
 
-/// Whether the process declaration has a derivation from its start, with its declared potential in whole
-/// units. An error comes only where memory runs out.
-pub fn check_process(alloc: Global, program: &Program, p: ProcId) -> Result<bool, AllocError>
-    requires in_range { p.0 < length program.now.procs }
-    requires contractive { IsContractive program.now }
-    requires modes { ObeysModes program.now }
-    ensures { IfOk result (λ yes. (d : ProcDecl) → slice_get program.now.procs p.0 ≡ Some d → (IsTrue yes ↔ Derives program.now whole_units (start_of program.now whole_units d))) }
+/// The pairs of `equalities` beside those that were given.
+fn all_pairs(equalities: Equalities, checked: Checked) -> Result<Checked, ProcError>
+    ensures { JoinsPairs equalities checked result }
 {
-    let first = start(alloc, program, p)?;
-    derives(alloc, program, first)
+    let Checked { forms, pairs } = checked;
+    let mut all = match equalities.into_amounts() {
+        Ok(amounts) => amounts.into_vec(),
+        Err(_) => return Err(ProcError::NoMemory),
+    };
+    match all.extend_from_slice(pairs.as_slice()) {
+        Ok(()) => Ok(Checked {
+            forms,
+            pairs: Items::of_vec(all),
+        }),
+        Err(_) => Err(ProcError::NoMemory),
+    }
+}
+
+/// What the process declaration with this number asks for, as `check_process_with` says it, with all pairs.
+pub fn check_process(alloc: Global, program: &Program, p: ProcId) -> Result<Checked, ProcError>
+    requires formed { IsWellFormed program.now }
+    requires p { p.0 < length program.now.procs }
+    ensures { (d : ProcDecl) → slice_get program.now.procs p.0 ≡ Some d →
+        AnswersProcess program.now (star_count program.now) d result }
+{
+    let mut equalities = Equalities::new(alloc);
+    let checked = check_process_with(alloc, &mut equalities, program, p)?;
+    all_pairs(equalities, checked)
 }

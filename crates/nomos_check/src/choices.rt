@@ -1,62 +1,49 @@
-//! Choices and their labels.
-ghost use Rattle.std.specs.Prelude.{◌≡◌, ◌↔◌, IsTrue, IfOk, MatchOption, Contains, List, option_copied};
-ghost use Rattle.nomos_ir.specs.declared.type_node.Branch.{Branch};
-ghost use Rattle.nomos_types.specs.Fragment.Derivation.{sends_choice, awaits_choice};
-ghost use Rattle.nomos_check.specs.Choices.{IsChoice, GoesBy, HasNoLabel, IsTableOf};
+//! The rule of a label.
+ghost use Rattle.std.specs.Prelude.{◌≡◌, ℕ, IfOk};
+ghost use Rattle.nomos_ir.specs.declared.code_node.CodeNode.{CodeNode};
+ghost use Rattle.nomos_types.specs.Premises.{SendsLabel};
+ghost use Rattle.nomos_types.specs.Row.{StandsAtCode};
+ghost use Rattle.nomos_types.specs.Typed.{IsWellFormed};
+ghost use Rattle.nomos_check.specs.mirror.Finding.{IsFound};
+ghost use Rattle.nomos_check.specs.mirror.Standing.{shape_of, IsWithin, StepTells};
 
+use crate::chances::sends_choice;
+use crate::channels::go_on;
+use crate::standing::{Standing, Step};
+use nomos_equality::parts::goes_by;
 use nomos_ir::code_node::Chan;
-use nomos_ir::ids::{Label, TypeId};
-use nomos_ir::type_node::{Branch, Branches, TypeNode};
-use std::alloc::{AllocError, Global};
-use std::collections::HashMap;
+use nomos_ir::ids::{CodeId, Label, TypeId};
+use nomos_ir::program::Program;
+use std::alloc::AllocError;
 
-/// The branches of the choice that a process makes by a label on the channel.
-pub(crate) fn sent_choice(c: Chan, node: &TypeNode) -> Option<&Branches>
-    ensures { IsChoice (sends_choice c) node.now (option_copied result) }
+/// The type with which the channel goes on when the process sends the label.
+fn label_goes(program: &Program, now: &Standing, c: Chan, label: Label) -> Option<TypeId>
+    requires formed { IsWellFormed program.now }
+    requires within { IsWithin program.now now.now }
+    ensures { IsFound (SendsLabel program.now (shape_of now.now) c label) result }
 {
-    match (c, node) {
-        (Chan::Own, TypeNode::Plus(branches)) => Some(branches),
-        (Chan::Var(_), TypeNode::With(branches)) => Some(branches),
-        _ => None,
-    }
+    let branches = sends_choice(program, now, c)?;
+    goes_by(branches.as_slice(), label)
 }
 
-/// The branches of the choice that a process waits for on the channel.
-pub(crate) fn awaited_choice(c: Chan, node: &TypeNode) -> Option<&Branches>
-    ensures { IsChoice (awaits_choice c) node.now (option_copied result) }
+/// The rule of a label.
+pub(crate) fn at_label(
+    program: &Program,
+    now: &mut Standing,
+    c: Chan,
+    label: Label,
+    next: CodeId,
+) -> Result<Step, AllocError>
+    requires formed { IsWellFormed program.now }
+    requires within { IsWithin program.now now.old }
+    requires stands { (at : ℕ) × StandsAtCode program.now (shape_of now.old) (CodeNode.Label at c label next) }
+    ensures { IfOk result (StepTells program.now now.old now.new) }
 {
-    match (c, node) {
-        (Chan::Own, TypeNode::With(branches)) => Some(branches),
-        (Chan::Var(_), TypeNode::Plus(branches)) => Some(branches),
-        _ => None,
-    }
-}
-
-/// The type with which the branch of a label goes on.
-pub(crate) fn goes_by(branches: &[Branch], label: Label) -> Option<TypeId>
-    ensures { MatchOption result (HasNoLabel branches.now label) (GoesBy branches.now label) }
-{
-    for b in branches {
-        if b.label.0 == label.0 {
-            return Some(b.goes);
+    match label_goes(program, now, c, label) {
+        Some(t) => {
+            go_on(now, c, t, next)?;
+            Ok(Step::Next)
         }
+        None => Ok(Step::Stuck),
     }
-    None
-}
-
-/// The types with which branches go on, by their labels.
-pub(crate) fn types_by_label(
-    alloc: Global,
-    branches: &[Branch],
-) -> Result<HashMap<u32, TypeId>, AllocError>
-    ensures { IfOk result (IsTableOf branches.now) }
-{
-    branches.iter().map(|b| (b.label.0, b.goes)).collect(alloc)
-}
-
-/// The type with which the branch of a label goes on, by such a table of the branches.
-pub(crate) fn type_at(types: &HashMap<u32, TypeId>, label: Label) -> Option<TypeId>
-    ensures { (branches : List Branch) → IsTableOf branches types.now → MatchOption result (HasNoLabel branches label) (GoesBy branches label) }
-{
-    types.get(&label.0).copied()
 }

@@ -1,14 +1,34 @@
-//! Whether the code of a process is typed.
+//! Whether a process is typed, and which amounts its potential and its types ask for.
 #![tactic(auto)]
 
-mod amounts;
+mod arguments;
+mod asked;
+mod bound;
+mod branch;
 mod cases;
+mod chances;
 mod channels;
 pub mod checking;
 mod choices;
-mod labels;
-mod rows;
-mod spawns;
+mod comparing;
+mod ending;
+mod giving;
+mod going;
+mod instruction;
+mod lists;
+mod modes;
+mod operands;
+mod passing;
+mod paying;
+mod potential;
+mod receiving;
+mod sending;
+mod sharing;
+mod sides;
+mod spawning;
 mod standing;
 mod start;
 mod step;
+mod values;
+mod variables;
+mod walk;

@@ -1,56 +1,71 @@
-//! Where a process stands while its code is checked.
+//! Where a process stands while its code is checked, and where an instruction leads from there.
+use crate::bound::Bound;
+use crate::potential::Potential;
+use nomos_ir::amount::Amount;
 use nomos_ir::code_node::Chan;
 use nomos_ir::ids::{CodeId, TypeId, VarId};
 use nomos_ir::kind::Kind;
 use nomos_ir::mode::Mode;
 
-/// What the process has in hand at an instruction. The potential is in whole units.
+/// A list that carries potential: the kind of its elements, and the amount that each of them carries.
+#[derive(Clone, Copy)]
+pub(crate) struct Carried {
+    pub(crate) kind: Kind,
+    pub(crate) amount: Amount,
+}
+
+/// What the process has in hand at an instruction.
 #[derive(Drop)]
 pub(crate) struct Standing {
     pub(crate) mode: Mode,
-    pub(crate) values: Vec<(VarId, Kind)>,
-    pub(crate) shared: Vec<(VarId, TypeId)>,
-    pub(crate) linear: Vec<(VarId, TypeId)>,
-    pub(crate) potential: u64,
+    pub(crate) kinds: Bound<Kind>,
+    pub(crate) lists: Bound<Carried>,
+    pub(crate) shared: Bound<TypeId>,
+    pub(crate) linear: Bound<TypeId>,
+    pub(crate) potential: Potential,
     pub(crate) code: CodeId,
     pub(crate) offers: TypeId,
 }
 
-/// Where a branch of a `case` leads: the type at which its channel goes on, and the next instruction.
-#[derive(Clone, Copy, PartialEq, Eq, Debug)]
-pub(crate) struct Way {
-    pub(crate) goes: TypeId,
+/// A list that is taken apart: its head and its tail, what it carries, and the code with which it goes on.
+#[derive(Clone, Copy)]
+pub(crate) struct Parts {
+    pub(crate) list: VarId,
+    pub(crate) carried: Carried,
+    pub(crate) head: VarId,
+    pub(crate) tail: VarId,
     pub(crate) next: CodeId,
 }
 
-/// The branches of a `case`: what the process has in hand before it, the channel, and where each branch leads.
-#[derive(Drop)]
-pub(crate) struct Forks {
-    pub(crate) before: Standing,
-    pub(crate) channel: Chan,
-    pub(crate) ways: Vec<Way>,
+/// One way on of an instruction that has several.
+#[derive(Clone, Copy)]
+pub(crate) enum Way {
+    /// The channel goes on at the type: a branch of a `case`.
+    Label(Chan, TypeId, CodeId),
+    /// Nothing changes: a code of an `if`.
+    Truth(CodeId),
+    /// The list is empty, and used up: the first code of a `match`.
+    Empty(VarId, CodeId),
+    /// The list has a head and a tail: the second code of a `match`.
+    Full(Parts),
 }
 
-/// What the rule of an instruction asks for.
+/// Where an instruction leads.
 #[derive(Drop)]
 pub(crate) enum Step {
     /// No rule applies.
-    Refused,
-    /// The rule asks for nothing more.
+    Stuck,
+    /// The code ends.
     Done,
-    /// The code that follows.
-    Next(Standing),
-    /// Each of these branches.
-    Branches(Forks),
+    /// To one next instruction.
+    Next,
+    /// On each of these ways.
+    Branches(Vec<Way>),
 }
 
-/// Where the code leads from an instruction on.
+/// Ways that are not gone yet, and what the process has in hand before them.
 #[derive(Drop)]
-pub(crate) enum Ahead {
-    /// To an instruction that has no rule.
-    Refused,
-    /// To its end.
-    Done,
-    /// To these branches.
-    Branches(Forks),
+pub(crate) struct Forks {
+    pub(crate) before: Standing,
+    pub(crate) ways: Vec<Way>,
 }

@@ -1,85 +1,159 @@
-//! The start of a process declaration.
-ghost use Rattle.std.specs.Prelude.{◌≡◌, ◌<◌, ◌++◌, IfOk, Some, All, filter, map, not, length, slice_get};
+//! Where a declaration begins.
+ghost use Rattle.std.specs.Prelude.{◌≡◌, ◌<◌, IfOk, OnOk, All, Some, length, slice_get, filter};
+ghost use Rattle.std.specs.List.{flat_map};
 ghost use Rattle.nomos_ir.specs.declared.declaration.ProcDecl.{ProcDecl};
-ghost use Rattle.nomos_types.specs.Fragment.Judgement.{is_shared_mode, is_shared, payer_value, start_of};
-ghost use Rattle.nomos_check.specs.Standing.{judgement_of, whole_units, IsInRange};
+ghost use Rattle.nomos_ir.specs.Amounts.{star_count};
+ghost use Rattle.nomos_ir.specs.Bindings.{bindings_of};
+ghost use Rattle.nomos_types.specs.Judgement.{is_shared_mode, is_shared, value_par};
+ghost use Rattle.nomos_types.specs.ModeTable.{AreModesOf};
+ghost use Rattle.nomos_types.specs.Modes.{HasMode, parameter_mode};
+ghost use Rattle.nomos_types.specs.Typed.{IsWellFormed};
+ghost use Rattle.nomos_check.specs.mirror.Starting.{bind_all, carried_par, kinds_of, lists_of, picks, one_if, IsStartOf};
 
-use crate::amounts::units;
-use crate::standing::Standing;
-use nomos_ir::declaration::ProcDecl;
+use crate::asked::Asked;
+use crate::bound::Bound;
+use crate::modes::has_mode;
+use crate::potential::Potential;
+use crate::standing::{Carried, Standing};
+use nomos_ir::declaration::{Par, ProcDecl};
 use nomos_ir::ids::{ProcId, TypeId, VarId};
 use nomos_ir::kind::{Base, Kind};
 use nomos_ir::mode::Mode;
 use nomos_ir::program::Program;
-use nomos_types::modes::parameter_mode;
 use std::alloc::{AllocError, Global};
 
-/// Whether references to shared channels have the mode.
-fn is_shared_mode(mode: Mode) -> bool
-    ensures { result ≡ is_shared_mode mode }
+/// Binds a parameter that is a value.
+fn bind_value(kinds: &mut Bound<Kind>, par: Par) -> Result<(), AllocError>
+    ensures { OnOk result (kinds.new ≡ bind_all (value_par par.var par.kind par.amount) kinds.old) }
 {
-    match mode {
-        Mode::S => true,
-        Mode::R | Mode::L | Mode::T => false,
+    match par.amount {
+        None => kinds.bind(par.var, par.kind),
+        Some(_) => Ok(()),
     }
 }
 
-/// The channel parameters: those that are shared, and the linear ones.
-fn parameters(
-    alloc: Global,
-    program: &Program,
-    channels: &[(VarId, TypeId)],
-) -> Result<(Vec<(VarId, TypeId)>, Vec<(VarId, TypeId)>), AllocError>
-    requires { All (λ par. par.1.0 < length program.now.types) channels.now }
-    ensures shared { IfOk result (λ made. made.0.items ≡ filter (is_shared program.now) channels.now) }
-    ensures linear { IfOk result (λ made. made.1.items ≡ filter (λ par. not (is_shared program.now par)) channels.now) }
+/// The kinds with which a declaration begins.
+fn kinds_of(alloc: Global, d: &ProcDecl) -> Result<Bound<Kind>, AllocError>
+    ensures { IfOk result (λ kinds. kinds ≡ kinds_of d.now) }
 {
-    let mut shared = Vec::new(alloc);
-    let mut linear = Vec::new(alloc);
-    for par in channels {
-        if is_shared_mode(parameter_mode(program, par.1)) {
-            shared.push(*par)?;
-        } else {
-            linear.push(*par)?;
-        }
+    let values = d.values.as_slice();
+    let mut kinds = Bound::new(alloc);
+    let mut i = values.len();
+    while i > 0 {
+        i -= 1;
+        bind_value(&mut kinds, values[i])?;
     }
-    Ok((shared, linear))
-}
-
-/// The values with which a process starts: the payer's, and the parameters.
-fn values_at_start(alloc: Global, d: &ProcDecl) -> Result<Vec<(VarId, Kind)>, AllocError>
-    ensures { IfOk result (λ made. made.items ≡ payer_value d.now.me ++ map (λ par. (par.var, par.kind)) d.now.values) }
-{
-    let mut values = Vec::new(alloc);
     if let Some(v) = d.me {
         let number = Kind {
             lists: 0,
             base: Base::Int,
         };
-        values.push((v, number))?;
+        kinds.bind(v, number)?;
     }
-    for par in d.values.as_slice() {
-        values.push((par.var, par.kind))?;
-    }
-    Ok(values)
+    Ok(kinds)
 }
 
-/// Where a process of the declaration starts. Its potential is what is declared.
-pub(crate) fn start(alloc: Global, program: &Program, p: ProcId) -> Result<Standing, AllocError>
-    requires { p.0 < length program.now.procs }
-    ensures judgement { IfOk result (λ s. (d : ProcDecl) → slice_get program.now.procs p.0 ≡ Some d → judgement_of s ≡ start_of program.now whole_units d) }
-    ensures in_range { IfOk result (λ s. IsInRange program.now (judgement_of s)) }
+/// Binds a parameter that is a list.
+fn bind_list(lists: &mut Bound<Carried>, par: Par) -> Result<(), AllocError>
+    ensures { OnOk result (lists.new ≡ bind_all (carried_par par.var par.kind par.amount) lists.old) }
 {
-    let lists = program.lists();
+    match par.amount {
+        Some(amount) => lists.bind(
+            par.var,
+            Carried {
+                kind: par.kind,
+                amount,
+            },
+        ),
+        None => Ok(()),
+    }
+}
+
+/// The lists with which a declaration begins.
+fn lists_of(alloc: Global, d: &ProcDecl) -> Result<Bound<Carried>, AllocError>
+    ensures { IfOk result (λ lists. lists ≡ lists_of d.now) }
+{
+    let values = d.values.as_slice();
+    let mut lists = Bound::new(alloc);
+    let mut i = values.len();
+    while i > 0 {
+        i -= 1;
+        bind_list(&mut lists, values[i])?;
+    }
+    Ok(lists)
+}
+
+/// Whether a channel parameter is a reference.
+fn is_reference(program: &Program, asked: &Asked, t: TypeId) -> bool
+    requires modes { AreModesOf program.now asked.now.modes.items }
+    requires has { HasMode program.now t (parameter_mode program.now t) }
+    ensures { result ≡ is_shared_mode (parameter_mode program.now t) }
+{
+    let _lists = program.lists();
+    has_mode(program, asked.modes.as_slice(), t, Mode::S)
+}
+
+/// Binds the channel if it is picked.
+fn bind_if(
+    channels: &mut Bound<TypeId>,
+    par: (VarId, TypeId),
+    picked: bool,
+) -> Result<(), AllocError>
+    ensures { OnOk result (channels.new ≡ bind_all (one_if picked par) channels.old) }
+{
+    if picked {
+        channels.bind(par.0, par.1)
+    } else {
+        Ok(())
+    }
+}
+
+/// The channel parameters that are references, or the others.
+fn channels_of(
+    program: &Program,
+    asked: &Asked,
+    channels: &[(VarId, TypeId)],
+    references: bool,
+) -> Result<Bound<TypeId>, AllocError>
+    requires modes { AreModesOf program.now asked.now.modes.items }
+    requires have { All (λ par. HasMode program.now par.1 (parameter_mode program.now par.1)) channels.now }
+    ensures { IfOk result (λ made. made ≡ bindings_of (filter (λ par. picks references
+        (is_shared program.now par)) channels.now)) }
+{
+    let mut made = Bound::new(asked.alloc);
+    let mut i = channels.len();
+    while i > 0 {
+        i -= 1;
+        let par = channels[i];
+        let picked = is_reference(program, asked, par.1) == references;
+        bind_if(&mut made, par, picked)?;
+    }
+    Ok(made)
+}
+
+/// What a process has in hand where the declaration begins.
+pub(crate) fn start(program: &Program, asked: &Asked, p: ProcId) -> Result<Standing, AllocError>
+    requires formed { IsWellFormed program.now }
+    requires p { p.0 < length program.now.procs }
+    requires modes { AreModesOf program.now asked.now.modes.items }
+    ensures { IfOk result (λ s. (d : ProcDecl) → slice_get program.now.procs p.0 ≡ Some d →
+        IsStartOf program.now (star_count program.now) d s) }
+{
+    let alloc = asked.alloc;
     let d = program.proc(p);
-    let values = values_at_start(alloc, d)?;
-    let (shared, linear) = parameters(alloc, program, d.channels.as_slice())?;
+    let kinds = kinds_of(alloc, d)?;
+    let lists = lists_of(alloc, d)?;
+    let shared = channels_of(program, asked, d.channels.as_slice(), true)?;
+    let linear = channels_of(program, asked, d.channels.as_slice(), false)?;
+    let mut potential = Potential::none(alloc, program.stars())?;
+    potential.gain(d.amount);
     Ok(Standing {
         mode: d.mode,
-        values,
+        kinds,
+        lists,
         shared,
         linear,
-        potential: units(d.amount),
+        potential,
         code: d.first,
         offers: d.offers,
     })

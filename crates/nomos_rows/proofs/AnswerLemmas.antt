@@ -17,8 +17,8 @@ use Rattle.nomos_types.specs.Equality.{no_amounts}
 use Rattle.nomos_types.specs.Judgement.{start_of}
 use Rattle.nomos_types.specs.Synchronizing.{IsSynchronizing}
 use Rattle.nomos_types.specs.Typed.{IsWellFormed}
-use Rattle.nomos_typing.proofs.RowsLaws.{derives-skeleton}
-use Rattle.nomos_typing.proofs.StuckLaws.{stuck-no_skeleton}
+use Rattle.nomos_check.proofs.RowsLaws.{derives-skeleton}
+use Rattle.nomos_check.proofs.StuckLaws.{stuck-no_skeleton}
 use Rattle.nomos_rows.specs.declared.program_rows.RowsError.TheVariants as error
 use Rattle.nomos_rows.specs.declared.telling.Fault.{Fault}
 use Rattle.nomos_rows.specs.declared.telling.Fault.TheVariants as fault

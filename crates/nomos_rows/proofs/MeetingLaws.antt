@@ -14,9 +14,9 @@ use Rattle.nomos_forms.specs.Linear.{form_value, worth}
 use Rattle.nomos_forms.specs.Meeting.{MeetsRows}
 use Rattle.nomos_types.specs.Amount.{Annotations, dths}
 use Rattle.nomos_types.specs.Typed.{IsTypedProgram, HasSkeletons, IsWellFormed}
-use Rattle.nomos_typing.proofs.PairLaws.{paths-up_to, asked-up_to}
-use Rattle.nomos_typing.proofs.RowsLaws.{point-affords}
-use Rattle.nomos_typing.specs.Account.{form_of}
+use Rattle.nomos_check.proofs.PairLaws.{paths-up_to, asked-up_to}
+use Rattle.nomos_check.proofs.RowsLaws.{point-affords}
+use Rattle.nomos_check.specs.Account.{form_of}
 use Rattle.nomos_rows.specs.ProgramRows.{IsProgramForm, IsProgramPair, leads_back, asked, AreProgramRows, IsTypedByRows}
 use Rattle.nomos_rows.proofs.ProgramLaws.{program-law}
 

@@ -11,11 +11,11 @@ use Rattle.nomos_equality.specs.Comparing.{Compared}
 use Rattle.nomos_forms.specs.declared.form.Form.{Form}
 use Rattle.nomos_types.specs.Derivation.{HasSkeleton}
 use Rattle.nomos_types.specs.Typed.{IsWellFormed}
-use Rattle.nomos_typing.proofs.StuckLaws.{stuck-no_skeleton}
-use Rattle.nomos_typing.specs.Checking.{NeedsBeside}
-use Rattle.nomos_typing.specs.Asking.{IsAsked}
-use Rattle.nomos_typing.specs.Checking.{IsFirstStuck, IsStuckAt}
-use Rattle.nomos_typing.specs.Reaching.{IsFormOf}
+use Rattle.nomos_check.proofs.StuckLaws.{stuck-no_skeleton}
+use Rattle.nomos_check.specs.Checking.{NeedsBeside}
+use Rattle.nomos_check.specs.Asking.{IsAsked}
+use Rattle.nomos_check.specs.Checking.{IsFirstStuck, IsStuckAt}
+use Rattle.nomos_check.specs.Reaching.{IsFormOf}
 use Rattle.nomos_rows.proofs.TellingLemmas.{below-next, below-more}
 use Rattle.nomos_rows.specs.declared.processes.Gathered.{Gathered}
 use Rattle.nomos_rows.specs.declared.telling.Fault.{Fault}

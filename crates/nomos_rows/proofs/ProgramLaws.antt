@@ -11,10 +11,10 @@ use Rattle.nomos_types.specs.Derivation.{Derives, HasSkeleton}
 use Rattle.nomos_types.specs.Equality.{no_amounts}
 use Rattle.nomos_types.specs.Judgement.{start_of}
 use Rattle.nomos_types.specs.Typed.{IsTypedProgram, HasSkeletons, IsWellFormed}
-use Rattle.nomos_typing.specs.Account.{Account, Affords}
-use Rattle.nomos_typing.specs.Asking.{IsAsked}
-use Rattle.nomos_typing.specs.Reaching.{IsPoint}
-use Rattle.nomos_typing.proofs.AccountsLaws.{DerivesByAccounts, rows-law}
+use Rattle.nomos_check.specs.Account.{Account, Affords}
+use Rattle.nomos_check.specs.Asking.{IsAsked}
+use Rattle.nomos_check.specs.Reaching.{IsPoint}
+use Rattle.nomos_check.proofs.AccountsLaws.{DerivesByAccounts, rows-law}
 use Rattle.nomos_rows.specs.ProgramRows.{IsProgramPair, leads_back, asked}
 use Rattle.nomos_rows.proofs.SharedLaws.{synchronizing-exact}
 

@@ -17,7 +17,7 @@ use Rattle.nomos_types.specs.Equality.{no_amounts}
 use Rattle.nomos_types.specs.Forming.{StandsAtOffset}
 use Rattle.nomos_types.specs.Synchronizing.{IsSynchronizing}
 use Rattle.nomos_types.specs.Typed.{IsTypedProgram}
-use Rattle.nomos_typing.specs.Checking.{IsStuckAt}
+use Rattle.nomos_check.specs.Checking.{IsStuckAt}
 use Rattle.nomos_rows.specs.declared.program_rows.RowsError.{RowsError}
 use Rattle.nomos_rows.specs.declared.program_rows.RowsError.TheVariants as error
 

@@ -13,8 +13,8 @@ use Rattle.nomos_forms.specs.RowsOf.{AreRowsOf}
 use Rattle.nomos_sync.specs.Continuing.{StandAtDown}
 use Rattle.nomos_types.specs.Amount.{Annotations}
 use Rattle.nomos_types.specs.Typed.{IsTypedProgram}
-use Rattle.nomos_typing.specs.Asking.{IsAsked}
-use Rattle.nomos_typing.specs.Reaching.{IsFormOf}
+use Rattle.nomos_check.specs.Asking.{IsAsked}
+use Rattle.nomos_check.specs.Reaching.{IsFormOf}
 
 -- the form, over n stars, of an account that some declaration has to afford
 pub record IsProgramForm (lists : ProgramLists) (n : ℕ) (form : Form) : Type 0 where

@@ -15,7 +15,7 @@ use nomos_forms::form::Form;
 use nomos_ir::amount::Amount;
 use nomos_ir::ids::ProcId;
 use nomos_ir::program::Program;
-use nomos_typing::checking::{Checked, ProcError, check_process_with};
+use nomos_check::checking::{Checked, ProcError, check_process_with};
 use std::alloc::{AllocError, Global};
 
 /// What is gathered of processes: the forms of their potential, and the pairs of amounts that they ask for beside

@@ -8,7 +8,6 @@ pub mod Declared
 pub mod DerivationLaws
 pub mod EqualityExamples
 pub mod EqualityLaws
-pub mod Examples
 pub mod FollowingLaws
 pub mod HeadLaws
 pub mod JudgementLaws
@@ -25,7 +24,5 @@ pub mod OffenceLemmas
 pub mod RowExampleProgram
 pub mod RowExamples
 pub mod RowLaws
-pub mod FragmentRowLaws
-pub mod FragmentModeLaws
 pub mod StartLaws
 pub mod UniqueRows

@@ -4,7 +4,7 @@ use Rattle.nomos_ir.specs.Amounts.{star_count}
 use Rattle.nomos_ir.specs.Program.{IsProgram}
 use Rattle.nomos_ir.specs.declared.lists.ProgramLists.{ProgramLists}
 use Rattle.nomos_types.specs.Amount.{Annotations, HasUnit}
-use Rattle.nomos_types.specs.Fragment.Typed.{IsTyped}
+use Rattle.nomos_types.specs.Typed.{IsTypedProgram}
 
 -- a program with an amount for each of its stars
 pub record Acceptance : Type 0 where
@@ -22,4 +22,4 @@ pub record IsAccepted (a : Acceptance) : Type 0 where
   pub small_unit : a.annotations.unit ≤ 2 ^ 31
   pub each_star : length a.annotations.stars ≡ star_count a.program
   pub small_stars : All (λ q. q < 2 ^ 62) a.annotations.stars
-  pub typed : IsTyped a.program a.annotations
+  pub typed : IsTypedProgram a.program a.annotations

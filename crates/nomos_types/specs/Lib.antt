@@ -6,7 +6,6 @@ pub mod Branches
 pub mod Derivation
 pub mod Equality
 pub mod Forming
-pub mod Fragment
 pub mod Judgement
 pub mod ModeTable
 pub mod Modes

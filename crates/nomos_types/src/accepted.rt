@@ -3,7 +3,7 @@ ghost use Rattle.std.specs.Prelude.{◌≡◌, ◌<◌, ◌≤◌, length, IfSom
 ghost use Rattle.nomos_ir.specs.Amounts.{IsAmount, star_of, star_count};
 ghost use Rattle.nomos_types.specs.Acceptance.{acceptance, IsAccepted};
 ghost use Rattle.nomos_types.specs.Amount.{dths};
-ghost use Rattle.nomos_types.specs.Fragment.Typed.{IsTyped};
+ghost use Rattle.nomos_types.specs.Typed.{IsTypedProgram};
 
 use nomos_ir::amount::Amount;
 use nomos_ir::ids::ProcId;
@@ -57,7 +57,7 @@ impl Accepted {
     /// The program.
     pub fn program(&self) -> &Program
         ensures program { result.now ≡ self.now.program }
-        ensures typed { IsTyped self.now.program self.now.annotations }
+        ensures typed { IsTypedProgram self.now.program self.now.annotations }
     {
         &self.program
     }
@@ -69,14 +69,23 @@ impl Accepted {
         self.unit
     }
 
+    /// An amount, in Dths. A star has to be one of the program's.
+    pub fn amount(&self, a: Amount) -> u64
+        requires amount { IsAmount a }
+        requires star { star_of a ≤ star_count self.now.program }
+        ensures { result ≡ dths self.now.annotations a }
+    {
+        match a {
+            Amount::Written(units) => u64::from(units) * u64::from(self.unit),
+            Amount::Star(star) => self.stars.as_slice()[star as usize - 1],
+        }
+    }
+
     /// The declared potential of a process, in Dths.
     pub fn bound(&self, p: ProcId) -> u64
         requires { p.0 < length self.now.program.procs }
         ensures { IfSome (slice_get self.now.program.procs p.0) (λ d. result ≡ dths self.now.annotations d.amount) }
     {
-        match declared(&self.program, p) {
-            Amount::Written(units) => u64::from(units) * u64::from(self.unit),
-            Amount::Star(star) => self.stars.as_slice()[star as usize - 1],
-        }
+        self.amount(declared(&self.program, p))
     }
 }

@@ -11,8 +11,8 @@ use Rattle.nomos_forms.specs.declared.form.Form.{Form}
 use Rattle.nomos_forms.specs.declared.row.Row.{Row}
 use Rattle.nomos_forms.specs.declared.row_list.RowList.{RowList}
 use Rattle.nomos_forms.specs.RowsOf.{AreRowsOf}
-use Rattle.nomos_typing.specs.Asking.{IsAsked}
-use Rattle.nomos_typing.specs.Reaching.{IsFormOf}
+use Rattle.nomos_check.specs.Asking.{IsAsked}
+use Rattle.nomos_check.specs.Reaching.{IsFormOf}
 use Rattle.nomos_rows.specs.declared.processes.Gathered.{Gathered}
 use Rattle.nomos_rows.specs.declared.telling.Fault.{Fault}
 use Rattle.nomos_rows.specs.mirror.Declarations.{DeclarationsFine, IsFirstOfAll}

@@ -1,12 +1,7 @@
-use Rattle.std.proofs.Common.{◌≡◌, ℕ, ◌<◌, get_or, length}
-use Rattle.nomos_ir.specs.declared.code_node.Arm.{Arm}
-use Rattle.nomos_check.specs.Cases.{GoesAlong}
-use Rattle.nomos_check.specs.declared.standing.Way.{Way}
+use Rattle.std.proofs.Common.{take}
+use Rattle.nomos_check.specs.mirror.Cases.{AreWays}
 use Rattle.nomos_check.proofs.cases.ways_of.Given as goal
 
--- each of the arms so far goes on along the way in its place
+-- the arms so far lead on their ways
 abbrev pub invariant-loop-a : goal.invariant-loop-a
-invariant-loop-a l = record {
-  count : length l.ways.items ≡ l.a-index;
-  each : (k : ℕ) (a : Arm) (way : Way) → k < l.a-index → GoesAlong l.branches (get_or l.arms k a) (get_or l.ways.items k way);
-}
+invariant-loop-a l = AreWays l.c l.branches (take l.a-index l.arms) l.ways.items

@@ -3,8 +3,8 @@ use Rattle.std.proofs.lemmas.List.Elements.{All-append}
 use Rattle.nomos_ir.specs.Amounts.{star_count}
 use Rattle.nomos_forms.specs.Bounds.{IsForm}
 use Rattle.nomos_forms.specs.declared.form.Form.{Form}
-use Rattle.nomos_typing.specs.Checking.{AnswersBeside}
-use Rattle.nomos_typing.specs.declared.checking.ProcError.{ProcError}
+use Rattle.nomos_check.specs.Checking.{AnswersBeside}
+use Rattle.nomos_check.specs.declared.checking.ProcError.{ProcError}
 use Rattle.nomos_rows.proofs.ProcessLemmas.{found-at, adds-joined, stuck-told}
 use Rattle.nomos_rows.proofs.processes.process_fault.Goals as goal
 

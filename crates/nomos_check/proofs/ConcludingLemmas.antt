@@ -1,0 +1,230 @@
+-- What follows from all that was gathered.
+use Rattle.std.proofs.Common.{◌≡◌, ◌≤◌, ◌<◌, inl, inr, ⊎_elim, ℕ, zero, suc, List, [], ◌∷◌, ◌++◌, length, All, Contains, Option, Some, None, Result, Ok, Err, MatchOption, slice_get, refl, sym, ap, subst, ◌∙◌, arith}
+use Rattle.std.proofs.lemmas.List.{append-nil}
+use Rattle.std.proofs.lemmas.List.Elements.{All-weaker, All-contains_itself, Contains-append_left, Contains-append_right, Contains-append_cases}
+use Rattle.nomos_ir.specs.declared.amount.Amount.{Amount}
+use Rattle.nomos_ir.specs.declared.declaration.ProcDecl.{ProcDecl}
+use Rattle.nomos_ir.specs.declared.lists.ProgramLists.{ProgramLists}
+use Rattle.nomos_ir.specs.Amounts.{star_count}
+use Rattle.nomos_equality.specs.Comparing.{Compared, nothing_compared}
+use Rattle.nomos_forms.specs.Bounds.{IsForm}
+use Rattle.nomos_forms.specs.declared.form.Form.{Form}
+use Rattle.nomos_types.specs.Equality.{no_amounts}
+use Rattle.nomos_types.specs.Judgement.{Judgement, start_of}
+use Rattle.nomos_types.specs.Typed.{IsWellFormed}
+use Rattle.nomos_check.proofs.MemberLemmas.{contains-none}
+use Rattle.nomos_check.proofs.PlacesLemmas.{reaches-leads}
+use Rattle.nomos_check.proofs.ReachingLaws.{follows-reaches, reaches-follows}
+use Rattle.nomos_check.proofs.RowsLaws.{needs-rows-law, derives-skeleton}
+use Rattle.nomos_check.proofs.SizeLaws.{point-is_form}
+use Rattle.nomos_check.proofs.StuckLaws.{rows-skeleton, rowless-stuck, stuck-rowless, stuck-no_skeleton}
+use Rattle.nomos_check.specs.Account.{Account, start_account, form_of}
+use Rattle.nomos_check.specs.Asking.{IsAsked}
+use Rattle.nomos_check.specs.Checking.{code_offset, IsFirstStuck, NeedsRows, NeedsChecked, NeedsBeside, AnswersProcess, AnswersBeside}
+use Rattle.nomos_check.specs.Reaching.{GetsTo, IsPoint, IsFormOf}
+use Rattle.nomos_check.specs.declared.checking.Checked.{Checked}
+use Rattle.nomos_check.specs.declared.checking.ProcError.{ProcError}
+use Rattle.nomos_check.specs.declared.checking.ProcError.TheVariants as error
+use Rattle.nomos_check.specs.declared.standing.Standing.{Standing}
+use Rattle.nomos_check.specs.declared.walk.Stuck.{Stuck}
+use Rattle.nomos_check.specs.declared.walk.Walk.{Walk}
+use Rattle.nomos_check.specs.mirror.Answers.{IsGathered, JoinsPairs}
+use Rattle.nomos_check.specs.mirror.Fresh.{IsFresh}
+use Rattle.nomos_check.specs.mirror.Starting.{IsStartOf}
+use Rattle.nomos_check.specs.mirror.Walking.{LeadsFrom, IsPointAt, IsStuckBy, AtStanding, IsPending, IsReached, IsOpen, IsOnWay, IsWalk, Walking, Goes}
+
+-- a declaration is reached where it begins
+pub start-reached : {lists : ProgramLists} {n : ℕ} (d : ProcDecl) (s : Standing) → IsStartOf lists n d s
+    → IsReached lists n d s
+start-reached {lists} d s is = record {
+  account = start_account d;
+  has = is.has;
+  reached = subst (λ (j : Judgement). GetsTo lists d j (start_account d)) (sym is.shape) GetsTo.start;
+}
+
+module _ {lists : ProgramLists} {n : ℕ} (p : ℕ) (d : ProcDecl) (found : slice_get lists.procs p ≡ Some d) (s : Standing)
+    (is : IsStartOf lists n d s) (old : Walk) (fresh : IsFresh old) where
+  pub start-on_way : IsOnWay lists n s
+  start-on_way = record { place = p; declared = d; found = found; reached = start-reached d s is }
+
+  -- what is done from there on is a walk of the declaration
+  pub start-walking : (new : Walk) → Goes lists n s old new
+      → Walking lists n d (start_of lists no_amounts d) (start_account d) old new.todo new
+  start-walking new goes =
+      let reached = start-reached d s is in
+      let all : new.todo ≡ goes.added = goes.todo ∙ ap (λ l. goes.added ++ l) fresh.todo ∙ append-nil goes.added in
+      record {
+        complete =
+            λ j a leads.
+            let from : AtStanding lists n s j a = record {
+              account = start_account d;
+              has = is.has;
+              leads = subst (λ (k : Judgement). LeadsFrom lists k (start_account d) j a) (sym is.shape) leads;
+            } in
+            ⊎_elim (λ done. inl done)
+            (λ (left : IsPending lists n goes.added j a). inr (subst (λ l. IsPending lists n l j a) (sym all) left))
+            (goes.complete j a from);
+        gathers = goes.gathers d reached;
+        grows = goes.grows;
+        is_open = subst (All (IsOpen lists n d)) (sym all) (goes.is_open d reached);
+      }
+
+  pub start-walk : (new : Walk) → Goes lists n s old new → IsWalk lists n new.todo new
+  start-walk new goes = record {
+    place = p;
+    declared = d;
+    found = found;
+    judgement = start_of lists no_amounts d;
+    account = start_account d;
+    first = old;
+    walking = start-walking new goes;
+  }
+
+  -- at the end all is gathered
+  pub all-gathered : (new : Walk) → Walking lists n d (start_of lists no_amounts d) (start_account d) old [] new
+      → IsGathered lists n d old.asked.equalities new
+  all-gathered new walking = record {
+    done =
+        λ j a reached.
+        ⊎_elim (λ done. done) (λ (left : IsPending lists n [] j a). absurd (contains-none left.forks left.among))
+        (walking.complete j a (reaches-leads reached));
+    forms =
+        λ f among.
+        ⊎_elim (λ early. absurd (contains-none f (subst (λ (l : List Form). Contains l f) fresh.forms early)))
+        (λ of. of)
+        (walking.gathers.forms f among);
+    pairs =
+        λ free pair has.
+        ⊎_elim
+        (λ early.
+        ⊎_elim (λ known. inl known)
+        (λ given. absurd (contains-none pair (subst (λ (l : List (Amount
+        × Amount)). Contains l pair) fresh.pairs given))) early)
+        (λ asked. inr asked) (walking.gathers.pairs free pair has);
+    keeps = λ free pair known. walking.grows.pairs free pair (inl known);
+    stuck =
+        λ t at.
+        ⊎_elim (λ early. let none = fresh.stuck in absurd cc) (λ of. of) (walking.gathers.stuck t at);
+  }
+
+module _ {lists : ProgramLists} (p : ℕ) (d : ProcDecl) (formed : IsWellFormed lists)
+    (found : slice_get lists.procs p ≡ Some d) where
+  module _ (known : Compared) (w : Walk) (gathered : IsGathered lists (star_count lists) d known w) where
+    point-there : (f : Form) (a : Account) → IsPoint lists d a → f ≡ form_of (star_count lists) a
+        → Contains w.forms.items f
+    point-there f _ (IsPoint.before {j} {a} reached) same = (gathered.done j a reached).forms f (IsPointAt.before same)
+    point-there f _ (IsPoint.called {j} {a} reached stands e there) same =
+        (gathered.done j a reached).forms f (IsPointAt.called stands e there same)
+
+    form-there : (f : Form) → IsFormOf lists (star_count lists) d f → Contains w.forms.items f
+    form-there f of = point-there f of.account of.point of.same
+
+    -- nothing is stuck
+    pub needs-beside : w.stuck ≡ None → NeedsBeside lists (star_count lists) d known w.asked.equalities w.forms.items
+        w.asked.pairs.items
+    needs-beside free = record {
+      skeleton =
+          rows-skeleton p formed found
+          (λ j follows. let (a, reached) = follows-reaches p formed found j follows in
+          (gathered.done j a reached).row free);
+      points = λ f. (gathered.forms f, form-there f);
+      asked =
+          λ pair. (
+            λ either.
+                gathered.pairs free pair (⊎_elim (λ given. inr given) (λ compared. inl compared) either),
+            λ either.
+                ⊎_elim (λ compared. inr compared) (λ given. inl given)
+                (⊎_elim (λ early. gathered.keeps free pair early)
+                (λ (asked : IsAsked lists d pair).
+                (gathered.done asked.judgement asked.account asked.reached).pairs free pair asked.asks)
+                either),
+          );
+      small =
+          All-weaker (Contains w.forms.items) (IsForm (star_count lists))
+          (λ f among.
+          let of = gathered.forms f among in
+          subst (λ (g : Form). IsForm (star_count lists) g) (sym of.same) (point-is_form p
+          (star_count lists) formed found of.point))
+          w.forms.items (All-contains_itself w.forms.items);
+    }
+
+    -- something is stuck
+    pub first-stuck : (t : Stuck) → w.stuck ≡ Some t → IsFirstStuck lists d t.at t.form
+    first-stuck t is =
+        let of = gathered.stuck t is in
+        let stuck = rowless-stuck p formed found (reaches-follows p formed found of.judgement of.account of.reached)
+        (λ row. of.no_row row.0 row.1) in
+        let none = stuck-no_skeleton p formed found stuck in
+        record {
+          stuck = record {
+            judgement = of.judgement;
+            node = of.node;
+            stuck = stuck;
+            stands = of.stands;
+            offset = of.offset;
+            is_form = of.is_form;
+          };
+          first =
+              λ at form other.
+              let (a, reached) = follows-reaches p formed found other.judgement other.stuck.follows in
+              let done = gathered.done other.judgement a reached in
+              let by : IsStuckBy w.stuck (code_offset other.node) =
+              done.stuck (λ after row. stuck-rowless p formed found other.stuck (after, row)) other.node other.stands
+              in
+              let mine : t.at ≤ code_offset other.node =
+              subst (λ (o : Option Stuck). IsStuckBy o (code_offset other.node)) is by
+              in
+              subst (λ (m : ℕ). t.at ≤ m) other.offset mine;
+          no_skeleton = none;
+          no_derivation = λ x derivation. none (derives-skeleton p x formed found derivation);
+        }
+
+    -- what is answered
+    pub answers-by : (stuck : Option Stuck) → w.stuck ≡ stuck → (r : Result Checked ProcError)
+        → MatchOption stuck (r ≡ Ok (record { forms = w.forms.items; pairs = w.asked.pairs.items }))
+        (λ t. r ≡ Err (error.ProcType t.at t.form))
+        → AnswersBeside lists (star_count lists) d known w.asked.equalities r
+    answers-by None free r is =
+        subst (AnswersBeside lists (star_count lists) d known w.asked.equalities) (sym is) (needs-beside free)
+    answers-by (Some t) at r is =
+        subst (AnswersBeside lists (star_count lists) d known w.asked.equalities) (sym is) (first-stuck t at)
+
+  -- with all pairs
+  needs-checked : (new : Compared) (forms : List Form) (pairs all : List (Amount × Amount)) → all ≡ new.amounts ++ pairs
+      → NeedsBeside lists (star_count lists) d nothing_compared new forms pairs
+      → NeedsChecked lists (star_count lists) d forms all
+  needs-checked new forms pairs all is needs =
+      let Among : (Amount × Amount) → List (Amount × Amount) → Type 0 = λ q l. Contains l q in
+      let rows : NeedsRows lists (star_count lists) d forms all = record {
+        skeleton = needs.skeleton;
+        points = needs.points;
+        asked =
+            λ q. (
+              λ among.
+                  ⊎_elim (λ early. absurd (contains-none q early)) (λ asked. asked)
+                  ((needs.asked q).0
+                  (⊎_elim (λ compared. inr compared) (λ given. inl given)
+                  (Contains-append_cases new.amounts pairs q (subst (Among q) is among)))),
+              λ asked.
+                  subst (Among q) (sym is)
+                  (⊎_elim (λ given. Contains-append_right new.amounts pairs q given)
+                  (λ compared. Contains-append_left new.amounts pairs q compared)
+                  ((needs.asked q).1 (inr asked))),
+            );
+      } in
+      record { needs = rows; small = needs.small; law = needs-rows-law p formed found rows }
+
+  pub joined-answers : (new : Compared) (checked : Checked) (r : Result Checked ProcError) → JoinsPairs new checked r
+      → NeedsBeside lists (star_count lists) d nothing_compared new checked.forms checked.pairs
+      → AnswersProcess lists (star_count lists) d r
+  joined-answers new checked (Ok all) joins needs =
+      let Needs : List Form → Type 0 = λ f. NeedsChecked lists (star_count lists) d f all.pairs in
+      subst Needs (sym joins.0) (needs-checked new checked.forms checked.pairs all.pairs joins.1 needs)
+  joined-answers new checked (Err (error.ProcType at form)) joins needs = absurd joins
+  joined-answers new checked (Err error.NoMemory) joins needs = tt
+
+-- below the length some declaration stands
+pub declared-there : (procs : List ProcDecl) (p : ℕ) → p < length procs → (d : ProcDecl) × (slice_get procs p ≡ Some d)
+declared-there [] p inside = absurd (omega arith)
+declared-there (d ∷ procs) zero inside = (d, refl)
+declared-there (d ∷ procs) (suc p) inside = declared-there procs p (omega arith)

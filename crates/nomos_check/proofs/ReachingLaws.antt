@@ -1,0 +1,127 @@
+-- Each judgement that follows from the start of a declaration is reached, with one account, which has its lists.
+use Rattle.std.proofs.Common.{◌≡◌, ◌≤◌, ℕ, List, Contains, Some, slice_get, zip, refl, ap, sym, subst, arith}
+use Rattle.std.specs.Map.{keys_of}
+use Rattle.nomos_ir.specs.declared.code_node.CodeNode.{CodeNode}
+use Rattle.nomos_ir.specs.declared.declaration.ProcDecl.{ProcDecl}
+use Rattle.nomos_ir.specs.declared.ids.CodeId.{CodeId}
+use Rattle.nomos_ir.specs.declared.lists.ProgramLists.{ProgramLists}
+use Rattle.nomos_types.specs.Derivation.{Follows}
+use Rattle.nomos_types.specs.Derivation as following
+use Rattle.nomos_types.specs.Equality.{no_amounts}
+use Rattle.nomos_types.specs.Judgement.{Judgement, IsJudgement, start_of}
+use Rattle.nomos_types.specs.Row.{Row}
+use Rattle.nomos_types.specs.Typed.{IsWellFormed}
+use Rattle.nomos_types.proofs.RowLaws.{row-at}
+use Rattle.nomos_types.proofs.StartLaws.{start-is_judgement}
+use Rattle.nomos_types.proofs.UniqueRows.{row-unique}
+use Rattle.nomos_check.specs.Account.{Account, start_account}
+use Rattle.nomos_check.specs.Accounting.{accounts_after}
+use Rattle.nomos_check.specs.Reaching.{GetsTo}
+use Rattle.nomos_check.specs.Reaching as reaching
+use Rattle.nomos_check.proofs.Beside.{Beside, at-place, its-account, judgements-paired, second-beside}
+use Rattle.nomos_check.proofs.Carrying.{each-beside, next-is_judgement, start-beside}
+use Rattle.nomos_check.proofs.CodeOnceLemmas.{one-behind, one-at_place}
+use Rattle.nomos_check.proofs.ListAmounts.{keys-both}
+use Rattle.nomos_check.proofs.ListLemmas.{paired-first}
+use Rattle.nomos_check.proofs.StuckLaws.{row-descends}
+
+-- the parts of pairs that are the same
+pair-parts : (j k : Judgement) (a b : Account) → ◌≡◌ {A = Judgement × Account} (j, a) (k, b) → (j ≡ k) × (a ≡ b)
+pair-parts j k a b same =
+    (ap (λ (q : Judgement × Account). q.0) same, ap (λ (q : Judgement × Account). q.1) same)
+
+-- A judgement that is reached stands beside itself, with its account.
+pub record StandsReached (lists : ProgramLists) (j : Judgement) (a : Account) : Type 0 where
+  pub judgement : IsJudgement lists j
+  pub beside : Beside no_amounts no_amounts j j a
+
+module _ {lists : ProgramLists} {d : ProcDecl} (p : ℕ) (formed : IsWellFormed lists)
+    (declared : slice_get lists.procs p ≡ Some d) where
+  -- each judgement that is reached does so
+  pub stands-reached : (j : Judgement) (a : Account) → GetsTo lists d j a → StandsReached lists j a
+  stands-reached _ _ reaching.start =
+      record {
+        judgement = start-is_judgement no_amounts p formed declared;
+        beside = start-beside lists no_amounts no_amounts d;
+      }
+  stands-reached k b (reaching.next {j} {a = a} n after before there row among) =
+      let s = stands-reached j a before in
+      let at = at-place k b (each-beside formed s.judgement s.beside row there row) among in
+      record {
+        judgement = next-is_judgement formed s.judgement row (paired-first after (accounts_after lists n a) k b among);
+        beside = second-beside at.beside;
+      }
+
+  -- its lists are those of the account
+  pub reached-lists : (j : Judgement) (a : Account) → GetsTo lists d j a → keys_of j.lists ≡ keys_of a.lists
+  reached-lists j a reached = keys-both (stands-reached j a reached).beside.lists
+
+  -- what is reached follows from the start
+  pub reaches-follows : (j : Judgement) (a : Account) → GetsTo lists d j a
+      → Follows lists no_amounts (start_of lists no_amounts d) j
+  reaches-follows _ _ reaching.start = following.first
+  reaches-follows k b (reaching.next {j} {a = a} n after before there row among) =
+      following.next after (reaches-follows j a before) row (paired-first after (accounts_after lists n a) k b among)
+
+  -- and what follows from the start is reached
+  pub follows-reaches : (j : Judgement) → Follows lists no_amounts (start_of lists no_amounts d) j
+      → (a : Account) × GetsTo lists d j a
+  follows-reaches _ following.first = (start_account d, reaching.start)
+  follows-reaches k (following.next {j} after before row among) =
+      let (a, reached) = follows-reaches j before in
+      let (n, there, says) = row-at row in
+      let s = stands-reached j a reached in
+      let (b, paired) = its-account k (each-beside formed s.judgement s.beside row there row) among in
+      (b, reaching.next n after reached there row paired)
+
+  -- no instruction leads up to the first one
+  never-above : (j : Judgement) (a : Account) → GetsTo lists d j a → j.code.0 ≤ d.first.0
+  never-above _ _ reaching.start = omega arith
+  never-above k b (reaching.next {j} {a = a} n after before there row among) =
+      let lower = row-descends formed row (paired-first after (accounts_after lists n a) k b among) in
+      omega (arith, lower, never-above j a before)
+
+  -- so none leads to it
+  not-first : (k : Judgement) (b : Account) {j : Judgement} {a : Account} (n : CodeNode) (after : List Judgement)
+      → GetsTo lists d j a → Row lists no_amounts j after → Contains (zip after (accounts_after lists n a)) (k, b)
+      → k.code ≡ d.first → ⊥
+  not-first k b {j} {a} n after before row among first =
+      let lower = row-descends formed row (paired-first after (accounts_after lists n a) k b among) in
+      omega (arith, lower, never-above j a before, ap (λ (c : CodeId). c.0) first)
+
+  -- at a place one judgement is reached, with one account
+  pub reaches-unique : (j k : Judgement) (a b : Account) → GetsTo lists d j a → GetsTo lists d k b → j.code ≡ k.code
+      → (j ≡ k) × (a ≡ b)
+  reaches-unique _ _ _ _ reaching.start reaching.start same = (refl, refl)
+  reaches-unique _ k _ b reaching.start (reaching.next n after before there row among) same =
+      absurd (not-first k b n after before row among (sym same))
+  reaches-unique j _ a _ (reaching.next n after before there row among) reaching.start same =
+      absurd (not-first j a n after before row among same)
+  reaches-unique j k a b (reaching.next {j = i} {a = c} n after before there row among)
+      (reaching.next {j = l} {a = e} m later before_too there_too row_too among_too) same =
+      let at_one : i.code ≡ l.code =
+      one-behind formed.program row (paired-first after (accounts_after lists n c) j a among) row_too
+      (paired-first later (accounts_after lists m e) k b among_too) same
+      in
+      let (judgements, accounts) = reaches-unique i l c e before before_too at_one in
+      let node : m ≡ n = cc in
+      let row_here : Row lists no_amounts i later =
+      subst (λ (s : Judgement). Row lists no_amounts s later) (sym judgements) row_too
+      in
+      let afters : later ≡ after = row-unique no_amounts formed.program row_here row in
+      let Paired : List Judgement → List Account → Type 0 = λ js bs. Contains (zip js bs) (k, b) in
+      let with_node : Paired later (accounts_after lists n e) =
+      subst (λ (q : CodeNode). Paired later (accounts_after lists q e)) node among_too
+      in
+      let with_account : Paired later (accounts_after lists n c) =
+      subst (λ (q : Account). Paired later (accounts_after lists n q)) (sym accounts) with_node
+      in
+      let here : Paired after (accounts_after lists n c) =
+      subst (λ (js : List Judgement). Paired js (accounts_after lists n c)) afters with_account
+      in
+      let s = stands-reached i c before in
+      let firsts = judgements-paired (each-beside formed s.judgement s.beside row there row) in
+      let pairs = zip after (accounts_after lists n c) in
+      pair-parts j k a b
+      (one-at_place formed.program (λ (q : Judgement × Account). q.0) pairs after (j, a)
+      (k, b) row firsts among here same)

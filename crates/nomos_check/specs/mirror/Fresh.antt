@@ -1,0 +1,10 @@
+-- A mirror of the code: what stands before anything is gathered.
+use Rattle.std.specs.Prelude.{◌≡◌, [], None}
+use Rattle.nomos_check.specs.declared.walk.Walk.{Walk}
+
+-- nothing was gathered, and nothing is left to do
+pub record IsFresh (w : Walk) : Type 0 where
+  pub forms : w.forms.items ≡ []
+  pub pairs : w.asked.pairs.items ≡ []
+  pub stuck : w.stuck ≡ None
+  pub todo : w.todo ≡ []

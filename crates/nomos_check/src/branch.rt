@@ -1,0 +1,74 @@
+//! Where a way of an instruction begins.
+ghost use Rattle.std.specs.Prelude.{◌≡◌, ℕ, IfOk, OnOk};
+ghost use Rattle.nomos_check.specs.Account.{Account};
+ghost use Rattle.nomos_check.specs.mirror.Standing.{shape_of, HasAccount, way_shape, way_account};
+ghost use Rattle.nomos_check.specs.mirror.Ways.{HasWayRoom, GoesWay};
+ghost use Rattle.nomos_check.specs.declared.standing.Way.{Way};
+
+use crate::channels::go_on;
+use crate::standing::{Parts, Standing, Way};
+use std::alloc::{AllocError, Global};
+
+/// The same once more.
+fn copy_of(alloc: Global, now: &Standing) -> Result<Standing, AllocError>
+    ensures { IfOk result (λ s. s ≡ now.now) }
+{
+    let kinds = now.kinds.copy()?;
+    let lists = now.lists.copy()?;
+    let shared = now.shared.copy()?;
+    let linear = now.linear.copy()?;
+    let potential = now.potential.copy(alloc)?;
+    Ok(Standing {
+        mode: now.mode,
+        kinds,
+        lists,
+        shared,
+        linear,
+        potential,
+        code: now.code,
+        offers: now.offers,
+    })
+}
+
+/// The list is taken apart.
+fn take_parts(now: &mut Standing, parts: Parts) -> Result<(), AllocError>
+    requires { HasWayRoom now.old (Way.Full parts) }
+    ensures { OnOk result (GoesWay now.old (Way.Full parts) now.new) }
+{
+    now.lists.unbind(parts.list);
+    now.lists.bind(parts.tail, parts.carried)?;
+    now.kinds.bind(parts.head, parts.carried.kind)?;
+    now.potential.gain(parts.carried.amount);
+    now.code = parts.next;
+    Ok(())
+}
+
+/// The process goes the way.
+fn go_way(now: &mut Standing, way: Way) -> Result<(), AllocError>
+    requires { HasWayRoom now.old way }
+    ensures { OnOk result (GoesWay now.old way now.new) }
+{
+    match way {
+        Way::Label(c, t, next) => go_on(now, c, t, next),
+        Way::Truth(next) => {
+            now.code = next;
+            Ok(())
+        }
+        Way::Empty(w, next) => {
+            now.lists.unbind(w);
+            now.code = next;
+            Ok(())
+        }
+        Way::Full(parts) => take_parts(now, parts),
+    }
+}
+
+/// What the process has in hand where the way begins.
+pub(crate) fn along(alloc: Global, before: &Standing, way: Way) -> Result<Standing, AllocError>
+    requires { HasWayRoom before.now way }
+    ensures { IfOk result (GoesWay before.now way) }
+{
+    let mut now = copy_of(alloc, before)?;
+    go_way(&mut now, way)?;
+    Ok(now)
+}

@@ -1,0 +1,80 @@
+//! The potential of a process as a form over stars.
+ghost use Rattle.std.specs.Prelude.{◌≡◌, ℕ, IfOk};
+ghost use Rattle.nomos_ir.specs.declared.amount.Amount.{Amount};
+ghost use Rattle.nomos_check.specs.Account.{Account, gains, spends, form_of};
+ghost use Rattle.nomos_check.specs.mirror.Limits.{HasRoom};
+ghost use Rattle.nomos_check.specs.mirror.Nothing.{no_account};
+
+use nomos_forms::form::Form;
+use nomos_ir::amount::Amount;
+use nomos_ir::items::Items;
+use std::alloc::{AllocError, Global};
+use std::marker::Model;
+
+/// The potential of a process, which contracts see as a form: what was gained less what was spent.
+#[derive(Drop)]
+pub(crate) struct Potential {
+    coefs: Vec<i64>,
+    plus: i64,
+}
+
+impl Model for Potential {
+    ghost use Rattle.nomos_forms.specs.declared.form.Form.{Form};
+
+    ghost Value = { Form };
+
+    ghost view = { λ p. record { coefs = p.coefs.items; plus = p.plus } };
+}
+
+impl Potential {
+    /// No potential, over this many stars.
+    pub(crate) fn none(alloc: Global, stars: u16) -> Result<Potential, AllocError>
+        ensures { IfOk result (λ p. p ≡ form_of stars no_account) }
+    {
+        let coefs = vec![in alloc; 0i64; usize::from(stars)]?;
+        Ok(Potential { coefs, plus: 0 })
+    }
+
+    /// The amount is gained.
+    pub(crate) fn gain(&mut self, amount: Amount)
+        requires { HasRoom self.old amount }
+        ensures { (n : ℕ) (a : Account) → self.old ≡ form_of n a → self.new ≡ form_of n (gains amount a) }
+    {
+        match amount {
+            Amount::Written(units) => self.plus += i64::from(units),
+            Amount::Star(star) => self.coefs[usize::from(star) - 1] += 1,
+        }
+    }
+
+    /// The amount is spent.
+    pub(crate) fn spend(&mut self, amount: Amount)
+        requires { HasRoom self.old amount }
+        ensures { (n : ℕ) (a : Account) → self.old ≡ form_of n a → self.new ≡ form_of n (spends amount a) }
+    {
+        match amount {
+            Amount::Written(units) => self.plus -= i64::from(units),
+            Amount::Star(star) => self.coefs[usize::from(star) - 1] -= 1,
+        }
+    }
+
+    /// The same potential once more.
+    pub(crate) fn copy(&self, alloc: Global) -> Result<Potential, AllocError>
+        ensures { IfOk result (λ p. p ≡ self.now) }
+    {
+        Ok(Potential {
+            coefs: Vec::from_slice(alloc, self.coefs.as_slice())?,
+            plus: self.plus,
+        })
+    }
+
+    /// The form.
+    pub(crate) fn into_form(self) -> Form
+        ensures { result ≡ self }
+    {
+        let Potential { coefs, plus } = self;
+        Form {
+            coefs: Items::of_vec(coefs),
+            plus,
+        }
+    }
+}

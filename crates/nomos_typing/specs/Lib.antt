@@ -1,6 +1,0 @@
-pub mod Account
-pub mod Accounting
-pub mod Reaching
-pub mod Asking
-pub mod Checking
-pub mod mirror
