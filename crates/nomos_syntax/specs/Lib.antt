@@ -2,8 +2,6 @@ pub mod Lexeme
 pub mod Naming
 pub mod Spelling
 pub mod Scan
-pub mod Tree
-pub mod Print
 pub mod Limits
 pub mod Spans
 pub mod Found

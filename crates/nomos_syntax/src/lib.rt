@@ -1,4 +1,4 @@
-// The tokens of a contract text, and the trees that the grammar gives to lists of tokens.
+//! The tokens of a contract text.
 #![tactic(auto)]
 
 mod bytes;
