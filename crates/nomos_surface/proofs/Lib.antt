@@ -11,7 +11,10 @@ pub mod RoomLemmas
 pub mod StepFound
 pub mod StepLemmas
 pub mod TermFound
+pub mod TermsWalked
 pub mod TreeLaws
 pub mod TypeFound
+pub mod TypesWalked
+pub mod Walked
 pub mod Yields
 pub mod ParsingLaws
