@@ -1,9 +1,12 @@
 pub mod ChainLemmas
 pub mod CodeFound
+pub mod CodesWalked
+pub mod CountedLaws
 pub mod Examples
 pub mod FileFound
 pub mod Fitting
 pub mod Found
+pub mod ListsWalked
 pub mod Makes
 pub mod PartedLemmas
 pub mod PrintLaws

@@ -42,7 +42,8 @@ StandsFor p printer = (rest : List Part) (after : List Shown) → Yields rest af
 
 module _ (more : Nonterminal) (item : Part) (sep : Symbol)
     (again : IsAmong (sign_part sep ∷ item ∷ the more ∷ []) (alternatives more)) (none : IsAmong [] (alternatives more)) where
-  unfoldable pub more_stand : (printers : List Printer) → Each (StandsFor item) printers → StandsFor (the more) (print_more sep printers)
+  unfoldable pub more_stand : (printers : List Printer) → Each (StandsFor item) printers →
+      StandsFor (the more) (print_more sep printers)
   more_stand [] each rest after y = chooses [] none y
   more_stand (p ∷ ps) each rest after y =
       chooses _ again (shows (suits_sign sep) (each.0 _ _ (more_stand ps each.1 rest after y)))
@@ -52,24 +53,28 @@ module _ (more : Nonterminal) (item : Part) (sep : Symbol)
       Yields (item ∷ the more ∷ rest) (print_parted sep (p ∷ ps) after)
   parted_stand p ps each rest after y = each.0 _ _ (more_stand ps each.1 rest after y)
 
-  unfoldable pub list_stand : (whole : Nonterminal) → IsAmong (item ∷ the more ∷ []) (alternatives whole) → IsAmong [] (alternatives whole) →
+  unfoldable pub list_stand : (whole : Nonterminal) → IsAmong (item ∷ the more ∷ []) (alternatives whole) →
+      IsAmong [] (alternatives whole) →
       (ps : List Printer) → Each (StandsFor item) ps → StandsFor (the whole) (print_parted sep ps)
   list_stand whole some empty [] each rest after y = chooses [] empty y
   list_stand whole some empty (p ∷ ps) each rest after y = chooses _ some (parted_stand p ps each rest after y)
 
 -- each of the printers of a list
-unfoldable pub each_mapped : {X : Type 0} (P : Printer → Type 0) (f : X → Printer) → ((x : X) → P (f x)) → (xs : List X) → Each P (map f xs)
+unfoldable pub each_mapped : {X : Type 0} (P : Printer → Type 0) (f : X → Printer) → ((x : X) → P (f x)) →
+    (xs : List X) → Each P (map f xs)
 each_mapped P f h [] = tt
 each_mapped P f h (x ∷ xs) = (h x, each_mapped P f h xs)
 
-unfoldable pub each_kept : {X : Type 0} (Q : X → Type 0) (P : Printer → Type 0) (f : X → Printer) → ((x : X) → Q x → P (f x)) →
+unfoldable pub each_kept : {X : Type 0} (Q : X → Type 0) (P : Printer → Type 0) (f : X → Printer) →
+    ((x : X) → Q x → P (f x)) →
     (xs : List X) → Each Q xs → Each P (map f xs)
 each_kept Q P f h [] each = tt
 each_kept Q P f h (x ∷ xs) each = (h x each.0, each_kept Q P f h xs each.1)
 
 -- potentials
 
-unfoldable pub quantity_stands : (at : ℕ) (q : Quantity) → StandsFor (the the_production.Amount) (λ after. print_quantity at q ∷ after)
+unfoldable pub quantity_stands : (at : ℕ) (q : Quantity) →
+    StandsFor (the the_production.Amount) (λ after. print_quantity at q ∷ after)
 quantity_stands at (quantity.Number value) rest after y = chooses _ (later first) (shows (suits_number at value) y)
 quantity_stands at quantity.Star rest after y = chooses _ first (passes (shows (suits_sign_at at sym.Star) y))
 
@@ -78,7 +83,8 @@ potential_stands q rest after y =
     chooses _ first (shows (suits_sign_at q.at sym.OpenBrace)
     (quantity_stands q.quantity_at q.quantity _ _ (shows (suits_sign sym.CloseBrace) y)))
 
-unfoldable pub optional_stands : (q : Option Potential) → StandsFor (the the_production.OptionalPotential) (print_optional q)
+unfoldable pub optional_stands : (q : Option Potential) →
+    StandsFor (the the_production.OptionalPotential) (print_optional q)
 optional_stands None rest after y = chooses _ (later first) y
 optional_stands (Some q) rest after y = chooses _ first (potential_stands q _ _ y)
 
@@ -116,12 +122,14 @@ carrying_stands sender.Client at rest after y =
     chooses _ (later first) (passes (shows (suits_sign_at at sym.Lollipop) y))
 
 -- behind the type of a value: `/\` or `->`
-unfoldable pub arrow_stands : (s : Sender) (at : ℕ) → StandsFor (the the_production.ValueArrow) (λ after. sign_at at (value_sign s) ∷ after)
+unfoldable pub arrow_stands : (s : Sender) (at : ℕ) →
+    StandsFor (the the_production.ValueArrow) (λ after. sign_at at (value_sign s) ∷ after)
 arrow_stands sender.Provider at rest after y = chooses _ first (passes (shows (suits_sign_at at sym.Wedge) y))
 arrow_stands sender.Client at rest after y = chooses _ (later first) (passes (shows (suits_sign_at at sym.Arrow) y))
 
 -- a choice, whose branches stand
-unfoldable pub choice_stands : (s : Sender) (at : ℕ) (printer : Printer) → StandsFor (the the_production.Labels) printer →
+unfoldable pub choice_stands : (s : Sender) (at : ℕ) (printer : Printer) →
+    StandsFor (the the_production.Labels) printer →
     StandsFor (the the_production.Atom) (λ after. sign_at at (choice_sign s) ∷ sign sym.OpenBrace ∷ printer (sign sym.CloseBrace ∷ after))
 choice_stands sender.Provider at printer labels rest after y =
     chooses _ (later first) (passes (shows (suits_sign_at at sym.Plus) (shows (suits_sign sym.OpenBrace)
@@ -172,7 +180,7 @@ unfoldable mutual
   pub each_branch : {branches : BranchTrees} → AreBranches branches →
       Each (StandsFor (the the_production.LabelledType)) (print_branches branches)
   each_branch (last_branch {l} {goes} is) = (labelled_stands l (print_type goes) (type_stands is), tt)
-  each_branch (more_branches {l} {goes} {branches} is more) =
+  each_branch (more_branches {l} {goes} is more) =
       (labelled_stands l (print_type goes) (type_stands is), each_branch more)
 
 -- terms
@@ -196,7 +204,8 @@ arguments_stand =
     list_stand the_production.MoreValueArguments (the the_production.Term) sym.Comma first (later first)
     the_production.ValueArguments first (later first)
 
-unfoldable pub truth_stands : (at : ℕ) (value : Bool) → StandsFor (the the_production.Primary) (λ after. keyword_at at (truth_word value) ∷ after)
+unfoldable pub truth_stands : (at : ℕ) (value : Bool) →
+    StandsFor (the the_production.Primary) (λ after. keyword_at at (truth_word value) ∷ after)
 truth_stands at true rest after y = chooses _ (later (later (later first))) (passes (shows (suits_keyword_at at word.True) y))
 truth_stands at false rest after y =
     chooses _ (later (later (later (later first)))) (passes (shows (suits_keyword_at at word.False) y))
@@ -291,7 +300,8 @@ unfoldable pub named_stands : (n : NameAt) → StandsFor NAME (print_named n)
 named_stands n rest after y = shows (suits_name n) y
 
 -- what stands for a term
-unfoldable pub is_term_stands : (t : TermTree) → IsTerm the_production.Term t → StandsFor (the the_production.Term) (print_term t)
+unfoldable pub is_term_stands : (t : TermTree) → IsTerm the_production.Term t →
+    StandsFor (the the_production.Term) (print_term t)
 is_term_stands t is = term_stands is
 
 unfoldable pub args_stand : (a : ArgTrees) → AreArguments a → StandsFor (the the_production.Arguments) (print_args a)
@@ -305,7 +315,8 @@ args_stand a are rest after y =
     (map print_named a.channels) (each_mapped (StandsFor NAME) print_named named_stands a.channels) _ _
     (shows (suits_sign sym.CloseParen) y)))))
 
-unfoldable pub potential_behind : (x : ChanAt) (q : Potential) (rest : List Part) (after : List Shown) → Yields rest after →
+unfoldable pub potential_behind : (x : ChanAt) (q : Potential) (rest : List Part) (after : List Shown) →
+    Yields rest after →
     Yields (the the_production.Channel ∷ the the_production.Potential ∷ rest) (print_chan x ∷ print_potential q after)
 potential_behind x q rest after y = chan_stands x _ _ (potential_stands q _ _ y)
 
@@ -375,7 +386,8 @@ step_stands (emit at e) is rest after y =
 -- codes
 
 -- a code stands where its last instruction does
-unfoldable pub steps_stand : (steps : List StepTree) → Each IsStep steps → (last : Printer) → StandsFor (the the_production.Last) last →
+unfoldable pub steps_stand : (steps : List StepTree) → Each IsStep steps → (last : Printer) →
+    StandsFor (the the_production.Last) last →
     StandsFor (the the_production.Code) (λ after. print_steps steps (last after))
 steps_stand [] each last stands rest after y = chooses _ first (stands _ _ y)
 steps_stand (step ∷ steps) each last stands rest after y =
@@ -458,7 +470,8 @@ unfoldable pub value_par_stands : (p : ValuePar) → StandsFor (the the_producti
 value_par_stands p rest after y =
     chooses _ first (shows (suits_name p.name) (shows (suits_sign sym.Colon) (value_type_stands p.value _ _ y)))
 
-unfoldable pub chan_par_stands : (p : ChanParTree) → IsChanPar p → StandsFor (the the_production.ChannelParameter) (print_chan_par p)
+unfoldable pub chan_par_stands : (p : ChanParTree) → IsChanPar p →
+    StandsFor (the the_production.ChannelParameter) (print_chan_par p)
 chan_par_stands p is rest after y =
     chooses _ first (shows (suits_name p.name) (shows (suits_sign sym.Colon) (type_stands is _ _ y)))
 
@@ -484,7 +497,8 @@ value_pars_stand pars =
     (map print_value_par pars)
     (each_mapped (StandsFor (the the_production.FunctionParameter)) print_value_par value_par_stands pars)
 
-unfoldable pub mode_stands : (m : OfferedMode) → StandsFor (the the_production.DefinitionMode) (λ after. keyword (mode_word m) ∷ after)
+unfoldable pub mode_stands : (m : OfferedMode) →
+    StandsFor (the the_production.DefinitionMode) (λ after. keyword (mode_word m) ∷ after)
 mode_stands mode.R rest after y = chooses _ first (shows (suits_keyword word.R) y)
 mode_stands mode.S rest after y = chooses _ (later first) (shows (suits_keyword word.S) y)
 mode_stands mode.L rest after y = chooses _ (later (later first)) (shows (suits_keyword word.L) y)
@@ -512,18 +526,21 @@ decl_stands (transaction at n pars q body) is rest after y =
     (shows (suits_keyword word.T) (shows (suits_name n) (pars_stand pars is.0 _ _ (optional_stands q _ _
     (body_stands body is.1 _ _ y))))))))
 
-unfoldable pub decls_stand : (ds : List DeclTree) → Each IsDecl ds → StandsFor (the the_production.Declarations) (print_decls ds)
+unfoldable pub decls_stand : (ds : List DeclTree) → Each IsDecl ds →
+    StandsFor (the the_production.Declarations) (print_decls ds)
 decls_stand [] each rest after y = chooses [] (later first) y
 decls_stand (d ∷ ds) each rest after y = chooses _ first (decl_stands d each.0 _ _ (decls_stand ds each.1 _ _ y))
 
 -- files
 
-unfoldable pub model_stands : (m : CostModel) → StandsFor (the the_production.CostModel) (λ after. keyword (cost_word m) ∷ after)
+unfoldable pub model_stands : (m : CostModel) →
+    StandsFor (the the_production.CostModel) (λ after. keyword (cost_word m) ∷ after)
 model_stands cost.Ticks rest after y = chooses _ first (shows (suits_keyword word.Ticks) y)
 model_stands cost.Sends rest after y = chooses _ (later first) (shows (suits_keyword word.Sends) y)
 model_stands cost.All rest after y = chooses _ (later (later first)) (shows (suits_keyword word.All) y)
 
-unfoldable pub file_stand : (c : Option CostLine) (ds : List DeclTree) → Each IsDecl ds → Yields file (print_cost c (print_decls ds []))
+unfoldable pub file_stand : (c : Option CostLine) (ds : List DeclTree) → Each IsDecl ds →
+    Yields file (print_cost c (print_decls ds []))
 file_stand None [] each = chooses [] (later (later first)) ends
 file_stand None (d ∷ ds) each =
     chooses _ (later first) (decl_stands d each.0 _ _ (decls_stand ds each.1 [] [] ends))

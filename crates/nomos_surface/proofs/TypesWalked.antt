@@ -1,17 +1,16 @@
 -- What counts where potentials, value types and types are printed, and that lists in lists are not too deep there.
-use Rattle.std.proofs.Common.{◌≡◌, ◌≤◌, ◌+◌, ℕ, List, [], ◌∷◌, length, Option, Some, None, refl, arith}
+use Rattle.std.proofs.Common.{◌≤◌, ◌+◌, ℕ, List, [], ◌∷◌, length, Option, Some, None, arith}
 use Rattle.nomos_grammar.specs.declared.part.Part.{Part}
 use Rattle.nomos_grammar.specs.declared.part.Nonterminal.{Nonterminal}
 use Rattle.nomos_grammar.specs.declared.part.Nonterminal.TheVariants as the_production
 use Rattle.nomos_grammar.specs.Counting.{Counts}
 use Rattle.nomos_grammar.specs.Grammar.{the, CLOSE}
-use Rattle.nomos_grammar.proofs.LimitLaws.{IsWithinLimits}
 use Rattle.nomos_ir.specs.declared.kind.Base.{Base}
 use Rattle.nomos_ir.specs.declared.kind.Base.TheVariants as base
 use Rattle.nomos_surface.proofs.PrintLaws.{StandsFor, quantity_stands, potential_stands, optional_stands, lists_stand, value_type_stands, payment_stands, carrying_stands, arrow_stands, choice_stands, labelled_stands, more_stand, more_labels, type_stands, branches_stand, each_branch}
-use Rattle.nomos_surface.proofs.Walked.{Keeps, total, Adds, none, one_node, one_star, joined, regrouped, Walked, WalksFor}
+use Rattle.nomos_surface.proofs.Walked.{Keeps, none, one_node, one_star, joined, regrouped, Walked, WalksFor}
 use Rattle.nomos_surface.proofs.Yields.{Yields}
-use Rattle.nomos_surface.specs.Counts.{Count, nothing, nodes, ◌⊕◌, in_quantity, in_potential, in_optional, in_value_type, in_type, in_branches}
+use Rattle.nomos_surface.specs.Counts.{Count, nodes, ◌⊕◌, in_quantity, in_potential, in_optional, in_value_type, in_type, in_branches}
 use Rattle.nomos_surface.specs.declared.potential.Potential.{Potential}
 use Rattle.nomos_surface.specs.declared.potential.Quantity.{Quantity}
 use Rattle.nomos_surface.specs.declared.potential.Quantity.TheVariants as quantity
@@ -55,8 +54,12 @@ lists_walk [] at base.Bool rest after y c k =
     record { fact = omega (arith, k.0.nesting); behind = _; keeps = k.1; adds = one_node }
 lists_walk (l ∷ lists) at b rest after y c k =
     let r = lists_walk lists at b _ _ _ _ k.1 in
-    record { fact = omega (arith, r.fact); behind = _; keeps = r.keeps;
-        adds = record { nodes = omega (arith, r.adds.nodes); stars = omega (arith, r.adds.stars) } }
+    record {
+      fact = omega (arith, r.fact);
+      behind = _;
+      keeps = r.keeps;
+      adds = record { nodes = omega (arith, r.adds.nodes); stars = omega (arith, r.adds.stars) };
+    }
 
 pub value_type_walks : (t : ValueType) → WalksFor (value_type_stands t) (in_value_type t) (ShallowValueType t)
 unfolding value_type_stands
@@ -94,7 +97,8 @@ arrow_walks sender.Client at rest after y c k = record { fact = tt; behind = _; 
 
 -- the branches behind the sign of a choice
 choice_walks : (s : Sender) (at : ℕ) (printer : Printer) (labels : StandsFor (the the_production.Labels) printer)
-    (count : Count) (Fact : Type 0) → WalksFor labels count Fact → WalksFor (choice_stands s at printer labels) (nodes 1 ⊕ count) Fact
+    (count : Count) (Fact : Type 0) → WalksFor labels count Fact →
+    WalksFor (choice_stands s at printer labels) (nodes 1 ⊕ count) Fact
 unfolding choice_stands
 choice_walks sender.Provider at printer labels count Fact walks rest after y c k =
     let r = walks _ _ _ _ k.1.1 in
@@ -105,7 +109,9 @@ choice_walks sender.Client at printer labels count Fact walks rest after y c k =
 
 mutual
   unfolding in_type type_stands branches_stand each_branch labelled_stands more_labels more_stand
-  pub type_walks : {n : Nonterminal} {t : TypeTree} (is : IsType n t) → WalksFor (type_stands is) (in_type t) (ShallowType t)
+
+  pub type_walks : {n : Nonterminal} {t : TypeTree} (is : IsType n t) →
+      WalksFor (type_stands is) (in_type t) (ShallowType t)
   type_walks (is_up goes) rest after y c k =
       let r = type_walks goes _ _ _ _ k.1 in
       record { fact = r.fact; behind = _; keeps = r.keeps; adds = joined one_node r.adds }
@@ -115,7 +121,8 @@ mutual
   type_walks (is_paying {s} {at} {q} goes) rest after y c k =
       let p = payment_walks s at q _ _ _ _ k in
       let r = type_walks goes _ _ _ _ p.keeps in
-      record { fact = (p.fact, r.fact); behind = _; keeps = r.keeps; adds = regrouped (nodes 1) (in_potential q) p.adds r.adds }
+      record
+      { fact = (p.fact, r.fact); behind = _; keeps = r.keeps; adds = regrouped (nodes 1) (in_potential q) p.adds r.adds }
   type_walks (is_valued {s} {at} {value} goes) rest after y c k =
       let v = value_type_walks value _ _ _ _ k in
       let a = arrow_walks s at _ _ _ _ v.keeps in
@@ -132,7 +139,8 @@ mutual
   type_walks (is_one {at}) rest after y c k = record { fact = tt; behind = _; keeps = k.1; adds = one_node }
   type_walks (is_named {n}) rest after y c k = record { fact = tt; behind = _; keeps = k.1; adds = one_node }
   type_walks (is_choice {s} {at} {branches = several} are) rest after y c k =
-      choice_walks s at _ (branches_stand are) (in_branches several) (ShallowBranches several) (branches_walk are) rest after y c k
+      choice_walks s at _ (branches_stand are) (in_branches several) (ShallowBranches several) (branches_walk are) rest
+      after y c k
   type_walks (is_grouped inner) rest after y c k =
       let r = type_walks inner _ _ _ _ k.1 in
       record { fact = r.fact; behind = _; keeps = r.keeps.1; adds = r.adds }

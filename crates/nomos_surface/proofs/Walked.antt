@@ -1,5 +1,5 @@
 -- What counts at the tokens that parts yield, and what counts behind them.
-use Rattle.std.proofs.Common.{◌≡◌, ◌≤◌, ◌+◌, ℕ, List, [], ◌∷◌, ◌++◌, refl, sym, ap, subst, ◌∙◌, arith}
+use Rattle.std.proofs.Common.{◌≡◌, ◌+◌, List, [], ◌∷◌, ◌++◌, refl, sym, ap, subst, ◌∙◌, arith}
 use Rattle.nomos_grammar.specs.declared.part.Part.{Part}
 use Rattle.nomos_grammar.specs.Counting.{Counts, nothing_counted, after_mark, after_token, counts_from}
 use Rattle.nomos_grammar.specs.Derivation.{Event, token, mark, tokens_in, Derives, file}
@@ -18,19 +18,22 @@ Keeps (shows suits y) c = IsWithinLimits c × Keeps y (after_token c)
 Keeps (passes {m} y) c = Keeps y (after_mark m c)
 Keeps (chooses side among y) c = Keeps y c
 
-keeps_from : {parts : List Part} {after : List Shown} (y : Yields parts after) (tokens : List Placed) (h : Spells after tokens)
+keeps_from : {parts : List Part} {after : List Shown} (y : Yields parts after) (tokens : List Placed)
+    (h : Spells after tokens)
     (c : Counts) →
     ((earlier later : List Event) (x : Placed) → (yields-derives y tokens h).0 ≡ earlier ++ token x ∷ later →
-        IsWithinLimits (counts_from c earlier)) → Keeps y c
+    IsWithinLimits (counts_from c earlier)) → Keeps y c
 unfolding yields-derives
 keeps_from ends tokens h c all = tt
 keeps_from (shows suits y) [] h c all = absurd h
-keeps_from (shows suits y) (x ∷ tokens) h c all =
-    (all [] _ x refl, keeps_from y tokens h.1 (after_token c)
-        (λ earlier later z e. all (token x ∷ earlier) later z (ap (λ (es : List Event). token x ∷ es) e)))
+keeps_from (shows suits y) (x ∷ tokens) h c all = (
+  all [] _ x refl,
+  keeps_from y tokens h.1 (after_token c)
+      (λ earlier later z e. all (token x ∷ earlier) later z (ap (λ (es : List Event). token x ∷ es) e)),
+)
 keeps_from (passes {m} y) tokens h c all =
     keeps_from y tokens h (after_mark m c)
-        (λ earlier later z e. all (mark m ∷ earlier) later z (ap (λ (es : List Event). mark m ∷ es) e))
+    (λ earlier later z e. all (mark m ∷ earlier) later z (ap (λ (es : List Event). mark m ∷ es) e))
 keeps_from (chooses side among y) tokens h c all = keeps_from y tokens h c all
 
 -- in a file whose tokens keep to all rules it is so from the beginning
@@ -39,8 +42,8 @@ pub file_keeps : {shown : List Shown} (y : Yields file shown) (tokens : List Pla
 file_keeps y tokens spelled kept =
     let d = yields-derives y tokens spelled in
     keeps_from y tokens spelled nothing_counted (λ earlier later x e.
-        kept_within tokens earlier later x kept (subst (λ (es : List Event). Derives file es) e d.1)
-            (ap tokens_in (sym e) ∙ d.2))
+    kept_within tokens earlier later x kept (subst (λ (es : List Event). Derives file es) e d.1)
+    (ap tokens_in (sym e) ∙ d.2))
 
 -- the nodes and the stars that count at a place
 abbrev pub total : Counts → Count
@@ -65,7 +68,8 @@ joined {a} {b} {c} {d} {e} first second =
     record { nodes = omega (arith, first.nodes, second.nodes); stars = omega (arith, first.stars, second.stars) }
 
 -- what holds of the tree, and what counts behind it
-pub record Walked (count : Count) (Fact : Type 0) {parts : List Part} {after : List Shown} (y : Yields parts after) (c : Counts) :
+pub record Walked (count : Count) (Fact : Type 0) {parts : List Part} {after : List Shown} (y : Yields parts after)
+    (c : Counts) :
     Type 0 where
   pub fact : Fact
   pub behind : Counts
@@ -90,4 +94,9 @@ ended {b} {c} {d} {e} first second =
 
 pub regrouped : (a b : Count) {d x y z : Count} → Adds (a ⊕ b) x y → Adds d y z → Adds (a ⊕ (b ⊕ d)) x z
 regrouped a b {d} {x} {y} {z} first second =
+    record { nodes = omega (arith, first.nodes, second.nodes); stars = omega (arith, first.stars, second.stars) }
+
+-- what is counted in two parts may be counted with the part before
+pub grouped : {a : Count} (b d : Count) {x y z : Count} → Adds a x y → Adds (b ⊕ d) y z → Adds ((a ⊕ b) ⊕ d) x z
+grouped {a} b d {x} {y} {z} first second =
     record { nodes = omega (arith, first.nodes, second.nodes); stars = omega (arith, first.stars, second.stars) }
