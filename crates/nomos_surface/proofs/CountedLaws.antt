@@ -246,7 +246,7 @@ file_walks (Some c) ds are k =
     let m = decls_walk ds are _ _ _ _ none_few (model_keeps c.model _ _ _ _ k.1).1 in
     (counted_few m.walked.adds m.few_behind, m.walked.fact)
 
--- In a file that keeps to all rules the tree has as many nodes and stars as are allowed, and lists nest as deep.
+-- In a file that keeps to all rules the tree has no more nodes and stars than are allowed, and lists nest no deeper.
 pub counted-within : (tree : FileTree) → IsGrammatical tree → (tokens : List Placed) → Spells (print_file tree) tokens →
     AllKeep [] tokens →
     ((in_file tree).nodes ≤ node_limit) × ((in_file tree).stars ≤ star_limit) × Each ShallowDecl tree.decls
