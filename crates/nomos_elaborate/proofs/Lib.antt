@@ -19,3 +19,4 @@ pub mod FileLaws
 pub mod AnswerLaws
 pub mod Examples
 pub mod CountLaws
+pub mod DistinctNames
