@@ -20,3 +20,6 @@ pub mod AnswerLaws
 pub mod Examples
 pub mod CountLaws
 pub mod DistinctNames
+pub mod KeptLabels
+pub mod TypeLabels
+pub mod CodeLabels
