@@ -23,3 +23,4 @@ pub mod DistinctNames
 pub mod KeptLabels
 pub mod TypeLabels
 pub mod CodeLabels
+pub mod ParameterNames
