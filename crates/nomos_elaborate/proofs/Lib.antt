@@ -24,3 +24,4 @@ pub mod KeptLabels
 pub mod TypeLabels
 pub mod CodeLabels
 pub mod ParameterNames
+pub mod NamingLaws
