@@ -19,3 +19,9 @@ pub mod FileLaws
 pub mod AnswerLaws
 pub mod Examples
 pub mod CountLaws
+pub mod DistinctNames
+pub mod KeptLabels
+pub mod TypeLabels
+pub mod CodeLabels
+pub mod ParameterNames
+pub mod NamingLaws
