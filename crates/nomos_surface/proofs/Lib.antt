@@ -4,6 +4,8 @@ pub mod Examples
 pub mod FileFound
 pub mod Fitting
 pub mod Found
+pub mod KeptLaws
+pub mod LimitLaws
 pub mod Makes
 pub mod PartedLemmas
 pub mod PrintLaws
