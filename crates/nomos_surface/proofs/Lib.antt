@@ -4,8 +4,6 @@ pub mod Examples
 pub mod FileFound
 pub mod Fitting
 pub mod Found
-pub mod KeptLaws
-pub mod LimitLaws
 pub mod Makes
 pub mod PartedLemmas
 pub mod PrintLaws
@@ -17,3 +15,5 @@ pub mod TreeLaws
 pub mod TypeFound
 pub mod Yields
 pub mod ParsingLaws
+pub mod KeptLaws
+pub mod LimitLaws
