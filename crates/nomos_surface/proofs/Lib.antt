@@ -1,9 +1,12 @@
 pub mod ChainLemmas
 pub mod CodeFound
+pub mod CodesWalked
+pub mod CountedLaws
 pub mod Examples
 pub mod FileFound
 pub mod Fitting
 pub mod Found
+pub mod ListsWalked
 pub mod Makes
 pub mod PartedLemmas
 pub mod PrintLaws
@@ -11,8 +14,11 @@ pub mod RoomLemmas
 pub mod StepFound
 pub mod StepLemmas
 pub mod TermFound
+pub mod TermsWalked
 pub mod TreeLaws
 pub mod TypeFound
+pub mod TypesWalked
+pub mod Walked
 pub mod Yields
 pub mod ParsingLaws
 pub mod KeptLaws

@@ -42,49 +42,55 @@ StandsFor p printer = (rest : List Part) (after : List Shown) → Yields rest af
 
 module _ (more : Nonterminal) (item : Part) (sep : Symbol)
     (again : IsAmong (sign_part sep ∷ item ∷ the more ∷ []) (alternatives more)) (none : IsAmong [] (alternatives more)) where
-  pub more_stand : (printers : List Printer) → Each (StandsFor item) printers → StandsFor (the more) (print_more sep printers)
+  unfoldable pub more_stand : (printers : List Printer) → Each (StandsFor item) printers →
+      StandsFor (the more) (print_more sep printers)
   more_stand [] each rest after y = chooses [] none y
   more_stand (p ∷ ps) each rest after y =
       chooses _ again (shows (suits_sign sep) (each.0 _ _ (more_stand ps each.1 rest after y)))
 
-  pub parted_stand : (p : Printer) (ps : List Printer) → Each (StandsFor item) (p ∷ ps) →
+  unfoldable pub parted_stand : (p : Printer) (ps : List Printer) → Each (StandsFor item) (p ∷ ps) →
       (rest : List Part) (after : List Shown) → Yields rest after →
       Yields (item ∷ the more ∷ rest) (print_parted sep (p ∷ ps) after)
   parted_stand p ps each rest after y = each.0 _ _ (more_stand ps each.1 rest after y)
 
-  pub list_stand : (whole : Nonterminal) → IsAmong (item ∷ the more ∷ []) (alternatives whole) → IsAmong [] (alternatives whole) →
+  unfoldable pub list_stand : (whole : Nonterminal) → IsAmong (item ∷ the more ∷ []) (alternatives whole) →
+      IsAmong [] (alternatives whole) →
       (ps : List Printer) → Each (StandsFor item) ps → StandsFor (the whole) (print_parted sep ps)
   list_stand whole some empty [] each rest after y = chooses [] empty y
   list_stand whole some empty (p ∷ ps) each rest after y = chooses _ some (parted_stand p ps each rest after y)
 
 -- each of the printers of a list
-pub each_mapped : {X : Type 0} (P : Printer → Type 0) (f : X → Printer) → ((x : X) → P (f x)) → (xs : List X) → Each P (map f xs)
+unfoldable pub each_mapped : {X : Type 0} (P : Printer → Type 0) (f : X → Printer) → ((x : X) → P (f x)) →
+    (xs : List X) → Each P (map f xs)
 each_mapped P f h [] = tt
 each_mapped P f h (x ∷ xs) = (h x, each_mapped P f h xs)
 
-pub each_kept : {X : Type 0} (Q : X → Type 0) (P : Printer → Type 0) (f : X → Printer) → ((x : X) → Q x → P (f x)) →
+unfoldable pub each_kept : {X : Type 0} (Q : X → Type 0) (P : Printer → Type 0) (f : X → Printer) →
+    ((x : X) → Q x → P (f x)) →
     (xs : List X) → Each Q xs → Each P (map f xs)
 each_kept Q P f h [] each = tt
 each_kept Q P f h (x ∷ xs) each = (h x each.0, each_kept Q P f h xs each.1)
 
 -- potentials
 
-quantity_stands : (at : ℕ) (q : Quantity) → StandsFor (the the_production.Amount) (λ after. print_quantity at q ∷ after)
+unfoldable pub quantity_stands : (at : ℕ) (q : Quantity) →
+    StandsFor (the the_production.Amount) (λ after. print_quantity at q ∷ after)
 quantity_stands at (quantity.Number value) rest after y = chooses _ (later first) (shows (suits_number at value) y)
 quantity_stands at quantity.Star rest after y = chooses _ first (passes (shows (suits_sign_at at sym.Star) y))
 
-pub potential_stands : (q : Potential) → StandsFor (the the_production.Potential) (print_potential q)
+unfoldable pub potential_stands : (q : Potential) → StandsFor (the the_production.Potential) (print_potential q)
 potential_stands q rest after y =
     chooses _ first (shows (suits_sign_at q.at sym.OpenBrace)
     (quantity_stands q.quantity_at q.quantity _ _ (shows (suits_sign sym.CloseBrace) y)))
 
-pub optional_stands : (q : Option Potential) → StandsFor (the the_production.OptionalPotential) (print_optional q)
+unfoldable pub optional_stands : (q : Option Potential) →
+    StandsFor (the the_production.OptionalPotential) (print_optional q)
 optional_stands None rest after y = chooses _ (later first) y
 optional_stands (Some q) rest after y = chooses _ first (potential_stands q _ _ y)
 
 -- the types of values
 
-pub lists_stand : (lists : List ℕ) (at : ℕ) (b : Base) →
+unfoldable pub lists_stand : (lists : List ℕ) (at : ℕ) (b : Base) →
     StandsFor (the the_production.ValueType) (print_lists lists (keyword_at at (base_word b)))
 lists_stand [] at base.Int rest after y = chooses _ (later first) (passes (passes (shows (suits_keyword_at at word.Int) (passes y))))
 lists_stand [] at base.Bool rest after y =
@@ -92,12 +98,12 @@ lists_stand [] at base.Bool rest after y =
 lists_stand (l ∷ lists) at b rest after y =
     chooses _ first (passes (passes (shows (suits_keyword_at l word.List) (lists_stand lists at b _ _ (passes y)))))
 
-pub value_type_stands : (t : ValueType) → StandsFor (the the_production.ValueType) (print_value_type t)
+unfoldable pub value_type_stands : (t : ValueType) → StandsFor (the the_production.ValueType) (print_value_type t)
 value_type_stands t = lists_stand t.lists t.base_at t.base
 
 -- types
 
-payment_stands : (s : Sender) (at : ℕ) (q : Potential) (rest : List Part) (after : List Shown) →
+unfoldable pub payment_stands : (s : Sender) (at : ℕ) (q : Potential) (rest : List Part) (after : List Shown) →
     Yields (the the_production.SessionType ∷ CLOSE ∷ rest) after →
     Yields (the the_production.SessionType ∷ rest) (print_payment s at q after)
 payment_stands sender.Provider at q rest after y =
@@ -108,7 +114,7 @@ payment_stands sender.Client at q rest after y =
     (potential_stands q _ _ (shows (suits_sign sym.Bar) y)))))
 
 -- behind an atom: `*` or `-o` and a type
-carrying_stands : (s : Sender) (at : ℕ) (rest : List Part) (after : List Shown) →
+unfoldable pub carrying_stands : (s : Sender) (at : ℕ) (rest : List Part) (after : List Shown) →
     Yields (the the_production.SessionType ∷ rest) after →
     Yields (the the_production.AfterAtom ∷ rest) (sign_at at (channel_sign s) ∷ after)
 carrying_stands sender.Provider at rest after y = chooses _ first (passes (shows (suits_sign_at at sym.Star) y))
@@ -116,12 +122,14 @@ carrying_stands sender.Client at rest after y =
     chooses _ (later first) (passes (shows (suits_sign_at at sym.Lollipop) y))
 
 -- behind the type of a value: `/\` or `->`
-arrow_stands : (s : Sender) (at : ℕ) → StandsFor (the the_production.ValueArrow) (λ after. sign_at at (value_sign s) ∷ after)
+unfoldable pub arrow_stands : (s : Sender) (at : ℕ) →
+    StandsFor (the the_production.ValueArrow) (λ after. sign_at at (value_sign s) ∷ after)
 arrow_stands sender.Provider at rest after y = chooses _ first (passes (shows (suits_sign_at at sym.Wedge) y))
 arrow_stands sender.Client at rest after y = chooses _ (later first) (passes (shows (suits_sign_at at sym.Arrow) y))
 
 -- a choice, whose branches stand
-choice_stands : (s : Sender) (at : ℕ) (printer : Printer) → StandsFor (the the_production.Labels) printer →
+unfoldable pub choice_stands : (s : Sender) (at : ℕ) (printer : Printer) →
+    StandsFor (the the_production.Labels) printer →
     StandsFor (the the_production.Atom) (λ after. sign_at at (choice_sign s) ∷ sign sym.OpenBrace ∷ printer (sign sym.CloseBrace ∷ after))
 choice_stands sender.Provider at printer labels rest after y =
     chooses _ (later first) (passes (shows (suits_sign_at at sym.Plus) (shows (suits_sign sym.OpenBrace)
@@ -130,16 +138,16 @@ choice_stands sender.Client at printer labels rest after y =
     chooses _ (later (later first)) (passes (shows (suits_sign_at at sym.Ampersand) (shows (suits_sign sym.OpenBrace)
     (labels _ _ (shows (suits_sign sym.CloseBrace) y)))))
 
-labelled_stands : (l : NameAt) (printer : Printer) → StandsFor (the the_production.SessionType) printer →
+unfoldable pub labelled_stands : (l : NameAt) (printer : Printer) → StandsFor (the the_production.SessionType) printer →
     StandsFor (the the_production.LabelledType) (λ after. print_name l ∷ sign sym.Colon ∷ printer after)
 labelled_stands l printer goes rest after y =
     chooses _ first (shows (suits_name l) (shows (suits_sign sym.Colon) (goes _ _ y)))
 
-more_labels : (ps : List Printer) → Each (StandsFor (the the_production.LabelledType)) ps →
+unfoldable pub more_labels : (ps : List Printer) → Each (StandsFor (the the_production.LabelledType)) ps →
     StandsFor (the the_production.MoreLabels) (print_more sym.Bar ps)
 more_labels = more_stand the_production.MoreLabels (the the_production.LabelledType) sym.Bar first (later first)
 
-mutual
+unfoldable mutual
   pub type_stands : {n : Nonterminal} {t : TypeTree} → IsType n t → StandsFor (the n) (print_type t)
   type_stands (is_up {at} goes) rest after y =
       chooses _ first (passes (passes (shows (suits_keyword_at at word.Up) (type_stands goes _ _ (passes y)))))
@@ -161,7 +169,7 @@ mutual
   type_stands (is_grouped inner) rest after y =
       chooses _ first (shows (suits_sign sym.OpenParen) (type_stands inner _ _ (shows (suits_sign sym.CloseParen) y)))
 
-  branches_stand : {branches : BranchTrees} → AreBranches branches →
+  pub branches_stand : {branches : BranchTrees} → AreBranches branches →
       StandsFor (the the_production.Labels) (print_parted sym.Bar (print_branches branches))
   branches_stand (last_branch {l} {goes} is) rest after y =
       chooses _ first (labelled_stands l (print_type goes) (type_stands is) _ _ (chooses [] (later first) y))
@@ -169,10 +177,10 @@ mutual
       chooses _ first (labelled_stands l (print_type goes) (type_stands is) _ _
       (more_labels (print_branches others) (each_branch more) _ _ y))
 
-  each_branch : {branches : BranchTrees} → AreBranches branches →
+  pub each_branch : {branches : BranchTrees} → AreBranches branches →
       Each (StandsFor (the the_production.LabelledType)) (print_branches branches)
   each_branch (last_branch {l} {goes} is) = (labelled_stands l (print_type goes) (type_stands is), tt)
-  each_branch (more_branches {l} {goes} {branches} is more) =
+  each_branch (more_branches {l} {goes} is more) =
       (labelled_stands l (print_type goes) (type_stands is), each_branch more)
 
 -- terms
@@ -190,24 +198,25 @@ abbrev pub TermStands : Nonterminal → Printer → Type 0
 TermStands n printer =
     (rest : List Part) (after : List Shown) → Yields (behind n ++ rest) after → Yields (the n ∷ rest) (printer after)
 
-arguments_stand : (ps : List Printer) → Each (StandsFor (the the_production.Term)) ps →
+unfoldable pub arguments_stand : (ps : List Printer) → Each (StandsFor (the the_production.Term)) ps →
     StandsFor (the the_production.ValueArguments) (print_parted sym.Comma ps)
 arguments_stand =
     list_stand the_production.MoreValueArguments (the the_production.Term) sym.Comma first (later first)
     the_production.ValueArguments first (later first)
 
-truth_stands : (at : ℕ) (value : Bool) → StandsFor (the the_production.Primary) (λ after. keyword_at at (truth_word value) ∷ after)
+unfoldable pub truth_stands : (at : ℕ) (value : Bool) →
+    StandsFor (the the_production.Primary) (λ after. keyword_at at (truth_word value) ∷ after)
 truth_stands at true rest after y = chooses _ (later (later (later first))) (passes (shows (suits_keyword_at at word.True) y))
 truth_stands at false rest after y =
     chooses _ (later (later (later (later first)))) (passes (shows (suits_keyword_at at word.False) y))
 
 -- `head :: tail =>`, as parts and as it is printed
-heading_stands : (head tail : NameAt) (rest : List Part) (after : List Shown) → Yields rest after →
+unfoldable pub heading_stands : (head tail : NameAt) (rest : List Part) (after : List Shown) → Yields rest after →
     Yields (NAME ∷ sign_part sym.DoubleColon ∷ NAME ∷ sign_part sym.FatArrow ∷ rest) (print_heading head tail after)
 heading_stands head tail rest after y =
     shows (suits_name head) (shows (suits_sign sym.DoubleColon) (shows (suits_name tail) (shows (suits_sign sym.FatArrow) y)))
 
-mutual
+unfoldable mutual
   pub term_stands : {n : Nonterminal} {t : TermTree} → IsTerm n t → TermStands n (print_term t)
   term_stands (is_choosing {at} test holds fails) rest after y =
       chooses _ first (passes (passes (shows (suits_keyword_at at word.If) (term_stands test _ _
@@ -277,24 +286,25 @@ mutual
       chooses _ (later (later first)) (shows (suits_sign sym.OpenParen)
       (term_stands inner _ _ (shows (suits_sign sym.CloseParen) y)))
 
-  each_term : {ts : TermTrees} → AreTerms ts → Each (StandsFor (the the_production.Term)) (print_terms ts)
+  pub each_term : {ts : TermTrees} → AreTerms ts → Each (StandsFor (the the_production.Term)) (print_terms ts)
   each_term are_none = tt
   each_term (are_more is more) = (term_stands is, each_term more)
 
 -- steps
 
-chan_stands : (x : ChanAt) → StandsFor (the the_production.Channel) (λ after. print_chan x ∷ after)
+unfoldable pub chan_stands : (x : ChanAt) → StandsFor (the the_production.Channel) (λ after. print_chan x ∷ after)
 chan_stands (chan.Own at) rest after y = chooses _ first (shows (suits_keyword_at at word.SelfWord) y)
 chan_stands (chan.Variable n) rest after y = chooses _ (later first) (shows (suits_name n) y)
 
-named_stands : (n : NameAt) → StandsFor NAME (print_named n)
+unfoldable pub named_stands : (n : NameAt) → StandsFor NAME (print_named n)
 named_stands n rest after y = shows (suits_name n) y
 
 -- what stands for a term
-is_term_stands : (t : TermTree) → IsTerm the_production.Term t → StandsFor (the the_production.Term) (print_term t)
+unfoldable pub is_term_stands : (t : TermTree) → IsTerm the_production.Term t →
+    StandsFor (the the_production.Term) (print_term t)
 is_term_stands t is = term_stands is
 
-args_stand : (a : ArgTrees) → AreArguments a → StandsFor (the the_production.Arguments) (print_args a)
+unfoldable pub args_stand : (a : ArgTrees) → AreArguments a → StandsFor (the the_production.Arguments) (print_args a)
 args_stand a are rest after y =
     chooses _ first (shows (suits_sign sym.OpenParen)
     (arguments_stand (map print_term a.values)
@@ -305,25 +315,26 @@ args_stand a are rest after y =
     (map print_named a.channels) (each_mapped (StandsFor NAME) print_named named_stands a.channels) _ _
     (shows (suits_sign sym.CloseParen) y)))))
 
-potential_behind : (x : ChanAt) (q : Potential) (rest : List Part) (after : List Shown) → Yields rest after →
+unfoldable pub potential_behind : (x : ChanAt) (q : Potential) (rest : List Part) (after : List Shown) →
+    Yields rest after →
     Yields (the the_production.Channel ∷ the the_production.Potential ∷ rest) (print_chan x ∷ print_potential q after)
 potential_behind x q rest after y = chan_stands x _ _ (potential_stands q _ _ y)
 
-name_behind : (x : ChanAt) (n : NameAt) (rest : List Part) (after : List Shown) → Yields rest after →
+unfoldable pub name_behind : (x : ChanAt) (n : NameAt) (rest : List Part) (after : List Shown) → Yields rest after →
     Yields (the the_production.Channel ∷ NAME ∷ rest) (print_chan x ∷ print_name n ∷ after)
 name_behind x n rest after y = chan_stands x _ _ (shows (suits_name n) y)
 
-name_as_name : (n m : NameAt) (rest : List Part) (after : List Shown) → Yields rest after →
+unfoldable pub name_as_name : (n m : NameAt) (rest : List Part) (after : List Shown) → Yields rest after →
     Yields (NAME ∷ keyword_part word.As ∷ NAME ∷ rest) (print_name n ∷ keyword word.As ∷ print_name m ∷ after)
 name_as_name n m rest after y = shows (suits_name n) (shows (suits_keyword word.As) (shows (suits_name m) y))
 
 -- `v =` and what is bound
-bound_stands : (v : NameAt) (rest : List Part) (after : List Shown) →
+unfoldable pub bound_stands : (v : NameAt) (rest : List Part) (after : List Shown) →
     Yields (the the_production.BoundValue ∷ rest) after →
     Yields (NAME ∷ sign_part sym.Equals ∷ the the_production.BoundValue ∷ rest) (print_name v ∷ sign sym.Equals ∷ after)
 bound_stands v rest after y = shows (suits_name v) (shows (suits_sign sym.Equals) y)
 
-pub step_stands : (step : StepTree) → IsStep step → StandsFor (the the_production.Step) (print_step step)
+unfoldable pub step_stands : (step : StepTree) → IsStep step → StandsFor (the the_production.Step) (print_step step)
 step_stands (label x l) is rest after y =
     chooses _ (later (later (later (later (later (later (later (later (later (later (later (later (later (later (later first))))))))))))))) (passes (chan_stands x _ _ (shows (suits_sign sym.Dot) (shows (suits_name l) y))))
 step_stands (send at x n) is rest after y =
@@ -375,7 +386,8 @@ step_stands (emit at e) is rest after y =
 -- codes
 
 -- a code stands where its last instruction does
-steps_stand : (steps : List StepTree) → Each IsStep steps → (last : Printer) → StandsFor (the the_production.Last) last →
+unfoldable pub steps_stand : (steps : List StepTree) → Each IsStep steps → (last : Printer) →
+    StandsFor (the the_production.Last) last →
     StandsFor (the the_production.Code) (λ after. print_steps steps (last after))
 steps_stand [] each last stands rest after y = chooses _ first (stands _ _ y)
 steps_stand (step ∷ steps) each last stands rest after y =
@@ -383,27 +395,27 @@ steps_stand (step ∷ steps) each last stands rest after y =
     (steps_stand steps each.1 last stands _ _ y)))
 
 -- `{`, a code and `}`
-braced_stands : (printer : Printer) → StandsFor (the the_production.Code) printer →
+unfoldable pub braced_stands : (printer : Printer) → StandsFor (the the_production.Code) printer →
     StandsFor (the the_production.BracedCode) (λ after. sign sym.OpenBrace ∷ printer (sign sym.CloseBrace ∷ after))
 braced_stands printer stands rest after y =
     chooses _ first (passes (shows (suits_sign sym.OpenBrace) (stands _ _ (shows (suits_sign sym.CloseBrace) (passes y)))))
 
-arm_stands : (l : NameAt) (printer : Printer) → StandsFor (the the_production.Code) printer →
+unfoldable pub arm_stands : (l : NameAt) (printer : Printer) → StandsFor (the the_production.Code) printer →
     StandsFor (the the_production.Branch) (λ after. print_name l ∷ sign sym.FatArrow ∷ printer after)
 arm_stands l printer stands rest after y =
     chooses _ first (passes (passes (shows (suits_name l) (shows (suits_sign sym.FatArrow) (stands _ _ (passes y))))))
 
-arms_parted : (p : Printer) (ps : List Printer) → Each (StandsFor (the the_production.Branch)) (p ∷ ps) →
+unfoldable pub arms_parted : (p : Printer) (ps : List Printer) → Each (StandsFor (the the_production.Branch)) (p ∷ ps) →
     StandsFor (the the_production.Branches) (print_parted sym.Bar (p ∷ ps))
 arms_parted p ps each rest after y =
     chooses _ first (parted_stand the_production.MoreBranches (the the_production.Branch) sym.Bar first (later first)
     p ps each _ _ y)
 
-mutual
+unfoldable mutual
   pub code_stands : (c : CodeTree) → IsCode c → StandsFor (the the_production.Code) (print_code c)
   code_stands (code steps last) is = steps_stand steps is.0 (print_last last) (last_stands last is.1)
 
-  last_stands : (l : LastTree) → IsLast l → StandsFor (the the_production.Last) (print_last l)
+  pub last_stands : (l : LastTree) → IsLast l → StandsFor (the the_production.Last) (print_last l)
   last_stands (close at) is rest after y =
       chooses _ (later (later (later (later (later first))))) (passes (shows (suits_keyword_at at word.Close) y))
   last_stands (fwd at x) is rest after y =
@@ -426,14 +438,14 @@ mutual
       (code_stands empty is.0 _ _ (passes (shows (suits_sign sym.Bar) (passes (heading_stands head tail _ _
       (code_stands more is.1 _ _ (passes (shows (suits_sign sym.CloseBrace) y)))))))))))))))
 
-  each_arm : (arms : ArmTrees) → AreArms arms → Each (StandsFor (the the_production.Branch)) (print_arms arms)
+  pub each_arm : (arms : ArmTrees) → AreArms arms → Each (StandsFor (the the_production.Branch)) (print_arms arms)
   each_arm no_arms are = tt
   each_arm (arm l goes arms) are = (arm_stands l (print_code goes) (code_stands goes are.0), each_arm arms are.1)
 
 -- declarations
 
 -- what stands behind the `:` of a value parameter
-kind_stands : (lists : List ℕ) (at : ℕ) (b : Base) →
+unfoldable pub kind_stands : (lists : List ℕ) (at : ℕ) (b : Base) →
     StandsFor (the the_production.ParameterKind) (print_lists lists (keyword_at at (base_word b)))
 kind_stands [] at base.Int rest after y =
     chooses _ (later first) (passes (passes (shows (suits_keyword_at at word.Int) (passes y))))
@@ -443,26 +455,27 @@ kind_stands (l ∷ lists) at b rest after y =
     chooses _ first (passes (shows (suits_keyword_at l word.List) (chooses _ (later first) (passes
     (lists_stand lists at b _ _ (passes y))))))
 
-list_potential_stands : (l : Option ListPotential) (t : ValueType) →
+unfoldable pub list_potential_stands : (l : Option ListPotential) (t : ValueType) →
     StandsFor (the the_production.ParameterKind) (λ after. print_list_potential l (print_value_type t after))
 list_potential_stands None t = kind_stands t.lists t.base_at t.base
 list_potential_stands (Some l) t = λ rest after y.
     chooses _ first (passes (shows (suits_keyword_at l.list_at word.List) (chooses _ first
     (potential_stands l.potential _ _ (value_type_stands t _ _ y)))))
 
-par_stands : (p : ProcessPar) → StandsFor (the the_production.ValueParameter) (print_par p)
+unfoldable pub par_stands : (p : ProcessPar) → StandsFor (the the_production.ValueParameter) (print_par p)
 par_stands p rest after y =
     chooses _ first (shows (suits_name p.name) (shows (suits_sign sym.Colon) (list_potential_stands p.«list» p.value _ _ y)))
 
-value_par_stands : (p : ValuePar) → StandsFor (the the_production.FunctionParameter) (print_value_par p)
+unfoldable pub value_par_stands : (p : ValuePar) → StandsFor (the the_production.FunctionParameter) (print_value_par p)
 value_par_stands p rest after y =
     chooses _ first (shows (suits_name p.name) (shows (suits_sign sym.Colon) (value_type_stands p.value _ _ y)))
 
-chan_par_stands : (p : ChanParTree) → IsChanPar p → StandsFor (the the_production.ChannelParameter) (print_chan_par p)
+unfoldable pub chan_par_stands : (p : ChanParTree) → IsChanPar p →
+    StandsFor (the the_production.ChannelParameter) (print_chan_par p)
 chan_par_stands p is rest after y =
     chooses _ first (shows (suits_name p.name) (shows (suits_sign sym.Colon) (type_stands is _ _ y)))
 
-pars_stand : (p : ParTrees) → ArePars p → StandsFor (the the_production.Parameters) (print_pars p)
+unfoldable pub pars_stand : (p : ParTrees) → ArePars p → StandsFor (the the_production.Parameters) (print_pars p)
 pars_stand p are rest after y =
     chooses _ first (shows (suits_sign sym.OpenParen)
     (list_stand the_production.MoreValueParameters (the the_production.ValueParameter) sym.Comma first (later first)
@@ -476,7 +489,7 @@ pars_stand p are rest after y =
     (each_kept IsChanPar (StandsFor (the the_production.ChannelParameter)) print_chan_par chan_par_stands p.channels are) _ _
     (shows (suits_sign sym.CloseParen) y)))))
 
-value_pars_stand : (pars : List ValuePar) →
+unfoldable pub value_pars_stand : (pars : List ValuePar) →
     StandsFor (the the_production.FunctionParameters) (print_parted sym.Comma (map print_value_par pars))
 value_pars_stand pars =
     list_stand the_production.MoreFunctionParameters (the the_production.FunctionParameter) sym.Comma first (later first)
@@ -484,17 +497,18 @@ value_pars_stand pars =
     (map print_value_par pars)
     (each_mapped (StandsFor (the the_production.FunctionParameter)) print_value_par value_par_stands pars)
 
-mode_stands : (m : OfferedMode) → StandsFor (the the_production.DefinitionMode) (λ after. keyword (mode_word m) ∷ after)
+unfoldable pub mode_stands : (m : OfferedMode) →
+    StandsFor (the the_production.DefinitionMode) (λ after. keyword (mode_word m) ∷ after)
 mode_stands mode.R rest after y = chooses _ first (shows (suits_keyword word.R) y)
 mode_stands mode.S rest after y = chooses _ (later first) (shows (suits_keyword word.S) y)
 mode_stands mode.L rest after y = chooses _ (later (later first)) (shows (suits_keyword word.L) y)
 
 -- `=`, a code and `;`
-body_stands : (c : CodeTree) → IsCode c → (rest : List Part) (after : List Shown) → Yields rest after →
+unfoldable pub body_stands : (c : CodeTree) → IsCode c → (rest : List Part) (after : List Shown) → Yields rest after →
     Yields (sign_part sym.Equals ∷ the the_production.Code ∷ sign_part sym.Semicolon ∷ rest) (print_body c after)
 body_stands c is rest after y = shows (suits_sign sym.Equals) (code_stands c is _ _ (shows (suits_sign sym.Semicolon) y))
 
-pub decl_stands : (d : DeclTree) → IsDecl d → StandsFor (the the_production.Declaration) (print_decl d)
+unfoldable pub decl_stands : (d : DeclTree) → IsDecl d → StandsFor (the the_production.Declaration) (print_decl d)
 decl_stands (definition at m n body) is rest after y =
     chooses _ first (passes (shows (suits_keyword_at at word.«Type») (mode_stands m _ _ (shows (suits_name n)
     (shows (suits_sign sym.Equals) (type_stands is _ _ (shows (suits_sign sym.Semicolon) y)))))))
@@ -512,18 +526,21 @@ decl_stands (transaction at n pars q body) is rest after y =
     (shows (suits_keyword word.T) (shows (suits_name n) (pars_stand pars is.0 _ _ (optional_stands q _ _
     (body_stands body is.1 _ _ y))))))))
 
-decls_stand : (ds : List DeclTree) → Each IsDecl ds → StandsFor (the the_production.Declarations) (print_decls ds)
+unfoldable pub decls_stand : (ds : List DeclTree) → Each IsDecl ds →
+    StandsFor (the the_production.Declarations) (print_decls ds)
 decls_stand [] each rest after y = chooses [] (later first) y
 decls_stand (d ∷ ds) each rest after y = chooses _ first (decl_stands d each.0 _ _ (decls_stand ds each.1 _ _ y))
 
 -- files
 
-model_stands : (m : CostModel) → StandsFor (the the_production.CostModel) (λ after. keyword (cost_word m) ∷ after)
+unfoldable pub model_stands : (m : CostModel) →
+    StandsFor (the the_production.CostModel) (λ after. keyword (cost_word m) ∷ after)
 model_stands cost.Ticks rest after y = chooses _ first (shows (suits_keyword word.Ticks) y)
 model_stands cost.Sends rest after y = chooses _ (later first) (shows (suits_keyword word.Sends) y)
 model_stands cost.All rest after y = chooses _ (later (later first)) (shows (suits_keyword word.All) y)
 
-file_stand : (c : Option CostLine) (ds : List DeclTree) → Each IsDecl ds → Yields file (print_cost c (print_decls ds []))
+unfoldable pub file_stand : (c : Option CostLine) (ds : List DeclTree) → Each IsDecl ds →
+    Yields file (print_cost c (print_decls ds []))
 file_stand None [] each = chooses [] (later (later first)) ends
 file_stand None (d ∷ ds) each =
     chooses _ (later first) (decl_stands d each.0 _ _ (decls_stand ds each.1 [] [] ends))
@@ -532,7 +549,7 @@ file_stand (Some c) ds each =
     (shows (suits_sign sym.Semicolon) (decls_stand ds each [] [] ends))))
 
 -- the grammar derives what a tree that stands for a text prints
-pub file_yields : (f : FileTree) → IsGrammatical f → Yields file (print_file f)
+unfoldable pub file_yields : (f : FileTree) → IsGrammatical f → Yields file (print_file f)
 file_yields f is = file_stand f.cost f.decls is
 
 -- So tokens that a tree prints are a file of the grammar.

@@ -29,7 +29,7 @@ pub data Yields : List Part → List Shown → Type 0 where
       IsAmong side (alternatives n) → Yields (side ++ rest) after → Yields (part.Nonterminal n ∷ rest) after
 
 -- what parts yield they derive, whichever tokens spell it
-pub yields-derives : {parts : List Part} {after : List Shown} → Yields parts after → (tokens : List Placed) → Spells after tokens →
+unfoldable pub yields-derives : {parts : List Part} {after : List Shown} → Yields parts after → (tokens : List Placed) → Spells after tokens →
     (events : List Event) × Derives parts events × (tokens_in events ≡ tokens)
 yields-derives ends [] h = ([], nothing, refl)
 yields-derives ends (x ∷ tokens) h = absurd h
