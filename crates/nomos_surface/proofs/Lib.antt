@@ -21,3 +21,5 @@ pub mod TypesWalked
 pub mod Walked
 pub mod Yields
 pub mod ParsingLaws
+pub mod KeptLaws
+pub mod LimitLaws

@@ -1,5 +1,5 @@
 -- The trees that are within the limits of texts: names, numbers, lists in lists, nodes and stars.
-use Rattle.std.specs.Prelude.{ℕ, ◌≤◌, length, Option, Some, None}
+use Rattle.std.specs.Prelude.{◌≤◌, length, Option, Some, None}
 use Rattle.nomos_grammar.specs.Offence.{star_limit, number_limit}
 use Rattle.nomos_ir.specs.Name.{IsShortName}
 use Rattle.nomos_surface.specs.declared.declarations.ListPotential.{ListPotential}

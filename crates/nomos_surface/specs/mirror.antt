@@ -2,6 +2,7 @@
 pub mod Codes
 pub mod Files
 pub mod Front
+pub mod Kept
 pub mod Numerals
 pub mod Shallow
 pub mod TermParts

@@ -1,5 +1,6 @@
 //! From the bytes of a contract text to its tree.
-ghost use Rattle.std.specs.Prelude.{◌≡◌};
+ghost use Rattle.std.specs.Prelude.{IfOk, ◌≡◌};
+ghost use Rattle.nomos_surface.specs.Bounds.{IsWithinLimits};
 ghost use Rattle.nomos_surface.specs.FileView.{file_tree};
 ghost use Rattle.nomos_surface.specs.Parsing.{AnswersParse};
 ghost use Rattle.nomos_surface.specs.mirror.Errors.{of_tokens, of_grammar};
@@ -16,7 +17,7 @@ use nomos_syntax::token::TokenList;
 use std::alloc::Global;
 use thiserror::Error;
 
-/// Why a text has no tree. Offsets count bytes from 0; docs/LANGUAGE.md, "Grammar of the whole language", has the rules.
+/// Why a text has no tree. Offsets count bytes from 0; docs/LANGUAGE.md, "Grammar", has the rules.
 #[derive(Clone, Copy, PartialEq, Eq, Debug, Error)]
 pub enum ParseError {
     #[error("the text has more than 1048576 bytes")]
@@ -74,9 +75,10 @@ fn read_tokens(alloc: Global, text: &[u8], found: &TokenList) -> Result<Surface,
 
 /// The tree as which a text reads. It is given exactly where the text reads as one, and then it is the only one. Otherwise
 /// the text is too long, or the error has its first byte over 127, or its first offending token with why it offends, or
-/// its length, where it ends too early; and it reads as no tree.
+/// its length, where it ends too early; and it reads as no tree. A tree that is given is within the limits of texts.
 pub fn parse(alloc: Global, text: &[u8]) -> Result<Surface, ParseError>
-    ensures { AnswersParse text.now result }
+    ensures answer { AnswersParse text.now result }
+    ensures limits { IfOk result (λ surface. IsWithinLimits (file_tree surface)) }
 {
     match tokens(alloc, text) {
         Ok(found) => read_tokens(alloc, text, &found),

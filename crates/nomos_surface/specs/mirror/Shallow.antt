@@ -1,5 +1,5 @@
 -- A mirror of `Bounds` for proofs, of lists in lists alone: what it says of names and numbers is nothing.
-use Rattle.std.specs.Prelude.{ℕ, ◌≤◌, length, Option, Some, None}
+use Rattle.std.specs.Prelude.{◌≤◌, length, Option, Some, None}
 use Rattle.nomos_surface.specs.declared.declarations.ListPotential.{ListPotential}
 use Rattle.nomos_surface.specs.declared.declarations.ProcessPar.{ProcessPar}
 use Rattle.nomos_surface.specs.declared.declarations.ValuePar.{ValuePar}
