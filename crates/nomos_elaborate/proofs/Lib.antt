@@ -19,3 +19,8 @@ pub mod FileLaws
 pub mod AnswerLaws
 pub mod Examples
 pub mod CountLaws
+pub mod StandOnce
+pub mod NodesKept
+pub mod TypesOnce
+pub mod CodeOnce
+pub mod OrderLaws
