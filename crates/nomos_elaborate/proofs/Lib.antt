@@ -25,3 +25,8 @@ pub mod TypeLabels
 pub mod CodeLabels
 pub mod ParameterNames
 pub mod NamingLaws
+pub mod StandOnce
+pub mod NodesKept
+pub mod TypesOnce
+pub mod CodeOnce
+pub mod OrderLaws
