@@ -19,3 +19,8 @@ pub mod FileLaws
 pub mod AnswerLaws
 pub mod Examples
 pub mod CountLaws
+pub mod BuiltRange
+pub mod TypeRange
+pub mod CodeRange
+pub mod DeclRange
+pub mod RangeLaws
