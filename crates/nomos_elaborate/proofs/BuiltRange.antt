@@ -90,7 +90,8 @@ TypeFits-more d t u l m types labels node h = record {
 TermFits-more : (f e g : ℕ) → e ≤ g → (node : TermNode) → TermFits f e node → TermFits f g node
 TermFits-more f e g terms node h = record { parts = AllBelow-le e g (term_parts node) terms h.parts; calls = h.calls }
 
-pub CodeFits-more : (p c d e f l m : ℕ) → c ≤ d → e ≤ f → l ≤ m → (node : CodeNode) → CodeFits p c e l node → CodeFits p d f m node
+pub CodeFits-more : (p c d e f l m : ℕ) → c ≤ d → e ≤ f → l ≤ m → (node : CodeNode) → CodeFits p c e l node
+    → CodeFits p d f m node
 CodeFits-more p c d e f l m codes terms labels node h = record {
   next = AllBelow-le c d (code_next node) codes h.next;
   terms = AllBelow-le e f (code_terms node) terms h.terms;
@@ -99,14 +100,18 @@ CodeFits-more p c d e f l m codes terms labels node h = record {
 }
 
 -- neither do they for many nodes
-types_more : (d t u l m : ℕ) → t ≤ u → l ≤ m → (nodes : List TypeAt) → All (λ at. TypeFits d t l at.node) nodes → All (λ at. TypeFits d u m at.node) nodes
-types_more d t u l m types labels nodes h = λ k x within. TypeFits-more d t u l m types labels (get_or nodes k x).node (h k x within)
+types_more : (d t u l m : ℕ) → t ≤ u → l ≤ m → (nodes : List TypeAt) → All (λ at. TypeFits d t l at.node) nodes
+    → All (λ at. TypeFits d u m at.node) nodes
+types_more d t u l m types labels nodes h = λ k x within.
+    TypeFits-more d t u l m types labels (get_or nodes k x).node (h k x within)
 
 terms_more : (f e g : ℕ) → e ≤ g → (nodes : List TermNode) → All (TermFits f e) nodes → All (TermFits f g) nodes
 terms_more f e g terms nodes h = λ k x within. TermFits-more f e g terms (get_or nodes k x) (h k x within)
 
-code_more : (p c d e f l m : ℕ) → c ≤ d → e ≤ f → l ≤ m → (nodes : List CodeNode) → All (CodeFits p c e l) nodes → All (CodeFits p d f m) nodes
-code_more p c d e f l m codes terms labels nodes h = λ k x within. CodeFits-more p c d e f l m codes terms labels (get_or nodes k x) (h k x within)
+code_more : (p c d e f l m : ℕ) → c ≤ d → e ≤ f → l ≤ m → (nodes : List CodeNode) → All (CodeFits p c e l) nodes
+    → All (CodeFits p d f m) nodes
+code_more p c d e f l m codes terms labels nodes h = λ k x within.
+    CodeFits-more p c d e f l m codes terms labels (get_or nodes k x) (h k x within)
 
 -- What was made of something that was in range is in range, and no list is shorter.
 pub record Made (all : Spaces) (s t : Built) : Type 0 where
@@ -154,7 +159,8 @@ module _ (all : Spaces) where
   Made-same s h = record { range = h; longer = Longer-same s }
 
   -- variables and stars are in no list
-  pub aside_made : (s : Built) (variables : Names) (stars : ℕ) → InRange all s → Made all s (record s { variables = variables; stars = stars })
+  pub aside_made : (s : Built) (variables : Names) (stars : ℕ) → InRange all s
+      → Made all s (record s { variables = variables; stars = stars })
   aside_made s variables stars h = record {
     range = record { types = h.types; terms = h.terms; code = h.code };
     longer = record { types = omega arith; terms = omega arith; code = omega arith; labels = omega arith };
@@ -181,7 +187,9 @@ module _ (all : Spaces) where
         range = record {
           types = types_more (length all.types) t t (length s.labels) m (omega arith) more s.types h.types;
           terms = h.terms;
-          code = code_more (length all.processes) c c e e (length s.labels) m (omega arith) (omega arith) more s.code h.code;
+          code =
+              code_more (length all.processes) c c e e (length s.labels) m (omega arith) (omega arith) more s.code
+              h.code;
         };
         longer = record { types = omega arith; terms = omega arith; code = omega arith; labels = more };
       }
@@ -191,7 +199,8 @@ module _ (all : Spaces) where
   label_below s l = number_of-lt (seen s.labels l.name) l.name (is_among-seen s.labels l.name)
 
   -- a type node whose parts were made
-  pub type_put : (s t : Built) (node : TypeNode) (at : ℕ) → Made all s t → TypeFits (length all.types) (length t.types) (length t.labels) node → TypeMade all s (put_type t node at)
+  pub type_put : (s t : Built) (node : TypeNode) (at : ℕ) → Made all s t
+      → TypeFits (length all.types) (length t.types) (length t.labels) node → TypeMade all s (put_type t node at)
   type_put s t node at h fits =
       let new : TypeAt = record { node = node; at = at } in
       let d = length all.types in
@@ -210,13 +219,19 @@ module _ (all : Spaces) where
             terms = h.range.terms;
             code = h.range.code;
           };
-          longer = record { types = omega arith; terms = h.longer.terms; code = h.longer.code; labels = h.longer.labels };
+          longer = record {
+            types = omega arith;
+            terms = h.longer.terms;
+            code = h.longer.code;
+            labels = h.longer.labels;
+          };
         };
         below = omega arith;
       }
 
   -- a term node
-  pub term_put : (s t : Built) (node : TermNode) → Made all s t → TermFits (length all.functions) (length t.terms) node → TermMade all s (put_term t node)
+  pub term_put : (s t : Built) (node : TermNode) → Made all s t
+      → TermFits (length all.functions) (length t.terms) node → TermMade all s (put_term t node)
   term_put s t node h fits =
       let f = length all.functions in
       let c = length t.code in
@@ -233,15 +248,23 @@ module _ (all : Spaces) where
                 All-push (TermFits f u) t.terms node (terms_more f (length t.terms) u more t.terms h.range.terms)
                 (TermFits-more f (length t.terms) u more node fits);
             code =
-                code_more (length all.processes) c c (length t.terms) u l l (omega arith) more (omega arith) t.code h.range.code;
+                code_more (length all.processes) c c (length t.terms) u l l (omega arith) more (omega arith) t.code
+                h.range.code;
           };
-          longer = record { types = h.longer.types; terms = omega arith; code = h.longer.code; labels = h.longer.labels };
+          longer = record {
+            types = h.longer.types;
+            terms = omega arith;
+            code = h.longer.code;
+            labels = h.longer.labels;
+          };
         };
         below = omega arith;
       }
 
   -- a code node
-  node_put : (s t : Built) (n : CodeNode) → Made all s t → CodeFits (length all.processes) (length t.code) (length t.terms) (length t.labels) n → CodeMade all s (put_node t n)
+  node_put : (s t : Built) (n : CodeNode) → Made all s t
+      → CodeFits (length all.processes) (length t.code) (length t.terms) (length t.labels) n
+      → CodeMade all s (put_node t n)
   node_put s t n h fits =
       let p = length all.processes in
       let e = length t.terms in
@@ -260,7 +283,12 @@ module _ (all : Spaces) where
                 (code_more p (length t.code) u e e l l more (omega arith) (omega arith) t.code h.range.code)
                 (CodeFits-more p (length t.code) u e e l l more (omega arith) (omega arith) n fits);
           };
-          longer = record { types = h.longer.types; terms = h.longer.terms; code = omega arith; labels = h.longer.labels };
+          longer = record {
+            types = h.longer.types;
+            terms = h.longer.terms;
+            code = omega arith;
+            labels = h.longer.labels;
+          };
         };
         below = omega arith;
       }
@@ -269,9 +297,16 @@ module _ (all : Spaces) where
   work_put : (s : Built) (built : Built × CodeId) (at : ℕ) → CodeMade all s built → CodeMade all s (put_work built at)
   work_put s built at h =
       node_put s built.0 (node.Work at (amount.Written 1) built.1) h.made
-      (record { next = one_below _ built.1.0 h.below; terms = none_below _; calls = none_below _; labels = none_below _ })
+      (record {
+        next = one_below _ built.1.0 h.below;
+        terms = none_below _;
+        calls = none_below _;
+        labels = none_below _;
+      })
 
-  pub code_put : (model : CostModel) (s t : Built) (n : CodeNode) → Made all s t → CodeFits (length all.processes) (length t.code) (length t.terms) (length t.labels) n → CodeMade all s (put_code model t n)
+  pub code_put : (model : CostModel) (s t : Built) (n : CodeNode) → Made all s t
+      → CodeFits (length all.processes) (length t.code) (length t.terms) (length t.labels) n
+      → CodeMade all s (put_code model t n)
   code_put model s t n h fits = by (is_charged model n)
     where
       by : (b : Bool) → CodeMade all s (if b then put_work (put_node t n) (code_offset n) else put_node t n)

@@ -1,5 +1,5 @@
 -- The ids in the declarations of a text are in range, where its claims hold.
-use Rattle.std.proofs.Common.{ℕ, ◌+◌, ◌<◌, ◌≤◌, true, false, List, [], ◌∷◌, ◌++◌, length, get_or, All, Option, Some, None, arith}
+use Rattle.std.proofs.Common.{ℕ, ◌<◌, ◌≤◌, true, false, List, [], ◌∷◌, ◌++◌, length, get_or, All, Option, Some, None, arith}
 use Rattle.std.proofs.lemmas.List.Elements.{All-nil, All-cons, All-push}
 use Rattle.nomos_elaborate.proofs.BuiltRange.{InRange, InRange-nothing, none_below, Made, Made-then, Made-same, aside_made, variable_made, amount_made, type_put}
 use Rattle.nomos_elaborate.proofs.ClaimLaws.{AllHold, rest_hold, left_hold, right_hold}
@@ -57,7 +57,8 @@ defs_more t u more defs h = λ k x within. let below = h k x within in omega ari
 fns_more : (t u : ℕ) → t ≤ u → (fns : List FnDecl) → All (λ e. e.body.0 < t) fns → All (λ e. e.body.0 < u) fns
 fns_more t u more fns h = λ k x within. let below = h k x within in omega arith
 
-pars_more : (t u : ℕ) → t ≤ u → (pars : List (VarId × TypeId)) → All (λ par. par.1.0 < t) pars → All (λ par. par.1.0 < u) pars
+pars_more : (t u : ℕ) → t ≤ u → (pars : List (VarId × TypeId)) → All (λ par. par.1.0 < t) pars
+    → All (λ par. par.1.0 < u) pars
 pars_more t u more pars h = λ k x within. let below = h k x within in omega arith
 
 ProcFits-more : (t u c d : ℕ) → t ≤ u → c ≤ d → (proc : ProcDecl) → ProcFits t c proc → ProcFits u d proc
@@ -66,8 +67,10 @@ ProcFits-more t u c d types codes proc h =
     let first = h.first in
     record { channels = pars_more t u types proc.channels h.channels; offers = omega arith; first = omega arith }
 
-procs_more : (t u c d : ℕ) → t ≤ u → c ≤ d → (procs : List ProcDecl) → All (ProcFits t c) procs → All (ProcFits u d) procs
-procs_more t u c d types codes procs h = λ k x within. ProcFits-more t u c d types codes (get_or procs k x) (h k x within)
+procs_more : (t u c d : ℕ) → t ≤ u → c ≤ d → (procs : List ProcDecl) → All (ProcFits t c) procs
+    → All (ProcFits u d) procs
+procs_more t u c d types codes procs h = λ k x within.
+    ProcFits-more t u c d types codes (get_or procs k x) (h k x within)
 
 pub DeclaredInRange-none : (all : Spaces) → DeclaredInRange all nothing_declared
 DeclaredInRange-none all = record {
@@ -97,9 +100,12 @@ module _ (all : Spaces) where
       let paid = (par_amount bound p.list).0 in
       let v = variable_made all s p.name r in
       let q = par_amount_made bound p.list v.range in
-      Made-then all s paid (build_process_pars paid pars).0 (Made-then all s bound paid v q) (process_pars_made paid pars q.range)
+      let more = process_pars_made paid pars q.range in
+      Made-then all s paid (build_process_pars paid pars).0 (Made-then all s bound paid v q) more
 
-  chan_pars_made : (scope : Scope) (s : Built) (pars : List ChanParTree) → AllHold (chan_pars_claims all.types scope pars) → InRange all s → ChansMade all s (build_chan_pars all.types s pars)
+  chan_pars_made : (scope : Scope) (s : Built) (pars : List ChanParTree)
+      → AllHold (chan_pars_claims all.types scope pars) → InRange all s
+      → ChansMade all s (build_chan_pars all.types s pars)
   chan_pars_made scope s [] hold r =
       record { made = Made-same all s r; below = All-nil (λ (par : VarId × TypeId). par.1.0 < length s.types) }
   chan_pars_made scope s (p ∷ pars) hold r =
@@ -117,7 +123,8 @@ module _ (all : Spaces) where
       record {
         made = Made-then all s a.0 b.0 (Made-then all s bound a.0 v h.made) i.made;
         below =
-            All-cons (λ (par : VarId × TypeId). par.1.0 < length b.0.types) (variable_id bound p.name, a.1) b.1 below i.below;
+            All-cons (λ (par : VarId × TypeId). par.1.0 < length b.0.types) (variable_id bound p.name, a.1) b.1 below
+            i.below;
       }
 
   declared_amount_made : (s : Built) (q : Option Potential) → InRange all s → Made all s (declared_amount s q).0
@@ -125,28 +132,38 @@ module _ (all : Spaces) where
   declared_amount_made s (Some q) r = amount_made all s q r
 
   -- a process more
-  proc_declared : (d : Declared) (proc : ProcDecl) (t : Built) → DeclaredInRange all d → Made all d.built t → ProcFits (length t.types) (length t.code) proc → DeclaredInRange all (record d { procs = d.procs ++ proc ∷ []; built = t })
+  proc_declared : (d : Declared) (proc : ProcDecl) (t : Built) → DeclaredInRange all d → Made all d.built t
+      → ProcFits (length t.types) (length t.code) proc
+      → DeclaredInRange all (record d { procs = d.procs ++ proc ∷ []; built = t })
   proc_declared d proc t r h fits = record {
     built = h.range;
     defs = defs_more (length d.built.types) (length t.types) h.longer.types d.defs r.defs;
     fns = fns_more (length d.built.terms) (length t.terms) h.longer.terms d.fns r.fns;
     procs =
         All-push (ProcFits (length t.types) (length t.code)) d.procs proc
-        (procs_more (length d.built.types) (length t.types) (length d.built.code) (length t.code) h.longer.types h.longer.code d.procs r.procs)
+        (procs_more (length d.built.types) (length t.types) (length d.built.code) (length t.code) h.longer.types
+        h.longer.code d.procs r.procs)
         fits;
   }
 
   -- a declaration more
-  decl_made : (model : CostModel) (before : Spaces) (d : Declared) (decl : DeclTree) → AllHold (decl_claims all before decl) → DeclaredInRange all d → DeclaredInRange all (add_decl model all d decl)
+  decl_made : (model : CostModel) (before : Spaces) (d : Declared) (decl : DeclTree)
+      → AllHold (decl_claims all before decl) → DeclaredInRange all d
+      → DeclaredInRange all (add_decl model all d decl)
   decl_made model before d (definition at m n body) hold r =
       let t = (build_type all.types d.built body).0 in
-      let h = type_made all d.built body (rest_hold (new_among before.types n) (type_claims all.types body) hold) r.built in
+      let claims = rest_hold (new_among before.types n) (type_claims all.types body) hold in
+      let h = type_made all d.built body claims r.built in
       let l = h.made.longer in
       record {
         built = h.made.range;
-        defs = All-push (λ (e : Def). e.body.0 < length t.types) d.defs _ (defs_more (length d.built.types) (length t.types) l.types d.defs r.defs) h.below;
+        defs =
+            All-push (λ (e : Def). e.body.0 < length t.types) d.defs _
+            (defs_more (length d.built.types) (length t.types) l.types d.defs r.defs) h.below;
         fns = fns_more (length d.built.terms) (length t.terms) l.terms d.fns r.fns;
-        procs = procs_more (length d.built.types) (length t.types) (length d.built.code) (length t.code) l.types l.code d.procs r.procs;
+        procs =
+            procs_more (length d.built.types) (length t.types) (length d.built.code) (length t.code) l.types l.code
+            d.procs r.procs;
       }
   decl_made model before d (function at n pars gives body) hold r =
       let bound = (build_value_pars d.built pars).0 in
@@ -160,8 +177,12 @@ module _ (all : Spaces) where
       record {
         built = h.made.range;
         defs = defs_more (length d.built.types) (length t.types) l.types d.defs r.defs;
-        fns = All-push (λ (e : FnDecl). e.body.0 < length t.terms) d.fns _ (fns_more (length d.built.terms) (length t.terms) l.terms d.fns r.fns) h.below;
-        procs = procs_more (length d.built.types) (length t.types) (length d.built.code) (length t.code) l.types l.code d.procs r.procs;
+        fns =
+            All-push (λ (e : FnDecl). e.body.0 < length t.terms) d.fns _
+            (fns_more (length d.built.terms) (length t.terms) l.terms d.fns r.fns) h.below;
+        procs =
+            procs_more (length d.built.types) (length t.types) (length d.built.code) (length t.code) l.types l.code
+            d.procs r.procs;
       }
   decl_made model before d (process at m n pars potential offers body) hold r =
       let values = (build_process_pars d.built pars.values).0 in
@@ -176,15 +197,21 @@ module _ (all : Spaces) where
       let whole = rest_hold (new_among before.processes n) (heads ++ types ++ codes) hold in
       let front = left_hold (heads ++ types) codes whole in
       let scope = process_pars_scope [] pars.values in
-      let chans = right_hold (process_pars_claims [] pars.values) (chan_pars_claims all.types scope pars.channels) (left_hold heads types front) in
+      let first_pars = process_pars_claims [] pars.values in
+      let last_pars = chan_pars_claims all.types scope pars.channels in
+      let chans = right_hold first_pars last_pars (left_hold heads types front) in
       let v = process_pars_made d.built pars.values r.built in
       let c = chan_pars_made scope values pars.channels chans v.range in
       let q = declared_amount_made channels.0 potential c.made.range in
       let o = type_made all paid offers (right_hold heads types front) q.range in
-      let f = code_made place model (pars_scope pars) offered.0 body (right_hold (heads ++ types) codes whole) o.made.range in
-      let since = Made-then all channels.0 offered.0 first.0 (Made-then all channels.0 paid offered.0 q o.made) f.made in
-      let offers_below : offered.1.0 < length first.0.types = let below = o.below in let longer = f.made.longer.types in omega arith in
-      proc_declared d _ first.0 r (Made-then all d.built channels.0 first.0 (Made-then all d.built values channels.0 v c.made) since)
+      let last = right_hold (heads ++ types) codes whole in
+      let f = code_made place model (pars_scope pars) offered.0 body last o.made.range in
+      let typed = Made-then all channels.0 paid offered.0 q o.made in
+      let since = Made-then all channels.0 offered.0 first.0 typed f.made in
+      let offers_below : offered.1.0 < length first.0.types =
+      let below = o.below in let longer = f.made.longer.types in omega arith in
+      proc_declared d _ first.0 r
+      (Made-then all d.built channels.0 first.0 (Made-then all d.built values channels.0 v c.made) since)
       (record {
         channels = pars_more (length channels.0.types) (length first.0.types) since.longer.types channels.1 c.below;
         offers = offers_below;
@@ -202,18 +229,23 @@ module _ (all : Spaces) where
       let codes = code_claims place (pars_scope pars) body in
       let whole = rest_hold (new_among before.processes n) (heads ++ codes) hold in
       let scope = process_pars_scope [] pars.values in
-      let chans = right_hold (process_pars_claims [] pars.values) (chan_pars_claims all.types scope pars.channels) (left_hold heads codes whole) in
+      let first_pars = process_pars_claims [] pars.values in
+      let last_pars = chan_pars_claims all.types scope pars.channels in
+      let chans = right_hold first_pars last_pars (left_hold heads codes whole) in
       let p = aside_made all d.built payer.variables d.built.stars r.built in
       let v = process_pars_made payer pars.values p.range in
       let c = chan_pars_made scope values pars.channels chans v.range in
-      let o = type_put all channels.0 channels.0 node.One at (Made-same all channels.0 c.made.range) (record { parts = none_below _; names = none_below _; labels = none_below _ }) in
+      let o =
+      type_put all channels.0 channels.0 node.One at (Made-same all channels.0 c.made.range)
+      (record { parts = none_below _; names = none_below _; labels = none_below _ }) in
       let q = declared_amount_made offered.0 potential o.made.range in
       let f = code_made place model (pars_scope pars) paid body (right_hold heads codes whole) q.range in
       let after = Made-then all offered.0 paid first.0 q f.made in
       let since = Made-then all channels.0 offered.0 first.0 o.made after in
-      let offers_below : offered.1.0 < length first.0.types = let below = o.below in let longer = after.longer.types in omega arith in
-      proc_declared d _ first.0 r
-      (Made-then all d.built channels.0 first.0 (Made-then all d.built values channels.0 (Made-then all d.built payer values p v) c.made) since)
+      let offers_below : offered.1.0 < length first.0.types =
+      let below = o.below in let longer = after.longer.types in omega arith in
+      let headed = Made-then all d.built values channels.0 (Made-then all d.built payer values p v) c.made in
+      proc_declared d _ first.0 r (Made-then all d.built channels.0 first.0 headed since)
       (record {
         channels = pars_more (length channels.0.types) (length first.0.types) since.longer.types channels.1 c.below;
         offers = offers_below;
@@ -221,7 +253,9 @@ module _ (all : Spaces) where
       })
 
   -- all declarations
-  pub decls_made : (model : CostModel) (before : Spaces) (d : Declared) (decls : List DeclTree) → AllHold (decls_claims all before decls) → DeclaredInRange all d → DeclaredInRange all (add_decls model all d decls)
+  pub decls_made : (model : CostModel) (before : Spaces) (d : Declared) (decls : List DeclTree)
+      → AllHold (decls_claims all before decls) → DeclaredInRange all d
+      → DeclaredInRange all (add_decls model all d decls)
   decls_made model before d [] hold r = r
   decls_made model before d (decl ∷ decls) hold r =
       let ones = decl_claims all before decl in
