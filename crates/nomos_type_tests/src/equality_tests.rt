@@ -1,15 +1,14 @@
 //! Tests: types that are equal, with the pairs of amounts that this needs, and types that are not, with a path.
-use crate::sketch::program_of;
+use crate::sketch::{is_contractive, program_of};
 use nomos_equality::equality::{Equality, equal};
 use nomos_ir::program::Program;
-use nomos_types::contractive::is_contractive;
 use std::alloc::{AllocError, Global};
 use std::test::Fail;
 
 // Whether the first two definitions are equal, if there are two, and no definition is a bare name.
 fn first_two(alloc: Global, program: &Program) -> Result<Option<Equality>, AllocError> {
     let defs = program.lists().defs.as_slice();
-    if defs.len() < 2 || !is_contractive(program) {
+    if defs.len() < 2 || !is_contractive(alloc, program) {
         return Ok(None);
     }
     let found = equal(alloc, program, defs[0].body, defs[1].body)?;

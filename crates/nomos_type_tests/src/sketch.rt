@@ -1,4 +1,7 @@
 //! Programs of types, sketched as texts in which parts stand before wholes.
+ghost use Rattle.std.specs.Prelude.{IsTrue};
+ghost use Rattle.nomos_ir.specs.Unfold.{IsContractive};
+
 use crate::type_program::program_of_types;
 use nomos_ir::amount::Amount;
 use nomos_ir::ids::{DefId, Label, TypeId};
@@ -8,6 +11,7 @@ use nomos_ir::mode::Mode;
 use nomos_ir::name::Name;
 use nomos_ir::program::Program;
 use nomos_ir::type_node::{Branch, Def, TypeAt, TypeNode};
+use nomos_types::forming::{FormError, well_formed};
 use std::alloc::{AllocError, Global};
 
 /// The labels are the letters from `a` on, as many as this.
@@ -188,4 +192,14 @@ pub(crate) fn program_of(alloc: Global, text: &str) -> Result<Option<Program>, A
         open: _,
     } = sketch;
     program_of_types(alloc, defs, types, labels(alloc)?)
+}
+
+/// Whether memory was found to see that no definition is a bare name.
+pub(crate) fn is_contractive(alloc: Global, program: &Program) -> bool
+    ensures { IsTrue result → IsContractive program.now }
+{
+    match well_formed(alloc, program) {
+        Ok(()) | Err(FormError::Mode(_)) => true,
+        Err(FormError::Contractive(_) | FormError::NoMemory) => false,
+    }
 }

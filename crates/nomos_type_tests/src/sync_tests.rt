@@ -1,17 +1,16 @@
 //! Tests: shared types that are synchronizing, with the pairs of amounts that this needs, and shared types that are
 //! not, with a path.
-use crate::sketch::program_of;
+use crate::sketch::{is_contractive, program_of};
 use nomos_ir::ids::TypeId;
 use nomos_ir::program::Program;
 use nomos_ir::type_node::TypeNode;
 use nomos_sync::synchronizing::{Synced, synchronizing};
-use nomos_types::contractive::is_contractive;
 use std::alloc::{AllocError, Global};
 use std::test::Fail;
 
 // Whether a type is synchronizing, if it is shared.
 fn shared(alloc: Global, program: &Program, t: TypeId) -> Result<Option<Synced>, AllocError> {
-    if t.0 as usize >= program.lists().types.len() || !is_contractive(program) {
+    if t.0 as usize >= program.lists().types.len() || !is_contractive(alloc, program) {
         return Ok(None);
     }
     match program.node(t) {
