@@ -18,4 +18,10 @@ pub mod CodeLaws
 pub mod FileLaws
 pub mod AnswerLaws
 pub mod Examples
-pub mod CountLaws
+pub mod Making
+pub mod TreeMaking
+pub mod DeclMaking
+pub mod SizeLaws
+pub mod AmountLaws
+pub mod KindLaws
+pub mod ShortLaws
