@@ -25,3 +25,8 @@ pub mod SizeLaws
 pub mod AmountLaws
 pub mod KindLaws
 pub mod ShortLaws
+pub mod StandOnce
+pub mod NodesKept
+pub mod TypesOnce
+pub mod CodeOnce
+pub mod OrderLaws
