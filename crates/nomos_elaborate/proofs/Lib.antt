@@ -30,3 +30,8 @@ pub mod NodesKept
 pub mod TypesOnce
 pub mod CodeOnce
 pub mod OrderLaws
+pub mod BuiltRange
+pub mod TypeRange
+pub mod CodeRange
+pub mod DeclRange
+pub mod RangeLaws
