@@ -35,3 +35,9 @@ pub mod TypeRange
 pub mod CodeRange
 pub mod DeclRange
 pub mod RangeLaws
+pub mod DistinctNames
+pub mod KeptLabels
+pub mod TypeLabels
+pub mod CodeLabels
+pub mod ParameterNames
+pub mod NamingLaws
