@@ -41,3 +41,4 @@ pub mod TypeLabels
 pub mod CodeLabels
 pub mod ParameterNames
 pub mod NamingLaws
+pub mod ProgramLaws
