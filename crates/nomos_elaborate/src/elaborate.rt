@@ -70,7 +70,7 @@ fn program_lists(alloc: Global, surface: &Surface) -> Result<ProgramLists, ElabE
 /// The tree has to be within the limits of texts.
 pub fn elaborate(alloc: Global, surface: &Surface) -> Result<Program, ElabError>
     requires { IsWithinLimits (file_tree surface.now) }
-    ensures answers { Answers (file_tree surface.now) result }
+    ensures answer { Answers (file_tree surface.now) result }
     ensures few { IfOk result (λ program. length program.types ≤ node_limit) }
 {
     let lists = program_lists(alloc, surface)?;
