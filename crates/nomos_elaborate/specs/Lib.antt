@@ -4,7 +4,6 @@ pub mod Claim
 pub mod CodeBuild
 pub mod CodeClaims
 pub mod CostModel
-pub mod Counts
 pub mod FileBuild
 pub mod FileClaims
 pub mod ListArgument

@@ -1,8 +1,11 @@
-//! From the tree of a text to the lists of its program.
+//! From the tree of a text to its program.
+ghost use Rattle.std.specs.Prelude.{◌≤◌, length, IfOk};
 ghost use Rattle.nomos_elaborate.specs.Answer.{Answers};
 ghost use Rattle.nomos_elaborate.specs.mirror.Checked.{Gives, found};
 ghost use Rattle.nomos_elaborate.specs.mirror.FileCheck.{check_lists, lists_made};
+ghost use Rattle.nomos_surface.specs.Bounds.{IsWithinLimits};
 ghost use Rattle.nomos_surface.specs.FileView.{file_tree};
+ghost use Rattle.nomos_syntax.specs.Limits.{node_limit};
 
 use crate::elab_error::ElabError;
 use crate::spaces::Spaces;
@@ -11,6 +14,7 @@ use crate::works::{model_of, written_work};
 use nomos_ir::code_node::CodeNodes;
 use nomos_ir::declaration::{FnDecls, ProcDecls};
 use nomos_ir::lists::{Names, ProgramLists};
+use nomos_ir::program::Program;
 use nomos_ir::term_node::TermNodes;
 use nomos_ir::type_node::{Defs, TypeAts};
 use nomos_surface::surface::Surface;
@@ -50,10 +54,8 @@ fn named_lists(alloc: Global, surface: &Surface) -> Result<ProgramLists, ElabErr
     lists_of(walk)
 }
 
-/// The lists of the program of a tree, or why it has none: the first name in order of text that breaks a rule of names,
-/// or else the first written `work` where the cost model allows none. `docs/LANGUAGE.md` has the rules, and how nodes
-/// are numbered.
-pub fn program_lists(alloc: Global, surface: &Surface) -> Result<ProgramLists, ElabError>
+/// The lists of the program of a tree, or why it has none.
+fn program_lists(alloc: Global, surface: &Surface) -> Result<ProgramLists, ElabError>
     ensures { Answers (file_tree surface.now) result }
 {
     let lists = named_lists(alloc, surface)?;
@@ -61,4 +63,16 @@ pub fn program_lists(alloc: Global, surface: &Surface) -> Result<ProgramLists, E
         Some(at) => Err(ElabError::Cost(at)),
         None => Ok(lists),
     }
+}
+
+/// The program of a tree, or why it has none: the first name in order of text that breaks a rule of names, or else the
+/// first written `work` where the cost model allows none. `docs/LANGUAGE.md` has the rules, and how nodes are numbered.
+/// The tree has to be within the limits of texts.
+pub fn elaborate(alloc: Global, surface: &Surface) -> Result<Program, ElabError>
+    requires { IsWithinLimits (file_tree surface.now) }
+    ensures answer { Answers (file_tree surface.now) result }
+    ensures few { IfOk result (λ program. length program.types ≤ node_limit) }
+{
+    let lists = program_lists(alloc, surface)?;
+    Ok(Program::of_lists(lists))
 }
