@@ -24,6 +24,7 @@ pub mod SignLemmas
 pub mod SolveLemmas
 pub mod SumLemmas
 pub mod TableLaws
+pub mod UnitLemmas
 pub mod VariableLemmas
 pub mod VerdictLemmas
 pub mod WeightLemmas

@@ -1,5 +1,5 @@
 //! The run.
-ghost use Rattle.std.specs.Prelude.{◌≡◌, ◌+◌, ◌-◌, ◌<◌, ◌≤◌, length, IfOk, Ok, Some};
+ghost use Rattle.std.specs.Prelude.{◌≡◌, ◌+◌, ◌-◌, ◌<◌, ◌≤◌, ◌^◌, length, IfOk, Ok, Some};
 ghost use Rattle.std.specs.List.{range_with_len};
 ghost use Rattle.nomos_simplex.specs.Lowest as lowest;
 ghost use Rattle.nomos_simplex.specs.mirror.Steps.{IsSought};
@@ -154,6 +154,7 @@ pub fn solve(alloc: Global, rows: &RowList) -> Result<Solved, AllocError>
     // What is found meets the rows, what is refuted has no amounts, and both are such that the second checks take them.
     ensures found { (found : Found) → result ≡ Ok (solved.Found found) →
         IsFound rows.now.stars found × MeetsRows found.stars found.unit rows.now.rows }
+    ensures unit { (found : Found) → result ≡ Ok (solved.Found found) → found.unit ≤ 2 ^ 31 }
     ensures refuted { (verdict : Verdict) → result ≡ Ok (solved.None verdict) →
         IsVerdict verdict × Refutes rows.now.stars rows.now.rows verdict }
 {
