@@ -10,12 +10,12 @@ ghost use Rattle.nomos_rows.specs.mirror.Telling.{TellsOne, TellsBelow};
 ghost use Rattle.nomos_rows.specs.mirror.Ups.{IfNone};
 
 use crate::telling::{Fault, earliest};
+use nomos_check::checking::{Checked, ProcError, check_process_with};
 use nomos_equality::equalities::Equalities;
 use nomos_forms::form::Form;
 use nomos_ir::amount::Amount;
 use nomos_ir::ids::ProcId;
 use nomos_ir::program::Program;
-use nomos_check::checking::{Checked, ProcError, check_process_with};
 use std::alloc::{AllocError, Global};
 
 /// What is gathered of processes: the forms of their potential, and the pairs of amounts that they ask for beside
