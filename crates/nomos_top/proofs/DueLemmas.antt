@@ -1,25 +1,30 @@
 -- What is due, from its parts.
-use Rattle.std.proofs.Common.{◌≡◌, ℕ, ◌<◌, ◌+◌, List, [], length, replicate, Option, Some, None, Result, Ok, Err, refl, subst, arith, lit≤}
+use Rattle.std.proofs.Common.{◌≡◌, ℕ, ◌<◌, ◌≤◌, ◌+◌, List, [], length, replicate, Option, Some, None, Result, Ok, Err, true, false, refl, subst, arith, lit≤}
 use Rattle.std.specs.Prelude.{IfOk, IfErr, IsSome, codes}
 use Rattle.std.proofs.Math.ListN.{length-replicate}
 use Rattle.std.proofs.Math.Seq.{take-length}
-use Rattle.nomos_accept.specs.Acceptance.{IsAcceptedAs, IsRefused}
+use Rattle.nomos_accept.specs.Acceptance.{IsAcceptedAs}
 use Rattle.nomos_accept.specs.declared.refusal.Why.{Why}
+use Rattle.nomos_accept.specs.declared.refusal.Why.TheVariants as why
 use Rattle.nomos_base.proofs.ToldLaws.{TakesExactly-told}
 use Rattle.nomos_base.specs.Source.{TakesAll, TakesExactly}
 use Rattle.nomos_ledger.specs.declared.journal.Journal.{Journal}
 use Rattle.nomos_script.specs.Reading.{ReadsAs}
 use Rattle.nomos_script.specs.declared.item.ScriptItem.{ScriptItem}
-use Rattle.nomos_top.specs.Block.{accepted_block, refusal_line, read_fault_line, usage_line}
+use Rattle.nomos_simplex.specs.declared.solved.Stop.{Stop}
+use Rattle.nomos_syntax.specs.Limits.{text_limit}
+use Rattle.nomos_top.specs.Block.{accepted_block, read_fault_line, usage_line}
 use Rattle.nomos_top.specs.Judging.{FindsText, FindsOrFails, IsDueAs, IsPartAs, IsDueOf, IsPartOf, not_run, run_so_far, HasRunAs, HasRunPart, journal_of}
-use Rattle.nomos_top.specs.Outcome.{Counts, HaveRisen, Input, Reading, input_of, IsTextOf, IsCheck, IsRun, IsDue, usage, read_fault, refused, accepted, ran, IsDueFor, IsPart, nothing, accepted_part, run_part, no_journal, steps}
+use Rattle.nomos_top.specs.Outcome.{Counts, HaveRisen, Input, Reading, input_of, IsTextOf, IsCheck, IsRun, IsRunOn, IsRefused, HasStopped, IsDue, usage, read_fault, refused, unsolved, accepted, not_yet, ran, IsDueFor, IsPart, nothing, accepted_part, run_part, no_journal, steps}
 use Rattle.nomos_top.specs.Progress.{HasCome}
+use Rattle.nomos_top.specs.Refusal.{refusal, unsolved_line, not_yet_line}
+use Rattle.nomos_top.specs.Runnable.{is_runnable}
 use Rattle.nomos_top.specs.Words.{Task, task_of}
+use Rattle.nomos_top.specs.declared.due.Due.{Due}
+use Rattle.nomos_top.specs.declared.due.Part.{Part}
 use Rattle.nomos_top.specs.declared.running.Running.{Running}
-use Rattle.nomos_top.specs.declared.top.Due.{Due}
-use Rattle.nomos_top.specs.declared.top.Found.{Found}
-use Rattle.nomos_top.specs.declared.top.Found.TheVariants as found
-use Rattle.nomos_top.specs.declared.top.Part.{Part}
+use Rattle.nomos_top.specs.declared.scripts.Found.{Found}
+use Rattle.nomos_top.specs.declared.scripts.Found.TheVariants as found
 use Rattle.nomos_top.proofs.ProgressLaws.{so_far-at}
 use Rattle.nomos_types.specs.Acceptance.{Acceptance}
 
@@ -41,6 +46,13 @@ long_text limit (Some text) now h = (text, refl, omega (arith, TakesExactly-told
 pub taken_text : (bytes : List ℕ) (left now : Option (List ℕ)) → TakesAll bytes left now → IsTextOf left bytes
 taken_text bytes None now h = tt
 taken_text bytes (Some all) now h = h.0
+
+-- A contract that is too long is refused for that: no text that reads is so long.
+pub too_long-refused : (text : List ℕ) → text_limit < length text → IsRefused text why.TooLong
+too_long-refused text long = record {
+  cause = long;
+  never = λ lists x typed. let short : length text ≤ text_limit = typed.read.reads.plain.length_limit in omega arith;
+}
 
 -- what holds of a result's value, from what holds of it
 pub if_ok-map : {X E : Type 0} (r : Result X E) (P Q : X → Type 0) → ((x : X) → P x → Q x) → IfOk r P → IfOk r Q
@@ -76,10 +88,16 @@ due-fault words contract script some rose =
     record { text = t.0; script_text = s.0; told = t.1; script_told = s.1; due = read_fault some rose }
 
 -- a contract that is refused
-pub due-refused : (words : List (List ℕ)) (contract script : Reading) (text : List ℕ) (why : Why) → IsSome (task_of words) → IsTextOf contract.left text → IsRefused text why → IsDueFor words contract script 1 (refusal_line why) None no_journal
+pub due-refused : (words : List (List ℕ)) (contract script : Reading) (text : List ℕ) (why : Why) → IsSome (task_of words) → IsTextOf contract.left text → IsRefused text why → IsDueFor words contract script 1 (refusal why) None no_journal
 due-refused words contract script text why some told is_refused =
     let s = some_text script.left in
     record { text = text; script_text = s.0; told = told; script_told = s.1; due = refused why some is_refused }
+
+-- a contract on which the solver stopped
+pub due-unsolved : (words : List (List ℕ)) (contract script : Reading) (text : List ℕ) (stop : Stop) → IsSome (task_of words) → IsTextOf contract.left text → HasStopped text stop → IsDueFor words contract script 8 (unsolved_line stop) None no_journal
+due-unsolved words contract script text stop some told has_stopped =
+    let s = some_text script.left in
+    record { text = text; script_text = s.0; told = told; script_told = s.1; due = unsolved stop some has_stopped }
 
 -- a contract that is checked and accepted
 pub due-accepted : (words : List (List ℕ)) (contract script : Reading) (text : List ℕ) (a : Acceptance) → IsCheck words → IsTextOf contract.left text → IsAcceptedAs text a → IsDueFor words contract script 0 (accepted_block a) (Some a) no_journal
@@ -87,7 +105,7 @@ due-accepted words contract script text a checks told is_accepted =
     let s = some_text script.left in
     record { text = text; script_text = s.0; told = told; script_told = s.1; due = accepted a checks is_accepted }
 
--- a script that is to be run on an accepted contract
+-- a run that is asked for on an accepted contract
 pub due-of : (words : List (List ℕ)) (contract script : Reading) (text : List ℕ) (a : Acceptance) (code : ℕ) (bytes : List ℕ) (given : Option Acceptance) (kept : Journal) → IsRun words → IsTextOf contract.left text → IsAcceptedAs text a → IsDueOf a script.left script.counts code bytes given kept → IsDueFor words contract script code bytes given kept
 due-of words contract script text a code bytes given kept runs told is_accepted is_due = record {
   text = text;
@@ -104,8 +122,9 @@ part-nothing words contract script part parts = rw (parts.accepted, parts.journa
 -- what was done of a run
 pub part-of : (words : List (List ℕ)) (contract script : Reading) (text : List ℕ) (a : Acceptance) (given : Option Acceptance) (kept : Journal) → IsRun words → IsTextOf contract.left text → IsAcceptedAs text a → IsPartOf a script.left given kept → IsPart words contract script given kept
 part-of words contract script text a given kept runs told is_accepted not_run = accepted_part a text runs told is_accepted
-part-of words contract script text a given kept runs told is_accepted (run_so_far script_text items count journal script_told reads run) =
-    run_part a text script_text items count journal runs told is_accepted script_told reads run
+part-of words contract script text a given kept runs told is_accepted (run_so_far script_text items count journal runnable script_told reads run) =
+    let run_on : IsRunOn words text a = record { runs = runs; accepted = is_accepted; runnable = runnable } in
+    run_part a text script_text items count journal told run_on script_told reads run
 
 -- what is found of a script's text is found of the script
 pub finds-text : (text : List ℕ) (counts : Counts) (f : Found) → FindsText text f → FindsOrFails text counts f
@@ -116,20 +135,32 @@ finds-text text counts (found.NotYet k) h = h
 finds-text text counts found.ReadFault h = absurd h
 finds-text text counts found.NoMemory h = tt
 
+-- what is due where the contract is none that `run` takes
+pub due_of-not_yet : (a : Acceptance) (left : Option (List ℕ)) (counts : Counts) (due : Due) → is_runnable a.program ≡ false → IsDueAs due 1 not_yet_line (Some a) no_journal → IsDueOf a left counts due.status due.text.items due.accepted due.journal
+due_of-not_yet a left counts due not_runnable parts =
+    let t = some_text left in
+    (t.0, t.1, λ words contract runs is_accepted. rw (parts.status, parts.text, parts.accepted, parts.journal) (not_yet a runs is_accepted not_runnable))
+
 -- what is due where the script can not be run, from its parts
-pub due_of-line : (a : Acceptance) (left : Option (List ℕ)) (counts : Counts) (text : List ℕ) (due : Due) (code : ℕ) (bytes : List ℕ) → IsTextOf left text → ((words : List (List ℕ)) (contract : Input) → IsRun words → IsAcceptedAs contract.text a → IsDue words contract (record { text = text; counts = counts }) code bytes (Some a) no_journal) → IsDueAs due code bytes (Some a) no_journal → IsDueOf a left counts due.status due.text.items due.accepted due.journal
-due_of-line a left counts text due code bytes told is_due parts =
-    (text, told, λ words contract runs is_accepted. rw (parts.status, parts.text, parts.accepted, parts.journal) (is_due words contract runs is_accepted))
+pub due_of-line : (a : Acceptance) (left : Option (List ℕ)) (counts : Counts) (text : List ℕ) (due : Due) (code : ℕ) (bytes : List ℕ) → is_runnable a.program ≡ true → IsTextOf left text → ((words : List (List ℕ)) (contract : Input) → IsRunOn words contract.text a → IsDue words contract (record { text = text; counts = counts }) code bytes (Some a) no_journal) → IsDueAs due code bytes (Some a) no_journal → IsDueOf a left counts due.status due.text.items due.accepted due.journal
+due_of-line a left counts text due code bytes runnable told is_due parts = (
+  text,
+  told,
+  λ words contract runs is_accepted.
+      rw
+      (parts.status, parts.text, parts.accepted, parts.journal)
+      (is_due words contract (record { runs = runs; accepted = is_accepted; runnable = runnable })),
+)
 
 -- a run of a script, from its parts
-pub due_of-run : (a : Acceptance) (left : Option (List ℕ)) (counts : Counts) (text : List ℕ) (items : List ScriptItem) (code : ℕ) (bytes : List ℕ) (given : Option Acceptance) (kept : Journal) → IsTextOf left text → ReadsAs text items → HasRunAs a items code bytes given kept → IsDueOf a left counts code bytes given kept
-due_of-run a left counts text items code bytes given kept told reads run = (
+pub due_of-run : (a : Acceptance) (left : Option (List ℕ)) (counts : Counts) (text : List ℕ) (items : List ScriptItem) (code : ℕ) (bytes : List ℕ) (given : Option Acceptance) (kept : Journal) → is_runnable a.program ≡ true → IsTextOf left text → ReadsAs text items → HasRunAs a items code bytes given kept → IsDueOf a left counts code bytes given kept
+due_of-run a left counts text items code bytes given kept runnable told reads run = (
   text,
   told,
   λ words contract runs is_accepted.
       rw
       (run.status_is, run.told, run.given)
-      (ran a items kept runs is_accepted reads (record {
+      (ran a items kept (record { runs = runs; accepted = is_accepted; runnable = runnable }) reads (record {
         limit = run.limit;
         last = run.last;
         legal = record { limit = rw run.limit (record { some = lit≤ tt; few = lit≤ tt }); leads = rw run.limit run.leads };
@@ -143,10 +174,10 @@ pub part_of-line : (a : Acceptance) (left : Option (List ℕ)) (part : Part) →
 part_of-line a left part parts = rw (parts.accepted, parts.journal) not_run
 
 -- what was done of a script that is run in part
-pub part_of-run : (a : Acceptance) (left : Option (List ℕ)) (text : List ℕ) (items : List ScriptItem) (given : Option Acceptance) (kept : Journal) → IsTextOf left text → ReadsAs text items → HasRunPart a items given kept → IsPartOf a left given kept
-part_of-run a left text items given kept told reads part =
+pub part_of-run : (a : Acceptance) (left : Option (List ℕ)) (text : List ℕ) (items : List ScriptItem) (given : Option Acceptance) (kept : Journal) → is_runnable a.program ≡ true → IsTextOf left text → ReadsAs text items → HasRunPart a items given kept → IsPartOf a left given kept
+part_of-run a left text items given kept runnable told reads part =
     let so_far = part.so_far in
-    rw part.given (run_so_far text items so_far.count kept told reads (record {
+    rw part.given (run_so_far text items so_far.count kept runnable told reads (record {
       limit = part.limit;
       last = so_far.last;
       legal = record { limit = rw part.limit (record { some = lit≤ tt; few = lit≤ tt }); leads = rw part.limit so_far.leads };

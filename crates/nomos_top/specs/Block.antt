@@ -1,8 +1,6 @@
--- The lines that are printed.
-use Rattle.std.specs.Prelude.{ℕ, Bool, true, false, List, [], ◌∷◌, ◌++◌, codes, if◌then◌else◌}
+-- The lines that are printed of an accepted program, and of words without a form.
+use Rattle.std.specs.Prelude.{ℕ, ◌+◌, Bool, true, false, List, [], ◌∷◌, ◌++◌, codes, decimal, if◌then◌else◌}
 use Rattle.std.specs.List.{flat_map}
-use Rattle.nomos_accept.specs.declared.refusal.Why.{Why}
-use Rattle.nomos_accept.specs.declared.refusal.Why.TheVariants as why
 use Rattle.nomos_base.specs.Gas.{gas_text}
 use Rattle.nomos_ir.specs.declared.declaration.ProcDecl.{ProcDecl}
 use Rattle.nomos_ir.specs.declared.mode.Mode.{Mode}
@@ -32,19 +30,22 @@ bound_lines x d = if has_bound d.mode then bound_text d.name (dths x d.amount) x
 abbrev pub unit_line : ℕ → List ℕ
 unit_line unit = line (codes "unit " ++ gas_text 1 unit)
 
+-- `star J = G`
+abbrev pub star_line : ℕ → ℕ → ℕ → List ℕ
+star_line unit star amount = line (codes "star " ++ decimal star ++ codes " = " ++ gas_text amount unit)
+
+-- the amounts of stars, the first of which has this number
+abbrev pub star_lines : ℕ → ℕ → List ℕ → List ℕ
+star_lines unit star [] = []
+star_lines unit star (amount ∷ amounts) = star_line unit star amount ++ star_lines unit (star + 1) amounts
+
 -- what is printed of an accepted program
 abbrev pub accepted_block : Acceptance → List ℕ
 accepted_block a =
-    line (codes "accepted") ++ unit_line a.annotations.unit ++ flat_map (bound_lines a.annotations) a.program.procs
-
--- the cause of a refusal
-abbrev pub why_text : Why → List ℕ
-why_text why.NotYet = codes "NotYet"
-why_text why.Unread = codes "Unread"
-why_text why.Untyped = codes "Untyped"
-
-abbrev pub refusal_line : Why → List ℕ
-refusal_line w = line (codes "refused " ++ why_text w)
+    line (codes "accepted")
+    ++ unit_line a.annotations.unit
+    ++ star_lines a.annotations.unit 1 a.annotations.stars
+    ++ flat_map (bound_lines a.annotations) a.program.procs
 
 abbrev pub usage_line : List ℕ
 usage_line = line (codes "usage: nomos check FILE | run FILE SCRIPT")

@@ -1,7 +1,10 @@
 pub mod Words
 pub mod Jobs
 pub mod Block
+pub mod Refusal
 pub mod Report
+pub mod Runnable
 pub mod Outcome
 pub mod Progress
 pub mod Judging
+pub mod Claim

@@ -1,6 +1,6 @@
 -- How a call ends.
-use Rattle.std.specs.Prelude.{◌≡◌, ℕ, ◌<◌, List, [], length, codes, decimal, ◌++◌, take, Option, Some, None, IsSome, ⊤}
-use Rattle.nomos_accept.specs.Acceptance.{IsAcceptedAs, IsRefused}
+use Rattle.std.specs.Prelude.{◌≡◌, ℕ, ◌<◌, List, [], length, codes, decimal, ◌++◌, take, Option, Some, None, IsSome, true, false, ⊤}
+use Rattle.nomos_accept.specs.Acceptance.{IsAcceptedAs, IsCauseOf, IsNeverTyped, IsProgramWith, IsUnsolved}
 use Rattle.nomos_accept.specs.declared.refusal.Why.{Why}
 use Rattle.nomos_base.specs.Faults.{Rose}
 use Rattle.nomos_base.specs.Sink.{with_end, AppendsSome}
@@ -10,8 +10,11 @@ use Rattle.nomos_ledger.specs.Standing.{StandsFor}
 use Rattle.nomos_ledger.specs.declared.journal.Journal.{Journal}
 use Rattle.nomos_script.specs.Reading.{ReadsAs, IsSyntaxAt, IsNotYetAt, text_limit}
 use Rattle.nomos_script.specs.declared.item.ScriptItem.{ScriptItem}
-use Rattle.nomos_top.specs.Block.{line, accepted_block, refusal_line, usage_line, read_fault_line}
+use Rattle.nomos_simplex.specs.declared.solved.Stop.{Stop}
+use Rattle.nomos_top.specs.Block.{line, accepted_block, usage_line, read_fault_line}
+use Rattle.nomos_top.specs.Refusal.{refusal, unsolved_line, not_yet_line}
 use Rattle.nomos_top.specs.Report.{report, run_status, AllFollowFirst}
+use Rattle.nomos_top.specs.Runnable.{is_runnable}
 use Rattle.nomos_top.specs.Words.{check, run, task_of}
 use Rattle.nomos_types.specs.Acceptance.{Acceptance}
 
@@ -56,19 +59,48 @@ pub record HasRun (a : Acceptance) (items : List ScriptItem) (journal : Journal)
   pub stands : StandsFor a last
   pub first : AllFollowFirst a empty_ledger items journal.entries
 
+-- The text is refused for this cause, and is typed under no amounts at all.
+pub record IsRefused (text : List ℕ) (why : Why) : Type 0 where
+  pub cause : IsCauseOf text why
+  pub never : IsNeverTyped text
+
+-- The text reads, each part of its program has a skeleton, and the pivot run stops without an answer.
+abbrev pub HasStopped : List ℕ → Stop → Type 0
+HasStopped text stop = IsProgramWith text (λ lists. IsUnsolved lists stop)
+
+-- A run is asked for on a contract that is accepted, and that `run` takes.
+pub record IsRunOn (words : List (List ℕ)) (text : List ℕ) (a : Acceptance) : Type 0 where
+  pub runs : IsRun words
+  pub accepted : IsAcceptedAs text a
+  pub runnable : is_runnable a.program ≡ true
+
 -- What is due for these words where contract and script have these texts: a status, what is to be written, what is
 -- accepted, and the journal.
-pub data IsDue (words : List (List ℕ)) (contract script : Input) : ℕ → List ℕ → Option Acceptance → Journal → Type 0 where
+pub data IsDue (words : List (List ℕ)) (contract script : Input)
+    : ℕ → List ℕ → Option Acceptance → Journal → Type 0 where
   usage : task_of words ≡ None → IsDue words contract script 4 usage_line None no_journal
-  read_fault : IsSome (task_of words) → HaveRisen contract.counts → IsDue words contract script 5 (read_fault_line (codes "contract")) None no_journal
-  refused : (why : Why) → IsSome (task_of words) → IsRefused contract.text why → IsDue words contract script 1 (refusal_line why) None no_journal
-  accepted : (a : Acceptance) → IsCheck words → IsAcceptedAs contract.text a → IsDue words contract script 0 (accepted_block a) (Some a) no_journal
-  script_fault : (a : Acceptance) → IsRun words → IsAcceptedAs contract.text a → HaveRisen script.counts → IsDue words contract script 5 (read_fault_line (codes "script")) (Some a) no_journal
-  script_too_long : (a : Acceptance) → IsRun words → IsAcceptedAs contract.text a → text_limit < length script.text → IsDue words contract script 2 (script_refusal (codes "TooLong")) (Some a) no_journal
-  script_syntax : (a : Acceptance) (k : ℕ) → IsRun words → IsAcceptedAs contract.text a → IsSyntaxAt script.text k → IsDue words contract script 2 (script_refusal (codes "Syntax " ++ decimal k)) (Some a) no_journal
-  script_not_yet : (a : Acceptance) (k : ℕ) → IsRun words → IsAcceptedAs contract.text a → IsNotYetAt script.text k → IsDue words contract script 2 (script_refusal (codes "NotYet " ++ decimal k)) (Some a) no_journal
+  read_fault : IsSome (task_of words) → HaveRisen contract.counts
+      → IsDue words contract script 5 (read_fault_line (codes "contract")) None no_journal
+  refused : (why : Why) → IsSome (task_of words) → IsRefused contract.text why
+      → IsDue words contract script 1 (refusal why) None no_journal
+  unsolved : (stop : Stop) → IsSome (task_of words) → HasStopped contract.text stop
+      → IsDue words contract script 8 (unsolved_line stop) None no_journal
+  accepted : (a : Acceptance) → IsCheck words → IsAcceptedAs contract.text a
+      → IsDue words contract script 0 (accepted_block a) (Some a) no_journal
+  not_yet : (a : Acceptance) → IsRun words → IsAcceptedAs contract.text a → is_runnable a.program ≡ false
+      → IsDue words contract script 1 not_yet_line (Some a) no_journal
+  script_fault : (a : Acceptance) → IsRunOn words contract.text a → HaveRisen script.counts
+      → IsDue words contract script 5 (read_fault_line (codes "script")) (Some a) no_journal
+  script_too_long : (a : Acceptance) → IsRunOn words contract.text a → text_limit < length script.text
+      → IsDue words contract script 2 (script_refusal (codes "TooLong")) (Some a) no_journal
+  script_syntax : (a : Acceptance) (k : ℕ) → IsRunOn words contract.text a → IsSyntaxAt script.text k
+      → IsDue words contract script 2 (script_refusal (codes "Syntax " ++ decimal k)) (Some a) no_journal
+  script_not_yet : (a : Acceptance) (k : ℕ) → IsRunOn words contract.text a → IsNotYetAt script.text k
+      → IsDue words contract script 2 (script_refusal (codes "NotYet " ++ decimal k)) (Some a) no_journal
   -- status 0 where each entry was carried out, 3 where one was not
-  ran : (a : Acceptance) (items : List ScriptItem) (journal : Journal) → IsRun words → IsAcceptedAs contract.text a → ReadsAs script.text items → HasRun a items journal → IsDue words contract script (run_status journal.entries) (report a items journal) (Some a) journal
+  ran : (a : Acceptance) (items : List ScriptItem) (journal : Journal) → IsRunOn words contract.text a
+      → ReadsAs script.text items → HasRun a items journal
+      → IsDue words contract script (run_status journal.entries) (report a items journal) (Some a) journal
 
 -- the text is what the source has left, where it tells that
 abbrev pub IsTextOf : Option (List ℕ) → List ℕ → Type 0
@@ -95,10 +127,12 @@ pub record IsDueFor (words : List (List ℕ)) (contract script : Reading) (statu
 -- was run yet; or the journal is that of a run of the first items of the script.
 pub data IsPart (words : List (List ℕ)) (contract script : Reading) : Option Acceptance → Journal → Type 0 where
   nothing : IsPart words contract script None no_journal
-  accepted_part : (a : Acceptance) (text : List ℕ) → IsRun words → IsTextOf contract.left text → IsAcceptedAs text a → IsPart words contract script (Some a) no_journal
-  run_part : (a : Acceptance) (text script_text : List ℕ) (items : List ScriptItem) (count : ℕ) (journal : Journal) →
-      IsRun words → IsTextOf contract.left text → IsAcceptedAs text a → IsTextOf script.left script_text → ReadsAs script_text items →
-      HasRun a (take count items) journal → IsPart words contract script (Some a) journal
+  accepted_part : (a : Acceptance) (text : List ℕ) → IsRun words → IsTextOf contract.left text → IsAcceptedAs text a
+      → IsPart words contract script (Some a) no_journal
+  run_part : (a : Acceptance) (text script_text : List ℕ) (items : List ScriptItem) (count : ℕ) (journal : Journal)
+      → IsTextOf contract.left text → IsRunOn words text a → IsTextOf script.left script_text
+      → ReadsAs script_text items → HasRun a (take count items) journal
+      → IsPart words contract script (Some a) journal
 
 -- All that is due was written, or the sink failed and a part of it was.
 pub data IsWritten (status : ℕ) (bytes : List ℕ) (out : Counts) (before after : Option (List ℕ)) : ℕ → Type 0 where

@@ -1,23 +1,29 @@
 //! The lines that are printed of an accepted program.
 
-ghost use Rattle.std.specs.Prelude.{◌≡◌, ◌++◌, [], ◌∷◌, ℕ, codes, IfOk, OnOk, Some, slice_get};
+ghost use Rattle.std.specs.Prelude.{◌≡◌, ◌-◌, ◌≤◌, ◌++◌, [], ◌∷◌, ℕ, codes, IfOk, OnOk, Some, slice_get, slice_index};
 ghost use Rattle.std.specs.List.{flat_map};
 ghost use Rattle.nomos_base.specs.Gas.{gas_text};
-ghost use Rattle.nomos_top.specs.Block.{has_bound, bound_text, bound_lines, unit_line, accepted_block};
+ghost use Rattle.nomos_ir.specs.Amounts.{star_count};
+ghost use Rattle.nomos_top.specs.Judging.{HasEachStar};
+ghost use Rattle.nomos_top.specs.Block.{has_bound, bound_text, bound_lines, unit_line, star_line, star_lines, accepted_block};
 
+use crate::report::push_number;
 use nomos_base::push_gas;
+use nomos_ir::amount::Amount;
 use nomos_ir::declaration::ProcDecl;
 use nomos_ir::ids::ProcId;
 use nomos_ir::mode::Mode;
 use nomos_types::accepted::Accepted;
 use std::alloc::{AllocError, Global};
 
-/// The lines `accepted`, the unit and the bounds, for an accepted program.
+/// The lines `accepted`, the unit, the amounts of the stars and the bounds, for an accepted program.
 pub(crate) fn accepted_block(alloc: Global, accepted: &Accepted) -> Result<Vec<u8>, AllocError>
+    requires each_star { HasEachStar accepted.now }
     ensures { IfOk result (λ text. text.items ≡ accepted_block accepted.now) }
 {
     let mut text = Vec::from_slice(alloc, b"accepted\n")?;
     push_unit(&mut text, accepted.unit())?;
+    push_stars(&mut text, accepted)?;
     push_bounds(&mut text, accepted)?;
     Ok(text)
 }
@@ -32,9 +38,39 @@ fn push_unit(text: &mut Vec<u8>, unit: u32) -> Result<(), AllocError>
     Ok(())
 }
 
+// Appends the amounts of the stars, in order of their numbers.
+fn push_stars(text: &mut Vec<u8>, accepted: &Accepted) -> Result<(), AllocError>
+    requires each_star { HasEachStar accepted.now }
+    ensures { OnOk result (text.new.items ≡ text.old.items
+        ++ star_lines accepted.now.annotations.unit 1 accepted.now.annotations.stars) }
+{
+    for star in 0..accepted.program().stars() {
+        push_star(text, accepted, star + 1)?;
+    }
+    Ok(())
+}
+
+// Appends the line of a star.
+fn push_star(text: &mut Vec<u8>, accepted: &Accepted, star: u16) -> Result<(), AllocError>
+    requires first { 1 ≤ star }
+    requires within { star ≤ star_count accepted.now.program }
+    ensures { OnOk result (text.new.items ≡ text.old.items
+        ++ star_line accepted.now.annotations.unit star (slice_index accepted.now.annotations.stars (star - 1))) }
+{
+    let _program = accepted.program().lists();
+    let amount = accepted.amount(Amount::Star(star));
+    text.extend_from_slice(b"star ")?;
+    push_number(text, u64::from(star))?;
+    text.extend_from_slice(b" = ")?;
+    push_gas(text, u128::from(amount), accepted.unit())?;
+    text.push(b'\n')?;
+    Ok(())
+}
+
 // Appends the lines of the bounds, in order of text.
 fn push_bounds(text: &mut Vec<u8>, accepted: &Accepted) -> Result<(), AllocError>
-    ensures { OnOk result (text.new.items ≡ text.old.items ++ flat_map (bound_lines accepted.now.annotations) accepted.now.program.procs) }
+    ensures { OnOk result (text.new.items ≡ text.old.items
+        ++ flat_map (bound_lines accepted.now.annotations) accepted.now.program.procs) }
 {
     for (p, declaration) in accepted
         .program()

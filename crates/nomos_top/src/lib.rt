@@ -2,9 +2,14 @@
 #![tactic(auto)]
 
 mod block;
+mod due;
 mod job;
+mod judging;
+mod refusal;
 mod report;
+mod runnable;
 mod running;
+mod scripts;
 mod top;
 
 pub use job::{Job, words};

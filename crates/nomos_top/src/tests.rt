@@ -108,63 +108,37 @@ const ACCEPTED: &str = "0 true 0 (0, 0, 0)\naccepted\nunit 1\nbound t = 0\n";
 
 const EMPTY_ACCEPTED: &str = "0 true 0 (0, 0, 0)\naccepted\nunit 1\n";
 
-const UNTYPED: &str = "1 false 0 (0, 0, 0)\nrefused Untyped\n";
-
-const UNREAD: &str = "1 false 0 (0, 0, 0)\nrefused Unread\n";
-
-const NOT_YET: &str = "1 false 0 (0, 0, 0)\nrefused NotYet\n";
+const CUT_SHORT: &str = "1 false 0 (0, 0, 0)\nrefused Syntax 4\n";
 
 const FLIP: &str = "type R flip = +{ heads : 1 | tails : 1 };
 proc R toss(;) : flip = self.heads; close;
 proc T t(;) = spawn c = toss(;); case c { tails => wait c; close | heads => wait c; close };
 ";
 
+// A process needs a unit of two sources that are of one type, so that each gives a half.
+const HALVES: &str = "type R src = |{*}> 1;
+proc R both(; a : src, b : src) : 1 = get a {*}; get b {*}; work {1}; wait a; wait b; close;
+proc R half(;) {*} : src = pay self {*}; close;
+proc T t(;) {1} = spawn a = half(;); spawn b = half(;); spawn c = both(; a, b); wait c; close;
+";
+
 #[test]
-fn accepts_what_has_a_derivation(rt: HostRuntime) -> Result<(), Fail> {
+fn answers_what_is_checked(rt: HostRuntime) -> Result<(), Fail> {
     let table = [
         ("", EMPTY_ACCEPTED),
-        ("// nothing but a comment", EMPTY_ACCEPTED),
-        ("type R token = 1;", EMPTY_ACCEPTED),
-        ("proc T t(;) = close;", ACCEPTED),
-        (
-            "proc R hidden(;) : 1 = close; proc T t(;) = close;",
-            ACCEPTED,
-        ),
         (FLIP, ACCEPTED),
         (
-            "proc T b(;) = close; proc T a(;) = close;",
-            "0 true 0 (0, 0, 0)\naccepted\nunit 1\nbound b = 0\nbound a = 0\n",
+            HALVES,
+            "0 true 0 (0, 0, 0)\naccepted\nunit 1/2\nstar 1 = 1/2\nstar 2 = 1/2\nstar 3 = 1/2\n\
+            star 4 = 1/2\nstar 5 = 1/2\nbound t = 2/2\n",
         ),
         (
-            "type R tick = +{ go : tock | end : 1 }; type R tock = +{ go : tick };
-            proc R clock(;) : tick = self.go; self.go; self.end; close;",
-            EMPTY_ACCEPTED,
+            "type R coin = 1; proc R bad(; c : coin) : 1 = close;",
+            "1 false 0 (0, 0, 0)\nrefused ProcType 46 close\n",
         ),
         (
-            "type R a = +{ l : b | end : 1 }; type R b = +{ l : c }; type R c = +{ l : a };
-            proc R go(;) : a = self.l; self.l; self.l; self.l; self.l; self.l; self.end; close;
-            type R q = &{ l : r | end : 1 }; type R r = &{ l : q };
-            proc R ask(; x : q) : 1 = x.l; x.l; x.l; x.l; x.end; wait x; close;",
-            EMPTY_ACCEPTED,
-        ),
-        (
-            "proc R loop(;) : 1 = spawn x = loop(;); wait x; close; proc T t(;) = close;",
-            ACCEPTED,
-        ),
-        (
-            "type R pick = &{ left : 1 | right : 1 };
-            proc R ask(; a : pick, b : pick) : 1 = b.left; a.right; wait b; wait a; close;",
-            EMPTY_ACCEPTED,
-        ),
-        (
-            "type R pick = &{ go : 1 | stay : 1 }; proc R one(;) : 1 = close;
-            proc R p(;) : pick = case self { stay => close | go => spawn x = one(;); wait x; close };",
-            EMPTY_ACCEPTED,
-        ),
-        (
-            "proc R one(;) : 1 = close;
-            proc T t(;) = spawn x = one(;); wait x; spawn y = one(;); spawn z = one(;); wait z; wait y; close;",
-            ACCEPTED,
+            "proc R p(;) {*} : 1 = work {2}; close; proc T f(;) {1} = spawn x = p(;); wait x; close;",
+            "1 false 0 (0, 0, 0)\nrefused NoPotential\ntimes 1 row -1 >= -1\ntimes 1 row 1 >= 2\ngives 0 >= 1\n",
         ),
     ];
     for (text, wanted) in table {
@@ -174,132 +148,33 @@ fn accepts_what_has_a_derivation(rt: HostRuntime) -> Result<(), Fail> {
     Ok(())
 }
 
-#[test]
-fn refuses_what_has_no_derivation(rt: HostRuntime) -> Result<(), Fail> {
-    let table = [
-        "type R coin = 1; proc R bad(; c : coin) : 1 = close;",
-        "type R coin = 1; proc R bad(; c : coin) : coin = wait c;wait c; close;",
-        "type R flip = +{ heads : 1 }; proc R toss(;) : flip = self.tails; close;",
-        "type R flip = +{ heads : 1 }; proc R toss(;) : flip = close;",
-        "type R pick = &{ go : 1 | stay : 1 }; proc R p(;) : pick = case self { go => close };",
-        "type R pick = &{ go : 1 }; proc R p(;) : pick = case self { go => close | stay => close };",
-        "type R pick = &{ go : 1 }; proc R p(;) : pick = self.go; close;",
-        "type R flip = +{ heads : 1 | tails : 1 };
-        proc R p(; c : flip, d : 1) : 1 = case c { heads => wait c; wait d; close | tails => wait c; close };",
-        "proc T one(;) = close; proc T t(;) = spawn x = one(;); wait x; close;",
-        "proc R one(; d : 1) : 1 = wait d; close; proc T t(;) = spawn x = one(;); wait x; close;",
-        "proc R one(;) : 1 = close; proc R two(;) : 1 = spawn x = one(;); close;",
-        "proc R good(;) : 1 = close; proc R bad(; c : 1) : 1 = close; proc R best(;) : 1 = close;",
-        "type R pick = &{ go : 1 }; proc R p(; c : pick) : 1 = case c { go => wait c; close };",
-        "type R a = +{ l : b | end : 1 }; type R b = +{ l : a }; proc R p(;) : a = self.l; self.end; close;",
-    ];
-    for text in table {
-        let found = answer(rt.alloc(), "check it.nomos", text.as_bytes(), b"")?;
-        assert_eq!(rt; found.as_str(), UNTYPED);
-    }
-    Ok(())
-}
-
-#[test]
-fn refuses_what_does_not_read(rt: HostRuntime) -> Result<(), Fail> {
-    let table = [
-        "type R a = a;",
-        "type R a = b; type R b = 1;",
-        "type R a = 1; type R a = 1;",
-        "type R a = +{ l : 1 | l : 1 };",
-        "proc T t(;) = close; proc R t(;) : 1 = close;",
-        "proc R one(;) : 1 = close; proc R two(; x : 1) : 1 = spawn x = one(;); wait x; close;",
-        "proc R p(;) : 1 = case self { l => close | l => close };",
-        "proc R p(;) : unknown = close;",
-        "proc T t(;) = spawn x = unknown(;); wait x; close;",
-        "proc T t(;) = wait x; close;",
-        "proc T t(;) = clo",
-        "type R coin = 1",
-        "type \u{e9}",
-        "\x00",
-    ];
-    for text in table {
-        let found = answer(rt.alloc(), "check it.nomos", text.as_bytes(), b"")?;
-        assert_eq!(rt; found.as_str(), UNREAD);
-    }
-    Ok(())
-}
-
+// A run takes no contract with potential yet, and then reads no script.
 #[test]
 fn leaves_to_later_what_is_not_built(rt: HostRuntime) -> Result<(), Fail> {
-    let table = [
-        "proc T f(;) {2} = close;",
-        "type L a = 1;",
-        "type R a = 1 * 1;",
-        "type R a = 2;",
-        "proc R p(x : int;) : 1 = close;",
-        "proc T t(;) = spawn x = f(1;); wait x; close;",
-        "proc T t(; c : 1, d : 1) = spawn x = f(; c, d); wait x; close;",
-        "fn",
-    ];
-    for text in table {
-        let found = answer(rt.alloc(), "check it.nomos", text.as_bytes(), b"")?;
-        assert_eq!(rt; found.as_str(), NOT_YET);
-    }
+    let texts = (HALVES.as_bytes(), "deposit u 1\n".as_bytes());
+    let found = answer_in_pieces(rt.alloc(), "run a b", texts, 0, (NEVER, 1, NEVER))?;
+    assert_eq!(rt; found.as_str(), "1 true 0 (0, 0, 0)\nrefused NotYet\n");
     Ok(())
 }
 
-// A text with a piece that is repeated, and as often another one behind the middle.
-fn repeated(
-    alloc: Global,
-    before: &str,
-    (open, middle, close): (&str, &str, &str),
-    times: usize,
-    after: &str,
-) -> Result<String, AllocError> {
-    let mut text = String::from_str(alloc, before)?;
+// A text with a piece that is repeated.
+fn repeated(alloc: Global, piece: &str, times: usize) -> Result<String, AllocError> {
+    let mut text = String::new(alloc);
     for _ in 0..times {
-        text.push_str(open)?;
+        text.push_str(piece)?;
     }
-    text.push_str(middle)?;
-    for _ in 0..times {
-        text.push_str(close)?;
-    }
-    text.push_str(after)?;
     Ok(text)
 }
 
-// What a check of such a text answers.
-fn repeated_answer(
-    alloc: Global,
-    before: &str,
-    piece: (&str, &str, &str),
-    times: usize,
-    after: &str,
-) -> Result<String, Fail> {
-    let text = repeated(alloc, before, piece, times, after)?;
-    answer(alloc, "check it.nomos", text.as_bytes(), b"")
-}
-
 #[test]
-fn texts_have_limits(rt: HostRuntime) -> Result<(), Fail> {
-    let type_of = "type R a = ";
-    // two declarations, four places of types, the last two instructions, and one for each label
-    let going = "type R a = +{ go : a | end : 1 }; proc R p(;) : a = ";
-    let choosing = "type R a = &{ l : a | end : 1 }; proc R p(;) : a = ";
-    let end = "self.end; close;";
-    let case = ("case self { end => close | l => ", "self.l; close", " }");
+fn contracts_have_a_limit(rt: HostRuntime) -> Result<(), Fail> {
     let table = [
-        ("", (" ", "", ""), TEXT_LIMIT, "", EMPTY_ACCEPTED),
-        ("", (" ", "", ""), TEXT_LIMIT + 1, "", UNREAD),
-        ("type R ", ("n", "", ""), 64, " = 1;", EMPTY_ACCEPTED),
-        ("type R ", ("n", "", ""), 65, " = 1;", UNREAD),
-        (going, ("self.go; ", "", ""), 9_992, end, EMPTY_ACCEPTED),
-        (going, ("self.go; ", "", ""), 9_993, end, UNREAD),
-        (type_of, ("(", "1", ")"), 63, ";", EMPTY_ACCEPTED),
-        (type_of, ("(", "1", ")"), 64, ";", UNREAD),
-        (choosing, case, 64, ";", UNTYPED),
-        (choosing, case, 65, ";", UNREAD),
-        (choosing, case, 100, ";", UNREAD),
+        (TEXT_LIMIT, EMPTY_ACCEPTED),
+        (TEXT_LIMIT + 1, "1 false 0 (0, 0, 0)\nrefused TooLong\n"),
     ];
-    let alloc = rt.alloc();
-    for (before, piece, times, after, wanted) in table {
-        let found = repeated_answer(alloc, before, piece, times, after)?;
+    for (times, wanted) in table {
+        let text = repeated(rt.alloc(), " ", times)?;
+        let found = answer(rt.alloc(), "check it.nomos", text.as_bytes(), b"")?;
         assert_eq!(rt; found.as_str(), wanted);
     }
     Ok(())
@@ -316,11 +191,15 @@ fn job_text(alloc: Global, line: &str) -> Result<String, AllocError> {
 #[test]
 fn words_have_one_form(rt: HostRuntime) -> Result<(), Fail> {
     let table = [
-        ("check a-file", "Some(Check { file: \"a-file\" })", UNREAD),
+        (
+            "check a-file",
+            "Some(Check { file: \"a-file\" })",
+            CUT_SHORT,
+        ),
         (
             "run a b",
             "Some(Run { file: \"a\", script: \"b\" })",
-            UNREAD,
+            CUT_SHORT,
         ),
         ("", "None", USAGE),
         ("check", "None", USAGE),
@@ -401,7 +280,7 @@ fn runs_scripts(rt: HostRuntime) -> Result<(), Fail> {
 
 // What a run of this many times a line answers.
 fn lines_answer(alloc: Global, line: &str, times: usize) -> Result<String, Fail> {
-    let script = repeated(alloc, "", (line, "", ""), times, "")?;
+    let script = repeated(alloc, line, times)?;
     answer(alloc, "run a b", BIT.as_bytes(), script.as_bytes())
 }
 
@@ -418,7 +297,7 @@ fn scripts_have_a_limit(rt: HostRuntime) -> Result<(), Fail> {
 #[test]
 fn a_contract_is_refused_before_its_script(rt: HostRuntime) -> Result<(), Fail> {
     let found = answer(rt.alloc(), "run a b", b"type", b"begin")?;
-    assert_eq!(rt; found.as_str(), UNREAD);
+    assert_eq!(rt; found.as_str(), CUT_SHORT);
     Ok(())
 }
 
@@ -432,36 +311,6 @@ fn refuses_the_nineteenth_deposit(rt: HostRuntime) -> Result<(), Fail> {
         line 4 deposited\nline 5 deposited\nline 6 deposited\nline 7 deposited\nline 8 deposited\nline 9 deposited\n\
         line 10 deposited\nline 11 deposited\nline 12 deposited\nline 13 deposited\nline 14 deposited\n\
         line 15 deposited\nline 16 deposited\nline 17 deposited\nline 18 deposited\nline 19 refused at 19 TooMuchGas\n"
-    );
-    Ok(())
-}
-
-// The types and the code of a program, node by node.
-fn program_text(alloc: Global, accepted: &Accepted) -> Result<String, AllocError> {
-    let lists = accepted.program().lists();
-    format!(in alloc; "{:?}\n{:?}", lists.types.as_slice(), lists.code.as_slice())
-}
-
-// The program of a text, or nothing where it is not accepted.
-fn program_of(alloc: Global, text: &str) -> Result<String, AllocError> {
-    match accept(alloc, text.as_bytes()) {
-        Ok(accepted) => program_text(alloc, &accepted),
-        Err(_) => Ok(String::new(alloc)),
-    }
-}
-
-// Parts stand before wholes, each with its offset. Variable 0 is `me`.
-#[test]
-fn reads_the_program_of_a_text(rt: HostRuntime) -> Result<(), Fail> {
-    let found = program_of(rt.alloc(), BIT)?;
-    assert_eq!(rt;
-        found.as_str(),
-        "[TypeAt { node: One, at: 22 }, \
-        TypeAt { node: Plus(Items { items: [Branch { label: Label(0), goes: TypeId(0) }] }), at: 13 }, \
-        TypeAt { node: Named(DefId(0)), at: 42 }, TypeAt { node: One, at: 65 }]\n\
-        [Close(58), Label(48, Own, Label(0), CodeId(0)), Close(120), Wait(112, VarId(1), CodeId(2)), \
-        Case(96, Var(VarId(1)), Items { items: [Arm { label: Label(0), goes: CodeId(3) }] }), \
-        Spawn(79, VarId(1), ProcId(0), Args { values: Items { items: [] }, channels: Items { items: [] } }, CodeId(4))]"
     );
     Ok(())
 }

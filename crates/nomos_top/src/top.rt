@@ -1,29 +1,27 @@
 //! The top call.
 
-ghost use Rattle.std.specs.Prelude.{◌≡◌, ◌≢◌, ◌++◌, ℕ, List, Some, None, IfOk, IfErr, codes, decimal, map, string_bytes};
-ghost use Rattle.std.specs.List.{list_all};
-ghost use Rattle.nomos_top.specs.Block.{accepted_block, refusal_line};
-ghost use Rattle.nomos_top.specs.Outcome.{Counts, IsDueFor, EndsFor, IsWritten, IsPart, no_journal, steps};
-ghost use Rattle.nomos_top.specs.Judging.{Judges, JudgesText, Finds, FindsText, IsDueAs, IsPartAs, IsDueOf, IsPartOf, HasRunAs, HasRunPart, journal_of};
+ghost use Rattle.std.specs.Prelude.{◌≡◌, ℕ, List, Some, None, IfOk, IfErr, map, string_bytes};
+ghost use Rattle.nomos_top.specs.Block.{accepted_block};
+ghost use Rattle.nomos_top.specs.Claim.{Claims};
+ghost use Rattle.nomos_top.specs.Outcome.{IsDueFor, EndsFor, IsWritten, IsPart, no_journal};
+ghost use Rattle.nomos_top.specs.Judging.{HasEachStar, IsDueAs, IsPartAs, IsDueOf, IsPartOf};
 ghost use Rattle.nomos_top.specs.Jobs.{task};
+ghost use Rattle.nomos_top.specs.Refusal.{refusal, unsolved_line};
 ghost use Rattle.nomos_top.specs.Words.{task_of};
-ghost use Rattle.nomos_top.specs.Report.{run_status, is_well};
-ghost use Rattle.nomos_top.specs.declared.top.Verdict.{Verdict};
 
 use crate::block::accepted_block;
+use crate::due::{Due, Part, bare_part, line_due, text_due};
 use crate::job::{self, Job};
-use crate::report::push_number;
-use crate::running::{Running, STEPS, run_items};
-use nomos_accept::accepting::accept;
-use nomos_accept::refusal::{AcceptError, Why};
-use nomos_base::{ReadError, Sink, Source, read_all, write_all};
-use nomos_ir::items::Items;
-use nomos_ledger::journal::{End, Entries, Entry, Journal};
-use nomos_script::parsing::{self, ScriptError, parse_script};
-use nomos_script::script::Script;
-use nomos_syntax::scan::TEXT_LIMIT;
+use crate::judging::{Judged, judge};
+use crate::refusal::{refusal, unsolved_line};
+use crate::runnable::is_runnable;
+use crate::scripts::script_due;
+use nomos_accept::refusal::Why;
+use nomos_base::{Sink, Source, write_all};
+use nomos_ledger::journal::Journal;
+use nomos_simplex::solved::Stop;
 use nomos_types::accepted::Accepted;
-use std::alloc::{AllocError, Global};
+use std::alloc::Global;
 
 /// How a call ended.
 #[derive(Drop, Debug)]
@@ -41,42 +39,6 @@ pub struct Ended {
 // The words that have a form.
 const USAGE: &[u8] = b"usage: nomos check FILE | run FILE SCRIPT\n";
 
-// What is to be written, with the status that stands once it is.
-#[derive(Drop)]
-pub(crate) struct Due {
-    pub(crate) status: u8,
-    pub(crate) text: Vec<u8>,
-    pub(crate) accepted: Option<Accepted>,
-    pub(crate) journal: Journal,
-}
-
-// What was done before memory ran out.
-#[derive(Drop)]
-pub(crate) struct Part {
-    pub(crate) accepted: Option<Accepted>,
-    pub(crate) journal: Journal,
-}
-
-// What is found of a contract.
-#[derive(Drop)]
-pub(crate) enum Verdict {
-    Accepted(Accepted),
-    Refused(Why),
-    ReadFault,
-    NoMemory,
-}
-
-// What is found of a script.
-#[derive(Drop)]
-pub(crate) enum Found {
-    Script(Script),
-    TooLong,
-    Syntax(u32),
-    NotYet(u32),
-    ReadFault,
-    NoMemory,
-}
-
 /// Does all that the program does: reads the words (those after the program's own name), reads the contract and judges
 /// it, reads the script and runs it, and writes what is due. Nothing is written before the last memory is taken. Status
 /// 7, want of memory, is the one answer for which no reason is given.
@@ -87,10 +49,12 @@ pub fn nomos<S: Source, K: Sink>(
     script: &mut S,
     out: &mut K,
 ) -> Ended
-    ensures { EndsFor (map string_bytes words.now)
+    ensures ends { EndsFor (map string_bytes words.now)
         (record { left = S.left contract.old; counts = record { before = S.faults contract.old; after = S.faults contract.new } })
         (record { left = S.left script.old; counts = record { before = S.faults script.old; after = S.faults script.new } })
         (record { before = K.faults out.old; after = K.faults out.new }) (K.written out.old) (K.written out.new) result.status result.accepted result.journal }
+    ensures claim { Claims (map string_bytes words.now) (S.left contract.old) (K.written out.old) (K.written out.new)
+        result.status result.accepted }
 {
     match job_due(alloc, words, contract, script) {
         Ok(due) => write_due(due, out),
@@ -168,227 +132,62 @@ fn work_due<S: Source>(
         part.accepted part.journal) }
 {
     match judge(alloc, contract) {
-        Verdict::NoMemory => Err(bare_part(alloc, None)),
-        Verdict::ReadFault => line_due(alloc, 5, b"read fault contract\n", None),
-        Verdict::Refused(why) => line_due(alloc, 1, refusal_line(why), None),
-        Verdict::Accepted(accepted) => match job {
+        Judged::NoMemory => Err(bare_part(alloc, None)),
+        Judged::ReadFault => line_due(alloc, 5, b"read fault contract\n", None),
+        Judged::Refused(why) => refusal_due(alloc, &why),
+        Judged::Unsolved(stop) => unsolved_due(alloc, stop),
+        Judged::Accepted(accepted) => match job {
             Job::Check { file: _ } => accepted_due(alloc, accepted),
-            Job::Run { file: _, script: _ } => script_due(alloc, accepted, script),
+            Job::Run { file: _, script: _ } => run_due(alloc, accepted, script),
         },
     }
 }
 
-// The journal of these entries.
-fn journal(entries: Entries) -> Journal
-    ensures { result ≡ record { limit = steps; entries = entries } }
+// The lines of a refusal, with status 1.
+fn refusal_due(alloc: Global, why: &Why) -> Result<Due, Part>
+    ensures ok { IfOk result (λ due. IsDueAs due 1 (refusal why.now) None no_journal) }
+    ensures err { IfErr result (λ part. IsPartAs part None no_journal) }
 {
-    Journal {
-        limit: STEPS,
-        entries,
+    match refusal(alloc, why) {
+        Ok(text) => Ok(text_due(alloc, 1, text, None)),
+        Err(_) => Err(bare_part(alloc, None)),
     }
 }
 
-// What was done before a script was run.
-fn bare_part(alloc: Global, accepted: Option<Accepted>) -> Part
-    ensures accepted { result.accepted ≡ accepted }
-    ensures journal { result.journal ≡ no_journal }
+// The line of a run of the solver that stopped, with status 8.
+fn unsolved_due(alloc: Global, stop: Stop) -> Result<Due, Part>
+    ensures ok { IfOk result (λ due. IsDueAs due 8 (unsolved_line stop) None no_journal) }
+    ensures err { IfErr result (λ part. IsPartAs part None no_journal) }
 {
-    Part {
-        accepted,
-        journal: journal(Items::of_vec(Vec::new(alloc))),
-    }
-}
-
-// A line with its status.
-fn line_due(alloc: Global, status: u8, line: &[u8], accepted: Option<Accepted>) -> Result<Due, Part>
-    ensures ok { IfOk result (λ due. IsDueAs due status line.now accepted no_journal) }
-    ensures err { IfErr result (λ part. IsPartAs part accepted no_journal) }
-{
-    match Vec::from_slice(alloc, line) {
-        Ok(text) => Ok(Due {
-            status,
-            text,
-            accepted,
-            journal: journal(Items::of_vec(Vec::new(alloc))),
-        }),
-        Err(_) => Err(bare_part(alloc, accepted)),
-    }
-}
-
-// What is found of a contract.
-fn judge<S: Source>(alloc: Global, contract: &mut S) -> Verdict
-    ensures { Judges (S.left contract.old) (record { before = S.faults contract.old; after = S.faults contract.new }) result }
-{
-    match read_all(alloc, contract, TEXT_LIMIT) {
-        Ok(text) => judge_text(alloc, &text),
-        Err(ReadError::TooLong) => Verdict::Refused(Why::Unread),
-        Err(ReadError::ReadFault) => Verdict::ReadFault,
-        Err(ReadError::NoMemory) => Verdict::NoMemory,
-    }
-}
-
-// What is found of the text of a contract.
-fn judge_text(alloc: Global, text: &[u8]) -> Verdict
-    ensures judged { (counts : Counts) → JudgesText text.now counts result }
-    ensures no_fault { result ≢ Verdict.ReadFault }
-{
-    match accept(alloc, text) {
-        Ok(accepted) => Verdict::Accepted(accepted),
-        Err(AcceptError::Refused(why)) => Verdict::Refused(why),
-        Err(AcceptError::NoMemory) => Verdict::NoMemory,
+    match unsolved_line(alloc, stop) {
+        Ok(text) => Ok(text_due(alloc, 8, text, None)),
+        Err(_) => Err(bare_part(alloc, None)),
     }
 }
 
 // The block of an accepted program, with status 0.
 fn accepted_due(alloc: Global, accepted: Accepted) -> Result<Due, Part>
+    requires each_star { HasEachStar accepted }
     ensures ok { IfOk result (λ due. IsDueAs due 0 (accepted_block accepted) (Some accepted) no_journal) }
     ensures err { IfErr result (λ part. IsPartAs part None no_journal) }
 {
     match accepted_block(alloc, &accepted) {
-        Ok(text) => Ok(Due {
-            status: 0,
-            text,
-            accepted: Some(accepted),
-            journal: journal(Items::of_vec(Vec::new(alloc))),
-        }),
+        Ok(text) => Ok(text_due(alloc, 0, text, Some(accepted))),
         Err(_) => Err(bare_part(alloc, None)),
     }
 }
 
-// The line of a refusal.
-fn refusal_line(why: Why) -> &'static [u8]
-    ensures { result.now ≡ refusal_line why }
-{
-    match why {
-        Why::NotYet => b"refused NotYet\n",
-        Why::Unread => b"refused Unread\n",
-        Why::Untyped => b"refused Untyped\n",
-    }
-}
-
-// What is found of a script.
-fn find_script<S: Source>(alloc: Global, script: &mut S) -> Found
-    ensures { Finds (S.left script.old) (record { before = S.faults script.old; after = S.faults script.new }) result }
-{
-    match read_all(alloc, script, parsing::TEXT_LIMIT) {
-        Ok(text) => read_script_text(alloc, &text),
-        Err(ReadError::TooLong) => Found::TooLong,
-        Err(ReadError::ReadFault) => Found::ReadFault,
-        Err(ReadError::NoMemory) => Found::NoMemory,
-    }
-}
-
-// What is found of the text of a script.
-fn read_script_text(alloc: Global, text: &[u8]) -> Found
-    ensures { FindsText text.now result }
-{
-    match parse_script(alloc, text) {
-        Ok(script) => Found::Script(script),
-        Err(ScriptError::TooLong) => Found::TooLong,
-        Err(ScriptError::Syntax(line)) => Found::Syntax(line),
-        Err(ScriptError::NotYet(line)) => Found::NotYet(line),
-        Err(ScriptError::NoMemory) => Found::NoMemory,
-    }
-}
-
-// What is due where a script is to be run on an accepted contract.
-fn script_due<S: Source>(alloc: Global, accepted: Accepted, script: &mut S) -> Result<Due, Part>
-    ensures ok { IfOk result (λ due. IsDueOf accepted (S.left script.old) (record { before = S.faults script.old; after = S.faults script.new }) due.status due.text.items due.accepted due.journal) }
+// What is due for a run on an accepted contract: the script is read where `run` takes the contract.
+fn run_due<S: Source>(alloc: Global, accepted: Accepted, script: &mut S) -> Result<Due, Part>
+    requires each_star { HasEachStar accepted }
+    ensures ok { IfOk result (λ due. IsDueOf accepted (S.left script.old)
+        (record { before = S.faults script.old; after = S.faults script.new })
+        due.status due.text.items due.accepted due.journal) }
     ensures err { IfErr result (λ part. IsPartOf accepted (S.left script.old) part.accepted part.journal) }
 {
-    match find_script(alloc, script) {
-        Found::NoMemory => Err(bare_part(alloc, Some(accepted))),
-        Found::ReadFault => line_due(alloc, 5, b"read fault script\n", Some(accepted)),
-        Found::TooLong => line_due(alloc, 2, b"script refused TooLong\n", Some(accepted)),
-        Found::Syntax(line) => refused_due(alloc, accepted, b"script refused Syntax ", line),
-        Found::NotYet(line) => refused_due(alloc, accepted, b"script refused NotYet ", line),
-        Found::Script(script) => ran_due(alloc, accepted, &script),
+    if is_runnable(accepted.program()) {
+        script_due(alloc, accepted, script)
+    } else {
+        line_due(alloc, 1, b"refused NotYet\n", Some(accepted))
     }
-}
-
-// The line of a script's refusal at a line, with status 2.
-fn refused_due(alloc: Global, accepted: Accepted, cause: &[u8], line: u32) -> Result<Due, Part>
-    ensures ok { IfOk result (λ due. IsDueAs due 2 (cause.now ++ decimal line ++ codes "\n") (Some accepted) no_journal) }
-    ensures err { IfErr result (λ part. IsPartAs part (Some accepted) no_journal) }
-{
-    match numbered(alloc, cause, line) {
-        Ok(text) => line_due(alloc, 2, &text, Some(accepted)),
-        Err(_) => Err(bare_part(alloc, Some(accepted))),
-    }
-}
-
-// A line that ends with a number.
-fn numbered(alloc: Global, cause: &[u8], line: u32) -> Result<Vec<u8>, AllocError>
-    ensures { IfOk result (λ text. text.items ≡ cause.now ++ decimal line ++ codes "\n") }
-{
-    let mut text = Vec::from_slice(alloc, cause)?;
-    push_number(&mut text, u64::from(line))?;
-    text.extend_from_slice(b"\n")?;
-    Ok(text)
-}
-
-// What is due for a script that reads.
-fn ran_due(alloc: Global, accepted: Accepted, script: &Script) -> Result<Due, Part>
-    ensures ok { IfOk result (λ due. HasRunAs accepted script.now due.status due.text.items due.accepted due.journal) }
-    ensures err { IfErr result (λ part. HasRunPart accepted script.now part.accepted part.journal) }
-{
-    match run_items(alloc, &accepted, STEPS, script.items().as_slice()) {
-        Ok(running) => report_due(alloc, accepted, running),
-        Err(entries) => Err(Part {
-            accepted: Some(accepted),
-            journal: journal(entries),
-        }),
-    }
-}
-
-// The report of a run.
-fn report_due(alloc: Global, accepted: Accepted, running: Running) -> Result<Due, Part>
-    ensures ok { IfOk result (λ due. IsDueAs due (run_status running.entries.items) (accepted_block accepted ++ running.text.items) (Some accepted) (journal_of running.entries.items)) }
-    ensures err { IfErr result (λ part. IsPartAs part (Some accepted) (journal_of running.entries.items)) }
-{
-    let Running { entries, text, .. } = running;
-    let status = run_status(&entries);
-    let journal = journal(Items::of_vec(entries));
-    match whole(alloc, &accepted, &text) {
-        Ok(text) => Ok(Due {
-            status,
-            text,
-            accepted: Some(accepted),
-            journal,
-        }),
-        Err(_) => Err(Part {
-            accepted: Some(accepted),
-            journal,
-        }),
-    }
-}
-
-// The accepted block with these lines behind it.
-fn whole(alloc: Global, accepted: &Accepted, lines: &[u8]) -> Result<Vec<u8>, AllocError>
-    ensures { IfOk result (λ text. text.items ≡ accepted_block accepted.now ++ lines.now) }
-{
-    let mut text = accepted_block(alloc, accepted)?;
-    text.extend_from_slice(lines)?;
-    Ok(text)
-}
-
-// The status of a run.
-fn run_status(entries: &[Entry]) -> u8
-    ensures { result ≡ run_status entries.now }
-{
-    if are_well(entries) { 0 } else { 3 }
-}
-
-// Whether each entry was carried out.
-fn are_well(entries: &[Entry]) -> bool
-    ensures { result ≡ list_all (λ e. is_well e.end) entries.now }
-{
-    entries.iter().all(|e| is_well(&e.end))
-}
-
-// Whether it is the end of what was carried out.
-fn is_well(end: &End) -> bool
-    ensures { result ≡ is_well end.now }
-{
-    matches!(end, End::Deposited | End::Committed)
 }

@@ -1,5 +1,5 @@
 use Rattle.nomos_top.proofs.DueLemmas.{if_err-map, ran-part}
-use Rattle.nomos_top.proofs.top.ran_due.Goals as goal
+use Rattle.nomos_top.proofs.scripts.ran_due.Goals as goal
 
 pub returns-in-Ok-clause-err : goal.returns-in-Ok-clause-err
 returns-in-Ok-clause-err c =

@@ -1,6 +1,6 @@
 use Rattle.nomos_script.specs.Reading.{text_limit}
 use Rattle.nomos_top.proofs.DueLemmas.{some_text, long_text}
-use Rattle.nomos_top.proofs.top.find_script.Goals as goal
+use Rattle.nomos_top.proofs.scripts.find_script.Goals as goal
 
 pub returns-in-Err-TooLong : goal.returns-in-Err-TooLong
 returns-in-Err-TooLong g c =

@@ -1,8 +1,7 @@
-use Rattle.nomos_accept.proofs.RefusalLaws.{too_long-unread}
 use Rattle.nomos_syntax.specs.Limits.{text_limit}
-use Rattle.nomos_top.proofs.DueLemmas.{some_text, long_text, taken_text}
+use Rattle.nomos_top.proofs.DueLemmas.{some_text, long_text, taken_text, too_long-refused}
 use Rattle.nomos_top.specs.Outcome.{Counts}
-use Rattle.nomos_top.proofs.top.judge.Goals as goal
+use Rattle.nomos_top.proofs.judging.judge.Goals as goal
 
 pub returns-in-Ok : goal.returns-in-Ok
 returns-in-Ok g c =
@@ -16,7 +15,7 @@ returns-in-Err-TooLong g c =
     let left = g.S.Source.left c.args.contract.now in
     let now = g.S.Source.left c.read_all.new.source in
     let t = long_text text_limit left now (c.in-Err-TooLong.ensures.too_long (cc)) in
-    (t.0, t.1, too_long-unread t.0 t.2)
+    (t.0, t.1, too_long-refused t.0 t.2)
 
 pub returns-in-Err-ReadFault : goal.returns-in-Err-ReadFault
 returns-in-Err-ReadFault g c =
