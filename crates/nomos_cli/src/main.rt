@@ -3,7 +3,7 @@
 
 ghost use Rattle.std.specs.Prelude.{map, string_bytes, IsSome};
 ghost use Rattle.nomos_top.specs.Words.{task_of};
-ghost use Rattle.nomos_cli.specs.Call.{EndsWith};
+ghost use Rattle.nomos_cli.specs.Call.{EndsSilently};
 
 mod file_source;
 mod stdout_sink;
@@ -21,8 +21,11 @@ fn main(rt: HostRuntime) -> ExitCode {
     let Ok(words) = own_words(&rt) else {
         return ExitCode::from(7);
     };
+    let mut contract = FileSource::new(contract_file(&rt, &words));
+    let mut script = FileSource::new(script_file(&rt, &words));
     let mut out = StdoutSink::new(rt.stdout());
-    ExitCode::from(status_of(&rt, &words, &mut out))
+    let status = status_of(&rt, &words, &mut contract, &mut script, &mut out);
+    ExitCode::from(status)
 }
 
 // The words after the program's own name. Where one of them is no text, they have no form, and so has
@@ -36,16 +39,19 @@ fn own_words<R: Env + AllocGlobal>(rt: &R) -> Result<Vec<String>, AllocError> {
 }
 
 // Does what the words say, and gives the status that the program ends with.
-fn status_of<R: Files<File = File> + AllocGlobal>(
+fn status_of<R: AllocGlobal>(
     rt: &R,
     words: &[String],
+    contract: &mut FileSource,
+    script: &mut FileSource,
     out: &mut StdoutSink,
 ) -> u8
-    ensures { EndsWith (map string_bytes words.now) (record { before = out.old; after = out.new }) result }
+    ensures { EndsSilently (map string_bytes words.now)
+        (record { before = contract.old; after = contract.new })
+        (record { before = script.old; after = script.new })
+        (record { before = out.old; after = out.new }) result }
 {
-    let mut contract = FileSource::new(contract_file(rt, words));
-    let mut script = FileSource::new(script_file(rt, words));
-    nomos(rt.alloc(), words, &mut contract, &mut script, out).status
+    nomos(rt.alloc(), words, contract, script, out).status
 }
 
 // The file of the contract, opened for reading. None, where the words name none or it cannot be opened.
