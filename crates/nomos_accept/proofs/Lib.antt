@@ -1,2 +1,3 @@
-pub mod RefusalLaws
-pub mod ProcessLemmas
+pub mod AcceptLaws
+pub mod JudgingLemmas
+pub mod RefusalLemmas

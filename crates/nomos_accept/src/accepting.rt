@@ -1,70 +1,104 @@
 //! Acceptance of contract texts.
+ghost use Rattle.std.specs.Prelude.{◌≡◌, ◌≤◌, ◌^◌, ℕ, List, length, IfOk};
+ghost use Rattle.nomos_accept.specs.Acceptance.{Answers, AreRowsFor, IsReadAs};
+ghost use Rattle.nomos_accept.specs.mirror.Read.{AnswersRead};
+ghost use Rattle.nomos_forms.specs.Bounds.{IsFound, IsVerdict};
+ghost use Rattle.nomos_forms.specs.Meeting.{MeetsRows};
+ghost use Rattle.nomos_forms.specs.Refuting.{NoneMeet, Refutes};
+ghost use Rattle.nomos_ir.specs.Amounts.{star_count};
+ghost use Rattle.nomos_ir.specs.Program.{IsProgram};
+ghost use Rattle.nomos_rows.specs.ProgramRows.{IsTypedByRows};
+ghost use Rattle.nomos_syntax.specs.Limits.{node_limit};
+ghost use Rattle.nomos_types.specs.Acceptance.{acceptance};
 
-ghost use Rattle.std.specs.Prelude.{◌≡◌, ◌↔◌, ◌<◌, All, [], IsTrue, IfOk, IsErrOf, length};
-ghost use Rattle.nomos_accept.specs.Acceptance.{IsAcceptedAs, IsRefused, written_amounts};
-ghost use Rattle.nomos_accept.specs.declared.refusal.Why.{Why};
-ghost use Rattle.nomos_ir.specs.Unfold.{IsContractive};
-ghost use Rattle.nomos_types.specs.Fragment.Derivation.{Derives};
-ghost use Rattle.nomos_types.specs.Fragment.Judgement.{start_of};
-ghost use Rattle.nomos_types.specs.Fragment.Modes.{ObeysModes};
-ghost use Rattle.nomos_types.specs.Fragment.Typed.{IsTyped};
-
+use crate::causes::{of_form, of_names, of_parse, of_rows};
 use crate::refusal::{AcceptError, Why};
-use nomos_check::checking::check_process;
-use nomos_ir::ids::ProcId;
-use nomos_ir::lists::Amounts;
+use nomos_elaborate::elaborate::elaborate;
+use nomos_forms::found::Found;
+use nomos_forms::meeting::put_back;
+use nomos_forms::refuting::refutes;
+use nomos_forms::row_list::RowList;
+use nomos_forms::verdict::Verdict;
 use nomos_ir::program::Program;
-use nomos_parse::{ReadingError, read_program};
+use nomos_rows::program_rows::program_rows;
+use nomos_simplex::solved::Solved;
+use nomos_simplex::solving::solve;
+use nomos_surface::parse::parse;
 use nomos_types::accepted::Accepted;
-use nomos_types::contractive::is_contractive;
-use nomos_types::modes::obeys_modes;
-use std::alloc::{AllocError, Global};
+use nomos_types::forming::well_formed;
+use std::alloc::Global;
 
-/// Accepts a contract text where it reads as a program that has a derivation, and says otherwise why not: the
-/// three causes are those of docs/LANGUAGE.md, "Acceptance". Want of memory is the one answer for which no
-/// reason is given.
-pub fn accept(alloc: Global, text: &[u8]) -> Result<Accepted, AcceptError>
-    ensures accepted { IfOk result (λ a. IsAcceptedAs text.now a) }
-    ensures refused { (why : Why) → IsErrOf result (AcceptError.Refused why) → IsRefused text.now why }
+/// The program as which a text reads, or why it reads as none.
+fn read(alloc: Global, text: &[u8]) -> Result<Program, AcceptError>
+    ensures answer { AnswersRead text.now result }
+    ensures few { IfOk result (λ program. length program.types ≤ node_limit) }
 {
-    let program = match read_program(alloc, text) {
-        Ok(program) => program,
-        Err(ReadingError::NotYet) => return Err(AcceptError::Refused(Why::NotYet)),
-        Err(ReadingError::Unread) => return Err(AcceptError::Refused(Why::Unread)),
-        Err(ReadingError::NoMemory) => return Err(AcceptError::NoMemory),
+    let surface = match parse(alloc, text) {
+        Ok(surface) => surface,
+        Err(error) => return Err(of_parse(error)),
     };
-    if !is_contractive(&program) {
-        return Err(AcceptError::Refused(Why::Unread));
+    match elaborate(alloc, &surface) {
+        Ok(program) => Ok(program),
+        Err(error) => Err(of_names(error)),
     }
-    match is_typed(alloc, &program) {
-        Ok(true) => Ok(Accepted::of_typed(program, Amounts::of_vec(Vec::new(alloc)), 1)),
-        Ok(false) => Err(AcceptError::Refused(Why::Untyped)),
+}
+
+/// The acceptance of a program under amounts that meet its rows. They are put back into the rows before they are
+/// believed.
+fn accepted(program: Program, rows: &RowList, found: Found) -> Accepted
+    requires rows { AreRowsFor program rows.now }
+    requires law { IsTypedByRows program (star_count program) rows.now.rows }
+    requires found { IsFound rows.now.stars found }
+    requires unit { found.unit ≤ 2 ^ 31 }
+    requires meets { MeetsRows found.stars found.unit rows.now.rows }
+    ensures { result ≡ acceptance program found.stars found.unit }
+{
+    if !put_back(rows, &found) {
+        unreachable!()
+    }
+    Accepted::of_typed(program, found.stars, found.unit)
+}
+
+/// The refusal of a program whose rows are refuted. That the verdict refutes them is looked at before it is given.
+fn refuted(rows: &RowList, verdict: Verdict) -> AcceptError
+    requires verdict { IsVerdict verdict }
+    requires refutes { Refutes rows.now.stars rows.now.rows verdict }
+    ensures refused { result ≡ AcceptError.Refused (Why.NoPotential verdict) }
+    ensures none_meet { NoneMeet rows.now.stars rows.now.rows }
+{
+    if !refutes(rows, &verdict) {
+        unreachable!()
+    }
+    AcceptError::Refused(Why::NoPotential(verdict))
+}
+
+/// Accepts a program, or says why not.
+fn judge(alloc: Global, program: Program) -> Result<Accepted, AcceptError>
+    requires few { length program.types ≤ node_limit }
+    ensures { (text : List ℕ) → IsReadAs text program → Answers text result }
+{
+    match well_formed(alloc, &program) {
+        Ok(()) => {}
+        Err(error) => return Err(of_form(error)),
+    }
+    let rows = match program_rows(alloc, &program) {
+        Ok(rows) => rows,
+        Err(error) => return Err(of_rows(error)),
+    };
+    match solve(alloc, &rows) {
+        Ok(Solved::Found(found)) => Ok(accepted(program, &rows, found)),
+        Ok(Solved::None(verdict)) => Err(refuted(&rows, verdict)),
+        Ok(Solved::Unsolved(stop)) => Err(AcceptError::Unsolved(stop)),
         Err(_) => Err(AcceptError::NoMemory),
     }
 }
 
-// Whether a contractive program without functions has a derivation.
-fn is_typed(alloc: Global, program: &Program) -> Result<bool, AllocError>
-    requires contractive { IsContractive program.now }
-    requires functions { program.now.fns ≡ [] }
-    ensures { IfOk result (λ yes. IsTrue yes ↔ IsTyped program.now written_amounts) }
+/// Accepts a contract text where it reads as a program that is typed under the amounts that the pivot run finds, and
+/// says otherwise why not, by the first cause in the order of docs/LANGUAGE.md, "Acceptance". A text that is refused is
+/// typed under no amounts over any unit. Want of memory is the one answer for which no reason is given.
+pub fn accept(alloc: Global, text: &[u8]) -> Result<Accepted, AcceptError>
+    ensures { Answers text.now result }
 {
-    if !obeys_modes(program) {
-        return Ok(false);
-    }
-    check_processes(alloc, program)
-}
-
-// Whether each process declaration has a derivation.
-fn check_processes(alloc: Global, program: &Program) -> Result<bool, AllocError>
-    requires contractive { IsContractive program.now }
-    requires modes { ObeysModes program.now }
-    ensures { IfOk result (λ yes. IsTrue yes ↔ All (λ d. Derives program.now written_amounts (start_of program.now written_amounts d)) program.now.procs) }
-{
-    for p in 0..program.lists().procs.len() {
-        if !check_process(alloc, program, ProcId(p as u32))? {
-            return Ok(false);
-        }
-    }
-    Ok(true)
+    let program = read(alloc, text)?;
+    judge(alloc, program)
 }

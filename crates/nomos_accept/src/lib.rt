@@ -2,4 +2,5 @@
 #![tactic(auto)]
 
 pub mod accepting;
+mod causes;
 pub mod refusal;

@@ -1,0 +1,22 @@
+use Rattle.std.proofs.Common.{subst}
+use Rattle.nomos_accept.proofs.AcceptLaws.{never-typed}
+use Rattle.nomos_accept.proofs.causes.of_rows.Goals as goal
+use Rattle.nomos_rows.specs.Faults.{IsCause}
+
+pub returns-in-NotSync : goal.returns-in-NotSync
+returns-in-NotSync c = λ text lists read formed cause.
+    let found = subst (IsCause lists) c.in-NotSync.is cause in
+    let (astray, first, never) = found in
+    ((lists, read, (formed, found)), never-typed text lists read never)
+
+pub returns-in-TermType : goal.returns-in-TermType
+returns-in-TermType c = λ text lists read formed cause.
+    let found = subst (IsCause lists) c.in-TermType.is cause in
+    let (back, other, first, never) = found in
+    ((lists, read, (formed, found)), never-typed text lists read never)
+
+pub returns-in-ProcType : goal.returns-in-ProcType
+returns-in-ProcType c = λ text lists read formed cause.
+    let found = subst (IsCause lists) c.in-ProcType.is cause in
+    let (back, stuck, first, never) = found in
+    ((lists, read, (formed, found)), never-typed text lists read never)
