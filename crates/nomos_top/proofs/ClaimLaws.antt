@@ -15,7 +15,7 @@ use Rattle.nomos_simplex.specs.declared.solved.Stop.{Stop}
 use Rattle.nomos_top.proofs.DueLemmas.{some_text}
 use Rattle.nomos_top.specs.Block.{accepted_block}
 use Rattle.nomos_top.specs.Claim.{Call, HasWritten, IsGiven, IsShown, IsComplete, IsRefusedTruly, IsStoppedTruly, Claim, Claims}
-use Rattle.nomos_top.specs.Outcome.{Counts, Input, Reading, input_of, IsTextOf, IsCheck, IsRun, IsRefused, HasStopped, IsDue, usage, read_fault, refused, unsolved, accepted, not_yet, script_fault, script_too_long, script_syntax, script_not_yet, ran, IsDueFor, IsPart, nothing, accepted_part, run_part, IsWritten, whole, write_fault, EndsFor, written, no_memory}
+use Rattle.nomos_top.specs.Outcome.{Counts, Input, Reading, input_of, IsCheck, IsRun, IsRefused, HasStopped, IsDue, usage, read_fault, refused, unsolved, accepted, not_yet, script_fault, script_too_long, script_syntax, script_not_yet, ran, IsPart, nothing, accepted_part, run_part, IsWritten, whole, write_fault, EndsFor, written, no_memory}
 use Rattle.nomos_top.specs.Refusal.{refusal, unsolved_line, not_yet_line}
 use Rattle.nomos_top.specs.Report.{run_status, is_well}
 use Rattle.nomos_top.specs.Runnable.{is_runnable}

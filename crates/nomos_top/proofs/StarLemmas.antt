@@ -1,9 +1,9 @@
 -- What is printed of stars, star by star; how great their numbers are.
-use Rattle.std.proofs.Common.{◌≡◌, ◌∙◌, ℕ, zero, suc, ◌+◌, ◌-◌, ◌<◌, ◌≤◌, List, [], ◌∷◌, ◌++◌, length, get_or, take, map, max, All, ap, refl, subst, sym, arith, append_assoc, append-nil}
+use Rattle.std.proofs.Common.{◌≡◌, ◌∙◌, ℕ, suc, ◌+◌, ◌<◌, ◌≤◌, List, [], ◌∷◌, ◌++◌, length, get_or, take, map, All, ap, refl, sym, arith, append_assoc, append-nil}
 use Rattle.std.proofs.Math.Seq.{take-suc}
 use Rattle.std.proofs.lemmas.List.{length-take-le}
 use Rattle.std.specs.Prelude.{slice_index}
-use Rattle.nomos_ir.specs.Amounts.{AmountsAreSmall, IsAmount, amounts_of, star_of, star_count, greatest, most_star}
+use Rattle.nomos_ir.specs.Amounts.{AmountsAreSmall, IsAmount, amounts_of, star_of, star_count, greatest}
 use Rattle.nomos_ir.specs.declared.amount.Amount.{Amount}
 use Rattle.nomos_ir.specs.declared.amount.Amount.TheVariants as amount
 use Rattle.nomos_ir.specs.declared.lists.ProgramLists.{ProgramLists}
