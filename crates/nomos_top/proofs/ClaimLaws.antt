@@ -2,7 +2,8 @@
 use Rattle.std.proofs.Common.{◌≡◌, ◌≢◌, ◌⊎◌, inl, inr, ℕ, Bool, true, false, List, Option, Some, None, refl, subst, arith}
 use Rattle.std.specs.List.{list_all}
 use Rattle.std.specs.Prelude.{if◌then◌else◌}
-use Rattle.nomos_accept.proofs.AcceptLaws.{one-program, one-cause}
+use Rattle.nomos_accept.proofs.AcceptLaws.{one-program}
+use Rattle.nomos_accept.proofs.CauseLaws.{one-cause}
 use Rattle.nomos_accept.proofs.StarLaws.{no_stars-stop}
 use Rattle.nomos_accept.specs.Acceptance.{IsTypedAs, IsAcceptedAs, EndsWith}
 use Rattle.nomos_accept.specs.declared.refusal.Why.{Why}

@@ -1,0 +1,152 @@
+-- A text is refused by one step of the checker at most, and at one place.
+use Rattle.std.proofs.Common.{◌≡◌, ◌<◌, ◌≤◌, ℕ, zero, suc, ◌+◌, List, Option, Some, None, Err, length, slice_get, inl, inr, refl, sym, ap, subst, ◌∙◌, arith, ◌⊎◌}
+use Rattle.nomos_accept.proofs.AcceptLaws.{one-tree, one-program}
+use Rattle.nomos_accept.proofs.StepLemmas.{one-step}
+use Rattle.nomos_accept.specs.Acceptance.{IsReadAs, ReadsWith, IsProgramWith, IsOffence, IsCauseOf}
+use Rattle.nomos_accept.specs.Causes.{step_of, offset_of, limit_of, SameCause}
+use Rattle.nomos_accept.specs.declared.refusal.Why.{Why}
+use Rattle.nomos_accept.specs.declared.refusal.Why.TheVariants as why
+use Rattle.nomos_elaborate.specs.Claim.{first_broken}
+use Rattle.nomos_elaborate.specs.FileClaims.{claims_of}
+use Rattle.nomos_elaborate.specs.WrittenWork.{written_work}
+use Rattle.nomos_equality.specs.declared.hop.Hop.{Hop}
+use Rattle.nomos_grammar.proofs.OffenceLaws.{error_once}
+use Rattle.nomos_grammar.specs.declared.offence.GrammarError.{GrammarError}
+use Rattle.nomos_grammar.specs.declared.offence.GrammarError.TheVariants as grammar
+use Rattle.nomos_grammar.specs.declared.offence.Which.{Which}
+use Rattle.nomos_ir.specs.declared.lists.ProgramLists.{ProgramLists}
+use Rattle.nomos_rows.specs.Faults.{LeadsAstray, IsFaulty, IsFirstFault}
+use Rattle.nomos_surface.specs.Reading.{ReadsAs}
+use Rattle.nomos_surface.specs.Tree.{FileTree}
+use Rattle.nomos_syntax.specs.Scan.{tokens_of}
+use Rattle.nomos_syntax.specs.Spans.{IsFirstNotAscii}
+use Rattle.nomos_ir.specs.declared.type_node.Def.{Def}
+use Rattle.nomos_types.specs.Forming.{StandsAtOffset, IsFirstBareName, IsFirstOffence}
+
+-- what an error of the grammar names
+abbrev offset_in : GrammarError → Option ℕ
+offset_in (grammar.Syntax at) = Some at
+offset_in (grammar.Limit which at) = Some at
+offset_in grammar.NoMemory = None
+
+abbrev limit_in : GrammarError → Option Which
+limit_in (grammar.Syntax at) = None
+limit_in (grammar.Limit which at) = Some which
+limit_in grammar.NoMemory = None
+
+-- the text reads as a program of which this holds at the offset
+abbrev IsPlaced : (ProgramLists → ℕ → Type 0) → List ℕ → Option ℕ → Type 0
+IsPlaced P text o = (lists : ProgramLists) × (at : ℕ) × IsReadAs text lists × P lists at × (o ≡ Some at)
+
+-- the first `up` that leads astray
+pub record IsFirstAstray (lists : ProgramLists) (at : ℕ) : Type 0 where
+  path : List Hop
+  astray : LeadsAstray lists at path
+  first : (other : ℕ) (p : List Hop) → LeadsAstray lists other p → at ≤ other
+
+-- the first fault of a function or a process
+pub record IsFault (lists : ProgramLists) (at : ℕ) : Type 0 where
+  faulty : IsFaulty lists at
+  first : IsFirstFault lists at
+
+-- the offset and the limit that a step finds
+abbrev Finds : ℕ → List ℕ → Option ℕ → Option Which → Type 0
+Finds zero text o l = (o ≡ None) × (l ≡ None)
+Finds (suc zero) text o l = ((at : ℕ) × IsFirstNotAscii text at × (o ≡ Some at)) × (l ≡ None)
+Finds (suc (suc zero)) text o l =
+    (e : GrammarError) × (e ≡ grammar.NoMemory → ⊥) × IsOffence text e × (o ≡ offset_in e) × (l ≡ limit_in e)
+Finds (suc (suc (suc zero))) text o l = ReadsWith text (λ tree. first_broken (claims_of tree) ≡ o) × (l ≡ None)
+Finds (suc (suc (suc (suc zero)))) text o l = ReadsWith text (λ tree. written_work tree ≡ o) × (l ≡ None)
+Finds (suc (suc (suc (suc (suc zero))))) text o l = IsPlaced IsFirstBareName text o × (l ≡ None)
+Finds (suc (suc (suc (suc (suc (suc zero)))))) text o l = IsPlaced IsFirstOffence text o × (l ≡ None)
+Finds (suc (suc (suc (suc (suc (suc (suc zero))))))) text o l = IsPlaced IsFirstAstray text o × (l ≡ None)
+Finds (suc (suc (suc (suc (suc (suc (suc (suc zero)))))))) text o l = IsPlaced IsFault text o × (l ≡ None)
+Finds _ text o l = (o ≡ None) × (l ≡ None)
+
+-- what the cause names is what its step finds
+finds : (text : List ℕ) (v : Why) → IsCauseOf text v → Finds (step_of v) text (offset_of v) (limit_of v)
+finds text why.TooLong long = (refl, refl)
+finds text (why.NotAscii at) first = ((at, first, refl), refl)
+finds text (why.Syntax at) offence = (grammar.Syntax at, (λ e. absurd cc), offence, refl, refl)
+finds text (why.Limit which at) offence = (grammar.Limit which at, (λ e. absurd cc), offence, refl, refl)
+finds text (why.Name at) (tree, reads, broken) = ((tree, reads, broken), refl)
+finds text (why.Cost at) (tree, reads, breaks) = ((tree, reads, breaks.work), refl)
+finds text (why.Contractive at) (lists, read, bare) = ((lists, at, read, bare, refl), refl)
+finds text (why.Mode at) (lists, read, both) = ((lists, at, read, both.1, refl), refl)
+finds text (why.NotSync at path) (lists, read, both) =
+    let (astray, first, never) = both.1 in
+    ((lists, at, read, record { path = path; astray = astray; first = first }, refl), refl)
+finds text (why.TermType at) (lists, read, both) =
+    let (back, other, first, never) = both.1 in
+    ((lists, at, read, record { faulty = inl other; first = first }, refl), refl)
+finds text (why.ProcType at form) (lists, read, both) =
+    let (back, stuck, first, never) = both.1 in
+    ((lists, at, read, record { faulty = inr (form, stuck); first = first }, refl), refl)
+finds text (why.NoPotential verdict) cause = (refl, refl)
+
+-- the first bare name is one
+bare_below : (lists : ProgramLists) (a b : ℕ) (first : IsFirstBareName lists a) (other : IsFirstBareName lists b)
+    → first.place < other.place → ⊥
+bare_below lists a b first other less = other.first first.place first.def less first.there _ first.bare
+
+bare-once : (lists : ProgramLists) (a b : ℕ) → IsFirstBareName lists a → IsFirstBareName lists b → a ≡ b
+bare-once lists a b first other =
+    let below : ¬ (first.place < other.place) = bare_below lists a b first other in
+    let above : ¬ (other.place < first.place) = bare_below lists b a other first in
+    let same : first.place ≡ other.place = omega (arith, below, above) in
+    let there : Some first.def ≡ Some other.def =
+    sym first.there ∙ (ap (λ k. slice_get lists.defs k) same ∙ other.there) in
+    let def : first.def ≡ other.def = cc in
+    let offset = subst (λ (d : Def). StandsAtOffset lists d.body b) (sym def) other.offset in
+    let both : Some a ≡ Some b = sym first.offset ∙ offset in
+    cc
+
+offence-once : (lists : ProgramLists) (a b : ℕ) → IsFirstOffence lists a → IsFirstOffence lists b → a ≡ b
+offence-once lists a b first other = omega (arith, first.first b other.there, other.first a first.there)
+
+astray-once : (lists : ProgramLists) (a b : ℕ) → IsFirstAstray lists a → IsFirstAstray lists b → a ≡ b
+astray-once lists a b first other = omega (arith, first.first b other.path other.astray, other.first a first.path first.astray)
+
+fault-once : (lists : ProgramLists) (a b : ℕ) → IsFault lists a → IsFault lists b → a ≡ b
+fault-once lists a b first other = omega (arith, first.first b other.faulty, other.first a first.faulty)
+
+-- what is at one place of each program is at one place of a text
+placed-once : (P : ProgramLists → ℕ → Type 0) → ((lists : ProgramLists) (a b : ℕ) → P lists a → P lists b → a ≡ b)
+    → (text : List ℕ) (o p : Option ℕ) → IsPlaced P text o → IsPlaced P text p → o ≡ p
+placed-once P once text o p (lists, at, read, is, e) (other, to, again, is_too, f) =
+    let same : other ≡ lists = one-program text other lists again read in
+    let one : at ≡ to = once lists at to is (subst (λ (l : ProgramLists). P l to) same is_too) in
+    e ∙ (ap Some one ∙ sym f)
+
+-- a step finds one place
+finds-once : (k : ℕ) (text : List ℕ) (o p : Option ℕ) (l m : Option Which) → Finds k text o l → Finds k text p m
+    → (o ≡ p) × (l ≡ m)
+finds-once zero text o p l m a b = (a.0 ∙ sym b.0, a.1 ∙ sym b.1)
+finds-once (suc zero) text o p l m ((at, first, e), f) ((to, other, g), h) =
+    (e ∙ (sym first.first ∙ (other.first ∙ sym g)), f ∙ sym h)
+finds-once (suc (suc zero)) text o p l m (e, some, offence, is, which) (f, some_too, other, is_too, which_too) =
+    let same : e ≡ f = error_once (Unit {0}) (tokens_of text) (length text) e f some some_too offence.refused other.refused in
+    (is ∙ (ap offset_in same ∙ sym is_too), which ∙ (ap limit_in same ∙ sym which_too))
+finds-once (suc (suc (suc zero))) text o p l m ((tree, reads, e), f) ((other, again, g), h) =
+    let same : other ≡ tree = one-tree text other tree again reads in
+    (sym e ∙ subst (λ (t : FileTree). first_broken (claims_of t) ≡ p) same g, f ∙ sym h)
+finds-once (suc (suc (suc (suc zero)))) text o p l m ((tree, reads, e), f) ((other, again, g), h) =
+    let same : other ≡ tree = one-tree text other tree again reads in
+    (sym e ∙ subst (λ (t : FileTree). written_work t ≡ p) same g, f ∙ sym h)
+finds-once (suc (suc (suc (suc (suc zero))))) text o p l m (a, f) (b, h) =
+    (placed-once IsFirstBareName bare-once text o p a b, f ∙ sym h)
+finds-once (suc (suc (suc (suc (suc (suc zero)))))) text o p l m (a, f) (b, h) =
+    (placed-once IsFirstOffence offence-once text o p a b, f ∙ sym h)
+finds-once (suc (suc (suc (suc (suc (suc (suc zero))))))) text o p l m (a, f) (b, h) =
+    (placed-once IsFirstAstray astray-once text o p a b, f ∙ sym h)
+finds-once (suc (suc (suc (suc (suc (suc (suc (suc zero)))))))) text o p l m (a, f) (b, h) =
+    (placed-once IsFault fault-once text o p a b, f ∙ sym h)
+finds-once (suc (suc (suc (suc (suc (suc (suc (suc (suc k))))))))) text o p l m a b = (a.0 ∙ sym b.0, a.1 ∙ sym b.1)
+
+-- all causes of refusal of a text are of one step, one offset and one limit
+pub one-cause : (text : List ℕ) (v w : Why) → IsCauseOf text v → IsCauseOf text w → SameCause v w
+one-cause text v w a b =
+    let step = one-step text v w a b in
+    let other = subst (λ (k : ℕ). Finds k text (offset_of w) (limit_of w)) (sym step) (finds text w b) in
+    let both = finds-once (step_of v) text (offset_of v) (offset_of w) (limit_of v) (limit_of w) (finds text v a) other in
+    record { step = step; offset = both.0; limit = both.1 }
