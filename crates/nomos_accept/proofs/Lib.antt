@@ -4,3 +4,4 @@ pub mod RefusalLemmas
 pub mod StepLemmas
 pub mod StarLaws
 pub mod CauseLaws
+pub mod RowListLaws
