@@ -5,3 +5,9 @@ pub mod WordLemmas
 pub mod NameLaws
 pub mod OffsetLemmas
 pub mod Examples
+pub mod BeginningLemmas
+pub mod TakenLemmas
+pub mod ApartLemmas
+pub mod LongerLemmas
+pub mod TokenLaws
+pub mod TokenExamples

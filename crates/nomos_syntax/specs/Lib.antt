@@ -6,3 +6,5 @@ pub mod Limits
 pub mod Spans
 pub mod Found
 pub mod Reading
+pub mod Longest
+pub mod Apart

@@ -1,9 +1,11 @@
 //! The tokens of a text.
-ghost use Rattle.std.specs.Prelude.{◌≡◌, ◌↔◌, ◌<◌, ◌≤◌, ℕ, length, All, OnOk, IfOk, IfSome, IfNone, IsErrOf};
+ghost use Rattle.std.specs.Prelude.{◌≡◌, ◌↔◌, ◌<◌, ◌≤◌, ℕ, length, map, All, OnOk, IfOk, IfSome, IfNone, IsErrOf};
+ghost use Rattle.nomos_syntax.specs.Apart.{ComesApart};
 ghost use Rattle.nomos_syntax.specs.Limits.{text_limit};
+ghost use Rattle.nomos_syntax.specs.Longest.{IsTakenIn};
 ghost use Rattle.nomos_syntax.specs.Reading.{IsPlainText};
 ghost use Rattle.nomos_syntax.specs.Scan.{tokens_of};
-ghost use Rattle.nomos_syntax.specs.Spans.{StandFor, first_not_ascii, IsFirstNotAscii};
+ghost use Rattle.nomos_syntax.specs.Spans.{StandFor, placed_of, first_not_ascii, IsFirstNotAscii};
 
 use crate::pieces::piece_of;
 use crate::token::{Token, TokenList};
@@ -62,6 +64,8 @@ fn scan(alloc: Global, text: &[u8]) -> Result<TokenList, AllocError>
 /// is refused as such, whatever its bytes are.
 pub fn tokens(alloc: Global, text: &[u8]) -> Result<TokenList, TokenError>
     ensures tokens { IfOk result (λ tokens. StandFor text.now tokens (tokens_of text.now)) }
+    ensures longest { IfOk result (λ tokens. All (IsTakenIn text.now) tokens) }
+    ensures apart { IfOk result (λ tokens. ComesApart 0 text.now (map (placed_of text.now) tokens)) }
     ensures plain { OnOk result (IsPlainText text.now) }
     ensures too_long { IsErrOf result TokenError.TooLong ↔ (text_limit < length text.now) }
     ensures not_ascii { (at : ℕ) → IsErrOf result (TokenError.NotAscii at) ↔ IsFirstNotAscii text.now at }
