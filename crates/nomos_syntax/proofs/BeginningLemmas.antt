@@ -1,5 +1,5 @@
 -- How the tokens begin with which bytes may begin.
-use Rattle.std.proofs.Common.{◌≡◌, ◌⊎◌, ℕ, suc, ◌<◌, ◌≤◌, Bool, true, false, ◌&&◌, not, ◌==◌, List, [], ◌∷◌, ◌++◌, length, Option, Some, None, find, cond, inl, inr, arith, ap, refl, sym, ◌∙◌, if◌then◌else◌}
+use Rattle.std.proofs.Common.{◌≡◌, ◌≢◌, ◌⊎◌, ℕ, suc, ◌<◌, ◌≤◌, Bool, true, false, ◌&&◌, not, ◌==◌, List, [], ◌∷◌, ◌++◌, length, Option, Some, None, find, cond, inl, inr, arith, ap, refl, sym, ◌∙◌, if◌then◌else◌}
 use Rattle.std.specs.List.{prefix_len, list_all}
 use Rattle.std.specs.Str.{bytes_eq}
 use Rattle.std.proofs.lemmas.Bool.{cases_Bool, and_parts, not-true}
@@ -12,7 +12,7 @@ use Rattle.nomos_ir.specs.Word.{text_of, all_words, reserved_word}
 use Rattle.nomos_syntax.specs.declared.symbol.Symbol.{Symbol}
 use Rattle.nomos_syntax.specs.declared.symbol.Symbol.TheVariants as sym
 use Rattle.nomos_syntax.specs.Lexeme.{Lexeme, name, reserved, number, symbol, bad}
-use Rattle.nomos_syntax.specs.Longest.{IsNumberText, IsToken}
+use Rattle.nomos_syntax.specs.Longest.{IsNumberText, IsToken, MayBegin}
 use Rattle.nomos_syntax.specs.Scan.{is_blank, single_symbol, double_symbol, word_lexeme}
 use Rattle.nomos_syntax.specs.Spelling.{symbol_text, spelling}
 use Rattle.nomos_syntax.proofs.WordLemmas.{reserved_word-text_of}
@@ -198,3 +198,23 @@ token_read (bad byte) is = absurd is
 -- tokens that are spelled alike are the same
 pub same_token : (a b : Lexeme) → IsToken a → IsToken b → spelling a ≡ spelling b → a ≡ b
 same_token a b is also same = sym (token_read a is) ∙ ap token_of same ∙ token_read b also
+
+-- a symbol is `-o` or another one
+lollipop_or_other : (s : Symbol) → (s ≡ sym.Lollipop) ⊎ (s ≢ sym.Lollipop)
+lollipop_or_other sym.Lollipop = inl refl
+lollipop_or_other s = inr (λ is. cc)
+
+-- a token that is no `-o` may begin where its bytes stand
+pub begins_plainly : (other : Lexeme) (behind bytes : List ℕ) → IsToken other → spelling other ++ behind ≡ bytes →
+    MayBegin bytes other ⊎ (other ≡ symbol sym.Lollipop)
+begins_plainly (name text) behind bytes is split =
+    inl (record { token = is; behind = behind; split = split; apart = λ same. cc })
+begins_plainly (reserved w) behind bytes is split =
+    inl (record { token = is; behind = behind; split = split; apart = λ same. cc })
+begins_plainly (number digits) behind bytes is split =
+    inl (record { token = is; behind = behind; split = split; apart = λ same. cc })
+begins_plainly (symbol s) behind bytes is split = elim (lollipop_or_other s) [
+  | inl same ↦ inr (ap symbol same)
+  | inr differs ↦ inl (record { token = is; behind = behind; split = split; apart = λ same. absurd (differs (cc)) })
+]
+begins_plainly (bad byte) behind bytes is split = absurd is

@@ -1,32 +1,17 @@
 -- Which tokens are spelled by more of the bytes than the longest with which these may begin.
-use Rattle.std.proofs.Common.{◌≡◌, ◌≢◌, ◌⊎◌, ℕ, ◌<◌, List, [], ◌∷◌, ◌++◌, length, inl, inr, arith, ap, refl, sym, ◌∙◌}
-use Rattle.nomos_syntax.specs.declared.symbol.Symbol.{Symbol}
+use Rattle.std.proofs.Common.{◌≡◌, ℕ, ◌<◌, List, [], ◌∷◌, ◌++◌, length, arith, ap, sym, ◌∙◌}
 use Rattle.nomos_syntax.specs.declared.symbol.Symbol.TheVariants as sym
-use Rattle.nomos_syntax.specs.Lexeme.{Lexeme, name, reserved, number, symbol, bad}
-use Rattle.nomos_syntax.specs.Longest.{IsToken, MayBegin, IsLongest}
+use Rattle.nomos_syntax.specs.Lexeme.{Lexeme, symbol}
+use Rattle.nomos_syntax.specs.Longest.{IsToken, EndsWord, MayBegin, IsLongest}
 use Rattle.nomos_syntax.specs.Spelling.{spelling}
 use Rattle.nomos_syntax.proofs.BeginningLemmas.{same_token, token_some}
 use Rattle.nomos_syntax.proofs.TakenLemmas.{same_front}
 
--- a symbol is `-o` or another one
-lollipop_or_other : (s : Symbol) → (s ≡ sym.Lollipop) ⊎ (s ≢ sym.Lollipop)
-lollipop_or_other sym.Lollipop = inl refl
-lollipop_or_other s = inr (λ is. cc)
-
--- a token that is no `-o` may begin where its bytes stand
-pub begins_plainly : (other : Lexeme) (behind bytes : List ℕ) → IsToken other → spelling other ++ behind ≡ bytes →
-    MayBegin bytes other ⊎ (other ≡ symbol sym.Lollipop)
-begins_plainly (name text) behind bytes is split =
-    inl (record { token = is; behind = behind; split = split; apart = λ same. cc })
-begins_plainly (reserved w) behind bytes is split =
-    inl (record { token = is; behind = behind; split = split; apart = λ same. cc })
-begins_plainly (number digits) behind bytes is split =
-    inl (record { token = is; behind = behind; split = split; apart = λ same. cc })
-begins_plainly (symbol s) behind bytes is split = elim (lollipop_or_other s) [
-  | inl same ↦ inr (ap symbol same)
-  | inr differs ↦ inl (record { token = is; behind = behind; split = split; apart = λ same. absurd (differs (cc)) })
-]
-begins_plainly (bad byte) behind bytes is split = absurd is
+-- any token may begin where no word goes on behind it
+pub begins_apart : (other : Lexeme) (behind bytes : List ℕ) → IsToken other → spelling other ++ behind ≡ bytes →
+    EndsWord behind → MayBegin bytes other
+begins_apart other behind bytes is split ends =
+    record { token = is; behind = behind; split = split; apart = λ lollipop. ends }
 
 -- none that may begin is longer than the longest
 pub none_longer : (bytes : List ℕ) (lexeme other : Lexeme) → IsLongest bytes lexeme →

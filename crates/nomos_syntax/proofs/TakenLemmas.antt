@@ -17,7 +17,7 @@ use Rattle.nomos_syntax.specs.Longest.{IsNumberText, IsToken, EndsWord, MayBegin
 use Rattle.nomos_syntax.specs.Naming.{IsWellNamed}
 use Rattle.nomos_syntax.specs.Scan.{is_blank, begins_comment, single_symbol, longest_symbol, word_lexeme, run_of, one_byte_piece, two_byte_piece, piece_at, placed_at, tokens_from}
 use Rattle.nomos_syntax.specs.Spelling.{symbol_text, spelling}
-use Rattle.nomos_syntax.proofs.BeginningLemmas.{symbol_of, symbol_read, shape, letter_alone, digit_alone, run_within, mark_alone, same_token, token_some}
+use Rattle.nomos_syntax.proofs.BeginningLemmas.{symbol_of, symbol_read, shape, letter_alone, digit_alone, run_within, mark_alone, same_token, token_some, begins_plainly}
 use Rattle.nomos_syntax.proofs.NameLaws.{names_are_names}
 use Rattle.nomos_syntax.proofs.PieceLemmas.{piece_at-word, piece_at-number, piece_at-symbol}
 use Rattle.nomos_syntax.proofs.SpellingLemmas.{first_piece_spelled}
@@ -75,15 +75,19 @@ taken_as bytes (number digits) t = inl t
 taken_as bytes (symbol s) t = inl t
 taken_as bytes (bad byte) t = inr (byte, refl, t)
 
+-- where a byte is bad, no token may begin
+bad_begins_none : (bytes : List ℕ) (byte : ℕ) → IsBadByte bytes byte → (lexeme : Lexeme) → ¬ MayBegin bytes lexeme
+bad_begins_none bytes byte is lexeme m = is.no_token lexeme m.behind m.token m.split
+
 -- nothing else is taken there
 pub taken_once : (bytes : List ℕ) (a b : Lexeme) → IsTaken bytes a → IsTaken bytes b → a ≡ b
 taken_once bytes a b m n = elim (taken_as bytes a m) [
   | inl first ↦ elim (taken_as bytes b n) [
     | inl second ↦ longest_once bytes a b first.1 second.1
-    | inr second ↦ absurd (second.2.no_token a first.1.begins)
+    | inr second ↦ absurd (bad_begins_none bytes second.0 second.2 a first.1.begins)
   ]
   | inr first ↦ elim (taken_as bytes b n) [
-    | inl second ↦ absurd (first.2.no_token b second.1.begins)
+    | inl second ↦ absurd (bad_begins_none bytes first.0 first.2 b second.1.begins)
     | inr second ↦
         let split = first.2.first ∙ sym second.2.first in
         let same : first.0 ≡ second.0 = cc in
@@ -290,6 +294,23 @@ lollipop_apart b (c ∷ d ∷ bytes) is spelled = elim (cases_Bool (is_word_byte
   | inr ends ↦ ends
 ]
 
+-- where no symbol is found, no token is spelled
+no_symbol_spelled : (b : ℕ) (after : List ℕ) → longest_symbol b after ≡ None → single_symbol b ≡ None →
+    is_letter b ≡ false → is_digit b ≡ false →
+    (lexeme : Lexeme) (behind : List ℕ) → IsToken lexeme → spelling lexeme ++ behind ≢ b ∷ after
+no_symbol_spelled b after longer shorter other rest lexeme behind is split =
+    elim (begins_plainly lexeme behind (b ∷ after) is split) [
+      | inl m ↦ elim (may_begin_symbol b after lexeme other rest m) [
+        | inl single ↦ let found = rw shorter at single.1 in cc
+        | inr double ↦ let found = rw longer at double.1 in cc
+      ]
+      | inr same ↦
+          let here : 45 ∷ 111 ∷ behind ≡ b ∷ after = rw same at split in
+          let first : 45 ≡ b = cc in
+          let none = rw (← first) at shorter in
+          cc
+    ]
+
 -- where neither a word nor a number begins, the longer symbol is taken, or the shorter one, or a bad byte
 takes_symbol : (b : ℕ) (after : List ℕ) (two one : Option Symbol) → longest_symbol b after ≡ two →
     single_symbol b ≡ one → piece_at b after ≡ two_byte_piece two (one_byte_piece b one) → is_blank b ≡ false →
@@ -317,11 +338,7 @@ takes_symbol b after None (Some s) longer shorter piece solid code other rest =
       | inr double ↦ let found = rw longer at double.1 in cc
     ])
 takes_symbol b after None None longer shorter piece solid code other rest =
-    let none : (lexeme : Lexeme) → ¬ MayBegin (b ∷ after) lexeme = λ lexeme m.
-    elim (may_begin_symbol b after lexeme other rest m) [
-      | inl single ↦ let found = rw shorter at single.1 in cc
-      | inr double ↦ let found = rw longer at double.1 in cc
-    ] in
+    let none = no_symbol_spelled b after longer shorter other rest in
     record {
       lexeme = bad b;
       is = rw piece refl;
@@ -373,7 +390,8 @@ taken_solid b after lexeme t = elim (cases_Bool (begins_comment b after)) [
       let comment = comment_begins b after begins in
       elim (taken_as (b ∷ after) lexeme t) [
         | inl first ↦ absurd (first.0 comment)
-        | inr none ↦ absurd (none.2.no_token (symbol sym.Slash) (slash_begins b after comment))
+        | inr none ↦
+            absurd (bad_begins_none (b ∷ after) none.0 none.2 (symbol sym.Slash) (slash_begins b after comment))
       ]
   | inr code ↦ elim (taken_as (b ∷ after) lexeme t) [
     | inl first ↦ (token_solid b after lexeme first.1.begins, code)

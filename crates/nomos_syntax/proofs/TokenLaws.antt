@@ -5,15 +5,16 @@ use Rattle.nomos_syntax.specs.declared.symbol.Symbol.TheVariants as sym
 use Rattle.nomos_syntax.specs.declared.token.Token.{Token}
 use Rattle.nomos_syntax.specs.Apart.{ComesApart}
 use Rattle.nomos_syntax.specs.Lexeme.{Lexeme, symbol, bad, Placed}
-use Rattle.nomos_syntax.specs.Longest.{IsToken, EndsWord, MayBegin, IsLongest, IsBadByte, IsTaken, IsTakenAt, IsTakenIn}
+use Rattle.nomos_syntax.specs.Longest.{IsToken, EndsWord, IsLongest, IsBadByte, IsTaken, IsTakenAt, IsTakenIn}
 use Rattle.nomos_syntax.specs.Scan.{tokens_of}
 use Rattle.nomos_syntax.specs.Spans.{placed_of, StandFor}
 use Rattle.nomos_syntax.specs.Spelling.{spelling}
 use Rattle.nomos_syntax.proofs.ApartLemmas.{apart_from, apart_once, apart_taken}
-use Rattle.nomos_syntax.proofs.LongerLemmas.{begins_plainly, none_longer, minus_alone}
+use Rattle.nomos_syntax.proofs.BeginningLemmas.{begins_plainly}
+use Rattle.nomos_syntax.proofs.LongerLemmas.{begins_apart, none_longer, minus_alone}
 
 -- Longest: each token of a text is the longest with which the rest of the text from its offset on may begin, and no
--- comment begins there. A bad byte stands where no token may begin.
+-- comment begins there. A bad byte stands where none is spelled.
 pub tokens_are_longest : (text : List ℕ) → All (IsTakenAt text) (tokens_of text)
 tokens_are_longest text = apart_taken (apart_from (length text) 0 text (omega arith)) text refl
 
@@ -29,17 +30,15 @@ longer_is_lollipop bytes lexeme longest other behind is split longer =
       | inr same ↦
           let here : 45 ∷ 111 ∷ behind ≡ bytes = rw same at split in
           let short : length (spelling lexeme) < 2 = rw same at longer in
-          let apart : ¬ EndsWord behind = λ ends.
-          let begins : MayBegin bytes other =
-          record { token = is; behind = behind; split = split; apart = λ lollipop. ends } in
-          none_longer bytes lexeme other longest longer begins in
+          let begins = begins_apart other behind bytes is split in
+          let apart : ¬ EndsWord behind = λ ends. none_longer bytes lexeme other longest longer (begins ends) in
           (same, minus_alone bytes behind lexeme longest.begins here short, apart)
     ]
 
--- Bad bytes: where a text has one, no token may begin, and no blank stands.
-pub bad_bytes_begin_none : (text : List ℕ) →
+-- Bad bytes: where a text has one, no front of the rest spells a token, `-o` included, and no blank stands.
+pub bad_bytes_spell_none : (text : List ℕ) →
     All (λ placed. (byte : ℕ) → placed.lexeme ≡ bad byte → IsBadByte (drop placed.at text) byte) (tokens_of text)
-bad_bytes_begin_none text k d below byte is =
+bad_bytes_spell_none text k d below byte is =
     subst (IsTaken (drop (get_or (tokens_of text) k d).at text)) is (tokens_are_longest text k d below)
 
 -- Between: a text comes apart into its tokens, and into blanks and whole comments before, between and behind them.

@@ -40,12 +40,12 @@ pub record IsLongest (bytes : List ℕ) (lexeme : Lexeme) : Type 0 where
   pub shorter : (other : Lexeme) → MayBegin bytes other → other ≢ lexeme →
       length (spelling other) < length (spelling lexeme)
 
--- the bytes begin with this one, which is no blank, and there is no token with which they may begin
+-- the bytes begin with this one, which is no blank, and no token is spelled at their front
 pub record IsBadByte (bytes : List ℕ) (byte : ℕ) : Type 0 where
   pub behind : List ℕ
   pub first : byte ∷ behind ≡ bytes
   pub no_blank : is_blank byte ≡ false
-  pub no_token : (lexeme : Lexeme) → ¬ MayBegin bytes lexeme
+  pub no_token : (lexeme : Lexeme) (rest : List ℕ) → IsToken lexeme → spelling lexeme ++ rest ≢ bytes
 
 -- the bytes begin with the mark of a comment
 abbrev pub BeginsComment : List ℕ → Type 0
@@ -60,6 +60,6 @@ IsTaken bytes lexeme = ¬ BeginsComment bytes × IsLongest bytes lexeme
 abbrev pub IsTakenAt : List ℕ → Placed → Type 0
 IsTakenAt text placed = IsTaken (drop placed.at text) placed.lexeme
 
--- so is a token with its span
+-- the same of a token with its span
 abbrev pub IsTakenIn : List ℕ → Token → Type 0
 IsTakenIn text token = IsTakenAt text (placed_of text token)
