@@ -1,6 +1,6 @@
 -- A text reads as one program at most, and a text that is typed is refused for no cause.
 use Rattle.std.proofs.Common.{◌≡◌, ℕ, List, ap, sym, subst, ◌∙◌}
-use Rattle.nomos_accept.specs.Acceptance.{IsReadAs, IsTypedAs, IsNeverTyped, EndsWith, IsProgramWith, IsUnsolved, IsCauseOf, Answers}
+use Rattle.nomos_accept.specs.Acceptance.{IsReadAs, IsTypedAs, IsNeverTyped, EndsWith, IsProgramWith, IsRefused, IsUnsolved}
 use Rattle.nomos_accept.specs.declared.refusal.Why.{Why}
 use Rattle.nomos_elaborate.specs.FileBuild.{program_of}
 use Rattle.nomos_ir.specs.declared.lists.ProgramLists.{ProgramLists}
@@ -33,8 +33,8 @@ never-typed text lists read never = λ other x typed.
 
 -- a text that is typed under some amounts is refused for no cause
 pub typed-not_refused : (text : List ℕ) (lists : ProgramLists) (x : Annotations) → IsTypedAs text lists x → (why : Why)
-    → ¬ (IsCauseOf text why × IsNeverTyped text)
-typed-not_refused text lists x typed why refused = refused.1 lists x typed
+    → ¬ IsRefused text why
+typed-not_refused text lists x typed why refused = refused.never lists x typed
 
 -- where the run on the rows of its program does not stop without an answer, it is answered that it is typed
 pub typed-solved : (text : List ℕ) (lists : ProgramLists) (x : Annotations) → IsTypedAs text lists x

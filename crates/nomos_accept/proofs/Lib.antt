@@ -1,5 +1,5 @@
 pub mod AcceptLaws
-pub mod JudgingLemmas
+pub mod JudgingLaws
 pub mod RefusalLemmas
 pub mod StepLemmas
 pub mod StarLaws

@@ -1,16 +1,25 @@
--- The rows of a program are one list: they ascend, and no two lists that ascend have the same items.
-use Rattle.std.proofs.Common.{◌≡◌, ◌<◌, ◌⊎◌, inl, inr, ℕ, zero, suc, List, [], ◌∷◌, ◌++◌, map, Contains, length, get_or, refl, sym, subst, ◌∙◌, arith}
+-- The rows of a program are one list: they ascend, and no two lists that ascend have the same items. So the pivot run
+-- on them has one end.
+use Rattle.std.proofs.Common.{◌≡◌, ◌<◌, ◌≤◌, ◌⊎◌, inl, inr, ℕ, zero, suc, List, [], ◌∷◌, ◌++◌, map, All, Contains, length, get_or, refl, ap, sym, subst, ◌∙◌, arith}
 use Rattle.std.proofs.lemmas.Cmp.{tied_itself}
+use Rattle.std.proofs.Math.Bridge.{le_prop}
+use Rattle.std.proofs.Math.Nat.{ℕ_set}
 use Rattle.std.specs.List.{AllByRecursion, flat_map}
 use Rattle.std.specs.List.Sorted.{IsStrictlySortedBy}
 use Rattle.std.specs.declared.cmp.Ordering.TheVariants.{Less, Equal}
+use Rattle.nomos_accept.specs.Acceptance.{AreRowsFor, EndsWith}
+use Rattle.nomos_forms.specs.Bounds.{IsRow}
 use Rattle.nomos_forms.specs.declared.row.Row.{Row}
+use Rattle.nomos_forms.specs.declared.row_list.RowList.{RowList}
 use Rattle.nomos_forms.specs.RowOrder.{row_cmp, row_total}
 use Rattle.nomos_forms.specs.RowsOf.{all_rows, form_row, pair_rows}
 use Rattle.nomos_forms.specs.declared.form.Form.{Form}
+use Rattle.nomos_ir.specs.Amounts.{star_count}
 use Rattle.nomos_ir.specs.declared.amount.Amount.{Amount}
 use Rattle.nomos_ir.specs.declared.lists.ProgramLists.{ProgramLists}
 use Rattle.nomos_rows.specs.ProgramRows.{AreProgramRows}
+use Rattle.nomos_simplex.specs.PivotRun.{answer_to}
+use Rattle.nomos_simplex.specs.declared.solved.Solved.{Solved}
 
 -- a member is the first item or one of the others
 contains-at : {X : Type 0} (x y : X) (xs : List X) (k : ℕ) → k < length (x ∷ xs) → get_or (x ∷ xs) k y ≡ y
@@ -159,3 +168,46 @@ program_rows-once lists n xs ys a b =
     (rows-there n b.forms a.forms b.pairs a.pairs row
     (λ f is. (a.are_forms f).1 ((b.are_forms f).0 is)) (λ p is. (a.are_pairs p).1 ((b.are_pairs p).0 is))
     ((b.are_rows.same row).0 there)))
+
+-- ---- two lists of rows with the same rows over the same stars
+
+-- what is said of the size of a row is said in one way
+row-prop : (n : ℕ) (row : Row) → IsProp (IsRow n row)
+row-prop n row a b = λ i. record {
+  width = ℕ_set (length row.coefs) n a.width b.width i;
+  coefs = λ k d inside. le_prop (a.coefs k d inside) (b.coefs k d inside) i;
+  least = le_prop a.least b.least i;
+}
+
+rows-prop : (n : ℕ) (rows : List Row) → IsProp (All (IsRow n) rows)
+rows-prop n rows a b = λ i k d inside. row-prop n (get_or rows k d) (a k d inside) (b k d inside) i
+
+-- the list of these rows
+abbrev listed : (n : ℕ) (rows : List Row) → n ≤ 64 → All (IsRow n) rows → RowList
+listed n rows few each = record { rows = rows; stars = n; few_stars = few; each = each }
+
+listed-once : (n : ℕ) (rows : List Row) (few more : n ≤ 64) (each other : All (IsRow n) rows)
+    → listed n rows few each ≡ listed n rows more other
+listed-once n rows few more each other = λ i. listed n rows (le_prop few more i) (rows-prop n rows each other i)
+
+listed-same : (n : ℕ) (xs ys : List Row) (few more : n ≤ 64) (each : All (IsRow n) xs) (other : All (IsRow n) ys)
+    → xs ≡ ys → listed n xs few each ≡ listed n ys more other
+listed-same n xs ys few more each other same =
+    subst (λ (zs : List Row). (e : All (IsRow n) zs) → listed n xs few each ≡ listed n zs more e) same
+    (λ e. listed-once n xs few more each e) other
+
+row_list-once : (a b : RowList) → a.stars ≡ b.stars → a.rows ≡ b.rows → a ≡ b
+row_list-once a b stars rows =
+    subst (λ (m : ℕ). (few : m ≤ 64) (each : All (IsRow m) b.rows) → a ≡ listed m b.rows few each) stars
+    (λ few each. listed-same a.stars a.rows b.rows a.few_stars few a.each each rows) b.few_stars b.each
+
+-- the rows of a program over its stars are one list of rows
+pub rows_for-once : (lists : ProgramLists) (a b : RowList) → AreRowsFor lists a → AreRowsFor lists b → a ≡ b
+rows_for-once lists a b is other =
+    row_list-once a b (is.stars ∙ sym other.stars)
+    (program_rows-once lists (star_count lists) a.rows b.rows is.of_program other.of_program)
+
+-- the pivot run on the rows of a program has one end
+pub ends-once : (lists : ProgramLists) (a b : Solved) → EndsWith lists a → EndsWith lists b → a ≡ b
+ends-once lists a b ends other =
+    sym ends.run ∙ ap answer_to (rows_for-once lists ends.rows other.rows ends.are_rows other.are_rows) ∙ other.run

@@ -115,9 +115,14 @@ IsCauseOf text (why.ProcType at form) =
     IsProgramWith text (λ lists. IsWellFormed lists × IsCause lists (rows_error.ProcType at form))
 IsCauseOf text (why.NoPotential verdict) = IsProgramWith text (λ lists. IsRefuted lists verdict)
 
+-- The text is refused for this cause, and is typed under no amounts at all.
+pub record IsRefused (text : List ℕ) (why : Why) : Type 0 where
+  pub cause : IsCauseOf text why
+  pub never : IsNeverTyped text
+
 -- What is answered of a text. Where it is refused, it is typed under no amounts at all.
 abbrev pub Answers : List ℕ → Result Acceptance AcceptError → Type 0
 Answers text (Ok a) = IsAcceptedAs text a
-Answers text (Err (error.Refused why)) = IsCauseOf text why × IsNeverTyped text
+Answers text (Err (error.Refused why)) = IsRefused text why
 Answers text (Err (error.Unsolved stop)) = IsProgramWith text (λ lists. IsUnsolved lists stop)
 Answers text (Err error.NoMemory) = Unit {0}

@@ -1,3 +1,4 @@
 pub mod Acceptance
 pub mod Causes
+pub mod Preparing
 pub mod mirror

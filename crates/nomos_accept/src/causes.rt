@@ -1,6 +1,7 @@
 //! The causes of refusals, from what the parts of the checker answer.
 ghost use Rattle.std.specs.Prelude.{ℕ, List, Err};
-ghost use Rattle.nomos_accept.specs.Acceptance.{Answers, IsReadAs};
+ghost use Rattle.nomos_accept.specs.Acceptance.{IsReadAs};
+ghost use Rattle.nomos_accept.specs.Preparing.{AnswersRefusal};
 ghost use Rattle.nomos_elaborate.specs.Answer.{Answers as AnswersElaborate};
 ghost use Rattle.nomos_ir.specs.declared.lists.ProgramLists.{ProgramLists};
 ghost use Rattle.nomos_rows.specs.Faults.{IsCause};
@@ -18,7 +19,7 @@ use nomos_types::forming::FormError;
 
 /// Why a text without a tree is not accepted.
 pub(crate) fn of_parse(error: ParseError) -> AcceptError
-    ensures { (text : List ℕ) → AnswersParse text (Err error) → Answers text (Err result) }
+    ensures { (text : List ℕ) → AnswersParse text (Err error) → AnswersRefusal text result }
 {
     match error {
         ParseError::TooLong => AcceptError::Refused(Why::TooLong),
@@ -32,7 +33,7 @@ pub(crate) fn of_parse(error: ParseError) -> AcceptError
 /// Why a text whose tree has no program is not accepted.
 pub(crate) fn of_names(error: ElabError) -> AcceptError
     ensures { (text : List ℕ) (tree : FileTree) → ReadsAs text tree → AnswersElaborate tree (Err error) →
-        Answers text (Err result) }
+        AnswersRefusal text result }
 {
     match error {
         ElabError::Name(at) => AcceptError::Refused(Why::Name(at)),
@@ -44,7 +45,7 @@ pub(crate) fn of_names(error: ElabError) -> AcceptError
 /// Why a text whose program is not well formed is not accepted.
 pub(crate) fn of_form(error: FormError) -> AcceptError
     ensures { (text : List ℕ) (lists : ProgramLists) → IsReadAs text lists → IsFormFault lists error →
-        Answers text (Err result) }
+        AnswersRefusal text result }
 {
     match error {
         FormError::Contractive(at) => AcceptError::Refused(Why::Contractive(at)),
@@ -56,7 +57,7 @@ pub(crate) fn of_form(error: FormError) -> AcceptError
 /// Why a text is not accepted where a part of its program has no skeleton.
 pub(crate) fn of_rows(error: RowsError) -> AcceptError
     ensures { (text : List ℕ) (lists : ProgramLists) → IsReadAs text lists → IsWellFormed lists →
-        IsCause lists error → Answers text (Err result) }
+        IsCause lists error → AnswersRefusal text result }
 {
     match error {
         RowsError::NotSync(at, path) => AcceptError::Refused(Why::NotSync(at, path)),

@@ -3,4 +3,5 @@
 
 pub mod accepting;
 mod causes;
+pub mod preparing;
 pub mod refusal;

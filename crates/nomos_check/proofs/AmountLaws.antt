@@ -91,7 +91,7 @@ module _ (program : ProgramLists) where
         lists = amounts.lists;
       }
 
-  gains-amounts : (r : Amount) (a : Account) → Contains (amounts_of program) r → HasAmountsOf program a
+  pub gains-amounts : (r : Amount) (a : Account) → Contains (amounts_of program) r → HasAmountsOf program a
       → HasAmountsOf program (gains r a)
   gains-amounts r a among amounts =
       record {

@@ -11,8 +11,7 @@ use Rattle.nomos_forms.specs.declared.form.Form.{Form}
 use Rattle.nomos_forms.specs.RowsOf.{share_of, units_in}
 use mir.Syntax.{w64}
 use mir.Val.{to_z, of_z}
-use Rattle.nomos_check.specs.Account.{Account, gains, spends, shares, form_of}
-use Rattle.nomos_check.specs.mirror.Nothing.{no_account}
+use Rattle.nomos_check.specs.Account.{Account, gains, spends, shares, form_of, no_account}
 
 -- ---- lists of the values of a function at consecutive numbers
 

@@ -16,7 +16,8 @@ use Rattle.nomos_check.proofs.AmountLaws as amounts
 use Rattle.nomos_check.proofs.StarLaws.{program-star}
 use Rattle.nomos_check.specs.declared.standing.Carried.{Carried}
 use Rattle.nomos_check.specs.declared.standing.Standing.{Standing}
-use Rattle.nomos_check.specs.mirror.Limits.{IsAmountOf, HasRoom}
+use Rattle.nomos_check.specs.Room.{HasRoom}
+use Rattle.nomos_check.specs.mirror.Limits.{IsAmountOf}
 use Rattle.nomos_check.specs.mirror.Standing.{IsWithin}
 
 -- an amount with a star up to n

@@ -117,7 +117,7 @@ share-one r star = by (star_of r == star)
     by false = (0, refl, omega arith)
 
 -- and among amounts at most as often as there are amounts
-shares-count : (rs : List Amount) (star : ℕ) → (m : ℕ) × (shares rs star ≡ pos m) × (m ≤ length rs)
+pub shares-count : (rs : List Amount) (star : ℕ) → (m : ℕ) × (shares rs star ≡ pos m) × (m ≤ length rs)
 shares-count [] star = (0, refl, omega arith)
 shares-count (r ∷ rs) star =
     let (m, first, low) = share-one r star in
@@ -159,7 +159,7 @@ plus-size {lists} n a is_program amounts =
     omega (arith, abs-difference (sum_by units_in a.gained) (sum_by units_in a.spent), gained, spent)
 
 -- an account with few amounts has a form of small numbers
-account-is_form : {lists : ProgramLists} (n : ℕ) (a : Account) → IsProgram lists → HasAmountsOf lists a
+pub account-is_form : {lists : ProgramLists} (n : ℕ) (a : Account) → IsProgram lists → HasAmountsOf lists a
     → amount_count a ≤ 20001 → IsForm n (form_of n a)
 account-is_form n a is_program amounts few =
     let f : ℕ → ℤ = λ star. shares a.gained star -ℤ shares a.spent star in

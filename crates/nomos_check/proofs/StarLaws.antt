@@ -36,7 +36,7 @@ program-star {lists} r is_program among =
 
 module _ {lists : ProgramLists} (is_program : IsProgram lists) where
   -- so have those of an account
-  account-stars : (a : Account) → HasAmountsOf lists a → HasStarsUpTo (star_count lists) a
+  pub account-stars : (a : Account) → HasAmountsOf lists a → HasStarsUpTo (star_count lists) a
   account-stars a amounts =
       let Among = Contains (amounts_of lists) in
       let Starred = HasStarUpTo (star_count lists) in

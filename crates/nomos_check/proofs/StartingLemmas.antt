@@ -21,10 +21,10 @@ use Rattle.nomos_types.specs.Judgement.{Judgement, ListType, list_par, is_shared
 use Rattle.nomos_types.specs.Modes.{HasMode, parameter_mode}
 use Rattle.nomos_check.proofs.FormLemmas.{coef_of}
 use Rattle.nomos_check.proofs.StandingLemmas.{each-bind, dths-none}
-use Rattle.nomos_check.specs.Account.{Account, gains, form_of, carried_by}
+use Rattle.nomos_check.specs.Account.{Account, gains, form_of, carried_by, no_account}
 use Rattle.nomos_check.specs.declared.standing.Carried.{Carried}
-use Rattle.nomos_check.specs.mirror.Limits.{IsAmountOf, HasRoom}
-use Rattle.nomos_check.specs.mirror.Nothing.{no_account}
+use Rattle.nomos_check.specs.Room.{HasRoom}
+use Rattle.nomos_check.specs.mirror.Limits.{IsAmountOf}
 use Rattle.nomos_check.specs.mirror.Standing.{each_bound, shape_of_list, amount_of}
 use Rattle.nomos_check.specs.mirror.Starting.{carried_par, kinds_of, lists_of, picks, IsStartOf}
 

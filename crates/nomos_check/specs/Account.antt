@@ -33,6 +33,10 @@ abbrev pub carried_by : VarId → Option Amount → List (VarId × Amount)
 carried_by v (Some amount) = (v, amount) ∷ []
 carried_by v None = []
 
+-- nothing was gained or spent, and there are no lists
+abbrev pub no_account : Account
+no_account = record { gained = []; spent = []; lists = [] }
+
 -- at the start of a declaration its declared potential is gained, and its list parameters carry their amounts
 abbrev pub start_account : ProcDecl → Account
 start_account d = record {

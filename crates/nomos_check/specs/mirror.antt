@@ -5,7 +5,6 @@ pub mod Finding
 pub mod Fresh
 pub mod Limits
 pub mod Moves
-pub mod Nothing
 pub mod Passing
 pub mod Places
 pub mod Standing

@@ -20,7 +20,7 @@ mod modes;
 mod operands;
 mod passing;
 mod paying;
-mod potential;
+pub mod potential;
 mod receiving;
 mod sending;
 mod sharing;

@@ -1,9 +1,8 @@
-//! The potential of a process as a form over stars.
+//! A potential as a form over stars.
 ghost use Rattle.std.specs.Prelude.{◌≡◌, ℕ, IfOk};
 ghost use Rattle.nomos_ir.specs.declared.amount.Amount.{Amount};
-ghost use Rattle.nomos_check.specs.Account.{Account, gains, spends, form_of};
-ghost use Rattle.nomos_check.specs.mirror.Limits.{HasRoom};
-ghost use Rattle.nomos_check.specs.mirror.Nothing.{no_account};
+ghost use Rattle.nomos_check.specs.Account.{Account, gains, spends, form_of, no_account};
+ghost use Rattle.nomos_check.specs.Room.{HasRoom};
 
 use nomos_forms::form::Form;
 use nomos_ir::amount::Amount;
@@ -11,9 +10,9 @@ use nomos_ir::items::Items;
 use std::alloc::{AllocError, Global};
 use std::marker::Model;
 
-/// The potential of a process, which contracts see as a form: what was gained less what was spent.
+/// A potential as a form over stars: what was gained less what was spent. Written amounts count whole units.
 #[derive(Drop)]
-pub(crate) struct Potential {
+pub struct Potential {
     coefs: Vec<i64>,
     plus: i64,
 }
@@ -28,7 +27,7 @@ impl Model for Potential {
 
 impl Potential {
     /// No potential, over this many stars.
-    pub(crate) fn none(alloc: Global, stars: u16) -> Result<Potential, AllocError>
+    pub fn none(alloc: Global, stars: u16) -> Result<Potential, AllocError>
         ensures { IfOk result (λ p. p ≡ form_of stars no_account) }
     {
         let coefs = vec![in alloc; 0i64; usize::from(stars)]?;
@@ -36,7 +35,7 @@ impl Potential {
     }
 
     /// The amount is gained.
-    pub(crate) fn gain(&mut self, amount: Amount)
+    pub fn gain(&mut self, amount: Amount)
         requires { HasRoom self.old amount }
         ensures { (n : ℕ) (a : Account) → self.old ≡ form_of n a → self.new ≡ form_of n (gains amount a) }
     {
@@ -47,7 +46,7 @@ impl Potential {
     }
 
     /// The amount is spent.
-    pub(crate) fn spend(&mut self, amount: Amount)
+    pub fn spend(&mut self, amount: Amount)
         requires { HasRoom self.old amount }
         ensures { (n : ℕ) (a : Account) → self.old ≡ form_of n a → self.new ≡ form_of n (spends amount a) }
     {
@@ -58,7 +57,7 @@ impl Potential {
     }
 
     /// The same potential once more.
-    pub(crate) fn copy(&self, alloc: Global) -> Result<Potential, AllocError>
+    pub fn copy(&self, alloc: Global) -> Result<Potential, AllocError>
         ensures { IfOk result (λ p. p ≡ self.now) }
     {
         Ok(Potential {
@@ -68,7 +67,7 @@ impl Potential {
     }
 
     /// The form.
-    pub(crate) fn into_form(self) -> Form
+    pub fn into_form(self) -> Form
         ensures { result ≡ self }
     {
         let Potential { coefs, plus } = self;

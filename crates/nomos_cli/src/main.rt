@@ -59,7 +59,9 @@ fn contract_file<R: Files<File = File>>(rt: &R, words: &[String]) -> Option<File
     ensures { IsSome result → IsSome (task_of (map string_bytes words.now)) }
 {
     match nomos_top::words(words) {
-        Some(Job::Check { file } | Job::Run { file, script: _ }) => File::open(rt, file).ok(),
+        Some(Job::Check { file } | Job::Run { file, script: _ } | Job::Least { file }) => {
+            File::open(rt, file).ok()
+        }
         None => None,
     }
 }

@@ -1,2 +1,4 @@
+pub mod BoundLemmas
+pub mod GoalLaws
 pub mod LeastLaws
 pub mod ProductLemmas

@@ -1,6 +1,9 @@
-//! Least bounds: whether weights show that no amounts that meet rows have a smaller goal.
+//! Least bounds: amounts under which a contract text is typed and of which its transactions declare the least, with
+//! weights that show it.
 #![tactic(auto)]
 
+pub mod goal;
+pub mod least;
 mod products;
 pub mod showing;
 #[cfg(test)]

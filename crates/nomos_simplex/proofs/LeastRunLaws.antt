@@ -15,13 +15,16 @@ use Rattle.nomos_forms.specs.declared.form.Form.{Form}
 use Rattle.nomos_forms.specs.declared.found.Found.{Found}
 use Rattle.nomos_forms.specs.declared.row_list.RowList.{RowList}
 use Rattle.nomos_forms.specs.declared.verdict.Of.{Of}
+use Rattle.nomos_forms.specs.declared.verdict.Verdict.{Verdict}
 use Rattle.nomos_forms.specs.declared.verdict.Weight.{Weight}
 use Rattle.nomos_forms.proofs.WholeLaws.{times_swap, count_cancel}
 use Rattle.nomos_simplex.specs.Exits.{fraction_of, fractions, denominator, common_denominator, amounts_over, found_or_large, weight_of, of_variable}
 use Rattle.nomos_simplex.specs.LeastRun.{LeastRun, weights_above, proof_of, is_total, least_or_large}
 use Rattle.nomos_simplex.specs.Nearest.{lowering}
+use Rattle.nomos_simplex.specs.PivotRun.{answer_to}
 use Rattle.nomos_simplex.specs.ShowsLeast.{ShowsLeast, IsProof}
 use Rattle.nomos_simplex.specs.Tables.{bound_of, sum_at}
+use Rattle.nomos_simplex.specs.declared.solved.Proof.{Proof}
 use Rattle.nomos_simplex.specs.declared.solved.Solved.{Solved}
 use Rattle.nomos_simplex.specs.declared.solved.Solved.TheVariants as solved
 use Rattle.nomos_simplex.specs.declared.solved.SolvedLeast.{SolvedLeast}
@@ -221,3 +224,74 @@ least-is_right rows goal answer form (LeastRun.ends pivots table line l e) =
     (aimed rows goal pivots table line form l) e refl
 least-is_right rows goal answer form (LeastRun.pivots_made table line i j left l x) = tt
 least-is_right rows goal answer form (LeastRun.large pivots table line i j left l x most e) = tt
+
+-- ---- the total is the goal's value
+
+abbrev HasTotal : Form → SolvedLeast → Type 0
+HasTotal goal (least.Found f p) = form_value f.stars f.unit goal ≡ pos p.total
+HasTotal goal (least.None v) = Unit {0}
+HasTotal goal (least.Unsolved s) = Unit {0}
+
+total-where : (rows : RowList) (goal : Form) (table : Table) (line : Line) (pivots : ℕ) (f : Found) (t : Bool) →
+    is_total (form_value f.stars f.unit goal) ≡ t → HasTotal goal (cond t
+    (least.Found f (proof_of rows table line (unsigned_abs (form_value f.stars f.unit goal))))
+    (least.Unsolved (stop.Large pivots)))
+total-where rows goal table line pivots f true e = sym (total_is (form_value f.stars f.unit goal) e)
+total-where rows goal table line pivots f false e = tt
+
+end-total : (rows : RowList) (goal : Form) (pivots : ℕ) (table : Table) (line : Line) (s : Solved) →
+    HasTotal goal (least_or_large pivots rows goal table line s)
+end-total rows goal pivots table line (solved.Found f) =
+    total-where rows goal table line pivots f (is_total (form_value f.stars f.unit goal)) refl
+end-total rows goal pivots table line (solved.None v) = tt
+end-total rows goal pivots table line (solved.Unsolved s) = tt
+
+answer-total : (rows : RowList) (goal : Form) (answer : SolvedLeast) → LeastRun rows goal answer → HasTotal goal answer
+answer-total rows goal answer (LeastRun.refuted v e) = tt
+answer-total rows goal answer (LeastRun.stopped s e) = tt
+answer-total rows goal answer (LeastRun.large_goal pivots table ends e) = tt
+answer-total rows goal answer (LeastRun.ends pivots table line l e) =
+    end-total rows goal pivots table line (found_or_large pivots (fractions rows table))
+answer-total rows goal answer (LeastRun.pivots_made table line i j left l x) = tt
+answer-total rows goal answer (LeastRun.large pivots table line i j left l x most e) = tt
+
+pub least-total : (rows : RowList) (goal : Form) (f : Found) (proof : Proof) →
+    LeastRun rows goal (least.Found f proof) → form_value f.stars f.unit goal ≡ pos proof.total
+least-total rows goal f proof run = answer-total rows goal (least.Found f proof) run
+
+-- ---- a verdict is that of the pivot run
+
+abbrev IsPivots : RowList → SolvedLeast → Type 0
+IsPivots rows (least.None v) = answer_to rows ≡ solved.None v
+IsPivots rows (least.Found f p) = Unit {0}
+IsPivots rows (least.Unsolved s) = Unit {0}
+
+large-pivots : (rows : RowList) (goal : Form) (table : Table) (line : Line) (pivots : ℕ) (f : Found) (t : Bool) →
+    IsPivots rows (cond t
+    (least.Found f (proof_of rows table line (unsigned_abs (form_value f.stars f.unit goal))))
+    (least.Unsolved (stop.Large pivots)))
+large-pivots rows goal table line pivots f true = tt
+large-pivots rows goal table line pivots f false = tt
+
+end-pivots : (rows : RowList) (goal : Form) (pivots : ℕ) (table : Table) (line : Line) (f : Found) (t : Bool) →
+    IsPivots rows
+    (least_or_large pivots rows goal table line (cond t (solved.Found f) (solved.Unsolved (stop.Large pivots))))
+end-pivots rows goal pivots table line f true =
+    large-pivots rows goal table line pivots f (is_total (form_value f.stars f.unit goal))
+end-pivots rows goal pivots table line f false = tt
+
+answer-pivots : (rows : RowList) (goal : Form) (answer : SolvedLeast) → LeastRun rows goal answer → IsPivots rows answer
+answer-pivots rows goal answer (LeastRun.refuted v e) = e
+answer-pivots rows goal answer (LeastRun.stopped s e) = tt
+answer-pivots rows goal answer (LeastRun.large_goal pivots table ends e) = tt
+answer-pivots rows goal answer (LeastRun.ends pivots table line l e) =
+    let fs = fractions rows table in
+    let u = common_denominator 1 fs in
+    end-pivots rows goal pivots table line (record { stars = amounts_over u fs; unit = u })
+    (nat_le u (2 ^ 31) && list_all (λ x. nat_lt x (2 ^ 62)) (amounts_over u fs))
+answer-pivots rows goal answer (LeastRun.pivots_made table line i j left l x) = tt
+answer-pivots rows goal answer (LeastRun.large pivots table line i j left l x most e) = tt
+
+pub least-refuted : (rows : RowList) (goal : Form) (verdict : Verdict) → LeastRun rows goal (least.None verdict) →
+    answer_to rows ≡ solved.None verdict
+least-refuted rows goal verdict run = answer-pivots rows goal (least.None verdict) run

@@ -3,15 +3,21 @@ use Rattle.std.proofs.Common.{◌≡◌, ℕ, zero, suc, ◌+◌, ◌≤◌, ◌
 use Rattle.std.proofs.lemmas.Bool.Decides.{leb_tells}
 use Rattle.std.specs.Prelude.{nat_le, nat_lt, slice_get}
 use Rattle.std.specs.List.{list_all}
+use Rattle.nomos_forms.specs.Linear.{form_value}
+use Rattle.nomos_forms.specs.declared.form.Form.{Form}
 use Rattle.nomos_forms.specs.declared.found.Found.{Found}
 use Rattle.nomos_forms.specs.declared.row_list.RowList.{RowList}
 use Rattle.nomos_simplex.specs.Exchange.{exchanged, is_large_table}
 use Rattle.nomos_simplex.specs.Exits.{common_denominator, amounts_over, fractions, found_or_large}
+use Rattle.nomos_simplex.specs.LeastRun.{LeastRun, proof_of, is_total, least_or_large}
 use Rattle.nomos_simplex.specs.Lowest.{leaving, entering}
 use Rattle.nomos_simplex.specs.PivotRun.{turn_to, turn_at, turn_on, turn_from, turn, end_of, run, answer_to}
 use Rattle.nomos_simplex.specs.Tables.{first_table}
+use Rattle.nomos_simplex.specs.declared.solved.Proof.{Proof}
 use Rattle.nomos_simplex.specs.declared.solved.Solved.TheVariants as solved
 use Rattle.nomos_simplex.specs.declared.solved.Solved.{Solved}
+use Rattle.nomos_simplex.specs.declared.solved.SolvedLeast.TheVariants as least
+use Rattle.nomos_simplex.specs.declared.solved.SolvedLeast.{SolvedLeast}
 use Rattle.nomos_simplex.specs.declared.solved.Stop.TheVariants as stop
 use Rattle.nomos_simplex.specs.declared.table.Line.{Line}
 use Rattle.nomos_simplex.specs.declared.table.Table.{Table}
@@ -84,3 +90,38 @@ run_small (suc budget) pivots rows table =
 -- the unit of amounts that are answered to rows
 pub found-unit : (rows : RowList) (f : Found) → answer_to rows ≡ solved.Found f → f.unit ≤ 2 ^ 31
 found-unit rows f e = subst HasSmallUnit e (run_small 2000 0 rows (first_table rows))
+
+-- ---- the least run
+
+abbrev HasSmallLeastUnit : SolvedLeast → Type 0
+HasSmallLeastUnit (least.Found f proof) = f.unit ≤ 2 ^ 31
+HasSmallLeastUnit (least.None v) = Unit {0}
+HasSmallLeastUnit (least.Unsolved s) = Unit {0}
+
+total_small : (pivots : ℕ) (f : Found) (proof : Proof) (total : Bool) → f.unit ≤ 2 ^ 31 →
+    HasSmallLeastUnit (cond total (least.Found f proof) (least.Unsolved (stop.Large pivots)))
+total_small pivots f proof true small = small
+total_small pivots f proof false small = tt
+
+end_least_small : (pivots : ℕ) (rows : RowList) (goal : Form) (table : Table) (line : Line) (answer : Solved) →
+    HasSmallUnit answer → HasSmallLeastUnit (least_or_large pivots rows goal table line answer)
+end_least_small pivots rows goal table line (solved.Found f) small =
+    total_small pivots f _ (is_total (form_value f.stars f.unit goal)) small
+end_least_small pivots rows goal table line (solved.None v) small = tt
+end_least_small pivots rows goal table line (solved.Unsolved s) small = tt
+
+least_small : (rows : RowList) (goal : Form) (answer : SolvedLeast) → LeastRun rows goal answer →
+    HasSmallLeastUnit answer
+least_small rows goal answer (LeastRun.refuted v e) = tt
+least_small rows goal answer (LeastRun.stopped s e) = tt
+least_small rows goal answer (LeastRun.large_goal pivots table ends e) = tt
+least_small rows goal answer (LeastRun.ends pivots table line l e) =
+    end_least_small pivots rows goal table line (found_or_large pivots (fractions rows table))
+    (found_small pivots (fractions rows table))
+least_small rows goal answer (LeastRun.pivots_made table line i j left l x) = tt
+least_small rows goal answer (LeastRun.large pivots table line i j left l x most e) = tt
+
+-- the unit of amounts that the least run finds
+pub least-unit : (rows : RowList) (goal : Form) (f : Found) (proof : Proof) →
+    LeastRun rows goal (least.Found f proof) → f.unit ≤ 2 ^ 31
+least-unit rows goal f proof run = least_small rows goal (least.Found f proof) run

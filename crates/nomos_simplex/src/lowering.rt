@@ -1,5 +1,5 @@
 //! The least run.
-ghost use Rattle.std.specs.Prelude.{◌≡◌, ◌+◌, ◌<◌, ◌≤◌, pos, ◌<ℤ◌, ◌≤ℤ◌, unsigned_abs, length, map, All, IfOk, Ok, Some, None, slice_get, if◌then◌else◌};
+ghost use Rattle.std.specs.Prelude.{◌≡◌, ◌+◌, ◌<◌, ◌≤◌, ◌^◌, pos, ◌<ℤ◌, ◌≤ℤ◌, unsigned_abs, length, map, All, IfOk, Ok, Some, None, slice_get, if◌then◌else◌};
 ghost use Rattle.nomos_forms.specs.Bounds.{IsForm, IsFound, IsVerdict};
 ghost use Rattle.nomos_forms.specs.Linear.{form_value};
 ghost use Rattle.nomos_forms.specs.Meeting.{MeetsRows};
@@ -269,6 +269,7 @@ pub fn solve_least(alloc: Global, rows: &RowList, goal: &Form) -> Result<SolvedL
     ensures found { (found : Found) (proof : Proof) → result ≡ Ok (least.Found found proof) →
         IsFound rows.now.stars found × MeetsRows found.stars found.unit rows.now.rows × IsProof proof ×
         ShowsLeast rows.now.rows goal.now found.unit proof }
+    ensures unit { (found : Found) (proof : Proof) → result ≡ Ok (least.Found found proof) → found.unit ≤ 2 ^ 31 }
     ensures refuted { (verdict : Verdict) → result ≡ Ok (least.None verdict) →
         IsVerdict verdict × Refutes rows.now.stars rows.now.rows verdict }
 {

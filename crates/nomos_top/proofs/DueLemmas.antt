@@ -1,27 +1,34 @@
 -- What is due, from its parts.
-use Rattle.std.proofs.Common.{◌≡◌, ℕ, ◌<◌, ◌≤◌, ◌+◌, List, [], length, replicate, Option, Some, None, Result, Ok, Err, true, false, refl, subst, arith, lit≤}
+use Rattle.std.proofs.Common.{◌≡◌, ℕ, ◌<◌, ◌≤◌, ◌+◌, List, [], length, replicate, Option, Some, None, Result, Ok, Err, true, false, refl, sym, subst, arith, lit≤}
 use Rattle.std.specs.Prelude.{IfOk, IfErr, IsSome, codes}
 use Rattle.std.proofs.Math.ListN.{length-replicate}
 use Rattle.std.proofs.Math.Seq.{take-length}
-use Rattle.nomos_accept.specs.Acceptance.{IsAcceptedAs}
+use Rattle.nomos_accept.specs.Acceptance.{IsAcceptedAs, IsRefused, Answers}
+use Rattle.nomos_accept.specs.declared.refusal.AcceptError.{AcceptError}
+use Rattle.nomos_accept.specs.declared.refusal.AcceptError.TheVariants as error
 use Rattle.nomos_accept.specs.declared.refusal.Why.{Why}
 use Rattle.nomos_accept.specs.declared.refusal.Why.TheVariants as why
 use Rattle.nomos_base.proofs.ToldLaws.{TakesExactly-told}
 use Rattle.nomos_base.specs.Source.{TakesAll, TakesExactly}
+use Rattle.nomos_least.specs.LeastBounds.{IsLeastAs, AnswersLeast}
+use Rattle.nomos_least.specs.declared.least.LeastBounds.{LeastBounds}
 use Rattle.nomos_ledger.specs.declared.journal.Journal.{Journal}
 use Rattle.nomos_script.specs.Reading.{ReadsAs}
 use Rattle.nomos_script.specs.declared.item.ScriptItem.{ScriptItem}
 use Rattle.nomos_simplex.specs.declared.solved.Stop.{Stop}
 use Rattle.nomos_syntax.specs.Limits.{text_limit}
 use Rattle.nomos_top.specs.Block.{accepted_block, read_fault_line, usage_line}
-use Rattle.nomos_top.specs.Judging.{FindsText, FindsOrFails, IsDueAs, IsPartAs, IsDueOf, IsPartOf, not_run, run_so_far, HasRunAs, HasRunPart, journal_of}
-use Rattle.nomos_top.specs.Outcome.{Counts, HaveRisen, Input, Reading, input_of, IsTextOf, IsCheck, IsRun, IsRunOn, IsRefused, HasStopped, IsDue, usage, read_fault, refused, unsolved, accepted, not_yet, ran, IsDueFor, IsPart, nothing, accepted_part, run_part, no_journal, steps}
+use Rattle.nomos_top.specs.Judging.{IsUnaccepted, unaccepted_of, IsDueOut, IsDueWhere, IsPartWhere, FindsText, FindsOrFails, IsDueAs, IsPartAs, IsDueOf, IsPartOf, not_run, run_so_far, HasRunAs, HasRunPart, journal_of}
+use Rattle.nomos_top.specs.Outcome.{Counts, HaveRisen, Input, Reading, input_of, IsTextOf, IsCheck, IsRun, IsLeast, AsksPivots, IsRunOn, HasStopped, HasLeastStopped, IsDue, usage, read_fault, refused, unsolved, least_unsolved, bounded, accepted, not_yet, ran, IsDueFor, IsPart, nothing, accepted_part, run_part, no_journal, steps}
+use Rattle.nomos_top.specs.LeastBlock.{least_block}
 use Rattle.nomos_top.specs.Progress.{HasCome}
 use Rattle.nomos_top.specs.Refusal.{refusal, unsolved_line, not_yet_line}
 use Rattle.nomos_top.specs.Runnable.{is_runnable}
 use Rattle.nomos_top.specs.Words.{Task, task_of}
 use Rattle.nomos_top.specs.declared.due.Due.{Due}
 use Rattle.nomos_top.specs.declared.due.Part.{Part}
+use Rattle.nomos_top.specs.declared.judging.Unaccepted.{Unaccepted}
+use Rattle.nomos_top.specs.declared.judging.Unaccepted.TheVariants as unaccepted
 use Rattle.nomos_top.specs.declared.running.Running.{Running}
 use Rattle.nomos_top.specs.declared.scripts.Found.{Found}
 use Rattle.nomos_top.specs.declared.scripts.Found.TheVariants as found
@@ -93,11 +100,69 @@ due-refused words contract script text why some told is_refused =
     let s = some_text script.left in
     record { text = text; script_text = s.0; told = told; script_told = s.1; due = refused why some is_refused }
 
--- a contract on which the solver stopped
-pub due-unsolved : (words : List (List ℕ)) (contract script : Reading) (text : List ℕ) (stop : Stop) → IsSome (task_of words) → IsTextOf contract.left text → HasStopped text stop → IsDueFor words contract script 8 (unsolved_line stop) None no_journal
-due-unsolved words contract script text stop some told has_stopped =
+-- what is due of a contract that is not accepted, where the solver may have stopped so
+pub due-out : (words : List (List ℕ)) (contract script : Reading) (text : List ℕ) (Stops : Stop → Type 0)
+    (u : Unaccepted) (due : Due) → IsSome (task_of words) → IsTextOf contract.left text
+    → ((stop : Stop) → Stops stop
+    → IsDue words (input_of contract text) (input_of script (some_text script.left).0) 8 (unsolved_line stop) None no_journal)
+    → IsUnaccepted Stops text contract.counts u → IsDueOut u due
+    → IsDueFor words contract script due.status due.text.items due.accepted due.journal
+due-out words contract script text Stops (unaccepted.Refused why) due some told stops is_refused parts =
+    due-as words contract script due 1 (refusal why) None no_journal
+    (due-refused words contract script text why some told is_refused) parts
+due-out words contract script text Stops (unaccepted.Unsolved stop) due some told stops stopped parts =
     let s = some_text script.left in
-    record { text = text; script_text = s.0; told = told; script_told = s.1; due = unsolved stop some has_stopped }
+    due-as words contract script due 8 (unsolved_line stop) None no_journal
+    (record { text = text; script_text = s.0; told = told; script_told = s.1; due = stops stop stopped }) parts
+due-out words contract script text Stops unaccepted.ReadFault due some told stops rose parts =
+    due-as words contract script due 5 (read_fault_line (codes "contract")) None no_journal
+    (due-fault words contract script some rose) parts
+due-out words contract script text Stops unaccepted.NoMemory due some told stops free parts = absurd parts
+
+-- the same of a check and of a run, where it is the pivot run that stopped
+pub due-pivots_out : (words : List (List ℕ)) (contract script : Reading) (text : List ℕ) (u : Unaccepted) (due : Due)
+    → AsksPivots words → IsSome (task_of words) → IsTextOf contract.left text
+    → IsUnaccepted (HasStopped text) text contract.counts u → IsDueOut u due
+    → IsDueFor words contract script due.status due.text.items due.accepted due.journal
+due-pivots_out words contract script text u due asks some told out parts =
+    due-out words contract script text (HasStopped text) u due some told (λ stop h. unsolved stop asks h) out parts
+
+-- and of a search for least bounds
+pub due-least_out : (words : List (List ℕ)) (contract script : Reading) (text : List ℕ) (u : Unaccepted) (due : Due)
+    → IsLeast words → IsTextOf contract.left text → IsUnaccepted (HasLeastStopped text) text contract.counts u
+    → IsDueOut u due → IsDueFor words contract script due.status due.text.items due.accepted due.journal
+due-least_out words contract script text u due asks told out parts =
+    due-out words contract script text (HasLeastStopped text) u due (has-task words _ (sym asks.1)) told
+    (λ stop h. least_unsolved stop asks h) out parts
+
+-- what stands against a text that was not read stands against it however the solver may stop
+pub unread-unaccepted : (Stops : Stop → Type 0) (text : List ℕ) (counts : Counts) (u : Unaccepted)
+    → IsUnaccepted (λ stop. ⊥) text counts u → IsUnaccepted Stops text counts u
+unread-unaccepted Stops text counts (unaccepted.Refused why) h = h
+unread-unaccepted Stops text counts (unaccepted.Unsolved stop) h = absurd h
+unread-unaccepted Stops text counts unaccepted.ReadFault h = h
+unread-unaccepted Stops text counts unaccepted.NoMemory h = h
+
+-- and so does what the checker answers
+pub error-unaccepted : (text : List ℕ) (counts : Counts) (e : AcceptError) → Answers text (Err e)
+    → IsUnaccepted (HasStopped text) text counts (unaccepted_of e)
+error-unaccepted text counts (error.Refused why) h = h
+error-unaccepted text counts (error.Unsolved stop) h = h
+error-unaccepted text counts error.NoMemory h = h
+
+pub least-unaccepted : (text : List ℕ) (counts : Counts) (e : AcceptError) → AnswersLeast text (Err e)
+    → IsUnaccepted (HasLeastStopped text) text counts (unaccepted_of e)
+least-unaccepted text counts (error.Refused why) h = h
+least-unaccepted text counts (error.Unsolved stop) h = h
+least-unaccepted text counts error.NoMemory h = h
+
+-- least bounds that are found
+pub due-bounded : (words : List (List ℕ)) (contract script : Reading) (text : List ℕ) (b : LeastBounds) → IsLeast words
+    → IsTextOf contract.left text → IsLeastAs text b
+    → IsDueFor words contract script 0 (least_block b) (Some b.accepted) no_journal
+due-bounded words contract script text b asks told is_least =
+    let s = some_text script.left in
+    record { text = text; script_text = s.0; told = told; script_told = s.1; due = bounded b asks is_least }
 
 -- a contract that is checked and accepted
 pub due-accepted : (words : List (List ℕ)) (contract script : Reading) (text : List ℕ) (a : Acceptance) → IsCheck words → IsTextOf contract.left text → IsAcceptedAs text a → IsDueFor words contract script 0 (accepted_block a) (Some a) no_journal

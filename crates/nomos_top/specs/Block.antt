@@ -48,7 +48,7 @@ accepted_block a =
     ++ flat_map (bound_lines a.annotations) a.program.procs
 
 abbrev pub usage_line : List ℕ
-usage_line = line (codes "usage: nomos check FILE | run FILE SCRIPT")
+usage_line = line (codes "usage: nomos check FILE | run FILE SCRIPT | least FILE")
 
 -- the source that could not be read
 abbrev pub read_fault_line : List ℕ → List ℕ

@@ -1,15 +1,20 @@
 -- The whole claim about contract texts: what a call of `nomos` promises.
 use Rattle.std.specs.Prelude.{◌≡◌, ◌≢◌, ◌⊎◌, ℕ, false, List, Option, Some}
-use Rattle.nomos_accept.specs.Acceptance.{IsReadAs, IsTypedAs, IsAcceptedAs, IsCauseOf, EndsWith}
+use Rattle.nomos_accept.specs.Acceptance.{IsReadAs, IsTypedAs, IsAcceptedAs, IsCauseOf, IsRefused, EndsWith}
 use Rattle.nomos_accept.specs.Causes.{SameCause}
 use Rattle.nomos_accept.specs.declared.refusal.Why.{Why}
 use Rattle.nomos_base.specs.Sink.{with_end}
 use Rattle.nomos_ir.specs.Amounts.{star_count}
 use Rattle.nomos_ir.specs.declared.lists.ProgramLists.{ProgramLists}
+use Rattle.nomos_least.specs.LeastBounds.{IsLeastAs, EndsLeastWith}
+use Rattle.nomos_least.specs.declared.least.LeastBounds.{LeastBounds}
+use Rattle.nomos_simplex.specs.declared.solved.Solved.{Solved}
 use Rattle.nomos_simplex.specs.declared.solved.Solved.TheVariants as solved
+use Rattle.nomos_simplex.specs.declared.solved.SolvedLeast.TheVariants as least
 use Rattle.nomos_simplex.specs.declared.solved.Stop.{Stop}
 use Rattle.nomos_top.specs.Block.{accepted_block}
-use Rattle.nomos_top.specs.Outcome.{IsCheck, IsRun, IsRefused, HasStopped, IsTextOf}
+use Rattle.nomos_top.specs.LeastBlock.{least_block}
+use Rattle.nomos_top.specs.Outcome.{IsCheck, IsRun, IsLeast, AsksPivots, HasStopped, HasLeastStopped, IsTextOf}
 use Rattle.nomos_top.specs.Refusal.{refusal, unsolved_line, not_yet_line}
 use Rattle.nomos_top.specs.Runnable.{is_runnable}
 use Rattle.nomos_types.specs.Acceptance.{Acceptance}
@@ -30,9 +35,15 @@ abbrev pub HasWritten : Call → List ℕ → Type 0
 HasWritten c bytes = c.after ≡ with_end c.before bytes
 
 -- What is accepted is typed. Where a program is given, the text reads as it, and it is typed under the amounts that are
--- given with it, over their unit; they are those that the pivot run finds.
+-- given with it, over their unit. They are those that the pivot run finds; where least bounds are sought, they are those
+-- that the least run finds, and under no others do the transactions declare less.
+abbrev pub IsGivenFor : List (List ℕ) → List ℕ → Acceptance → Type 0
+IsGivenFor words text a =
+    (AsksPivots words × IsAcceptedAs text a)
+    ⊎ (IsLeast words × ((b : LeastBounds) × (b.accepted ≡ a) × IsLeastAs text b))
+
 abbrev pub IsSound : Call → Type 0
-IsSound c = (a : Acceptance) → c.accepted ≡ Some a → IsAcceptedAs c.text a
+IsSound c = (a : Acceptance) → c.accepted ≡ Some a → IsGivenFor c.words c.text a
 
 -- With the statuses 0, 2 and 3 a program is given.
 abbrev pub IsGiven : Call → Type 0
@@ -44,18 +55,26 @@ abbrev pub IsShown : Call → Type 0
 IsShown c =
     IsCheck c.words → c.status ≡ 0 → (a : Acceptance) × (c.accepted ≡ Some a) × HasWritten c (accepted_block a)
 
+-- A search for least bounds with the status 0 has written the least bounds, whose accepted program is given.
+abbrev pub IsBounded : Call → Type 0
+IsBounded c =
+    IsLeast c.words → c.status ≡ 0 →
+    (b : LeastBounds) × (c.accepted ≡ Some b.accepted) × IsLeastAs c.text b × HasWritten c (least_block b)
+
 -- What is typed is not refused. Where the text reads as a program that is typed under some amounts over some unit, and
--- the pivot run on its rows does not stop, the status is not 8; it is 1 only where a run is asked for of a program that
--- `run` does not take; and that of a check is 0, unless reading, writing or memory fails (5, 6, 7).
+-- the pivot run on its rows does not stop, nor the least run where least bounds are sought, the status is not 8; it is 1
+-- only where a run is asked for of a program that `run` does not take; and that of a check, or of a search for least
+-- bounds, is 0, unless reading, writing or memory fails (5, 6, 7).
 pub record IsAnswered (c : Call) (lists : ProgramLists) : Type 0 where
   pub solved : c.status ≢ 8
   pub not_refused : c.status ≡ 1 → IsRun c.words × (is_runnable lists ≡ false)
-  pub checked : IsCheck c.words → (c.status ≡ 0) ⊎ ((c.status ≡ 5) ⊎ ((c.status ≡ 6) ⊎ (c.status ≡ 7)))
+  pub checked : IsCheck c.words ⊎ IsLeast c.words → (c.status ≡ 0) ⊎ ((c.status ≡ 5) ⊎ ((c.status ≡ 6) ⊎ (c.status ≡ 7)))
 
 abbrev pub IsComplete : Call → Type 0
 IsComplete c =
     (lists : ProgramLists) (x : Annotations) → IsTypedAs c.text lists x
     → ((stop : Stop) → ¬ (EndsWith lists (solved.Unsolved stop)))
+    → (IsLeast c.words → (stop : Stop) → ¬ (EndsLeastWith lists (least.Unsolved stop)))
     → IsAnswered c lists
 
 -- A refusal is true. Where the status is 1, the text is refused for a cause that is true of it, which is written, and it
@@ -67,9 +86,14 @@ IsRefusedTruly c =
     ⊎ ((a : Acceptance) × (c.accepted ≡ Some a) × IsRun c.words × (is_runnable a.program ≡ false)
     × HasWritten c not_yet_line)
 
--- Where the status is 8, each part of the program has a skeleton, and the pivot run on its rows stops as is written.
+-- Where the status is 8, each part of the program has a skeleton, and the pivot run on its rows stops as is written, or
+-- the least run where least bounds are sought.
+abbrev pub HasStoppedFor : List (List ℕ) → List ℕ → Stop → Type 0
+HasStoppedFor words text stop =
+    (AsksPivots words × HasStopped text stop) ⊎ (IsLeast words × HasLeastStopped text stop)
+
 abbrev pub IsStoppedTruly : Call → Type 0
-IsStoppedTruly c = c.status ≡ 8 → (stop : Stop) × HasStopped c.text stop × HasWritten c (unsolved_line stop)
+IsStoppedTruly c = c.status ≡ 8 → (stop : Stop) × HasStoppedFor c.words c.text stop × HasWritten c (unsolved_line stop)
 
 -- A text reads as one program at most.
 abbrev pub ReadsOnce : List ℕ → Type 0
@@ -78,6 +102,12 @@ ReadsOnce text = (a b : ProgramLists) → IsReadAs text a → IsReadAs text b �
 -- A text is refused by one step of the checker at most, and at one place.
 abbrev pub HasOneCause : List ℕ → Type 0
 HasOneCause text = (v w : Why) → IsCauseOf text v → IsCauseOf text w → SameCause v w
+
+-- The pivot run on the rows of a program has one end: so the amounts of a check, the weights of a refusal without
+-- potential, and a stop are fixed by the text.
+abbrev pub HasOneEnd : List ℕ → Type 0
+HasOneEnd text =
+    (lists : ProgramLists) (a b : Solved) → IsReadAs text lists → EndsWith lists a → EndsWith lists b → a ≡ b
 
 -- Without a star the pivot run does not stop.
 abbrev pub IsSolvedBare : List ℕ → Type 0
@@ -90,11 +120,13 @@ pub record Claim (c : Call) : Type 0 where
   pub sound : IsSound c
   pub given : IsGiven c
   pub shown : IsShown c
+  pub bounded : IsBounded c
   pub complete : IsComplete c
   pub refused : IsRefusedTruly c
   pub stopped : IsStoppedTruly c
   pub reads_once : ReadsOnce c.text
   pub one_cause : HasOneCause c.text
+  pub one_end : HasOneEnd c.text
   pub solved_bare : IsSolvedBare c.text
 
 -- The claim of a call, of the text that its source tells, or of some text where it does not tell.

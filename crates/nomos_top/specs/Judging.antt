@@ -1,7 +1,12 @@
 -- What the code of the top call finds and makes. Private clauses alone cite it.
-use Rattle.std.specs.Prelude.{◌≡◌, ℕ, ◌<◌, List, length, take, Option, Some, true}
-use Rattle.nomos_accept.specs.Acceptance.{IsAcceptedAs}
+use Rattle.std.specs.Prelude.{◌≡◌, ℕ, ◌<◌, List, length, take, codes, Option, Some, None, Result, Ok, Err, Vec, true}
+use Rattle.std.specs.Global.{Global}
+use Rattle.nomos_accept.specs.Acceptance.{IsAcceptedAs, IsRefused}
+use Rattle.nomos_accept.specs.declared.refusal.AcceptError.{AcceptError}
+use Rattle.nomos_accept.specs.declared.refusal.AcceptError.TheVariants as error
 use Rattle.nomos_ir.specs.Amounts.{star_count}
+use Rattle.nomos_least.specs.LeastBounds.{IsLeastAs}
+use Rattle.nomos_least.specs.declared.least.LeastBounds.{LeastBounds}
 use Rattle.nomos_ledger.specs.Ledger.{LedgerState, empty_ledger}
 use Rattle.nomos_ledger.specs.Legal.{Leads}
 use Rattle.nomos_ledger.specs.Standing.{StandsFor}
@@ -9,33 +14,53 @@ use Rattle.nomos_ledger.specs.declared.journal.Entry.{Entry}
 use Rattle.nomos_ledger.specs.declared.journal.Journal.{Journal}
 use Rattle.nomos_script.specs.Reading.{ReadsAs, IsSyntaxAt, IsNotYetAt, text_limit}
 use Rattle.nomos_script.specs.declared.item.ScriptItem.{ScriptItem}
-use Rattle.nomos_top.specs.Outcome.{Counts, HaveRisen, Input, IsTextOf, IsRun, IsRefused, HasStopped, HasRun, IsDue, no_journal, steps}
+use Rattle.nomos_top.specs.Outcome.{Counts, HaveRisen, Input, Reading, IsTextOf, IsRun, HasStopped, HasLeastStopped, HasRun, IsDue, IsDueFor, IsPart, no_journal, steps}
 use Rattle.nomos_top.specs.Progress.{IsSoFar}
+use Rattle.nomos_top.specs.Block.{read_fault_line}
+use Rattle.nomos_top.specs.Refusal.{refusal, unsolved_line}
 use Rattle.nomos_top.specs.Report.{report, run_status, AllFollowFirst}
 use Rattle.nomos_top.specs.Runnable.{is_runnable}
 use Rattle.nomos_top.specs.declared.due.Due.{Due}
 use Rattle.nomos_top.specs.declared.due.Part.{Part}
-use Rattle.nomos_top.specs.declared.judging.Judged.{Judged}
-use Rattle.nomos_top.specs.declared.judging.Judged.TheVariants as judged
+use Rattle.nomos_top.specs.declared.judging.Unaccepted.{Unaccepted}
+use Rattle.nomos_top.specs.declared.judging.Unaccepted.TheVariants as unaccepted
 use Rattle.nomos_top.specs.declared.scripts.Found.{Found}
 use Rattle.nomos_top.specs.declared.scripts.Found.TheVariants as found
+use Rattle.nomos_simplex.specs.declared.solved.Stop.{Stop}
 use Rattle.nomos_types.specs.Acceptance.{Acceptance}
 
 -- there is an amount for each star of the program
 abbrev pub HasEachStar : Acceptance → Type 0
 HasEachStar a = length a.annotations.stars ≡ star_count a.program
 
--- what is found of the text of a contract
-abbrev pub JudgesText : List ℕ → Counts → Judged → Type 0
-JudgesText text counts (judged.Accepted a) = IsAcceptedAs text a
-JudgesText text counts (judged.Refused why) = IsRefused text why
-JudgesText text counts (judged.Unsolved stop) = HasStopped text stop
-JudgesText text counts judged.ReadFault = HaveRisen counts
-JudgesText text counts judged.NoMemory = Unit {0}
+-- what stands against the acceptance of a text, where the solver may have stopped so
+abbrev pub IsUnaccepted : (Stop → Type 0) → List ℕ → Counts → Unaccepted → Type 0
+IsUnaccepted Stops text counts (unaccepted.Refused why) = IsRefused text why
+IsUnaccepted Stops text counts (unaccepted.Unsolved stop) = Stops stop
+IsUnaccepted Stops text counts unaccepted.ReadFault = HaveRisen counts
+IsUnaccepted Stops text counts unaccepted.NoMemory = Unit {0}
+
+-- the text of a contract, or why there is none
+abbrev pub ReadsContract : Option (List ℕ) → Counts → Result (Vec ℕ Global) Unaccepted → Type 0
+ReadsContract left counts (Ok bytes) = IsTextOf left bytes.items
+ReadsContract left counts (Err u) = (text : List ℕ) × IsTextOf left text × IsUnaccepted (λ stop. ⊥) text counts u
+
+-- what is said of an error of the checker
+abbrev pub unaccepted_of : AcceptError → Unaccepted
+unaccepted_of (error.Refused why) = unaccepted.Refused why
+unaccepted_of (error.Unsolved stop) = unaccepted.Unsolved stop
+unaccepted_of error.NoMemory = unaccepted.NoMemory
 
 -- a text that the source has, where it tells that, and what is found of it
-abbrev pub Judges : Option (List ℕ) → Counts → Judged → Type 0
-Judges left counts j = (text : List ℕ) × IsTextOf left text × JudgesText text counts j
+abbrev pub Judges : Option (List ℕ) → Counts → Result Acceptance Unaccepted → Type 0
+Judges left counts (Ok a) = (text : List ℕ) × IsTextOf left text × IsAcceptedAs text a
+Judges left counts (Err u) = (text : List ℕ) × IsTextOf left text × IsUnaccepted (HasStopped text) text counts u
+
+-- the same, where its least bounds are sought
+abbrev pub JudgesLeast : Option (List ℕ) → Counts → Result LeastBounds Unaccepted → Type 0
+JudgesLeast left counts (Ok b) = (text : List ℕ) × IsTextOf left text × IsLeastAs text b
+JudgesLeast left counts (Err u) =
+    (text : List ℕ) × IsTextOf left text × IsUnaccepted (HasLeastStopped text) text counts u
 
 -- what is found of the text of a script
 abbrev pub FindsText : List ℕ → Found → Type 0
@@ -65,6 +90,24 @@ pub record IsDueAs (due : Due) (code : ℕ) (bytes : List ℕ) (given : Option A
 pub record IsPartAs (part : Part) (given : Option Acceptance) (kept : Journal) : Type 0 where
   pub accepted : part.accepted ≡ given
   pub journal : part.journal ≡ kept
+
+-- what is due of a contract that is not accepted
+abbrev pub IsDueOut : Unaccepted → Due → Type 0
+IsDueOut (unaccepted.Refused why) due = IsDueAs due 1 (refusal why) None no_journal
+IsDueOut (unaccepted.Unsolved stop) due = IsDueAs due 8 (unsolved_line stop) None no_journal
+IsDueOut unaccepted.ReadFault due = IsDueAs due 5 (read_fault_line (codes "contract")) None no_journal
+IsDueOut unaccepted.NoMemory due = ⊥
+
+-- this is due, for words of this kind, whatever the script is
+abbrev pub IsDueWhere : (List (List ℕ) → Type 0) → Reading → Due → Type 0
+IsDueWhere Asks contract due =
+    (words : List (List ℕ)) (script : Reading) → Asks words
+    → IsDueFor words contract script due.status due.text.items due.accepted due.journal
+
+-- this was done before memory ran out
+abbrev pub IsPartWhere : (List (List ℕ) → Type 0) → Reading → Part → Type 0
+IsPartWhere Asks contract part =
+    (words : List (List ℕ)) (script : Reading) → Asks words → IsPart words contract script part.accepted part.journal
 
 -- the journal of these entries
 abbrev pub journal_of : List Entry → Journal

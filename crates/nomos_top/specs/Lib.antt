@@ -7,4 +7,5 @@ pub mod Runnable
 pub mod Outcome
 pub mod Progress
 pub mod Judging
+pub mod LeastBlock
 pub mod Claim

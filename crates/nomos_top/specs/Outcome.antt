@@ -1,9 +1,11 @@
 -- How a call ends.
-use Rattle.std.specs.Prelude.{◌≡◌, ℕ, ◌<◌, List, [], length, codes, decimal, ◌++◌, take, Option, Some, None, IsSome, true, false, ⊤}
-use Rattle.nomos_accept.specs.Acceptance.{IsAcceptedAs, IsCauseOf, IsNeverTyped, IsProgramWith, IsUnsolved}
+use Rattle.std.specs.Prelude.{◌≡◌, ℕ, ◌<◌, List, [], length, codes, decimal, ◌++◌, take, Option, Some, None, IsSome, true, false, ⊤, ◌⊎◌}
+use Rattle.nomos_accept.specs.Acceptance.{IsAcceptedAs, IsProgramWith, IsRefused, IsUnsolved}
 use Rattle.nomos_accept.specs.declared.refusal.Why.{Why}
 use Rattle.nomos_base.specs.Faults.{Rose}
 use Rattle.nomos_base.specs.Sink.{with_end, AppendsSome}
+use Rattle.nomos_least.specs.LeastBounds.{IsLeastAs, IsLeastUnsolved}
+use Rattle.nomos_least.specs.declared.least.LeastBounds.{LeastBounds}
 use Rattle.nomos_ledger.specs.Ledger.{LedgerState, empty_ledger}
 use Rattle.nomos_ledger.specs.Legal.{IsLegal}
 use Rattle.nomos_ledger.specs.Standing.{StandsFor}
@@ -12,10 +14,11 @@ use Rattle.nomos_script.specs.Reading.{ReadsAs, IsSyntaxAt, IsNotYetAt, text_lim
 use Rattle.nomos_script.specs.declared.item.ScriptItem.{ScriptItem}
 use Rattle.nomos_simplex.specs.declared.solved.Stop.{Stop}
 use Rattle.nomos_top.specs.Block.{line, accepted_block, usage_line, read_fault_line}
+use Rattle.nomos_top.specs.LeastBlock.{least_block}
 use Rattle.nomos_top.specs.Refusal.{refusal, unsolved_line, not_yet_line}
 use Rattle.nomos_top.specs.Report.{report, run_status, AllFollowFirst}
 use Rattle.nomos_top.specs.Runnable.{is_runnable}
-use Rattle.nomos_top.specs.Words.{check, run, task_of}
+use Rattle.nomos_top.specs.Words.{check, run, least, task_of}
 use Rattle.nomos_types.specs.Acceptance.{Acceptance}
 
 -- the counts of faults of a source or a sink before a call and after it
@@ -39,12 +42,19 @@ steps = 1000000
 abbrev pub no_journal : Journal
 no_journal = record { limit = steps; entries = [] }
 
--- the words ask for a check, or for a run
+-- the words ask for a check, for a run, or for least bounds
 abbrev pub IsCheck : List (List ℕ) → Type 0
 IsCheck words = (file : List ℕ) × (task_of words ≡ Some (check file))
 
 abbrev pub IsRun : List (List ℕ) → Type 0
 IsRun words = (file script : List ℕ) × (task_of words ≡ Some (run file script))
+
+abbrev pub IsLeast : List (List ℕ) → Type 0
+IsLeast words = (file : List ℕ) × (task_of words ≡ Some (least file))
+
+-- the words ask for what the pivot run finds
+abbrev pub AsksPivots : List (List ℕ) → Type 0
+AsksPivots words = IsCheck words ⊎ IsRun words
 
 -- the cause of a script's refusal
 abbrev pub script_refusal : List ℕ → List ℕ
@@ -59,14 +69,13 @@ pub record HasRun (a : Acceptance) (items : List ScriptItem) (journal : Journal)
   pub stands : StandsFor a last
   pub first : AllFollowFirst a empty_ledger items journal.entries
 
--- The text is refused for this cause, and is typed under no amounts at all.
-pub record IsRefused (text : List ℕ) (why : Why) : Type 0 where
-  pub cause : IsCauseOf text why
-  pub never : IsNeverTyped text
-
 -- The text reads, each part of its program has a skeleton, and the pivot run stops without an answer.
 abbrev pub HasStopped : List ℕ → Stop → Type 0
 HasStopped text stop = IsProgramWith text (λ lists. IsUnsolved lists stop)
+
+-- The same, and it is the least run that stops.
+abbrev pub HasLeastStopped : List ℕ → Stop → Type 0
+HasLeastStopped text stop = IsProgramWith text (λ lists. IsLeastUnsolved lists stop)
 
 -- A run is asked for on a contract that is accepted, and that `run` takes.
 pub record IsRunOn (words : List (List ℕ)) (text : List ℕ) (a : Acceptance) : Type 0 where
@@ -83,8 +92,12 @@ pub data IsDue (words : List (List ℕ)) (contract script : Input)
       → IsDue words contract script 5 (read_fault_line (codes "contract")) None no_journal
   refused : (why : Why) → IsSome (task_of words) → IsRefused contract.text why
       → IsDue words contract script 1 (refusal why) None no_journal
-  unsolved : (stop : Stop) → IsSome (task_of words) → HasStopped contract.text stop
+  unsolved : (stop : Stop) → AsksPivots words → HasStopped contract.text stop
       → IsDue words contract script 8 (unsolved_line stop) None no_journal
+  least_unsolved : (stop : Stop) → IsLeast words → HasLeastStopped contract.text stop
+      → IsDue words contract script 8 (unsolved_line stop) None no_journal
+  bounded : (b : LeastBounds) → IsLeast words → IsLeastAs contract.text b
+      → IsDue words contract script 0 (least_block b) (Some b.accepted) no_journal
   accepted : (a : Acceptance) → IsCheck words → IsAcceptedAs contract.text a
       → IsDue words contract script 0 (accepted_block a) (Some a) no_journal
   not_yet : (a : Acceptance) → IsRun words → IsAcceptedAs contract.text a → is_runnable a.program ≡ false

@@ -1,49 +1,73 @@
 //! What is found of a contract.
 
-ghost use Rattle.std.specs.Prelude.{◌≢◌};
-ghost use Rattle.nomos_top.specs.Outcome.{Counts};
-ghost use Rattle.nomos_top.specs.Judging.{Judges, JudgesText};
-ghost use Rattle.nomos_top.specs.declared.judging.Judged.{Judged};
+ghost use Rattle.std.specs.Prelude.{◌≡◌};
+ghost use Rattle.nomos_top.specs.Judging.{ReadsContract, unaccepted_of, Judges, JudgesLeast};
 
 use nomos_accept::accepting::accept;
 use nomos_accept::refusal::{AcceptError, Why};
 use nomos_base::{ReadError, Source, read_all};
+use nomos_least::least::{LeastBounds, least};
 use nomos_simplex::solved::Stop;
 use nomos_syntax::scan::TEXT_LIMIT;
 use nomos_types::accepted::Accepted;
 use std::alloc::Global;
 
-/// What is found of a contract.
+/// Why a contract is not accepted.
 #[derive(Drop)]
-pub(crate) enum Judged {
-    Accepted(Accepted),
+pub(crate) enum Unaccepted {
     Refused(Why),
     Unsolved(Stop),
     ReadFault,
     NoMemory,
 }
 
-/// What is found of a contract.
-pub(crate) fn judge<S: Source>(alloc: Global, contract: &mut S) -> Judged
-    ensures { Judges (S.left contract.old) (record { before = S.faults contract.old; after = S.faults contract.new }) result }
+/// Accepts a contract, or says why not.
+pub(crate) fn judge<S: Source>(alloc: Global, contract: &mut S) -> Result<Accepted, Unaccepted>
+    ensures { Judges (S.left contract.old)
+        (record { before = S.faults contract.old; after = S.faults contract.new }) result }
 {
-    match read_all(alloc, contract, TEXT_LIMIT) {
-        Ok(text) => judge_text(alloc, &text),
-        Err(ReadError::TooLong) => Judged::Refused(Why::TooLong),
-        Err(ReadError::ReadFault) => Judged::ReadFault,
-        Err(ReadError::NoMemory) => Judged::NoMemory,
+    let text = read_contract(alloc, contract)?;
+    match accept(alloc, &text) {
+        Ok(accepted) => Ok(accepted),
+        Err(error) => Err(of_error(error)),
     }
 }
 
-// What is found of the text of a contract.
-fn judge_text(alloc: Global, text: &[u8]) -> Judged
-    ensures judged { (counts : Counts) → JudgesText text.now counts result }
-    ensures no_fault { result ≢ Judged.ReadFault }
+/// Finds the least bounds of a contract, or says why it has none.
+pub(crate) fn judge_least<S: Source>(
+    alloc: Global,
+    contract: &mut S,
+) -> Result<LeastBounds, Unaccepted>
+    ensures { JudgesLeast (S.left contract.old)
+        (record { before = S.faults contract.old; after = S.faults contract.new }) result }
 {
-    match accept(alloc, text) {
-        Ok(accepted) => Judged::Accepted(accepted),
-        Err(AcceptError::Refused(why)) => Judged::Refused(why),
-        Err(AcceptError::Unsolved(stop)) => Judged::Unsolved(stop),
-        Err(AcceptError::NoMemory) => Judged::NoMemory,
+    let text = read_contract(alloc, contract)?;
+    match least(alloc, &text) {
+        Ok(bounds) => Ok(bounds),
+        Err(error) => Err(of_error(error)),
+    }
+}
+
+// The text of a contract.
+fn read_contract<S: Source>(alloc: Global, contract: &mut S) -> Result<Vec<u8>, Unaccepted>
+    ensures { ReadsContract (S.left contract.old)
+        (record { before = S.faults contract.old; after = S.faults contract.new }) result }
+{
+    match read_all(alloc, contract, TEXT_LIMIT) {
+        Ok(text) => Ok(text),
+        Err(ReadError::TooLong) => Err(Unaccepted::Refused(Why::TooLong)),
+        Err(ReadError::ReadFault) => Err(Unaccepted::ReadFault),
+        Err(ReadError::NoMemory) => Err(Unaccepted::NoMemory),
+    }
+}
+
+// Why a contract whose text was read is not accepted.
+fn of_error(error: AcceptError) -> Unaccepted
+    ensures { result ≡ unaccepted_of error }
+{
+    match error {
+        AcceptError::Refused(why) => Unaccepted::Refused(why),
+        AcceptError::Unsolved(stop) => Unaccepted::Unsolved(stop),
+        AcceptError::NoMemory => Unaccepted::NoMemory,
     }
 }

@@ -5,6 +5,7 @@ mod block;
 mod due;
 mod job;
 mod judging;
+mod least_block;
 mod refusal;
 mod report;
 mod runnable;

@@ -150,8 +150,8 @@ fn push_gives(text: &mut Vec<u8>, gives: u128) -> Result<(), AllocError>
     Ok(())
 }
 
-// Appends the lines of weights.
-fn push_weights(text: &mut Vec<u8>, weights: &[Weight]) -> Result<(), AllocError>
+/// Appends the lines of weights.
+pub(crate) fn push_weights(text: &mut Vec<u8>, weights: &[Weight]) -> Result<(), AllocError>
     ensures { OnOk result (text.new.items ≡ text.old.items ++ flat_map weight_line weights.now) }
 {
     for weight in weights {

@@ -148,6 +148,37 @@ fn answers_what_is_checked(rt: HostRuntime) -> Result<(), Fail> {
     Ok(())
 }
 
+// Whoever does a job has star 2 from its start, for each of two, and star 3 where it is done, once.
+const TWO_JOBS: &str = "type R job = &{ go : <{*}| 1 | no : 1 };
+proc R p(;) {*} : job = case self { go => get self {*}; work {3}; close | no => close };
+proc T t(;) {*} = spawn a = p(;); spawn b = p(;); a.go; pay a {*}; wait a; b.no; wait b; close;
+";
+
+#[test]
+fn finds_least_bounds(rt: HostRuntime) -> Result<(), Fail> {
+    let table = [
+        (
+            "",
+            "0 true 0 (0, 0, 0)\naccepted\nunit 1\nleast 0\nscale 1\n",
+        ),
+        (
+            TWO_JOBS,
+            "0 true 0 (0, 0, 0)\naccepted\nunit 1\nstar 1 = 3\nstar 2 = 0\nstar 3 = 3\nstar 4 = 3\n\
+            star 5 = 3\nbound t = 3\nleast 3\nscale 1\ntimes 1 star 2\ntimes 1 row -1 0 0 0 1 >= 0\n\
+            times 1 row 0 -2 0 1 -1 >= 0\ntimes 1 row 0 1 1 0 0 >= 3\ntimes 1 row 1 0 -1 0 0 >= 0\n",
+        ),
+        (
+            "proc R p(;) {*} : 1 = work {2}; close; proc T f(;) {1} = spawn x = p(;); wait x; close;",
+            "1 false 0 (0, 0, 0)\nrefused NoPotential\ntimes 1 row -1 >= -1\ntimes 1 row 1 >= 2\ngives 0 >= 1\n",
+        ),
+    ];
+    for (text, wanted) in table {
+        let found = answer(rt.alloc(), "least it.nomos", text.as_bytes(), b"")?;
+        assert_eq!(rt; found.as_str(), wanted);
+    }
+    Ok(())
+}
+
 // A run takes no contract with potential yet, and then reads no script.
 #[test]
 fn leaves_to_later_what_is_not_built(rt: HostRuntime) -> Result<(), Fail> {
@@ -180,7 +211,7 @@ fn contracts_have_a_limit(rt: HostRuntime) -> Result<(), Fail> {
     Ok(())
 }
 
-const USAGE: &str = "4 false 0 (0, 0, 0)\nusage: nomos check FILE | run FILE SCRIPT\n";
+const USAGE: &str = "4 false 0 (0, 0, 0)\nusage: nomos check FILE | run FILE SCRIPT | least FILE\n";
 
 // The job that the words of a line name.
 fn job_text(alloc: Global, line: &str) -> Result<String, AllocError> {
@@ -201,7 +232,11 @@ fn words_have_one_form(rt: HostRuntime) -> Result<(), Fail> {
             "Some(Run { file: \"a\", script: \"b\" })",
             CUT_SHORT,
         ),
+        ("least a", "Some(Least { file: \"a\" })", CUT_SHORT),
         ("", "None", USAGE),
+        ("least", "None", USAGE),
+        ("least -a", "None", USAGE),
+        ("least a b", "None", USAGE),
         ("check", "None", USAGE),
         ("check ", "None", USAGE),
         ("check -v", "None", USAGE),

@@ -3,8 +3,9 @@
 ghost use Rattle.std.specs.Prelude.{◌≡◌, ℕ, List, Some, None, IfOk, IfErr, map, string_bytes};
 ghost use Rattle.nomos_top.specs.Block.{accepted_block};
 ghost use Rattle.nomos_top.specs.Claim.{Claims};
-ghost use Rattle.nomos_top.specs.Outcome.{IsDueFor, EndsFor, IsWritten, IsPart, no_journal};
-ghost use Rattle.nomos_top.specs.Judging.{HasEachStar, IsDueAs, IsPartAs, IsDueOf, IsPartOf};
+ghost use Rattle.nomos_top.specs.LeastBlock.{least_block};
+ghost use Rattle.nomos_top.specs.Outcome.{IsCheck, IsRun, IsLeast, IsDueFor, EndsFor, IsWritten, IsPart, no_journal};
+ghost use Rattle.nomos_top.specs.Judging.{HasEachStar, IsDueAs, IsPartAs, IsDueOut, IsDueWhere, IsPartWhere, IsDueOf, IsPartOf};
 ghost use Rattle.nomos_top.specs.Jobs.{task};
 ghost use Rattle.nomos_top.specs.Refusal.{refusal, unsolved_line};
 ghost use Rattle.nomos_top.specs.Words.{task_of};
@@ -12,12 +13,14 @@ ghost use Rattle.nomos_top.specs.Words.{task_of};
 use crate::block::accepted_block;
 use crate::due::{Due, Part, bare_part, line_due, text_due};
 use crate::job::{self, Job};
-use crate::judging::{Judged, judge};
+use crate::judging::{Unaccepted, judge, judge_least};
+use crate::least_block::least_block;
 use crate::refusal::{refusal, unsolved_line};
 use crate::runnable::is_runnable;
 use crate::scripts::script_due;
 use nomos_accept::refusal::Why;
 use nomos_base::{Sink, Source, write_all};
+use nomos_least::least::LeastBounds;
 use nomos_ledger::journal::Journal;
 use nomos_simplex::solved::Stop;
 use nomos_types::accepted::Accepted;
@@ -28,8 +31,8 @@ use std::alloc::Global;
 pub struct Ended {
     /// The exit status, as docs/TEXTS.md has it.
     pub status: u8,
-    /// What was accepted: for a check, given with status 0, and with 6 where the contract was accepted before; for a
-    /// run, given wherever the contract was accepted.
+    /// What was accepted: for a check, and for a search for least bounds, given with status 0, and with 6 where the
+    /// contract was accepted before; for a run, given wherever the contract was accepted.
     pub accepted: Option<Accepted>,
     /// What became of the script: an entry for each deposit and each batch with status 0 and 3, and with 6 where the
     /// report was made; with 7 those that were kept before memory ran out; otherwise none.
@@ -37,7 +40,7 @@ pub struct Ended {
 }
 
 // The words that have a form.
-const USAGE: &[u8] = b"usage: nomos check FILE | run FILE SCRIPT\n";
+const USAGE: &[u8] = b"usage: nomos check FILE | run FILE SCRIPT | least FILE\n";
 
 /// Does all that the program does: reads the words (those after the program's own name), reads the contract and judges
 /// it, reads the script and runs it, and writes what is due. Nothing is written before the last memory is taken. Status
@@ -131,15 +134,74 @@ fn work_due<S: Source>(
         (record { left = S.left script.old; counts = record { before = S.faults script.old; after = S.faults script.new } })
         part.accepted part.journal) }
 {
+    match job {
+        Job::Check { file: _ } => check_due(alloc, contract),
+        Job::Run { file: _, script: _ } => run_due(alloc, contract, script),
+        Job::Least { file: _ } => least_due(alloc, contract),
+    }
+}
+
+// What is due for a check.
+fn check_due<S: Source>(alloc: Global, contract: &mut S) -> Result<Due, Part>
+    ensures ok { IfOk result (IsDueWhere IsCheck (record {
+      left = S.left contract.old;
+      counts = record { before = S.faults contract.old; after = S.faults contract.new };
+    })) }
+    ensures err { IfErr result (IsPartWhere IsCheck (record {
+      left = S.left contract.old;
+      counts = record { before = S.faults contract.old; after = S.faults contract.new };
+    })) }
+{
     match judge(alloc, contract) {
-        Judged::NoMemory => Err(bare_part(alloc, None)),
-        Judged::ReadFault => line_due(alloc, 5, b"read fault contract\n", None),
-        Judged::Refused(why) => refusal_due(alloc, &why),
-        Judged::Unsolved(stop) => unsolved_due(alloc, stop),
-        Judged::Accepted(accepted) => match job {
-            Job::Check { file: _ } => accepted_due(alloc, accepted),
-            Job::Run { file: _, script: _ } => run_due(alloc, accepted, script),
-        },
+        Ok(accepted) => accepted_due(alloc, accepted),
+        Err(unaccepted) => unaccepted_due(alloc, unaccepted),
+    }
+}
+
+// What is due for a search for least bounds.
+fn least_due<S: Source>(alloc: Global, contract: &mut S) -> Result<Due, Part>
+    ensures ok { IfOk result (IsDueWhere IsLeast (record {
+      left = S.left contract.old;
+      counts = record { before = S.faults contract.old; after = S.faults contract.new };
+    })) }
+    ensures err { IfErr result (IsPartWhere IsLeast (record {
+      left = S.left contract.old;
+      counts = record { before = S.faults contract.old; after = S.faults contract.new };
+    })) }
+{
+    match judge_least(alloc, contract) {
+        Ok(bounds) => bounds_due(alloc, bounds),
+        Err(unaccepted) => unaccepted_due(alloc, unaccepted),
+    }
+}
+
+// What is due for a run.
+fn run_due<S: Source>(alloc: Global, contract: &mut S, script: &mut S) -> Result<Due, Part>
+    ensures ok { (words : List (List ℕ)) → IsRun words → IfOk result (λ due. IsDueFor words
+        (record { left = S.left contract.old; counts = record { before = S.faults contract.old; after = S.faults contract.new } })
+        (record { left = S.left script.old; counts = record { before = S.faults script.old; after = S.faults script.new } })
+        due.status due.text.items due.accepted due.journal) }
+    ensures err { (words : List (List ℕ)) → IsRun words → IfErr result (λ part. IsPart words
+        (record { left = S.left contract.old; counts = record { before = S.faults contract.old; after = S.faults contract.new } })
+        (record { left = S.left script.old; counts = record { before = S.faults script.old; after = S.faults script.new } })
+        part.accepted part.journal) }
+{
+    match judge(alloc, contract) {
+        Ok(accepted) => accepted_run_due(alloc, accepted, script),
+        Err(unaccepted) => unaccepted_due(alloc, unaccepted),
+    }
+}
+
+// What is due where a contract is not accepted.
+fn unaccepted_due(alloc: Global, unaccepted: Unaccepted) -> Result<Due, Part>
+    ensures ok { IfOk result (IsDueOut unaccepted) }
+    ensures err { IfErr result (λ part. IsPartAs part None no_journal) }
+{
+    match unaccepted {
+        Unaccepted::NoMemory => Err(bare_part(alloc, None)),
+        Unaccepted::ReadFault => line_due(alloc, 5, b"read fault contract\n", None),
+        Unaccepted::Refused(why) => refusal_due(alloc, &why),
+        Unaccepted::Unsolved(stop) => unsolved_due(alloc, stop),
     }
 }
 
@@ -177,8 +239,24 @@ fn accepted_due(alloc: Global, accepted: Accepted) -> Result<Due, Part>
     }
 }
 
+// The lines of least bounds, with status 0.
+fn bounds_due(alloc: Global, bounds: LeastBounds) -> Result<Due, Part>
+    requires each_star { HasEachStar bounds.accepted }
+    ensures ok { IfOk result (λ due. IsDueAs due 0 (least_block bounds) (Some bounds.accepted) no_journal) }
+    ensures err { IfErr result (λ part. IsPartAs part None no_journal) }
+{
+    match least_block(alloc, &bounds) {
+        Ok(text) => Ok(text_due(alloc, 0, text, Some(bounds.accepted))),
+        Err(_) => Err(bare_part(alloc, None)),
+    }
+}
+
 // What is due for a run on an accepted contract: the script is read where `run` takes the contract.
-fn run_due<S: Source>(alloc: Global, accepted: Accepted, script: &mut S) -> Result<Due, Part>
+fn accepted_run_due<S: Source>(
+    alloc: Global,
+    accepted: Accepted,
+    script: &mut S,
+) -> Result<Due, Part>
     requires each_star { HasEachStar accepted }
     ensures ok { IfOk result (λ due. IsDueOf accepted (S.left script.old)
         (record { before = S.faults script.old; after = S.faults script.new })

@@ -7,19 +7,19 @@ use Rattle.nomos_surface.specs.declared.parse.ParseError.{ParseError}
 pub returns-in-TooLong : goal.returns-in-TooLong
 returns-in-TooLong c = λ text answer.
     let found = subst (λ (e : ParseError). AnswersParse text (Err e)) c.in-TooLong.is answer in
-    (found.0, unread-never text found.1)
+    record { cause = found.0; never = unread-never text found.1 }
 
 pub returns-in-NotAscii : goal.returns-in-NotAscii
 returns-in-NotAscii c = λ text answer.
     let found = subst (λ (e : ParseError). AnswersParse text (Err e)) c.in-NotAscii.is answer in
-    (found.0, unread-never text found.1)
+    record { cause = found.0; never = unread-never text found.1 }
 
 pub returns-in-Syntax : goal.returns-in-Syntax
 returns-in-Syntax c = λ text answer.
     let found = subst (λ (e : ParseError). AnswersParse text (Err e)) c.in-Syntax.is answer in
-    (record { plain = found.plain; refused = found.refused }, unread-never text found.none)
+    record { cause = record { plain = found.plain; refused = found.refused }; never = unread-never text found.none }
 
 pub returns-in-Limit : goal.returns-in-Limit
 returns-in-Limit c = λ text answer.
     let found = subst (λ (e : ParseError). AnswersParse text (Err e)) c.in-Limit.is answer in
-    (record { plain = found.plain; refused = found.refused }, unread-never text found.none)
+    record { cause = record { plain = found.plain; refused = found.refused }; never = unread-never text found.none }

@@ -8,7 +8,7 @@ use Rattle.nomos_types.specs.Modes.{may_spawn}
 use Rattle.nomos_check.specs.Account.{spends, with_lists}
 use Rattle.nomos_check.specs.Accounting.{spends_for, without_passed}
 use Rattle.nomos_check.specs.Asking.{AsksPair}
-use Rattle.nomos_check.specs.mirror.Limits.{HasRoom}
+use Rattle.nomos_check.specs.Room.{HasRoom}
 use Rattle.nomos_check.specs.mirror.Passing.{TellsArguments, PairOfValues, PairOfChannels, carried_by_all}
 use Rattle.nomos_check.specs.mirror.Standing.{amount_of, each_bound, shape_of}
 use Rattle.nomos_check.proofs.ArgumentSteps.{arguments-ask, declared-in_range, spawn-asks, spawn-stays}

@@ -7,9 +7,8 @@ use Rattle.nomos_ir.specs.Bindings.{bindings_of}
 use Rattle.nomos_types.specs.Judgement.{is_shared}
 use Rattle.nomos_check.proofs.LimitLemmas.{proc-amount}
 use Rattle.nomos_check.proofs.StartingLemmas.{channels-have, none-room, start-is}
-use Rattle.nomos_check.specs.Account.{form_of}
+use Rattle.nomos_check.specs.Account.{form_of, no_account}
 use Rattle.nomos_check.specs.declared.standing.Standing.{Standing}
-use Rattle.nomos_check.specs.mirror.Nothing.{no_account}
 use Rattle.nomos_check.specs.mirror.Starting.{picks, IsStartOf}
 use Rattle.nomos_check.proofs.start.start.Goals as goal
 

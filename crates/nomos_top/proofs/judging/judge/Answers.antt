@@ -1,26 +1,6 @@
-use Rattle.nomos_syntax.specs.Limits.{text_limit}
-use Rattle.nomos_top.proofs.DueLemmas.{some_text, long_text, taken_text, too_long-refused}
-use Rattle.nomos_top.specs.Outcome.{Counts}
+use Rattle.nomos_top.proofs.DueLemmas.{unread-unaccepted, error-unaccepted}
+use Rattle.nomos_top.specs.Outcome.{Counts, HasStopped}
 use Rattle.nomos_top.proofs.judging.judge.Goals as goal
 
 pub returns-in-Ok : goal.returns-in-Ok
-returns-in-Ok g c =
-    let left = g.S.Source.left c.args.contract.now in
-    let now = g.S.Source.left c.read_all.new.source in
-    let counts : Counts = record { before = g.S.Source.faults c.args.contract.now; after = g.S.Source.faults c.read_all.new.source } in
-    (c.in-Ok.text.items, taken_text _ left now c.in-Ok.ensures.whole, rw c.deref.ensures.value at (c.judge_text.ensures.judged counts))
-
-pub returns-in-Err-TooLong : goal.returns-in-Err-TooLong
-returns-in-Err-TooLong g c =
-    let left = g.S.Source.left c.args.contract.now in
-    let now = g.S.Source.left c.read_all.new.source in
-    let t = long_text text_limit left now (c.in-Err-TooLong.ensures.too_long (cc)) in
-    (t.0, t.1, too_long-refused t.0 t.2)
-
-pub returns-in-Err-ReadFault : goal.returns-in-Err-ReadFault
-returns-in-Err-ReadFault g c =
-    let t = some_text (g.S.Source.left c.args.contract.now) in
-    (t.0, t.1, c.in-Err-ReadFault.ensures.fault_rose (cc))
-
-pub returns-in-Err-NoMemory : goal.returns-in-Err-NoMemory
-returns-in-Err-NoMemory g c = let t = some_text (g.S.Source.left c.args.contract.now) in (t.0, t.1, tt)
+returns-in-Ok g c = (c.in_ok-text.text.items, c.in_ok-text.ensures, rw c.deref.ensures.value at c.in-Ok.ensures)

@@ -1,4 +1,4 @@
-use Rattle.nomos_accept.proofs.accepting.read.Goals as goal
+use Rattle.nomos_accept.proofs.preparing.read.Goals as goal
 use Rattle.nomos_surface.specs.FileView.{file_tree}
 
 pub returns-in-Err-clause-answer : goal.returns-in-Err-clause-answer

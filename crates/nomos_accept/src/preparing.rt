@@ -1,0 +1,63 @@
+//! Programs of which each part has a skeleton, with their rows.
+ghost use Rattle.std.specs.Prelude.{◌≤◌, ℕ, List, length, IfOk};
+ghost use Rattle.nomos_accept.specs.Acceptance.{IsReadAs};
+ghost use Rattle.nomos_accept.specs.Preparing.{AnswersPrepared};
+ghost use Rattle.nomos_accept.specs.mirror.Read.{AnswersRead};
+ghost use Rattle.nomos_syntax.specs.Limits.{node_limit};
+
+use crate::causes::{of_form, of_names, of_parse, of_rows};
+use crate::refusal::AcceptError;
+use nomos_elaborate::elaborate::elaborate;
+use nomos_forms::row_list::RowList;
+use nomos_ir::program::Program;
+use nomos_rows::program_rows::program_rows;
+use nomos_surface::parse::parse;
+use nomos_types::forming::well_formed;
+use std::alloc::Global;
+
+/// A program of which each part has a skeleton, and its rows: it is typed under exactly the amounts that meet them.
+#[derive(Drop, Debug)]
+pub struct Prepared {
+    pub program: Program,
+    pub rows: RowList,
+}
+
+/// The program as which a text reads, or why it reads as none.
+fn read(alloc: Global, text: &[u8]) -> Result<Program, AcceptError>
+    ensures answer { AnswersRead text.now result }
+    ensures few { IfOk result (λ program. length program.types ≤ node_limit) }
+{
+    let surface = match parse(alloc, text) {
+        Ok(surface) => surface,
+        Err(error) => return Err(of_parse(error)),
+    };
+    match elaborate(alloc, &surface) {
+        Ok(program) => Ok(program),
+        Err(error) => Err(of_names(error)),
+    }
+}
+
+/// A program with its rows, or why it has none.
+fn with_rows(alloc: Global, program: Program) -> Result<Prepared, AcceptError>
+    requires few { length program.types ≤ node_limit }
+    ensures { (text : List ℕ) → IsReadAs text program → AnswersPrepared text result }
+{
+    match well_formed(alloc, &program) {
+        Ok(()) => {}
+        Err(error) => return Err(of_form(error)),
+    }
+    match program_rows(alloc, &program) {
+        Ok(rows) => Ok(Prepared { program, rows }),
+        Err(error) => Err(of_rows(error)),
+    }
+}
+
+/// The program as which a contract text reads, with its rows, where each part of it has a skeleton. Otherwise it is said
+/// why not, by the first cause in the order of docs/LANGUAGE.md, "Acceptance", and then the text is typed under no
+/// amounts over any unit. A run that stops is no answer of this call.
+pub fn prepare(alloc: Global, text: &[u8]) -> Result<Prepared, AcceptError>
+    ensures { AnswersPrepared text.now result }
+{
+    let program = read(alloc, text)?;
+    with_rows(alloc, program)
+}

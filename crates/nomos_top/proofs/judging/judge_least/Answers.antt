@@ -1,0 +1,6 @@
+use Rattle.nomos_top.proofs.DueLemmas.{unread-unaccepted, least-unaccepted}
+use Rattle.nomos_top.specs.Outcome.{Counts, HasLeastStopped}
+use Rattle.nomos_top.proofs.judging.judge_least.Goals as goal
+
+pub returns-in-Ok : goal.returns-in-Ok
+returns-in-Ok g c = (c.in_ok-text.text.items, c.in_ok-text.ensures, rw c.deref.ensures.value at c.in-Ok.ensures)
