@@ -8,6 +8,7 @@ pub mod CodeLoops
 pub mod StepLoops
 pub mod CodeSteps
 pub mod Walks
+pub mod EntryLaws
 pub mod CheckedLaws
 pub mod TermLaws
 pub mod TypeLaws

@@ -1,6 +1,6 @@
 -- What holds of a loop over a list that gives something for each item.
 use Rattle.std.proofs.Common.{◌≡◌, ℕ, ◌+◌, ◌<◌, ◌≤◌, List, [], ◌∷◌, ◌++◌, length, map, take, drop, get_or, refl, sym, ap, ◌∙◌}
-use Rattle.std.proofs.lemmas.List.{take_all, take_more, take-append-drop}
+use Rattle.std.proofs.lemmas.List.{drop_more, take_all, take_more, take-append-drop}
 use Rattle.nomos_elaborate.specs.declared.elab_error.ElabError.{ElabError}
 use Rattle.nomos_elaborate.specs.declared.elab_error.ElabError.TheVariants as stop
 use Rattle.nomos_elaborate.specs.mirror.Checked.{Checked, found, broken, Stops, ◌>>=◌}
@@ -14,6 +14,10 @@ behind ys rest = do
 
 abbrev pub ahead : {W Y : Type 0} → Y → W × List Y → Checked (W × List Y)
 ahead y b = found (b.0, y ∷ b.1)
+
+-- the items that are left begin with this one
+pub items-left : {X : Type 0} (xs : List X) (i : ℕ) (x : X) → i < length xs → x ≡ get_or xs i x → drop i xs ≡ x ∷ drop (i + 1) xs
+items-left xs i x below item = drop_more xs i x below ∙ ap (λ v. v ∷ drop (i + 1) xs) (sym item)
 
 -- what stops early stops what comes behind it
 pub stops-then : {A B : Type 0} (e : ElabError) (c : Checked A) (f : A → Checked B) → Stops e c → Stops e (c >>= f)

@@ -1,17 +1,14 @@
 -- Names under their numbers, beside the texts that are kept.
-use Rattle.std.proofs.Common.{◌≡◌, ℕ, ◌≤◌, Bool, true, false, not, ltb, List, [], ◌∷◌, ◌++◌, length, map, Result, Ok, Err, unwrap_or, refl, sym, ap, ◌∙◌, arith}
+use Rattle.std.proofs.Common.{◌≡◌, ℕ, ◌+◌, ◌≤◌, Bool, true, false, not, ltb, List, [], ◌∷◌, ◌++◌, length, map, unwrap_or, refl, sym, ap, ◌∙◌, arith}
 use Rattle.std.specs.Prelude.{if◌then◌else◌}
 use Rattle.std.specs.List.{list_any, position, position_or_len}
 use Rattle.std.specs.Str.{bytes_eq}
 use Rattle.std.proofs.lemmas.Bool.Decides.{nat_tests}
 use Rattle.std.proofs.lemmas.Cmp.{nat_list_eq_equiv}
-use Rattle.std.proofs.lemmas.List.{map-append}
+use Rattle.std.proofs.lemmas.List.{length_push, map-append}
 use Rattle.std.proofs.lemmas.List.Sums.{prefix_len-le-length}
-use Rattle.nomos_elaborate.specs.mirror.Checked.{Gives, found}
 use Rattle.nomos_elaborate.specs.mirror.Seeing.{name_seen}
 use Rattle.nomos_elaborate.specs.Names.{Names, is_among, number_of, seen}
-use Rattle.nomos_elaborate.specs.declared.elab_error.ElabError.{ElabError}
-use Rattle.nomos_elaborate.specs.declared.elab_error.ElabError.TheVariants as stop
 use Rattle.nomos_elaborate.proofs.NumberLaws.{bytes_eq_same}
 
 -- two texts are compared either way
@@ -75,9 +72,24 @@ module _ {X : Type 0} (text : X → List ℕ) (xs : List X) (x : X) where
       let second : place ≡ number_of (seen names n) n = at ∙ place-number_of text (text x) xs ∙ (λ i. number_of (view i) (is i)) ∙ sym (number_of-seen names n) in
       (λ i. (first i, second i))
 
--- a number as an id, with the names beside it
-pub gives_beside : (r : Result ℕ ElabError) (names : Names) (place : ℕ) (pair : Names × ℕ) → Gives (λ (id : ℕ). id) r (found place) → (names, place) ≡ pair → Gives (λ (id : ℕ). (names, id)) r (found pair)
-gives_beside (Ok id) names place pair h e = let same : place ≡ id = cc in sym (ap (λ p. found p) e) ∙ ap (λ k. found (names, k)) same
-gives_beside (Err (stop.Name at)) names place pair h e = cc
-gives_beside (Err (stop.Cost at)) names place pair h e = absurd h
-gives_beside (Err stop.NoMemory) names place pair h e = tt
+-- a name is within the names or behind them, and where it is seen one name is added at most
+pub number_of-within : (names : Names) (n : List ℕ) → number_of names n ≤ length names
+number_of-within names n = prefix_len-le-length (λ m. not (bytes_eq m n)) names
+
+pub seen-grows : (names : Names) (n : List ℕ) → length (seen names n) ≤ length names + 1
+seen-grows names n = by (is_among names n)
+  where
+    by : (b : Bool) → length (if b then names else names ++ n ∷ []) ≤ length names + 1
+    by true = omega arith
+    by false = let e = length_push names n in omega arith
+
+-- the same of a name that was seen
+pub seen-within : (names new : Names) (n : List ℕ) (place : ℕ) → (new, place) ≡ name_seen names n → place ≤ length names
+seen-within names new n place e =
+    let at : place ≡ number_of names n = ap (λ (p : Names × ℕ). p.1) e ∙ number_of-seen names n in
+    rw at (number_of-within names n)
+
+pub seen-one_more : (names new : Names) (n : List ℕ) (place : ℕ) → (new, place) ≡ name_seen names n → length new ≤ length names + 1
+seen-one_more names new n place e =
+    let is : new ≡ seen names n = ap (λ (p : Names × ℕ). p.0) e in
+    rw is (seen-grows names n)

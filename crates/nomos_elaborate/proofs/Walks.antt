@@ -1,7 +1,7 @@
 -- Declarations, one after the other.
 use Rattle.std.proofs.Common.{◌≡◌, ℕ, ◌+◌, ◌<◌, ◌≤◌, List, [], ◌∷◌, length, map, drop, get_or, sym, ap, ◌∙◌}
-use Rattle.std.proofs.lemmas.List.{drop_more, drop_all}
-use Rattle.nomos_elaborate.proofs.Loops.{stops-then}
+use Rattle.std.proofs.lemmas.List.{drop_all}
+use Rattle.nomos_elaborate.proofs.Loops.{items-left, stops-then}
 use Rattle.nomos_elaborate.specs.CostModel.{model_of}
 use Rattle.nomos_elaborate.specs.Spaces.{declaring, declaring_all, no_names}
 use Rattle.nomos_elaborate.specs.declared.elab_error.ElabError.{ElabError}
@@ -24,7 +24,7 @@ found_same e = cc
 module _ {X : Type 0} (tree : X → DeclTree) (xs : List X) (i : ℕ) where
   -- the declarations that are left begin with this one
   left : (x : X) → i < length xs → x ≡ get_or xs i x → map tree (drop i xs) ≡ tree x ∷ map tree (drop (i + 1) xs)
-  left x below item = ap (map tree) (drop_more xs i x below ∙ ap (λ v. v ∷ drop (i + 1) xs) (sym item))
+  left x below item = ap (map tree) (items-left xs i x below item)
 
   none : length xs ≤ i → map tree (drop i xs) ≡ []
   none all = ap (map tree) (drop_all i xs all)

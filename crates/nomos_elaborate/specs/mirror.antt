@@ -3,6 +3,7 @@ pub mod Agrees
 pub mod Checked
 pub mod CodeCheck
 pub mod Each
+pub mod Entries
 pub mod FileCheck
 pub mod Following
 pub mod Seeing

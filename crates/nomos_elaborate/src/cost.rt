@@ -1,7 +1,8 @@
 //! The `work` that a cost model puts in.
-ghost use Rattle.std.specs.Prelude.{◌≡◌};
+ghost use Rattle.std.specs.Prelude.{◌≡◌, ◌+◌, ◌≤◌, IfOk};
 ghost use Rattle.nomos_elaborate.specs.CostModel.{code_offset, is_charged, put_code};
 ghost use Rattle.nomos_elaborate.specs.mirror.Checked.{Gives, found};
+ghost use Rattle.nomos_elaborate.specs.mirror.Entries.{entries, entry_limit};
 
 use crate::builder::Builder;
 use crate::elab_error::ElabError;
@@ -62,7 +63,9 @@ fn is_charged(model: CostModel, node: &CodeNode) -> bool
 impl Builder {
     /// Puts a code node, and behind it the `work` that the cost model puts before the instruction.
     pub(crate) fn put_code(&mut self, model: CostModel, node: CodeNode) -> Result<CodeId, ElabError>
-        ensures { Gives (λ c. (self.new, c)) result (found (put_code model self.old node)) }
+        requires { entries self.old + 2 ≤ entry_limit }
+        ensures gives { Gives (λ c. (self.new, c)) result (found (put_code model self.old node)) }
+        ensures grows { IfOk result (λ _. entries self.new ≤ entries self.old + 2) }
     {
         let at = code_offset(&node);
         let charged = is_charged(model, &node);

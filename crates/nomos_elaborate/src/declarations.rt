@@ -1,14 +1,19 @@
 //! Declarations: their names and their nodes.
-ghost use Rattle.std.specs.Prelude.{◌≡◌, [], map};
+ghost use Rattle.std.specs.Prelude.{◌≡◌, ◌+◌, ◌≤◌, [], map, IfOk};
 ghost use Rattle.nomos_elaborate.specs.Built.{kind_of};
 ghost use Rattle.nomos_elaborate.specs.FileBuild.{declared_amount, mode_of};
 ghost use Rattle.nomos_elaborate.specs.FileClaims.{par_sort};
 ghost use Rattle.nomos_elaborate.specs.mirror.Checked.{Gives, found};
 ghost use Rattle.nomos_elaborate.specs.mirror.Each.{each};
 ghost use Rattle.nomos_elaborate.specs.mirror.FileCheck.{at_head, check_chan_par, check_def, check_fn, check_pars, check_proc, check_process_par, check_transaction, check_value_par, head};
+ghost use Rattle.nomos_elaborate.specs.mirror.Entries.{MakesAtMost, MayMake, all_entries, entry_limit};
 ghost use Rattle.nomos_elaborate.specs.mirror.Work.{made};
+ghost use Rattle.nomos_surface.specs.Bounds.{KeepsChanPar, KeepsDecl, KeepsPar, KeepsPars, KeepsValuePar};
 ghost use Rattle.nomos_surface.specs.CodeView.{code_tree};
-ghost use Rattle.nomos_surface.specs.FileView.{chan_par_tree, par_trees};
+ghost use Rattle.nomos_surface.specs.Counts.{in_chan_par, in_decl, in_each, in_optional, in_par, in_pars, in_value_par};
+ghost use Rattle.nomos_surface.specs.FileView.{chan_par_tree, decl_tree, par_trees};
+ghost use Rattle.nomos_surface.specs.declared.declarations.SurfaceDecl.TheVariants as decl;
+ghost use Rattle.nomos_surface.specs.Grammatical.{Each};
 ghost use Rattle.nomos_surface.specs.TermView.{term_tree};
 ghost use Rattle.nomos_surface.specs.TypeView.{type_tree};
 
@@ -62,7 +67,8 @@ fn par_sort(par: &ProcessPar) -> Sort
 impl Elaborator {
     /// Begins a declaration: nothing is bound.
     fn begin(&mut self, inside: bool)
-        ensures { self.new ≡ at_head inside self.old }
+        ensures head { self.new ≡ at_head inside self.old }
+        ensures same { all_entries self.new ≡ all_entries self.old }
     {
         self.inside = inside;
         self.scope.keep(0);
@@ -70,16 +76,22 @@ impl Elaborator {
 
     /// A parameter of a function.
     fn value_par(&mut self, par: &ValuePar) -> Result<(VarId, Kind), ElabError>
-        ensures { Gives (λ p. (self.new, p)) result (check_value_par self.old par.now) }
+        requires keeps { KeepsValuePar par.now }
+        requires room { MayMake self.old (in_value_par par.now) }
+        ensures gives { Gives (λ p. (self.new, p)) result (check_value_par self.old par.now) }
+        ensures grows { IfOk result (λ _. MakesAtMost self.old (in_value_par par.now) self.new) }
     {
         let variable = self.bind(&par.name, Sort::Value)?;
-        let kind = kind_of(&par.value)?;
+        let kind = kind_of(&par.value);
         Ok((variable, kind))
     }
 
     /// The parameters of a function, each with its kind.
     fn value_pars(&mut self, pars: &[ValuePar]) -> Result<Vec<(VarId, Kind)>, ElabError>
-        ensures { Gives (λ p. (self.new, p.items)) result (each check_value_par self.old pars.now) }
+        requires keeps { Each KeepsValuePar pars.now }
+        requires room { MayMake self.old (in_each in_value_par pars.now) }
+        ensures gives { Gives (λ p. (self.new, p.items)) result (each check_value_par self.old pars.now) }
+        ensures grows { IfOk result (λ _. MakesAtMost self.old (in_each in_value_par pars.now) self.new) }
     {
         let mut kinds = Vec::new(self.built.alloc());
         for par in pars {
@@ -91,20 +103,26 @@ impl Elaborator {
 
     /// A parameter of a process that is no channel.
     fn process_par(&mut self, par: &ProcessPar) -> Result<Par, ElabError>
-        ensures { Gives (λ p. (self.new, p)) result (check_process_par self.old par.now) }
+        requires keeps { KeepsPar par.now }
+        requires room { MayMake self.old (in_par par.now) }
+        ensures gives { Gives (λ p. (self.new, p)) result (check_process_par self.old par.now) }
+        ensures grows { IfOk result (λ _. MakesAtMost self.old (in_par par.now) self.new) }
     {
         let var = self.bind(&par.name, par_sort(par))?;
         let amount = match par.list {
             None => None,
-            Some(list) => Some(self.built.amount(list.potential)?),
+            Some(list) => Some(self.built.amount(list.potential)),
         };
-        let kind = kind_of(&par.value)?;
+        let kind = kind_of(&par.value);
         Ok(Par { var, kind, amount })
     }
 
     /// The parameters of a process that are no channels.
     fn process_pars(&mut self, pars: &[ProcessPar]) -> Result<Vec<Par>, ElabError>
-        ensures { Gives (λ p. (self.new, p.items)) result (each check_process_par self.old pars.now) }
+        requires keeps { Each KeepsPar pars.now }
+        requires room { MayMake self.old (in_each in_par pars.now) }
+        ensures gives { Gives (λ p. (self.new, p.items)) result (each check_process_par self.old pars.now) }
+        ensures grows { IfOk result (λ _. MakesAtMost self.old (in_each in_par pars.now) self.new) }
     {
         let mut values = Vec::new(self.built.alloc());
         for par in pars {
@@ -116,7 +134,10 @@ impl Elaborator {
 
     /// A channel parameter.
     fn chan_par(&mut self, par: &SurfaceChanPar) -> Result<(VarId, TypeId), ElabError>
-        ensures { Gives (λ p. (self.new, p)) result (check_chan_par self.old (chan_par_tree par.now)) }
+        requires keeps { KeepsChanPar (chan_par_tree par.now) }
+        requires room { MayMake self.old (in_chan_par (chan_par_tree par.now)) }
+        ensures gives { Gives (λ p. (self.new, p)) result (check_chan_par self.old (chan_par_tree par.now)) }
+        ensures grows { IfOk result (λ _. MakesAtMost self.old (in_chan_par (chan_par_tree par.now)) self.new) }
     {
         let variable = self.bind(&par.name, Sort::Channel)?;
         let goes = self.session_type(&par.goes)?;
@@ -125,7 +146,12 @@ impl Elaborator {
 
     /// The channel parameters, each with its type.
     fn chan_pars(&mut self, pars: &[SurfaceChanPar]) -> Result<Vec<(VarId, TypeId)>, ElabError>
-        ensures { Gives (λ p. (self.new, p.items)) result (each check_chan_par self.old (map chan_par_tree pars.now)) }
+        requires keeps { Each KeepsChanPar (map chan_par_tree pars.now) }
+        requires room { MayMake self.old (in_each in_chan_par (map chan_par_tree pars.now)) }
+        ensures gives { Gives (λ p. (self.new, p.items)) result
+            (each check_chan_par self.old (map chan_par_tree pars.now)) }
+        ensures grows { IfOk result
+            (λ _. MakesAtMost self.old (in_each in_chan_par (map chan_par_tree pars.now)) self.new) }
     {
         let mut channels = Vec::new(self.built.alloc());
         for par in pars {
@@ -137,7 +163,10 @@ impl Elaborator {
 
     /// The parameters of a process: those that are no channels, and the channels.
     fn pars(&mut self, pars: &SurfacePars) -> Result<(Pars, VarTypes), ElabError>
-        ensures { Gives (λ p. (self.new, head p.0 p.1)) result (check_pars self.old (par_trees pars.now)) }
+        requires keeps { KeepsPars (par_trees pars.now) }
+        requires room { MayMake self.old (in_pars (par_trees pars.now)) }
+        ensures gives { Gives (λ p. (self.new, head p.0 p.1)) result (check_pars self.old (par_trees pars.now)) }
+        ensures grows { IfOk result (λ _. MakesAtMost self.old (in_pars (par_trees pars.now)) self.new) }
     {
         let values = Pars::of_vec(self.process_pars(pars.values.as_slice())?);
         let channels = VarTypes::of_vec(self.chan_pars(pars.channels.as_slice())?);
@@ -145,11 +174,13 @@ impl Elaborator {
     }
 
     /// The declared potential, 0 where none is written.
-    fn declared_amount(&mut self, potential: Option<Potential>) -> Result<Amount, ElabError>
-        ensures { Gives (λ q. (self.new, q)) result (found (made self.old (declared_amount self.old.built potential))) }
+    fn declared_amount(&mut self, potential: Option<Potential>) -> Amount
+        requires { all_entries self.old + (in_optional potential).stars ≤ entry_limit }
+        ensures gives { (self.new, result) ≡ made self.old (declared_amount self.old.built potential) }
+        ensures grows { all_entries self.new ≤ all_entries self.old + (in_optional potential).stars }
     {
         match potential {
-            None => Ok(Amount::Written(0)),
+            None => Amount::Written(0),
             Some(potential) => self.built.amount(potential),
         }
     }
@@ -157,8 +188,12 @@ impl Elaborator {
     /// A definition.
     #[tactic(auto, unfolding(crate::specs::mirror::FileCheck::check_def))]
     pub(crate) fn definition_of(&mut self, tree: &SurfaceDefinition) -> Result<Def, ElabError>
-        ensures { Gives (λ d. (self.new, d)) result
+        requires keeps { KeepsDecl (decl_tree (decl.Definition tree.now)) }
+        requires room { MayMake self.old (in_decl (decl_tree (decl.Definition tree.now))) }
+        ensures gives { Gives (λ d. (self.new, d)) result
             (check_def self.old tree.now.name tree.now.mode (type_tree tree.now.body)) }
+        ensures grows { IfOk result
+            (λ _. MakesAtMost self.old (in_decl (decl_tree (decl.Definition tree.now))) self.new) }
     {
         let body = self.session_type(&tree.body)?;
         let name = name_of(self.built.alloc(), &tree.name)?;
@@ -169,13 +204,17 @@ impl Elaborator {
     /// A function.
     #[tactic(auto, unfolding(crate::specs::mirror::FileCheck::check_fn))]
     pub(crate) fn function_of(&mut self, tree: &SurfaceFunction) -> Result<FnDecl, ElabError>
-        ensures { Gives (λ f. (self.new, f)) result
+        requires keeps { KeepsDecl (decl_tree (decl.Function tree.now)) }
+        requires room { MayMake self.old (in_decl (decl_tree (decl.Function tree.now))) }
+        ensures gives { Gives (λ f. (self.new, f)) result
             (check_fn self.old tree.now.name tree.now.pars (kind_of tree.now.gives) (term_tree tree.now.body)) }
+        ensures grows { IfOk result
+            (λ _. MakesAtMost self.old (in_decl (decl_tree (decl.Function tree.now))) self.new) }
     {
         self.begin(false);
         let pars = VarKinds::of_vec(self.value_pars(tree.pars.as_slice())?);
         let body = self.term(&tree.body)?;
-        let gives = kind_of(&tree.gives)?;
+        let gives = kind_of(&tree.gives);
         let name = name_of(self.built.alloc(), &tree.name)?;
         let at = tree.name.at;
         Ok(FnDecl {
@@ -190,13 +229,16 @@ impl Elaborator {
     /// A process that offers a type.
     #[tactic(auto, unfolding(crate::specs::mirror::FileCheck::check_proc))]
     pub(crate) fn process_of(&mut self, tree: &SurfaceProcess) -> Result<ProcDecl, ElabError>
-        ensures { Gives (λ p. (self.new, p)) result
+        requires keeps { KeepsDecl (decl_tree (decl.Process tree.now)) }
+        requires room { MayMake self.old (in_decl (decl_tree (decl.Process tree.now))) }
+        ensures gives { Gives (λ p. (self.new, p)) result
             (check_proc self.old tree.now.name tree.now.mode (par_trees tree.now.pars) tree.now.potential
             (type_tree tree.now.offers) (code_tree tree.now.code)) }
+        ensures grows { IfOk result (λ _. MakesAtMost self.old (in_decl (decl_tree (decl.Process tree.now))) self.new) }
     {
         self.begin(false);
         let (values, channels) = self.pars(&tree.pars)?;
-        let amount = self.declared_amount(tree.potential)?;
+        let amount = self.declared_amount(tree.potential);
         let offers = self.session_type(&tree.offers)?;
         let first = self.code(&tree.code)?;
         let name = name_of(self.built.alloc(), &tree.name)?;
@@ -219,15 +261,19 @@ impl Elaborator {
         &mut self,
         tree: &SurfaceTransaction,
     ) -> Result<ProcDecl, ElabError>
-        ensures { Gives (λ p. (self.new, p)) result
+        requires keeps { KeepsDecl (decl_tree (decl.Transaction tree.now)) }
+        requires room { MayMake self.old (in_decl (decl_tree (decl.Transaction tree.now))) }
+        ensures gives { Gives (λ p. (self.new, p)) result
             (check_transaction self.old tree.now.at tree.now.name (par_trees tree.now.pars) tree.now.potential
             (code_tree tree.now.code)) }
+        ensures grows { IfOk result
+            (λ _. MakesAtMost self.old (in_decl (decl_tree (decl.Transaction tree.now))) self.new) }
     {
         self.begin(true);
         let payer = self.built.see_payer()?;
         let (values, channels) = self.pars(&tree.pars)?;
         let offers = self.built.put_type(TypeNode::One, tree.at)?;
-        let amount = self.declared_amount(tree.potential)?;
+        let amount = self.declared_amount(tree.potential);
         let first = self.code(&tree.code)?;
         let name = name_of(self.built.alloc(), &tree.name)?;
         Ok(ProcDecl {

@@ -45,6 +45,7 @@ fn lists_of(walk: Walk) -> Result<ProgramLists, ElabError>
 
 /// The lists of the program of a tree whose names obey the rules.
 fn named_lists(alloc: Global, surface: &Surface) -> Result<ProgramLists, ElabError>
+    requires { IsWithinLimits (file_tree surface.now) }
     ensures { Gives (λ l. l) result (check_lists (file_tree surface.now)) }
 {
     let decls = surface.declarations.as_slice();
@@ -56,6 +57,7 @@ fn named_lists(alloc: Global, surface: &Surface) -> Result<ProgramLists, ElabErr
 
 /// The lists of the program of a tree, or why it has none.
 fn program_lists(alloc: Global, surface: &Surface) -> Result<ProgramLists, ElabError>
+    requires { IsWithinLimits (file_tree surface.now) }
     ensures { Answers (file_tree surface.now) result }
 {
     let lists = named_lists(alloc, surface)?;

@@ -1,5 +1,7 @@
 //! The state of the walk over a tree.
+ghost use Rattle.std.specs.Prelude.{◌+◌, ◌<◌, ◌≤◌, IfOk};
 ghost use Rattle.nomos_elaborate.specs.mirror.Checked.{Gives};
+ghost use Rattle.nomos_elaborate.specs.mirror.Entries.{all_entries, entry_limit};
 ghost use Rattle.nomos_elaborate.specs.mirror.Work.{check_bind, check_new};
 
 use crate::builder::Builder;
@@ -26,7 +28,9 @@ pub(crate) struct Elaborator {
 impl Elaborator {
     /// The variable of a binder, whose name is new and not bound yet.
     pub(crate) fn new_variable(&mut self, name: &NameAt) -> Result<VarId, ElabError>
-        ensures { Gives (λ v. (self.new, v)) result (check_new self.old name.now) }
+        requires { all_entries self.old < entry_limit }
+        ensures gives { Gives (λ v. (self.new, v)) result (check_new self.old name.now) }
+        ensures grows { IfOk result (λ _. all_entries self.new ≤ all_entries self.old + 1) }
     {
         new_on_way(&self.scope, name)?;
         self.built.see_variable(name)
@@ -34,7 +38,9 @@ impl Elaborator {
 
     /// The variable of a binder, whose name is new and bound from now on.
     pub(crate) fn bind(&mut self, name: &NameAt, sort: Sort) -> Result<VarId, ElabError>
-        ensures { Gives (λ v. (self.new, v)) result (check_bind self.old name.now sort) }
+        requires { all_entries self.old < entry_limit }
+        ensures gives { Gives (λ v. (self.new, v)) result (check_bind self.old name.now sort) }
+        ensures grows { IfOk result (λ _. all_entries self.new ≤ all_entries self.old + 1) }
     {
         let variable = self.new_variable(name)?;
         self.scope.bind(name, sort)?;

@@ -1,8 +1,9 @@
 //! Steps before the code that follows them.
-ghost use Rattle.std.specs.Prelude.{◌≡◌};
+ghost use Rattle.std.specs.Prelude.{◌≡◌, ◌+◌, ◌*◌, ◌≤◌, length, IfOk};
 ghost use Rattle.nomos_elaborate.specs.mirror.Checked.{Gives, found};
 ghost use Rattle.nomos_elaborate.specs.mirror.CodeCheck.{steps_before};
 ghost use Rattle.nomos_elaborate.specs.mirror.Following.{put_before, with_next};
+ghost use Rattle.nomos_elaborate.specs.mirror.Entries.{entries, entry_limit};
 
 use crate::builder::Builder;
 use crate::elab_error::ElabError;
@@ -46,7 +47,9 @@ impl Builder {
         steps: Vec<CodeNode>,
         last: CodeId,
     ) -> Result<CodeId, ElabError>
-        ensures { Gives (λ c. (self.new, c)) result (found (put_before model steps.items (self.old, last))) }
+        requires { entries self.old + 2 * length steps.items ≤ entry_limit }
+        ensures gives { Gives (λ c. (self.new, c)) result (found (put_before model steps.items (self.old, last))) }
+        ensures grows { IfOk result (λ _. entries self.new ≤ entries self.old + 2 * length steps.items) }
     {
         let mut steps = steps;
         let mut next = last;

@@ -14,7 +14,6 @@ mod elaborator;
 mod following;
 mod kinds;
 mod name_table;
-mod names;
 mod scope;
 mod sort;
 mod spaces;

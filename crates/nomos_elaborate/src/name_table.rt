@@ -1,11 +1,10 @@
 //! Names under their numbers.
-ghost use Rattle.std.specs.Prelude.{◌≡◌, []};
+ghost use Rattle.std.specs.Prelude.{◌≡◌, ◌+◌, ◌≤◌, [], length, IfOk};
 ghost use Rattle.nomos_elaborate.specs.mirror.Checked.{Gives, found};
 ghost use Rattle.nomos_elaborate.specs.mirror.Seeing.{name_seen};
 ghost use Rattle.nomos_elaborate.specs.Names.{is_among, number_of};
 
 use crate::elab_error::ElabError;
-use crate::names::id_of;
 use indexmap::IndexSet;
 use nomos_ir::name::Name;
 use std::alloc::Global;
@@ -46,18 +45,21 @@ impl NameTable {
 
     /// The place of a name among the names, or their number where it is not among them.
     pub(crate) fn number_of(&self, text: &[u8]) -> usize
-        ensures { result ≡ number_of self.now text.now }
+        ensures place { result ≡ number_of self.now text.now }
+        ensures within { result ≤ length self.now }
     {
         self.texts.get_index_of(text).unwrap_or(self.texts.len())
     }
 
     /// Puts a name at the end, where it is not among the names yet, and gives its place.
-    pub(crate) fn see(&mut self, text: &[u8]) -> Result<u32, ElabError>
-        ensures { Gives (λ place. (self.new, place)) result (found (name_seen self.old text.now)) }
+    pub(crate) fn see(&mut self, text: &[u8]) -> Result<usize, ElabError>
+        ensures gives { Gives (λ place. (self.new, place)) result (found (name_seen self.old text.now)) }
+        ensures within { IfOk result (λ place. place ≤ length self.old) }
+        ensures grows { IfOk result (λ _. length self.new ≤ length self.old + 1) }
     {
         let text = Vec::from_slice(self.alloc, text)?;
         let (place, _) = self.texts.insert_full(text)?;
-        id_of(place)
+        Ok(place)
     }
 
     /// The names, in their order.

@@ -1,15 +1,17 @@
 //! The instructions that another one follows: their names and their nodes.
+ghost use Rattle.std.specs.Prelude.{◌≡◌, ◌+◌, ◌≤◌, IfOk};
 ghost use Rattle.nomos_elaborate.specs.CodeBuild.{chan_offset};
-ghost use Rattle.std.specs.Prelude.{◌≡◌};
 ghost use Rattle.nomos_elaborate.specs.mirror.Checked.{Gives};
 ghost use Rattle.nomos_elaborate.specs.mirror.CodeCheck.{check_chan, check_list, check_process, check_step};
+ghost use Rattle.nomos_elaborate.specs.mirror.Entries.{MayMake, all_entries, entry_limit, most_of};
+ghost use Rattle.nomos_surface.specs.Bounds.{KeepsStep};
+ghost use Rattle.nomos_surface.specs.Counts.{in_step};
 ghost use Rattle.nomos_surface.specs.StepView.{step_tree};
 
 use crate::claims::{bound_list, declared};
 use crate::elab_error::ElabError;
 use crate::elaborator::Elaborator;
 use crate::kinds::kind_of;
-use crate::names::id_of;
 use crate::sort::Sort;
 use nomos_ir::code_node::{Chan, CodeNode};
 use nomos_ir::ids::{CodeId, ProcId, VarId};
@@ -32,14 +34,16 @@ fn chan_offset(chan: &ChanAt) -> u32
 impl Elaborator {
     /// The variable of a list.
     pub(crate) fn list(&self, name: &NameAt) -> Result<VarId, ElabError>
+        requires { all_entries self.now ≤ entry_limit }
         ensures { Gives (λ v. v) result (check_list self.now name.now) }
     {
         bound_list(&self.scope, name)?;
-        self.built.variable(name)
+        Ok(self.built.variable(name))
     }
 
     /// The channel at which an instruction works.
     pub(crate) fn chan(&self, chan: &ChanAt) -> Result<Chan, ElabError>
+        requires { all_entries self.now ≤ entry_limit }
         ensures { Gives (λ c. c) result (check_chan self.now chan.now) }
     {
         match chan {
@@ -50,16 +54,23 @@ impl Elaborator {
 
     /// The number of a declared process.
     pub(crate) fn process(&self, name: &NameAt) -> Result<ProcId, ElabError>
+        requires { all_entries self.now ≤ entry_limit }
         ensures { Gives (λ p. p) result (check_process self.now name.now) }
     {
         declared(&self.spaces.processes, name)?;
-        Ok(ProcId(id_of(self.spaces.processes.number_of(name.name.as_bytes()))?))
+        let place = self.spaces.processes.number_of(name.name.as_bytes());
+        Ok(ProcId(place as u32))
     }
 
-    /// The node of a step, which goes on with no code yet. What the step binds is bound from then on.
+    /// The node of a step, which goes on with no code yet. What the step binds is bound from then on. Of what counts in
+    /// the step two are left, for its node and the `work` before it.
     #[tactic(auto, unfolding(crate::specs::mirror::CodeCheck::check_step))]
     pub(crate) fn step(&mut self, step: &SurfaceStep) -> Result<CodeNode, ElabError>
-        ensures { Gives (λ n. (self.new, n)) result (check_step self.old (step_tree step.now)) }
+        requires keeps { KeepsStep (step_tree step.now) }
+        requires room { MayMake self.old (in_step (step_tree step.now)) }
+        ensures gives { Gives (λ n. (self.new, n)) result (check_step self.old (step_tree step.now)) }
+        ensures grows { IfOk result
+            (λ _. all_entries self.new + 2 ≤ all_entries self.old + most_of (in_step (step_tree step.now))) }
     {
         match step {
             SurfaceStep::Label { chan, label } => {
@@ -94,7 +105,7 @@ impl Elaborator {
                 potential,
             } => {
                 let chan = self.chan(chan)?;
-                let amount = self.built.amount(*potential)?;
+                let amount = self.built.amount(*potential);
                 Ok(CodeNode::Pay(*at, chan, amount, NO_CODE))
             }
             SurfaceStep::Get {
@@ -103,11 +114,11 @@ impl Elaborator {
                 potential,
             } => {
                 let chan = self.chan(chan)?;
-                let amount = self.built.amount(*potential)?;
+                let amount = self.built.amount(*potential);
                 Ok(CodeNode::Get(*at, chan, amount, NO_CODE))
             }
             SurfaceStep::Work { at, potential } => {
-                let amount = self.built.amount(*potential)?;
+                let amount = self.built.amount(*potential);
                 Ok(CodeNode::Work(*at, amount, NO_CODE))
             }
             SurfaceStep::Wait { at, chan } => {
@@ -152,8 +163,8 @@ impl Elaborator {
                 ..
             } => {
                 let variable = self.new_variable(bound)?;
-                let amount = self.built.amount(*potential)?;
-                let kind = kind_of(element)?;
+                let amount = self.built.amount(*potential);
+                let kind = kind_of(element);
                 self.scope.bind(bound, Sort::List)?;
                 Ok(CodeNode::Empty(*at, variable, amount, kind, NO_CODE))
             }

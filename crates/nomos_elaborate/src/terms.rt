@@ -1,15 +1,17 @@
 //! Terms: their names and their nodes.
-ghost use Rattle.std.specs.Prelude.{◌≡◌, map};
+ghost use Rattle.std.specs.Prelude.{◌≡◌, map, IfOk};
 ghost use Rattle.nomos_elaborate.specs.TermBuild.{operator_node};
 ghost use Rattle.nomos_elaborate.specs.mirror.Checked.{Gives};
+ghost use Rattle.nomos_elaborate.specs.mirror.Entries.{MakesAtMost, MayMake};
 ghost use Rattle.nomos_elaborate.specs.mirror.TermCheck.{check_term, check_terms};
+ghost use Rattle.nomos_surface.specs.Bounds.{KeepsTerm, KeepsTerms};
+ghost use Rattle.nomos_surface.specs.Counts.{in_term, in_terms};
 ghost use Rattle.nomos_surface.specs.TermView.{term_tree, term_trees};
 
 use crate::claims::{bound_value, declared, demand};
 use crate::elab_error::ElabError;
 use crate::elaborator::Elaborator;
 use crate::kinds::kind_of;
-use crate::names::id_of;
 use crate::sort::Sort;
 use nomos_ir::ids::{FnId, TermId};
 use nomos_ir::items::Items;
@@ -37,21 +39,24 @@ fn operator_node(operator: Operator, at: u32, left: TermId, right: TermId) -> Te
 impl Elaborator {
     /// Puts the nodes of a term.
     #[cycle(terms)]
-    #[tactic(auto, unfolding(crate::specs::mirror::TermCheck::check_term))]
+    #[tactic(auto, unfolding(crate::specs::mirror::TermCheck::check_term, nomos_surface::specs::Counts::in_term))]
     pub(crate) fn term(&mut self, term: &SurfaceTerm) -> Result<TermId, ElabError>
-        ensures { Gives (λ t. (self.new, t)) result (check_term self.old (term_tree term.now)) }
+        requires keeps { KeepsTerm (term_tree term.now) }
+        requires room { MayMake self.old (in_term (term_tree term.now)) }
+        ensures gives { Gives (λ t. (self.new, t)) result (check_term self.old (term_tree term.now)) }
+        ensures grows { IfOk result (λ _. MakesAtMost self.old (in_term (term_tree term.now)) self.new) }
     {
         match term {
             SurfaceTerm::Number { at, value } => self.built.put_term(TermNode::Number(*at, *value)),
             SurfaceTerm::Truth { at, value } => self.built.put_term(TermNode::Truth(*at, *value)),
             SurfaceTerm::Me { at } => {
                 demand(self.inside, *at)?;
-                let payer = self.built.payer()?;
+                let payer = self.built.payer();
                 self.built.put_term(TermNode::Var(*at, payer))
             }
             SurfaceTerm::Variable { name } => {
                 bound_value(&self.scope, name)?;
-                let variable = self.built.variable(name)?;
+                let variable = self.built.variable(name);
                 self.built.put_term(TermNode::Var(name.at, variable))
             }
             SurfaceTerm::Call {
@@ -60,12 +65,12 @@ impl Elaborator {
             } => {
                 declared(&self.spaces.functions, function)?;
                 let values = Items::of_vec(self.terms(arguments)?);
-                let id = id_of(self.spaces.functions.number_of(function.name.as_bytes()))?;
+                let place = self.spaces.functions.number_of(function.name.as_bytes());
                 self.built
-                    .put_term(TermNode::Call(function.at, FnId(id), values))
+                    .put_term(TermNode::Call(function.at, FnId(place as u32), values))
             }
             SurfaceTerm::Nil { at, element } => {
-                let kind = kind_of(element)?;
+                let kind = kind_of(element);
                 self.built.put_term(TermNode::Nil(*at, kind))
             }
             SurfaceTerm::Binary {
@@ -119,8 +124,12 @@ impl Elaborator {
     /// Puts the nodes of terms.
     #[cycle(terms)]
     fn terms(&mut self, terms: &[SurfaceTerm]) -> Result<Vec<TermId>, ElabError>
-        ensures { Gives (λ ids. (self.new, ids.items)) result
+        requires keeps { KeepsTerms (term_trees (map term_tree terms.now)) }
+        requires room { MayMake self.old (in_terms (term_trees (map term_tree terms.now))) }
+        ensures gives { Gives (λ ids. (self.new, ids.items)) result
             (check_terms self.old (term_trees (map term_tree terms.now))) }
+        ensures grows { IfOk result
+            (λ _. MakesAtMost self.old (in_terms (term_trees (map term_tree terms.now))) self.new) }
     {
         let mut ids = Vec::new(self.built.alloc());
         for term in terms {

@@ -1,8 +1,11 @@
 //! Types: their names and their nodes.
-ghost use Rattle.std.specs.Prelude.{◌≡◌, [], map};
+ghost use Rattle.std.specs.Prelude.{◌≡◌, ◌≤◌, [], map, IfOk};
 ghost use Rattle.nomos_elaborate.specs.TypeBuild.{channel_node, choice_node, paying_node, value_node};
 ghost use Rattle.nomos_elaborate.specs.mirror.Checked.{Gives};
+ghost use Rattle.nomos_elaborate.specs.mirror.Entries.{MakesAtMost, MakesType, MayMake, MayMakeType, all_entries, entry_limit};
 ghost use Rattle.nomos_elaborate.specs.mirror.TypeCheck.{branches_alone, check_branch, check_branches, check_definition, check_type};
+ghost use Rattle.nomos_surface.specs.Bounds.{KeepsBranches, KeepsType};
+ghost use Rattle.nomos_surface.specs.Counts.{in_branches, in_type};
 ghost use Rattle.nomos_surface.specs.TypeView.{branch_tree, branch_trees, type_tree};
 
 use crate::claims::{declared, new_among};
@@ -10,7 +13,6 @@ use crate::elab_error::ElabError;
 use crate::elaborator::Elaborator;
 use crate::kinds::kind_of;
 use crate::name_table::NameTable;
-use crate::names::id_of;
 use nomos_ir::amount::Amount;
 use nomos_ir::ids::{DefId, TypeId};
 use nomos_ir::kind::Kind;
@@ -61,17 +63,22 @@ fn paying_node(sender: Sender, amount: Amount, goes: TypeId) -> TypeNode
 impl Elaborator {
     /// The number of a declared definition.
     fn definition(&self, name: &NameAt) -> Result<DefId, ElabError>
+        requires { all_entries self.now ≤ entry_limit }
         ensures { Gives (λ d. d) result (check_definition self.now name.now) }
     {
         declared(&self.spaces.types, name)?;
-        Ok(DefId(id_of(self.spaces.types.number_of(name.name.as_bytes()))?))
+        let place = self.spaces.types.number_of(name.name.as_bytes());
+        Ok(DefId(place as u32))
     }
 
     /// Puts the nodes of a type.
     #[cycle(types)]
-    #[tactic(auto, unfolding(crate::specs::mirror::TypeCheck::check_type))]
+    #[tactic(auto, unfolding(crate::specs::mirror::TypeCheck::check_type, nomos_surface::specs::Counts::in_type))]
     pub(crate) fn session_type(&mut self, tree: &SurfaceType) -> Result<TypeId, ElabError>
-        ensures { Gives (λ t. (self.new, t)) result (check_type self.old (type_tree tree.now)) }
+        requires keeps { KeepsType (type_tree tree.now) }
+        requires room { MayMakeType self.old (type_tree tree.now) }
+        ensures gives { Gives (λ t. (self.new, t)) result (check_type self.old (type_tree tree.now)) }
+        ensures grows { IfOk result (λ _. MakesType self.old (type_tree tree.now) self.new) }
     {
         match tree {
             SurfaceType::One { at } => self.built.put_type(TypeNode::One, *at),
@@ -104,7 +111,7 @@ impl Elaborator {
                 value,
                 goes,
             } => {
-                let kind = kind_of(value)?;
+                let kind = kind_of(value);
                 let goes = self.session_type(goes)?;
                 self.built.put_type(value_node(*sender, kind, goes), *at)
             }
@@ -114,7 +121,7 @@ impl Elaborator {
                 potential,
                 goes,
             } => {
-                let amount = self.built.amount(*potential)?;
+                let amount = self.built.amount(*potential);
                 let goes = self.session_type(goes)?;
                 self.built.put_type(paying_node(*sender, amount, goes), *at)
             }
@@ -133,8 +140,12 @@ impl Elaborator {
     /// Puts the nodes of the branches of a choice.
     #[cycle(types)]
     fn branches(&mut self, trees: &[SurfaceBranch]) -> Result<Vec<Branch>, ElabError>
-        ensures { Gives (λ b. (self.new, b.items)) result
+        requires keeps { KeepsBranches (branch_trees (map branch_tree trees.now)) }
+        requires room { MayMake self.old (in_branches (branch_trees (map branch_tree trees.now))) }
+        ensures gives { Gives (λ b. (self.new, b.items)) result
             (branches_alone (check_branches (self.old, []) (branch_trees (map branch_tree trees.now)))) }
+        ensures grows { IfOk result
+            (λ _. MakesAtMost self.old (in_branches (branch_trees (map branch_tree trees.now))) self.new) }
     {
         let mut before = NameTable::new(self.built.alloc());
         let mut branches = Vec::new(self.built.alloc());
@@ -152,8 +163,11 @@ impl Elaborator {
         before: &mut NameTable,
         tree: &SurfaceBranch,
     ) -> Result<Branch, ElabError>
-        ensures { Gives (λ b. ((self.new, before.new), b)) result
+        requires keeps { KeepsType (branch_tree tree.now).1 }
+        requires room { MayMake self.old (in_type (branch_tree tree.now).1) }
+        ensures gives { Gives (λ b. ((self.new, before.new), b)) result
             (check_branch (λ w. check_type w (branch_tree tree.now).1) (self.old, before.old) (branch_tree tree.now).0) }
+        ensures grows { IfOk result (λ _. MakesAtMost self.old (in_type (branch_tree tree.now).1) self.new) }
     {
         new_among(before, &tree.label)?;
         before.see(tree.label.name.as_bytes())?;

@@ -1,9 +1,13 @@
 //! The walk over the declarations of a text.
-ghost use Rattle.std.specs.Prelude.{◌≡◌, [], map};
+ghost use Rattle.std.specs.Prelude.{◌≡◌, [], map, IfOk};
 ghost use Rattle.nomos_elaborate.specs.mirror.Checked.{Gives, found};
 ghost use Rattle.nomos_elaborate.specs.mirror.FileCheck.{check_body, check_decl, check_decls, begun};
 ghost use Rattle.nomos_elaborate.specs.Spaces.{declaring, declaring_all, no_names};
+ghost use Rattle.nomos_elaborate.specs.mirror.Entries.{MakesAtMost, MayMake};
+ghost use Rattle.nomos_surface.specs.Bounds.{KeepsDecl};
+ghost use Rattle.nomos_surface.specs.Counts.{in_decl, in_each};
 ghost use Rattle.nomos_surface.specs.FileView.{decl_tree};
+ghost use Rattle.nomos_surface.specs.Grammatical.{Each};
 
 use crate::builder::Builder;
 use crate::claims::new_among;
@@ -111,7 +115,10 @@ impl Walk {
     /// A declaration, whose name is not to be among those before it.
     #[tactic(auto, unfolding(crate::specs::mirror::FileCheck::check_body))]
     fn body(&mut self, decl: &SurfaceDecl) -> Result<(), ElabError>
-        ensures { Gives (λ _. self.new) result (check_body self.old (decl_tree decl.now)) }
+        requires keeps { KeepsDecl (decl_tree decl.now) }
+        requires room { MayMake self.old.work (in_decl (decl_tree decl.now)) }
+        ensures gives { Gives (λ _. self.new) result (check_body self.old (decl_tree decl.now)) }
+        ensures grows { IfOk result (λ _. MakesAtMost self.old.work (in_decl (decl_tree decl.now)) self.new.work) }
     {
         match decl {
             SurfaceDecl::Definition(tree) => {
@@ -143,7 +150,10 @@ impl Walk {
 
     /// A declaration, whose name is declared from then on.
     fn declare(&mut self, decl: &SurfaceDecl) -> Result<(), ElabError>
-        ensures { Gives (λ _. self.new) result (check_decl self.old (decl_tree decl.now)) }
+        requires keeps { KeepsDecl (decl_tree decl.now) }
+        requires room { MayMake self.old.work (in_decl (decl_tree decl.now)) }
+        ensures gives { Gives (λ _. self.new) result (check_decl self.old (decl_tree decl.now)) }
+        ensures grows { IfOk result (λ _. MakesAtMost self.old.work (in_decl (decl_tree decl.now)) self.new.work) }
     {
         self.body(decl)?;
         self.before.declare(decl)
@@ -151,6 +161,8 @@ impl Walk {
 
     /// Declarations, in order of text.
     pub(crate) fn declare_all(&mut self, decls: &[SurfaceDecl]) -> Result<(), ElabError>
+        requires keeps { Each KeepsDecl (map decl_tree decls.now) }
+        requires room { MayMake self.old.work (in_each in_decl (map decl_tree decls.now)) }
         ensures { Gives (λ _. self.new) result (check_decls self.old (map decl_tree decls.now)) }
     {
         for decl in decls {
