@@ -20,7 +20,7 @@ use std::alloc::AllocError;
 /// Whether the arguments fit the declaration: values and lists pass first, then channels.
 pub(crate) fn pass_arguments(
     program: &Program,
-    asked: &mut Asked,
+    asked: &mut Asked<'_>,
     now: &mut Standing,
     d: &ProcDecl,
     args: &Args,

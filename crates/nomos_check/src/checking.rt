@@ -5,12 +5,14 @@ ghost use Rattle.nomos_ir.specs.declared.declaration.ProcDecl.{ProcDecl};
 ghost use Rattle.nomos_ir.specs.Amounts.{star_count};
 ghost use Rattle.nomos_equality.specs.Comparing.{HasCompared};
 ghost use Rattle.nomos_types.specs.Typed.{IsWellFormed};
+ghost use Rattle.nomos_check.specs.Checker.{IsCheckerOf};
 ghost use Rattle.nomos_check.specs.Checking.{AnswersProcess, AnswersBeside};
 ghost use Rattle.nomos_check.specs.mirror.Answers.{GathersAll, JoinsPairs};
 ghost use Rattle.nomos_check.specs.mirror.Fresh.{IsFresh};
 ghost use Rattle.nomos_check.specs.mirror.Standing.{IsReady};
 
 use crate::asked::Asked;
+use crate::checker::Checker;
 use crate::going::{go_all, go_along};
 use crate::start::start;
 use crate::walk::{Stuck, Walk};
@@ -23,7 +25,6 @@ use nomos_ir::items::Items;
 use nomos_ir::lists::AmountPairs;
 use nomos_ir::program::Program;
 use nomos_ir::stack::Stack;
-use nomos_types::mode_table::mode_table;
 use std::alloc::{AllocError, Global};
 use std::mem;
 use thiserror::Error;
@@ -47,15 +48,21 @@ pub struct Checked {
 }
 
 /// Gathers what the process asks for.
-fn gather(program: &Program, walk: &mut Walk, p: ProcId) -> Result<(), AllocError>
+fn gather(
+    checker: &Checker,
+    program: &Program,
+    walk: &mut Walk<'_>,
+    p: ProcId,
+) -> Result<(), AllocError>
     requires formed { IsWellFormed program.now }
     requires p { p.0 < length program.now.procs }
+    requires checker { IsCheckerOf program.now checker.now }
     requires ready { IsReady program.now walk.old.asked }
     requires fresh { IsFresh walk.old }
     ensures ready { IsReady program.now walk.new.asked }
     ensures gathers { OnOk result (GathersAll program.now p walk.old walk.new) }
 {
-    let first = start(program, &walk.asked, p)?;
+    let first = start(program, checker, p)?;
     go_along(program, walk, first)?;
     go_all(program, walk)
 }
@@ -83,25 +90,23 @@ fn answer(
 /// was compared stays there also where the process is refused. `ProcType` comes exactly where some instruction is stuck, and
 /// names the first one.
 pub fn check_process_with(
-    alloc: Global,
+    checker: &Checker,
     equalities: &mut Equalities,
     program: &Program,
     p: ProcId,
 ) -> Result<Checked, ProcError>
     requires formed { IsWellFormed program.now }
+    requires checker { IsCheckerOf program.now checker.now }
     requires p { p.0 < length program.now.procs }
     requires compared { HasCompared program.now equalities.old }
     ensures compared { HasCompared program.now equalities.new }
     ensures answers { (d : ProcDecl) → slice_get program.now.procs p.0 ≡ Some d →
         AnswersBeside program.now (star_count program.now) d equalities.old equalities.new result }
 {
-    let modes = match mode_table(alloc, program) {
-        Ok(modes) => modes,
-        Err(_) => return Err(ProcError::NoMemory),
-    };
+    let alloc = checker.alloc;
     let known = mem::replace(equalities, Equalities::new(alloc));
-    let mut walk = Walk::new(alloc, modes, known);
-    let gathered = gather(program, &mut walk, p);
+    let mut walk = Walk::new(alloc, checker.modes.as_slice(), known);
+    let gathered = gather(checker, program, &mut walk, p);
     let Walk {
         asked,
         forms,
@@ -146,7 +151,11 @@ pub fn check_process(alloc: Global, program: &Program, p: ProcId) -> Result<Chec
     ensures { (d : ProcDecl) → slice_get program.now.procs p.0 ≡ Some d →
         AnswersProcess program.now (star_count program.now) d result }
 {
+    let checker = match Checker::new(alloc, program) {
+        Ok(checker) => checker,
+        Err(_) => return Err(ProcError::NoMemory),
+    };
     let mut equalities = Equalities::new(alloc);
-    let checked = check_process_with(alloc, &mut equalities, program, p)?;
+    let checked = check_process_with(&checker, &mut equalities, program, p)?;
     all_pairs(equalities, checked)
 }

@@ -14,7 +14,7 @@ use std::alloc::AllocError;
 /// Whether the types are alike. Where they are, the pairs at their equal paths are asked for.
 pub(crate) fn are_alike(
     program: &Program,
-    asked: &mut Asked,
+    asked: &mut Asked<'_>,
     own: TypeId,
     t: TypeId,
 ) -> Result<bool, AllocError>
@@ -25,8 +25,8 @@ pub(crate) fn are_alike(
     ensures ready { IsReady program.now asked.new }
     ensures tells { IfOk result (TellsAlike program.now own t asked.old asked.new) }
 {
-    let mode = mode_of(program, asked.modes.as_slice(), own);
-    if !is_mode(mode, mode_of(program, asked.modes.as_slice(), t)) {
+    let mode = mode_of(program, asked.modes, own);
+    if !is_mode(mode, mode_of(program, asked.modes, t)) {
         return Ok(false);
     }
     match asked.equalities.compare(program, own, t)? {

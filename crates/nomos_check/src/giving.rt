@@ -20,13 +20,13 @@ use std::alloc::AllocError;
 
 /// Whether the list passes for a list parameter of this kind and amount. It is used up.
 fn pass_list(
-    asked: &mut Asked,
+    asked: &mut Asked<'_>,
     now: &mut Standing,
     w: VarId,
     kind: Kind,
     said: Amount,
 ) -> Result<bool, AllocError>
-    ensures same_modes { asked.new.modes ≡ asked.old.modes }
+    ensures same_modes { asked.new.modes.now ≡ asked.old.modes.now }
     ensures same_compared { asked.new.equalities ≡ asked.old.equalities }
     ensures tells { IfOk result (TellsList now.old now.new w kind said asked.old asked.new) }
 {
@@ -45,7 +45,7 @@ fn pass_list(
 /// Whether the value or the list passes for the parameter.
 fn pass_value(
     program: &Program,
-    asked: &mut Asked,
+    asked: &mut Asked<'_>,
     now: &mut Standing,
     arg: ValueArg,
     par: Par,
@@ -65,7 +65,7 @@ fn pass_value(
 /// Whether the values and lists pass for the parameters, one after another.
 pub(crate) fn pass_values(
     program: &Program,
-    asked: &mut Asked,
+    asked: &mut Asked<'_>,
     now: &mut Standing,
     args: &[ValueArg],
     pars: &[Par],

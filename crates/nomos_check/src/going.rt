@@ -14,7 +14,11 @@ use std::alloc::AllocError;
 
 /// Goes on from where the process stands until the code ends, is stuck, or parts; the ways into which it parts are
 /// left to do.
-pub(crate) fn go_along(program: &Program, walk: &mut Walk, now: Standing) -> Result<(), AllocError>
+pub(crate) fn go_along(
+    program: &Program,
+    walk: &mut Walk<'_>,
+    now: Standing,
+) -> Result<(), AllocError>
     requires formed { IsWellFormed program.now }
     requires on_way { IsOnWay program.now (star_count program.now) now }
     requires ready { IsReady program.now walk.old.asked }
@@ -41,7 +45,7 @@ pub(crate) fn go_along(program: &Program, walk: &mut Walk, now: Standing) -> Res
 }
 
 /// Goes the last of the ways, if there is one; the others are left to do.
-fn take_way(program: &Program, walk: &mut Walk, forks: Forks) -> Result<(), AllocError>
+fn take_way(program: &Program, walk: &mut Walk<'_>, forks: Forks) -> Result<(), AllocError>
     requires formed { IsWellFormed program.now }
     requires walk { IsWalk program.now (star_count program.now) (forks ∷ walk.old.todo) walk.old }
     requires ready { IsReady program.now walk.old.asked }
@@ -62,7 +66,7 @@ fn take_way(program: &Program, walk: &mut Walk, forks: Forks) -> Result<(), Allo
 }
 
 /// Goes all ways that are left to do.
-pub(crate) fn go_all(program: &Program, walk: &mut Walk) -> Result<(), AllocError>
+pub(crate) fn go_all(program: &Program, walk: &mut Walk<'_>) -> Result<(), AllocError>
     requires formed { IsWellFormed program.now }
     requires walk { IsWalk program.now (star_count program.now) walk.old.todo walk.old }
     requires ready { IsReady program.now walk.old.asked }

@@ -8,6 +8,7 @@ mod branch;
 mod cases;
 mod chances;
 mod channels;
+pub mod checker;
 pub mod checking;
 mod choices;
 mod comparing;

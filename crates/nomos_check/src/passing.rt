@@ -15,7 +15,7 @@ use std::alloc::AllocError;
 /// Whether the channel or the reference passes as one of the type. A reference stays; a channel is used up.
 pub(crate) fn pass_channel(
     program: &Program,
-    asked: &mut Asked,
+    asked: &mut Asked<'_>,
     now: &mut Standing,
     v: VarId,
     t: TypeId,
@@ -44,7 +44,7 @@ pub(crate) fn pass_channel(
 /// Whether the channels pass for the parameters, one after another.
 pub(crate) fn pass_channels(
     program: &Program,
-    asked: &mut Asked,
+    asked: &mut Asked<'_>,
     now: &mut Standing,
     channels: &[VarId],
     pars: &[(VarId, TypeId)],

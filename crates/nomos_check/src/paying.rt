@@ -30,7 +30,7 @@ pub(crate) fn at_work(program: &Program, now: &mut Standing, amount: Amount, nex
 /// The rule of `pay`.
 pub(crate) fn at_pay(
     program: &Program,
-    asked: &mut Asked,
+    asked: &mut Asked<'_>,
     now: &mut Standing,
     over: Over<Amount>,
 ) -> Result<Step, AllocError>
@@ -57,7 +57,7 @@ pub(crate) fn at_pay(
 /// The rule of `get`.
 pub(crate) fn at_get(
     program: &Program,
-    asked: &mut Asked,
+    asked: &mut Asked<'_>,
     now: &mut Standing,
     over: Over<Amount>,
 ) -> Result<Step, AllocError>

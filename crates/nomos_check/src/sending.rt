@@ -35,7 +35,7 @@ fn is_channel_of(c: Chan, y: VarId) -> bool
 /// The rule of a channel that is sent.
 pub(crate) fn at_send(
     program: &Program,
-    asked: &mut Asked,
+    asked: &mut Asked<'_>,
     now: &mut Standing,
     over: Over<VarId>,
 ) -> Result<Step, AllocError>
@@ -80,7 +80,7 @@ fn only_channel(now: &Standing, v: VarId) -> Option<TypeId>
 /// The rule of `fwd`.
 pub(crate) fn at_fwd(
     program: &Program,
-    asked: &mut Asked,
+    asked: &mut Asked<'_>,
     now: &Standing,
     v: VarId,
 ) -> Result<Step, AllocError>

@@ -21,7 +21,7 @@ use std::alloc::AllocError;
 /// The rule of `spawn`.
 pub(crate) fn at_spawn(
     program: &Program,
-    asked: &mut Asked,
+    asked: &mut Asked<'_>,
     now: &mut Standing,
     spawning: Spawning<'_>,
 ) -> Result<Step, AllocError>
@@ -53,7 +53,7 @@ pub(crate) fn at_spawn(
 /// The rule of `call`.
 pub(crate) fn at_call(
     program: &Program,
-    asked: &mut Asked,
+    asked: &mut Asked<'_>,
     now: &mut Standing,
     f: ProcId,
     args: &Args,

@@ -8,10 +8,11 @@ ghost use Rattle.nomos_types.specs.Judgement.{is_shared_mode, is_shared, value_p
 ghost use Rattle.nomos_types.specs.ModeTable.{AreModesOf};
 ghost use Rattle.nomos_types.specs.Modes.{HasMode, parameter_mode};
 ghost use Rattle.nomos_types.specs.Typed.{IsWellFormed};
+ghost use Rattle.nomos_check.specs.Checker.{IsCheckerOf};
 ghost use Rattle.nomos_check.specs.mirror.Starting.{bind_all, carried_par, kinds_of, lists_of, picks, one_if, IsStartOf};
 
-use crate::asked::Asked;
 use crate::bound::Bound;
+use crate::checker::Checker;
 use crate::modes::has_mode;
 use crate::potential::Potential;
 use crate::standing::{Carried, Standing};
@@ -84,13 +85,13 @@ fn lists_of(alloc: Global, d: &ProcDecl) -> Result<Bound<Carried>, AllocError>
 }
 
 /// Whether a channel parameter is a reference.
-fn is_reference(program: &Program, asked: &Asked, t: TypeId) -> bool
-    requires modes { AreModesOf program.now asked.now.modes.items }
+fn is_reference(program: &Program, checker: &Checker, t: TypeId) -> bool
+    requires modes { AreModesOf program.now checker.now.modes }
     requires has { HasMode program.now t (parameter_mode program.now t) }
     ensures { result ≡ is_shared_mode (parameter_mode program.now t) }
 {
     let _lists = program.lists();
-    has_mode(program, asked.modes.as_slice(), t, Mode::S)
+    has_mode(program, checker.modes.as_slice(), t, Mode::S)
 }
 
 /// Binds the channel if it is picked.
@@ -111,41 +112,41 @@ fn bind_if(
 /// The channel parameters that are references, or the others.
 fn channels_of(
     program: &Program,
-    asked: &Asked,
+    checker: &Checker,
     channels: &[(VarId, TypeId)],
     references: bool,
 ) -> Result<Bound<TypeId>, AllocError>
-    requires modes { AreModesOf program.now asked.now.modes.items }
+    requires modes { AreModesOf program.now checker.now.modes }
     requires have { All (λ par. HasMode program.now par.1 (parameter_mode program.now par.1)) channels.now }
     ensures { IfOk result (λ made. made ≡ bindings_of (filter (λ par. picks references
         (is_shared program.now par)) channels.now)) }
 {
-    let mut made = Bound::new(asked.alloc);
+    let mut made = Bound::new(checker.alloc);
     let mut i = channels.len();
     while i > 0 {
         i -= 1;
         let par = channels[i];
-        let picked = is_reference(program, asked, par.1) == references;
+        let picked = is_reference(program, checker, par.1) == references;
         bind_if(&mut made, par, picked)?;
     }
     Ok(made)
 }
 
 /// What a process has in hand where the declaration begins.
-pub(crate) fn start(program: &Program, asked: &Asked, p: ProcId) -> Result<Standing, AllocError>
+pub(crate) fn start(program: &Program, checker: &Checker, p: ProcId) -> Result<Standing, AllocError>
     requires formed { IsWellFormed program.now }
     requires p { p.0 < length program.now.procs }
-    requires modes { AreModesOf program.now asked.now.modes.items }
+    requires checker { IsCheckerOf program.now checker.now }
     ensures { IfOk result (λ s. (d : ProcDecl) → slice_get program.now.procs p.0 ≡ Some d →
         IsStartOf program.now (star_count program.now) d s) }
 {
-    let alloc = asked.alloc;
+    let alloc = checker.alloc;
     let d = program.proc(p);
     let kinds = kinds_of(alloc, d)?;
     let lists = lists_of(alloc, d)?;
-    let shared = channels_of(program, asked, d.channels.as_slice(), true)?;
-    let linear = channels_of(program, asked, d.channels.as_slice(), false)?;
-    let mut potential = Potential::none(alloc, program.stars())?;
+    let shared = channels_of(program, checker, d.channels.as_slice(), true)?;
+    let linear = channels_of(program, checker, d.channels.as_slice(), false)?;
+    let mut potential = Potential::none(alloc, checker.stars)?;
     potential.gain(d.amount);
     Ok(Standing {
         mode: d.mode,

@@ -24,7 +24,7 @@ use std::alloc::AllocError;
 /// have to be worth the same.
 pub(crate) fn step(
     program: &Program,
-    asked: &mut Asked,
+    asked: &mut Asked<'_>,
     now: &mut Standing,
 ) -> Result<Step, AllocError>
     requires formed { IsWellFormed program.now }
@@ -35,7 +35,7 @@ pub(crate) fn step(
     ensures asks { IfOk result (StepAsks program.now now.old asked.old asked.new) }
 {
     let alloc = asked.alloc;
-    let modes = asked.modes.as_slice();
+    let modes = asked.modes;
     match program.code(now.code) {
         CodeNode::Label(_, c, l, next) => at_label(program, now, *c, *l, *next),
         CodeNode::Case(_, c, arms) => at_case(program, alloc, now, *c, arms.as_slice()),

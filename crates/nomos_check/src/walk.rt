@@ -33,8 +33,8 @@ pub(crate) struct Stuck {
 /// What is gathered so far: the pairs that were asked for, the forms of the potential, and the first instruction that is
 /// stuck. Beside it stand the branches that are not gone yet.
 #[derive(Drop)]
-pub(crate) struct Walk {
-    pub(crate) asked: Asked,
+pub(crate) struct Walk<'p> {
+    pub(crate) asked: Asked<'p>,
     pub(crate) forms: Vec<Form>,
     pub(crate) stuck: Option<Stuck>,
     pub(crate) todo: Stack<Forks>,
@@ -66,10 +66,10 @@ fn less(alloc: Global, potential: &Potential, amount: Amount) -> Result<Form, Al
     Ok(left.into_form())
 }
 
-impl Walk {
+impl<'p> Walk<'p> {
     /// Nothing is gathered yet. It takes no memory.
-    pub(crate) fn new(alloc: Global, modes: Vec<Mode>, equalities: Equalities) -> Walk
-        ensures modes { result.asked.modes ≡ modes }
+    pub(crate) fn new(alloc: Global, modes: &'p [Mode], equalities: Equalities) -> Walk<'p>
+        ensures modes { result.asked.modes.now ≡ modes.now }
         ensures equalities { result.asked.equalities ≡ equalities }
         ensures fresh { IsFresh result }
     {

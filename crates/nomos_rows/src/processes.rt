@@ -2,6 +2,7 @@
 ghost use Rattle.std.specs.Prelude.{◌≡◌, ◌<◌, ◌++◌, [], All, length, IfOk, OnOk};
 ghost use Rattle.nomos_ir.specs.Amounts.{star_count};
 ghost use Rattle.nomos_equality.specs.Comparing.{HasCompared};
+ghost use Rattle.nomos_check.specs.Checker.{IsCheckerOf};
 ghost use Rattle.nomos_forms.specs.Bounds.{IsForm};
 ghost use Rattle.nomos_types.specs.Typed.{IsWellFormed};
 ghost use Rattle.nomos_rows.specs.mirror.Declarations.{ProcessFault, ProcessFine};
@@ -10,6 +11,7 @@ ghost use Rattle.nomos_rows.specs.mirror.Telling.{TellsOne, TellsBelow};
 ghost use Rattle.nomos_rows.specs.mirror.Ups.{IfNone};
 
 use crate::telling::{Fault, earliest};
+use nomos_check::checker::Checker;
 use nomos_check::checking::{Checked, ProcError, check_process_with};
 use nomos_equality::equalities::Equalities;
 use nomos_forms::form::Form;
@@ -41,13 +43,14 @@ impl Gathered {
 
 /// What is wrong with a process, if something is. Otherwise its forms and pairs join those that were gathered.
 fn process_fault(
-    alloc: Global,
+    checker: &Checker,
     equalities: &mut Equalities,
     gathered: &mut Gathered,
     program: &Program,
     p: ProcId,
 ) -> Result<Option<(u32, Fault)>, AllocError>
     requires formed { IsWellFormed program.now }
+    requires checker { IsCheckerOf program.now checker.now }
     requires p { p.0 < length program.now.procs }
     requires compared { HasCompared program.now equalities.old }
     requires small { All (IsForm (star_count program.now)) gathered.old.forms.items }
@@ -56,7 +59,7 @@ fn process_fault(
     ensures adds { IfOk result (IfNone (Adds program.now p.0 equalities.old equalities.new gathered.old gathered.new)) }
     ensures small { OnOk result (All (IsForm (star_count program.now)) gathered.new.forms.items) }
 {
-    match check_process_with(alloc, equalities, program, p) {
+    match check_process_with(checker, equalities, program, p) {
         Ok(checked) => {
             gathered.join(checked)?;
             Ok(None)
@@ -83,10 +86,11 @@ pub(crate) fn first_stuck(
     ensures gathers { IfOk result (IfNone (Gathers program.now (length program.now.procs) equalities.old equalities.new gathered.new.forms.items gathered.new.pairs.items)) }
     ensures small { OnOk result (All (IsForm (star_count program.now)) gathered.new.forms.items) }
 {
+    let checker = Checker::new(alloc, program)?;
     let count = program.lists().procs.len() as u32;
     let mut first = None;
     for p in 0..count {
-        let found = process_fault(alloc, equalities, gathered, program, ProcId(p))?;
+        let found = process_fault(&checker, equalities, gathered, program, ProcId(p))?;
         first = earliest(first, found);
     }
     Ok(first)

@@ -115,7 +115,7 @@ StepTells lists s next (step.Branches ways) = LeadsAlong lists s ways.items × (
 
 -- what holds of the pairs in one program
 pub record IsReady (lists : ProgramLists) (asked : Asked) : Type 0 where
-  pub modes : AreModesOf lists asked.modes.items
+  pub modes : AreModesOf lists asked.modes.now
   pub compared : HasCompared lists asked.equalities
 
 -- the pair was asked for

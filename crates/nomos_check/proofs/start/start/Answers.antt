@@ -26,8 +26,8 @@ pub gain-requires : goal.gain-requires
 gain-requires c =
     let program = c.requires.formed.program in
     let d = c.proc-d.result.now in
-    none-room c.stars.result c.in_ok-potential.potential d.amount c.args.program.now c.in_ok-potential.ensures
-    (proc-amount program c.args.p.0 d c.proc-d.ensures) c.stars.ensures
+    none-room c.args.checker.now.stars c.in_ok-potential.potential d.amount c.args.program.now c.in_ok-potential.ensures
+    (proc-amount program c.args.p.0 d c.proc-d.ensures) c.requires.checker.stars
 
 pub returns : goal.returns
 returns c = λ d found.
@@ -54,5 +54,5 @@ returns c = λ d found.
     c.in_ok-potential.potential c.gain.new.self c.in_ok-kinds.ensures c.in_ok-lists.ensures
     (c.in_ok-shared.ensures ∙ ap (picked true) c.as_slice.ensures)
     (c.in_ok-linear.ensures ∙ ap (picked false) c.as_slice-2.ensures)
-    (c.in_ok-potential.ensures ∙ ap (λ (m : ℕ). form_of m no_account) c.stars.ensures)
+    (c.in_ok-potential.ensures ∙ ap (λ (m : ℕ). form_of m no_account) c.requires.checker.stars)
     c.gain.ensures)
