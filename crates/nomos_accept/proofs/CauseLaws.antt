@@ -1,8 +1,8 @@
 -- A text is refused by one step of the checker at most, and at one place.
-use Rattle.std.proofs.Common.{◌≡◌, ◌<◌, ◌≤◌, ℕ, zero, suc, ◌+◌, List, Option, Some, None, Err, length, slice_get, inl, inr, refl, sym, ap, subst, ◌∙◌, arith, ◌⊎◌}
+use Rattle.std.proofs.Common.{◌≡◌, ◌<◌, ◌≤◌, ℕ, zero, suc, List, Option, Some, None, length, slice_get, inl, inr, refl, sym, ap, subst, ◌∙◌, arith}
 use Rattle.nomos_accept.proofs.AcceptLaws.{one-tree, one-program}
 use Rattle.nomos_accept.proofs.StepLemmas.{one-step}
-use Rattle.nomos_accept.specs.Acceptance.{IsReadAs, ReadsWith, IsProgramWith, IsOffence, IsCauseOf}
+use Rattle.nomos_accept.specs.Acceptance.{IsReadAs, ReadsWith, IsOffence, IsCauseOf}
 use Rattle.nomos_accept.specs.Causes.{step_of, offset_of, limit_of, SameCause}
 use Rattle.nomos_accept.specs.declared.refusal.Why.{Why}
 use Rattle.nomos_accept.specs.declared.refusal.Why.TheVariants as why
@@ -16,7 +16,6 @@ use Rattle.nomos_grammar.specs.declared.offence.GrammarError.TheVariants as gram
 use Rattle.nomos_grammar.specs.declared.offence.Which.{Which}
 use Rattle.nomos_ir.specs.declared.lists.ProgramLists.{ProgramLists}
 use Rattle.nomos_rows.specs.Faults.{LeadsAstray, IsFaulty, IsFirstFault}
-use Rattle.nomos_surface.specs.Reading.{ReadsAs}
 use Rattle.nomos_surface.specs.Tree.{FileTree}
 use Rattle.nomos_syntax.specs.Scan.{tokens_of}
 use Rattle.nomos_syntax.specs.Spans.{IsFirstNotAscii}

@@ -1,17 +1,13 @@
 -- What refuses a text is a cause, and then it is typed under no amounts.
-use Rattle.std.proofs.Common.{◌≡◌, ◌<◌, ◌≤◌, ℕ, List, length, All, Contains, Some, None, IsTrue, ◌≢◌, sym, subst, ◌∙◌}
+use Rattle.std.proofs.Common.{◌≡◌, ℕ, List, All, Some, None, IsTrue, ◌≢◌, sym, subst, ◌∙◌}
 use Rattle.std.proofs.lemmas.List.Elements.{All-contains}
-use Rattle.nomos_accept.proofs.AcceptLaws.{one-tree, never-typed}
-use Rattle.nomos_accept.specs.Acceptance.{IsReadAs, IsTypedAs, IsNeverTyped, AreRowsFor, EndsWith, ReadsWith, IsRefuted, IsCauseOf, Answers}
-use Rattle.nomos_accept.specs.declared.refusal.Why.TheVariants as why
+use Rattle.nomos_accept.proofs.AcceptLaws.{one-tree}
+use Rattle.nomos_accept.specs.Acceptance.{IsNeverTyped}
 use Rattle.nomos_elaborate.specs.Answer.{BreaksCosts}
 use Rattle.nomos_elaborate.specs.Claim.{first_broken}
 use Rattle.nomos_elaborate.specs.FileClaims.{claims_of}
 use Rattle.nomos_elaborate.specs.WrittenWork.{written_work}
-use Rattle.nomos_forms.specs.Refuting.{NoneMeet}
-use Rattle.nomos_forms.specs.declared.row_list.RowList.{RowList}
 use Rattle.nomos_ir.proofs.NodeLaws.{All-at}
-use Rattle.nomos_ir.specs.Amounts.{star_count}
 use Rattle.nomos_ir.specs.Nodes.{type_node}
 use Rattle.nomos_ir.specs.Unfold.{IsConstructor, IsContractive}
 use Rattle.nomos_ir.specs.declared.ids.TypeId.{TypeId}
@@ -20,11 +16,9 @@ use Rattle.nomos_ir.specs.declared.type_node.Def.{Def}
 use Rattle.nomos_ir.specs.declared.type_node.TypeNode.{TypeNode}
 use Rattle.nomos_ir.specs.declared.type_node.TypeNode.TheVariants as node
 use Rattle.nomos_rows.specs.Faults.{IsNeverTyped as IsNeverTypedProgram}
-use Rattle.nomos_rows.specs.ProgramRows.{IsTypedByRows}
 use Rattle.nomos_surface.specs.Parsing.{ReadsAsNone}
 use Rattle.nomos_surface.specs.Reading.{ReadsAs}
 use Rattle.nomos_surface.specs.Tree.{FileTree}
-use Rattle.nomos_types.specs.Amount.{Annotations}
 use Rattle.nomos_types.specs.Forming.{IsFirstBareName, IsFirstOffence}
 use Rattle.nomos_types.specs.Modes.{Offends, forbidden, not_held, of_transactions, ObeysModes, may_hold, parameter_mode}
 use Rattle.nomos_ir.specs.declared.declaration.ProcDecl.{ProcDecl}

@@ -1,5 +1,5 @@
 -- How far the checker comes with a text: to the step that finds a cause, and not past it.
-use Rattle.std.proofs.Common.{◌≡◌, ◌<◌, ◌≤◌, ℕ, zero, suc, ◌+◌, ◌-◌, List, length, true, nat_le, get_or, Some, None, Err, inl, inr, sym, subst, ◌∙◌, refl, arith}
+use Rattle.std.proofs.Common.{◌≡◌, ◌<◌, ◌≤◌, ℕ, zero, suc, ◌+◌, ◌-◌, List, length, nat_le, get_or, Some, None, inl, inr, sym, subst, ◌∙◌, refl, arith}
 use Rattle.std.proofs.lemmas.Bool.Decides.{leb_tells}
 use Rattle.std.proofs.lemmas.List.Quantifiers.{position-Some}
 use Rattle.nomos_accept.proofs.AcceptLaws.{one-tree, one-program}

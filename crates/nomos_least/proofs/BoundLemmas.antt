@@ -1,9 +1,8 @@
 -- What the least run on the rows of a program says of a text that reads as it.
-use Rattle.std.proofs.Common.{◌≡◌, ◌≤◌, ◌*◌, ◌^◌, ℕ, List, length, ap, sym, subst, ◌∙◌, arith, ℤ, pos, ◌*ℤ◌, ◌≤ℤ◌}
+use Rattle.std.proofs.Common.{◌≡◌, ◌≤◌, ◌*◌, ◌^◌, ℕ, List, ap, sym, subst, ◌∙◌, arith, ℤ, pos, ◌*ℤ◌, ◌≤ℤ◌}
 use Rattle.std.proofs.lemmas.Int.{ints}
-use Rattle.nomos_accept.proofs.AcceptLaws.{one-program}
 use Rattle.nomos_accept.proofs.JudgingLaws.{found-is_accepted, refuted-answer}
-use Rattle.nomos_accept.specs.Acceptance.{IsReadAs, IsTypedAs, IsProgramWith, IsRefused}
+use Rattle.nomos_accept.specs.Acceptance.{IsReadAs, IsProgramWith, IsRefused}
 use Rattle.nomos_accept.specs.Preparing.{HasRows}
 use Rattle.nomos_accept.specs.declared.refusal.Why.TheVariants as why
 use Rattle.nomos_forms.specs.Bounds.{IsFound}
@@ -14,13 +13,11 @@ use Rattle.nomos_forms.specs.declared.form.Form.{Form}
 use Rattle.nomos_forms.specs.declared.found.Found.{Found}
 use Rattle.nomos_forms.specs.declared.row_list.RowList.{RowList}
 use Rattle.nomos_forms.specs.declared.verdict.Verdict.{Verdict}
-use Rattle.nomos_ir.specs.Amounts.{star_count}
 use Rattle.nomos_ir.specs.Program.{IsProgram}
 use Rattle.nomos_ir.specs.declared.lists.ProgramLists.{ProgramLists}
 use Rattle.nomos_least.proofs.GoalLaws.{goal-is_form, goal-worth}
 use Rattle.nomos_least.specs.Goal.{goal_of, all_declared}
 use Rattle.nomos_least.specs.LeastBounds.{NoneDeclareLess, IsLeastAs, IsLeastUnsolved}
-use Rattle.nomos_least.specs.declared.least.LeastBounds.{LeastBounds}
 use Rattle.nomos_simplex.proofs.LeastRunLaws.{least-total, least-refuted}
 use Rattle.nomos_simplex.specs.LeastRun.{LeastRun}
 use Rattle.nomos_simplex.specs.ShowsLeast.{ShowsLeast, NoneSmaller}
@@ -29,7 +26,6 @@ use Rattle.nomos_simplex.specs.declared.solved.SolvedLeast.TheVariants as least
 use Rattle.nomos_simplex.specs.declared.solved.Stop.{Stop}
 use Rattle.nomos_types.specs.Acceptance.{acceptance, IsAccepted}
 use Rattle.nomos_types.specs.Amount.{Annotations}
-use Rattle.nomos_types.specs.Typed.{IsTypedProgram}
 
 -- ---- what is found
 

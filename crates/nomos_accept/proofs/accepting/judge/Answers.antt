@@ -1,4 +1,4 @@
-use Rattle.std.proofs.Common.{◌≡◌, Ok, Err, sym, subst, ◌∙◌}
+use Rattle.std.proofs.Common.{Err, sym, subst, ◌∙◌}
 use Rattle.nomos_accept.proofs.JudgingLaws.{found-is_accepted, accepted-answer, refuted-answer, unsolved-answer}
 use Rattle.nomos_accept.proofs.accepting.judge.Goals as goal
 use Rattle.nomos_accept.specs.Acceptance.{Answers, IsAcceptedAs}

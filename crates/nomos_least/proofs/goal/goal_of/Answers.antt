@@ -1,4 +1,4 @@
-use Rattle.std.proofs.Common.{◌≡◌, ◌≤◌, ℤ, ℕ, List, All, Some, length, take, slice_get, pos, ◌≤ℤ◌, ap, sym, subst, ◌∙◌, arith}
+use Rattle.std.proofs.Common.{◌≡◌, ◌<◌, ◌≤◌, ℤ, ℕ, List, All, Some, length, take, get_or, slice_get, pos, ◌≤ℤ◌, ap, sym, subst, ◌∙◌, arith}
 use Rattle.std.proofs.lemmas.List.{take_all}
 use Rattle.std.proofs.lemmas.Option.{slice_get-get_or}
 use Rattle.nomos_check.specs.Account.{form_of, no_account}
@@ -18,36 +18,33 @@ procs-of : (lists other : ProgramLists) (procs : List ProcDecl) → procs ≡ ot
 procs-of lists other procs slice same = slice ∙ ap (λ (l : ProgramLists). l.procs) same
 
 -- the declaration at a place of the slice is that of the program
-declared-at : (lists : ProgramLists) (procs : List ProcDecl) (k : ℕ) (d : ProcDecl) → procs ≡ lists.procs
-    → slice_get procs k ≡ Some d → slice_get lists.procs k ≡ Some d
-declared-at lists procs k d same here = subst (λ (ps : List ProcDecl). slice_get ps k ≡ Some d) same here
+declared-at : (lists other : ProgramLists) (procs : List ProcDecl) (k : ℕ) (d : ProcDecl) → procs ≡ other.procs
+    → other ≡ lists → k < length procs → d ≡ get_or procs k d → slice_get lists.procs k ≡ Some d
+declared-at lists other procs k d slice same inside is =
+    subst (λ (ps : List ProcDecl). slice_get ps k ≡ Some d) (procs-of lists other procs slice same)
+    (slice_get-get_or procs k d inside ∙ ap Some (sym is))
 
 pub gain_declared-requires : goal.gain_declared-requires
 gain_declared-requires c =
     let lists = c.args.program.now in
-    let procs = c.as_slice-declaration-items.result.now in
     let k = c.loop-declaration.declaration-index in
     let d = c.declaration-item.result in
-    let same = procs-of lists c.lists.result.now procs c.as_slice-declaration-items.ensures c.lists.ensures.lists in
-    let here : slice_get procs k ≡ Some d = slice_get-get_or procs k d c.loop-declaration-test.true
-    ∙ ap Some (sym c.declaration-item.is)
-    in
     subst (λ (f : Form). HasRoom f d.amount) (sym c.loop-declaration.invariant)
-    (declared-room lists k d c.lists.ensures.program (declared-at lists procs k d same here))
+    (declared-room lists k d c.lists.ensures.program
+    (declared-at lists c.lists.result.now c.as_slice-declaration-items.result.now k d c.as_slice-declaration-items.ensures
+    c.lists.ensures.lists c.loop-declaration-test.true c.declaration-item.is))
 
 pub loop-declaration-preserved : goal.loop-declaration-preserved
 loop-declaration-preserved c =
     let lists = c.args.program.now in
-    let procs = c.as_slice-declaration-items.result.now in
     let k = c.loop-declaration.declaration-index in
     let d = c.declaration-item.result in
-    let same = procs-of lists c.lists.result.now procs c.as_slice-declaration-items.ensures c.lists.ensures.lists in
-    let here : slice_get procs k ≡ Some d = slice_get-get_or procs k d c.loop-declaration-test.true
-    ∙ ap Some (sym c.declaration-item.is)
-    in
     let n = star_count lists in
     c.gain_declared.ensures n (gains_all (take k lists.procs) no_account) c.loop-declaration.invariant
-    ∙ ap (form_of n) (gains-next lists.procs d k no_account (declared-at lists procs k d same here))
+    ∙ ap (form_of n)
+    (gains-next lists.procs d k no_account
+    (declared-at lists c.lists.result.now c.as_slice-declaration-items.result.now k d c.as_slice-declaration-items.ensures
+    c.lists.ensures.lists c.loop-declaration-test.true c.declaration-item.is))
 
 -- at the end the sum is the goal
 made : (lists : ProgramLists) (procs : List ProcDecl) (k : ℕ) (sum form : Form) → procs ≡ lists.procs → length procs ≤ k

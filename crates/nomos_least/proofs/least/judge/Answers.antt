@@ -1,4 +1,4 @@
-use Rattle.std.proofs.Common.{◌≡◌, Ok, Err, IfOk, sym, subst}
+use Rattle.std.proofs.Common.{Err, sym, subst}
 use Rattle.nomos_accept.specs.declared.refusal.AcceptError.{AcceptError}
 use Rattle.nomos_least.proofs.BoundLemmas.{bounded-answer, refuted-least, unsolved-least}
 use Rattle.nomos_least.proofs.least.judge.Goals as goal

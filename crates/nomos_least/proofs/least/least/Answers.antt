@@ -1,4 +1,3 @@
-use Rattle.std.proofs.Common.{Ok, Err}
 use Rattle.nomos_least.proofs.least.least.Goals as goal
 
 pub returns : goal.returns
