@@ -3,14 +3,12 @@ use Rattle.std.proofs.Common.{◌≡◌, ℕ, ◌<◌, ◌≤◌, ◌+◌, List,
 use Rattle.std.specs.Prelude.{IfOk, IfErr, IsSome, codes}
 use Rattle.std.proofs.Math.ListN.{length-replicate}
 use Rattle.std.proofs.Math.Seq.{take-length}
-use Rattle.nomos_accept.specs.Acceptance.{IsAcceptedAs, IsRefused, Answers}
-use Rattle.nomos_accept.specs.declared.refusal.AcceptError.{AcceptError}
-use Rattle.nomos_accept.specs.declared.refusal.AcceptError.TheVariants as error
+use Rattle.nomos_accept.specs.Acceptance.{IsAcceptedAs, IsRefused}
 use Rattle.nomos_accept.specs.declared.refusal.Why.{Why}
 use Rattle.nomos_accept.specs.declared.refusal.Why.TheVariants as why
 use Rattle.nomos_base.proofs.ToldLaws.{TakesExactly-told}
 use Rattle.nomos_base.specs.Source.{TakesAll, TakesExactly}
-use Rattle.nomos_least.specs.LeastBounds.{IsLeastAs, AnswersLeast}
+use Rattle.nomos_least.specs.LeastBounds.{IsLeastAs}
 use Rattle.nomos_least.specs.declared.least.LeastBounds.{LeastBounds}
 use Rattle.nomos_ledger.specs.declared.journal.Journal.{Journal}
 use Rattle.nomos_script.specs.Reading.{ReadsAs}
@@ -18,7 +16,7 @@ use Rattle.nomos_script.specs.declared.item.ScriptItem.{ScriptItem}
 use Rattle.nomos_simplex.specs.declared.solved.Stop.{Stop}
 use Rattle.nomos_syntax.specs.Limits.{text_limit}
 use Rattle.nomos_top.specs.Block.{accepted_block, read_fault_line, usage_line}
-use Rattle.nomos_top.specs.Judging.{IsUnaccepted, unaccepted_of, IsDueOut, IsDueWhere, IsPartWhere, FindsText, FindsOrFails, IsDueAs, IsPartAs, IsDueOf, IsPartOf, not_run, run_so_far, HasRunAs, HasRunPart, journal_of}
+use Rattle.nomos_top.specs.Judging.{IsUnaccepted, IsDueOut, FindsText, FindsOrFails, IsDueAs, IsPartAs, IsDueOf, IsPartOf, not_run, run_so_far, HasRunAs, HasRunPart, journal_of}
 use Rattle.nomos_top.specs.Outcome.{Counts, HaveRisen, Input, Reading, input_of, IsTextOf, IsCheck, IsRun, IsLeast, AsksPivots, IsRunOn, HasStopped, HasLeastStopped, IsDue, usage, read_fault, refused, unsolved, least_unsolved, bounded, accepted, not_yet, ran, IsDueFor, IsPart, nothing, accepted_part, run_part, no_journal, steps}
 use Rattle.nomos_top.specs.LeastBlock.{least_block}
 use Rattle.nomos_top.specs.Progress.{HasCome}
@@ -134,27 +132,6 @@ pub due-least_out : (words : List (List ℕ)) (contract script : Reading) (text 
 due-least_out words contract script text u due asks told out parts =
     due-out words contract script text (HasLeastStopped text) u due (has-task words _ (sym asks.1)) told
     (λ stop h. least_unsolved stop asks h) out parts
-
--- what stands against a text that was not read stands against it however the solver may stop
-pub unread-unaccepted : (Stops : Stop → Type 0) (text : List ℕ) (counts : Counts) (u : Unaccepted)
-    → IsUnaccepted (λ stop. ⊥) text counts u → IsUnaccepted Stops text counts u
-unread-unaccepted Stops text counts (unaccepted.Refused why) h = h
-unread-unaccepted Stops text counts (unaccepted.Unsolved stop) h = absurd h
-unread-unaccepted Stops text counts unaccepted.ReadFault h = h
-unread-unaccepted Stops text counts unaccepted.NoMemory h = h
-
--- and so does what the checker answers
-pub error-unaccepted : (text : List ℕ) (counts : Counts) (e : AcceptError) → Answers text (Err e)
-    → IsUnaccepted (HasStopped text) text counts (unaccepted_of e)
-error-unaccepted text counts (error.Refused why) h = h
-error-unaccepted text counts (error.Unsolved stop) h = h
-error-unaccepted text counts error.NoMemory h = h
-
-pub least-unaccepted : (text : List ℕ) (counts : Counts) (e : AcceptError) → AnswersLeast text (Err e)
-    → IsUnaccepted (HasLeastStopped text) text counts (unaccepted_of e)
-least-unaccepted text counts (error.Refused why) h = h
-least-unaccepted text counts (error.Unsolved stop) h = h
-least-unaccepted text counts error.NoMemory h = h
 
 -- least bounds that are found
 pub due-bounded : (words : List (List ℕ)) (contract script : Reading) (text : List ℕ) (b : LeastBounds) → IsLeast words

@@ -1,5 +1,3 @@
-use Rattle.nomos_top.proofs.DueLemmas.{unread-unaccepted, error-unaccepted}
-use Rattle.nomos_top.specs.Outcome.{Counts, HasStopped}
 use Rattle.nomos_top.proofs.judging.judge.Goals as goal
 
 pub returns-in-Ok : goal.returns-in-Ok

@@ -1,5 +1,3 @@
-use Rattle.nomos_top.proofs.DueLemmas.{unread-unaccepted, least-unaccepted}
-use Rattle.nomos_top.specs.Outcome.{Counts, HasLeastStopped}
 use Rattle.nomos_top.proofs.judging.judge_least.Goals as goal
 
 pub returns-in-Ok : goal.returns-in-Ok
