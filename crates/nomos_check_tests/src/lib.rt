@@ -1,5 +1,7 @@
-//! Tests of the crate that checks processes, on the programs of texts.
+//! Tests of the crates that read and check whole texts.
 #![tactic(auto)]
 
 #[cfg(test)]
 mod process_tests;
+#[cfg(test)]
+mod program_tests;

@@ -13,7 +13,7 @@ use std::fmt::Write;
 use std::test::Fail;
 
 // The program of a text, if it has one.
-fn program_of(alloc: Global, text: &str) -> Option<Program> {
+pub(crate) fn program_of(alloc: Global, text: &str) -> Option<Program> {
     let Ok(surface) = parse(alloc, text.as_bytes()) else {
         return None;
     };
@@ -75,7 +75,7 @@ fn shown(alloc: Global, text: &str) -> Result<String, AllocError> {
 }
 
 // `examples/auction.nomos` without its comments.
-const AUCTION: &str = "
+pub(crate) const AUCTION: &str = "
 type R coin = &{ value : int /\\ coin | melt : 1 };
 type S wallet = up &{ store : coin -o down wallet | total : int /\\ down wallet };
 type S auction = up <{2}| &{ bid : coin -o wallet -o down auction | high : int /\\ down auction };
