@@ -29,7 +29,8 @@ one-program text a b read other =
 pub never-typed : (text : List ℕ) (lists : ProgramLists) → IsReadAs text lists → IsNeverTypedProgram lists →
     IsNeverTyped text
 never-typed text lists read never = λ other x typed.
-    never x (subst (λ (l : ProgramLists). IsTypedProgram l x) (one-program text other lists typed.read read) typed.typed)
+    never x (subst (λ (l : ProgramLists). IsTypedProgram l x) (one-program text other lists typed.read read)
+    typed.typed)
 
 -- a text that is typed under some amounts is refused for no cause
 pub typed-not_refused : (text : List ℕ) (lists : ProgramLists) (x : Annotations) → IsTypedAs text lists x → (why : Why)

@@ -104,7 +104,8 @@ offence-once : (lists : ProgramLists) (a b : ℕ) → IsFirstOffence lists a →
 offence-once lists a b first other = omega (arith, first.first b other.there, other.first a first.there)
 
 astray-once : (lists : ProgramLists) (a b : ℕ) → IsFirstAstray lists a → IsFirstAstray lists b → a ≡ b
-astray-once lists a b first other = omega (arith, first.first b other.path other.astray, other.first a first.path first.astray)
+astray-once lists a b first other =
+    omega (arith, first.first b other.path other.astray, other.first a first.path first.astray)
 
 fault-once : (lists : ProgramLists) (a b : ℕ) → IsFault lists a → IsFault lists b → a ≡ b
 fault-once lists a b first other = omega (arith, first.first b other.faulty, other.first a first.faulty)
@@ -124,7 +125,8 @@ finds-once zero text o p l m a b = (a.0 ∙ sym b.0, a.1 ∙ sym b.1)
 finds-once (suc zero) text o p l m ((at, first, e), f) ((to, other, g), h) =
     (e ∙ (sym first.first ∙ (other.first ∙ sym g)), f ∙ sym h)
 finds-once (suc (suc zero)) text o p l m (e, some, offence, is, which) (f, some_too, other, is_too, which_too) =
-    let same : e ≡ f = error_once (Unit {0}) (tokens_of text) (length text) e f some some_too offence.refused other.refused in
+    let same : e ≡ f = error_once (Unit {0}) (tokens_of text) (length text) e f some some_too offence.refused
+    other.refused in
     (is ∙ (ap offset_in same ∙ sym is_too), which ∙ (ap limit_in same ∙ sym which_too))
 finds-once (suc (suc (suc zero))) text o p l m ((tree, reads, e), f) ((other, again, g), h) =
     let same : other ≡ tree = one-tree text other tree again reads in
@@ -147,5 +149,6 @@ pub one-cause : (text : List ℕ) (v w : Why) → IsCauseOf text v → IsCauseOf
 one-cause text v w a b =
     let step = one-step text v w a b in
     let other = subst (λ (k : ℕ). Finds k text (offset_of w) (limit_of w)) (sym step) (finds text w b) in
-    let both = finds-once (step_of v) text (offset_of v) (offset_of w) (limit_of v) (limit_of w) (finds text v a) other in
+    let both = finds-once (step_of v) text (offset_of v) (offset_of w) (limit_of v) (limit_of w) (finds text v a)
+    other in
     record { step = step; offset = both.0; limit = both.1 }

@@ -58,10 +58,12 @@ bare-not_contractive lists at bare contractive =
 offends-not_obeying : (lists : ProgramLists) (t : TypeId) → Offends lists t → ¬ ObeysModes lists
 offends-not_obeying lists _ (forbidden m n has there other) obeys = other (obeys.allowed _ m n has there)
 offends-not_obeying lists _ (not_held d k t within channel other) obeys =
-    other (All-contains (λ (par : VarId × TypeId). IsTrue (may_hold d.mode (parameter_mode lists par.1))) d.channels (k, t)
+    other (All-contains (λ (par : VarId × TypeId). IsTrue (may_hold d.mode (parameter_mode lists par.1))) d.channels
+    (k, t)
     (All-contains (λ (p : ProcDecl). All (λ par. IsTrue (may_hold p.mode (parameter_mode lists par.1))) p.channels)
     lists.procs d obeys.held within) channel)
-offends-not_obeying lists _ (of_transactions d within is) obeys = All-contains (λ (d : Def). d.mode ≢ mode.T) lists.defs d obeys.definitions within is
+offends-not_obeying lists _ (of_transactions d within is) obeys =
+    All-contains (λ (d : Def). d.mode ≢ mode.T) lists.defs d obeys.definitions within is
 
 pub offence-not_obeying : (lists : ProgramLists) (at : ℕ) → IsFirstOffence lists at → ¬ ObeysModes lists
 offence-not_obeying lists at offence = let (t, offends, stands) = offence.there in offends-not_obeying lists t offends

@@ -56,21 +56,26 @@ not-both : (x y : Row) → row_cmp x y ≡ Less → ¬ (row_cmp y x ≡ Less)
 not-both x y less = λ other. not-itself x (row_total.trans x y x less other)
 
 -- two ascending lists begin alike, where each has the first item of the other
-first-same : (x y : Row) (xs ys : List Row) → AllByRecursion (λ z. row_cmp x z ≡ Less) xs → AllByRecursion (λ z. row_cmp y z ≡ Less) ys
+first-same : (x y : Row) (xs ys : List Row) → AllByRecursion (λ z. row_cmp x z ≡ Less) xs
+    → AllByRecursion (λ z. row_cmp y z ≡ Less) ys
     → Contains (y ∷ ys) x → Contains (x ∷ xs) y → x ≡ y
 first-same x y xs ys above_x above_y there here = elim (contains-cases x y xs here) [
   | inl same ↦ same
   | inr later ↦ elim (contains-cases y x ys there) [
     | inl same ↦ sym same
-    | inr before ↦ absurd (not-both x y (at-contained (λ z. row_cmp x z ≡ Less) xs y above_x later) (at-contained (λ z. row_cmp y z ≡ Less) ys x above_y before))
+    | inr before ↦ absurd (not-both x y (at-contained (λ z. row_cmp x z ≡ Less) xs y above_x later)
+        (at-contained (λ z. row_cmp y z ≡ Less) ys x above_y before))
   ]
 ]
 
 -- an item of a list is one of the other list's rest, where both have the same first item, which comes before it
-rest-there : (x y z : Row) (xs ys : List Row) → x ≡ y → AllByRecursion (λ w. row_cmp x w ≡ Less) xs → Contains xs z → Contains (y ∷ ys) z
+rest-there : (x y z : Row) (xs ys : List Row) → x ≡ y → AllByRecursion (λ w. row_cmp x w ≡ Less) xs → Contains xs z
+    → Contains (y ∷ ys) z
     → Contains ys z
 rest-there x y z xs ys same above here there = elim (contains-cases y z ys there) [
-  | inl is ↦ absurd (not-itself x (subst (λ (w : Row). row_cmp x w ≡ Less) (sym is ∙ sym same) (at-contained (λ w. row_cmp x w ≡ Less) xs z above here)))
+  | inl is ↦ absurd (not-itself x
+      (subst (λ (w : Row). row_cmp x w ≡ Less) (sym is ∙ sym same)
+      (at-contained (λ w. row_cmp x w ≡ Less) xs z above here)))
   | inr later ↦ later
 ]
 
@@ -129,7 +134,8 @@ mapped-put f (z ∷ xs) x there = elim (contains-cases z x xs there) [
 ]
 
 -- the same of lists that are made of each item
-made-put : {X Y : Type 0} (f : X → List Y) (xs : List X) (x : X) (y : Y) → Contains xs x → Contains (f x) y → Contains (flat_map f xs) y
+made-put : {X Y : Type 0} (f : X → List Y) (xs : List X) (x : X) (y : Y) → Contains xs x → Contains (f x) y
+    → Contains (flat_map f xs) y
 made-put f [] x y there is = absurd (contains-none x there)
 made-put f (z ∷ xs) x y there is = elim (contains-cases z x xs there) [
   | inl same ↦ joined-left y (f z) (flat_map f xs) (subst (λ w. Contains (f w) y) (sym same) is)
@@ -157,7 +163,8 @@ rows-there n forms others pairs more row forms_to pairs_to there =
     ]
 
 -- the rows of a program over its stars are one list
-pub program_rows-once : (lists : ProgramLists) (n : ℕ) (xs ys : List Row) → AreProgramRows lists n xs → AreProgramRows lists n ys → xs ≡ ys
+pub program_rows-once : (lists : ProgramLists) (n : ℕ) (xs ys : List Row) → AreProgramRows lists n xs
+    → AreProgramRows lists n ys → xs ≡ ys
 program_rows-once lists n xs ys a b =
     ascending-once xs ys a.are_rows.ascend b.are_rows.ascend
     (λ row there. (b.are_rows.same row).1

@@ -40,17 +40,21 @@ found-answered fs none = subst (λ (gs : List (ℕ × ℕ)). IsAnswered (Ends (f
 
 answered-on : (rows : RowList) (i : ℕ) (line : Option Line) → rows.stars ≡ 0
     → IsAnswered (turn_on 2000 0 rows (first_table rows) i line)
-answered-on rows i None none = found-answered (fractions rows (first_table rows)) (no-fractions rows (first_table rows) none)
+answered-on rows i None none =
+    found-answered (fractions rows (first_table rows)) (no-fractions rows (first_table rows) none)
 answered-on rows i (Some line) none =
-    subst (λ (j : Option ℕ). IsAnswered (turn_at 2000 0 rows (first_table rows) i line j)) (sym (no-entering rows line none)) tt
+    subst (λ (j : Option ℕ). IsAnswered (turn_at 2000 0 rows (first_table rows) i line j))
+    (sym (no-entering rows line none)) tt
 
 answered-from : (rows : RowList) (place : Option ℕ) → rows.stars ≡ 0
     → IsAnswered (turn_from 2000 0 rows (first_table rows) place)
-answered-from rows None none = found-answered (fractions rows (first_table rows)) (no-fractions rows (first_table rows) none)
+answered-from rows None none =
+    found-answered (fractions rows (first_table rows)) (no-fractions rows (first_table rows) none)
 answered-from rows (Some i) none = answered-on rows i (slice_get (first_table rows).lines i) none
 
 -- a turn that ends with an answer does not stop
-ends-answered : (turn : Turn) (go_on : Table → Solved) (stop : Stop) → IsAnswered turn → ¬ (end_of turn go_on ≡ solved.Unsolved stop)
+ends-answered : (turn : Turn) (go_on : Table → Solved) (stop : Stop) → IsAnswered turn
+    → ¬ (end_of turn go_on ≡ solved.Unsolved stop)
 ends-answered (Ends (solved.Found found)) go_on stop h = λ e. cc
 ends-answered (Ends (solved.None verdict)) go_on stop h = λ e. cc
 ends-answered (Ends (solved.Unsolved s)) go_on stop h = absurd h
@@ -62,5 +66,6 @@ answered-rows rows stop none =
     ends-answered (turn_from 2000 0 rows (first_table rows) (leaving rows (first_table rows))) _ stop
     (answered-from rows (leaving rows (first_table rows)) none)
 
-pub no_stars-stop : (lists : ProgramLists) (stop : Stop) → star_count lists ≡ 0 → ¬ (EndsWith lists (solved.Unsolved stop))
+pub no_stars-stop : (lists : ProgramLists) (stop : Stop) → star_count lists ≡ 0
+    → ¬ (EndsWith lists (solved.Unsolved stop))
 no_stars-stop lists stop none = λ ends. answered-rows ends.rows stop (ends.are_rows.stars ∙ none) ends.run

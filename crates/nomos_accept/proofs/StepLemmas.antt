@@ -39,7 +39,8 @@ Past (suc (suc (suc (suc zero)))) text = ReadsWith text ObeysNames
 Past (suc (suc (suc (suc (suc zero))))) text = (lists : ProgramLists) × IsReadAs text lists
 Past (suc (suc (suc (suc (suc (suc zero)))))) text = IsProgramWith text IsContractive
 Past (suc (suc (suc (suc (suc (suc (suc zero))))))) text = IsProgramWith text IsWellFormed
-Past (suc (suc (suc (suc (suc (suc (suc (suc zero)))))))) text = IsProgramWith text (λ lists. IsWellFormed lists × IsSynchronizing lists no_amounts)
+Past (suc (suc (suc (suc (suc (suc (suc (suc zero)))))))) text =
+    IsProgramWith text (λ lists. IsWellFormed lists × IsSynchronizing lists no_amounts)
 Past (suc (suc (suc (suc (suc (suc (suc (suc (suc zero))))))))) text = IsProgramWith text HasSkeletons
 Past _ text = ⊥
 
@@ -53,7 +54,8 @@ step-before (suc (suc (suc (suc zero)))) text (lists, read) = (read.tree, read.r
 step-before (suc (suc (suc (suc (suc zero))))) text (lists, read, contractive) = (lists, read)
 step-before (suc (suc (suc (suc (suc (suc zero)))))) text (lists, read, formed) = (lists, read, formed.contractive)
 step-before (suc (suc (suc (suc (suc (suc (suc zero))))))) text (lists, read, both) = (lists, read, both.0)
-step-before (suc (suc (suc (suc (suc (suc (suc (suc zero)))))))) text (lists, read, skeletons) = (lists, read, (skeletons.formed, skeletons.synchronizing))
+step-before (suc (suc (suc (suc (suc (suc (suc (suc zero)))))))) text (lists, read, skeletons) =
+    (lists, read, (skeletons.formed, skeletons.synchronizing))
 step-before (suc (suc (suc (suc (suc (suc (suc (suc (suc k))))))))) text past = absurd past
 
 steps-before : (d k j : ℕ) (text : List ℕ) → j ≡ k + d → Past j text → Past k text

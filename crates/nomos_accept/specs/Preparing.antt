@@ -10,7 +10,8 @@ use Rattle.nomos_ir.specs.declared.lists.ProgramLists.{ProgramLists}
 use Rattle.nomos_rows.specs.ProgramRows.{IsTypedByRows}
 use Rattle.nomos_types.specs.Typed.{HasSkeletons}
 
--- Each part of the program has a skeleton, and these are its rows: it is typed under exactly the amounts that meet them.
+-- Each part of the program has a skeleton, and these are its rows: it is typed under exactly the amounts that meet
+-- them.
 pub record HasRows (lists : ProgramLists) (rows : RowList) : Type 0 where
   pub skeletons : HasSkeletons lists
   pub are_rows : AreRowsFor lists rows

@@ -87,8 +87,8 @@ fn answer(
 
 /// What the process declaration with this number asks for, in units of gas; `docs/LANGUAGE.md`, "Potential as a sum",
 /// has the rules. The pairs that the equality of types needs join those of `equalities`; the others are given. What
-/// was compared stays there also where the process is refused. `ProcType` comes exactly where some instruction is stuck, and
-/// names the first one.
+/// was compared stays there also where the process is refused. `ProcType` comes exactly where some instruction is
+/// stuck, and names the first one.
 pub fn check_process_with(
     checker: &Checker,
     equalities: &mut Equalities,

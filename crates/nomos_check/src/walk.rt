@@ -30,8 +30,8 @@ pub(crate) struct Stuck {
     pub(crate) form: CodeForm,
 }
 
-/// What is gathered so far: the pairs that were asked for, the forms of the potential, and the first instruction that is
-/// stuck. Beside it stand the branches that are not gone yet.
+/// What is gathered so far: the pairs that were asked for, the forms of the potential, and the first instruction that
+/// is stuck. Beside it stand the branches that are not gone yet.
 #[derive(Drop)]
 pub(crate) struct Walk<'p> {
     pub(crate) asked: Asked<'p>,

@@ -8,8 +8,8 @@ use Rattle.nomos_types.specs.Acceptance.{Acceptance}
 abbrev pub silent : Counts → Reading
 silent counts = record { left = None; counts = counts }
 
--- The program ends for these words with this status: with a contract, a script and an output of these counts, which tell
--- nothing of their bytes.
+-- The program ends for these words with this status: with a contract, a script and an output of these counts, which
+-- tell nothing of their bytes.
 abbrev pub EndsSilently : List (List ℕ) → Counts → Counts → Counts → ℕ → Type 0
 EndsSilently words contract script out status =
     (given : Option Acceptance) × (journal : Journal) ×

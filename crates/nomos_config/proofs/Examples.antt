@@ -40,5 +40,7 @@ runs = refl
 
 -- ten firings of processes each of which spawns the next
 
-grows : option_map (λ (s : State). length s.objects) (run loops (started loops.annotations (opened empty 0) go 0) (1 ∷ 2 ∷ 3 ∷ 4 ∷ 5 ∷ 6 ∷ 7 ∷ 8 ∷ 9 ∷ 10 ∷ [])) ≡ Some 11
+grows : option_map (λ (s : State). length s.objects)
+    (run loops (started loops.annotations (opened empty 0) go 0) (1 ∷ 2 ∷ 3 ∷ 4 ∷ 5 ∷ 6 ∷ 7 ∷ 8 ∷ 9 ∷ 10 ∷ []))
+    ≡ Some 11
 grows = refl

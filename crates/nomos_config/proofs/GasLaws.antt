@@ -20,7 +20,8 @@ sum-more xs i d within =
     omega arith
 
 -- one of the numbers has this much less
-pub sum-less : (xs : List ℕ) (i d : ℕ) → i < length xs → d ≤ get_or xs i 0 → sum (set xs i (get_or xs i 0 - d)) + d ≡ sum xs
+pub sum-less : (xs : List ℕ) (i d : ℕ) → i < length xs → d ≤ get_or xs i 0
+    → sum (set xs i (get_or xs i 0 - d)) + d ≡ sum xs
 sum-less xs i d within has =
     let id : ℕ → ℕ = λ n. n in
     let e : sum (set xs i (get_or xs i 0 - d)) + get_or xs i 0 ≡ sum xs + (get_or xs i 0 - d) =
@@ -28,20 +29,25 @@ sum-less xs i d within has =
     omega arith
 
 -- what objects carry, with one more of them
-pub stored-push : (objects : List Object) (o : Object) → sum_by purse_of (objects ++ o ∷ []) ≡ sum_by purse_of objects + purse_of o
+pub stored-push : (objects : List Object) (o : Object)
+    → sum_by purse_of (objects ++ o ∷ []) ≡ sum_by purse_of objects + purse_of o
 stored-push objects o = sum_by_push purse_of objects o
 
 -- what objects carry, with another in the place of one of them
-pub stored-set : (objects : List Object) (i : ℕ) (o new : Object) → slice_get objects i ≡ Some o → sum_by purse_of (set objects i new) + purse_of o ≡ sum_by purse_of objects + purse_of new
+pub stored-set : (objects : List Object) (i : ℕ) (o new : Object) → slice_get objects i ≡ Some o
+    → sum_by purse_of (set objects i new) + purse_of o ≡ sum_by purse_of objects + purse_of new
 stored-set objects i o new there =
     let within : i < length objects = slice_get_within objects i o there in
     let same : get_or objects i o ≡ o = get_or_from_slice_get objects i o o there in
-    let e : sum_by purse_of (set objects i new) + purse_of (get_or objects i o) ≡ sum_by purse_of objects + purse_of new =
+    let e : sum_by purse_of (set objects i new) + purse_of (get_or objects i o)
+    ≡ sum_by purse_of objects + purse_of new =
     sum_by-set purse_of objects i new o within in
-    subst (λ (x : Object). sum_by purse_of (set objects i new) + purse_of x ≡ sum_by purse_of objects + purse_of new) same e
+    subst (λ (x : Object). sum_by purse_of (set objects i new) + purse_of x ≡ sum_by purse_of objects + purse_of new)
+    same e
 
 -- what objects carry, without one of them
-pub stored-remove : (objects : List Object) (i : ℕ) (o : Object) → slice_get objects i ≡ Some o → sum_by purse_of (remove objects i) + purse_of o ≡ sum_by purse_of objects
+pub stored-remove : (objects : List Object) (i : ℕ) (o : Object) → slice_get objects i ≡ Some o
+    → sum_by purse_of (remove objects i) + purse_of o ≡ sum_by purse_of objects
 stored-remove objects i o there =
     let within : i < length objects = slice_get_within objects i o there in
     let same : get_or objects i o ≡ o = get_or_from_slice_get objects i o o there in
@@ -56,12 +62,14 @@ gas-opened s d =
     let e : sum (s.balances ++ d ∷ []) ≡ sum s.balances + d = sum_by_push id s.balances d in omega arith
 
 -- a credit brings what it is
-pub gas-credited : (s : State) (account d : ℕ) → account < length s.balances → gas_of (credited s account d) ≡ gas_of s + d
+pub gas-credited : (s : State) (account d : ℕ) → account < length s.balances
+    → gas_of (credited s account d) ≡ gas_of s + d
 gas-credited s account d within =
     let e = sum-more s.balances account d within in omega arith
 
 -- the start of a process only moves gas, from its payer's account into its purse
-pub gas-started : (x : Annotations) (s : State) (d : ProcDecl) (payer : ℕ) → payer < length s.balances → dths x d.amount ≤ slice_index s.balances payer → gas_of (started x s d payer) ≡ gas_of s
+pub gas-started : (x : Annotations) (s : State) (d : ProcDecl) (payer : ℕ) → payer < length s.balances
+    → dths x d.amount ≤ slice_index s.balances payer → gas_of (started x s d payer) ≡ gas_of s
 gas-started x s d payer within has =
     let paid = sum-less s.balances payer (dths x d.amount) within has in
     let more = stored-push s.objects (object.Process (starting s d (dths x d.amount) payer)) in
@@ -87,7 +95,8 @@ spent-le-gas s = omega arith
 pub balance-le-gas : (s : State) (account : ℕ) → account < length s.balances → slice_index s.balances account ≤ gas_of s
 balance-le-gas s account within =
     let id : ℕ → ℕ = λ n. n in
-    let le : get_or s.balances account 0 ≤ sum s.balances = get_or-le-sum_by id s.balances account 0 within in omega arith
+    let le : get_or s.balances account 0 ≤ sum s.balances = get_or-le-sum_by id s.balances account 0 within in
+    omega arith
 
 -- a purse is part of all gas
 pub purse-le-gas : (s : State) (i : ℕ) (o : Object) → slice_get s.objects i ≡ Some o → purse_of o ≤ gas_of s

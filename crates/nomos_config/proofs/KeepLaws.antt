@@ -40,12 +40,15 @@ All-remove P objects i all =
     All-append P (take i objects) (drop (suc i) objects) (All-take P i objects all) (All-drop P (suc i) objects all)
 
 -- what holds of each object holds of the one at a place
-pub All-there : (P : Object → Type 0) (objects : List Object) (i : ℕ) (o : Object) → slice_get objects i ≡ Some o → All P objects → P o
+pub All-there : (P : Object → Type 0) (objects : List Object) (i : ℕ) (o : Object) → slice_get objects i ≡ Some o
+    → All P objects → P o
 All-there P objects i o there all =
-    subst P (get_or_from_slice_get objects i o o there) (All-get_or P objects i o (slice_get_within objects i o there) all)
+    subst P (get_or_from_slice_get objects i o o there)
+    (All-get_or P objects i o (slice_get_within objects i o there) all)
 
 -- an object stays at its place where another place is written
-there-set : (objects : List Object) (i j : ℕ) (o new : Object) → i ≢ j → slice_get objects j ≡ Some o → slice_get (set objects i new) j ≡ Some o
+there-set : (objects : List Object) (i j : ℕ) (o new : Object) → i ≢ j → slice_get objects j ≡ Some o
+    → slice_get (set objects i new) j ≡ Some o
 there-set objects i j o new apart there =
     let inside : j < length objects = slice_get_within objects j o there in
     let within : j < length (set objects i new) = omega (arith, length-set {A = Object}) in
@@ -55,14 +58,19 @@ there-set objects i j o new apart there =
     slice_get-get_or (set objects i new) j o within ∙ ap Some same
 
 -- a process changes its purse by what another object brings
-stored-set_push : (objects : List Object) (i : ℕ) (p q : Process) (o : Object) → slice_get objects i ≡ Some (object.Process p) → q.purse + purse_of o ≡ p.purse → sum_by purse_of (set objects i (object.Process q) ++ o ∷ []) ≡ sum_by purse_of objects
+stored-set_push : (objects : List Object) (i : ℕ) (p q : Process) (o : Object)
+    → slice_get objects i ≡ Some (object.Process p) → q.purse + purse_of o ≡ p.purse
+    → sum_by purse_of (set objects i (object.Process q) ++ o ∷ []) ≡ sum_by purse_of objects
 stored-set_push objects i p q o there gives =
     let written = stored-set objects i (object.Process p) (object.Process q) there in
     let more = stored-push (set objects i (object.Process q)) o in
     omega arith
 
 -- a process takes the purse of a message that goes
-stored-set_remove : (objects : List Object) (i j : ℕ) (p q : Process) (m : Message) → slice_get objects i ≡ Some (object.Process p) → slice_get objects j ≡ Some (object.Message m) → i ≢ j → q.purse ≡ p.purse + m.purse → sum_by purse_of (remove (set objects i (object.Process q)) j) ≡ sum_by purse_of objects
+stored-set_remove : (objects : List Object) (i j : ℕ) (p q : Process) (m : Message)
+    → slice_get objects i ≡ Some (object.Process p) → slice_get objects j ≡ Some (object.Message m) → i ≢ j
+    → q.purse ≡ p.purse + m.purse → sum_by purse_of (remove (set objects i (object.Process q)) j)
+    ≡ sum_by purse_of objects
 stored-set_remove objects i j p q m there met apart takes =
     let written = stored-set objects i (object.Process p) (object.Process q) there in
     let stays = there-set objects i j (object.Message m) (object.Process q) apart met in
@@ -74,7 +82,8 @@ record AreSound (accounts : ℕ) (objects : List Object) : Type 0 where
   payers : All (HasPayer accounts) objects
   numbers : All (λ o. 0 < number_of o) objects
 
-sound-push : (n : ℕ) (objects : List Object) (o : Object) → HasPayer n o → 0 < number_of o → AreSound n objects → AreSound n (objects ++ o ∷ [])
+sound-push : (n : ℕ) (objects : List Object) (o : Object) → HasPayer n o → 0 < number_of o → AreSound n objects
+    → AreSound n (objects ++ o ∷ [])
 sound-push n objects o payer number sound = record {
   payers = All-push (HasPayer n) objects o sound.payers payer;
   numbers = All-push (λ x. 0 < number_of x) objects o sound.numbers number;
@@ -87,7 +96,8 @@ sound-remove n objects i sound = record {
 }
 
 -- a process that keeps its payer and its number stays sound
-sound-set : (n : ℕ) (objects : List Object) (i : ℕ) (p q : Process) → slice_get objects i ≡ Some (object.Process p) → q.payer ≡ p.payer → q.pid ≡ p.pid → AreSound n objects → AreSound n (set objects i (object.Process q))
+sound-set : (n : ℕ) (objects : List Object) (i : ℕ) (p q : Process) → slice_get objects i ≡ Some (object.Process p)
+    → q.payer ≡ p.payer → q.pid ≡ p.pid → AreSound n objects → AreSound n (set objects i (object.Process q))
 sound-set n objects i p q there payer number sound =
     let pays : p.payer < n = All-there (HasPayer n) objects i (object.Process p) there sound.payers in
     let numbered : 0 < p.pid = All-there (λ x. 0 < number_of x) objects i (object.Process p) there sound.numbers in
@@ -133,13 +143,16 @@ sent_message s p c brought = record {
 }
 
 -- where a process sends, no gas moves
-pub gas-sent : (s : State) (i : ℕ) (p : Process) (c : Chan) (brought : Payload) (goes : TypeId) (next : CodeId) → slice_get s.objects i ≡ Some (object.Process p) → gas_of (sent s i p c brought goes next) ≡ gas_of s
+pub gas-sent : (s : State) (i : ℕ) (p : Process) (c : Chan) (brought : Payload) (goes : TypeId) (next : CodeId)
+    → slice_get s.objects i ≡ Some (object.Process p) → gas_of (sent s i p c brought goes next) ≡ gas_of s
 gas-sent s i p c brought goes next there =
     let q : Process = goes_on p c s.next_name next in
     let same : q.purse + 0 ≡ p.purse = omega (arith, goes_on-purse p c s.next_name next) in
-    ap (λ (n : ℕ). sum s.balances + n + s.spent) (stored-set_push s.objects i p q (object.Message (sent_message s p c brought)) there same)
+    ap (λ (n : ℕ). sum s.balances + n + s.spent)
+    (stored-set_push s.objects i p q (object.Message (sent_message s p c brought)) there same)
 
-sound-sent : (s : State) (i : ℕ) (p : Process) (c : Chan) (brought : Payload) (goes : TypeId) (next : CodeId) → slice_get s.objects i ≡ Some (object.Process p) → IsSound s → IsSound (sent s i p c brought goes next)
+sound-sent : (s : State) (i : ℕ) (p : Process) (c : Chan) (brought : Payload) (goes : TypeId) (next : CodeId)
+    → slice_get s.objects i ≡ Some (object.Process p) → IsSound s → IsSound (sent s i p c brought goes next)
 sound-sent s i p c brought goes next there sound =
     let n : ℕ = length s.balances in
     let q : Process = goes_on p c s.next_name next in
@@ -148,11 +161,13 @@ sound-sent s i p c brought goes next there sound =
     let written : AreSound n (set s.objects i (object.Process q)) =
     sound-set n s.objects i p q there payer number (objects-sound s sound) in
     state-sound (sent s i p c brought goes next) n refl
-    (sound-push n (set s.objects i (object.Process q)) (object.Message (sent_message s p c brought)) tt sound.next written)
+    (sound-push n (set s.objects i (object.Process q)) (object.Message (sent_message s p c brought)) tt sound.next
+    written)
     (omega arith)
 
 -- what a process that sends keeps
-pub keeps-sent : (s : State) (i : ℕ) (p : Process) (c : Chan) (brought : Payload) (goes : TypeId) (next : CodeId) → slice_get s.objects i ≡ Some (object.Process p) → Keeps s (sent s i p c brought goes next)
+pub keeps-sent : (s : State) (i : ℕ) (p : Process) (c : Chan) (brought : Payload) (goes : TypeId) (next : CodeId)
+    → slice_get s.objects i ≡ Some (object.Process p) → Keeps s (sent s i p c brought goes next)
 keeps-sent s i p c brought goes next there = record {
   gas = gas-sent s i p c brought goes next there;
   accounts = refl;
@@ -164,7 +179,9 @@ keeps-sent s i p c brought goes next there = record {
 }
 
 -- A process that takes a message's purse, and is otherwise the same to its payer, keeps all of this.
-keeps-taking : (s t : State) (i j purse : ℕ) (p q : Process) → slice_get s.objects i ≡ Some (object.Process p) → Takes s.objects j purse → q.purse ≡ p.purse + purse → q.payer ≡ p.payer → q.pid ≡ p.pid → t ≡ record s { objects = remove (set s.objects i (object.Process q)) j } → Keeps s t
+keeps-taking : (s t : State) (i j purse : ℕ) (p q : Process) → slice_get s.objects i ≡ Some (object.Process p)
+    → Takes s.objects j purse → q.purse ≡ p.purse + purse → q.payer ≡ p.payer → q.pid ≡ p.pid
+    → t ≡ record s { objects = remove (set s.objects i (object.Process q)) j } → Keeps s t
 keeps-taking s t i j purse p q there takes purse_is payer number is =
     let n : ℕ = length s.balances in
     let apart : i ≢ j = takes-apart s.objects j purse i p takes there in
@@ -180,7 +197,8 @@ keeps-taking s t i j purse p q there takes purse_is payer number is =
       sound =
           λ (sound : IsSound s).
           state-sound u n refl
-          (sound-remove n (set s.objects i (object.Process q)) j (sound-set n s.objects i p q there payer number (objects-sound s sound)))
+          (sound-remove n (set s.objects i (object.Process q)) j
+          (sound-set n s.objects i p q there payer number (objects-sound s sound)))
           sound.next;
       objects_rise = omega arith;
       objects = omega arith;
@@ -189,26 +207,34 @@ keeps-taking s t i j purse p q there takes purse_is payer number is =
     })
 
 -- what a process that receives keeps
-pub keeps-received : (s : State) (i : ℕ) (p : Process) (c : Chan) (j name purse : ℕ) (next : CodeId) → slice_get s.objects i ≡ Some (object.Process p) → Takes s.objects j purse → Keeps s (received s i p c j name purse next)
+pub keeps-received : (s : State) (i : ℕ) (p : Process) (c : Chan) (j name purse : ℕ) (next : CodeId)
+    → slice_get s.objects i ≡ Some (object.Process p) → Takes s.objects j purse
+    → Keeps s (received s i p c j name purse next)
 keeps-received s i p c j name purse next there takes =
     let q : Process = record (goes_on p c name next) { purse = p.purse + purse } in
     keeps-taking s (received s i p c j name purse next) i j purse p q there takes refl
     (goes_on-payer p c name next) (goes_on-pid p c name next) refl
 
 -- what a process that receives a close keeps
-pub keeps-waited : (s : State) (i : ℕ) (p : Process) (v : VarId) (j purse : ℕ) (next : CodeId) → slice_get s.objects i ≡ Some (object.Process p) → Takes s.objects j purse → Keeps s (waited s i p v j purse next)
+pub keeps-waited : (s : State) (i : ℕ) (p : Process) (v : VarId) (j purse : ℕ) (next : CodeId)
+    → slice_get s.objects i ≡ Some (object.Process p) → Takes s.objects j purse → Keeps s (waited s i p v j purse next)
 keeps-waited s i p v j purse next there takes =
     let q : Process = record p { channels = forgotten p.channels v; purse = p.purse + purse; code = next } in
     keeps-taking s (waited s i p v j purse next) i j purse p q there takes refl refl refl refl
 
 -- where a process spawns another, gas moves from its purse into the other's
-pub gas-spawned : (s : State) (i : ℕ) (p : Process) (v : VarId) (m : Mode) (first : CodeId) (offers : TypeId) (purse : ℕ) (next : CodeId) → slice_get s.objects i ≡ Some (object.Process p) → purse ≤ p.purse → gas_of (spawned s i p v m first offers purse next) ≡ gas_of s
+pub gas-spawned : (s : State) (i : ℕ) (p : Process) (v : VarId) (m : Mode) (first : CodeId) (offers : TypeId)
+    (purse : ℕ) (next : CodeId) → slice_get s.objects i ≡ Some (object.Process p) → purse ≤ p.purse
+    → gas_of (spawned s i p v m first offers purse next) ≡ gas_of s
 gas-spawned s i p v m first offers purse next there has =
     let q : Process = record p { channels = bound p.channels v s.next_name; purse = p.purse - purse; code = next } in
     let same : p.purse - purse + purse ≡ p.purse = omega arith in
-    ap (λ (n : ℕ). sum s.balances + n + s.spent) (stored-set_push s.objects i p q (object.Process (child s p m first purse)) there same)
+    ap (λ (n : ℕ). sum s.balances + n + s.spent)
+    (stored-set_push s.objects i p q (object.Process (child s p m first purse)) there same)
 
-sound-spawned : (s : State) (i : ℕ) (p : Process) (v : VarId) (m : Mode) (first : CodeId) (offers : TypeId) (purse : ℕ) (next : CodeId) → slice_get s.objects i ≡ Some (object.Process p) → IsSound s → IsSound (spawned s i p v m first offers purse next)
+sound-spawned : (s : State) (i : ℕ) (p : Process) (v : VarId) (m : Mode) (first : CodeId) (offers : TypeId) (purse : ℕ)
+    (next : CodeId) → slice_get s.objects i ≡ Some (object.Process p) → IsSound s
+    → IsSound (spawned s i p v m first offers purse next)
 sound-spawned s i p v m first offers purse next there sound =
     let n : ℕ = length s.balances in
     let q : Process = record p { channels = bound p.channels v s.next_name; purse = p.purse - purse; code = next } in
@@ -216,11 +242,14 @@ sound-spawned s i p v m first offers purse next there sound =
     let written : AreSound n (set s.objects i (object.Process q)) =
     sound-set n s.objects i p q there refl refl (objects-sound s sound) in
     state-sound (spawned s i p v m first offers purse next) n refl
-    (sound-push n (set s.objects i (object.Process q)) (object.Process (child s p m first purse)) pays sound.next written)
+    (sound-push n (set s.objects i (object.Process q)) (object.Process (child s p m first purse)) pays sound.next
+    written)
     (omega arith)
 
 -- what a process that spawns another keeps
-pub keeps-spawned : (s : State) (i : ℕ) (p : Process) (v : VarId) (m : Mode) (first : CodeId) (offers : TypeId) (purse : ℕ) (next : CodeId) → slice_get s.objects i ≡ Some (object.Process p) → purse ≤ p.purse → Keeps s (spawned s i p v m first offers purse next)
+pub keeps-spawned : (s : State) (i : ℕ) (p : Process) (v : VarId) (m : Mode) (first : CodeId) (offers : TypeId)
+    (purse : ℕ) (next : CodeId) → slice_get s.objects i ≡ Some (object.Process p) → purse ≤ p.purse
+    → Keeps s (spawned s i p v m first offers purse next)
 keeps-spawned s i p v m first offers purse next there has = record {
   gas = gas-spawned s i p v m first offers purse next there has;
   accounts = refl;
@@ -232,7 +261,8 @@ keeps-spawned s i p v m first offers purse next there has = record {
 }
 
 -- where a process leaves, its purse goes to its payer's account
-pub gas-left : (s : State) (i : ℕ) (p : Process) → slice_get s.objects i ≡ Some (object.Process p) → p.payer < length s.balances → gas_of (left s i p) ≡ gas_of s
+pub gas-left : (s : State) (i : ℕ) (p : Process) → slice_get s.objects i ≡ Some (object.Process p)
+    → p.payer < length s.balances → gas_of (left s i p) ≡ gas_of s
 gas-left s i p there pays =
     let paid = sum-more s.balances p.payer p.purse pays in
     let gone = stored-remove s.objects i (object.Process p) there in
@@ -241,11 +271,13 @@ gas-left s i p there pays =
 sound-left : (s : State) (i : ℕ) (p : Process) → IsSound s → IsSound (left s i p)
 sound-left s i p sound =
     let n : ℕ = length s.balances in
-    let same : length (left s i p).balances ≡ n = length-set {A = ℕ} s.balances p.payer (slice_index s.balances p.payer + p.purse) in
+    let same : length (left s i p).balances
+    ≡ n = length-set {A = ℕ} s.balances p.payer (slice_index s.balances p.payer + p.purse) in
     state-sound (left s i p) n same (sound-remove n s.objects i (objects-sound s sound)) sound.next
 
 -- what a process that leaves keeps
-keeps-left : (s : State) (i : ℕ) (p : Process) → slice_get s.objects i ≡ Some (object.Process p) → p.payer < length s.balances → Keeps s (left s i p)
+keeps-left : (s : State) (i : ℕ) (p : Process) → slice_get s.objects i ≡ Some (object.Process p)
+    → p.payer < length s.balances → Keeps s (left s i p)
 keeps-left s i p there pays = record {
   gas = gas-left s i p there pays;
   accounts = length-set {A = ℕ} s.balances p.payer (slice_index s.balances p.payer + p.purse);
@@ -259,7 +291,14 @@ keeps-left s i p there pays = record {
 -- the close that a client is told
 abbrev close_message : State → Process → Message
 close_message s p =
-    record { number = s.next_object; to_client = true; from = p.offers; next = None; payload = payload.Close; purse = 0 }
+    record {
+      number = s.next_object;
+      to_client = true;
+      from = p.offers;
+      next = None;
+      payload = payload.Close;
+      purse = 0;
+    }
 
 -- a close carries no gas
 gas-told : (s : State) (p : Process) → gas_of (told_closed s p) ≡ gas_of s
@@ -273,7 +312,8 @@ sound-told s p sound =
     (omega arith)
 
 -- what a process that leaves and tells its client keeps
-keeps-told : (s : State) (i : ℕ) (p : Process) → slice_get s.objects i ≡ Some (object.Process p) → p.payer < length s.balances → Keeps s (told_closed (left s i p) p)
+keeps-told : (s : State) (i : ℕ) (p : Process) → slice_get s.objects i ≡ Some (object.Process p)
+    → p.payer < length s.balances → Keeps s (told_closed (left s i p) p)
 keeps-told s i p there pays =
     let before : Keeps s (left s i p) = keeps-left s i p there pays in
     record {
@@ -287,14 +327,17 @@ keeps-told s i p there pays =
     }
 
 -- what a process that ends keeps, where its payer is an account
-pub keeps-closed : (s : State) (i : ℕ) (p : Process) (m : Mode) → slice_get s.objects i ≡ Some (object.Process p) → p.payer < length s.balances → Keeps s (closed s i p m)
+pub keeps-closed : (s : State) (i : ℕ) (p : Process) (m : Mode) → slice_get s.objects i ≡ Some (object.Process p)
+    → p.payer < length s.balances → Keeps s (closed s i p m)
 keeps-closed s i p mode.R there pays = keeps-told s i p there pays
 keeps-closed s i p _ there pays = keeps-left s i p there pays
 
 -- what a move keeps, by what it tells
-pub keeps-moved : (s : State) (i : ℕ) (p : Process) (m : Move) → slice_get s.objects i ≡ Some (object.Process p) → p.payer < length s.balances → Tells s.objects p m → Keeps s (moved s i p m)
+pub keeps-moved : (s : State) (i : ℕ) (p : Process) (m : Move) → slice_get s.objects i ≡ Some (object.Process p)
+    → p.payer < length s.balances → Tells s.objects p m → Keeps s (moved s i p m)
 keeps-moved s i p (move.Label c l goes next) there pays tells = keeps-sent s i p c (payload.Label l) goes next there
-keeps-moved s i p (move.Receive c j name purse next) there pays tells = keeps-received s i p c j name purse next there tells
+keeps-moved s i p (move.Receive c j name purse next) there pays tells =
+    keeps-received s i p c j name purse next there tells
 keeps-moved s i p (move.Wait v j purse next) there pays tells = keeps-waited s i p v j purse next there tells
 keeps-moved s i p (move.Spawn v m first offers purse next) there pays tells =
     keeps-spawned s i p v m first offers purse next there tells
@@ -317,7 +360,8 @@ keeps-tidied s t keeps = record {
 }
 
 -- what a step keeps, where the payer of its process is an account
-pub step-keeps : (a : Acceptance) (before after : State) (pid : ℕ) → IsPaid before pid → step a before pid ≡ Some after → Keeps before after
+pub step-keeps : (a : Acceptance) (before after : State) (pid : ℕ) → IsPaid before pid → step a before pid ≡ Some after
+    → Keeps before after
 step-keeps a before after pid paid e =
     let parts : StepParts a before pid after = step-parts a before pid after e in
     let i : ℕ = parts.place in
@@ -342,7 +386,8 @@ keeps-same before after is =
     })
 
 -- what each answer of a firing keeps, where the payer of its process is an account
-pub fires-keeps : (a : Acceptance) (before after : State) (pid : ℕ) (answer : Fire) → IsPaid before pid → Fires a before pid answer after → Keeps before after
+pub fires-keeps : (a : Acceptance) (before after : State) (pid : ℕ) (answer : Fire) → IsPaid before pid
+    → Fires a before pid answer after → Keeps before after
 fires-keeps a before after pid fire.Fired paid fires = step-keeps a before after pid paid fires
 fires-keeps a before after pid (fire.Faulted e) paid fires = keeps-same before after fires.1
 
@@ -364,12 +409,14 @@ same-moved s i p (move.Spawn v m first offers purse next) = record { results = r
 same-moved s i p move.Close = same-closed s i p p.mode
 
 -- a step emits nothing, spends nothing and leaves what is outside
-pub step-same_outside : (a : Acceptance) (before after : State) (pid : ℕ) → step a before pid ≡ Some after → SameOutside before after
+pub step-same_outside : (a : Acceptance) (before after : State) (pid : ℕ) → step a before pid ≡ Some after
+    → SameOutside before after
 step-same_outside a before after pid e =
     let parts : StepParts a before pid after = step-parts a before pid after e in
     let same : SameOutside before (moved before parts.place parts.process parts.does) =
     same-moved before parts.place parts.process parts.does in
-    subst (SameOutside before) (sym parts.after_is) (record { results = same.results; outside = same.outside; spent = same.spent })
+    subst (SameOutside before) (sym parts.after_is)
+    (record { results = same.results; outside = same.outside; spent = same.spent })
 
 -- a step leaves little gas little
 pub keeps-little : (before after : State) → Keeps before after → HasLittleGas before → HasLittleGas after
@@ -383,7 +430,8 @@ paid-sound s pid sound p e =
 
 -- the state with nothing in it is sound
 pub sound-empty : IsSound empty
-sound-empty = record { payers = All-nil (HasPayer 0); numbers = All-nil (λ (o : Object). 0 < number_of o); next = omega arith }
+sound-empty =
+    record { payers = All-nil (HasPayer 0); numbers = All-nil (λ (o : Object). 0 < number_of o); next = omega arith }
 
 -- an account of few is one of more
 payer-more : (m n : ℕ) → m ≤ n → (o : Object) → HasPayer m o → HasPayer n o
@@ -406,19 +454,22 @@ sound-opened s d sound =
 pub sound-credited : (s : State) (account d : ℕ) → IsSound s → IsSound (credited s account d)
 sound-credited s account d sound =
     let n : ℕ = length s.balances in
-    state-sound (credited s account d) n (length-set {A = ℕ} s.balances account (slice_index s.balances account + d)) (objects-sound s sound) sound.next
+    state-sound (credited s account d) n (length-set {A = ℕ} s.balances account (slice_index s.balances account + d))
+    (objects-sound s sound) sound.next
 
 -- a state stays sound where nothing is emitted
 pub sound-cleared : (s : State) → IsSound s → IsSound (cleared s)
 sound-cleared s sound = record { payers = sound.payers; numbers = sound.numbers; next = sound.next }
 
 -- a process that an account pays for keeps a state sound
-pub sound-started : (x : Annotations) (s : State) (d : ProcDecl) (payer : ℕ) → payer < length s.balances → IsSound s → IsSound (started x s d payer)
+pub sound-started : (x : Annotations) (s : State) (d : ProcDecl) (payer : ℕ) → payer < length s.balances → IsSound s
+    → IsSound (started x s d payer)
 sound-started x s d payer pays sound =
     let n : ℕ = length s.balances in
     let amount : ℕ = dths x d.amount in
     state-sound (started x s d payer) n (length-set {A = ℕ} s.balances payer (slice_index s.balances payer - amount))
-    (sound-push n s.objects (object.Process (starting s d (dths x d.amount) payer)) pays sound.next (objects-sound s sound))
+    (sound-push n s.objects (object.Process (starting s d (dths x d.amount) payer)) pays sound.next
+    (objects-sound s sound))
     (omega arith)
 
 -- what a run keeps, with how far the next numbers rise
@@ -454,7 +505,8 @@ run-keeps-more s t u steps one rest = record {
 }
 
 -- what a run keeps of a sound state
-pub run-keeps : (a : Acceptance) (s after : State) (pids : List ℕ) → IsSound s → run a s pids ≡ Some after → RunKeeps s after (length pids)
+pub run-keeps : (a : Acceptance) (s after : State) (pids : List ℕ) → IsSound s → run a s pids ≡ Some after
+    → RunKeeps s after (length pids)
 run-keeps a s after [] sound e = subst (λ (t : State). RunKeeps s t 0) (same_Some s after e) (run-keeps-none s sound)
 run-keeps a s after (pid ∷ pids) sound e =
     option_and_then_some {P = RunKeeps s after (suc (length pids))} (λ (t : State). run a t pids) (step a s pid) after e
@@ -463,20 +515,24 @@ run-keeps a s after (pid ∷ pids) sound e =
     run-keeps-more s t after (length pids) one (run-keeps a t after pids (one.sound sound) rest))
 
 -- a run of two parts is one run after the other
-pub run-append : (a : Acceptance) (s : State) (xs ys : List ℕ) → run a s (xs ++ ys) ≡ option_and_then (λ t. run a t ys) (run a s xs)
+pub run-append : (a : Acceptance) (s : State) (xs ys : List ℕ)
+    → run a s (xs ++ ys) ≡ option_and_then (λ t. run a t ys) (run a s xs)
 run-append a s [] ys = refl
 run-append a s (pid ∷ xs) ys =
-    elim (step a s pid) as (λ o. option_and_then (λ t. run a t (xs ++ ys)) o ≡ option_and_then (λ t. run a t ys) (option_and_then (λ t. run a t xs) o)) [
+    elim (step a s pid) as (λ o. option_and_then (λ t. run a t (xs ++ ys)) o
+    ≡ option_and_then (λ t. run a t ys) (option_and_then (λ t. run a t xs) o)) [
       | None ↦ refl
       | Some t ↦ run-append a t xs ys
     ]
 
 -- a run, and a run of the state after it, are a run
-pub run-joined : (a : Acceptance) (s t u : State) (xs ys : List ℕ) → run a s xs ≡ Some t → run a t ys ≡ Some u → run a s (xs ++ ys) ≡ Some u
+pub run-joined : (a : Acceptance) (s t u : State) (xs ys : List ℕ) → run a s xs ≡ Some t → run a t ys ≡ Some u
+    → run a s (xs ++ ys) ≡ Some u
 run-joined a s t u xs ys one two = run-append a s xs ys ∙ ap (option_and_then (λ r. run a r ys)) one ∙ two
 
 -- a run with one more step
-pub run_push : (a : Acceptance) (s t u : State) (pids : List ℕ) (pid : ℕ) → run a s pids ≡ Some t → step a t pid ≡ Some u → run a s (pids ++ pid ∷ []) ≡ Some u
+pub run_push : (a : Acceptance) (s t u : State) (pids : List ℕ) (pid : ℕ) → run a s pids ≡ Some t
+    → step a t pid ≡ Some u → run a s (pids ++ pid ∷ []) ≡ Some u
 run_push a s t u pids pid so_far stepped =
     let last : run a t (pid ∷ []) ≡ Some u = ap (option_and_then (λ (r : State). Some r)) stepped in
     run-joined a s t u pids (pid ∷ []) so_far last

@@ -13,7 +13,8 @@ use Rattle.nomos_config.proofs.GasLaws.{purse-le-gas, balance-le-gas}
 use Rattle.nomos_config.proofs.MoveLaws.{Takes, move-tells, takes-within, process_at-place}
 
 -- a process at a place has no more than all gas
-purse-small : (s : State) (i : ℕ) (p : Process) → slice_get s.objects i ≡ Some (object.Process p) → HasLittleGas s → p.purse < 2 ^ 96
+purse-small : (s : State) (i : ℕ) (p : Process) → slice_get s.objects i ≡ Some (object.Process p) → HasLittleGas s
+    → p.purse < 2 ^ 96
 purse-small s i p here little =
     let below : p.purse ≤ gas_of s = purse-le-gas s i (object.Process p) here in omega (arith, below, little)
 
@@ -23,13 +24,15 @@ takes-fits s i j purse little takes = record {
   message = takes-within s.objects j purse takes;
   fits = λ p here.
       let mine : p.purse < 2 ^ 96 = purse-small s i p here little in
-      let other : purse_of (object.Message takes.message) ≤ gas_of s = purse-le-gas s j (object.Message takes.message) takes.there in
+      let other : purse_of (object.Message takes.message)
+      ≤ gas_of s = purse-le-gas s j (object.Message takes.message) takes.there in
       let same = takes.purse_is in
       omega (arith, mine, other, little, same);
 }
 
 -- the account of a process can get its purse
-paid-closes : (s : State) (pid i : ℕ) (a : Acceptance) (m : Move) → Finds a s pid i m → HasLittleGas s → IsPaid s pid → MayClose s i
+paid-closes : (s : State) (pid i : ℕ) (a : Acceptance) (m : Move) → Finds a s pid i m → HasLittleGas s → IsPaid s pid
+    → MayClose s i
 paid-closes s pid i a m found little paid = record {
   paid = λ p here. paid p (process_at-place s pid i p found.place here);
   fits = λ p here.
@@ -40,10 +43,12 @@ paid-closes s pid i a m found little paid = record {
 }
 
 -- what a process finds to do it can do
-pub may-move : (a : Acceptance) (s : State) (pid i : ℕ) (m : Move) → Finds a s pid i m → HasLittleGas s → IsPaid s pid → MayMove s i m
+pub may-move : (a : Acceptance) (s : State) (pid i : ℕ) (m : Move) → Finds a s pid i m → HasLittleGas s → IsPaid s pid
+    → MayMove s i m
 may-move a s pid i (move.Label c l goes next) found little paid = tt
 may-move a s pid i (move.Receive c j name purse next) found little paid =
-    takes-fits s i j purse little (move-tells a s.objects s.types found.process (move.Receive c j name purse next) found.does)
+    takes-fits s i j purse little (move-tells a s.objects s.types found.process (move.Receive c j name purse next)
+    found.does)
 may-move a s pid i (move.Wait v j purse next) found little paid =
     takes-fits s i j purse little (move-tells a s.objects s.types found.process (move.Wait v j purse next) found.does)
 may-move a s pid i (move.Spawn v md first offers purse next) found little paid = tt

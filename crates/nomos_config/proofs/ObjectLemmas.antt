@@ -9,13 +9,15 @@ use Rattle.nomos_config.specs.State.{State}
 use Rattle.nomos_config.specs.declared.object.Object.{Object}
 
 -- what stands at a place stays there when more is put behind
-pub slice_get-push : {X : Type 0} (xs ys : List X) (i : ℕ) (x : X) → slice_get xs i ≡ Some x → slice_get (xs ++ ys) i ≡ Some x
+pub slice_get-push : {X : Type 0} (xs ys : List X) (i : ℕ) (x : X) → slice_get xs i ≡ Some x
+    → slice_get (xs ++ ys) i ≡ Some x
 slice_get-push [] ys i x h = cc
 slice_get-push (y ∷ xs) ys zero x h = h
 slice_get-push (y ∷ xs) ys (suc i) x h = slice_get-push xs ys i x h
 
 -- an edit at a place, when more was put behind
-pub set-push : {X : Type 0} (xs ys : List X) (i : ℕ) (x y : X) → slice_get xs i ≡ Some x → slice_set (xs ++ ys) i y ≡ slice_set xs i y ++ ys
+pub set-push : {X : Type 0} (xs ys : List X) (i : ℕ) (x y : X) → slice_get xs i ≡ Some x
+    → slice_set (xs ++ ys) i y ≡ slice_set xs i y ++ ys
 set-push xs ys i x y h =
     let within : i < length xs = slice_get_within xs i x h in set-append_left xs ys i y within
 
@@ -38,11 +40,13 @@ abbrev pub counted : State → State
 counted s = record s { next_object = s.next_object + 1; next_name = s.next_name + 1 }
 
 -- an object is added, another is edited by the next name, and both are counted
-pub added-edited : (s a b d : State) (i : ℕ) (old o : Object) (edit : ℕ → Object) (named : ℕ × TypeId) → slice_get s.objects i ≡ Some old → a ≡ with_added s o named → b ≡ with_object a i (edit a.next_name) → d ≡ counted b → d ≡ record s {
-  objects = slice_set s.objects i (edit s.next_name) ++ o ∷ [];
-  next_object = s.next_object + 1;
-  next_name = s.next_name + 1;
-  types = s.types ++ named ∷ [];
-}
+pub added-edited : (s a b d : State) (i : ℕ) (old o : Object) (edit : ℕ → Object) (named : ℕ × TypeId)
+    → slice_get s.objects i ≡ Some old → a ≡ with_added s o named → b ≡ with_object a i (edit a.next_name)
+    → d ≡ counted b → d ≡ record s {
+      objects = slice_set s.objects i (edit s.next_name) ++ o ∷ [];
+      next_object = s.next_object + 1;
+      next_name = s.next_name + 1;
+      types = s.types ++ named ∷ [];
+    }
 added-edited s a b d i old o edit named here added edited both =
     rw both (rw edited (rw added (rw (set-push s.objects (o ∷ []) i old (edit s.next_name) here) refl)))

@@ -31,11 +31,13 @@ some-value None is = cc
 some-value (Some t) is = (t, refl)
 
 -- a process that is ready has a step
-pub ready-step : (a : Acceptance) (s : State) (pid : ℕ) → IsReady a s pid → (after : State) × (step a s pid ≡ Some after)
+pub ready-step : (a : Acceptance) (s : State) (pid : ℕ) → IsReady a s pid
+    → (after : State) × (step a s pid ≡ Some after)
 ready-step a s pid ready = some-value (step a s pid) ready
 
 -- a process that has a step is ready
-pub ready-from_step : (a : Acceptance) (s : State) (pid : ℕ) (after : State) → step a s pid ≡ Some after → IsReady a s pid
+pub ready-from_step : (a : Acceptance) (s : State) (pid : ℕ) (after : State) → step a s pid ≡ Some after
+    → IsReady a s pid
 ready-from_step a s pid after e = ap is_some e
 
 -- what is ready is a process that has a move
@@ -76,13 +78,16 @@ missing-not_ready a s pid missing ready =
     let parts : ReadyParts a s pid = ready-is-process a s pid ready in let found = parts.found in cc
 
 -- a number that no object has is not ready
-pub other-not_ready : (a : Acceptance) (s : State) (pid : ℕ) → All (λ o. number_of o ≢ pid) s.objects → ¬ IsReady a s pid
+pub other-not_ready : (a : Acceptance) (s : State) (pid : ℕ) → All (λ o. number_of o ≢ pid) s.objects
+    → ¬ IsReady a s pid
 other-not_ready a s pid others ready =
     let parts : ReadyParts a s pid = ready-is-process a s pid ready in
-    All-there (λ (o : Object). number_of o ≢ pid) s.objects parts.place (object.Process parts.process) parts.there others parts.number
+    All-there (λ (o : Object). number_of o ≢ pid) s.objects parts.place (object.Process parts.process) parts.there
+    others parts.number
 
 -- what keeps the numbers of all objects from being ready keeps all such numbers from it
-pub not_ready-from_all : (a : Acceptance) (s : State) (P : ℕ → Type 0) → All (λ o. P (number_of o) → ¬ IsReady a s (number_of o)) s.objects → (q : ℕ) → P q → ¬ IsReady a s q
+pub not_ready-from_all : (a : Acceptance) (s : State) (P : ℕ → Type 0)
+    → All (λ o. P (number_of o) → ¬ IsReady a s (number_of o)) s.objects → (q : ℕ) → P q → ¬ IsReady a s q
 not_ready-from_all a s P all q holds ready =
     let parts : ReadyParts a s q = ready-is-process a s q ready in
     let Q : Object → Type 0 = λ o. P (number_of o) → ¬ IsReady a s (number_of o) in
@@ -91,11 +96,14 @@ not_ready-from_all a s P all q holds ready =
     here (subst P same holds) (subst (IsReady a s) same ready)
 
 -- where no object over a number is ready, none is
-pub none_ready-from_all : (a : Acceptance) (s : State) (after : ℕ) → All (λ o. after < number_of o → ¬ IsReady a s (number_of o)) s.objects → NoneReady a s after
+pub none_ready-from_all : (a : Acceptance) (s : State) (after : ℕ)
+    → All (λ o. after < number_of o → ¬ IsReady a s (number_of o)) s.objects → NoneReady a s after
 none_ready-from_all a s after all = not_ready-from_all a s (λ (n : ℕ). after < n) all
 
 -- a ready process over a number is the next one where no object between is ready
-pub next_ready-from_all : (a : Acceptance) (s : State) (after pid : ℕ) → after < pid → IsReady a s pid → All (λ o. after < number_of o → number_of o < pid → ¬ IsReady a s (number_of o)) s.objects → IsNextReady a s after pid
+pub next_ready-from_all : (a : Acceptance) (s : State) (after pid : ℕ) → after < pid → IsReady a s pid
+    → All (λ o. after < number_of o → number_of o < pid → ¬ IsReady a s (number_of o)) s.objects
+    → IsNextReady a s after pid
 next_ready-from_all a s after pid over ready all =
     let P : ℕ → Type 0 = λ n. (after < n) × (n < pid) in
     let between : All (λ o. P (number_of o) → ¬ IsReady a s (number_of o)) s.objects =
@@ -111,7 +119,8 @@ pub zero-not_ready : (a : Acceptance) (s : State) → IsSound s → ¬ IsReady a
 zero-not_ready a s sound ready =
     let parts : ReadyParts a s 0 = ready-is-process a s 0 ready in
     let over : 0 < parts.process.pid =
-    All-there (λ (o : Object). 0 < number_of o) s.objects parts.place (object.Process parts.process) parts.there sound.numbers in
+    All-there (λ (o : Object). 0 < number_of o) s.objects parts.place (object.Process parts.process) parts.there
+    sound.numbers in
     let is : parts.process.pid ≡ 0 = parts.number in
     absurd (omega arith)
 
@@ -136,7 +145,8 @@ pub next_ready-some : (a : Acceptance) (s : State) (after pid : ℕ) → IsNextR
 next_ready-some a s after pid next none = none pid next.over next.ready
 
 -- there is one next process that is ready
-pub next_ready-unique : (a : Acceptance) (s : State) (after pid q : ℕ) → IsNextReady a s after pid → IsNextReady a s after q → pid ≡ q
+pub next_ready-unique : (a : Acceptance) (s : State) (after pid q : ℕ) → IsNextReady a s after pid
+    → IsNextReady a s after q → pid ≡ q
 next_ready-unique a s after pid q one two =
     ⊎_elim
     (λ (below : pid < q). absurd (two.lowest pid one.over below one.ready))

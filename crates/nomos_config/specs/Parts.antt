@@ -38,7 +38,8 @@ CanGet s i purse =
 -- the process at this place has an account that can get its purse
 pub record MayClose (s : State) (i : ℕ) : Type 0 where
   pub paid : (p : Process) → slice_get s.objects i ≡ Some (object.Process p) → p.payer < length s.balances
-  pub fits : (p : Process) → slice_get s.objects i ≡ Some (object.Process p) → slice_index s.balances p.payer + p.purse < 2 ^ 128
+  pub fits : (p : Process) → slice_get s.objects i ≡ Some (object.Process p)
+      → slice_index s.balances p.payer + p.purse < 2 ^ 128
 
 -- the message is there, and its purse can be taken
 pub record MayTake (s : State) (i j purse : ℕ) : Type 0 where

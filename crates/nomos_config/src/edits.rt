@@ -27,7 +27,8 @@ impl Process {
 
 /// The name of a channel of the process at this place.
 pub(crate) fn name_at(objects: &[Object], place: usize, channel: Chan) -> u32
-    ensures { (p : Process) → slice_get objects.now place ≡ Some (Object.Process p) → result ≡ name_or (present_name p channel) }
+    ensures { (p : Process) → slice_get objects.now place ≡ Some (Object.Process p)
+        → result ≡ name_or (present_name p channel) }
 {
     match objects.get(place) {
         Some(Object::Process(p)) => present_name(p, channel).unwrap_or(0),
@@ -38,7 +39,8 @@ pub(crate) fn name_at(objects: &[Object], place: usize, channel: Chan) -> u32
 /// The channel of the process at this place has another name, and the process goes on.
 pub(crate) fn go_on_at(objects: &mut [Object], place: usize, channel: Chan, name: u32, next: CodeId)
     requires { place < length objects.old }
-    ensures { (p : Process) → slice_get objects.old place ≡ Some (Object.Process p) → objects.new ≡ slice_set objects.old place (Object.Process (goes_on p channel name next)) }
+    ensures { (p : Process) → slice_get objects.old place ≡ Some (Object.Process p)
+        → objects.new ≡ slice_set objects.old place (Object.Process (goes_on p channel name next)) }
 {
     if let Object::Process(p) = &mut objects[place] {
         p.go_on(channel, name, next);
@@ -56,7 +58,9 @@ pub(crate) fn receive_at(
 )
     requires place { place < length objects.old }
     requires fits { (p : Process) → slice_get objects.old place ≡ Some (Object.Process p) → p.purse + purse < 2 ^ 128 }
-    ensures { (p : Process) → slice_get objects.old place ≡ Some (Object.Process p) → objects.new ≡ slice_set objects.old place (Object.Process (record (goes_on p channel name next) { purse = p.purse + purse })) }
+    ensures { (p : Process) → slice_get objects.old place ≡ Some (Object.Process p)
+        → objects.new ≡ slice_set objects.old place
+        (Object.Process (record (goes_on p channel name next) { purse = p.purse + purse })) }
 {
     if let Object::Process(p) = &mut objects[place] {
         let purse = p.purse + purse;
@@ -69,7 +73,9 @@ pub(crate) fn receive_at(
 pub(crate) fn forget_at(objects: &mut [Object], place: usize, v: VarId, purse: u128, next: CodeId)
     requires place { place < length objects.old }
     requires fits { (p : Process) → slice_get objects.old place ≡ Some (Object.Process p) → p.purse + purse < 2 ^ 128 }
-    ensures { (p : Process) → slice_get objects.old place ≡ Some (Object.Process p) → objects.new ≡ slice_set objects.old place (Object.Process (record p { channels = forgotten p.channels v; purse = p.purse + purse; code = next })) }
+    ensures { (p : Process) → slice_get objects.old place ≡ Some (Object.Process p)
+        → objects.new ≡ slice_set objects.old place
+        (Object.Process (record p { channels = forgotten p.channels v; purse = p.purse + purse; code = next })) }
 {
     if let Object::Process(p) = &mut objects[place] {
         p.channels.forget(v);
@@ -89,7 +95,9 @@ pub(crate) fn bind_at(
     next: CodeId,
 ) -> Result<(), AllocError>
     requires { place < length objects.old }
-    ensures ok { (p : Process) → slice_get objects.old place ≡ Some (Object.Process p) → OnOk result (objects.new ≡ slice_set objects.old place (Object.Process (record p { channels = bound p.channels v name; purse = p.purse - purse; code = next }))) }
+    ensures ok { (p : Process) → slice_get objects.old place ≡ Some (Object.Process p)
+        → OnOk result (objects.new ≡ slice_set objects.old place
+        (Object.Process (record p { channels = bound p.channels v name; purse = p.purse - purse; code = next }))) }
     ensures err { OnErr result (objects.new ≡ objects.old) }
 {
     if let Object::Process(p) = &mut objects[place] {

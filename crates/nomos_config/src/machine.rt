@@ -54,7 +54,8 @@ pub trait Machine {
     fn open_account(&mut self, dths: u128) -> Result<u32, AllocError>
         requires accounts { length (state self.old).balances < 2 ^ 32 - 1 }
         requires gas { gas_of (state self.old) + dths < 2 ^ 96 }
-        ensures ok { IfOk result (λ account. (account ≡ length (state self.old).balances) × (state self.new ≡ opened (state self.old) dths)) }
+        ensures ok { IfOk result (λ account. (account ≡ length (state self.old).balances)
+            × (state self.new ≡ opened (state self.old) dths)) }
         ensures err { OnErr result (state self.new ≡ state self.old) };
 
     /// Adds to an account.
@@ -74,13 +75,18 @@ pub trait Machine {
         payer: u32,
     ) -> Result<u32, AllocError>
         requires declared { p.0 < length accepted.now.program.procs }
-        requires mode { (d : ProcDecl) → slice_get accepted.now.program.procs p.0 ≡ Some d → (d.mode ≡ Mode.S) ⊎ (d.mode ≡ Mode.T) }
-        requires fits { (d : ProcDecl) → slice_get accepted.now.program.procs p.0 ≡ Some d → Fits d values.now names.now }
+        requires mode { (d : ProcDecl) → slice_get accepted.now.program.procs p.0 ≡ Some d
+            → (d.mode ≡ Mode.S) ⊎ (d.mode ≡ Mode.T) }
+        requires fits { (d : ProcDecl) → slice_get accepted.now.program.procs p.0 ≡ Some d
+            → Fits d values.now names.now }
         requires payer { payer < length (state self.old).balances }
-        requires balance { (d : ProcDecl) → slice_get accepted.now.program.procs p.0 ≡ Some d → dths accepted.now.annotations d.amount ≤ slice_index (state self.old).balances payer }
+        requires balance { (d : ProcDecl) → slice_get accepted.now.program.procs p.0 ≡ Some d
+            → dths accepted.now.annotations d.amount ≤ slice_index (state self.old).balances payer }
         requires room { HasRoom (state self.old) }
         requires gas { HasLittleGas (state self.old) }
-        ensures ok { IfOk result (λ pid. (pid ≡ (state self.old).next_object) × ((d : ProcDecl) → slice_get accepted.now.program.procs p.0 ≡ Some d → state self.new ≡ started accepted.now.annotations (state self.old) d payer)) }
+        ensures ok { IfOk result (λ pid. (pid ≡ (state self.old).next_object)
+            × ((d : ProcDecl) → slice_get accepted.now.program.procs p.0 ≡ Some d
+            → state self.new ≡ started accepted.now.annotations (state self.old) d payer)) }
         ensures err { OnErr result (state self.new ≡ state self.old) };
 
     /// Forgets what was emitted. It takes no memory.

@@ -175,7 +175,8 @@ fn spawn_move(
     args: &Args,
     next: CodeId,
 ) -> Option<Move>
-    ensures { result ≡ option_and_then (spawn_of accepted.now p.now variable args.now next) (slice_get accepted.now.program.procs f.0) }
+    ensures { result ≡ option_and_then (spawn_of accepted.now p.now variable args.now next)
+        (slice_get accepted.now.program.procs f.0) }
 {
     let procs = accepted.program().lists().procs.as_slice();
     let d = procs.get(f.0 as usize)?;

@@ -62,7 +62,12 @@ fn drop_unmentioned(objects: &[Object], types: &mut Vec<(u32, TypeId)>)
 impl Parts {
     /// Puts an object and the type of a fresh name at the end. Want of memory changes nothing.
     pub(crate) fn add(&mut self, object: Object, named: (u32, TypeId)) -> Result<(), AllocError>
-        ensures ok { OnOk result (state_of self.new ≡ record (state_of self.old) { objects = self.old.objects.items ++ object ∷ []; types = self.old.types.items ++ named ∷ [] }) }
+        ensures ok { OnOk result (state_of self.new
+            ≡ record (state_of self.old) {
+              objects = self.old.objects.items ++ object ∷ [];
+              types = self.old.types.items
+                  ++ named ∷ [];
+            }) }
         ensures err { OnErr result (state_of self.new ≡ state_of self.old) }
     {
         self.types.push(named)?;
@@ -77,7 +82,8 @@ impl Parts {
     /// Counts an object and a name that were added.
     pub(crate) fn count_both(&mut self)
         requires room { HasRoom (state_of self.old) }
-        ensures { state_of self.new ≡ record (state_of self.old) { next_object = self.old.next_object + 1; next_name = self.old.next_name + 1 } }
+        ensures { state_of self.new ≡ record (state_of self.old)
+            { next_object = self.old.next_object + 1; next_name = self.old.next_name + 1 } }
     {
         self.next_object += 1;
         self.next_name += 1;
@@ -87,7 +93,10 @@ impl Parts {
     fn take_back(&mut self)
         requires objects { 0 < length self.old.objects.items }
         requires types { 0 < length self.old.types.items }
-        ensures { state_of self.new ≡ record (state_of self.old) { objects = take (length self.old.objects.items - 1) self.old.objects.items; types = take (length self.old.types.items - 1) self.old.types.items } }
+        ensures { state_of self.new ≡ record (state_of self.old) {
+          objects = take (length self.old.objects.items - 1) self.old.objects.items;
+          types = take (length self.old.types.items - 1) self.old.types.items;
+        } }
     {
         self.objects.truncate(self.objects.len() - 1);
         self.types.truncate(self.types.len() - 1);
@@ -96,7 +105,9 @@ impl Parts {
     // The channel of the process at this place has another name, and the process goes on.
     fn go_on(&mut self, place: usize, channel: Chan, name: u32, next: CodeId)
         requires { place < length self.old.objects.items }
-        ensures gone { (p : Process) → slice_get self.old.objects.items place ≡ Some (Object.Process p) → state_of self.new ≡ record (state_of self.old) { objects = slice_set self.old.objects.items place (Object.Process (goes_on p channel name next)) } }
+        ensures gone { (p : Process) → slice_get self.old.objects.items place ≡ Some (Object.Process p)
+            → state_of self.new ≡ record (state_of self.old)
+            { objects = slice_set self.old.objects.items place (Object.Process (goes_on p channel name next)) } }
         ensures counts { (self.new.next_object ≡ self.old.next_object) × (self.new.next_name ≡ self.old.next_name) }
     {
         go_on_at(&mut self.objects, place, channel, name, next);
@@ -111,7 +122,15 @@ impl Parts {
         next: CodeId,
     ) -> Result<(), AllocError>
         requires { place < length self.old.objects.items }
-        ensures ok { (p : Process) → slice_get self.old.objects.items place ≡ Some (Object.Process p) → OnOk result (state_of self.new ≡ record (state_of self.old) { objects = slice_set self.old.objects.items place (Object.Process (record p { channels = bound p.channels variable self.old.next_name; purse = p.purse - purse; code = next })) }) }
+        ensures ok { (p : Process) → slice_get self.old.objects.items place ≡ Some (Object.Process p)
+            → OnOk result (state_of self.new ≡ record (state_of self.old) {
+              objects = slice_set self.old.objects.items place
+                  (Object.Process (record p {
+                    channels = bound p.channels variable self.old.next_name;
+                    purse = p.purse - purse;
+                    code = next;
+                  }));
+            }) }
         ensures counts { (self.new.next_object ≡ self.old.next_object) × (self.new.next_name ≡ self.old.next_name) }
         ensures err { OnErr result (state_of self.new ≡ state_of self.old) }
     {
@@ -131,7 +150,9 @@ impl Parts {
     ) -> Result<(), AllocError>
         requires room { HasRoom (state_of self.old) }
         requires place { place < length self.old.objects.items }
-        ensures ok { (p : Process) → slice_get self.old.objects.items place ≡ Some (Object.Process p) → OnOk result (state_of self.new ≡ sent (state_of self.old) place p channel (Payload.Label label) goes next) }
+        ensures ok { (p : Process) → slice_get self.old.objects.items place ≡ Some (Object.Process p)
+            → OnOk result (state_of self.new
+            ≡ sent (state_of self.old) place p channel (Payload.Label label) goes next) }
         ensures err { OnErr result (state_of self.new ≡ state_of self.old) }
     {
         let message = Object::Message(Message {
@@ -160,8 +181,10 @@ impl Parts {
     )
         requires place { place < length self.old.objects.items }
         requires message { message < length self.old.objects.items }
-        requires fits { (p : Process) → slice_get self.old.objects.items place ≡ Some (Object.Process p) → p.purse + purse < 2 ^ 128 }
-        ensures { (p : Process) → slice_get self.old.objects.items place ≡ Some (Object.Process p) → state_of self.new ≡ received (state_of self.old) place p channel message name purse next }
+        requires fits { (p : Process) → slice_get self.old.objects.items place ≡ Some (Object.Process p)
+            → p.purse + purse < 2 ^ 128 }
+        ensures { (p : Process) → slice_get self.old.objects.items place ≡ Some (Object.Process p)
+            → state_of self.new ≡ received (state_of self.old) place p channel message name purse next }
     {
         receive_at(&mut self.objects, place, channel, name, purse, next);
         self.objects.remove(message);
@@ -171,8 +194,10 @@ impl Parts {
     fn wait(&mut self, place: usize, variable: VarId, message: usize, purse: u128, next: CodeId)
         requires place { place < length self.old.objects.items }
         requires message { message < length self.old.objects.items }
-        requires fits { (p : Process) → slice_get self.old.objects.items place ≡ Some (Object.Process p) → p.purse + purse < 2 ^ 128 }
-        ensures { (p : Process) → slice_get self.old.objects.items place ≡ Some (Object.Process p) → state_of self.new ≡ waited (state_of self.old) place p variable message purse next }
+        requires fits { (p : Process) → slice_get self.old.objects.items place ≡ Some (Object.Process p)
+            → p.purse + purse < 2 ^ 128 }
+        ensures { (p : Process) → slice_get self.old.objects.items place ≡ Some (Object.Process p)
+            → state_of self.new ≡ waited (state_of self.old) place p variable message purse next }
     {
         forget_at(&mut self.objects, place, variable, purse, next);
         self.objects.remove(message);
@@ -189,7 +214,10 @@ impl Parts {
     ) -> Result<(), AllocError>
         requires room { HasRoom (state_of self.old) }
         requires place { place < length self.old.objects.items }
-        ensures ok { (p : Process) → slice_get self.old.objects.items place ≡ Some (Object.Process p) → child ≡ new_child (state_of self.old) p child.mode child.code child.purse → OnOk result (state_of self.new ≡ spawned (state_of self.old) place p variable child.mode child.code offers child.purse next) }
+        ensures ok { (p : Process) → slice_get self.old.objects.items place ≡ Some (Object.Process p)
+            → child ≡ new_child (state_of self.old) p child.mode child.code child.purse
+            → OnOk result (state_of self.new
+            ≡ spawned (state_of self.old) place p variable child.mode child.code offers child.purse next) }
         ensures err { OnErr result (state_of self.new ≡ state_of self.old) }
     {
         let purse = child.purse;
@@ -238,7 +266,8 @@ impl Parts {
         requires place { place < length self.old.objects.items }
         requires account { account < length self.old.balances.items }
         requires fits { slice_index self.old.balances.items account + purse < 2 ^ 128 }
-        ensures { state_of self.new ≡ credited (record (state_of self.old) { objects = remove self.old.objects.items place }) account purse }
+        ensures { state_of self.new ≡ credited
+            (record (state_of self.old) { objects = remove self.old.objects.items place }) account purse }
     {
         self.objects.remove(place);
         self.pay(account, purse);
@@ -278,7 +307,8 @@ impl Parts {
         requires room { HasRoom (state_of self.old) }
         requires place { place < length self.old.objects.items }
         requires closes { MayClose (state_of self.old) place }
-        ensures ok { (p : Process) → slice_get self.old.objects.items place ≡ Some (Object.Process p) → OnOk result (state_of self.new ≡ ended (state_of self.old) place p.mode p.offers p.payer p.purse) }
+        ensures ok { (p : Process) → slice_get self.old.objects.items place ≡ Some (Object.Process p)
+            → OnOk result (state_of self.new ≡ ended (state_of self.old) place p.mode p.offers p.payer p.purse) }
         ensures err { OnErr result (state_of self.new ≡ state_of self.old) }
     {
         let Some(p) = process_at(&self.objects, place) else {
@@ -290,7 +320,8 @@ impl Parts {
 
     // A process spawned by the one at this place, without arguments.
     fn child(&self, place: usize, mode: Mode, first: CodeId, purse: u128) -> Process
-        ensures child { (p : Process) → slice_get self.now.objects.items place ≡ Some (Object.Process p) → result ≡ new_child (state_of self.now) p mode first purse }
+        ensures child { (p : Process) → slice_get self.now.objects.items place ≡ Some (Object.Process p)
+            → result ≡ new_child (state_of self.now) p mode first purse }
         ensures mode { result.mode ≡ mode }
         ensures code { result.code ≡ first }
         ensures purse { result.purse ≡ purse }
@@ -317,7 +348,8 @@ impl Parts {
         requires room { HasRoom (state_of self.old) }
         requires place { place < length self.old.objects.items }
         requires may { MayMove (state_of self.old) place m }
-        ensures ok { (p : Process) → slice_get self.old.objects.items place ≡ Some (Object.Process p) → OnOk result (state_of self.new ≡ moved (state_of self.old) place p m) }
+        ensures ok { (p : Process) → slice_get self.old.objects.items place ≡ Some (Object.Process p)
+            → OnOk result (state_of self.new ≡ moved (state_of self.old) place p m) }
         ensures err { OnErr result (state_of self.new ≡ state_of self.old) }
     {
         match m {
@@ -370,7 +402,8 @@ impl Parts {
 
     /// Where the process of this number stands, and what it does, if it can fire.
     pub(crate) fn next_move(&self, accepted: &Accepted, pid: u32) -> Option<(usize, Move)>
-        ensures { MatchOption result (step accepted.now (state_of self.now) pid ≡ None) (λ found. Finds accepted.now (state_of self.now) pid found.0 found.1) }
+        ensures { MatchOption result (step accepted.now (state_of self.now) pid ≡ None)
+            (λ found. Finds accepted.now (state_of self.now) pid found.0 found.1) }
     {
         let place = process_place(&self.objects, pid)?;
         let p = process_at(&self.objects, place)?;
@@ -422,7 +455,8 @@ impl Parts {
 
     /// The lowest ready process over a number.
     pub(crate) fn next_ready(&self, accepted: &Accepted, after: u32) -> Option<u32>
-        ensures { MatchOption result (NoneReady accepted.now (state_of self.now) after) (IsNextReady accepted.now (state_of self.now) after) }
+        ensures { MatchOption result (NoneReady accepted.now (state_of self.now) after)
+            (IsNextReady accepted.now (state_of self.now) after) }
     {
         let mut lowest = None;
         for o in &self.objects {
@@ -446,7 +480,8 @@ impl Parts {
     /// Opens an account.
     pub(crate) fn open_account(&mut self, dths: u128) -> Result<u32, AllocError>
         requires { length self.old.balances.items < 2 ^ 32 - 1 }
-        ensures ok { IfOk result (λ account. (account ≡ length self.old.balances.items) × (state_of self.new ≡ opened (state_of self.old) dths)) }
+        ensures ok { IfOk result (λ account. (account ≡ length self.old.balances.items)
+            × (state_of self.new ≡ opened (state_of self.old) dths)) }
         ensures err { OnErr result (state_of self.new ≡ state_of self.old) }
     {
         let account = self.balances.len() as u32;
@@ -459,7 +494,8 @@ impl Parts {
         requires payer { payer < length self.old.balances.items }
         requires balance { purse ≤ slice_index self.old.balances.items payer }
         requires room { HasRoom (state_of self.old) }
-        ensures ok { IfOk result (λ pid. (pid ≡ self.old.next_object) × (state_of self.new ≡ started_with (state_of self.old) d.now purse payer)) }
+        ensures ok { IfOk result (λ pid. (pid ≡ self.old.next_object)
+            × (state_of self.new ≡ started_with (state_of self.old) d.now purse payer)) }
         ensures err { OnErr result (state_of self.new ≡ state_of self.old) }
     {
         let pid = self.next_object;

@@ -24,17 +24,22 @@ none_broken (Some k) x y e = cc
 
 -- an early end
 pub stop_answers : (tree : FileTree) (e : ElabError) → Stops e (check_lists tree) → Answers tree (Err e)
-stop_answers tree (error.Name at) h = broken_at (first_broken (claims_of tree)) (program_of tree) at (sym (lists_law tree) ∙ h)
+stop_answers tree (error.Name at) h =
+    broken_at (first_broken (claims_of tree)) (program_of tree) at (sym (lists_law tree) ∙ h)
 stop_answers tree (error.Cost at) h = absurd h
 stop_answers tree error.NoMemory h = tt
 
 -- lists that were found
-pub found_lists : (tree : FileTree) (lists : ProgramLists) → check_lists tree ≡ found lists → ObeysNames tree × (lists ≡ program_of tree)
-found_lists tree lists h = none_broken (first_broken (claims_of tree)) (program_of tree) lists (sym (lists_law tree) ∙ h)
+pub found_lists : (tree : FileTree) (lists : ProgramLists) → check_lists tree ≡ found lists
+    → ObeysNames tree × (lists ≡ program_of tree)
+found_lists tree lists h =
+    none_broken (first_broken (claims_of tree)) (program_of tree) lists (sym (lists_law tree) ∙ h)
 
-pub cost_answers : (tree : FileTree) (lists : ProgramLists) (work : Option ℕ) (at : ℕ) → check_lists tree ≡ found lists → work ≡ written_work tree → work ≡ Some at → Answers tree (Err (error.Cost at))
+pub cost_answers : (tree : FileTree) (lists : ProgramLists) (work : Option ℕ) (at : ℕ) → check_lists tree ≡ found lists
+    → work ≡ written_work tree → work ≡ Some at → Answers tree (Err (error.Cost at))
 cost_answers tree lists work at h w s = record { names = (found_lists tree lists h).0; work = sym w ∙ s }
 
-pub lists_answer : (tree : FileTree) (lists : ProgramLists) (work : Option ℕ) → check_lists tree ≡ found lists → work ≡ written_work tree → work ≡ None → Answers tree (Ok lists)
+pub lists_answer : (tree : FileTree) (lists : ProgramLists) (work : Option ℕ) → check_lists tree ≡ found lists
+    → work ≡ written_work tree → work ≡ None → Answers tree (Ok lists)
 lists_answer tree lists work h w s =
     record { names = (found_lists tree lists h).0; costs = sym w ∙ s; program = (found_lists tree lists h).1 }

@@ -17,7 +17,8 @@ abbrev tested : Bool → ℕ → Checked (Unit {0})
 tested b at = if b then found tt else broken at
 
 -- a claim and what goes on where it holds
-pub demand-then : {B : Type 0} (c : Claim) (more : List Claim) (f : Unit {0} → Checked B) (y : B) → (c.holds ≡ true → f tt ≡ where_all_hold more y) → (demand c >>= f) ≡ where_all_hold (c ∷ more) y
+pub demand-then : {B : Type 0} (c : Claim) (more : List Claim) (f : Unit {0} → Checked B) (y : B)
+    → (c.holds ≡ true → f tt ≡ where_all_hold more y) → (demand c >>= f) ≡ where_all_hold (c ∷ more) y
 demand-then {B} c more f y h = by c.holds refl
   where
     by : (b : Bool) → c.holds ≡ b → (tested b c.at >>= f) ≡ unless_broken (if b then first_broken more else Some c.at) y
@@ -26,15 +27,19 @@ demand-then {B} c more f y h = by c.holds refl
 
 -- claims, and what goes on where they hold
 module _ {A B : Type 0} (x : A) (f : A → Checked B) (more : List Claim) (y : B) where
-  held-then : (claims : List Claim) → f x ≡ where_all_hold more y → (where_all_hold claims x >>= f) ≡ where_all_hold (claims ++ more) y
+  held-then : (claims : List Claim) → f x ≡ where_all_hold more y
+      → (where_all_hold claims x >>= f) ≡ where_all_hold (claims ++ more) y
   held-then [] h = h
   held-then (c ∷ claims) h = by c.holds (held-then claims h)
     where
-      by : (b : Bool) → (where_all_hold claims x >>= f) ≡ where_all_hold (claims ++ more) y → (unless_broken (if b then first_broken claims else Some c.at) x >>= f) ≡ unless_broken (if b then first_broken (claims ++ more) else Some c.at) y
+      by : (b : Bool) → (where_all_hold claims x >>= f) ≡ where_all_hold (claims ++ more) y
+          → (unless_broken (if b then first_broken claims else Some c.at) x >>= f)
+          ≡ unless_broken (if b then first_broken (claims ++ more) else Some c.at) y
       by true ih = ih
       by false ih = refl
 
-  pub law-then : (c : Checked A) (claims : List Claim) → c ≡ where_all_hold claims x → f x ≡ where_all_hold more y → (c >>= f) ≡ where_all_hold (claims ++ more) y
+  pub law-then : (c : Checked A) (claims : List Claim) → c ≡ where_all_hold claims x → f x ≡ where_all_hold more y
+      → (c >>= f) ≡ where_all_hold (claims ++ more) y
   law-then c claims e h = ap (λ d. d >>= f) e ∙ held-then claims h
 
 -- claims, and what is made where they hold
@@ -43,20 +48,26 @@ module _ {A B : Type 0} (x : A) (f : A → Checked B) (y : B) where
   held-last [] h = h
   held-last (c ∷ claims) h = by c.holds (held-last claims h)
     where
-      by : (b : Bool) → (where_all_hold claims x >>= f) ≡ where_all_hold claims y → (unless_broken (if b then first_broken claims else Some c.at) x >>= f) ≡ unless_broken (if b then first_broken claims else Some c.at) y
+      by : (b : Bool) → (where_all_hold claims x >>= f) ≡ where_all_hold claims y
+          → (unless_broken (if b then first_broken claims else Some c.at) x >>= f)
+          ≡ unless_broken (if b then first_broken claims else Some c.at) y
       by true ih = ih
       by false ih = refl
 
-  pub law-last : (c : Checked A) (claims : List Claim) → c ≡ where_all_hold claims x → f x ≡ found y → (c >>= f) ≡ where_all_hold claims y
+  pub law-last : (c : Checked A) (claims : List Claim) → c ≡ where_all_hold claims x → f x ≡ found y
+      → (c >>= f) ≡ where_all_hold claims y
   law-last c claims e h = ap (λ d. d >>= f) e ∙ held-last claims h
 
 -- a binder that is not bound yet
-pub new-then : {B : Type 0} (w : Elaborator) (n : NameAt) (more : List Claim) (f : Elaborator × VarId → Checked B) (y : B)
+pub new-then : {B : Type 0} (w : Elaborator) (n : NameAt) (more : List Claim) (f : Elaborator × VarId → Checked B)
+    (y : B)
     → (is_unbound (sort_of w.scope n.name) ≡ true → f (made w (variable_seen w.built n)) ≡ where_all_hold more y)
     → (check_new w n >>= f) ≡ where_all_hold (new_on_way w.scope n ∷ more) y
 new-then {B} w n more f y h = by (is_unbound (sort_of w.scope n.name)) refl
   where
-    by : (b : Bool) → is_unbound (sort_of w.scope n.name) ≡ b → ((tested b n.at >>= (λ u. found (made w (variable_seen w.built n)))) >>= f) ≡ unless_broken (if b then first_broken more else Some n.at) y
+    by : (b : Bool) → is_unbound (sort_of w.scope n.name) ≡ b
+        → ((tested b n.at >>= (λ u. found (made w (variable_seen w.built n)))) >>= f)
+        ≡ unless_broken (if b then first_broken more else Some n.at) y
     by true e = h e
     by false e = refl
 
@@ -64,21 +75,27 @@ new-then {B} w n more f y h = by (is_unbound (sort_of w.scope n.name)) refl
 abbrev pub now_bound : Elaborator → NameAt → Sort → Elaborator × VarId
 now_bound w n s = (bound (made w (variable_seen w.built n)).0 n s, (variable_seen w.built n).1)
 
-pub bind-then : {B : Type 0} (w : Elaborator) (n : NameAt) (s : Sort) (more : List Claim) (f : Elaborator × VarId → Checked B) (y : B)
+pub bind-then : {B : Type 0} (w : Elaborator) (n : NameAt) (s : Sort) (more : List Claim)
+    (f : Elaborator × VarId → Checked B) (y : B)
     → (is_unbound (sort_of w.scope n.name) ≡ true → f (now_bound w n s) ≡ where_all_hold more y)
     → (check_bind w n s >>= f) ≡ where_all_hold (new_on_way w.scope n ∷ more) y
 bind-then {B} w n s more f y h = by (is_unbound (sort_of w.scope n.name)) refl
   where
-    by : (b : Bool) → is_unbound (sort_of w.scope n.name) ≡ b → (((tested b n.at >>= (λ u. found (made w (variable_seen w.built n)))) >>= (λ v. found (bound v.0 n s, v.1))) >>= f) ≡ unless_broken (if b then first_broken more else Some n.at) y
+    by : (b : Bool) → is_unbound (sort_of w.scope n.name) ≡ b
+        → (((tested b n.at >>= (λ u. found (made w (variable_seen w.built n)))) >>= (λ v. found (bound v.0 n s, v.1)))
+        >>= f) ≡ unless_broken (if b then first_broken more else Some n.at) y
     by true e = h e
     by false e = refl
 
 -- a new name is bound at the end
-pub bind-end : (scope : Scope) (n : NameAt) (s : Sort) → is_unbound (sort_of scope n.name) ≡ true → bind scope n s ≡ scope ++ (n.name, s) ∷ []
+pub bind-end : (scope : Scope) (n : NameAt) (s : Sort) → is_unbound (sort_of scope n.name) ≡ true
+    → bind scope n s ≡ scope ++ (n.name, s) ∷ []
 bind-end [] n s h = refl
 bind-end (b ∷ scope) n s h = by (bytes_eq b.0 n.name) h (bind-end scope n s)
   where
-    by : (e : Bool) → is_unbound (if e then Some b.1 else sort_of scope n.name) ≡ true → (is_unbound (sort_of scope n.name) ≡ true → bind scope n s ≡ scope ++ (n.name, s) ∷ []) → (if e then (b.0, s) ∷ scope else b ∷ bind scope n s) ≡ b ∷ scope ++ (n.name, s) ∷ []
+    by : (e : Bool) → is_unbound (if e then Some b.1 else sort_of scope n.name) ≡ true
+        → (is_unbound (sort_of scope n.name) ≡ true → bind scope n s ≡ scope ++ (n.name, s) ∷ [])
+        → (if e then (b.0, s) ∷ scope else b ∷ bind scope n s) ≡ b ∷ scope ++ (n.name, s) ∷ []
     by true k ih = cc
     by false k ih = ap (λ r. b ∷ r) (ih k)
 
@@ -99,7 +116,8 @@ bounds-none scope = record { more = []; is = sym (nothing scope) }
     nothing [] = refl
     nothing (b ∷ s) = ap (λ r. b ∷ r) (nothing s)
 
-pub bounds-bind : (scope inner : Scope) (n : NameAt) (s : Sort) → Bounds scope inner → is_unbound (sort_of inner n.name) ≡ true → Bounds scope (bind inner n s)
+pub bounds-bind : (scope inner : Scope) (n : NameAt) (s : Sort) → Bounds scope inner
+    → is_unbound (sort_of inner n.name) ≡ true → Bounds scope (bind inner n s)
 bounds-bind scope inner n s e h =
     record {
       more = e.more ++ (n.name, s) ∷ [];
@@ -114,5 +132,6 @@ pub bounds-kept : (scope inner : Scope) → Bounds scope inner → take (length 
 bounds-kept scope inner e = ap (take (length scope)) e.is ∙ take-front scope e.more
 
 -- three claims in a row
-pub grouped-law : {A : Type 0} (a b c : List Claim) (y : A) → where_all_hold (a ++ (b ++ c)) y ≡ where_all_hold ((a ++ b) ++ c) y
+pub grouped-law : {A : Type 0} (a b c : List Claim) (y : A)
+    → where_all_hold (a ++ (b ++ c)) y ≡ where_all_hold ((a ++ b) ++ c) y
 grouped-law a b c y = ap (λ claims. where_all_hold claims y) (sym (append_assoc a b c))

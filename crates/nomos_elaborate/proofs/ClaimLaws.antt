@@ -27,7 +27,8 @@ pub left_hold : (a b : List Claim) → AllHold (a ++ b) → AllHold a
 left_hold [] b h = refl
 left_hold (c ∷ a) b h = by c.holds h (left_hold a b)
   where
-    by : (t : Bool) → (if t then first_broken (a ++ b) else Some c.at) ≡ None → (AllHold (a ++ b) → AllHold a) → (if t then first_broken a else Some c.at) ≡ None
+    by : (t : Bool) → (if t then first_broken (a ++ b) else Some c.at) ≡ None → (AllHold (a ++ b) → AllHold a)
+        → (if t then first_broken a else Some c.at) ≡ None
     by true e ih = ih e
     by false e ih = cc
 
@@ -37,13 +38,19 @@ right_hold (c ∷ a) b h = right_hold a b (rest_hold c (a ++ b) h)
 
 -- what goes on may rest on the claims before it
 module _ {A B : Type 0} (x : A) (f : A → Checked B) (more : List Claim) (y : B) where
-  held-knowing : (claims : List Claim) → (AllHold claims → f x ≡ where_all_hold more y) → (where_all_hold claims x >>= f) ≡ where_all_hold (claims ++ more) y
+  held-knowing : (claims : List Claim) → (AllHold claims → f x ≡ where_all_hold more y)
+      → (where_all_hold claims x >>= f) ≡ where_all_hold (claims ++ more) y
   held-knowing [] h = h refl
   held-knowing (c ∷ claims) h = by c.holds h (held-knowing claims)
     where
-      by : (b : Bool) → ((if b then first_broken claims else Some c.at) ≡ None → f x ≡ where_all_hold more y) → ((AllHold claims → f x ≡ where_all_hold more y) → (where_all_hold claims x >>= f) ≡ where_all_hold (claims ++ more) y) → (unless_broken (if b then first_broken claims else Some c.at) x >>= f) ≡ unless_broken (if b then first_broken (claims ++ more) else Some c.at) y
+      by : (b : Bool) → ((if b then first_broken claims else Some c.at) ≡ None → f x ≡ where_all_hold more y)
+          → ((AllHold claims → f x ≡ where_all_hold more y)
+          → (where_all_hold claims x >>= f) ≡ where_all_hold (claims ++ more) y)
+          → (unless_broken (if b then first_broken claims else Some c.at) x >>= f)
+          ≡ unless_broken (if b then first_broken (claims ++ more) else Some c.at) y
       by true k ih = ih k
       by false k ih = refl
 
-  pub law-knowing : (c : Checked A) (claims : List Claim) → c ≡ where_all_hold claims x → (AllHold claims → f x ≡ where_all_hold more y) → (c >>= f) ≡ where_all_hold (claims ++ more) y
+  pub law-knowing : (c : Checked A) (claims : List Claim) → c ≡ where_all_hold claims x
+      → (AllHold claims → f x ≡ where_all_hold more y) → (c >>= f) ≡ where_all_hold (claims ++ more) y
   law-knowing c claims e h = ap (λ d. d >>= f) e ∙ held-knowing claims h

@@ -31,20 +31,24 @@ use Rattle.nomos_surface.specs.Tree.{StepTree, CodeTree, code, LastTree, close, 
 -- what is built behind steps, and their nodes before no code
 abbrev built_behind : Spaces → Scope → Built → List StepTree → Built
 built_behind spaces scope s [] = s
-built_behind spaces scope s (step ∷ steps) = built_behind spaces (scope_after scope step) (build_step spaces scope s step).0 steps
+built_behind spaces scope s (step ∷ steps) =
+    built_behind spaces (scope_after scope step) (build_step spaces scope s step).0 steps
 
 abbrev step_nodes : Spaces → Scope → Built → List StepTree → List CodeNode
 step_nodes spaces scope s [] = []
 step_nodes spaces scope s (step ∷ steps) =
-    (build_step spaces scope s step).1 no_code ∷ step_nodes spaces (scope_after scope step) (build_step spaces scope s step).0 steps
+    (build_step spaces scope s step).1 no_code ∷
+    step_nodes spaces (scope_after scope step) (build_step spaces scope s step).0 steps
 
 abbrev after_steps : Elaborator → List StepTree → Elaborator
-after_steps w steps = record w { scope = scope_behind w.scope steps; built = built_behind w.spaces w.scope w.built steps }
+after_steps w steps =
+    record w { scope = scope_behind w.scope steps; built = built_behind w.spaces w.scope w.built steps }
 
 abbrev steps_built : Elaborator → List StepTree → Elaborator × List CodeNode
 steps_built w steps = (after_steps w steps, step_nodes w.spaces w.scope w.built steps)
 
-steps_law : (w : Elaborator) (steps : List StepTree) → each check_step w steps ≡ where_all_hold (steps_claims (place_of w) w.scope steps) (steps_built w steps)
+steps_law : (w : Elaborator) (steps : List StepTree)
+    → each check_step w steps ≡ where_all_hold (steps_claims (place_of w) w.scope steps) (steps_built w steps)
 unfolding each
 steps_law w [] = refl
 steps_law w (s ∷ steps) =
@@ -58,7 +62,8 @@ bounds-more : (a b c : Scope) → Bounds a b → Bounds b c → Bounds a c
 bounds-more a b c f g =
     record { more = f.more ++ g.more; is = g.is ∙ ap (λ r. r ++ g.more) f.is ∙ append_assoc a f.more g.more }
 
-steps_bounds : (place : Place) (scope : Scope) (steps : List StepTree) → AllHold (steps_claims place scope steps) → Bounds scope (scope_behind scope steps)
+steps_bounds : (place : Place) (scope : Scope) (steps : List StepTree) → AllHold (steps_claims place scope steps)
+    → Bounds scope (scope_behind scope steps)
 steps_bounds place scope [] h = bounds-none scope
 steps_bounds place scope (s ∷ steps) h =
     let more = steps_claims place (scope_after scope s) steps in
@@ -67,8 +72,10 @@ steps_bounds place scope (s ∷ steps) h =
     (steps_bounds place (scope_after scope s) steps (right_hold (step_claims place scope s) more h))
 
 -- steps before what was built behind them
-steps_put : (model : CostModel) (spaces : Spaces) (scope : Scope) (s : Built) (steps : List StepTree) (last : Scope → Built → Built × CodeId)
-    → put_before model (step_nodes spaces scope s steps) (last (scope_behind scope steps) (built_behind spaces scope s steps)) ≡ build_steps model spaces scope s steps last
+steps_put : (model : CostModel) (spaces : Spaces) (scope : Scope) (s : Built) (steps : List StepTree)
+    (last : Scope → Built → Built × CodeId)
+    → put_before model (step_nodes spaces scope s steps)
+    (last (scope_behind scope steps) (built_behind spaces scope s steps)) ≡ build_steps model spaces scope s steps last
 steps_put model spaces scope s [] last = refl
 steps_put model spaces scope s (step ∷ steps) last =
     let made = build_step spaces scope s step in
@@ -93,25 +100,39 @@ arms_built v arms =
     ((record v.0 { built = b.0 }, labels_behind v.1 arms), b.1)
 
 -- a branch whose code gives what it is to give
-arm_law : (goes : Elaborator → Checked (Elaborator × CodeId)) (v : Labelled) (l : NameAt) (claims : List Claim) (b : Elaborator × CodeId)
+arm_law : (goes : Elaborator → Checked (Elaborator × CodeId)) (v : Labelled) (l : NameAt) (claims : List Claim)
+    (b : Elaborator × CodeId)
     → goes (made v.0 (label_seen v.0.built l)).0 ≡ where_all_hold claims b
-    → check_arm goes v l ≡ where_all_hold (new_among v.1 l ∷ claims) (the_arm b (seen v.1 l.name) (label_seen v.0.built l).1)
+    → check_arm goes v l ≡ where_all_hold (new_among v.1 l ∷ claims)
+    (the_arm b (seen v.1 l.name) (label_seen v.0.built l).1)
 arm_law goes v l claims b e = demand-then (new_among v.1 l) claims _ _ (λ h. law-last b _ _ _ claims e refl)
 
 mutual
   unfolding check_code check_last check_arms code_claims last_claims arm_claims build_code build_last build_arms
 
-  pub code_law : (w : Elaborator) (c : CodeTree) → check_code w c ≡ where_all_hold (code_claims (place_of w) w.scope c) (made w (build_code w.model w.spaces w.scope w.built c))
+  pub code_law : (w : Elaborator) (c : CodeTree)
+      → check_code w c ≡ where_all_hold (code_claims (place_of w) w.scope c)
+      (made w (build_code w.model w.spaces w.scope w.built c))
   code_law w (code steps last) =
       let v = after_steps w steps in
       let claims = last_claims (place_of w) v.scope last in
       let whole = code_built w (code steps last) in
-      let put = steps_put w.model w.spaces w.scope w.built steps (λ inner made. build_last w.model w.spaces inner made last) in
-      law-knowing (steps_built w steps) _ claims whole _ (steps_claims (place_of w) w.scope steps) (steps_law w steps) (λ h.
+      let put = steps_put w.model w.spaces w.scope w.built steps
+      (λ inner made. build_last w.model w.spaces inner made last) in
+      law-knowing (steps_built w steps) _ claims whole _ (steps_claims (place_of w) w.scope steps) (steps_law w steps)
+      (λ h.
       law-last (last_built v last) _ whole _ claims (last_law v last)
-      (λ i. found (record w { scope = bounds-kept w.scope v.scope (steps_bounds (place_of w) w.scope steps h) i; built = (put i).0 }, (put i).1)))
+      (λ i. found (
+        record w {
+          scope = bounds-kept w.scope v.scope (steps_bounds (place_of w) w.scope steps h) i;
+          built = (put i).0;
+        },
+        (put i).1,
+      )))
 
-  last_law : (w : Elaborator) (l : LastTree) → check_last w l ≡ where_all_hold (last_claims (place_of w) w.scope l) (made w (build_last w.model w.spaces w.scope w.built l))
+  last_law : (w : Elaborator) (l : LastTree)
+      → check_last w l ≡ where_all_hold (last_claims (place_of w) w.scope l)
+      (made w (build_last w.model w.spaces w.scope w.built l))
   last_law w (close at) = refl
   last_law w (fwd at x) = law-last (variable_id w.built x) _ _ _ (bound_channel w.scope x ∷ []) (channel_law w x) refl
   last_law w (calling at f arguments) =
@@ -145,9 +166,17 @@ mutual
       (bind-then u head sort.Value (new_on_way (bind w.scope head sort.Value) tail ∷ inner) _ whole (λ g.
       bind-then one tail sort.List inner _ whole (λ h.
       law-last (code_built two more) _ whole _ inner (code_law two more)
-      (λ i. found (record whole.0 { scope = bounds-kept w.scope two.scope (bounds-bind w.scope one.scope tail sort.List (bounds-bind w.scope w.scope head sort.Value (bounds-none w.scope) g) h) i }, whole.1))))))
+      (λ i. found (
+        record whole.0 {
+          scope = bounds-kept w.scope two.scope
+              (bounds-bind w.scope one.scope tail sort.List
+              (bounds-bind w.scope w.scope head sort.Value (bounds-none w.scope) g) h) i;
+        },
+        whole.1,
+      ))))))
 
-  arms_law : (v : Labelled) (arms : ArmTrees) → check_arms v arms ≡ where_all_hold (arm_claims (place_of v.0) v.0.scope v.1 arms) (arms_built v arms)
+  arms_law : (v : Labelled) (arms : ArmTrees)
+      → check_arms v arms ≡ where_all_hold (arm_claims (place_of v.0) v.0.scope v.1 arms) (arms_built v arms)
   arms_law v no_arms = refl
   arms_law v (arm l goes arms) =
       let place = place_of v.0 in

@@ -39,26 +39,31 @@ use Rattle.nomos_surface.specs.declared.surface.CostModel.{CostModel}
 use Rattle.nomos_surface.specs.Tree.{ChanParTree, DeclTree, definition, function, process, transaction, FileTree}
 
 -- parameters of functions
-value_pars-makes : (s : Built) (pars : List ValuePar) → Makes (Each KeepsValuePar pars) s (in_each in_value_par pars) (build_value_pars s pars).0
+value_pars-makes : (s : Built) (pars : List ValuePar)
+    → Makes (Each KeepsValuePar pars) s (in_each in_value_par pars) (build_value_pars s pars).0
 value_pars-makes s [] = makes-nothing _ s
 value_pars-makes s (p ∷ pars) =
     makes-within (omega arith) (omega arith)
     (makes-both (makes-variable (KeepsValuePar p) s p.name) (value_pars-makes (with_variable s p.name) pars))
 
-value_pars-keep : (s : Built) (pars : List ValuePar) → Each KeepsValuePar pars → All (λ par. IsShallow par.1) (build_value_pars s pars).1
+value_pars-keep : (s : Built) (pars : List ValuePar) → Each KeepsValuePar pars
+    → All (λ par. IsShallow par.1) (build_value_pars s pars).1
 value_pars-keep s [] k = All-nil (λ (par : VarId × Kind). IsShallow par.1)
 value_pars-keep s (p ∷ pars) k =
     let bound = with_variable s p.name in
-    All-cons (λ (par : VarId × Kind). IsShallow par.1) (variable_id bound p.name, kind_of p.value) (build_value_pars bound pars).1
+    All-cons (λ (par : VarId × Kind). IsShallow par.1) (variable_id bound p.name, kind_of p.value)
+    (build_value_pars bound pars).1
     k.0.1 (value_pars-keep bound pars k.1)
 
 -- the amount of a list parameter
-par_amount-makes : (s : Built) (q : Option ListPotential) → Makes (KeepsListPotential q) s (in_list_potential q) (par_amount s q).0
+par_amount-makes : (s : Built) (q : Option ListPotential)
+    → Makes (KeepsListPotential q) s (in_list_potential q) (par_amount s q).0
 par_amount-makes s None = makes-nothing _ s
 par_amount-makes s (Some q) = makes-within (omega arith) (omega arith) (makes-amount s q.potential)
 
 -- parameters of processes that are no channels
-process_pars-makes : (s : Built) (pars : List ProcessPar) → Makes (Each KeepsPar pars) s (in_each in_par pars) (build_process_pars s pars).0
+process_pars-makes : (s : Built) (pars : List ProcessPar)
+    → Makes (Each KeepsPar pars) s (in_each in_par pars) (build_process_pars s pars).0
 process_pars-makes s [] = makes-nothing _ s
 process_pars-makes s (p ∷ pars) =
     let bound = with_variable s p.name in
@@ -67,20 +72,26 @@ process_pars-makes s (p ∷ pars) =
     (makes-both (makes-variable (KeepsName p.name) s p.name)
     (makes-both (par_amount-makes bound p.list) (process_pars-makes (par_amount bound p.list).0 pars))))
 
-process_pars-shallow : (s : Built) (pars : List ProcessPar) → Each KeepsPar pars → All (λ par. IsShallow par.kind) (build_process_pars s pars).1
+process_pars-shallow : (s : Built) (pars : List ProcessPar) → Each KeepsPar pars
+    → All (λ par. IsShallow par.kind) (build_process_pars s pars).1
 process_pars-shallow s [] k = All-nil (λ (par : Par). IsShallow par.kind)
 process_pars-shallow s (p ∷ pars) k =
     let bound = with_variable s p.name in
     let paid = par_amount bound p.list in
     All-cons (λ (par : Par). IsShallow par.kind)
-    (record { var = variable_id bound p.name; kind = kind_of p.value; amount = paid.1 }) (build_process_pars paid.0 pars).1
+    (record { var = variable_id bound p.name; kind = kind_of p.value; amount = paid.1 })
+    (build_process_pars paid.0 pars).1
     k.0.2 (process_pars-shallow paid.0 pars k.1)
 
-par-small : (s : Built) (q : Option ListPotential) (v : VarId) (kind : Kind) → KeepsListPotential q → (par_amount s q).0.stars ≤ star_limit → All IsAmount (par_amounts (record { var = v; kind = kind; amount = (par_amount s q).1 }))
+par-small : (s : Built) (q : Option ListPotential) (v : VarId) (kind : Kind) → KeepsListPotential q
+    → (par_amount s q).0.stars ≤ star_limit
+    → All IsAmount (par_amounts (record { var = v; kind = kind; amount = (par_amount s q).1 }))
 par-small s None v kind k few = All-nil IsAmount
 par-small s (Some q) v kind k few = all-one IsAmount (amount_of s q.potential).1 (amount-small s q.potential k few)
 
-process_pars-small : (s : Built) (pars : List ProcessPar) → Each KeepsPar pars → (build_process_pars s pars).0.stars ≤ star_limit → All IsAmount (flat_map par_amounts (build_process_pars s pars).1)
+process_pars-small : (s : Built) (pars : List ProcessPar) → Each KeepsPar pars
+    → (build_process_pars s pars).0.stars ≤ star_limit
+    → All IsAmount (flat_map par_amounts (build_process_pars s pars).1)
 process_pars-small s [] k few = All-nil IsAmount
 process_pars-small s (p ∷ pars) k few =
     let bound = with_variable s p.name in
@@ -92,7 +103,8 @@ process_pars-small s (p ∷ pars) k few =
     (process_pars-small paid.0 pars k.1 few)
 
 -- channel parameters
-chan_pars-makes : (types : Names) (s : Built) (pars : List ChanParTree) → Makes (Each KeepsChanPar pars) s (in_each in_chan_par pars) (build_chan_pars types s pars).0
+chan_pars-makes : (types : Names) (s : Built) (pars : List ChanParTree)
+    → Makes (Each KeepsChanPar pars) s (in_each in_chan_par pars) (build_chan_pars types s pars).0
 chan_pars-makes types s [] = makes-nothing _ s
 chan_pars-makes types s (p ∷ pars) =
     let bound = with_variable s p.name in
@@ -106,7 +118,8 @@ potential-makes : (s : Built) (q : Option Potential) → Makes (KeepsOptional q)
 potential-makes s None = makes-nothing _ s
 potential-makes s (Some q) = makes-amount s q
 
-potential-small : (s : Built) (q : Option Potential) → KeepsOptional q → (declared_amount s q).0.stars ≤ star_limit → IsAmount (declared_amount s q).1
+potential-small : (s : Built) (q : Option Potential) → KeepsOptional q → (declared_amount s q).0.stars ≤ star_limit
+    → IsAmount (declared_amount s q).1
 potential-small s None k few = omega arith
 potential-small s (Some q) k few = amount-small s q k few
 
@@ -137,7 +150,8 @@ pub record Declares (Kept : Type 0) (d : Declared) (c : Count) (e : Declared) : 
   pub keeps : Kept → e.built.stars ≤ star_limit → DeclaredKeeps d → DeclaredKeeps e
 
 -- a process is within the limits
-process-keeps : (d : Declared) (p : ProcDecl) (after : Built) → DeclaredKeeps d → ProcKeeps p → BuiltKeeps after → DeclaredKeeps (record d { procs = d.procs ++ p ∷ []; built = after })
+process-keeps : (d : Declared) (p : ProcDecl) (after : Built) → DeclaredKeeps d → ProcKeeps p → BuiltKeeps after
+    → DeclaredKeeps (record d { procs = d.procs ++ p ∷ []; built = after })
 process-keeps d p after h k built = record {
   defs = h.defs;
   fns = h.fns;
@@ -145,13 +159,16 @@ process-keeps d p after h k built = record {
   built = built;
 }
 
-amounts-keep : (values : List Par) (amount : Amount) → All IsAmount (flat_map par_amounts values) → IsAmount amount → All IsAmount (flat_map par_amounts values ++ amount ∷ [])
+amounts-keep : (values : List Par) (amount : Amount) → All IsAmount (flat_map par_amounts values) → IsAmount amount
+    → All IsAmount (flat_map par_amounts values ++ amount ∷ [])
 amounts-keep values amount each own =
     All-append IsAmount (flat_map par_amounts values) (amount ∷ []) each (all-one IsAmount amount own)
 
-decl-declares : (model : CostModel) (all : Spaces) (d : Declared) (decl : DeclTree) → Declares (KeepsDecl decl) d (in_decl decl) (add_decl model all d decl)
+decl-declares : (model : CostModel) (all : Spaces) (d : Declared) (decl : DeclTree)
+    → Declares (KeepsDecl decl) d (in_decl decl) (add_decl model all d decl)
 decl-declares model all d (definition at m n body) =
-    let built : Makes (KeepsDecl (definition at m n body)) d.built (in_decl (definition at m n body)) (build_type all.types d.built body).0 =
+    let built : Makes (KeepsDecl (definition at m n body)) d.built (in_decl (definition at m n body))
+    (build_type all.types d.built body).0 =
     makes-within (omega arith) (omega arith) (makes-under (λ k. k.1) (type-makes all.types d.built body)) in
     let def : Def = record { name = n.name; mode = mode_of m; body = (build_type all.types d.built body).1 } in
     let one = length_push d.defs def in
@@ -168,7 +185,8 @@ decl-declares model all d (definition at m n body) =
 decl-declares model all d (function at n pars gives body) =
     let bound = build_value_pars d.built pars in
     let made = build_term all.functions bound.0 body in
-    let built : Makes (KeepsDecl (function at n pars gives body)) d.built (in_decl (function at n pars gives body)) made.0 =
+    let built : Makes (KeepsDecl (function at n pars gives body)) d.built (in_decl (function at n pars gives body))
+    made.0 =
     makes-within (omega arith) (omega arith)
     (makes-under (λ k. (k.1, k.3))
     (makes-both (value_pars-makes d.built pars) (term-makes all.functions bound.0 body))) in
@@ -196,7 +214,8 @@ decl-declares model all d (process at m n pars potential offers body) =
     let with_amount = potential-makes channels.0 potential in
     let with_offers = type-makes all.types paid.0 offers in
     let with_code = code-makes model all (pars_scope pars) offered.0 body in
-    let built : Makes (KeepsDecl (process at m n pars potential offers body)) d.built (in_decl (process at m n pars potential offers body)) first.0 =
+    let built : Makes (KeepsDecl (process at m n pars potential offers body)) d.built
+    (in_decl (process at m n pars potential offers body)) first.0 =
     makes-within (omega arith) (omega arith)
     (makes-under (λ k. (k.1.0, (k.1.1, (k.2, (k.3, k.4)))))
     (makes-both (process_pars-makes d.built pars.values)
@@ -219,7 +238,9 @@ decl-declares model all d (process at m n pars potential offers body) =
           (record {
             name = k.0;
             kinds = process_pars-shallow d.built pars.values k.1.0;
-            amounts = amounts-keep values.1 paid.1 (process_pars-small d.built pars.values k.1.0 (omega arith)) (potential-small channels.0 potential k.2 (omega arith));
+            amounts =
+                amounts-keep values.1 paid.1 (process_pars-small d.built pars.values k.1.0 (omega arith))
+                (potential-small channels.0 potential k.2 (omega arith));
           })
           (built.keeps k few h.built);
     }
@@ -235,7 +256,8 @@ decl-declares model all d (transaction at n pars potential body) =
     let with_code = code-makes model all (pars_scope pars) paid.0 body in
     let with_one : Makes (Unit {0}) channels.0 (record { nodes = 1; stars = 0 }) offered.0 =
     makes-type (omega arith) (omega arith) (makes-nothing _ channels.0) node.One at (λ k few. plain-type _ refl refl) in
-    let built : Makes (KeepsDecl (transaction at n pars potential body)) d.built (in_decl (transaction at n pars potential body)) first.0 =
+    let built : Makes (KeepsDecl (transaction at n pars potential body)) d.built
+    (in_decl (transaction at n pars potential body)) first.0 =
     makes-within (omega arith) (omega arith)
     (makes-under (λ k. (tt, (k.1.0, (k.1.1, (tt, (k.2, k.3))))))
     (makes-both (makes-names (Unit {0}) d.built (seen d.built.variables (codes "me")))
@@ -259,12 +281,15 @@ decl-declares model all d (transaction at n pars potential body) =
           (record {
             name = k.0;
             kinds = process_pars-shallow payer pars.values k.1.0;
-            amounts = amounts-keep values.1 paid.1 (process_pars-small payer pars.values k.1.0 (omega arith)) (potential-small offered.0 potential k.2 (omega arith));
+            amounts =
+                amounts-keep values.1 paid.1 (process_pars-small payer pars.values k.1.0 (omega arith))
+                (potential-small offered.0 potential k.2 (omega arith));
           })
           (built.keeps k few h.built);
     }
 
-decls-declare : (model : CostModel) (all : Spaces) (d : Declared) (decls : List DeclTree) → Declares (Each KeepsDecl decls) d (in_each in_decl decls) (add_decls model all d decls)
+decls-declare : (model : CostModel) (all : Spaces) (d : Declared) (decls : List DeclTree)
+    → Declares (Each KeepsDecl decls) d (in_each in_decl decls) (add_decls model all d decls)
 decls-declare model all d [] = record { built = makes-nothing _ d.built; many = omega arith; keeps = λ k few h. h }
 decls-declare model all d (decl ∷ decls) =
     let first = decl-declares model all d decl in
@@ -294,7 +319,8 @@ abbrev pub declared_in : FileTree → Declared
 declared_in tree = add_decls (model_of tree.cost) (declaring_all no_names tree.decls) nothing_declared tree.decls
 
 -- the declarations of a tree make no more than counts in it
-pub tree-declares : (tree : FileTree) → Declares (Each KeepsDecl tree.decls) nothing_declared (in_file tree) (declared_in tree)
+pub tree-declares : (tree : FileTree)
+    → Declares (Each KeepsDecl tree.decls) nothing_declared (in_file tree) (declared_in tree)
 tree-declares tree = decls-declare (model_of tree.cost) (declaring_all no_names tree.decls) nothing_declared tree.decls
 
 -- and keep to the limits where the tree does

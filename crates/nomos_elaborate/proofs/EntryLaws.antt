@@ -32,7 +32,8 @@ one-name s (function at n pars gives body) = let e = seen-grows s.functions n.na
 one-name s (process at mode n pars potential offers body) = let e = seen-grows s.processes n.name in omega arith
 one-name s (transaction at n pars potential body) = let e = seen-grows s.processes n.name in omega arith
 
-names-few : (s : Spaces) (decls : List DeclTree) → how_many_names (declaring_all s decls) ≤ how_many_names s + length decls
+names-few : (s : Spaces) (decls : List DeclTree)
+    → how_many_names (declaring_all s decls) ≤ how_many_names s + length decls
 names-few s [] = omega arith
 names-few s (d ∷ decls) =
     let rest = names-few (declaring s d) decls in
@@ -58,7 +59,8 @@ found_same e = cc
 
 -- where the walk begins, all declarations of a tree within the limits may be made
 pub decls-may_be_made : (tree : FileTree) (decls : List DeclTree) (spaces : Spaces) (model : CostModel) (v : Progress)
-    → IsWithinLimits tree → decls ≡ tree.decls → found (declaring_all no_names decls) ≡ found spaces → v ≡ begun spaces model
+    → IsWithinLimits tree → decls ≡ tree.decls → found (declaring_all no_names decls) ≡ found spaces
+    → v ≡ begun spaces model
     → MayMake v.work (in_each in_decl decls)
 decls-may_be_made tree decls spaces model v limits same names begin =
     let nodes : (in_each in_decl decls).nodes ≤ node_limit = rw same limits.nodes in

@@ -294,7 +294,8 @@ unbound =
             ([]);
         channels = (record { name = record { name = codes "a"; at = 11 }; goes = one 14 } ∷ []);
       }) None (one 18)
-          (code ((wait 22 (record { name = codes "a"; at = 27 })) ∷ []) (fwd 30 (record { name = codes "b"; at = 34 }))))
+          (code ((wait 22 (record { name = codes "a"; at = 27 })) ∷ [])
+          (fwd 30 (record { name = codes "b"; at = 34 }))))
           ∷ []);
     }
 
@@ -358,7 +359,8 @@ names_of_match_differ =
         base = base.Int;
         base_at = 19;
       }) (matching 25 (variable (record { name = codes "x"; at = 31 }))
-          (number 42 0) (record { name = codes "h"; at = 46 }) (record { name = codes "h"; at = 51 }) (variable (record {
+          (number 42 0) (record { name = codes "h"; at = 46 }) (record { name = codes "h"; at = 51 })
+          (variable (record {
             name = codes "h";
             at = 56;
           })))) ∷ []);
@@ -555,9 +557,14 @@ lists =
           (record { lists = ([]); base = base.Int; base_at = 86 })) ∷ (longer_list 91 (record {
             name = codes "zs";
             at = 95;
-          }) (binary op.Add 107 (number 105 1) (number 109 2)) (record { name = codes "ys"; at = 112 })) ∷ []) (code_match
+          }) (binary op.Add 107 (number 105 1) (number 109 2)) (record {
+            name =
+                codes "ys";
+            at = 112;
+          })) ∷ []) (code_match
           116 (record { name = codes "zs"; at = 122 }) (code ([]) (close 134)) (record { name = codes "h"; at = 142 })
-          (record { name = codes "t"; at = 147 }) (code ([]) (calling 152 (record { name = codes "p"; at = 157 }) (record
+          (record { name = codes "t"; at = 147 })
+          (code ([]) (calling 152 (record { name = codes "p"; at = 157 }) (record
           { values = ((variable (record { name = codes "t"; at = 159 })) ∷ []); channels = ([]) })))))) ∷ []);
     }
 
@@ -674,7 +681,8 @@ work_under_sends =
             codes "c";
         at = 19;
       }) (choice side.Client 23 (branch (record { name = codes "go"; at = 26 }) (valued
-          side.Provider 35 (record { lists = ([]); base = base.Int; base_at = 31 }) (one 38)) (no_branches)))) ∷ (process
+          side.Provider 35 (record { lists = ([]); base = base.Int; base_at = 31 }) (one 38)) (no_branches)))) ∷
+          (process
           43 offered.R (record { name = codes "p"; at = 50 }) (record {
             values = (record {
               name = record {
@@ -694,7 +702,8 @@ work_under_sends =
             at = 89;
             quantity = quantity.Number 2;
             quantity_at = 90;
-          })) ∷ (put 94 (chan.Own 98) (variable (record { name = codes "v"; at = 103 }))) ∷ []) (close 106)) (no_arms)))))
+          })) ∷ (put 94 (chan.Own 98) (variable (record { name = codes "v"; at = 103 }))) ∷ []) (close 106))
+          (no_arms)))))
           ∷ (process 115 offered.R (record { name = codes "q"; at = 122 }) (record {
             values = ([]);
             channels = (record {
@@ -711,7 +720,8 @@ work_under_sends =
                 "v";
             at = 150;
           })) ∷ (wait 153 (record { name = codes "x"; at = 158 })) ∷ []) (code_if 161 (binary op.Or 170
-          (binary op.Less 166 (variable (record { name = codes "v"; at = 164 })) (number 168 1)) (negation 173 (truth 177
+          (binary op.Less 166 (variable (record { name = codes "v"; at = 164 })) (number 168 1))
+          (negation 173 (truth 177
           true))) (code ([]) (close 184)) (code ([]) (close 199))))) ∷ []);
     }
 
@@ -750,13 +760,17 @@ work_under_sends-program :
           (record { 0 = 1 }) (record { 0 = 2 }) ∷ term_node.Truth 177 true ∷ term_node.Not 173 (record { 0 = 4 }) ∷
           term_node.Or 170 (record { 0 = 3 }) (record { 0 = 5 }) ∷ []);
       code = (node.Close 106 ∷ node.Work 106
-          (amount.Written 1) (record { 0 = 0 }) ∷ node.Put 94 own.Own (record { 0 = 0 }) (record { 0 = 1 }) ∷ node.Work 94
+          (amount.Written 1) (record { 0 = 0 }) ∷ node.Put 94 own.Own (record { 0 = 0 }) (record { 0 = 1 }) ∷
+          node.Work 94
           (amount.Written 1) (record { 0 = 2 }) ∷ node.Work 84 (amount.Written 2) (record { 0 = 3 }) ∷ node.Case 66
           own.Own (record { label = record { 0 = 0 }; goes = record { 0 = 4 } } ∷ []) ∷ node.Close 184 ∷ node.Work 184
           (amount.Written 1) (record { 0 = 6 }) ∷ node.Close 199 ∷ node.Work 199 (amount.Written 1) (record { 0 = 8 }) ∷
-          node.If 161 (record { 0 = 6 }) (record { 0 = 7 }) (record { 0 = 9 }) ∷ node.Wait 153 (record { 0 = 1 }) (record
-          { 0 = 10 }) ∷ node.Take 143 (own.Var (record { 0 = 1 })) (record { 0 = 0 }) (record { 0 = 11 }) ∷ node.Label 137
-          (own.Var (record { 0 = 1 })) (record { 0 = 0 }) (record { 0 = 12 }) ∷ node.Work 137 (amount.Written 1) (record {
+          node.If 161 (record { 0 = 6 }) (record { 0 = 7 }) (record { 0 = 9 }) ∷
+          node.Wait 153 (record { 0 = 1 }) (record
+          { 0 = 10 }) ∷ node.Take 143 (own.Var (record { 0 = 1 })) (record { 0 = 0 }) (record { 0 = 11 }) ∷
+          node.Label 137
+          (own.Var (record { 0 = 1 })) (record { 0 = 0 }) (record { 0 = 12 }) ∷
+          node.Work 137 (amount.Written 1) (record {
             0 = 13;
           }) ∷ []);
       fns = ([]);
@@ -892,7 +906,10 @@ halves-program :
           { 0 = 1 }) (record { 0 = 0 }) ∷ node.Wait 87 (record { 0 = 0 }) (record { 0 = 1 }) ∷ node.Work 77
           (amount.Written 1) (record { 0 = 2 }) ∷ node.Get 66 (own.Var (record { 0 = 1 })) (amount.Star 3) (record {
             0 = 3;
-          }) ∷ node.Get 55 (own.Var (record { 0 = 0 })) (amount.Star 2) (record { 0 = 4 }) ∷ node.Close 148 ∷ node.Pay 134
+          }) ∷ node.Get 55 (own.Var (record { 0 = 0 })) (amount.Star 2) (record {
+            0 =
+                4;
+          }) ∷ node.Close 148 ∷ node.Pay 134
           own.Own (amount.Star 5) (record { 0 = 6 }) ∷ node.Close 234 ∷ node.Wait 226 (record { 0 = 3 }) (record {
             0 = 8;
           }) ∷ node.Spawn 205 (record { 0 = 3 }) (record { 0 = 0 }) (record {

@@ -41,13 +41,15 @@ value_pars_built w pars =
 abbrev value_par_built : Elaborator → ValuePar → Elaborator × (VarId × Kind)
 value_par_built w p = let v = now_bound w p.name sort.Value in (v.0, (v.1, kind_of p.value))
 
-value_pars_law : (w : Elaborator) (pars : List ValuePar) → each check_value_par w pars ≡ where_all_hold (value_pars_claims w.scope pars) (value_pars_built w pars)
+value_pars_law : (w : Elaborator) (pars : List ValuePar)
+    → each check_value_par w pars ≡ where_all_hold (value_pars_claims w.scope pars) (value_pars_built w pars)
 unfolding each
 value_pars_law w [] = refl
 value_pars_law w (p ∷ pars) =
     let v = (value_par_built w p).0 in
     let more = value_pars_claims v.scope pars in
-    law-then (value_par_built w p) _ more _ _ (new_on_way w.scope p.name ∷ []) (bind-then w p.name sort.Value [] _ _ (λ h. refl))
+    law-then (value_par_built w p) _ more _ _ (new_on_way w.scope p.name ∷ [])
+    (bind-then w p.name sort.Value [] _ _ (λ h. refl))
     (law-last (value_pars_built v pars) _ _ _ more (value_pars_law v pars) refl)
 
 -- parameters of processes that are no channels
@@ -62,13 +64,15 @@ process_pars_built w pars =
     let b = build_process_pars w.built pars in
     (record w { scope = process_pars_scope w.scope pars; built = b.0 }, b.1)
 
-process_pars_law : (w : Elaborator) (pars : List ProcessPar) → each check_process_par w pars ≡ where_all_hold (process_pars_claims w.scope pars) (process_pars_built w pars)
+process_pars_law : (w : Elaborator) (pars : List ProcessPar)
+    → each check_process_par w pars ≡ where_all_hold (process_pars_claims w.scope pars) (process_pars_built w pars)
 unfolding each
 process_pars_law w [] = refl
 process_pars_law w (p ∷ pars) =
     let v = (process_par_built w p).0 in
     let more = process_pars_claims v.scope pars in
-    law-then (process_par_built w p) _ more _ _ (new_on_way w.scope p.name ∷ []) (bind-then w p.name (par_sort p.list) [] _ _ (λ h. refl))
+    law-then (process_par_built w p) _ more _ _ (new_on_way w.scope p.name ∷ [])
+    (bind-then w p.name (par_sort p.list) [] _ _ (λ h. refl))
     (law-last (process_pars_built v pars) _ _ _ more (process_pars_law v pars) refl)
 
 -- channel parameters
@@ -83,20 +87,25 @@ chan_pars_built w pars =
     let b = build_chan_pars w.spaces.types w.built pars in
     (record w { scope = chan_pars_scope w.scope pars; built = b.0 }, b.1)
 
-chan_par_law : (w : Elaborator) (p : ChanParTree) → check_chan_par w p ≡ where_all_hold (new_on_way w.scope p.name ∷ type_claims w.spaces.types p.goes) (chan_par_built w p)
+chan_par_law : (w : Elaborator) (p : ChanParTree)
+    → check_chan_par w p ≡ where_all_hold (new_on_way w.scope p.name ∷ type_claims w.spaces.types p.goes)
+    (chan_par_built w p)
 chan_par_law w p =
     let v = (now_bound w p.name sort.Channel).0 in
     let claims = type_claims w.spaces.types p.goes in
     bind-then w p.name sort.Channel claims _ _ (λ h.
     law-last (made v (build_type v.spaces.types v.built p.goes)) _ _ _ claims (type_law v p.goes) refl)
 
-chan_pars_law : (w : Elaborator) (pars : List ChanParTree) → each check_chan_par w pars ≡ where_all_hold (chan_pars_claims w.spaces.types w.scope pars) (chan_pars_built w pars)
+chan_pars_law : (w : Elaborator) (pars : List ChanParTree)
+    → each check_chan_par w pars ≡ where_all_hold (chan_pars_claims w.spaces.types w.scope pars)
+    (chan_pars_built w pars)
 unfolding each
 chan_pars_law w [] = refl
 chan_pars_law w (p ∷ pars) =
     let v = (chan_par_built w p).0 in
     let more = chan_pars_claims w.spaces.types v.scope pars in
-    law-then (chan_par_built w p) _ more _ _ (new_on_way w.scope p.name ∷ type_claims w.spaces.types p.goes) (chan_par_law w p)
+    law-then (chan_par_built w p) _ more _ _ (new_on_way w.scope p.name ∷ type_claims w.spaces.types p.goes)
+    (chan_par_law w p)
     (law-last (chan_pars_built v pars) _ _ _ more (chan_pars_law v pars) refl)
 
 -- the parameters of a process, where nothing is bound
@@ -106,11 +115,15 @@ pars_built w pars =
     let channels = chan_pars_built values.0 pars.channels in
     (channels.0, head values.1 channels.1)
 
-pars_law : (w : Elaborator) (pars : ParTrees) → w.scope ≡ [] → check_pars w pars ≡ where_all_hold (process_pars_claims w.scope pars.values ++ chan_pars_claims w.spaces.types (process_pars_scope w.scope pars.values) pars.channels) (pars_built w pars)
+pars_law : (w : Elaborator) (pars : ParTrees) → w.scope ≡ []
+    → check_pars w pars ≡ where_all_hold
+    (process_pars_claims w.scope pars.values
+    ++ chan_pars_claims w.spaces.types (process_pars_scope w.scope pars.values) pars.channels) (pars_built w pars)
 pars_law w pars none =
     let v = (process_pars_built w pars.values).0 in
     let channels = chan_pars_claims v.spaces.types v.scope pars.channels in
-    law-then (process_pars_built w pars.values) _ channels _ _ (process_pars_claims w.scope pars.values) (process_pars_law w pars.values)
+    law-then (process_pars_built w pars.values) _ channels _ _ (process_pars_claims w.scope pars.values)
+    (process_pars_law w pars.values)
     (law-last (chan_pars_built v pars.channels) _ _ _ channels (chan_pars_law v pars.channels) refl)
 
 -- a progress beside what is declared: the walk is somewhere in a declaration that has ended
@@ -138,10 +151,16 @@ with_decl v decl =
       fns = d.fns;
       procs = d.procs;
       before = v.before;
-      work = record v.work { inside = inside_left v.work.inside decl; scope = scope_left v.work.scope decl; built = d.built };
+      work =
+          record v.work {
+            inside = inside_left v.work.inside decl;
+            scope = scope_left v.work.scope decl;
+            built = d.built;
+          };
     }
 
-body_law : (v : Progress) (decl : DeclTree) → check_body v decl ≡ where_all_hold (decl_claims v.work.spaces v.before decl) (with_decl v decl)
+body_law : (v : Progress) (decl : DeclTree)
+    → check_body v decl ≡ where_all_hold (decl_claims v.work.spaces v.before decl) (with_decl v decl)
 unfolding check_body check_def check_fn check_proc check_transaction
 body_law v (definition at m n body) =
     let w = v.work in
@@ -188,7 +207,8 @@ abbrev with_decls : Progress → List DeclTree → Progress
 with_decls v [] = v
 with_decls v (d ∷ decls) = with_decls (named_too d (with_decl v d)) decls
 
-decls_law : (v : Progress) (decls : List DeclTree) → check_decls v decls ≡ where_all_hold (decls_claims v.work.spaces v.before decls) (with_decls v decls)
+decls_law : (v : Progress) (decls : List DeclTree)
+    → check_decls v decls ≡ where_all_hold (decls_claims v.work.spaces v.before decls) (with_decls v decls)
 decls_law v [] = refl
 decls_law v (d ∷ decls) =
     let u = named_too d (with_decl v d) in
@@ -196,7 +216,8 @@ decls_law v (d ∷ decls) =
     (law-last (with_decl v d) _ _ _ (decl_claims v.work.spaces v.before d) (body_law v d) refl) (decls_law u decls)
 
 -- what is declared in the end
-decls_declared : (v : Progress) (decls : List DeclTree) → declared_in (with_decls v decls) ≡ add_decls v.work.model v.work.spaces (declared_in v) decls
+decls_declared : (v : Progress) (decls : List DeclTree)
+    → declared_in (with_decls v decls) ≡ add_decls v.work.model v.work.spaces (declared_in v) decls
 decls_declared v [] = refl
 decls_declared v (d ∷ decls) = decls_declared (named_too d (with_decl v d)) decls
 

@@ -71,7 +71,8 @@ makes-nothing K s = record {
 }
 
 -- one part was made, and then the other
-pub makes-both : {K L : Type 0} {s t u : Built} {c d : Count} → Makes K s c t → Makes L t d u → Makes (K × L) s (c ⊕ d) u
+pub makes-both : {K L : Type 0} {s t u : Built} {c d : Count} → Makes K s c t → Makes L t d u
+    → Makes (K × L) s (c ⊕ d) u
 makes-both a b = record {
   nodes = omega arith;
   code = omega arith;
@@ -91,7 +92,8 @@ makes-under f m = record {
 }
 
 -- no more was made than counts in more
-pub makes-within : {K : Type 0} {s t : Built} {c d : Count} → c.nodes ≤ d.nodes → c.stars ≤ d.stars → Makes K s c t → Makes K s d t
+pub makes-within : {K : Type 0} {s t : Built} {c d : Count} → c.nodes ≤ d.nodes → c.stars ≤ d.stars → Makes K s c t
+    → Makes K s d t
 makes-within n q m = record {
   nodes = omega arith;
   code = omega arith;
@@ -101,7 +103,8 @@ makes-within n q m = record {
 }
 
 -- a type node behind its parts
-pub makes-type : {K : Type 0} {s t : Built} {c d : Count} → c.nodes + 1 ≤ d.nodes → c.stars ≤ d.stars → Makes K s c t → (n : TypeNode) (at : ℕ) → (K → t.stars ≤ star_limit → TypeKeeps n) → Makes K s d (put_type t n at).0
+pub makes-type : {K : Type 0} {s t : Built} {c d : Count} → c.nodes + 1 ≤ d.nodes → c.stars ≤ d.stars → Makes K s c t
+    → (n : TypeNode) (at : ℕ) → (K → t.stars ≤ star_limit → TypeKeeps n) → Makes K s d (put_type t n at).0
 makes-type {K} {s} {t} {c} {d} more_nodes more_stars m n at holds =
     let e = length_push t.types (record { node = n; at = at }) in
     record {
@@ -112,7 +115,9 @@ makes-type {K} {s} {t} {c} {d} more_nodes more_stars m n at holds =
       keeps = λ k few h.
           let g = m.keeps k few h in
           record {
-            types = All-push (λ (x : TypeAt). TypeKeeps x.node) t.types (record { node = n; at = at }) g.types (holds k few);
+            types =
+                All-push (λ (x : TypeAt). TypeKeeps x.node) t.types (record { node = n; at = at }) g.types
+                (holds k few);
             terms = g.terms;
             code = g.code;
             labels = g.labels;
@@ -120,7 +125,8 @@ makes-type {K} {s} {t} {c} {d} more_nodes more_stars m n at holds =
     }
 
 -- a term node behind its parts
-pub makes-term : {K : Type 0} {s t : Built} {c d : Count} → c.nodes + 1 ≤ d.nodes → c.stars ≤ d.stars → Makes K s c t → (n : TermNode) → (K → TermKeeps n) → Makes K s d (put_term t n).0
+pub makes-term : {K : Type 0} {s t : Built} {c d : Count} → c.nodes + 1 ≤ d.nodes → c.stars ≤ d.stars → Makes K s c t
+    → (n : TermNode) → (K → TermKeeps n) → Makes K s d (put_term t n).0
 makes-term {K} {s} {t} {c} {d} more_nodes more_stars m n holds =
     let e = length_push t.terms n in
     record {
@@ -146,7 +152,9 @@ work-keeps at next = record {
 }
 
 -- a code node behind its parts, and the `work` before it
-pub makes-code : {K : Type 0} {s t : Built} {c d : Count} (model : CostModel) → c.nodes + 1 ≤ d.nodes → c.stars ≤ d.stars → Makes K s c t → (n : CodeNode) → (K → t.stars ≤ star_limit → CodeKeeps n) → Makes K s d (put_code model t n).0
+pub makes-code : {K : Type 0} {s t : Built} {c d : Count} (model : CostModel) → c.nodes + 1 ≤ d.nodes
+    → c.stars ≤ d.stars → Makes K s c t → (n : CodeNode) → (K → t.stars ≤ star_limit → CodeKeeps n)
+    → Makes K s d (put_code model t n).0
 makes-code {K} {s} {t} {c} {d} model more_nodes more_stars m n holds = by (is_charged model n)
   where
     one : length (t.code ++ n ∷ []) ≡ length t.code + 1
@@ -172,7 +180,9 @@ makes-code {K} {s} {t} {c} {d} model more_nodes more_stars m n holds = by (is_ch
           record {
             types = g.types;
             terms = g.terms;
-            code = All-push CodeKeeps (t.code ++ n ∷ []) charge (with_node k few h) (work-keeps (code_offset n) (put_node t n).1);
+            code =
+                All-push CodeKeeps (t.code ++ n ∷ []) charge (with_node k few h)
+                (work-keeps (code_offset n) (put_node t n).1);
             labels = g.labels;
           };
     }
@@ -235,11 +245,13 @@ makes-quantity s quantity.Star = record {
 pub makes-amount : (s : Built) (q : Potential) → Makes (KeepsPotential q) s (in_potential q) (amount_of s q).0
 makes-amount s q = makes-quantity s q.quantity
 
-quantity-small : (s : Built) (q : Quantity) → KeepsQuantity q → (quantity_amount s q).0.stars ≤ star_limit → IsAmount (quantity_amount s q).1
+quantity-small : (s : Built) (q : Quantity) → KeepsQuantity q → (quantity_amount s q).0.stars ≤ star_limit
+    → IsAmount (quantity_amount s q).1
 quantity-small s (quantity.Number units) k few = k
 quantity-small s quantity.Star k few = (omega arith, few)
 
-pub amount-small : (s : Built) (q : Potential) → KeepsPotential q → (amount_of s q).0.stars ≤ star_limit → IsAmount (amount_of s q).1
+pub amount-small : (s : Built) (q : Potential) → KeepsPotential q → (amount_of s q).0.stars ≤ star_limit
+    → IsAmount (amount_of s q).1
 amount-small s q k few = quantity-small s q.quantity k few
 
 -- each of one

@@ -16,10 +16,12 @@ pub bytes_eq_swap : (m n : List ℕ) → bytes_eq m n ≡ bytes_eq n m
 bytes_eq_swap m n = nat_list_eq_equiv.symm m n
 
 -- the place of the first item that passes, or the number of items
-pub place_or_len : {X : Type 0} (p : X → Bool) (xs : List X) → unwrap_or (position p xs) (length xs) ≡ position_or_len p xs
+pub place_or_len : {X : Type 0} (p : X → Bool) (xs : List X)
+    → unwrap_or (position p xs) (length xs) ≡ position_or_len p xs
 place_or_len p xs = go (ltb (position_or_len p xs) (length xs)) refl
   where
-    go : (b : Bool) → ltb (position_or_len p xs) (length xs) ≡ b → unwrap_or (position p xs) (length xs) ≡ position_or_len p xs
+    go : (b : Bool) → ltb (position_or_len p xs) (length xs) ≡ b
+        → unwrap_or (position p xs) (length xs) ≡ position_or_len p xs
     go true e = rw e refl
     go false e =
         let le : position_or_len p xs ≤ length xs = prefix_len-le-length (λ x. not (p x)) xs in
@@ -34,7 +36,9 @@ number_of-seen names n = go (is_among names n) refl
     at_end [] out = rw (bytes_eq_same n) refl
     at_end (m ∷ names) out = by (bytes_eq m n) refl (at_end names)
       where
-        by : (b : Bool) → bytes_eq m n ≡ b → (is_among names n ≡ false → number_of (names ++ n ∷ []) n ≡ number_of names n) → number_of (m ∷ names ++ n ∷ []) n ≡ number_of (m ∷ names) n
+        by : (b : Bool) → bytes_eq m n ≡ b
+            → (is_among names n ≡ false → number_of (names ++ n ∷ []) n ≡ number_of names n)
+            → number_of (m ∷ names ++ n ∷ []) n ≡ number_of (m ∷ names) n
         by true e ih = rw e refl
         by false e ih = let h = ih (rw e at out) in rw (e, h) refl
 
@@ -66,10 +70,13 @@ module _ {X : Type 0} (text : X → List ℕ) (xs : List X) (x : X) where
       go false e = let among = sym (any-is_among text (text x) xs) ∙ e in rw (e, among) (map-append text xs (x ∷ []))
 
   -- a name that is seen, with its place
-  pub put-name_seen : (ys : List X) (names : Names) (n : List ℕ) (place : ℕ) → ys ≡ put → map text xs ≡ names → text x ≡ n → place ≡ position_or_len (λ y. bytes_eq (text x) (text y)) xs → (map text ys, place) ≡ name_seen names n
+  pub put-name_seen : (ys : List X) (names : Names) (n : List ℕ) (place : ℕ) → ys ≡ put → map text xs ≡ names
+      → text x ≡ n → place ≡ position_or_len (λ y. bytes_eq (text x) (text y)) xs
+      → (map text ys, place) ≡ name_seen names n
   put-name_seen ys names n place kept view is at =
       let first : map text ys ≡ seen names n = ap (map text) kept ∙ put-seen ∙ (λ i. seen (view i) (is i)) in
-      let second : place ≡ number_of (seen names n) n = at ∙ place-number_of text (text x) xs ∙ (λ i. number_of (view i) (is i)) ∙ sym (number_of-seen names n) in
+      let second : place ≡ number_of (seen names n) n = at ∙ place-number_of text (text x) xs
+      ∙ (λ i. number_of (view i) (is i)) ∙ sym (number_of-seen names n) in
       (λ i. (first i, second i))
 
 -- a name is within the names or behind them, and where it is seen one name is added at most
@@ -89,7 +96,8 @@ seen-within names new n place e =
     let at : place ≡ number_of names n = ap (λ (p : Names × ℕ). p.1) e ∙ number_of-seen names n in
     rw at (number_of-within names n)
 
-pub seen-one_more : (names new : Names) (n : List ℕ) (place : ℕ) → (new, place) ≡ name_seen names n → length new ≤ length names + 1
+pub seen-one_more : (names new : Names) (n : List ℕ) (place : ℕ) → (new, place) ≡ name_seen names n
+    → length new ≤ length names + 1
 seen-one_more names new n place e =
     let is : new ≡ seen names n = ap (λ (p : Names × ℕ). p.0) e in
     rw is (seen-grows names n)

@@ -31,16 +31,19 @@ pub number_of-lt : (names : Names) (n : List ℕ) → is_among names n ≡ true 
 number_of-lt [] n among = cc
 number_of-lt (m ∷ names) n among = go (bytes_eq m n) refl (number_of-lt names n)
   where
-    go : (b : Bool) → bytes_eq m n ≡ b → (is_among names n ≡ true → number_of names n < length names) → number_of (m ∷ names) n < length (m ∷ names)
+    go : (b : Bool) → bytes_eq m n ≡ b → (is_among names n ≡ true → number_of names n < length names)
+        → number_of (m ∷ names) n < length (m ∷ names)
     go true e ih = rw e (omega arith)
     go false e ih = let h = ih (rw e at among) in rw e (omega arith)
 
 -- two names of one number are one name
-pub number_of-injective : (names : Names) (m n : List ℕ) → is_among names m ≡ true → is_among names n ≡ true → number_of names m ≡ number_of names n → m ≡ n
+pub number_of-injective : (names : Names) (m n : List ℕ) → is_among names m ≡ true → is_among names n ≡ true
+    → number_of names m ≡ number_of names n → m ≡ n
 number_of-injective [] m n am an e = cc
 number_of-injective (k ∷ names) m n am an e = go (bytes_eq k m) (bytes_eq k n) refl refl (number_of-injective names m n)
   where
-    go : (b c : Bool) → bytes_eq k m ≡ b → bytes_eq k n ≡ c → (is_among names m ≡ true → is_among names n ≡ true → number_of names m ≡ number_of names n → m ≡ n) → m ≡ n
+    go : (b c : Bool) → bytes_eq k m ≡ b → bytes_eq k n ≡ c
+        → (is_among names m ≡ true → is_among names n ≡ true → number_of names m ≡ number_of names n → m ≡ n) → m ≡ n
     go true true p q ih = sym (same_bytes k m p) ∙ same_bytes k n q
     go true false p q ih = let h = rw (p, q) at e in absurd (omega arith)
     go false true p q ih = let h = rw (p, q) at e in absurd (omega arith)
@@ -51,25 +54,31 @@ pub number_of-none : (names : Names) (n : List ℕ) → is_among names n ≡ fal
 number_of-none [] n out = refl
 number_of-none (m ∷ names) n out = go (bytes_eq m n) refl (number_of-none names n)
   where
-    go : (b : Bool) → bytes_eq m n ≡ b → (is_among names n ≡ false → number_of names n ≡ length names) → number_of (m ∷ names) n ≡ length (m ∷ names)
+    go : (b : Bool) → bytes_eq m n ≡ b → (is_among names n ≡ false → number_of names n ≡ length names)
+        → number_of (m ∷ names) n ≡ length (m ∷ names)
     go true e ih = absurd (let h = rw e at out in cc)
     go false e ih = let h = ih (rw e at out) in rw e (omega arith)
 
 -- names at the end change no earlier number
-pub number_of-append : (names more : Names) (n : List ℕ) → is_among names n ≡ true → number_of (names ++ more) n ≡ number_of names n
+pub number_of-append : (names more : Names) (n : List ℕ) → is_among names n ≡ true
+    → number_of (names ++ more) n ≡ number_of names n
 number_of-append [] more n among = cc
 number_of-append (m ∷ names) more n among = go (bytes_eq m n) refl (number_of-append names more n)
   where
-    go : (b : Bool) → bytes_eq m n ≡ b → (is_among names n ≡ true → number_of (names ++ more) n ≡ number_of names n) → number_of (m ∷ names ++ more) n ≡ number_of (m ∷ names) n
+    go : (b : Bool) → bytes_eq m n ≡ b → (is_among names n ≡ true → number_of (names ++ more) n ≡ number_of names n)
+        → number_of (m ∷ names ++ more) n ≡ number_of (m ∷ names) n
     go true e ih = rw e refl
     go false e ih = let h = ih (rw e at among) in rw e (omega arith)
 
 -- a name is among more names where it is among the first of them
-pub is_among-append_left : (names more : Names) (n : List ℕ) → is_among names n ≡ true → is_among (names ++ more) n ≡ true
+pub is_among-append_left : (names more : Names) (n : List ℕ) → is_among names n ≡ true
+    → is_among (names ++ more) n ≡ true
 is_among-append_left names more n among = list_any-append (is_name n) names more ∙ ap (λ b. b || is_among more n) among
 
-pub is_among-append_right : (names more : Names) (n : List ℕ) → is_among more n ≡ true → is_among (names ++ more) n ≡ true
-is_among-append_right names more n among = list_any-append (is_name n) names more ∙ ap (λ b. is_among names n || b) among ∙ or_true (is_among names n)
+pub is_among-append_right : (names more : Names) (n : List ℕ) → is_among more n ≡ true
+    → is_among (names ++ more) n ≡ true
+is_among-append_right names more n among =
+    list_any-append (is_name n) names more ∙ ap (λ b. is_among names n || b) among ∙ or_true (is_among names n)
   where
     or_true : (b : Bool) → (b || true) ≡ true
     or_true true = refl
@@ -92,7 +101,11 @@ Grows-seen names n = go (is_among names n) refl
   where
     go : (b : Bool) → is_among names n ≡ b → Grows names (seen names n)
     go true e = rw e (Grows-same names)
-    go false e = rw e (record { kept = λ m h. is_among-append_left names (n ∷ []) m h; same = λ m h. number_of-append names (n ∷ []) m h })
+    go false e =
+        rw e (record {
+          kept = λ m h. is_among-append_left names (n ∷ []) m h;
+          same = λ m h. number_of-append names (n ∷ []) m h;
+        })
 
 -- a name that is seen is among the names from then on
 pub is_among-seen : (names : Names) (n : List ℕ) → is_among (seen names n) n ≡ true
@@ -103,17 +116,20 @@ is_among-seen names n = go (is_among names n) refl
     go false e = rw e (is_among-append_right names (n ∷ []) n (ap (λ b. b || false) (bytes_eq_same n)))
 
 -- a name keeps its number when another one is seen
-pub number_of-seen_same : (names : Names) (n m : List ℕ) → is_among names m ≡ true → number_of (seen names n) m ≡ number_of names m
+pub number_of-seen_same : (names : Names) (n m : List ℕ) → is_among names m ≡ true
+    → number_of (seen names n) m ≡ number_of names m
 number_of-seen_same names n m among = (Grows-seen names n).same m among
 
 -- how many names there are after one is seen
-pub length-seen : (names : Names) (n : List ℕ) → length (seen names n) ≡ (if is_among names n then length names else length names + 1)
+pub length-seen : (names : Names) (n : List ℕ)
+    → length (seen names n) ≡ (if is_among names n then length names else length names + 1)
 length-seen names n = go (is_among names n) refl
   where
     one_more : (names : Names) → length (names ++ n ∷ []) ≡ length names + 1
     one_more [] = refl
     one_more (m ∷ names) = let h = one_more names in omega arith
 
-    go : (b : Bool) → is_among names n ≡ b → length (seen names n) ≡ (if is_among names n then length names else length names + 1)
+    go : (b : Bool) → is_among names n ≡ b
+        → length (seen names n) ≡ (if is_among names n then length names else length names + 1)
     go true e = rw e refl
     go false e = rw e (one_more names)

@@ -8,7 +8,8 @@ use Rattle.nomos_surface.specs.Tree.{FileTree}
 use Rattle.nomos_syntax.specs.Limits.{node_limit}
 
 -- the type nodes and the term nodes of a program together
-pub few_types : (tree : FileTree) → length (program_of tree).types + length (program_of tree).terms ≤ (in_file tree).nodes
+pub few_types : (tree : FileTree) → length (program_of tree).types + length (program_of tree).terms
+    ≤ (in_file tree).nodes
 few_types tree = let h = tree-declares tree in omega arith
 
 -- an instruction has at most one `work` put before it

@@ -23,21 +23,27 @@ terms_built w ts = made w (build_terms w.spaces.functions w.built ts)
 mutual
   unfolding check_term check_terms term_claims terms_claims build_term build_terms
 
-  pub term_law : (w : Elaborator) (t : TermTree) → check_term w t ≡ where_all_hold (term_claims w.spaces.functions w.inside w.scope t) (made w (build_term w.spaces.functions w.built t))
+  pub term_law : (w : Elaborator) (t : TermTree)
+      → check_term w t ≡ where_all_hold (term_claims w.spaces.functions w.inside w.scope t)
+      (made w (build_term w.spaces.functions w.built t))
   term_law w (number at value) = refl
   term_law w (truth at value) = refl
   term_law w (me at) = demand-then (within w.inside at) [] _ _ (λ h. refl)
   term_law w (variable n) = demand-then (bound_value w.scope n) [] _ _ (λ h. refl)
   term_law w (application f arguments) =
       demand-then (declared w.spaces.functions f) (terms_claims w.spaces.functions w.inside w.scope arguments) _ _ (λ h.
-      law-last (terms_built w arguments) _ _ _ (terms_claims w.spaces.functions w.inside w.scope arguments) (terms_law w arguments) refl)
+      law-last (terms_built w arguments) _ _ _ (terms_claims w.spaces.functions w.inside w.scope arguments)
+      (terms_law w arguments) refl)
   term_law w (no_items at element) = refl
   term_law w (binary operator at left right) =
       let v = (term_built w left).0 in
-      law-then (term_built w left) _ (term_claims w.spaces.functions w.inside w.scope right) _ _ (term_claims w.spaces.functions w.inside w.scope left) (term_law w left)
-      (law-last (term_built v right) _ _ _ (term_claims w.spaces.functions w.inside w.scope right) (term_law v right) refl)
+      law-then (term_built w left) _ (term_claims w.spaces.functions w.inside w.scope right) _ _
+      (term_claims w.spaces.functions w.inside w.scope left) (term_law w left)
+      (law-last (term_built v right) _ _ _ (term_claims w.spaces.functions w.inside w.scope right) (term_law v right)
+      refl)
   term_law w (negation at inner) =
-      law-last (term_built w inner) _ _ _ (term_claims w.spaces.functions w.inside w.scope inner) (term_law w inner) refl
+      law-last (term_built w inner) _ _ _ (term_claims w.spaces.functions w.inside w.scope inner) (term_law w inner)
+      refl
   term_law w (choosing at test holds fails) =
       let c = term_claims w.spaces.functions w.inside w.scope in
       let v = (term_built w test).0 in
@@ -60,13 +66,24 @@ mutual
       (bind-then u head sort.Value (new_on_way (bind w.scope head sort.Value) tail ∷ inner) _ whole (λ g.
       bind-then one tail sort.Value inner _ whole (λ h.
       law-last (term_built two more) _ whole _ inner (term_law two more)
-      (λ i. found (record whole.0 { scope = bounds-kept w.scope two.scope (bounds-bind w.scope one.scope tail sort.Value (bounds-bind w.scope w.scope head sort.Value (bounds-none w.scope) g) h) i }, whole.1))))))
+      (λ i. found (
+        record whole.0 {
+          scope = bounds-kept w.scope two.scope
+              (bounds-bind w.scope one.scope tail sort.Value
+              (bounds-bind w.scope w.scope head sort.Value (bounds-none w.scope) g) h) i;
+        },
+        whole.1,
+      ))))))
       ∙ grouped-law (c w.scope matched) (c w.scope empty) rest _
   term_law w (parenthesized inner) = term_law w inner
 
-  pub terms_law : (w : Elaborator) (ts : TermTrees) → check_terms w ts ≡ where_all_hold (terms_claims w.spaces.functions w.inside w.scope ts) (made w (build_terms w.spaces.functions w.built ts))
+  pub terms_law : (w : Elaborator) (ts : TermTrees)
+      → check_terms w ts ≡ where_all_hold (terms_claims w.spaces.functions w.inside w.scope ts)
+      (made w (build_terms w.spaces.functions w.built ts))
   terms_law w no_terms = refl
   terms_law w (term first rest) =
       let v = (term_built w first).0 in
-      law-then (term_built w first) _ (terms_claims w.spaces.functions w.inside w.scope rest) _ _ (term_claims w.spaces.functions w.inside w.scope first) (term_law w first)
-      (law-last (terms_built v rest) _ _ _ (terms_claims w.spaces.functions w.inside w.scope rest) (terms_law v rest) refl)
+      law-then (term_built w first) _ (terms_claims w.spaces.functions w.inside w.scope rest) _ _
+      (term_claims w.spaces.functions w.inside w.scope first) (term_law w first)
+      (law-last (terms_built v rest) _ _ _ (terms_claims w.spaces.functions w.inside w.scope rest) (terms_law v rest)
+      refl)

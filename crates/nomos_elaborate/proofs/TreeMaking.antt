@@ -47,14 +47,16 @@ value-keeps : (sender : Sender) (kind : Kind) (goes : TypeId) → IsShallow kind
 value-keeps side.Provider kind goes h = record { kinds = all-one IsShallow kind h; amounts = All-nil IsAmount }
 value-keeps side.Client kind goes h = record { kinds = all-one IsShallow kind h; amounts = All-nil IsAmount }
 
-paying-keeps : (sender : Sender) (amount : Amount) (goes : TypeId) → IsAmount amount → TypeKeeps (paying_node sender amount goes)
+paying-keeps : (sender : Sender) (amount : Amount) (goes : TypeId) → IsAmount amount
+    → TypeKeeps (paying_node sender amount goes)
 paying-keeps side.Provider amount goes h = record { kinds = All-nil IsShallow; amounts = all-one IsAmount amount h }
 paying-keeps side.Client amount goes h = record { kinds = All-nil IsShallow; amounts = all-one IsAmount amount h }
 
 mutual
   unfolding build_type build_branches in_type in_branches
 
-  pub type-makes : (types : Names) (s : Built) (t : TypeTree) → Makes (KeepsType t) s (in_type t) (build_type types s t).0
+  pub type-makes : (types : Names) (s : Built) (t : TypeTree)
+      → Makes (KeepsType t) s (in_type t) (build_type types s t).0
   type-makes types s (one at) =
       makes-type (omega arith) (omega arith) (makes-nothing _ s) _ at (λ k few. plain-type _ refl refl)
   type-makes types s (named n) =
@@ -80,7 +82,8 @@ mutual
       makes-type (omega arith) (omega arith) (type-makes types s goes) _ at (λ k few. plain-type _ refl refl)
   type-makes types s (grouped inner) = type-makes types s inner
 
-  branches-makes : (types : Names) (s : Built) (bs : BranchTrees) → Makes (KeepsBranches bs) s (in_branches bs) (build_branches types s bs).0
+  branches-makes : (types : Names) (s : Built) (bs : BranchTrees)
+      → Makes (KeepsBranches bs) s (in_branches bs) (build_branches types s bs).0
   branches-makes types s no_branches = makes-nothing _ s
   branches-makes types s (branch l goes branches) =
       let v = with_label s l in
@@ -107,7 +110,8 @@ operator-keeps operator at a b = rw (operator-plain operator at a b) (All-nil Is
 mutual
   unfolding build_term build_terms in_term in_terms
 
-  pub term-makes : (functions : Names) (s : Built) (t : TermTree) → Makes (KeepsTerm t) s (in_term t) (build_term functions s t).0
+  pub term-makes : (functions : Names) (s : Built) (t : TermTree)
+      → Makes (KeepsTerm t) s (in_term t) (build_term functions s t).0
   term-makes functions s (number at value) =
       makes-term (omega arith) (omega arith) (makes-nothing _ s) _ (λ k. All-nil IsShallow)
   term-makes functions s (truth at value) =
@@ -151,23 +155,27 @@ mutual
       (λ k. All-nil IsShallow)
   term-makes functions s (parenthesized inner) = term-makes functions s inner
 
-  terms-makes : (functions : Names) (s : Built) (ts : TermTrees) → Makes (KeepsTerms ts) s (in_terms ts) (build_terms functions s ts).0
+  terms-makes : (functions : Names) (s : Built) (ts : TermTrees)
+      → Makes (KeepsTerms ts) s (in_terms ts) (build_terms functions s ts).0
   terms-makes functions s no_terms = makes-nothing _ s
   terms-makes functions s (term first rest) =
       makes-both (term-makes functions s first) (terms-makes functions (build_term functions s first).0 rest)
 
 -- arguments
-argument-makes : (spaces : Spaces) (s : Built) (o : Option NameAt) (t : TermTree) → Makes (KeepsTerm t) s (in_term t) (build_unless_list spaces s o t).0
+argument-makes : (spaces : Spaces) (s : Built) (o : Option NameAt) (t : TermTree)
+    → Makes (KeepsTerm t) s (in_term t) (build_unless_list spaces s o t).0
 argument-makes spaces s None t = term-makes spaces.functions s t
 argument-makes spaces s (Some n) t = makes-within (omega arith) (omega arith) (makes-nothing _ s)
 
-values-makes : (spaces : Spaces) (scope : Scope) (s : Built) (ts : List TermTree) → Makes (Each KeepsTerm ts) s (in_each in_term ts) (build_values spaces scope s ts).0
+values-makes : (spaces : Spaces) (scope : Scope) (s : Built) (ts : List TermTree)
+    → Makes (Each KeepsTerm ts) s (in_each in_term ts) (build_values spaces scope s ts).0
 values-makes spaces scope s [] = makes-nothing _ s
 values-makes spaces scope s (t ∷ terms) =
     makes-both (argument-makes spaces s (list_argument scope t) t)
     (values-makes spaces scope (build_argument spaces scope s t).0 terms)
 
-arguments-makes : (spaces : Spaces) (scope : Scope) (s : Built) (a : ArgTrees) → Makes (KeepsArgs a) s (in_args a) (build_arguments spaces scope s a).0
+arguments-makes : (spaces : Spaces) (scope : Scope) (s : Built) (a : ArgTrees)
+    → Makes (KeepsArgs a) s (in_args a) (build_arguments spaces scope s a).0
 arguments-makes spaces scope s a = makes-under (λ k. k.0) (values-makes spaces scope s a.values)
 
 -- What a step makes before its node, and that its node is within the limits.
@@ -179,7 +187,9 @@ record StepMakes (Kept : Type 0) (s : Built) (c : Count) (made : Built × (CodeI
   keeps : (next : CodeId) → Kept → made.0.stars ≤ star_limit → CodeKeeps (made.1 next)
 
 -- a step whose node has neither amount nor kind
-plain-step : {K : Type 0} {s : Built} {p c : Count} {made : Built × (CodeId → CodeNode)} → Makes K s p made.0 → p.nodes + 1 ≤ c.nodes → p.stars ≤ c.stars → ((next : CodeId) → code_kinds (made.1 next) ≡ []) → ((next : CodeId) → code_amounts (made.1 next) ≡ []) → StepMakes K s c made
+plain-step : {K : Type 0} {s : Built} {p c : Count} {made : Built × (CodeId → CodeNode)} → Makes K s p made.0
+    → p.nodes + 1 ≤ c.nodes → p.stars ≤ c.stars → ((next : CodeId) → code_kinds (made.1 next) ≡ [])
+    → ((next : CodeId) → code_amounts (made.1 next) ≡ []) → StepMakes K s c made
 plain-step {K} {s} {p} {c} {made} m n q kinds amounts = record {
   parts = p;
   makes = m;
@@ -188,13 +198,15 @@ plain-step {K} {s} {p} {c} {made} m n q kinds amounts = record {
   keeps = λ next k few. plain-code (made.1 next) (kinds next) (amounts next);
 }
 
-amount-keeps : (n : CodeNode) (amount : Amount) → code_kinds n ≡ [] → code_amounts n ≡ amount ∷ [] → IsAmount amount → CodeKeeps n
+amount-keeps : (n : CodeNode) (amount : Amount) → code_kinds n ≡ [] → code_amounts n ≡ amount ∷ [] → IsAmount amount
+    → CodeKeeps n
 amount-keeps n amount k a h = record {
   kinds = rw k (All-nil IsShallow);
   amounts = rw a (all-one IsAmount amount h);
 }
 
-step-makes : (spaces : Spaces) (scope : Scope) (s : Built) (step : StepTree) → StepMakes (KeepsStep step) s (in_step step) (build_step spaces scope s step)
+step-makes : (spaces : Spaces) (scope : Scope) (s : Built) (step : StepTree)
+    → StepMakes (KeepsStep step) s (in_step step) (build_step spaces scope s step)
 step-makes spaces scope s (label x l) =
     plain-step (makes-under (λ k. k.1) (makes-label s l)) (omega arith) (omega arith) (λ next. refl) (λ next. refl)
 step-makes spaces scope s (send at x y) =
@@ -202,7 +214,8 @@ step-makes spaces scope s (send at x y) =
 step-makes spaces scope s (recv at x y) =
     plain-step (makes-variable _ s y) (omega arith) (omega arith) (λ next. refl) (λ next. refl)
 step-makes spaces scope s (put at x e) =
-    plain-step (makes-under (λ k. k.1) (term-makes spaces.functions s e)) (omega arith) (omega arith) (λ next. refl) (λ next. refl)
+    plain-step (makes-under (λ k. k.1) (term-makes spaces.functions s e)) (omega arith) (omega arith) (λ next. refl)
+    (λ next. refl)
 step-makes spaces scope s (taking at x v) =
     plain-step (makes-variable _ s v) (omega arith) (omega arith) (λ next. refl) (λ next. refl)
 step-makes spaces scope s (pay at x q) = record {
@@ -248,7 +261,8 @@ step-makes spaces scope s (binding at v e) =
 step-makes spaces scope s (empty_list at v list_at q t) = record {
   parts = _;
   makes =
-      makes-under (λ k. (k.0, k.1)) (makes-both (makes-variable (KeepsName v) s v) (makes-amount (with_variable s v) q));
+      makes-under (λ k. (k.0, k.1)) (makes-both (makes-variable (KeepsName v) s v)
+      (makes-amount (with_variable s v) q));
   nodes = omega arith;
   stars = omega arith;
   keeps = λ next k few. record {
@@ -265,7 +279,8 @@ step-makes spaces scope s (emit at e) =
     plain-step (term-makes spaces.functions s e) (omega arith) (omega arith) (λ next. refl) (λ next. refl)
 
 -- steps before a last instruction that makes no more than its count
-steps-makes : (model : CostModel) (spaces : Spaces) (scope : Scope) (s : Built) (steps : List StepTree) (last : Scope → Built → Built × CodeId) (L : Type 0) (c : Count)
+steps-makes : (model : CostModel) (spaces : Spaces) (scope : Scope) (s : Built) (steps : List StepTree)
+    (last : Scope → Built → Built × CodeId) (L : Type 0) (c : Count)
     → ((inner : Scope) (made : Built) → Makes L made c (last inner made).0)
     → Makes (Each KeepsStep steps × L) s (in_each in_step steps ⊕ c) (build_steps model spaces scope s steps last).0
 steps-makes model spaces scope s [] last L c h =
@@ -282,11 +297,14 @@ steps-makes model spaces scope s (step ∷ steps) last L c h =
 mutual
   unfolding build_code build_last build_arms in_code in_last in_arms
 
-  pub code-makes : (model : CostModel) (spaces : Spaces) (scope : Scope) (s : Built) (c : CodeTree) → Makes (KeepsCode c) s (in_code c) (build_code model spaces scope s c).0
+  pub code-makes : (model : CostModel) (spaces : Spaces) (scope : Scope) (s : Built) (c : CodeTree)
+      → Makes (KeepsCode c) s (in_code c) (build_code model spaces scope s c).0
   code-makes model spaces scope s (code steps last) =
-      steps-makes model spaces scope s steps (λ inner made. build_last model spaces inner made last) (KeepsLast last) (in_last last) (λ inner made. last-makes model spaces inner made last)
+      steps-makes model spaces scope s steps (λ inner made. build_last model spaces inner made last) (KeepsLast last)
+      (in_last last) (λ inner made. last-makes model spaces inner made last)
 
-  last-makes : (model : CostModel) (spaces : Spaces) (scope : Scope) (s : Built) (l : LastTree) → Makes (KeepsLast l) s (in_last l) (build_last model spaces scope s l).0
+  last-makes : (model : CostModel) (spaces : Spaces) (scope : Scope) (s : Built) (l : LastTree)
+      → Makes (KeepsLast l) s (in_last l) (build_last model spaces scope s l).0
   last-makes model spaces scope s (close at) =
       makes-code model (omega arith) (omega arith) (makes-nothing _ s) _ (λ k few. plain-code _ refl refl)
   last-makes model spaces scope s (fwd at x) =
@@ -317,7 +335,8 @@ mutual
       (code-makes model spaces (matched_list scope head tail) two more))))) _
       (λ k few. plain-code _ refl refl)
 
-  arms-makes : (model : CostModel) (spaces : Spaces) (scope : Scope) (s : Built) (arms : ArmTrees) → Makes (KeepsArms arms) s (in_arms arms) (build_arms model spaces scope s arms).0
+  arms-makes : (model : CostModel) (spaces : Spaces) (scope : Scope) (s : Built) (arms : ArmTrees)
+      → Makes (KeepsArms arms) s (in_arms arms) (build_arms model spaces scope s arms).0
   arms-makes model spaces scope s no_arms = makes-nothing _ s
   arms-makes model spaces scope s (arm l goes arms) =
       let v = with_label s l in

@@ -30,30 +30,45 @@ module _ {X : Type 0} (tree : X → DeclTree) (xs : List X) (i : ℕ) where
   none all = ap (map tree) (drop_all i xs all)
 
   -- one more name
-  pub names_next : (s t total : Spaces) (x : X) → i < length xs → x ≡ get_or xs i x → found (declaring s (tree x)) ≡ found t → declaring_all s (map tree (drop i xs)) ≡ total → declaring_all t (map tree (drop (i + 1) xs)) ≡ total
+  pub names_next : (s t total : Spaces) (x : X) → i < length xs → x ≡ get_or xs i x
+      → found (declaring s (tree x)) ≡ found t → declaring_all s (map tree (drop i xs)) ≡ total
+      → declaring_all t (map tree (drop (i + 1) xs)) ≡ total
   names_next s t total x below item e held =
-      ap (λ v. declaring_all v (map tree (drop (i + 1) xs))) (sym (found_same e)) ∙ sym (ap (declaring_all s) (left x below item)) ∙ held
+      ap (λ v. declaring_all v (map tree (drop (i + 1) xs))) (sym (found_same e))
+      ∙ sym (ap (declaring_all s) (left x below item)) ∙ held
 
-  pub names_all : (s total : Spaces) → length xs ≤ i → declaring_all s (map tree (drop i xs)) ≡ total → found total ≡ found s
+  pub names_all : (s total : Spaces) → length xs ≤ i → declaring_all s (map tree (drop i xs)) ≡ total
+      → found total ≡ found s
   names_all s total all held = ap (λ v. found v) (sym held ∙ ap (declaring_all s) (none all))
 
   -- one more declaration
-  pub decls_next : (v w : Progress) (total : Checked Progress) (x : X) → i < length xs → x ≡ get_or xs i x → check_decl v (tree x) ≡ found w → check_decls v (map tree (drop i xs)) ≡ total → check_decls w (map tree (drop (i + 1) xs)) ≡ total
+  pub decls_next : (v w : Progress) (total : Checked Progress) (x : X) → i < length xs → x ≡ get_or xs i x
+      → check_decl v (tree x) ≡ found w → check_decls v (map tree (drop i xs)) ≡ total
+      → check_decls w (map tree (drop (i + 1) xs)) ≡ total
   decls_next v w total x below item e held =
-      sym (ap (λ c. c >>= (λ u. check_decls u (map tree (drop (i + 1) xs)))) e) ∙ sym (ap (check_decls v) (left x below item)) ∙ held
+      sym (ap (λ c. c >>= (λ u. check_decls u (map tree (drop (i + 1) xs)))) e)
+      ∙ sym (ap (check_decls v) (left x below item)) ∙ held
 
-  pub decls_stop : (v : Progress) (total : Checked Progress) (x : X) (e : ElabError) → i < length xs → x ≡ get_or xs i x → Stops e (check_decl v (tree x)) → check_decls v (map tree (drop i xs)) ≡ total → Stops e total
+  pub decls_stop : (v : Progress) (total : Checked Progress) (x : X) (e : ElabError) → i < length xs → x ≡ get_or xs i x
+      → Stops e (check_decl v (tree x)) → check_decls v (map tree (drop i xs)) ≡ total → Stops e total
   decls_stop v total x e below item h held =
-      rw (sym (sym (ap (check_decls v) (left x below item)) ∙ held)) (stops-then e (check_decl v (tree x)) (λ u. check_decls u (map tree (drop (i + 1) xs))) h)
+      rw (sym (sym (ap (check_decls v) (left x below item)) ∙ held))
+      (stops-then e (check_decl v (tree x)) (λ u. check_decls u (map tree (drop (i + 1) xs))) h)
 
-  pub decls_all : (v : Progress) (total : Checked Progress) → length xs ≤ i → check_decls v (map tree (drop i xs)) ≡ total → total ≡ found v
+  pub decls_all : (v : Progress) (total : Checked Progress) → length xs ≤ i
+      → check_decls v (map tree (drop i xs)) ≡ total → total ≡ found v
   decls_all v total all held = sym held ∙ ap (check_decls v) (none all)
 
 -- where the declarations end early, so does the whole
-pub lists_stop : (tree : FileTree) (decls : List DeclTree) (spaces : Spaces) (model : CostModel) (v : Progress) (e : ElabError)
-    → decls ≡ tree.decls → found (declaring_all no_names decls) ≡ found spaces → model ≡ model_of tree.cost → v ≡ begun spaces model
+pub lists_stop : (tree : FileTree) (decls : List DeclTree) (spaces : Spaces) (model : CostModel) (v : Progress)
+    (e : ElabError)
+    → decls ≡ tree.decls → found (declaring_all no_names decls) ≡ found spaces → model ≡ model_of tree.cost
+    → v ≡ begun spaces model
     → Stops e (check_decls v decls) → Stops e (check_lists tree)
 lists_stop tree decls spaces model v e d s m b h =
-    let begin : v ≡ begun (declaring_all no_names tree.decls) (model_of tree.cost) = b ∙ (λ i. begun ((sym (found_same s) ∙ ap (declaring_all no_names) d) i) (m i)) in
-    let same : check_decls v decls ≡ check_decls (begun (declaring_all no_names tree.decls) (model_of tree.cost)) tree.decls = λ i. check_decls (begin i) (d i) in
-    stops-then e (check_decls (begun (declaring_all no_names tree.decls) (model_of tree.cost)) tree.decls) all_made (rw (sym same) h)
+    let begin : v ≡ begun (declaring_all no_names tree.decls) (model_of tree.cost) = b
+    ∙ (λ i. begun ((sym (found_same s) ∙ ap (declaring_all no_names) d) i) (m i)) in
+    let same : check_decls v decls ≡ check_decls (begun (declaring_all no_names tree.decls) (model_of tree.cost))
+    tree.decls = λ i. check_decls (begin i) (d i) in
+    stops-then e (check_decls (begun (declaring_all no_names tree.decls) (model_of tree.cost)) tree.decls) all_made
+    (rw (sym same) h)

@@ -46,7 +46,8 @@ variable_id s v = record { 0 = number_of s.variables v.name }
 
 -- the next type node, at its offset, and the next term node
 abbrev pub put_type : Built → TypeNode → ℕ → Built × TypeId
-put_type s node at = (record s { types = s.types ++ record { node = node; at = at } ∷ [] }, record { 0 = length s.types })
+put_type s node at =
+    (record s { types = s.types ++ record { node = node; at = at } ∷ [] }, record { 0 = length s.types })
 
 abbrev pub put_term : Built → TermNode → Built × TermId
 put_term s node = (record s { terms = s.terms ++ node ∷ [] }, record { 0 = length s.terms })

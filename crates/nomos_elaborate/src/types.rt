@@ -166,7 +166,8 @@ impl Elaborator {
         requires keeps { KeepsType (branch_tree tree.now).1 }
         requires room { MayMake self.old (in_type (branch_tree tree.now).1) }
         ensures gives { Gives (λ b. ((self.new, before.new), b)) result
-            (check_branch (λ w. check_type w (branch_tree tree.now).1) (self.old, before.old) (branch_tree tree.now).0) }
+            (check_branch (λ w. check_type w (branch_tree tree.now).1) (self.old, before.old)
+            (branch_tree tree.now).0) }
         ensures grows { IfOk result (λ _. MakesAtMost self.old (in_type (branch_tree tree.now).1) self.new) }
     {
         new_among(before, &tree.label)?;

@@ -21,14 +21,18 @@ use Rattle.nomos_equality.proofs.HeadLaws.{form-head, no_dths}
 use Rattle.nomos_equality.proofs.PathLaws.{agree-behind, leads-behind, stand-here, stand-from_behind}
 
 -- a node that is no name is what its type unfolds to
-node-unique : (lists : ProgramLists) (t : ℕ) (n m : TypeNode) → type_node lists t ≡ Some n → IsConstructor n → Unfolds lists t m → type_node lists t ≡ Some m
+node-unique : (lists : ProgramLists) (t : ℕ) (n m : TypeNode) → type_node lists t ≡ Some n → IsConstructor n
+    → Unfolds lists t m → type_node lists t ≡ Some m
 node-unique lists t n m there constructs unfolds =
     let same : n ≡ m = Unfolds-unique lists t n m (constructor t n there constructs) unfolds in
     subst (λ (k : TypeNode). type_node lists t ≡ Some k) same there
 
-module _ (lists : ProgramLists) (a b : TypeId) (old s : Search) (before : HasCompared lists (compared_by old)) (searched : HasSearched lists a b old s) (grows : Grows old s) where
+module _ (lists : ProgramLists) (a b : TypeId) (old s : Search) (before : HasCompared lists (compared_by old))
+    (searched : HasSearched lists a b old s) (grows : Grows old s) where
   -- a visit whose parts agree to a depth agrees to one more
-  visit-agrees : (n : ℕ) (v : Visit) → HasNodes lists v → IsCompared lists v s.pairs s.amounts → ((c d : TypeId) → Contains s.pairs (c, d) → Agree lists no_amounts n c d) → Agree lists no_amounts (suc n) v.left v.right
+  visit-agrees : (n : ℕ) (v : Visit) → HasNodes lists v → IsCompared lists v s.pairs s.amounts
+      → ((c d : TypeId) → Contains s.pairs (c, d) → Agree lists no_amounts n c d)
+      → Agree lists no_amounts (suc n) v.left v.right
   visit-agrees n v nodes compared agrees =
       record {
         left = nodes.left;
@@ -38,7 +42,8 @@ module _ (lists : ProgramLists) (a b : TypeId) (old s : Search) (before : HasCom
         same = form-head nodes.left nodes.right (compared.form nodes.left nodes.right nodes.at)
             (λ h c d left_part right_part.
             let met = compared.parts h nodes.left nodes.right c d nodes.at left_part right_part in
-            agree-behind lists no_amounts n c d met.left met.right met.left_is met.right_is (agrees met.left met.right met.among))
+            agree-behind lists no_amounts n c d met.left met.right met.left_is met.right_is
+            (agrees met.left met.right met.among))
             (λ q r left_pays right_pays. no_dths q ∙ sym (no_dths r));
       }
 
@@ -47,7 +52,8 @@ module _ (lists : ProgramLists) (a b : TypeId) (old s : Search) (before : HasCom
   pair-agrees zero u v among = tt
   pair-agrees (suc n) u v among =
       elim (searched.pairs u v among) [
-        | inl h ↦ All-contains (λ (p : TypeId × TypeId). EqualShapes lists p.0 p.1) old.pairs (u, v) before.equal h (suc n)
+        | inl h ↦ All-contains (λ (p : TypeId × TypeId). EqualShapes lists p.0 p.1) old.pairs (u, v) before.equal h
+            (suc n)
         | inr h ↦
             subst (λ (t : TypeId). Agree lists no_amounts (suc n) u t) h.2
             (subst (λ (t : TypeId). Agree lists no_amounts (suc n) t h.0.right) h.1
@@ -56,37 +62,50 @@ module _ (lists : ProgramLists) (a b : TypeId) (old s : Search) (before : HasCom
 
   -- types that are met have equal shapes
   met-equal : (c d : TypeId) → IsMet lists s.pairs c d → EqualShapes lists c d
-  met-equal c d met = λ n. agree-behind lists no_amounts n c d met.left met.right met.left_is met.right_is (pair-agrees n met.left met.right met.among)
+  met-equal c d met =
+      λ n. agree-behind lists no_amounts n c d met.left met.right met.left_is met.right_is
+      (pair-agrees n met.left met.right met.among)
 
   old-noted : (p : Amount × Amount) → Contains old.amounts p → Contains s.amounts p
-  old-noted p among = subst (λ (l : List (Amount × Amount)). Contains l p) (sym grows.amounts.is) (Contains-append_left old.amounts grows.amounts.more p among)
+  old-noted p among =
+      subst (λ (l : List (Amount × Amount)). Contains l p) (sym grows.amounts.is)
+      (Contains-append_left old.amounts grows.amounts.more p among)
 
   old-pair : (p : TypeId × TypeId) → Contains old.pairs p → Contains s.pairs p
-  old-pair p among = subst (λ (l : List (TypeId × TypeId)). Contains l p) (sym grows.pairs.is) (Contains-append_left old.pairs grows.pairs.more p among)
+  old-pair p among =
+      subst (λ (l : List (TypeId × TypeId)). Contains l p) (sym grows.pairs.is)
+      (Contains-append_left old.pairs grows.pairs.more p among)
 
   -- the amounts at the end of a path from an old pair are noted
-  old-stands : (u v : TypeId) (p : Amount × Amount) → Contains old.pairs (u, v) → StandAtEqualPaths lists u v p → Contains s.amounts p
+  old-stands : (u v : TypeId) (p : Amount × Amount) → Contains old.pairs (u, v) → StandAtEqualPaths lists u v p
+      → Contains s.amounts p
   old-stands u v p among stand = old-noted p ((before.amounts p).1 ((u, v), among, stand))
 
   -- the nodes at a visit, by what its types unfold to
-  visit-at : (v : Visit) (left right : TypeNode) → HasNodes lists v → Unfolds lists v.left.0 left → Unfolds lists v.right.0 right → IsAt lists v left right
+  visit-at : (v : Visit) (left right : TypeNode) → HasNodes lists v → Unfolds lists v.left.0 left
+      → Unfolds lists v.right.0 right → IsAt lists v left right
   visit-at v left right nodes left_unfolds right_unfolds =
       record {
         left_there = node-unique lists v.left.0 nodes.left left nodes.at.left_there nodes.left_constructs left_unfolds;
-        right_there = node-unique lists v.right.0 nodes.right right nodes.at.right_there nodes.right_constructs right_unfolds;
+        right_there =
+            node-unique lists v.right.0 nodes.right right nodes.at.right_there nodes.right_constructs right_unfolds;
       }
 
   -- the amounts at the end of a path from a pair are noted
-  pair-stands : (path : List Hop) (u v c d : TypeId) (left right : TypeNode) (p : Amount × Amount) → Contains s.pairs (u, v) → PathLeads lists path u c → PathLeads lists path v d → Unfolds lists c.0 left → Unfolds lists d.0 right → paid_by left ≡ Some p.0 → paid_by right ≡ Some p.1 → Contains s.amounts p
+  pair-stands : (path : List Hop) (u v c d : TypeId) (left right : TypeNode) (p : Amount × Amount)
+      → Contains s.pairs (u, v) → PathLeads lists path u c → PathLeads lists path v d → Unfolds lists c.0 left
+      → Unfolds lists d.0 right → paid_by left ≡ Some p.0 → paid_by right ≡ Some p.1 → Contains s.amounts p
   pair-stands [] u v _ _ left right p among (ends _) (ends _) left_unfolds right_unfolds left_pays right_pays =
       elim (searched.pairs u v among) [
         | inl h ↦ old-stands u v p h (stand-here lists u v left right p left_unfolds right_unfolds left_pays right_pays)
         | inr h ↦
             h.4.paid left right p.0 p.1
-            (visit-at h.0 left right h.3 (subst (λ (t : TypeId). Unfolds lists t.0 left) (sym h.1) left_unfolds) (subst (λ (t : TypeId). Unfolds lists t.0 right) (sym h.2) right_unfolds))
+            (visit-at h.0 left right h.3 (subst (λ (t : TypeId). Unfolds lists t.0 left) (sym h.1) left_unfolds)
+            (subst (λ (t : TypeId). Unfolds lists t.0 right) (sym h.2) right_unfolds))
             left_pays right_pays
       ]
-  pair-stands (h ∷ path) u v c d left right p among (hops _ _ _ e _ n first part rest) (hops _ _ _ f _ m first2 part2 rest2) left_unfolds right_unfolds left_pays right_pays =
+  pair-stands (h ∷ path) u v c d left right p among (hops _ _ _ e _ n first part rest)
+      (hops _ _ _ f _ m first2 part2 rest2) left_unfolds right_unfolds left_pays right_pays =
       elim (searched.pairs u v among) [
         | inl k ↦ old-stands u v p k (record {
           place = record {
@@ -104,7 +123,8 @@ module _ (lists : ProgramLists) (a b : TypeId) (old s : Search) (before : HasCom
           right_pays = right_pays;
         })
         | inr k ↦
-            let at = visit-at k.0 n m k.3 (subst (λ (t : TypeId). Unfolds lists t.0 n) (sym k.1) first) (subst (λ (t : TypeId). Unfolds lists t.0 m) (sym k.2) first2) in
+            let at = visit-at k.0 n m k.3 (subst (λ (t : TypeId). Unfolds lists t.0 n) (sym k.1) first)
+            (subst (λ (t : TypeId). Unfolds lists t.0 m) (sym k.2) first2) in
             let met = k.4.parts h n m e f at part part2 in
             let l = leads-behind lists path e met.left c left met.left_is rest left_unfolds in
             let r = leads-behind lists path f met.right d right met.right_is rest2 right_unfolds in
@@ -112,16 +132,19 @@ module _ (lists : ProgramLists) (a b : TypeId) (old s : Search) (before : HasCom
       ]
 
   -- the amounts at equal paths of a pair are noted
-  stands-noted : (u v : TypeId) (p : Amount × Amount) → Contains s.pairs (u, v) → StandAtEqualPaths lists u v p → Contains s.amounts p
+  stands-noted : (u v : TypeId) (p : Amount × Amount) → Contains s.pairs (u, v) → StandAtEqualPaths lists u v p
+      → Contains s.amounts p
   stands-noted u v p among stand =
       let place = stand.place in
-      pair-stands place.path u v place.left_type place.right_type place.left place.right p among place.left_leads place.right_leads place.left_unfolds place.right_unfolds stand.left_pays stand.right_pays
+      pair-stands place.path u v place.left_type place.right_type place.left place.right p among place.left_leads
+      place.right_leads place.left_unfolds place.right_unfolds stand.left_pays stand.right_pays
 
   -- the amounts at equal paths of the two types are noted
   asked-noted : (p : Amount × Amount) → StandAtEqualPaths lists a b p → Contains s.amounts p
   asked-noted p stand =
       let met = searched.met in
-      stands-noted met.left met.right p met.among (stand-from_behind lists a b met.left met.right p met.left_is met.right_is stand)
+      stands-noted met.left met.right p met.among
+      (stand-from_behind lists a b met.left met.right p met.left_is met.right_is stand)
 
   -- what is found
   pub search-finds : FindsEqual lists a b (compared_by old) (compared_by s)
@@ -132,12 +155,17 @@ module _ (lists : ProgramLists) (a b : TypeId) (old s : Search) (before : HasCom
       }
 
   -- where the amounts of the search stand
-  noted-somewhere : (p : Amount × Amount) → Contains s.amounts p → (q : TypeId × TypeId) × Contains s.pairs q × StandAtEqualPaths lists q.0 q.1 p
+  noted-somewhere : (p : Amount × Amount) → Contains s.amounts p
+      → (q : TypeId × TypeId) × Contains s.pairs q × StandAtEqualPaths lists q.0 q.1 p
   noted-somewhere p among =
       let met = searched.met in
       elim (searched.amounts p among) [
         | inl h ↦ let k = (before.amounts p).0 h in (k.0, old-pair k.0 k.1, k.2)
-        | inr h ↦ ((met.left, met.right), met.among, stand-from_behind lists a b met.left met.right p met.left_is met.right_is h)
+        | inr h ↦ (
+          (met.left, met.right),
+          met.among,
+          stand-from_behind lists a b met.left met.right p met.left_is met.right_is h,
+        )
       ]
 
   -- what the search has compared then
@@ -155,7 +183,8 @@ pub front-taken : {X : Type 0} (old new : List X) → IsFront old new → take (
 front-taken old new front = ap (take (length old)) front.is ∙ take-append_seam old front.more
 
 -- a search that forgets what it met has compared what it had
-pub forgotten-same : (old mid new : Search) → Grows old mid → new.pairs ≡ take (length old.pairs) mid.pairs → new.amounts ≡ take (length old.amounts) mid.amounts → compared_by new ≡ compared_by old
+pub forgotten-same : (old mid new : Search) → Grows old mid → new.pairs ≡ take (length old.pairs) mid.pairs
+    → new.amounts ≡ take (length old.amounts) mid.amounts → compared_by new ≡ compared_by old
 forgotten-same old mid new grows pairs amounts =
     let first : new.pairs ≡ old.pairs = pairs ∙ front-taken old.pairs mid.pairs grows.pairs in
     let second : new.amounts ≡ old.amounts = amounts ∙ front-taken old.amounts mid.amounts grows.amounts in
@@ -171,7 +200,8 @@ nothing-compared lists =
     }
 
 -- from nothing on, what is found is the answer
-pub equal-answered : (lists : ProgramLists) (a b : TypeId) (new : Compared) → HasCompared lists new → FindsEqual lists a b nothing_compared new → EqualWith lists a b new.amounts
+pub equal-answered : (lists : ProgramLists) (a b : TypeId) (new : Compared) → HasCompared lists new
+    → FindsEqual lists a b nothing_compared new → EqualWith lists a b new.amounts
 equal-answered lists a b new compared finds =
     record {
       shapes = finds.shapes;

@@ -34,36 +34,45 @@ pub same-form : (R : TypeId → TypeId → Type 0) (p q : TypeNode) → SameHead
 same-form R p q same = same_head-map (λ a b related. tt) same
 
 -- types that are equal unfold to nodes whose heads are the same
-equal-heads : (lists : ProgramLists) (x : Annotations) (a b : TypeId) (p q : TypeNode) → EqualTypes lists x a b → Unfolds lists a.0 p → Unfolds lists b.0 q → SameHead x (EqualTypes lists x) p q
+equal-heads : (lists : ProgramLists) (x : Annotations) (a b : TypeId) (p q : TypeNode) → EqualTypes lists x a b
+    → Unfolds lists a.0 p → Unfolds lists b.0 q → SameHead x (EqualTypes lists x) p q
 equal-heads lists x a b p q equal left right =
     let u = equal-unfolded lists x a b p equal left in
     subst (λ (r : TypeNode). SameHead x (EqualTypes lists x) p r) (Unfolds-unique lists b.0 u.0 q u.1 right) u.2
 
 -- equal types are equal at equal paths
-pub equal-along : (lists : ProgramLists) (x : Annotations) (path : List Hop) (a b c d : TypeId) → EqualTypes lists x a b → PathLeads lists path a c → PathLeads lists path b d → EqualTypes lists x c d
+pub equal-along : (lists : ProgramLists) (x : Annotations) (path : List Hop) (a b c d : TypeId) → EqualTypes lists x a b
+    → PathLeads lists path a c → PathLeads lists path b d → EqualTypes lists x c d
 equal-along lists x [] a b c d equal (ends _) (ends _) = equal
-equal-along lists x (h ∷ path) a b c d equal (hops _ _ _ s _ n unfolds part rest) (hops _ _ _ t _ m unfolds2 part2 rest2) =
-    equal-along lists x path s t c d (head-parts n m h s t (equal-heads lists x a b n m equal unfolds unfolds2) part part2) rest rest2
+equal-along lists x (h ∷ path) a b c d equal (hops _ _ _ s _ n unfolds part rest)
+    (hops _ _ _ t _ m unfolds2 part2 rest2) =
+    equal-along lists x path s t c d
+    (head-parts n m h s t (equal-heads lists x a b n m equal unfolds unfolds2) part part2) rest rest2
 
 -- the types at a place of equal types are equal
-place-heads : (lists : ProgramLists) (x : Annotations) (a b : TypeId) (place : AtEqualPaths lists a b) → EqualTypes lists x a b → SameHead x (EqualTypes lists x) place.left place.right
+place-heads : (lists : ProgramLists) (x : Annotations) (a b : TypeId) (place : AtEqualPaths lists a b)
+    → EqualTypes lists x a b → SameHead x (EqualTypes lists x) place.left place.right
 place-heads lists x a b place equal =
     equal-heads lists x place.left_type place.right_type place.left place.right
     (equal-along lists x place.path a b place.left_type place.right_type equal place.left_leads place.right_leads)
     place.left_unfolds place.right_unfolds
 
 -- types that differ at the end of a path do not have equal shapes
-pub differ-unequal : (lists : ProgramLists) (a b : TypeId) (path : List Hop) → DifferAt lists a b path → EqualShapes lists a b → ⊥
+pub differ-unequal : (lists : ProgramLists) (a b : TypeId) (path : List Hop) → DifferAt lists a b path
+    → EqualShapes lists a b → ⊥
 differ-unequal lists a b path differ equal =
     differ.differ (same-form _ _ _ (place-heads lists no_amounts a b differ.place equal))
 
 -- the amounts at equal paths of equal types have the same worth
-pub equal-worth : (lists : ProgramLists) (x : Annotations) (a b : TypeId) (p : Amount × Amount) → EqualTypes lists x a b → StandAtEqualPaths lists a b p → dths x p.0 ≡ dths x p.1
+pub equal-worth : (lists : ProgramLists) (x : Annotations) (a b : TypeId) (p : Amount × Amount) → EqualTypes lists x a b
+    → StandAtEqualPaths lists a b p → dths x p.0 ≡ dths x p.1
 equal-worth lists x a b p equal stand =
     head-worth x _ _ p.0 p.1 (place-heads lists x a b stand.place equal) stand.left_pays stand.right_pays
 
 -- what stands at equal paths of two parts stands at equal paths of the wholes
-pub stand-behind : (lists : ProgramLists) (a b c d : TypeId) (n m : TypeNode) (h : Hop) (p : Amount × Amount) → Unfolds lists a.0 n → Unfolds lists b.0 m → part_by n h ≡ Some c → part_by m h ≡ Some d → StandAtEqualPaths lists c d p → StandAtEqualPaths lists a b p
+pub stand-behind : (lists : ProgramLists) (a b c d : TypeId) (n m : TypeNode) (h : Hop) (p : Amount × Amount)
+    → Unfolds lists a.0 n → Unfolds lists b.0 m → part_by n h ≡ Some c → part_by m h ≡ Some d
+    → StandAtEqualPaths lists c d p → StandAtEqualPaths lists a b p
 stand-behind lists a b c d n m h p left right left_part right_part stand =
     let place = stand.place in
     record {
@@ -83,7 +92,8 @@ stand-behind lists a b c d n m h p left right left_part right_part stand =
     }
 
 -- the amounts of what two types unfold to stand at equal paths
-pub stand-here : (lists : ProgramLists) (a b : TypeId) (n m : TypeNode) (p : Amount × Amount) → Unfolds lists a.0 n → Unfolds lists b.0 m → paid_by n ≡ Some p.0 → paid_by m ≡ Some p.1 → StandAtEqualPaths lists a b p
+pub stand-here : (lists : ProgramLists) (a b : TypeId) (n m : TypeNode) (p : Amount × Amount) → Unfolds lists a.0 n
+    → Unfolds lists b.0 m → paid_by n ≡ Some p.0 → paid_by m ≡ Some p.1 → StandAtEqualPaths lists a b p
 stand-here lists a b n m p left right left_pays right_pays =
     record {
       place = record {
@@ -102,7 +112,8 @@ stand-here lists a b n m p left right left_pays right_pays =
     }
 
 -- types of equal shapes, whose amounts at equal paths have the same worth, agree to each depth
-agree-worth : (lists : ProgramLists) (x : Annotations) (n : ℕ) (a b : TypeId) → EqualShapes lists a b → ((p : Amount × Amount) → StandAtEqualPaths lists a b p → dths x p.0 ≡ dths x p.1) → Agree lists x n a b
+agree-worth : (lists : ProgramLists) (x : Annotations) (n : ℕ) (a b : TypeId) → EqualShapes lists a b
+    → ((p : Amount × Amount) → StandAtEqualPaths lists a b p → dths x p.0 ≡ dths x p.1) → Agree lists x n a b
 agree-worth lists x zero a b shapes worth = tt
 agree-worth lists x (suc n) a b shapes worth =
     let u : SameUnfolding lists no_amounts (Agree lists no_amounts zero) a b = shapes (suc zero) in
@@ -115,45 +126,55 @@ agree-worth lists x (suc n) a b shapes worth =
       left_unfolds = u.left_unfolds;
       right_unfolds = u.right_unfolds;
       same = form-head u.left u.right (same-form _ _ _ heads)
-          (λ h c d left_part right_part. agree-worth lists x n c d (head-parts u.left u.right h c d heads left_part right_part)
-          (λ p stand. worth p (stand-behind lists a b c d u.left u.right h p u.left_unfolds u.right_unfolds left_part right_part stand)))
-          (λ q r left_pays right_pays. worth (q, r) (stand-here lists a b u.left u.right (q, r) u.left_unfolds u.right_unfolds left_pays right_pays));
+          (λ h c d left_part right_part.
+          agree-worth lists x n c d (head-parts u.left u.right h c d heads left_part right_part)
+          (λ p stand. worth p (stand-behind lists a b c d u.left u.right h p u.left_unfolds u.right_unfolds left_part
+          right_part stand)))
+          (λ q r left_pays right_pays. worth (q, r)
+          (stand-here lists a b u.left u.right (q, r) u.left_unfolds u.right_unfolds left_pays right_pays));
     }
 
 -- types of equal shapes are equal under amounts that have the same worth at equal paths
-pub equal-from_worth : (lists : ProgramLists) (x : Annotations) (a b : TypeId) → EqualShapes lists a b → ((p : Amount × Amount) → StandAtEqualPaths lists a b p → dths x p.0 ≡ dths x p.1) → EqualTypes lists x a b
+pub equal-from_worth : (lists : ProgramLists) (x : Annotations) (a b : TypeId) → EqualShapes lists a b
+    → ((p : Amount × Amount) → StandAtEqualPaths lists a b p → dths x p.0 ≡ dths x p.1) → EqualTypes lists x a b
 equal-from_worth lists x a b shapes worth = λ n. agree-worth lists x n a b shapes worth
 
 -- ---- behind names
 
 -- a type unfolds to what the type behind its name unfolds to
-pub behind-name : (lists : ProgramLists) (t u : ℕ) (n : TypeNode) → IsUnfolding lists t u → Unfolds lists u n → Unfolds lists t n
+pub behind-name : (lists : ProgramLists) (t u : ℕ) (n : TypeNode) → IsUnfolding lists t u → Unfolds lists u n
+    → Unfolds lists t n
 behind-name lists t u n behind unfolds =
-    let same : behind.node ≡ n = Unfolds-unique lists u behind.node n (constructor u behind.node behind.there behind.no_name) unfolds in
+    let same : behind.node ≡ n = Unfolds-unique lists u behind.node n
+    (constructor u behind.node behind.there behind.no_name) unfolds in
     subst (λ (m : TypeNode). Unfolds lists t m) same behind.unfolds
 
 -- and the other way
-pub before-name : (lists : ProgramLists) (t u : ℕ) (n : TypeNode) → IsUnfolding lists t u → Unfolds lists t n → Unfolds lists u n
+pub before-name : (lists : ProgramLists) (t u : ℕ) (n : TypeNode) → IsUnfolding lists t u → Unfolds lists t n
+    → Unfolds lists u n
 before-name lists t u n behind unfolds =
     let same : behind.node ≡ n = Unfolds-unique lists t behind.node n behind.unfolds unfolds in
     subst (λ (m : TypeNode). Unfolds lists u m) same (constructor u behind.node behind.there behind.no_name)
 
 -- the node there is what the type unfolds to
-pub node-behind : (lists : ProgramLists) (t u : ℕ) (n : TypeNode) → IsUnfolding lists t u → type_node lists u ≡ Some n → Unfolds lists t n
+pub node-behind : (lists : ProgramLists) (t u : ℕ) (n : TypeNode) → IsUnfolding lists t u → type_node lists u ≡ Some n
+    → Unfolds lists t n
 node-behind lists t u n behind there =
     let found = behind.there in
     let same : behind.node ≡ n = cc in
     subst (λ (m : TypeNode). Unfolds lists t m) same behind.unfolds
 
 -- and is a constructor
-pub node-constructs : (lists : ProgramLists) (t u : ℕ) (n : TypeNode) → IsUnfolding lists t u → type_node lists u ≡ Some n → IsConstructor n
+pub node-constructs : (lists : ProgramLists) (t u : ℕ) (n : TypeNode) → IsUnfolding lists t u
+    → type_node lists u ≡ Some n → IsConstructor n
 node-constructs lists t u n behind there =
     let found = behind.there in
     let same : behind.node ≡ n = cc in
     subst (λ (m : TypeNode). IsConstructor m) same behind.no_name
 
 -- agreement behind names is agreement
-pub agree-behind : (lists : ProgramLists) (x : Annotations) (n : ℕ) (a b u v : TypeId) → IsUnfolding lists a.0 u.0 → IsUnfolding lists b.0 v.0 → Agree lists x n u v → Agree lists x n a b
+pub agree-behind : (lists : ProgramLists) (x : Annotations) (n : ℕ) (a b u v : TypeId) → IsUnfolding lists a.0 u.0
+    → IsUnfolding lists b.0 v.0 → Agree lists x n u v → Agree lists x n a b
 agree-behind lists x zero a b u v left right agree = tt
 agree-behind lists x (suc n) a b u v left right agree =
     record {
@@ -165,17 +186,20 @@ agree-behind lists x (suc n) a b u v left right agree =
     }
 
 -- a path from a type, as one from the type behind its name: it ends at the type behind its name, or where it ended
-pub leads-behind : (lists : ProgramLists) (path : List Hop) (a u c : TypeId) (n : TypeNode) → IsUnfolding lists a.0 u.0 → PathLeads lists path a c → Unfolds lists c.0 n → (d : TypeId) × PathLeads lists path u d × Unfolds lists d.0 n
+pub leads-behind : (lists : ProgramLists) (path : List Hop) (a u c : TypeId) (n : TypeNode) → IsUnfolding lists a.0 u.0
+    → PathLeads lists path a c → Unfolds lists c.0 n → (d : TypeId) × PathLeads lists path u d × Unfolds lists d.0 n
 leads-behind lists [] a u c n behind (ends _) unfolds = (u, ends u, before-name lists a.0 u.0 n behind unfolds)
 leads-behind lists (h ∷ path) a u c n behind (hops _ _ _ s _ m first part rest) unfolds =
     (c, hops h path u s c m (before-name lists a.0 u.0 m behind first) part rest, unfolds)
 
 -- what stands at equal paths stands there from behind names too
-pub stand-from_behind : (lists : ProgramLists) (a b u v : TypeId) (p : Amount × Amount) → IsUnfolding lists a.0 u.0 → IsUnfolding lists b.0 v.0 → StandAtEqualPaths lists a b p → StandAtEqualPaths lists u v p
+pub stand-from_behind : (lists : ProgramLists) (a b u v : TypeId) (p : Amount × Amount) → IsUnfolding lists a.0 u.0
+    → IsUnfolding lists b.0 v.0 → StandAtEqualPaths lists a b p → StandAtEqualPaths lists u v p
 stand-from_behind lists a b u v p left right stand =
     let place = stand.place in
     let l = leads-behind lists place.path a u place.left_type place.left left place.left_leads place.left_unfolds in
-    let r = leads-behind lists place.path b v place.right_type place.right right place.right_leads place.right_unfolds in
+    let r = leads-behind lists place.path b v place.right_type place.right right place.right_leads
+    place.right_unfolds in
     record {
       place = record {
         path = place.path;
@@ -194,31 +218,45 @@ stand-from_behind lists a b u v p left right stand =
 
 -- ---- numbers in range
 
-branch-in_range : (n : ℕ) (bs : List Branch) (l : Label) (s : TypeId) → AllBelow n (map (λ b. b.goes.0) bs) → goes_by bs l ≡ Some s → s.0 < n
+branch-in_range : (n : ℕ) (bs : List Branch) (l : Label) (s : TypeId) → AllBelow n (map (λ b. b.goes.0) bs)
+    → goes_by bs l ≡ Some s → s.0 < n
 branch-in_range n bs l s parts found =
     let c = goes-label bs l s found in
-    All-contains (λ (k : ℕ). k < n) (map (λ b. b.goes.0) bs) s.0 parts (contains-map (λ b. b.goes.0) bs c.0 s.0 c.1 (ap (λ (t : TypeId). t.0) c.3))
+    All-contains (λ (k : ℕ). k < n) (map (λ b. b.goes.0) bs) s.0 parts
+    (contains-map (λ b. b.goes.0) bs c.0 s.0 c.1 (ap (λ (t : TypeId). t.0) c.3))
 
 -- the parts of a node in range are in range
-part-in_range : (n : ℕ) (node_at : TypeNode) (h : Hop) (s : TypeId) → AllBelow n (type_parts node_at) → part_by node_at h ≡ Some s → s.0 < n
+part-in_range : (n : ℕ) (node_at : TypeNode) (h : Hop) (s : TypeId) → AllBelow n (type_parts node_at)
+    → part_by node_at h ≡ Some s → s.0 < n
 part-in_range n (node.Plus bs) (hop.Label l) s parts found = branch-in_range n bs l s parts found
 part-in_range n (node.With bs) (hop.Label l) s parts found = branch-in_range n bs l s parts found
-part-in_range n (node.Tensor a b) hop.Carried s parts found = let same : a ≡ s = cc in subst (λ (t : TypeId). t.0 < n) same (parts 0 0 (omega arith))
-part-in_range n (node.Tensor a b) hop.Next s parts found = let same : b ≡ s = cc in subst (λ (t : TypeId). t.0 < n) same (parts 1 0 (omega arith))
-part-in_range n (node.Lolli a b) hop.Carried s parts found = let same : a ≡ s = cc in subst (λ (t : TypeId). t.0 < n) same (parts 0 0 (omega arith))
-part-in_range n (node.Lolli a b) hop.Next s parts found = let same : b ≡ s = cc in subst (λ (t : TypeId). t.0 < n) same (parts 1 0 (omega arith))
-part-in_range n (node.ValueOut k a) hop.Next s parts found = let same : a ≡ s = cc in subst (λ (t : TypeId). t.0 < n) same (parts 0 0 (omega arith))
-part-in_range n (node.ValueIn k a) hop.Next s parts found = let same : a ≡ s = cc in subst (λ (t : TypeId). t.0 < n) same (parts 0 0 (omega arith))
-part-in_range n (node.PotOut q a) hop.Next s parts found = let same : a ≡ s = cc in subst (λ (t : TypeId). t.0 < n) same (parts 0 0 (omega arith))
-part-in_range n (node.PotIn q a) hop.Next s parts found = let same : a ≡ s = cc in subst (λ (t : TypeId). t.0 < n) same (parts 0 0 (omega arith))
-part-in_range n (node.Up a) hop.Next s parts found = let same : a ≡ s = cc in subst (λ (t : TypeId). t.0 < n) same (parts 0 0 (omega arith))
-part-in_range n (node.Down a) hop.Next s parts found = let same : a ≡ s = cc in subst (λ (t : TypeId). t.0 < n) same (parts 0 0 (omega arith))
+part-in_range n (node.Tensor a b) hop.Carried s parts found =
+    let same : a ≡ s = cc in subst (λ (t : TypeId). t.0 < n) same (parts 0 0 (omega arith))
+part-in_range n (node.Tensor a b) hop.Next s parts found =
+    let same : b ≡ s = cc in subst (λ (t : TypeId). t.0 < n) same (parts 1 0 (omega arith))
+part-in_range n (node.Lolli a b) hop.Carried s parts found =
+    let same : a ≡ s = cc in subst (λ (t : TypeId). t.0 < n) same (parts 0 0 (omega arith))
+part-in_range n (node.Lolli a b) hop.Next s parts found =
+    let same : b ≡ s = cc in subst (λ (t : TypeId). t.0 < n) same (parts 1 0 (omega arith))
+part-in_range n (node.ValueOut k a) hop.Next s parts found =
+    let same : a ≡ s = cc in subst (λ (t : TypeId). t.0 < n) same (parts 0 0 (omega arith))
+part-in_range n (node.ValueIn k a) hop.Next s parts found =
+    let same : a ≡ s = cc in subst (λ (t : TypeId). t.0 < n) same (parts 0 0 (omega arith))
+part-in_range n (node.PotOut q a) hop.Next s parts found =
+    let same : a ≡ s = cc in subst (λ (t : TypeId). t.0 < n) same (parts 0 0 (omega arith))
+part-in_range n (node.PotIn q a) hop.Next s parts found =
+    let same : a ≡ s = cc in subst (λ (t : TypeId). t.0 < n) same (parts 0 0 (omega arith))
+part-in_range n (node.Up a) hop.Next s parts found =
+    let same : a ≡ s = cc in subst (λ (t : TypeId). t.0 < n) same (parts 0 0 (omega arith))
+part-in_range n (node.Down a) hop.Next s parts found =
+    let same : a ≡ s = cc in subst (λ (t : TypeId). t.0 < n) same (parts 0 0 (omega arith))
 part-in_range n m (hop.Label l) s parts found = absurd cc
 part-in_range n m hop.Next s parts found = absurd cc
 part-in_range n m hop.Carried s parts found = absurd cc
 
 -- the part of a type of a program is a type of the program
-pub part-below : (lists : ProgramLists) (t : ℕ) (n : TypeNode) (h : Hop) (s : TypeId) → IsProgram lists → type_node lists t ≡ Some n → part_by n h ≡ Some s → s.0 < length lists.types
+pub part-below : (lists : ProgramLists) (t : ℕ) (n : TypeNode) (h : Hop) (s : TypeId) → IsProgram lists
+    → type_node lists t ≡ Some n → part_by n h ≡ Some s → s.0 < length lists.types
 part-below lists t n h s is_program there found =
     let at = type_node-at lists t n there in
     let parts : AllBelow (length lists.types) (type_parts n) =

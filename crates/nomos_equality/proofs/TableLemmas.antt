@@ -16,53 +16,62 @@ use Rattle.nomos_equality.specs.mirror.Tables.{types_at, amount_key, pair_key, P
 
 -- ---- sets
 
-module _ {K : Type 0} (eq : K → K → Bool) (exact : (x y : K) → eq x y ≡ true → x ≡ y) (same : (k : K) → eq k k ≡ true) where
-  -- a key of the list is found
-  found-key : (ks : List K) (k : K) → Contains ks k → list_any (eq k) ks ≡ true
-  found-key [] k among = absurd (omega (arith, among.1))
-  found-key (x ∷ xs) k (zero, inside, is) = let e : x ≡ k = is in rw (e, same k) refl
-  found-key (x ∷ xs) k (suc i, inside, is) =
-      by (eq k x) (found-key xs k (i, omega arith, is))
-    where
-      by : (b : Bool) → list_any (eq k) xs ≡ true → (b || list_any (eq k) xs) ≡ true
-      by true h = refl
-      by false h = h
+module _ {K : Type 0} (eq : K → K → Bool) (exact : (x y : K) → eq x y ≡ true → x ≡ y) (same : (k : K) → eq k k ≡ true)
+  where
+    -- a key of the list is found
+    found-key : (ks : List K) (k : K) → Contains ks k → list_any (eq k) ks ≡ true
+    found-key [] k among = absurd (omega (arith, among.1))
+    found-key (x ∷ xs) k (zero, inside, is) = let e : x ≡ k = is in rw (e, same k) refl
+    found-key (x ∷ xs) k (suc i, inside, is) =
+        by (eq k x) (found-key xs k (i, omega arith, is))
+      where
+        by : (b : Bool) → list_any (eq k) xs ≡ true → (b || list_any (eq k) xs) ≡ true
+        by true h = refl
+        by false h = h
 
-  module _ {X : Type 0} (f : K → X) (apart : (x y : K) → f x ≡ f y → x ≡ y) (k : K) (ks : List K) (made : List K) (added : Bool) where
-    -- a key is put once
-    by-found : (b : Bool) → list_any (eq k) ks ≡ b → added ≡ not b → made ≡ (if b then ks else ks ++ k ∷ []) → PutsOnce (map f ks) (f k) (map f made) added
-    by-found true found is kept =
-        subst (λ (a : Bool). PutsOnce (map f ks) (f k) (map f made) a) (sym is)
-        (contains-map f ks k (f k) (Contains-list_any eq exact ks k found) refl, ap (map f) kept)
-    by-found false found is kept =
-        subst (λ (a : Bool). PutsOnce (map f ks) (f k) (map f made) a) (sym is) (
-          λ among.
-              let x = contains-unmap f ks (f k) among in
-              let there : Contains ks k = subst (λ (j : K). Contains ks j) (apart x.0 k x.2) x.1 in
-              true≢false (sym (found-key ks k there) ∙ found),
-          ap (map f) kept ∙ map-append f ks (k ∷ []),
-        )
+    module _ {X : Type 0} (f : K → X) (apart : (x y : K) → f x ≡ f y → x ≡ y) (k : K) (ks : List K) (made : List K)
+        (added : Bool) where
+      -- a key is put once
+      by-found : (b : Bool) → list_any (eq k) ks ≡ b → added ≡ not b → made ≡ (if b then ks else ks ++ k ∷ [])
+          → PutsOnce (map f ks) (f k) (map f made) added
+      by-found true found is kept =
+          subst (λ (a : Bool). PutsOnce (map f ks) (f k) (map f made) a) (sym is)
+          (contains-map f ks k (f k) (Contains-list_any eq exact ks k found) refl, ap (map f) kept)
+      by-found false found is kept =
+          subst (λ (a : Bool). PutsOnce (map f ks) (f k) (map f made) a) (sym is) (
+            λ among.
+                let x = contains-unmap f ks (f k) among in
+                let there : Contains ks k = subst (λ (j : K). Contains ks j) (apart x.0 k x.2) x.1 in
+                true≢false (sym (found-key ks k there) ∙ found),
+            ap (map f) kept ∙ map-append f ks (k ∷ []),
+          )
 
-    pub put-once : added ≡ not (list_any (eq k) ks) → made ≡ insert_key eq ks k → PutsOnce (map f ks) (f k) (map f made) added
-    put-once is kept = by-found (list_any (eq k) ks) refl is kept
+      pub put-once : added ≡ not (list_any (eq k) ks) → made ≡ insert_key eq ks k
+          → PutsOnce (map f ks) (f k) (map f made) added
+      put-once is kept = by-found (list_any (eq k) ks) refl is kept
 
 -- ---- maps from the key of an item to the item
 
-module _ {K X : Type 0} (eq : K → K → Bool) (exact : (x y : K) → eq x y ≡ true → x ≡ y) (same : (k : K) → eq k k ≡ true) (key : X → K) (apart : (x y : X) → key x ≡ key y → x ≡ y) (x : X) where
+module _ {K X : Type 0} (eq : K → K → Bool) (exact : (x y : K) → eq x y ≡ true → x ≡ y) (same : (k : K) → eq k k ≡ true)
+    (key : X → K) (apart : (x y : X) → key x ≡ key y → x ≡ y) (x : X) where
   -- an item whose key is found is there
-  pub found-item : (es : List (K × X)) → All (λ e. e.0 ≡ key e.1) es → is_some (lookup (eq (key x)) es) ≡ true → Contains (map (λ e. e.1) es) x
+  pub found-item : (es : List (K × X)) → All (λ e. e.0 ≡ key e.1) es → is_some (lookup (eq (key x)) es) ≡ true
+      → Contains (map (λ e. e.1) es) x
   found-item [] keyed found = absurd (true≢false (sym found))
   found-item (e ∷ es) keyed found =
       by (eq (key x) e.0) refl (found-item es (All-tail (λ d. d.0 ≡ key d.1) e es keyed)) found
     where
-      by : (b : Bool) → eq (key x) e.0 ≡ b → (is_some (lookup (eq (key x)) es) ≡ true → Contains (map (λ e. e.1) es) x) → is_some (cond b (Some e.1) (lookup (eq (key x)) es)) ≡ true → Contains (map (λ e. e.1) (e ∷ es)) x
+      by : (b : Bool) → eq (key x) e.0 ≡ b → (is_some (lookup (eq (key x)) es) ≡ true → Contains (map (λ e. e.1) es) x)
+          → is_some (cond b (Some e.1) (lookup (eq (key x)) es)) ≡ true → Contains (map (λ e. e.1) (e ∷ es)) x
       by true found rest h =
           let item : x ≡ e.1 = apart x e.1 (exact (key x) e.0 found ∙ All-head (λ d. d.0 ≡ key d.1) e es keyed) in
-          subst (Contains (map (λ e. e.1) (e ∷ es))) (sym item) (Contains-get_or (map (λ e. e.1) (e ∷ es)) 0 e.1 (omega arith))
+          subst (Contains (map (λ e. e.1) (e ∷ es))) (sym item)
+          (Contains-get_or (map (λ e. e.1) (e ∷ es)) 0 e.1 (omega arith))
       by false found rest h = Contains-append_right (e.1 ∷ []) (map (λ e. e.1) es) x (rest h)
 
   -- the key of an item that is there is found
-  item-found : (es : List (K × X)) (i : ℕ) → All (λ e. e.0 ≡ key e.1) es → i < length (map (λ e. e.1) es) → get_or (map (λ e. e.1) es) i x ≡ x → is_some (lookup (eq (key x)) es) ≡ true
+  item-found : (es : List (K × X)) (i : ℕ) → All (λ e. e.0 ≡ key e.1) es → i < length (map (λ e. e.1) es)
+      → get_or (map (λ e. e.1) es) i x ≡ x → is_some (lookup (eq (key x)) es) ≡ true
   item-found [] i keyed inside is = absurd (omega arith)
   item-found (e ∷ es) zero keyed inside is =
       let k : e.0 ≡ key x = All-head (λ d. d.0 ≡ key d.1) e es keyed ∙ ap key is in
@@ -70,19 +79,24 @@ module _ {K X : Type 0} (eq : K → K → Bool) (exact : (x y : K) → eq x y �
   item-found (e ∷ es) (suc i) keyed inside is =
       by (eq (key x) e.0) (item-found es i (All-tail (λ d. d.0 ≡ key d.1) e es keyed) (omega arith) is)
     where
-      by : (b : Bool) → is_some (lookup (eq (key x)) es) ≡ true → is_some (cond b (Some e.1) (lookup (eq (key x)) es)) ≡ true
+      by : (b : Bool) → is_some (lookup (eq (key x)) es) ≡ true
+          → is_some (cond b (Some e.1) (lookup (eq (key x)) es)) ≡ true
       by true h = refl
       by false h = h
 
-  pub absent-item : (es : List (K × X)) → All (λ e. e.0 ≡ key e.1) es → is_some (lookup (eq (key x)) es) ≡ false → ¬ (Contains (map (λ e. e.1) es) x)
+  pub absent-item : (es : List (K × X)) → All (λ e. e.0 ≡ key e.1) es → is_some (lookup (eq (key x)) es) ≡ false
+      → ¬ (Contains (map (λ e. e.1) es) x)
   absent-item es keyed absent among = true≢false (sym (item-found es among.0 keyed among.1 among.2) ∙ absent)
 
   -- a new item goes to the end
-  pub put-last : (es : List (K × X)) → is_some (lookup (eq (key x)) es) ≡ false → insert_entry eq es (key x) x ≡ es ++ (key x, x) ∷ []
+  pub put-last : (es : List (K × X)) → is_some (lookup (eq (key x)) es) ≡ false
+      → insert_entry eq es (key x) x ≡ es ++ (key x, x) ∷ []
   put-last [] absent = refl
   put-last (e ∷ es) absent = by (eq (key x) e.0) refl (put-last es)
     where
-      by : (b : Bool) → eq (key x) e.0 ≡ b → (is_some (lookup (eq (key x)) es) ≡ false → insert_entry eq es (key x) x ≡ es ++ (key x, x) ∷ []) → insert_entry eq (e ∷ es) (key x) x ≡ (e ∷ es) ++ (key x, x) ∷ []
+      by : (b : Bool) → eq (key x) e.0 ≡ b
+          → (is_some (lookup (eq (key x)) es) ≡ false → insert_entry eq es (key x) x ≡ es ++ (key x, x) ∷ [])
+          → insert_entry eq (e ∷ es) (key x) x ≡ (e ∷ es) ++ (key x, x) ∷ []
       by true found ih = let h = rw found at absent in cc
       by false found ih = rw found (ap (λ xs. e ∷ xs) (ih (rw found at absent)))
 
@@ -144,10 +158,12 @@ pub keys-same : (k : (Bool × ℕ) × (Bool × ℕ)) → keys_eq k k ≡ true
 keys-same k = and_from (star_eq k.0 k.0) (star_eq k.1 k.1) (star-same k.0) (star-same k.1)
 
 key-apart : (a b : Amount) → amount_key a ≡ amount_key b → a ≡ b
-key-apart (amount.Written n) (amount.Written m) h = let e : n ≡ m = ap (λ (k : Bool × ℕ). k.1) h in ap (λ (k : ℕ). amount.Written k) e
+key-apart (amount.Written n) (amount.Written m) h =
+    let e : n ≡ m = ap (λ (k : Bool × ℕ). k.1) h in ap (λ (k : ℕ). amount.Written k) e
 key-apart (amount.Written n) (amount.Star m) h = absurd (true≢false (sym (ap (λ (k : Bool × ℕ). k.0) h)))
 key-apart (amount.Star n) (amount.Written m) h = absurd (true≢false (ap (λ (k : Bool × ℕ). k.0) h))
-key-apart (amount.Star n) (amount.Star m) h = let e : n ≡ m = ap (λ (k : Bool × ℕ). k.1) h in ap (λ (k : ℕ). amount.Star k) e
+key-apart (amount.Star n) (amount.Star m) h =
+    let e : n ≡ m = ap (λ (k : Bool × ℕ). k.1) h in ap (λ (k : ℕ). amount.Star k) e
 
 pub pairs-apart : (p q : Amount × Amount) → pair_key p ≡ pair_key q → p ≡ q
 pairs-apart p q h =

@@ -21,7 +21,8 @@ trail_measure None = 0
 trail_measure (Some o) = o.visit + 1
 
 -- at the visit itself
-pub trail-starts : (visits : List Visit) (number : ℕ) (v : Visit) → slice_get visits number ≡ Some v → IsTrailFrom visits number v.from []
+pub trail-starts : (visits : List Visit) (number : ℕ) (v : Visit) → slice_get visits number ≡ Some v
+    → IsTrailFrom visits number v.from []
 trail-starts visits number v found =
     record {
       at = number;
@@ -32,7 +33,9 @@ trail-starts visits number v found =
     }
 
 -- one hop further
-pub trail-onward : (visits : List Visit) (number : ℕ) (o : Origin) (path : List Hop) (v : Visit) → IsTrailFrom visits number (Some o) path → slice_get visits o.visit ≡ Some v → IsTrailFrom visits number v.from (path ++ o.hop ∷ [])
+pub trail-onward : (visits : List Visit) (number : ℕ) (o : Origin) (path : List Hop) (v : Visit)
+    → IsTrailFrom visits number (Some o) path → slice_get visits o.visit ≡ Some v
+    → IsTrailFrom visits number v.from (path ++ o.hop ∷ [])
 trail-onward visits number o path v trail found =
     record {
       at = o.visit;
@@ -41,23 +44,27 @@ trail-onward visits number o path v trail found =
       from_is = refl;
       leads = λ front before.
           subst (λ (l : List Hop). Trail visits number l)
-          (append_assoc front (o.hop ∷ []) (reverse path) ∙ ap (λ (l : List Hop). front ++ l) (sym (reverse-append path (o.hop ∷ []))))
+          (append_assoc front (o.hop ∷ []) (reverse path)
+          ∙ ap (λ (l : List Hop). front ++ l) (sym (reverse-append path (o.hop ∷ []))))
           (trail.leads (front ++ o.hop ∷ []) (onward trail.at trail.visit o front trail.there trail.from_is before));
     }
 
 -- at the beginning
-pub trail-ends : (visits : List Visit) (number : ℕ) (path : List Hop) → IsTrailFrom visits number None path → Trail visits number (reverse path)
+pub trail-ends : (visits : List Visit) (number : ℕ) (path : List Hop) → IsTrailFrom visits number None path
+    → Trail visits number (reverse path)
 trail-ends visits number path trail = trail.leads [] (begins trail.at trail.visit trail.there trail.from_is)
 
 -- the next visit is there
-pub trail-inside : (visits : List Visit) (number : ℕ) (o : Origin) (path : List Hop) → AreInOrder visits → IsTrailFrom visits number (Some o) path → o.visit < length visits
+pub trail-inside : (visits : List Visit) (number : ℕ) (o : Origin) (path : List Hop) → AreInOrder visits
+    → IsTrailFrom visits number (Some o) path → o.visit < length visits
 trail-inside visits number o path order trail =
     let earlier = order trail.at trail.visit o trail.there trail.from_is in
     let inside = slice_get_within visits trail.at trail.visit trail.there in
     omega arith
 
 -- the reading ends
-pub trail-falls : (visits : List Visit) (o : Origin) (v : Visit) → AreInOrder visits → slice_get visits o.visit ≡ Some v → trail_measure v.from < o.visit + 1
+pub trail-falls : (visits : List Visit) (o : Origin) (v : Visit) → AreInOrder visits → slice_get visits o.visit ≡ Some v
+    → trail_measure v.from < o.visit + 1
 trail-falls visits o v order found = by v.from refl
   where
     by : (from : Option Origin) → v.from ≡ from → trail_measure from < o.visit + 1

@@ -237,7 +237,8 @@ impl Search {
         requires right { right.0 < length program.now.types }
         requires compared { HasCompared program.now (compared_by self.old) }
         ensures compared { HasCompared program.now (compared_by self.new) }
-        ensures answers { IfOk result (AnswersComparison program.now left right (compared_by self.old) (compared_by self.new)) }
+        ensures answers { IfOk result (AnswersComparison program.now left right (compared_by self.old)
+            (compared_by self.new)) }
         ensures err { OnErr result (compared_by self.new ≡ compared_by self.old) }
     {
         let pairs = self.pairs.len();

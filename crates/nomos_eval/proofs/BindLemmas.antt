@@ -25,8 +25,11 @@ use Rattle.nomos_eval.proofs.MachineLemmas.{at-scope}
 use Rattle.nomos_eval.proofs.RestLemmas.{go_on-next, rest-more}
 
 -- one more argument
-module _ (names : List VarId) (count : ℕ) (first : List Datum) (before : List (List (VarId × Datum))) (k : ℕ) (ds : List Datum) (scopes : List (List (VarId × Datum))) (place : ℕ) (binding : IsBinding names count first before (suc k) ds scopes place) where
-  pub bind-none : (ds' : List Datum) → slice_get names k ≡ None → ds' ≡ below_top ds → IsBinding names count first before k ds' scopes place
+module _ (names : List VarId) (count : ℕ) (first : List Datum) (before : List (List (VarId × Datum))) (k : ℕ)
+    (ds : List Datum) (scopes : List (List (VarId × Datum))) (place : ℕ)
+    (binding : IsBinding names count first before (suc k) ds scopes place) where
+  pub bind-none : (ds' : List Datum) → slice_get names k ≡ None → ds' ≡ below_top ds
+      → IsBinding names count first before k ds' scopes place
   bind-none ds' none is =
       let P : List Datum → Type 0 = λ l. IsBinding names count first before k l scopes place in
       subst
@@ -35,12 +38,17 @@ module _ (names : List VarId) (count : ℕ) (first : List Datum) (before : List 
       (record {
         grown = binding.grown;
         there = binding.there;
-        bound = ap (λ o. bound_on k names (below_top ds) (with_parameter o (top_datum ds) (get_or scopes place []))) (sym none) ∙ binding.bound;
+        bound =
+            ap (λ o. bound_on k names (below_top ds) (with_parameter o (top_datum ds) (get_or scopes place [])))
+            (sym none) ∙ binding.bound;
         under = binding.under;
         sound = λ n first_in before_in. let s = binding.sound n first_in before_in in (below-in n ds s.0, s.1);
       })
 
-  pub bind-some : (v : VarId) (d : Datum) (ds' : List Datum) (scopes' : List (List (VarId × Datum))) (place' : ℕ) → slice_get names k ≡ Some v → d ≡ top_datum ds → ds' ≡ below_top ds → place' ≡ length scopes → scopes' ≡ scopes ++ ((v, d) ∷ get_or scopes place []) ∷ [] → IsBinding names count first before k ds' scopes' place'
+  pub bind-some : (v : VarId) (d : Datum) (ds' : List Datum) (scopes' : List (List (VarId × Datum))) (place' : ℕ)
+      → slice_get names k ≡ Some v → d ≡ top_datum ds → ds' ≡ below_top ds → place' ≡ length scopes
+      → scopes' ≡ scopes ++ ((v, d) ∷ get_or scopes place []) ∷ []
+      → IsBinding names count first before k ds' scopes' place'
   bind-some v d ds' scopes' place' some d_is ds_is place_is added =
       let s = (v, top_datum ds) ∷ get_or scopes place [] in
       let more = scopes ++ s ∷ [] in
@@ -48,7 +56,8 @@ module _ (names : List VarId) (count : ℕ) (first : List Datum) (before : List 
       let longer : length more ≡ length scopes + 1 = omega (arith, length-append scopes (s ∷ [])) in
       let last : get_or more (length scopes) [] ≡ s = get_or-append_seam scopes s [] [] in
       let P : List Datum → Type 0 = λ l. IsBinding names count first before k l scopes' place' in
-      let Q : List (List (VarId × Datum)) → Type 0 = λ l. IsBinding names count first before k (below_top ds) l place' in
+      let Q : List (List (VarId × Datum))
+      → Type 0 = λ l. IsBinding names count first before k (below_top ds) l place' in
       let R : ℕ → Type 0 = λ p. IsBinding names count first before k (below_top ds) more p in
       subst
       P
@@ -60,11 +69,16 @@ module _ (names : List VarId) (count : ℕ) (first : List Datum) (before : List 
       R
       (sym place_is)
       (record {
-        grown = (binding.grown.0 ++ s ∷ [], ap (λ l. l ++ s ∷ []) binding.grown.1 ∙ append_assoc before binding.grown.0 (s ∷ []));
+        grown = (
+          binding.grown.0 ++ s ∷ [],
+          ap (λ l. l ++ s ∷ []) binding.grown.1
+              ∙ append_assoc before binding.grown.0 (s ∷ []),
+        );
         there = omega (arith, longer);
         bound =
             ap (bound_on k names (below_top ds)) last
-            ∙ ap (λ o. bound_on k names (below_top ds) (with_parameter o (top_datum ds) (get_or scopes place []))) (sym some)
+            ∙ ap (λ o. bound_on k names (below_top ds) (with_parameter o (top_datum ds) (get_or scopes place [])))
+            (sym some)
             ∙ binding.bound;
         under = binding.under;
         sound = λ n first_in before_in.
@@ -73,7 +87,9 @@ module _ (names : List VarId) (count : ℕ) (first : List Datum) (before : List 
       })))
 
 -- no arguments yet
-pub bind-first : (names : List VarId) (count : ℕ) (first : List Datum) (before : List (List (VarId × Datum))) (scopes : List (List (VarId × Datum))) (place : ℕ) → place ≡ length before → scopes ≡ before ++ [] ∷ [] → IsBinding names count first before count first scopes place
+pub bind-first : (names : List VarId) (count : ℕ) (first : List Datum) (before : List (List (VarId × Datum)))
+    (scopes : List (List (VarId × Datum))) (place : ℕ) → place ≡ length before → scopes ≡ before ++ [] ∷ []
+    → IsBinding names count first before count first scopes place
 bind-first names count first before scopes place place_is added =
     let longer : length (before ++ [] ∷ []) ≡ length before + 1 = omega (arith, length-append before ([] ∷ [])) in
     let Q : List (List (VarId × Datum)) → Type 0 = λ l. IsBinding names count first before count first l place in
@@ -97,13 +113,15 @@ zip-nil : (names : List VarId) → zip {X = Datum} names [] ≡ []
 zip-nil [] = refl
 zip-nil (w ∷ names) = refl
 
-zip-more : (names : List VarId) (k : ℕ) (d : Datum) (others : List Datum) → with_parameter (slice_get names k) d (zip (drop (suc k) names) others) ≡ zip (drop k names) (d ∷ others)
+zip-more : (names : List VarId) (k : ℕ) (d : Datum) (others : List Datum)
+    → with_parameter (slice_get names k) d (zip (drop (suc k) names) others) ≡ zip (drop k names) (d ∷ others)
 zip-more [] zero d others = refl
 zip-more [] (suc k) d others = refl
 zip-more (w ∷ names) zero d others = refl
 zip-more (w ∷ names) (suc k) d others = zip-more names k d others
 
-bound-zip : (names : List VarId) (k : ℕ) (ds others : List Datum) → bound_on k names ds (zip (drop k names) others) ≡ zip names (arguments_at k ds ++ others)
+bound-zip : (names : List VarId) (k : ℕ) (ds others : List Datum)
+    → bound_on k names ds (zip (drop k names) others) ≡ zip names (arguments_at k ds ++ others)
 bound-zip names zero ds others = refl
 bound-zip names (suc k) ds others =
     ap (bound_on k names (below_top ds)) (zip-more names k (top_datum ds) others)
@@ -112,14 +130,17 @@ bound-zip names (suc k) ds others =
 
 bound-whole : (names : List VarId) (k : ℕ) (ds : List Datum) → bound_on k names ds [] ≡ zip names (arguments_at k ds)
 bound-whole names k ds =
-    ap (bound_on k names ds) (sym (zip-nil (drop k names))) ∙ bound-zip names k ds [] ∙ ap (zip names) (append-nil (arguments_at k ds))
+    ap (bound_on k names ds) (sym (zip-nil (drop k names))) ∙ bound-zip names k ds []
+    ∙ ap (zip names) (append-nil (arguments_at k ds))
 
-held-zip : (lists : List ValueList) (names : List VarId) (ds : List Datum) → held lists (zip names ds) ≡ zip names (map (datum_value lists) ds)
+held-zip : (lists : List ValueList) (names : List VarId) (ds : List Datum)
+    → held lists (zip names ds) ≡ zip names (map (datum_value lists) ds)
 held-zip lists [] ds = refl
 held-zip lists (w ∷ names) [] = refl
 held-zip lists (w ∷ names) (d ∷ ds) = ap (λ l. (w, datum_value lists d) ∷ l) (held-zip lists names ds)
 
-arguments-found : (lists : List ValueList) (k : ℕ) (ds : List Datum) → arguments_on k (map (datum_value lists) ds) ≡ map (datum_value lists) (arguments_at k ds)
+arguments-found : (lists : List ValueList) (k : ℕ) (ds : List Datum)
+    → arguments_on k (map (datum_value lists) ds) ≡ map (datum_value lists) (arguments_at k ds)
 arguments-found lists zero ds = refl
 arguments-found lists (suc k) ds =
     ap (λ l. arguments_on k l ++ top (map (datum_value lists) ds) ∷ []) (below-found lists ds)
@@ -127,11 +148,14 @@ arguments-found lists (suc k) ds =
     ∙ ap (λ l. l ++ datum_value lists (top_datum ds) ∷ []) (arguments-found lists k (below_top ds))
     ∙ sym (map-append (datum_value lists) (arguments_at k (below_top ds)) (top_datum ds ∷ []))
 
-below-by-found : (lists : List ValueList) (k : ℕ) (ds : List Datum) → below_by k (map (datum_value lists) ds) ≡ map (datum_value lists) (below_at k ds)
+below-by-found : (lists : List ValueList) (k : ℕ) (ds : List Datum)
+    → below_by k (map (datum_value lists) ds) ≡ map (datum_value lists) (below_at k ds)
 below-by-found lists zero ds = refl
 below-by-found lists (suc k) ds = ap (below_by k) (below-found lists ds) ∙ below-by-found lists k (below_top ds)
 
-module _ (program : ProgramLists) (calls : ℕ) (f : FnId) (count : ℕ) (old : Machine) (names : List VarId) (ds : List Datum) (scopes : List (List (VarId × Datum))) (place : ℕ) (sound : IsSound old) (binding : IsBinding names count old.values old.scopes 0 ds scopes place) where
+module _ (program : ProgramLists) (calls : ℕ) (f : FnId) (count : ℕ) (old : Machine) (names : List VarId)
+    (ds : List Datum) (scopes : List (List (VarId × Datum))) (place : ℕ) (sound : IsSound old)
+    (binding : IsBinding names count old.values old.scopes 0 ds scopes place) where
   grown_is : map (held old.lists) scopes ≡ scopes_held old ++ map (held old.lists) binding.grown.0
   grown_is = ap (map (held old.lists)) binding.grown.1 ∙ map-append (held old.lists) old.scopes binding.grown.0
 
@@ -144,33 +168,55 @@ module _ (program : ProgramLists) (calls : ℕ) (f : FnId) (count : ℕ) (old : 
       subst Q (sym (length-map old.scopes (held old.lists))) sound.todo
 
   -- what is left is the same with more scopes
-  same_rest : (v : Value) (n : ℕ) → rest (evaluation_from program) program (scopes_held old) old.todo (v ∷ below_by count (values_found old)) n ≡ rest (evaluation_from program) program (map (held old.lists) scopes) old.todo (v ∷ map (datum_value old.lists) ds) n
+  same_rest : (v : Value) (n : ℕ) → rest (evaluation_from program) program (scopes_held old) old.todo
+      (v ∷ below_by count (values_found old)) n
+      ≡ rest (evaluation_from program) program (map (held old.lists) scopes) old.todo
+      (v ∷ map (datum_value old.lists) ds) n
   same_rest v n =
-      ap (λ l. rest (evaluation_from program) program (scopes_held old) old.todo (v ∷ l) n) (below-by-found old.lists count old.values ∙ ap (map (datum_value old.lists)) (sym binding.under))
-      ∙ sym (ap (λ ss. rest (evaluation_from program) program ss old.todo (v ∷ map (datum_value old.lists) ds) n) grown_is ∙ rest-more (evaluation_from program) program (scopes_held old) (map (held old.lists) binding.grown.0) old.todo (v ∷ map (datum_value old.lists) ds) n in_old)
+      ap (λ l. rest (evaluation_from program) program (scopes_held old) old.todo (v ∷ l) n)
+      (below-by-found old.lists count old.values ∙ ap (map (datum_value old.lists)) (sym binding.under))
+      ∙ sym (ap (λ ss. rest (evaluation_from program) program ss old.todo (v ∷ map (datum_value old.lists) ds) n)
+      grown_is ∙ rest-more (evaluation_from program) program (scopes_held old) (map (held old.lists) binding.grown.0)
+      old.todo (v ∷ map (datum_value old.lists) ds) n in_old)
 
   -- a function that is not there
-  pub enter-none : (values : List Datum) → slice_get program.fns f.0 ≡ None → values ≡ datum.Int (pos 0) ∷ ds → IsDoneFor program (act.Enter calls f count) old (record { todo = old.todo; values = values; lists = old.lists; scopes = scopes })
+  pub enter-none : (values : List Datum) → slice_get program.fns f.0 ≡ None → values ≡ datum.Int (pos 0) ∷ ds
+      → IsDoneFor program (act.Enter calls f count) old
+      (record { todo = old.todo; values = values; lists = old.lists; scopes = scopes })
   enter-none values none pushed =
-      let P : List Datum → Type 0 = λ l. IsDoneFor program (act.Enter calls f count) old (record { todo = old.todo; values = l; lists = old.lists; scopes = scopes }) in
+      let P : List Datum → Type 0 = λ l. IsDoneFor program (act.Enter calls f count) old
+      (record { todo = old.todo; values = l; lists = old.lists; scopes = scopes }) in
       let held_in = binding.sound (length old.lists) sound.values sound.scopes in
       subst
       P
       (sym pushed)
       (record {
-        sound = record { todo = todo-higher (length old.scopes) (length scopes) old.todo longer sound.todo; values = (omega arith, held_in.0); scopes = held_in.1 };
+        sound =
+            record {
+              todo = todo-higher (length old.scopes) (length scopes) old.todo longer sound.todo;
+              values = (omega arith, held_in.0);
+              scopes = held_in.1;
+            };
         same = λ n.
-            ap (λ o. go_on (body_evaluation (evaluation_from program) calls o (arguments_on count (values_found old)) n) (λ v. rest (evaluation_from program) program (scopes_held old) old.todo (v ∷ below_by count (values_found old)))) none
+            ap (λ o. go_on (body_evaluation (evaluation_from program) calls o (arguments_on count (values_found old)) n)
+            (λ v. rest (evaluation_from program) program (scopes_held old) old.todo
+            (v ∷ below_by count (values_found old)))) none
             ∙ same_rest nought n;
         less = omega arith;
       })
 
   -- the body of a function
-  pub enter-done : (d : FnDecl) (todo : List Act) → slice_get program.fns f.0 ≡ Some d → names ≡ map (λ par. par.0) d.pars → calls < max_calls → todo ≡ act.Term (record { variables = place; calls = calls + 1 }) d.body ∷ old.todo → IsDoneFor program (act.Enter calls f count) old (record { todo = todo; values = ds; lists = old.lists; scopes = scopes })
+  pub enter-done : (d : FnDecl) (todo : List Act) → slice_get program.fns f.0 ≡ Some d
+      → names ≡ map (λ par. par.0) d.pars → calls < max_calls
+      → todo ≡ act.Term (record { variables = place; calls = calls + 1 }) d.body ∷ old.todo
+      → IsDoneFor program (act.Enter calls f count) old
+      (record { todo = todo; values = ds; lists = old.lists; scopes = scopes })
   enter-done d todo some names_are few planned =
-      let P : List Act → Type 0 = λ l. IsDoneFor program (act.Enter calls f count) old (record { todo = l; values = ds; lists = old.lists; scopes = scopes }) in
+      let P : List Act → Type 0 = λ l. IsDoneFor program (act.Enter calls f count) old
+      (record { todo = l; values = ds; lists = old.lists; scopes = scopes }) in
       let held_in = binding.sound (length old.lists) sound.values sound.scopes in
-      let env : get_or (map (held old.lists) scopes) place [] ≡ bind_arguments d (arguments_on count (values_found old)) =
+      let env : get_or (map (held old.lists) scopes) place []
+      ≡ bind_arguments d (arguments_on count (values_found old)) =
       at-held old.lists place scopes
       ∙ ap (held old.lists) (binding.bound ∙ bound-whole names count old.values)
       ∙ held-zip old.lists names (arguments_at count old.values)
@@ -181,28 +227,57 @@ module _ (program : ProgramLists) (calls : ℕ) (f : FnId) (count : ℕ) (old : 
       P
       (sym planned)
       (record {
-        sound = record { todo = (binding.there, todo-higher (length old.scopes) (length scopes) old.todo longer sound.todo); values = held_in.0; scopes = held_in.1 };
+        sound =
+            record {
+              todo = (binding.there, todo-higher (length old.scopes) (length scopes) old.todo longer sound.todo);
+              values = held_in.0;
+              scopes = held_in.1;
+            };
         same = λ n.
-            ap (λ o. go_on (body_evaluation (evaluation_from program) calls o (arguments_on count (values_found old)) n) (λ v. rest (evaluation_from program) program (scopes_held old) old.todo (v ∷ below_by count (values_found old)))) some
-            ∙ ap (λ b. go_on (cond b (evaluation_from program (calls + 1) (bind_arguments d (arguments_on count (values_found old))) d.body n) (faults fault.Depth)) (λ v. rest (evaluation_from program) program (scopes_held old) old.todo (v ∷ below_by count (values_found old)))) open_calls
-            ∙ ap (λ e. go_on (evaluation_from program (calls + 1) e d.body n) (λ v. rest (evaluation_from program) program (scopes_held old) old.todo (v ∷ below_by count (values_found old)))) (sym env)
-            ∙ go_on-next (evaluation_from program (calls + 1) (get_or (map (held old.lists) scopes) place []) d.body n) _ _ (λ v m. same_rest v m);
+            ap (λ o. go_on (body_evaluation (evaluation_from program) calls o (arguments_on count (values_found old)) n)
+            (λ v. rest (evaluation_from program) program (scopes_held old) old.todo
+            (v ∷ below_by count (values_found old)))) some
+            ∙ ap (λ b. go_on (cond b (evaluation_from program (calls + 1)
+            (bind_arguments d (arguments_on count (values_found old))) d.body n) (faults fault.Depth))
+            (λ v. rest (evaluation_from program) program (scopes_held old) old.todo
+            (v ∷ below_by count (values_found old)))) open_calls
+            ∙ ap (λ e. go_on (evaluation_from program (calls + 1) e d.body n)
+            (λ v. rest (evaluation_from program) program (scopes_held old) old.todo
+            (v ∷ below_by count (values_found old)))) (sym env)
+            ∙ go_on-next (evaluation_from program (calls + 1) (get_or (map (held old.lists) scopes) place []) d.body n)
+            _ _ (λ v m. same_rest v m);
         less = omega arith;
       })
 
-  pub enter-none-at : (todo : List Act) (values : List Datum) (lists : List ValueList) → todo ≡ old.todo → lists ≡ old.lists → slice_get program.fns f.0 ≡ None → values ≡ datum.Int (pos 0) ∷ ds → IsDoneFor program (act.Enter calls f count) old (record { todo = todo; values = values; lists = lists; scopes = scopes })
+  pub enter-none-at : (todo : List Act) (values : List Datum) (lists : List ValueList) → todo ≡ old.todo
+      → lists ≡ old.lists → slice_get program.fns f.0 ≡ None → values ≡ datum.Int (pos 0) ∷ ds
+      → IsDoneFor program (act.Enter calls f count) old
+      (record { todo = todo; values = values; lists = lists; scopes = scopes })
   enter-none-at todo values lists todo_is lists_are none pushed =
-      let P : List Act → Type 0 = λ l. IsDoneFor program (act.Enter calls f count) old (record { todo = l; values = values; lists = lists; scopes = scopes }) in
-      let Q : List ValueList → Type 0 = λ l. IsDoneFor program (act.Enter calls f count) old (record { todo = old.todo; values = values; lists = l; scopes = scopes }) in
+      let P : List Act → Type 0 = λ l. IsDoneFor program (act.Enter calls f count) old
+      (record { todo = l; values = values; lists = lists; scopes = scopes }) in
+      let Q : List ValueList → Type 0 = λ l.
+      IsDoneFor program (act.Enter calls f count) old
+      (record { todo = old.todo; values = values; lists = l; scopes = scopes }) in
       subst P (sym todo_is) (subst Q (sym lists_are) (enter-none values none pushed))
 
-  pub enter-done-at : (d : FnDecl) (todo bound_todo : List Act) (lists : List ValueList) → bound_todo ≡ old.todo → lists ≡ old.lists → slice_get program.fns f.0 ≡ Some d → names ≡ map (λ par. par.0) d.pars → calls < max_calls → todo ≡ act.Term (record { variables = place; calls = calls + 1 }) d.body ∷ bound_todo → IsDoneFor program (act.Enter calls f count) old (record { todo = todo; values = ds; lists = lists; scopes = scopes })
+  pub enter-done-at : (d : FnDecl) (todo bound_todo : List Act) (lists : List ValueList) → bound_todo ≡ old.todo
+      → lists ≡ old.lists → slice_get program.fns f.0 ≡ Some d → names ≡ map (λ par. par.0) d.pars → calls < max_calls
+      → todo ≡ act.Term (record { variables = place; calls = calls + 1 }) d.body ∷ bound_todo
+      → IsDoneFor program (act.Enter calls f count) old
+      (record { todo = todo; values = ds; lists = lists; scopes = scopes })
   enter-done-at d todo bound_todo lists todo_is lists_are some names_are few planned =
-      let Q : List ValueList → Type 0 = λ l. IsDoneFor program (act.Enter calls f count) old (record { todo = todo; values = ds; lists = l; scopes = scopes }) in
-      subst Q (sym lists_are) (enter-done d todo some names_are few (planned ∙ ap (λ l. act.Term (record { variables = place; calls = calls + 1 }) d.body ∷ l) todo_is))
+      let Q : List ValueList → Type 0 = λ l.
+      IsDoneFor program (act.Enter calls f count) old
+      (record { todo = todo; values = ds; lists = l; scopes = scopes }) in
+      subst Q (sym lists_are) (enter-done d todo some names_are few
+      (planned ∙ ap (λ l. act.Term (record { variables = place; calls = calls + 1 }) d.body ∷ l) todo_is))
 
 -- the count of what is left to bind, as a number after another
-pub turned : (names : List VarId) (count : ℕ) (first : List Datum) (before : List (List (VarId × Datum))) (k : ℕ) (ds : List Datum) (scopes : List (List (VarId × Datum))) (place : ℕ) → 0 < k → IsBinding names count first before k ds scopes place → IsBinding names count first before (suc (k - 1)) ds scopes place
+pub turned : (names : List VarId) (count : ℕ) (first : List Datum) (before : List (List (VarId × Datum))) (k : ℕ)
+    (ds : List Datum) (scopes : List (List (VarId × Datum))) (place : ℕ) → 0 < k
+    → IsBinding names count first before k ds scopes place
+    → IsBinding names count first before (suc (k - 1)) ds scopes place
 turned names count first before k ds scopes place some binding =
     let same : k ≡ suc (k - 1) = omega arith in
     let P : ℕ → Type 0 = λ n. IsBinding names count first before n ds scopes place in

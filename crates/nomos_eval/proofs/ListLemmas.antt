@@ -13,13 +13,15 @@ use Rattle.nomos_eval.specs.mirror.Table.{table, datum_value, reach, capped}
 use Rattle.nomos_eval.proofs.TableLemmas.{table-push, length-table, table-at}
 
 -- a datum keeps its value where lists are added
-pub datum-more : (lists more : List ValueList) (d : Datum) → reach d ≤ length lists → datum_value (lists ++ more) d ≡ datum_value lists d
+pub datum-more : (lists more : List ValueList) (d : Datum) → reach d ≤ length lists
+    → datum_value (lists ++ more) d ≡ datum_value lists d
 datum-more lists more (datum.Int z) inside = refl
 datum-more lists more (datum.Bool b) inside = refl
 datum-more lists more (datum.List p) inside = ap list (get_or_append_left lists more no_values p (omega arith))
 
 -- a cell keeps its list
-cell-more : (lists more : List ValueList) (c : Cell) → IsBefore (length lists) c → cell_list (lists ++ more) c ≡ cell_list lists c
+cell-more : (lists more : List ValueList) (c : Cell) → IsBefore (length lists) c
+    → cell_list (lists ++ more) c ≡ cell_list lists c
 cell-more lists more cell.Empty before = refl
 cell-more lists more (cell.More head tail weight) before =
     ap (λ v. value v (get_or (lists ++ more) tail no_values)) (datum-more lists more head before.0)
@@ -31,27 +33,36 @@ unfolding lists_of
 length-lists cells = omega (arith, length-table cell_list [] cells)
 
 -- one more cell is one more list
-pub lists-push : (cells : List Cell) (c : Cell) → lists_of (cells ++ c ∷ []) ≡ lists_of cells ++ cell_list (lists_of cells) c ∷ []
+pub lists-push : (cells : List Cell) (c : Cell)
+    → lists_of (cells ++ c ∷ []) ≡ lists_of cells ++ cell_list (lists_of cells) c ∷ []
 unfolding lists_of
 lists-push cells c = table-push cell_list [] cells c
 
 -- the list at a place is that of its cell
-pub lists-at : (cells : List Cell) (k : ℕ) (c : Cell) → AreLists cells → slice_get cells k ≡ Some c → get_or (lists_of cells) k no_values ≡ cell_list (lists_of cells) c
+pub lists-at : (cells : List Cell) (k : ℕ) (c : Cell) → AreLists cells → slice_get cells k ≡ Some c
+    → get_or (lists_of cells) k no_values ≡ cell_list (lists_of cells) c
 unfolding lists_of
 lists-at cells k c are found =
     let P : ℕ → Type 0 = λ n. get_or (table cell_list [] cells) n no_values ≡ cell_list (table cell_list [] cells) c in
     let at : 0 + k ≡ k = omega arith in
-    let low : (j : ℕ) (b : Cell) → slice_get cells j ≡ Some b → IsBefore (0 + j) b = λ j b there. (let L : ℕ → Type 0 = λ n. IsBefore n b in let same : j ≡ 0 + j = omega arith in subst L same (are.before j b there)) in
-    subst P at (table-at cell_list IsBefore (λ xs ys b before. cell-more xs ys b before) [] cells k c no_values low found)
+    let low : (j : ℕ) (b : Cell) → slice_get cells j ≡ Some b
+    → IsBefore (0 + j) b = λ j b there.
+    (let L : ℕ → Type 0 = λ n. IsBefore n b in let same : j
+    ≡ 0 + j = omega arith in subst L same (are.before j b there)) in
+    subst P at (table-at cell_list IsBefore (λ xs ys b before. cell-more xs ys b before) [] cells k c no_values low
+    found)
 
 -- what is found among cells with one more
-pushed : (cells : List Cell) (c b : Cell) (k : ℕ) → slice_get (cells ++ c ∷ []) k ≡ Some b → (slice_get cells k ≡ Some b) ⊎ ((k ≡ length cells) × (c ≡ b))
+pushed : (cells : List Cell) (c b : Cell) (k : ℕ) → slice_get (cells ++ c ∷ []) k ≡ Some b
+    → (slice_get cells k ≡ Some b) ⊎ ((k ≡ length cells) × (c ≡ b))
 pushed [] c b zero found = inr (refl, cc)
 pushed [] c b (suc k) found = absurd cc
 pushed (e ∷ cells) c b zero found = inl found
-pushed (e ∷ cells) c b (suc k) found = ⊎_elim (λ old. inl old) (λ new. inr (ap suc new.0, new.1)) (pushed cells c b k found)
+pushed (e ∷ cells) c b (suc k) found =
+    ⊎_elim (λ old. inl old) (λ new. inr (ap suc new.0, new.1)) (pushed cells c b k found)
 
-weighed-more : (lists more : List ValueList) (c : Cell) → IsBefore (length lists) c → IsWeighed lists c → IsWeighed (lists ++ more) c
+weighed-more : (lists more : List ValueList) (c : Cell) → IsBefore (length lists) c → IsWeighed lists c
+    → IsWeighed (lists ++ more) c
 weighed-more lists more cell.Empty before weighed = tt
 weighed-more lists more (cell.More head tail weight) before weighed =
     let P : ValueList → Type 0 = λ vs. weight ≡ capped (list vs) in
@@ -62,7 +73,8 @@ before-more k m cell.Empty less before = tt
 before-more k m (cell.More head tail weight) less before = (omega (arith, before.0), omega (arith, before.1))
 
 -- cells with one more cell of lists that are there
-pub are-pushed : (cells : List Cell) (c : Cell) → AreLists cells → IsBefore (length cells) c → IsWeighed (lists_of cells) c → AreLists (cells ++ c ∷ [])
+pub are-pushed : (cells : List Cell) (c : Cell) → AreLists cells → IsBefore (length cells) c
+    → IsWeighed (lists_of cells) c → AreLists (cells ++ c ∷ [])
 are-pushed cells c are before weighed =
     let long = length-lists cells in
     let L : ℕ → Cell → Type 0 = λ n b. IsBefore n b in
@@ -70,7 +82,8 @@ are-pushed cells c are before weighed =
       before = λ k b found.
           ⊎_elim
           (λ old. are.before k b old)
-          (λ new. let N : ℕ → Type 0 = λ n. IsBefore n b in let B : Cell → Type 0 = λ x. IsBefore (length cells) x in subst N (sym new.0) (subst B new.1 before))
+          (λ new. let N : ℕ → Type 0 = λ n. IsBefore n b in let B : Cell
+          → Type 0 = λ x. IsBefore (length cells) x in subst N (sym new.0) (subst B new.1 before))
           (pushed cells c b k found);
       weighed = λ k b found.
           let W : List ValueList → Type 0 = λ l. IsWeighed l b in
@@ -78,8 +91,13 @@ are-pushed cells c are before weighed =
           W
           (sym (lists-push cells c))
           (⊎_elim
-          (λ old. weighed-more (lists_of cells) _ b (before-more k (length (lists_of cells)) b (omega (arith, slice_get_within cells k b old)) (are.before k b old)) (are.weighed k b old))
-          (λ new. weighed-more (lists_of cells) _ b (let N : ℕ → Type 0 = λ n. IsBefore n b in let B : Cell → Type 0 = λ x. IsBefore (length cells) x in subst N (sym long) (subst B new.1 before)) (let V : Cell → Type 0 = λ x. IsWeighed (lists_of cells) x in subst V new.1 weighed))
+          (λ old. weighed-more (lists_of cells) _ b
+          (before-more k (length (lists_of cells)) b (omega (arith, slice_get_within cells k b old))
+          (are.before k b old)) (are.weighed k b old))
+          (λ new. weighed-more (lists_of cells) _ b
+          (let N : ℕ → Type 0 = λ n. IsBefore n b in let B : Cell
+          → Type 0 = λ x. IsBefore (length cells) x in subst N (sym long) (subst B new.1 before))
+          (let V : Cell → Type 0 = λ x. IsWeighed (lists_of cells) x in subst V new.1 weighed))
           (pushed cells c b k found));
     }
 
@@ -92,32 +110,41 @@ module _ (cells : List Cell) (lists : List ValueList) (same : lists_of cells ≡
   read_there : (k : ℕ) (x c : Cell) → k < length lists → x ≡ get_or cells k x → x ≡ c → slice_get cells k ≡ Some c
   read_there k x c inside read is = slice_get_read cells (length lists) k x (sym long) inside read ∙ ap Some is
 
-  read_list : (k : ℕ) (x c : Cell) → k < length lists → x ≡ get_or cells k x → x ≡ c → get_or lists k no_values ≡ cell_list lists c
+  read_list : (k : ℕ) (x c : Cell) → k < length lists → x ≡ get_or cells k x → x ≡ c
+      → get_or lists k no_values ≡ cell_list lists c
   read_list k x c inside read is =
       let P : List ValueList → Type 0 = λ l. get_or l k no_values ≡ cell_list l c in
       subst P same (lists-at cells k c are (read_there k x c inside read is))
 
-  pub empty_at : (k : ℕ) (x : Cell) → k < length lists → x ≡ get_or cells k x → x ≡ cell.Empty → get_or lists k no_values ≡ no_values
+  pub empty_at : (k : ℕ) (x : Cell) → k < length lists → x ≡ get_or cells k x → x ≡ cell.Empty
+      → get_or lists k no_values ≡ no_values
   empty_at k x inside read is = read_list k x cell.Empty inside read is
 
-  pub weight_at : (k : ℕ) (x : Cell) (head : Datum) (tail w : ℕ) → k < length lists → x ≡ get_or cells k x → x ≡ cell.More head tail w → w ≡ capped (list (get_or lists k no_values))
+  pub weight_at : (k : ℕ) (x : Cell) (head : Datum) (tail w : ℕ) → k < length lists → x ≡ get_or cells k x
+      → x ≡ cell.More head tail w → w ≡ capped (list (get_or lists k no_values))
   weight_at k x head tail w inside read is =
       let P : List ValueList → Type 0 = λ l. IsWeighed l (cell.More head tail w) in
       let noted = subst P same (are.weighed k (cell.More head tail w) (read_there k x _ inside read is)) in
       noted ∙ ap (λ vs. capped (list vs)) (sym (read_list k x (cell.More head tail w) inside read is))
 
-  pub parts_at : (k : ℕ) (x : Cell) (head : Datum) (tail w : ℕ) → k < length lists → x ≡ get_or cells k x → x ≡ cell.More head tail w → (reach head ≤ k) × (tail < k) × (get_or lists k no_values ≡ value (datum_value lists head) (get_or lists tail no_values))
+  pub parts_at : (k : ℕ) (x : Cell) (head : Datum) (tail w : ℕ) → k < length lists → x ≡ get_or cells k x
+      → x ≡ cell.More head tail w → (reach head ≤ k) × (tail < k)
+      × (get_or lists k no_values ≡ value (datum_value lists head) (get_or lists tail no_values))
   parts_at k x head tail w inside read is =
       let before = are.before k (cell.More head tail w) (read_there k x _ inside read is) in
       (before.0, before.1, read_list k x (cell.More head tail w) inside read is)
 
-  pub view-push : (more : List Cell) (c : Cell) → more ≡ cells ++ c ∷ [] → lists_of more ≡ lists ++ cell_list lists c ∷ []
+  pub view-push : (more : List Cell) (c : Cell) → more ≡ cells ++ c ∷ []
+      → lists_of more ≡ lists ++ cell_list lists c ∷ []
   view-push more c pushed_too =
       let P : List ValueList → Type 0 = λ l. lists_of more ≡ l ++ cell_list l c ∷ [] in
       subst P same (ap lists_of pushed_too ∙ lists-push cells c)
 
   -- one more list, with its weight
-  pub are-more : (head : Datum) (tail w a b : ℕ) → reach head ≤ length lists → tail < length lists → a ≡ capped (datum_value lists head) → b ≡ capped (list (get_or lists tail no_values)) → w ≡ min (a + b + 1) (max_weight + 1) → AreLists (cells ++ cell.More head tail w ∷ [])
+  pub are-more : (head : Datum) (tail w a b : ℕ) → reach head ≤ length lists → tail < length lists
+      → a ≡ capped (datum_value lists head) → b ≡ capped (list (get_or lists tail no_values))
+      → w ≡ min (a + b + 1) (max_weight + 1) → AreLists (cells ++ cell.More head tail w ∷ [])
   are-more head tail w a b head_in tail_in weight_a weight_b sum =
       let P : List ValueList → Type 0 = λ l. IsWeighed l (cell.More head tail w) in
-      are-pushed cells (cell.More head tail w) are (omega (arith, long, head_in), omega (arith, long, tail_in)) (subst P (sym same) (omega (arith, weight_a, weight_b, sum)))
+      are-pushed cells (cell.More head tail w) are (omega (arith, long, head_in), omega (arith, long, tail_in))
+      (subst P (sym same) (omega (arith, weight_a, weight_b, sum)))

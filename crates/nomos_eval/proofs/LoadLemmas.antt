@@ -8,7 +8,8 @@ use Rattle.nomos_eval.specs.declared.datum.Datum.{Datum}
 use Rattle.nomos_eval.specs.mirror.Load.{before_list}
 use Rattle.nomos_eval.specs.mirror.Table.{datum_value, reach}
 
-before-push : (vs : List Value) (v : Value) (ws : ValueList) → before_list (vs ++ v ∷ []) ws ≡ before_list vs (value v ws)
+before-push : (vs : List Value) (v : Value) (ws : ValueList)
+    → before_list (vs ++ v ∷ []) ws ≡ before_list vs (value v ws)
 before-push [] v ws = refl
 before-push (u ∷ vs) v ws = ap (value u) (before-push vs v ws)
 
@@ -17,7 +18,12 @@ before-none [] = refl
 before-none (v ∷ vs) = ap (value v) (before-none vs)
 
 -- one more value is given out
-pub unload-step : (lists : List ValueList) (items more : List ValueNode) (node : ValueNode) (at place tail : ℕ) (head : Datum) (whole : ValueList) → more ≡ items ++ node ∷ [] → value_of node ≡ datum_value lists head → (reach head ≤ at) × (tail < at) × (get_or lists at no_values ≡ value (datum_value lists head) (get_or lists tail no_values)) → (at ≤ place) × (at < length lists) × (before_list (map value_of items) (get_or lists at no_values) ≡ whole) → (tail ≤ place) × (tail < length lists) × (before_list (map value_of more) (get_or lists tail no_values) ≡ whole)
+pub unload-step : (lists : List ValueList) (items more : List ValueNode) (node : ValueNode) (at place tail : ℕ)
+    (head : Datum) (whole : ValueList) → more ≡ items ++ node ∷ [] → value_of node ≡ datum_value lists head
+    → (reach head ≤ at) × (tail < at) × (get_or lists at no_values
+    ≡ value (datum_value lists head) (get_or lists tail no_values))
+    → (at ≤ place) × (at < length lists) × (before_list (map value_of items) (get_or lists at no_values) ≡ whole)
+    → (tail ≤ place) × (tail < length lists) × (before_list (map value_of more) (get_or lists tail no_values) ≡ whole)
 unload-step lists items more node at place tail head whole pushed node_is parts so_far = (
   omega (arith, parts.1, so_far.0),
   omega (arith, parts.1, so_far.1),
@@ -30,6 +36,8 @@ unload-step lists items more node at place tail head whole pushed node_is parts 
 )
 
 -- all values are given out
-pub unload-all : (lists : List ValueList) (items : List ValueNode) (at : ℕ) (whole : ValueList) → get_or lists at no_values ≡ no_values → before_list (map value_of items) (get_or lists at no_values) ≡ whole → list (value_list (map value_of items)) ≡ list whole
+pub unload-all : (lists : List ValueList) (items : List ValueNode) (at : ℕ) (whole : ValueList)
+    → get_or lists at no_values ≡ no_values → before_list (map value_of items) (get_or lists at no_values) ≡ whole
+    → list (value_list (map value_of items)) ≡ list whole
 unload-all lists items at whole last so_far =
     ap list (sym (before-none (map value_of items)) ∙ ap (before_list (map value_of items)) (sym last) ∙ so_far)

@@ -22,7 +22,8 @@ whole-checked z (Some v) n (fits, same) =
     ap (λ b. cond b (ends (int z) n) (faults fault.Overflow)) (has-fits z fits) ∙ ap (λ x. ends (int x) n) (sym same)
 whole-checked z None n unfit = split (has_64_bits z) (fits-has z)
   where
-    split : (b : Bool) → (b ≡ true → FitsSigned w64 z) → cond b (ends (int z) n) (faults fault.Overflow) ≡ faults fault.Overflow
+    split : (b : Bool) → (b ≡ true → FitsSigned w64 z)
+        → cond b (ends (int z) n) (faults fault.Overflow) ≡ faults fault.Overflow
     split true fits = absurd (unfit (fits refl))
     split false fits = refl
 
@@ -30,7 +31,12 @@ whole-checked z None n unfit = split (has_64_bits z) (fits-has z)
 minus-is : (x y : ℤ) → x -ℤ y *ℤ int_div x y ≡ int_rem x y
 minus-is x y = grind (arith, ints, quot-rem x y)
 
-pub rest-is : (x y : ℤ) (n : ℕ) → (y ≡ pos 0 → ⊥) → FitsSigned w64 (int_rem x y) → rest_of_division x y n ≡ ends (int (int_rem x y)) n
+pub rest-is : (x y : ℤ) (n : ℕ) → (y ≡ pos 0 → ⊥) → FitsSigned w64 (int_rem x y)
+    → rest_of_division x y n ≡ ends (int (int_rem x y)) n
 rest-is x (pos zero) n other fits = absurd (other refl)
-rest-is x (pos (suc y)) n other fits = ap (λ z. whole z n) (minus-is x (pos (suc y))) ∙ ap (λ b. cond b (ends (int (int_rem x (pos (suc y)))) n) (faults fault.Overflow)) (has-fits _ fits)
-rest-is x (negsuc y) n other fits = ap (λ z. whole z n) (minus-is x (negsuc y)) ∙ ap (λ b. cond b (ends (int (int_rem x (negsuc y))) n) (faults fault.Overflow)) (has-fits _ fits)
+rest-is x (pos (suc y)) n other fits =
+    ap (λ z. whole z n) (minus-is x (pos (suc y)))
+    ∙ ap (λ b. cond b (ends (int (int_rem x (pos (suc y)))) n) (faults fault.Overflow)) (has-fits _ fits)
+rest-is x (negsuc y) n other fits =
+    ap (λ z. whole z n) (minus-is x (negsuc y))
+    ∙ ap (λ b. cond b (ends (int (int_rem x (negsuc y))) n) (faults fault.Overflow)) (has-fits _ fits)

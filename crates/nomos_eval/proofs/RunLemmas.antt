@@ -19,42 +19,57 @@ use Rattle.nomos_eval.specs.mirror.Rest.{variables_at}
 use Rattle.nomos_eval.specs.mirror.Run.{IsEnteredAt, IsStep, StepStops}
 
 -- what holds of every program holds of one
-pub for-one : (program : ProgramLists) (a : Act) (old new : Machine) (r : Result (Unit {0}) Stop) → Does a old new r → DoesFor program a old new r
+pub for-one : (program : ProgramLists) (a : Act) (old new : Machine) (r : Result (Unit {0}) Stop) → Does a old new r
+    → DoesFor program a old new r
 for-one program a old new (Ok done) does = record { sound = does.sound; same = does.same program; less = does.less }
 for-one program a old new (Err (stop.Fault f)) does = does program
 for-one program a old new (Err stop.NoMemory) does = tt
 
-pub for-act : (program : ProgramLists) (a b : Act) (old new : Machine) (r : Result (Unit {0}) Stop) → a ≡ b → Does b old new r → DoesFor program a old new r
+pub for-act : (program : ProgramLists) (a b : Act) (old new : Machine) (r : Result (Unit {0}) Stop) → a ≡ b
+    → Does b old new r → DoesFor program a old new r
 for-act program a b old new r same does =
     let P : Act → Type 0 = λ x. DoesFor program x old new r in subst P (sym same) (for-one program b old new r does)
 
-pub for-call : (program : ProgramLists) (a b : Act) (old new : Machine) (r : Result (Unit {0}) Stop) → a ≡ b → DoesFor program b old new r → DoesFor program a old new r
+pub for-call : (program : ProgramLists) (a b : Act) (old new : Machine) (r : Result (Unit {0}) Stop) → a ≡ b
+    → DoesFor program b old new r → DoesFor program a old new r
 for-call program a b old new r same does =
     let P : Act → Type 0 = λ x. DoesFor program x old new r in subst P (sym same) does
 
 -- a term with a node, and one without
-pub entered-some : (program : ProgramLists) (scope : Scope) (t : TermId) (x : TermNode) (old new : Machine) → Some x ≡ slice_get program.terms t.0 → IsEntered scope x old new → IsEnteredAt program scope t old new
+pub entered-some : (program : ProgramLists) (scope : Scope) (t : TermId) (x : TermNode) (old new : Machine)
+    → Some x ≡ slice_get program.terms t.0 → IsEntered scope x old new → IsEnteredAt program scope t old new
 entered-some program scope t x old new there is =
     record {
       sound = is.sound;
-      same = λ n. ap (λ o. go_on (entered program (evaluation_from program) scope.calls (variables_at (scopes_held old) scope.variables) o n) (left_with program old)) (sym there) ∙ is.same program n;
+      same =
+          λ n. ap (λ o. go_on (entered program (evaluation_from program) scope.calls
+          (variables_at (scopes_held old) scope.variables) o n) (left_with program old)) (sym there)
+          ∙ is.same program n;
       little = is.little;
     }
 
-pub entered-none : (program : ProgramLists) (scope : Scope) (t : TermId) (old : Machine) (values : List Datum) → IsSound old → None ≡ slice_get program.terms t.0 → values ≡ datum.Int (pos 0) ∷ old.values → IsEnteredAt program scope t old (record { todo = old.todo; values = values; lists = old.lists; scopes = old.scopes })
+pub entered-none : (program : ProgramLists) (scope : Scope) (t : TermId) (old : Machine) (values : List Datum)
+    → IsSound old → None ≡ slice_get program.terms t.0 → values ≡ datum.Int (pos 0) ∷ old.values
+    → IsEnteredAt program scope t old
+    (record { todo = old.todo; values = values; lists = old.lists; scopes = old.scopes })
 entered-none program scope t old values sound none pushed =
-    let P : List Datum → Type 0 = λ l. IsEnteredAt program scope t old (record { todo = old.todo; values = l; lists = old.lists; scopes = old.scopes }) in
+    let P : List Datum → Type 0 = λ l.
+    IsEnteredAt program scope t old
+    (record { todo = old.todo; values = l; lists = old.lists; scopes = old.scopes }) in
     subst
     P
     (sym pushed)
     (record {
       sound = record { todo = sound.todo; values = (omega arith, sound.values); scopes = sound.scopes };
-      same = λ n. ap (λ o. go_on (entered program (evaluation_from program) scope.calls (variables_at (scopes_held old) scope.variables) o n) (left_with program old)) (sym none);
+      same =
+          λ n. ap (λ o. go_on (entered program (evaluation_from program) scope.calls
+          (variables_at (scopes_held old) scope.variables) o n) (left_with program old)) (sym none);
       little = omega arith;
     })
 
 -- a term is a step
-pub step-term : (program : ProgramLists) (a : Act) (scope : Scope) (t : TermId) (old new : Machine) (n : ℕ) → a ≡ act.Term scope t → n < max_nodes → IsEnteredAt program scope t old new → IsStep program a old n new (n + 1)
+pub step-term : (program : ProgramLists) (a : Act) (scope : Scope) (t : TermId) (old new : Machine) (n : ℕ)
+    → a ≡ act.Term scope t → n < max_nodes → IsEnteredAt program scope t old new → IsStep program a old n new (n + 1)
 step-term program a scope t old new n same few is =
     let on : nat_lt n max_nodes ≡ true = search (tests, rules) in
     let P : Act → Type 0 = λ x. IsStep program x old n new (n + 1) in
@@ -64,24 +79,32 @@ step-term program a scope t old new n same few is =
     (record {
       sound = is.sound;
       same =
-          ap (λ e. go_on e (left_with program old)) (evaluation-step program scope.calls (variables_at (scopes_held old) scope.variables) t n)
-          ∙ ap (λ b. go_on (counted b (entered program (evaluation_from program) scope.calls (variables_at (scopes_held old) scope.variables) (slice_get program.terms t.0)) n) (left_with program old)) on
+          ap (λ e. go_on e (left_with program old))
+          (evaluation-step program scope.calls (variables_at (scopes_held old) scope.variables) t n)
+          ∙ ap (λ b. go_on (counted b (entered program (evaluation_from program) scope.calls
+          (variables_at (scopes_held old) scope.variables) (slice_get program.terms t.0)) n) (left_with program old)) on
           ∙ is.same (n + 1);
       few = omega arith;
       less = omega (arith, is.little);
     })
 
-pub step-last : (program : ProgramLists) (a : Act) (scope : Scope) (t : TermId) (old : Machine) (n : ℕ) → a ≡ act.Term scope t → max_nodes ≤ n → left_of program a old n ≡ faults fault.TermSteps
+pub step-last : (program : ProgramLists) (a : Act) (scope : Scope) (t : TermId) (old : Machine) (n : ℕ)
+    → a ≡ act.Term scope t → max_nodes ≤ n → left_of program a old n ≡ faults fault.TermSteps
 step-last program a scope t old n same past =
     let off : nat_lt n max_nodes ≡ false = search (tests, rules) in
     ap (λ x. left_of program x old n) same
-    ∙ ap (λ e. go_on e (left_with program old)) (evaluation-step program scope.calls (variables_at (scopes_held old) scope.variables) t n)
-    ∙ ap (λ b. go_on (counted b (entered program (evaluation_from program) scope.calls (variables_at (scopes_held old) scope.variables) (slice_get program.terms t.0)) n) (left_with program old)) off
+    ∙ ap (λ e. go_on e (left_with program old))
+    (evaluation-step program scope.calls (variables_at (scopes_held old) scope.variables) t n)
+    ∙ ap (λ b. go_on (counted b (entered program (evaluation_from program) scope.calls
+    (variables_at (scopes_held old) scope.variables) (slice_get program.terms t.0)) n) (left_with program old)) off
 
 -- anything else is a step
-pub step-done : (program : ProgramLists) (a : Act) (old new : Machine) (n : ℕ) → n ≤ max_nodes → IsDoneFor program a old new → IsStep program a old n new n
-step-done program a old new n few done = record { sound = done.sound; same = done.same n; few = few; less = omega (arith, done.less) }
+pub step-done : (program : ProgramLists) (a : Act) (old new : Machine) (n : ℕ) → n ≤ max_nodes
+    → IsDoneFor program a old new → IsStep program a old n new n
+step-done program a old new n few done =
+    record { sound = done.sound; same = done.same n; few = few; less = omega (arith, done.less) }
 
-pub step-stops : (program : ProgramLists) (a : Act) (old : Machine) (n : ℕ) (why : Stop) → StopsFor program a old why → StepStops program a old n why
+pub step-stops : (program : ProgramLists) (a : Act) (old : Machine) (n : ℕ) (why : Stop) → StopsFor program a old why
+    → StepStops program a old n why
 step-stops program a old n (stop.Fault f) stops = stops n
 step-stops program a old n stop.NoMemory stops = tt

@@ -52,7 +52,8 @@ fn name_at(pars: &[(VarId, Kind)], place: usize) -> Option<VarId>
 /// Takes so many topmost values, and binds them to the parameters, of which they are the arguments; those without a
 /// parameter are dropped. Gives the place of the parameters.
 fn bind(machine: &mut Machine, pars: &[(VarId, Kind)], count: usize) -> Result<usize, AllocError>
-    ensures { IfOk result (λ place. IsBinding (map (λ par. par.0) pars.now) count machine.old.values machine.old.scopes 0
+    ensures { IfOk result (λ place.
+        IsBinding (map (λ par. par.0) pars.now) count machine.old.values machine.old.scopes 0
         machine.new.values machine.new.scopes place
         × (machine.new.todo ≡ machine.old.todo) × (machine.new.lists ≡ machine.old.lists)) }
 {

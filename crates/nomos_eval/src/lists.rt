@@ -64,7 +64,8 @@ impl Lists {
         requires head { reach head ≤ length self.old }
         requires tail { tail < length self.old }
         ensures { IfOk result (λ p. (p ≡ length self.old)
-            × (self.new ≡ self.old ++ value (datum_value self.old head) (slice_index_or self.old tail no_values) ∷ [])) }
+            × (self.new ≡ self.old ++ value (datum_value self.old head)
+            (slice_index_or self.old tail no_values) ∷ [])) }
     {
         let weight = self.weight(head) + self.weight(Datum::List(tail)) + 1;
         let place = self.cells.len();
@@ -97,8 +98,10 @@ impl Lists {
     /// The first value of the list at a place, and the place of the list of the others, where it is not empty.
     pub(crate) fn parts(&self, place: usize) -> Option<(Datum, usize)>
         requires { place < length self.now }
-        ensures { MatchOption result (slice_index_or self.now place no_values ≡ no_values) (λ p. (reach p.0 ≤ place) × (p.1 < place)
-            × (slice_index_or self.now place no_values ≡ value (datum_value self.now p.0) (slice_index_or self.now p.1 no_values))) }
+        ensures { MatchOption result (slice_index_or self.now place no_values ≡ no_values)
+            (λ p. (reach p.0 ≤ place) × (p.1 < place)
+            × (slice_index_or self.now place no_values
+            ≡ value (datum_value self.now p.0) (slice_index_or self.now p.1 no_values))) }
     {
         match self.cells[place] {
             Cell::Empty => None,

@@ -74,5 +74,6 @@ not_twice : (v : View ℕ ℕ) (next : ℕ) (out gone : List ℕ) → Numbers lo
 not_twice v next out gone numbers live = live_apart numbers 0 1 v v refl refl live live (λ e. omega arith) refl
 
 -- nor is a slot that is there while a pass has its turn
-not_both : (v : View ℕ ℕ) (t : ℕ) (there : Option ℕ) → v.stage ≡ Serving t → Slot 0 log (home.some there ∷ []) (v ∷ []) → ⊥
+not_both : (v : View ℕ ℕ) (t : ℕ) (there : Option ℕ) → v.stage ≡ Serving t → Slot 0 log (home.some there ∷ []) (v ∷ [])
+    → ⊥
 not_both v t there turn slot = let k = slot.turn 0 t v refl turn in home.some-ne-none there (cc (k.0))

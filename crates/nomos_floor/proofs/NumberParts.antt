@@ -23,7 +23,9 @@ live_weight Ended x live = absurd live
 
 module _ {W E : Type 0} {log : List (ℕ × E)} {next : ℕ} {out gone : List ℕ} {views : List (View W E)} where
   -- how often a number stands among those of live passes, those out, and those of ended passes
-  pub all_counted : Numbers log next out gone views → (weight : ℕ → ℕ) → (sum_by (live_at weight) views ≡ weight 0 + sum_by weight out) × (weight 0 + sum_by weight out + sum_by weight gone ≡ sum_by weight (numbers_below next))
+  pub all_counted : Numbers log next out gone views → (weight : ℕ → ℕ)
+      → (sum_by (live_at weight) views ≡ weight 0 + sum_by weight out)
+      × (weight 0 + sum_by weight out + sum_by weight gone ≡ sum_by weight (numbers_below next))
   all_counted o weight =
       let live = o.live weight in let once = o.each_once weight in (
         omega (arith, live, sum_by-live_numbers weight views, sum_by-cons weight 0 out),
@@ -31,7 +33,8 @@ module _ {W E : Type 0} {log : List (ℕ × E)} {next : ℕ} {out gone : List �
       )
 
   -- the number of a live pass is below the next one, and no ended pass has it
-  pub live_number : Numbers log next out gone views → (id : ℕ) (v : View W E) → Sits views id v → IsLive v.stage → (v.number < next) × (sum_by (one_at v.number) gone ≡ 0)
+  pub live_number : Numbers log next out gone views → (id : ℕ) (v : View W E) → Sits views id v → IsLive v.stage
+      → (v.number < next) × (sum_by (one_at v.number) gone ≡ 0)
   live_number o id v me live =
       let n : ℕ = v.number in
       let c = all_counted o (one_at n) in
@@ -42,7 +45,8 @@ module _ {W E : Type 0} {log : List (ℕ × E)} {next : ℕ} {out gone : List �
       (λ no. let below : n < next = omega arith in (below, omega (arith, c.0, c.1, here, one, below_once n next below)))
 
   -- two live passes have different numbers
-  pub live_apart : Numbers log next out gone views → (id j : ℕ) (v u : View W E) → Sits views id v → Sits views j u → IsLive v.stage → IsLive u.stage → j ≢ id → v.number ≢ u.number
+  pub live_apart : Numbers log next out gone views → (id j : ℕ) (v u : View W E) → Sits views id v → Sits views j u
+      → IsLive v.stage → IsLive u.stage → j ≢ id → v.number ≢ u.number
   live_apart o id j v u me they live live' apart same =
       let n : ℕ = v.number in
       let c = all_counted o (one_at n) in
@@ -52,8 +56,10 @@ module _ {W E : Type 0} {log : List (ℕ × E)} {next : ℕ} {out gone : List �
       omega (arith, c.0, c.1, both, one, other, below_once n next (live_number o id v me live).0)
 
   -- a seat keeps its number and what it knows of the others
-  pub keeps_numbers : Numbers log next out gone views → (id : ℕ) (v w : View W E) → Sits views id v → IsLive v.stage → IsLive w.stage
-      → w.number ≡ v.number → w.next ≡ v.next → w.out ≡ v.out → w.ended ≡ v.ended → Numbers log next out gone (set views id w)
+  pub keeps_numbers : Numbers log next out gone views → (id : ℕ) (v w : View W E) → Sits views id v → IsLive v.stage
+      → IsLive w.stage
+      → w.number ≡ v.number → w.next ≡ v.next → w.out ≡ v.out → w.ended ≡ v.ended
+      → Numbers log next out gone (set views id w)
   keeps_numbers o id v w me live live' number next_same out_same ended_same = record {
     live = λ weight. omega (
       arith,
@@ -68,25 +74,34 @@ module _ {W E : Type 0} {log : List (ℕ × E)} {next : ℕ} {out gone : List �
     each_once = o.each_once;
     few = o.few;
     opening = λ j u sits they first. ⊎_elim
-        (λ (q : (j ≡ id) × (w ≡ u)). let k = o.opening id v me live (sym number ∙ (ap (λ (x : View W E). x.number) q.1 ∙ first)) in
-        (ap (λ (x : View W E). x.next) (sym q.1) ∙ (next_same ∙ k.0), ap (λ (x : View W E). x.out) (sym q.1) ∙ (out_same ∙ k.1), ap (λ (x : View W E). x.ended) (sym q.1) ∙ (ended_same ∙ k.2)))
+        (λ (q : (j ≡ id) × (w ≡ u)). let k = o.opening id v me live
+        (sym number ∙ (ap (λ (x : View W E). x.number) q.1 ∙ first)) in (
+          ap (λ (x : View W E). x.next) (sym q.1) ∙ (next_same ∙ k.0),
+          ap (λ (x : View W E). x.out) (sym q.1)
+              ∙ (out_same ∙ k.1),
+          ap (λ (x : View W E). x.ended) (sym q.1) ∙ (ended_same ∙ k.2),
+        ))
         (λ (q : (j ≢ id) × Sits views j u). o.opening j u q.1 they first) (at_set views id j w u sits);
     unused = o.unused;
   }
 
   -- the history has an entry more, of a live pass
-  pub grows_numbers : Numbers log next out gone views → (id : ℕ) (v : View W E) (e : E) → Sits views id v → IsLive v.stage → Numbers (log ++ (v.number, e) ∷ []) next out gone views
+  pub grows_numbers : Numbers log next out gone views → (id : ℕ) (v : View W E) (e : E) → Sits views id v
+      → IsLive v.stage → Numbers (log ++ (v.number, e) ∷ []) next out gone views
   grows_numbers o id v e me live =
       let mine_is = live_number o id v me live in record {
         live = o.live;
         each_once = o.each_once;
         few = o.few;
-        opening = λ j u sits they first. let k = o.opening j u sits they first in (k.0, k.1, k.2 ∙ sym (own_lists_push v.number e log gone mine_is.1));
+        opening =
+            λ j u sits they first. let k =
+            o.opening j u sits they first in (k.0, k.1, k.2 ∙ sym (own_lists_push v.number e log gone mine_is.1));
         unused = λ n past. mine_push_other n v.number log e (λ same. omega (arith, mine_is.0)) ∙ o.unused n past;
       }
 
   -- the opening pass splits a pass off
-  pub splits_numbers : Numbers log next out gone views → (id : ℕ) (v : View W E) → Sits views id v → IsLive v.stage → v.number ≡ 0 → v.next + 1 < 2 ^ 32
+  pub splits_numbers : Numbers log next out gone views → (id : ℕ) (v : View W E) → Sits views id v → IsLive v.stage
+      → v.number ≡ 0 → v.next + 1 < 2 ^ 32
       → Numbers log (next + 1) (out ++ next ∷ []) gone (set views id (split_off v) ++ newcomer v ∷ [])
   splits_numbers o id v me live first room =
       let w : View W E = split_off v in
@@ -121,17 +136,23 @@ module _ {W E : Type 0} {log : List (ℕ × E)} {next : ℕ} {out gone : List �
             (λ (old : Sits (set views id w) j u). ⊎_elim
             (λ (q : (j ≡ id) × (w ≡ u)). (
               ap (λ (x : View W E). x.next) (sym q.1) ∙ ap (λ (n : ℕ). n + 1) k.0,
-              ap (λ (x : View W E). x.out) (sym q.1) ∙ (ap (λ (n : ℕ). v.out ++ n ∷ []) k.0 ∙ ap (λ (l : List ℕ). l ++ next ∷ []) k.1),
+              ap (λ (x : View W E). x.out) (sym q.1)
+                  ∙ (ap (λ (n : ℕ). v.out ++ n ∷ []) k.0 ∙ ap (λ (l : List ℕ). l ++ next ∷ []) k.1),
               ap (λ (x : View W E). x.ended) (sym q.1) ∙ k.2,
             ))
-            (λ (q : (j ≢ id) × Sits views j u). absurd (live_apart o id j v u me q.1 live they q.0 (first ∙ sym zero_number))) (at_set views id j w u old))
-            (λ (new : fresh ≡ u). absurd (omega (arith, ap (λ (x : View W E). x.number) new, k.0))) (at_snoc (set views id w) fresh u j sits);
+            (λ (q : (j ≢ id) × Sits views j u).
+            absurd (live_apart o id j v u me q.1 live they q.0 (first ∙ sym zero_number)))
+            (at_set views id j w u old))
+            (λ (new : fresh ≡ u). absurd (omega (arith, ap (λ (x : View W E). x.number) new, k.0)))
+            (at_snoc (set views id w) fresh u j sits);
         unused = λ n past. o.unused n (omega arith);
       }
 
   -- the opening pass takes in another
-  pub joins_numbers : Numbers log next out gone views → (id other : ℕ) (v w : View W E) → Sits views id v → Sits views other w → other ≢ id → IsLive v.stage → IsLive w.stage → v.number ≡ 0 → w.own ≡ mine w.number log
-      → Numbers log next (without_number w.number out) (gone ++ w.number ∷ []) (set (set views id (joined v w)) other ended_view)
+  pub joins_numbers : Numbers log next out gone views → (id other : ℕ) (v w : View W E) → Sits views id v
+      → Sits views other w → other ≢ id → IsLive v.stage → IsLive w.stage → v.number ≡ 0 → w.own ≡ mine w.number log
+      → Numbers log next (without_number w.number out) (gone ++ w.number ∷ [])
+      (set (set views id (joined v w)) other ended_view)
   joins_numbers o id other v w me they apart live live' first own =
       let both : View W E = joined v w in
       let spent : View W E = ended_view in
@@ -141,7 +162,8 @@ module _ {W E : Type 0} {log : List (ℕ × E)} {next : ℕ} {out gone : List �
       let not_zero : 0 ≢ n = λ same. live_apart o id other v w me they live live' apart (first ∙ same) in
       let c = all_counted o (one_at n) in
       let one = live_weight w.stage (one_at n n) live' ∙ one_at_same n in
-      let is_out : 0 < sum_by (one_at n) out = omega (arith, c.0, part_of_sum (live_at (one_at n)) views other w they, one, one_at_other n 0 not_zero) in record {
+      let is_out : 0 < sum_by (one_at n) out = omega
+      (arith, c.0, part_of_sum (live_at (one_at n)) views other w they, one, one_at_other n 0 not_zero) in record {
         live = λ weight. omega (
           arith,
           o.live weight,
@@ -171,18 +193,25 @@ module _ {W E : Type 0} {log : List (ℕ × E)} {next : ℕ} {out gone : List �
             (λ (p : (j ≡ id) × (both ≡ u)). (
               ap (λ (x : View W E). x.next) (sym p.1) ∙ k.0,
               ap (λ (x : View W E). x.out) (sym p.1) ∙ ap (without_number n) k.1,
-              ap (λ (x : View W E). x.ended) (sym p.1) ∙ (ap (λ (l : List E). v.ended ++ (n, l) ∷ []) own ∙ (ap (λ (l : List (ℕ × List E)). l ++ (n, mine n log) ∷ []) k.2 ∙ sym (map-append (λ (m : ℕ). (m, mine m log)) gone (n ∷ [])))),
+              ap (λ (x : View W E). x.ended) (sym p.1)
+                  ∙ (ap (λ (l : List E). v.ended ++ (n, l) ∷ []) own
+                  ∙ (ap (λ (l : List (ℕ × List E)). l ++ (n, mine n log) ∷ []) k.2
+                  ∙ sym (map-append (λ (m : ℕ). (m, mine m log)) gone (n ∷ [])))),
             )
             )
-            (λ (p : (j ≢ id) × Sits views j u). absurd (live_apart o id j v u me p.1 live alive p.0 (first ∙ sym zero_number))) (at_set views id j both u q.1))
+            (λ (p : (j ≢ id) × Sits views j u).
+            absurd (live_apart o id j v u me p.1 live alive p.0 (first ∙ sym zero_number)))
+            (at_set views id j both u q.1))
             (at_set (set views id both) other j spent u sits);
         unused = o.unused;
       }
 
   -- an entry more: of the pass that has its turn it is its own, and to the others it changes nothing
-  pub grows_fits : Numbers log next out gone views → (opened : W) (id : ℕ) (v : View W E) (e : E) → Sits views id v → IsLive v.stage → v.seen ≡ log
+  pub grows_fits : Numbers log next out gone views → (opened : W) (id : ℕ) (v : View W E) (e : E) → Sits views id v
+      → IsLive v.stage → v.seen ≡ log
       → ((j : ℕ) (u : View W E) → Sits views j u → IsLive u.stage → FitsHistory opened log u)
-      → (j : ℕ) (u : View W E) → Sits (set views id (adding e v)) j u → IsLive u.stage → FitsHistory opened (log ++ (v.number, e) ∷ []) u
+      → (j : ℕ) (u : View W E) → Sits (set views id (adding e v)) j u → IsLive u.stage
+      → FitsHistory opened (log ++ (v.number, e) ∷ []) u
   grows_fits o opened id v e me live whole fit j u sits they =
       let w : View W E = adding e v in
       let more : List (ℕ × E) = log ++ (v.number, e) ∷ [] in
@@ -201,10 +230,13 @@ module _ {W E : Type 0} {log : List (ℕ × E)} {next : ℕ} {out gone : List �
       }) (at_set views id j w u sits)
 
 -- the view of one seat changes, and fits
-pub keeps_fits : {W E : Type 0} (opened : W) (log : List (ℕ × E)) (views : List (View W E)) (id : ℕ) (w : View W E) → FitsHistory opened log w
+pub keeps_fits : {W E : Type 0} (opened : W) (log : List (ℕ × E)) (views : List (View W E)) (id : ℕ) (w : View W E)
+    → FitsHistory opened log w
     → ((j : ℕ) (u : View W E) → Sits views j u → IsLive u.stage → FitsHistory opened log u)
     → (j : ℕ) (u : View W E) → Sits (set views id w) j u → IsLive u.stage → FitsHistory opened log u
-keeps_fits {W} {E} opened log views id w fits fit j u sits they = ⊎_elim (λ (q : (j ≡ id) × (w ≡ u)). subst (FitsHistory opened log) q.1 fits) (λ (q : (j ≢ id) × Sits views j u). fit j u q.1 they) (at_set views id j w u sits)
+keeps_fits {W} {E} opened log views id w fits fit j u sits they =
+    ⊎_elim (λ (q : (j ≡ id) × (w ≡ u)). subst (FitsHistory opened log) q.1 fits)
+    (λ (q : (j ≢ id) × Sits views j u). fit j u q.1 they) (at_set views id j w u sits)
 
 ticket_is_live : (stage : Stage) → tickets_of stage ≤ if_live stage 1 0
 ticket_is_live Idle = omega arith
@@ -217,7 +249,15 @@ ones zero = refl
 ones (suc n) = omega (arith, sum_by-cons (λ _. 1) n (numbers_below n), ones n)
 
 -- fewer than 2 ^ 32 tickets are out, since there are no more passes
-pub few_tickets : {W E : Type 0} {log : List (ℕ × E)} {next : ℕ} {out gone : List ℕ} {views : List (View W E)} → Numbers log next out gone views → sum_by (λ v. tickets_of v.stage) views < 2 ^ 32
+pub few_tickets : {W E : Type 0} {log : List (ℕ × E)} {next : ℕ} {out gone : List ℕ} {views : List (View W E)}
+    → Numbers log next out gone views → sum_by (λ v. tickets_of v.stage) views < 2 ^ 32
 few_tickets {W} {E} {log} {next} {out} {gone} {views} o =
     let c = all_counted o (λ _. 1) in
-    omega (arith, c.0, c.1, o.few, ones next, sum_by-le-sum_by (λ (v : View W E). tickets_of v.stage) (live_at (λ _. 1)) views (λ v. ticket_is_live v.stage))
+    omega (
+      arith,
+      c.0,
+      c.1,
+      o.few,
+      ones next,
+      sum_by-le-sum_by (λ (v : View W E). tickets_of v.stage) (live_at (λ _. 1)) views (λ v. ticket_is_live v.stage),
+    )

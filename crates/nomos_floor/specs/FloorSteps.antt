@@ -29,8 +29,8 @@ module _ {W E : Type 0} where
   at_turn ticket history v = record v { stage = Serving ticket; seen = history }
 
   module _ {S : Type 0} (start : W → S) (history : W → List (ℕ × E)) where
-    -- The work has the start of the opened one, and a history that begins with what the pass had seen and has of it just
-    -- its own entries
+    -- The work has the start of the opened one, and a history that begins with what the pass had seen and has of it
+    -- just its own entries
     abbrev pub Continues : View W E → W → Type 0
     Continues v work =
         ((opened : W) → v.opened ≡ Some opened → start work ≡ start opened)

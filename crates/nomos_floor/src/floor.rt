@@ -61,7 +61,8 @@ impl<W: Shared> Floor<W> {
     pub fn open(alloc: Global, work: W) -> Result<(Floor<W>, Pass<W>), OpenError<W>>
         requires { W.history work ≡ [] }
         ensures opened { IfOk result (λ r. IsPassOf r.0 r.1 × (opened_work r.0 ≡ work)) }
-        ensures opening { IfOk result (λ r. IsOpening r.1 × (next_of r.1 ≡ 1) × (out_of r.1 ≡ []) × (ended_of r.1 ≡ [])) }
+        ensures opening { IfOk result (λ r. IsOpening r.1 × (next_of r.1 ≡ 1) × (out_of r.1 ≡ [])
+            × (ended_of r.1 ≡ [])) }
         ensures nothing_seen { IfOk result (λ r. (seen_by r.1 ≡ []) × (own_of r.1 ≡ [])) }
         ensures no_memory { IfErr result (λ e. e ≡ OpenError.NoMemory work) }
     {
@@ -92,11 +93,13 @@ impl<W: Shared> Floor<W> {
         requires opening { IsOpening pass.old }
         requires room { next_of pass.old < 2 ^ 32 - 1 }
         ensures of_floor { IsPassOf self.now pass.new × IsPassOf self.now result }
-        ensures new { (pass_number result ≡ next_of pass.old) × (seen_by result ≡ seen_by pass.old) × (own_of result ≡ []) }
+        ensures new { (pass_number result ≡ next_of pass.old) × (seen_by result ≡ seen_by pass.old)
+            × (own_of result ≡ []) }
         ensures next { next_of pass.new ≡ next_of pass.old + 1 }
         ensures out { out_of pass.new ≡ out_of pass.old ++ next_of pass.old ∷ [] }
         ensures ended { ended_of pass.new ≡ ended_of pass.old }
-        ensures kept { (pass_number pass.new ≡ pass_number pass.old) × (seen_by pass.new ≡ seen_by pass.old) × (own_of pass.new ≡ own_of pass.old) }
+        ensures kept { (pass_number pass.new ≡ pass_number pass.old) × (seen_by pass.new ≡ seen_by pass.old)
+            × (own_of pass.new ≡ own_of pass.old) }
     {
         let number = pass.next;
         let seat = self.table.shared.split_seat::<SplitOff>(&mut pass.seat);
@@ -163,8 +166,8 @@ impl<W: Shared> Floor<W> {
         }
     }
 
-    /// Ends a turn, and gives the pass back. The work has the entries that it had when it was taken, or one more, which is
-    /// of this pass.
+    /// Ends a turn, and gives the pass back. The work has the entries that it had when it was taken, or one more, which
+    /// is of this pass.
     pub fn give_back(&self, turn: Turn<W>) -> Pass<W>
         requires of_floor { IsTurnOf self.now turn }
         requires start { W.start turn.work ≡ W.start (opened_work self.now) }
@@ -173,7 +176,9 @@ impl<W: Shared> Floor<W> {
         ensures seen { seen_by result ≡ W.history turn.work }
         ensures own { own_of result ≡ mine (pass_number result) (W.history turn.work) }
         ensures unfired { W.history turn.work ≡ taken_history turn → own_of result ≡ own_of (pass_of turn) }
-        ensures fired { (entry : W.Entry) → W.history turn.work ≡ taken_history turn ++ (pass_number (pass_of turn), entry) ∷ [] → own_of result ≡ own_of (pass_of turn) ++ entry ∷ [] }
+        ensures fired { (entry : W.Entry) → W.history turn.work
+            ≡ taken_history turn ++ (pass_number (pass_of turn), entry) ∷ []
+            → own_of result ≡ own_of (pass_of turn) ++ entry ∷ [] }
         ensures kept { KeepsNumbers (pass_of turn) result }
     {
         let Turn {
@@ -193,7 +198,8 @@ impl<W: Shared> Floor<W> {
         Pass { number, next, seat }
     }
 
-    /// Ends another pass. The opening one keeps its number with its entries, and has seen the longer of their histories.
+    /// Ends another pass. The opening one keeps its number with its entries, and has seen the longer of their
+    /// histories.
     pub fn join(&self, pass: &mut Pass<W>, other: Pass<W>)
         requires of_floor { IsPassOf self.now pass.old × IsPassOf self.now other }
         requires opening { IsOpening pass.old }
@@ -202,7 +208,8 @@ impl<W: Shared> Floor<W> {
         ensures begins { IsPrefix (seen_by pass.old) (seen_by pass.new) × IsPrefix (seen_by other) (seen_by pass.new) }
         ensures out { out_of pass.new ≡ without_number (pass_number other) (out_of pass.old) }
         ensures ended { ended_of pass.new ≡ ended_of pass.old ++ (pass_number other, own_of other) ∷ [] }
-        ensures kept { (pass_number pass.new ≡ pass_number pass.old) × (next_of pass.new ≡ next_of pass.old) × (own_of pass.new ≡ own_of pass.old) }
+        ensures kept { (pass_number pass.new ≡ pass_number pass.old) × (next_of pass.new ≡ next_of pass.old)
+            × (own_of pass.new ≡ own_of pass.old) }
     {
         let Pass {
             number: _,
@@ -214,8 +221,8 @@ impl<W: Shared> Floor<W> {
         shared.load::<Learn>(&mut pass.seat, TICKET);
     }
 
-    /// Ends the floor, once no number is out, and gives the work. Its history has of each number just the entries that the
-    /// opening pass has for it.
+    /// Ends the floor, once no number is out, and gives the work. Its history has of each number just the entries that
+    /// the opening pass has for it.
     pub fn close(self, pass: Pass<W>) -> W
         requires of_floor { IsPassOf self pass }
         requires opening { IsOpening pass }

@@ -16,7 +16,8 @@ use Rattle.nomos_forms.proofs.CertificateLaws.{spread, spread_zero, spread_star}
 use Rattle.nomos_forms.proofs.WholeLaws.{times_neg, times_sum}
 
 -- ---- the shares of the stars
-pub dot_spread : (f : ℕ → ℤ) (s n : ℕ) (xs : List ℕ) → length xs ≡ n → dot (map f (range_with_len s n)) xs ≡ spread f s xs
+pub dot_spread : (f : ℕ → ℤ) (s n : ℕ) (xs : List ℕ) → length xs ≡ n
+    → dot (map f (range_with_len s n)) xs ≡ spread f s xs
 dot_spread f s zero [] h = refl
 dot_spread f s zero (x ∷ xs) h = absurd (omega arith)
 dot_spread f s (suc n) [] h = absurd (omega arith)
@@ -42,7 +43,8 @@ share_none : (star : ℕ) → 1 ≤ star → cond (0 == star) (pos 1) (pos 0) �
 share_none star h = ⊎_elim (λ e. absurd (omega (arith, e.1))) (λ e. ap (λ b. cond b (pos 1) (pos 0)) e.0) (eqb_tells 0
     star)
 
-pub spread_share : (n : ℕ) (xs : List ℕ) (a : Amount) → HasStarUpTo n a → spread (share_of a) 1 xs ≡ pos (star_worth xs a)
+pub spread_share : (n : ℕ) (xs : List ℕ) (a : Amount) → HasStarUpTo n a
+    → spread (share_of a) 1 xs ≡ pos (star_worth xs a)
 spread_share n xs (amount.Written units) h = spread_zero (share_of (amount.Written units)) 1 xs (λ t i j. share_none t
     i)
 spread_share n xs (amount.Star star) h = sym (spread_star star 1 xs h.0)

@@ -137,7 +137,9 @@ starts_joined : (side rest : List Part) (t : Terminal) → IsAmong t (starts (si
 starts_joined [] rest t m = inr (refl, m)
 starts_joined (part.Terminal x ∷ side) rest t m = inl m
 starts_joined (part.Mark x ∷ side) rest t m = starts_joined side rest t m
-starts_joined (part.Nonterminal x ∷ side) rest t m = start_cases (vanishes x) (may_vanish side) (firsts x) (starts side) (starts rest) (starts (side ++ rest)) t (starts_joined side rest t) m
+starts_joined (part.Nonterminal x ∷ side) rest t m =
+    start_cases (vanishes x) (may_vanish side) (firsts x) (starts side) (starts rest) (starts (side ++ rest)) t
+    (starts_joined side rest t) m
 
 fits_itself : (t : Terminal) → IsAmong t (fitting t)
 fits_itself terminal.Name = first
@@ -156,7 +158,9 @@ fits_among t lexeme x (inr one) e =
 starts_production : (n : Nonterminal) (side rest : List Part) (t : Terminal) → IsAmong side (alternatives n) →
     IsAmong t (starts (side ++ rest)) → IsAmong t (starts (part.Nonterminal n ∷ rest))
 starts_production n side rest t m s = elim (starts_joined side rest t s) [
-  | inl a ↦ among_left t (firsts n) (if vanishes n then starts rest else []) (all_in-sound (starts side) (firsts n) (each_side-at (begins_alike n) (alternatives n) side (all_begin_alike n) m) t a)
+  | inl a ↦ among_left t (firsts n) (if vanishes n then starts rest else [])
+      (all_in-sound (starts side) (firsts n) (each_side-at (begins_alike n) (alternatives n) side (all_begin_alike n) m)
+      t a)
   | inr b ↦ let v = (vanishing_side n side m b.0).1 in rw v (among_right t (firsts n) (starts rest) b.1)
 ]
 
@@ -194,12 +198,15 @@ takes_none : (begins : List Terminal) → not (is_nil begins) ≡ true → takes
 takes_none [] h = cc
 takes_none (x ∷ begins) h = refl
 
-no_later-at : (begins : List Terminal) (n : Nonterminal) (sides : List (List Part)) (side : List Part) (t : Terminal) → no_later begins n (rows_of sides) ≡ true → IsAmong side sides → IsAmong t (taken_with n side) → is_in t begins ≡ false
+no_later-at : (begins : List Terminal) (n : Nonterminal) (sides : List (List Part)) (side : List Part) (t : Terminal)
+    → no_later begins n (rows_of sides) ≡ true → IsAmong side sides → IsAmong t (taken_with n side)
+    → is_in t begins ≡ false
 no_later-at begins n [] side t h m a = elim m [ ]
 no_later-at begins n (s ∷ []) side t h first a = none_in-test (taken_with n s) begins (and_first _ _ h) t a
 no_later-at begins n (s ∷ []) side t h (later m) a = elim m [ ]
 no_later-at begins n (s ∷ other ∷ sides) side t h first a = none_in-test (taken_with n s) begins (and_first _ _ h) t a
-no_later-at begins n (s ∷ other ∷ sides) side t h (later m) a = no_later-at begins n (other ∷ sides) side t (and_second _ _ h) m a
+no_later-at begins n (s ∷ other ∷ sides) side t h (later m) a =
+    no_later-at begins n (other ∷ sides) side t (and_second _ _ h) m a
 
 -- what is computed of a row that is not the last
 record ChoosesWell (n : Nonterminal) (s : List Part) (begins : List Terminal) (more : List (List Part)) : Type 0 where
@@ -210,15 +217,28 @@ record ChoosesWell (n : Nonterminal) (s : List Part) (begins : List Terminal) (m
   others : chooses_well n (rows_of more) ≡ true
 
 row_parts_of : (n : Nonterminal) (s : List Part) (begins : List Terminal) (more : List (List Part)) →
-    (not (is_nil begins) && (not (may_vanish s) && (all_in (taken_with n s) begins && (no_later begins n (rows_of more) && chooses_well n (rows_of more))))) ≡ true → ChoosesWell n s begins more
+    (not (is_nil begins) && (not (may_vanish s)
+    && (all_in (taken_with n s) begins && (no_later begins n (rows_of more) && chooses_well n (rows_of more)))))
+    ≡ true → ChoosesWell n s begins more
 row_parts_of n s begins more h =
-    let h1 = and_second (not (is_nil begins)) (not (may_vanish s) && (all_in (taken_with n s) begins && (no_later begins n (rows_of more) && chooses_well n (rows_of more)))) h in
-    let h2 = and_second (not (may_vanish s)) (all_in (taken_with n s) begins && (no_later begins n (rows_of more) && chooses_well n (rows_of more))) h1 in
-    let h3 = and_second (all_in (taken_with n s) begins) (no_later begins n (rows_of more) && chooses_well n (rows_of more)) h2 in
+    let h1 = and_second (not (is_nil begins))
+    (not (may_vanish s) && (all_in (taken_with n s) begins
+    && (no_later begins n (rows_of more) && chooses_well n (rows_of more)))) h in
+    let h2 = and_second (not (may_vanish s))
+    (all_in (taken_with n s) begins && (no_later begins n (rows_of more) && chooses_well n (rows_of more))) h1 in
+    let h3 = and_second (all_in (taken_with n s) begins)
+    (no_later begins n (rows_of more) && chooses_well n (rows_of more)) h2 in
     record {
-      solid = and_first (not (is_nil begins)) (not (may_vanish s) && (all_in (taken_with n s) begins && (no_later begins n (rows_of more) && chooses_well n (rows_of more)))) h;
-      reads = and_first (not (may_vanish s)) (all_in (taken_with n s) begins && (no_later begins n (rows_of more) && chooses_well n (rows_of more))) h1;
-      taken = and_first (all_in (taken_with n s) begins) (no_later begins n (rows_of more) && chooses_well n (rows_of more)) h2;
+      solid =
+          and_first (not (is_nil begins))
+          (not (may_vanish s) && (all_in (taken_with n s) begins
+          && (no_later begins n (rows_of more) && chooses_well n (rows_of more)))) h;
+      reads =
+          and_first (not (may_vanish s))
+          (all_in (taken_with n s) begins && (no_later begins n (rows_of more) && chooses_well n (rows_of more))) h1;
+      taken =
+          and_first (all_in (taken_with n s) begins) (no_later begins n (rows_of more) && chooses_well n (rows_of more))
+          h2;
       apart = and_first (no_later begins n (rows_of more)) (chooses_well n (rows_of more)) h3;
       others = and_second (no_later begins n (rows_of more)) (chooses_well n (rows_of more)) h3;
     }
@@ -260,7 +280,8 @@ vanish_row n (s ∷ other ∷ sides) side h first v =
     cc
 vanish_row n (s ∷ other ∷ sides) side h (later m) v =
     let p = row_parts n s other sides h in
-    if_false (takes (starts_within 60 s) None) s (pick (rows_of (other ∷ sides)) None) (takes_none (starts_within 60 s) p.solid)
+    if_false (takes (starts_within 60 s) None) s (pick (rows_of (other ∷ sides)) None)
+    (takes_none (starts_within 60 s) p.solid)
     ∙ vanish_row n (other ∷ sides) side p.others m v
 
 if_among : (b : Bool) (s side : List Part) (sides : List (List Part)) → IsAmong side sides →
@@ -314,7 +335,8 @@ stack_joined n (part.Nonterminal m ∷ side) rest h behind s =
     let h1 = and_second (all_in (starts side) (follow m)) _ h in (
       λ t a. elim (starts_joined side rest t a) [
         | inl b ↦ all_in-sound (starts side) (follow m) (and_first _ _ h) t b
-        | inr v ↦ all_in-sound (follow n) (follow m) (or_second (may_vanish side) (all_in (follow n) (follow m)) (and_first _ _ h1) v.0) t (behind t v.1)
+        | inr v ↦ all_in-sound (follow n) (follow m)
+            (or_second (may_vanish side) (all_in (follow n) (follow m)) (and_first _ _ h1) v.0) t (behind t v.1)
       ],
       stack_joined n side rest (and_second _ _ h1) behind s,
     )

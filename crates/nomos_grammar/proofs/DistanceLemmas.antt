@@ -60,7 +60,9 @@ distance_solid : (side rest : List Part) → may_vanish side ≡ false → dista
 distance_solid [] rest h = cc
 distance_solid (part.Terminal t ∷ side) rest h = refl
 distance_solid (part.Mark m ∷ side) rest h = rw (distance_solid side rest h)
-distance_solid (part.Nonterminal m ∷ side) rest h = ap (λ d. max (rank m) d) (solid_case (vanishes m) (may_vanish side) (distance (side ++ rest)) (distance side) (distance_solid side rest) h)
+distance_solid (part.Nonterminal m ∷ side) rest h =
+    ap (λ d. max (rank m) d) (solid_case (vanishes m) (may_vanish side) (distance (side ++ rest)) (distance side)
+    (distance_solid side rest) h)
 
 -- a production is no nearer to a token than where it vanishes
 vanished_case : (v : Bool) (r d : ℕ) → v ≡ true → d ≤ max r (if v then d else 0)
@@ -79,10 +81,13 @@ not_false false h = refl
 nearer : (n : Nonterminal) (p : Part) (side rest : List Part) → IsAmong (p ∷ side) (alternatives n) →
     (distance ((p ∷ side) ++ rest) < rank n) × (length (p ∷ side) < 20)
 nearer n p side rest m =
-    let solid = not_false (may_vanish (p ∷ side)) (each_side-at vanishes_empty (alternatives n) (p ∷ side) (all_vanish_empty n) m) in
+    let solid = not_false (may_vanish (p ∷ side))
+    (each_side-at vanishes_empty (alternatives n) (p ∷ side) (all_vanish_empty n) m) in
     let near = each_side-at (comes_nearer n) (alternatives n) (p ∷ side) (all_come_nearer n) m in
-    let far = ltb-true (distance (p ∷ side)) (rank n) (and_first _ _ near) in
-    (rw (distance_solid (p ∷ side) rest solid) far, ltb-true (length (p ∷ side)) 20 (and_second (nat_lt (distance (p ∷ side)) (rank n)) _ near))
+    let far = ltb-true (distance (p ∷ side)) (rank n) (and_first _ _ near) in (
+      rw (distance_solid (p ∷ side) rest solid) far,
+      ltb-true (length (p ∷ side)) 20 (and_second (nat_lt (distance (p ∷ side)) (rank n)) _ near),
+    )
 
 -- what falls while parts are replaced and marks are counted
 abbrev pub steps_left : List Part → ℕ
@@ -124,7 +129,9 @@ distance_flat (part.Mark m ∷ side) rest h =
     let none : rises m ≡ 0 = eqb-true (rises m) 0 (and_first _ (never_rises side) h) in
     let more = distance_flat side rest (and_second (nat_eq (rises m) 0) _ h) in
     omega (arith, none, more)
-distance_flat (part.Nonterminal m ∷ side) rest h = flat_case (vanishes m) (rank m) (distance (side ++ rest)) (distance side) (distance rest) (distance_flat side rest h)
+distance_flat (part.Nonterminal m ∷ side) rest h =
+    flat_case (vanishes m) (rank m) (distance (side ++ rest)) (distance side) (distance rest)
+    (distance_flat side rest h)
 
 low_first : (rest : List Part) → IsLow rest → distance rest ≤ 40
 low_first [] low = omega arith
@@ -141,14 +148,16 @@ low_joined : (side rest : List Part) → stays_low side ≡ true → IsLow rest 
 low_joined [] rest h low = low
 low_joined (p ∷ side) rest h low =
     let h1 = and_second (nat_le (distance (p ∷ side)) 40) _ h in (
-      low_end (may_vanish (p ∷ side)) (never_rises (p ∷ side)) (p ∷ side) rest refl refl (and_first _ (stays_low side) h1)
+      low_end (may_vanish (p ∷ side)) (never_rises (p ∷ side)) (p ∷ side) rest refl refl
+          (and_first _ (stays_low side) h1)
           (leb-true (distance (p ∷ side)) 40 (and_first _ _ h)) (low_first rest low),
       low_joined side rest (and_second (not (may_vanish (p ∷ side)) || never_rises (p ∷ side)) _ h1) low,
     )
 
 pub low_replaced : (n : Nonterminal) (side rest : List Part) → IsAmong side (alternatives n) →
     IsLow (part.Nonterminal n ∷ rest) → IsLow (side ++ rest)
-low_replaced n side rest m low = low_joined side rest (each_side-at stays_low (alternatives n) side (all_stay_low n) m) low.1
+low_replaced n side rest m low =
+    low_joined side rest (each_side-at stays_low (alternatives n) side (all_stay_low n) m) low.1
 
 pub low_distance : (parts : List Part) → IsLow parts → distance parts ≤ 40
 low_distance parts low = low_first parts low

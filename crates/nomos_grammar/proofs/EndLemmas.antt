@@ -44,27 +44,37 @@ a_token : {t : Terminal} {rest : List Part} {events : List Event} → Derives (p
 a_token (read f d) e = cc
 
 -- nothing has to follow
-ends_file : (front : List Placed) (parts : List Part) (c d : Counts) (next : Option Terminal) (marks : List Mark) (has : HasRead front parts c) → Leads next parts c marks [] d → IsFile front
+ends_file : (front : List Placed) (parts : List Part) (c d : Counts) (next : Option Terminal) (marks : List Mark)
+    (has : HasRead front parts c) → Leads next parts c marks [] d → IsFile front
 ends_file front parts c d next marks has way =
     let tokens : tokens_in (has.events ++ (events_of marks ++ [])) ≡ front =
-    tokens_joined has.events (events_of marks ++ []) ∙ (ap (λ es. tokens_in has.events ++ tokens_in es) (append-nil (events_of marks)) ∙
-    (ap (λ ts. tokens_in has.events ++ ts) (no_tokens_in_marks marks) ∙ (append-nil (tokens_in has.events) ∙ has.tokens))) in
+    tokens_joined has.events (events_of marks ++ [])
+    ∙ (ap (λ es. tokens_in has.events ++ tokens_in es) (append-nil (events_of marks)) ∙
+    (ap (λ ts. tokens_in has.events ++ ts) (no_tokens_in_marks marks)
+    ∙ (append-nil (tokens_in has.events) ∙ has.tokens))) in
     (has.events ++ (events_of marks ++ []), has.sound (events_of marks ++ []) (way.sound [] nothing), tokens)
 
 -- a token has to follow
-goes_on : (front : List Placed) (parts rest : List Part) (c d : Counts) (marks : List Mark) (t : Terminal) (has : HasRead front parts c) → Leads None parts c marks (part.Terminal t ∷ rest) d → ¬ IsFile front
+goes_on : (front : List Placed) (parts rest : List Part) (c d : Counts) (marks : List Mark) (t : Terminal)
+    (has : HasRead front parts c) → Leads None parts c marks (part.Terminal t ∷ rest) d → ¬ IsFile front
 goes_on front parts rest c d marks t has way f =
     let behind = has.complete f.0 [] f.1 (f.2 ∙ sym (append-nil front)) in
-    let split : front ++ tokens_in behind.0 ≡ front ++ [] = ap (λ ts. ts ++ tokens_in behind.0) (sym has.tokens) ∙ (sym (tokens_joined has.events behind.0) ∙ (ap tokens_in (sym behind.1) ∙ (f.2 ∙ sym (append-nil front)))) in
+    let split : front ++ tokens_in behind.0
+    ≡ front ++ [] = ap (λ ts. ts ++ tokens_in behind.0) (sym has.tokens)
+    ∙ (sym (tokens_joined has.events behind.0) ∙ (ap tokens_in (sym behind.1) ∙ (f.2 ∙ sym (append-nil front)))) in
     let none : tokens_in behind.0 ≡ [] = same_behind front (tokens_in behind.0) [] split in
     let on = way.complete behind.0 (next_of_none behind.0 none) behind.2 in
-    let left : tokens_in on.0 ≡ [] = sym (ap (λ ts. ts ++ tokens_in on.0) (no_tokens_in_marks marks)) ∙ (sym (tokens_joined (events_of marks) on.0) ∙ (sym (ap tokens_in on.1) ∙ none)) in
+    let left : tokens_in on.0 ≡ [] = sym (ap (λ ts. ts ++ tokens_in on.0) (no_tokens_in_marks marks))
+    ∙ (sym (tokens_joined (events_of marks) on.0) ∙ (sym (ap tokens_in on.1) ∙ none)) in
     a_token on.2 left
 
 -- the tokens read are a file just where nothing has to follow
-pub ends_well : (front : List Placed) (parts rest : List Part) (c d : Counts) (asked : Option Terminal) (ends : Bool) → HasRead front parts c → Settles None parts c asked rest d → (IsTrue ends ↔ (asked ≡ None)) → IsTrue ends ↔ IsFile front
+pub ends_well : (front : List Placed) (parts rest : List Part) (c d : Counts) (asked : Option Terminal) (ends : Bool)
+    → HasRead front parts c → Settles None parts c asked rest d → (IsTrue ends ↔ (asked ≡ None))
+    → IsTrue ends ↔ IsFile front
 ends_well front parts rest c d None ends has s e = (
-  λ h. ends_file front parts c d None s.marks has (subst (λ (p : List Part). Leads None parts c s.marks p d) (s.ended refl) s.leads),
+  λ h. ends_file front parts c d None s.marks has
+      (subst (λ (p : List Part). Leads None parts c s.marks p d) (s.ended refl) s.leads),
   λ f. e.1 refl,
 )
 ends_well front parts rest c d (Some t) ends has s e = (

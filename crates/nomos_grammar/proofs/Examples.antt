@@ -52,7 +52,8 @@ pub definition_depth : depth (counts (marked mark.OpenPart ∷ marked mark.Node 
 definition_depth = refl
 
 -- let v = list {1} int, from its `list` on: the word is a node, but it is counted only behind it
-pub empty_list : counts (word_said word.List ∷ marked mark.NodeBefore ∷ []) ≡ record { parts = 0; terms = []; nodes = 1; before = 1; stars = 0 }
+pub empty_list : counts (word_said word.List ∷ marked mark.NodeBefore ∷ [])
+    ≡ record { parts = 0; terms = []; nodes = 1; before = 1; stars = 0 }
 empty_list = refl
 
 -- 1 + 2 < 3 in a term: at the `3` the term, its `notx` and two operators are open

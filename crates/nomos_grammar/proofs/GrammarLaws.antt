@@ -30,8 +30,8 @@ pub chosen_among : (n : Nonterminal) (next : Option Terminal) → IsAmong (chose
 unfolding chosen
 chosen_among n next = pick_among n (alternatives n) next (all_choose_well n)
 
--- Where a production stands before parts behind which stands what may stand there, what the parts derive they derive with
--- the alternative that the first token chooses.
+-- Where a production stands before parts behind which stands what may stand there, what the parts derive they derive
+-- with the alternative that the first token chooses.
 pub chosen_derives : {n : Nonterminal} {rest : List Part} {events : List Event} →
     IsStack (part.Nonterminal n ∷ rest) → Derives (part.Nonterminal n ∷ rest) events →
     Derives (chosen n (next_in events) ++ rest) events
@@ -41,7 +41,8 @@ chosen_derives {n} {rest} {events} s (replaced side m d) =
 -- so it does with each of the alternatives
 pub stack_replaced : (n : Nonterminal) (side rest : List Part) → IsAmong side (alternatives n) →
     IsStack (part.Nonterminal n ∷ rest) → IsStack (side ++ rest)
-stack_replaced n side rest m s = stack_joined n side rest (each_side-at (follows_well n) (alternatives n) side (all_follow_well n) m) s.0 s.1
+stack_replaced n side rest m s =
+    stack_joined n side rest (each_side-at (follows_well n) (alternatives n) side (all_follow_well n) m) s.0 s.1
 
 -- behind a file stands nothing
 pub stack_file : IsStack file
@@ -69,9 +70,12 @@ events_once s (read {x = x} {events = more} f d) (read {x = y} {events = rest} g
     cc
 events_once s (counted {m = m} d) (counted b) e = ap (λ events. mark m ∷ events) (events_once s d b e)
 events_once {events = events} {others = others} s (replaced {n = n} {rest = rest} side m d) (replaced other k b) e =
-    let next : next_in others ≡ next_in events = next_of_tokens others ∙ (ap next_of (sym e) ∙ sym (next_of_tokens events)) in
-    let same : other ≡ side = sym (side_chosen n other rest others (next_in events) next s.0 k b) ∙ side_chosen n side rest events (next_in events) refl s.0 m d in
-    events_once (stack_replaced n side rest m s) d (subst (λ (parts : List Part). Derives (parts ++ rest) others) same b) e
+    let next : next_in others ≡ next_in events = next_of_tokens others
+    ∙ (ap next_of (sym e) ∙ sym (next_of_tokens events)) in
+    let same : other ≡ side = sym (side_chosen n other rest others (next_in events) next s.0 k b)
+    ∙ side_chosen n side rest events (next_in events) refl s.0 m d in
+    events_once (stack_replaced n side rest m s) d
+    (subst (λ (parts : List Part). Derives (parts ++ rest) others) same b) e
 
 -- so a file has its tokens in one way
 pub file_once : {events others : List Event} → Derives file events → Derives file others →

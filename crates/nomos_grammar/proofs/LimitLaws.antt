@@ -32,7 +32,8 @@ next_alike (y ∷ front) x more others = refl
 
 next_cut : (events earlier later : List Event) (x : Placed) → events ≡ earlier ++ token x ∷ later →
     next_in events ≡ next_of (tokens_in earlier ++ x ∷ tokens_in later)
-next_cut events earlier later x e = next_of_tokens events ∙ ap next_of (ap tokens_in e ∙ tokens_joined earlier (token x ∷ later))
+next_cut events earlier later x e =
+    next_of_tokens events ∙ ap next_of (ap tokens_in e ∙ tokens_joined earlier (token x ∷ later))
 
 next_same : (events earlier later others before behind : List Event) (x : Placed) →
     events ≡ earlier ++ token x ∷ later → others ≡ before ++ token x ∷ behind →
@@ -54,7 +55,8 @@ before_once s (read d1 d) (read g b) [] later (mark m ∷ before) behind x e f t
 before_once s (read d1 d) b (mark m ∷ earlier) later before behind x e f t = cc
 before_once s (read d1 d) b (token y ∷ earlier) later [] behind x e f t = cc
 before_once s (read d1 d) (read g b) (token y ∷ earlier) later (mark m ∷ before) behind x e f t = cc
-before_once s (read {events = more} d1 d) (read {events = rest} g b) (token y ∷ earlier) later (token z ∷ before) behind x e f t =
+before_once s (read {events = more} d1 d) (read {events = rest} g b) (token y ∷ earlier) later (token z ∷ before) behind
+    x e f t =
     let cut : more ≡ earlier ++ token x ∷ later = cc in
     let other : rest ≡ before ++ token x ∷ behind = cc in
     let left : tokens_in earlier ≡ tokens_in before = cc in
@@ -64,15 +66,19 @@ before_once s (counted d) b [] later before behind x e f t = cc
 before_once s (counted d) b (token y ∷ earlier) later before behind x e f t = cc
 before_once s (counted d) (counted b) (mark m ∷ earlier) later [] behind x e f t = cc
 before_once s (counted d) (counted b) (mark m ∷ earlier) later (token y ∷ before) behind x e f t = cc
-before_once s (counted {events = more} d) (counted {events = rest} b) (mark m ∷ earlier) later (mark k ∷ before) behind x e f t =
+before_once s (counted {events = more} d) (counted {events = rest} b) (mark m ∷ earlier) later (mark k ∷ before) behind
+    x e f t =
     let cut : more ≡ earlier ++ token x ∷ later = cc in
     let other : rest ≡ before ++ token x ∷ behind = cc in
     let on = before_once s d b earlier later before behind x cut other t in
     cc
-before_once {events = events} {others = others} s (replaced {n = n} {rest = rest} side m d) (replaced side' k b) earlier later before behind x e f t =
+before_once {events = events} {others = others} s (replaced {n = n} {rest = rest} side m d) (replaced side' k b) earlier
+    later before behind x e f t =
     let next = next_same events earlier later others before behind x e f t in
-    let same : side' ≡ side = sym (side_chosen n side' rest others (next_in events) next s.0 k b) ∙ side_chosen n side rest events (next_in events) refl s.0 m d in
-    before_once (stack_replaced n side rest m s) d (subst (λ (parts : List Part). Derives (parts ++ rest) others) same b) earlier later before behind x e f t
+    let same : side' ≡ side = sym (side_chosen n side' rest others (next_in events) next s.0 k b)
+    ∙ side_chosen n side rest events (next_in events) refl s.0 m d in
+    before_once (stack_replaced n side rest m s) d
+    (subst (λ (parts : List Part). Derives (parts ++ rest) others) same b) earlier later before behind x e f t
 
 -- Where a token may stand so that what counts at it is such, it counts so in each file in which the token stands there.
 pub counts_so : (P : Counts → Type 0) (front : List Placed) (x : Placed) → MayStand P front x →
@@ -93,7 +99,8 @@ pub kept_within : (tokens : List Placed) (earlier later : List Event) (x : Place
     IsWithinLimits (counts earlier)
 kept_within tokens earlier later x kept d t =
     let split : tokens_in earlier ++ x ∷ tokens_in later ≡ tokens = sym (tokens_joined earlier (token x ∷ later)) ∙ t in
-    let all : AllKeep [] (tokens_in earlier ++ x ∷ tokens_in later) = subst (λ (ts : List Placed). AllKeep [] ts) (sym split) kept in
+    let all : AllKeep [] (tokens_in earlier ++ x ∷ tokens_in later) = subst (λ (ts : List Placed). AllKeep [] ts)
+    (sym split) kept in
     let keeps : KeepsAll (tokens_in earlier) x rules = kept_at [] (tokens_in earlier) (tokens_in later) x all in
     record {
       nesting = counts_so (λ c. depth c ≤ nesting_limit) (tokens_in earlier) x keeps.1.1.1.1.0 earlier later d refl;

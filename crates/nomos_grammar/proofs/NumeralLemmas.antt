@@ -61,10 +61,12 @@ digit_below_ten b digit =
 -- the digits in front are digits
 front_digits : (bytes : List ℕ) → AllDigits 10 (take (prefix_len is_digit bytes) bytes)
 front_digits [] = tt
-front_digits (b ∷ bytes) = let more : 1 + prefix_len is_digit bytes ≡ suc (prefix_len is_digit bytes) = omega arith in elim (cases_Bool (is_digit b)) [
-  | inl digit ↦ rw (digit, more) (digit_below_ten b digit, front_digits bytes)
-  | inr stops ↦ rw stops tt
-]
+front_digits (b ∷ bytes) =
+    let more : 1 + prefix_len is_digit bytes ≡ suc (prefix_len is_digit bytes) = omega arith in
+    elim (cases_Bool (is_digit b)) [
+      | inl digit ↦ rw (digit, more) (digit_below_ten b digit, front_digits bytes)
+      | inr stops ↦ rw stops tt
+    ]
 
 -- a digit and the digits after it are a numeral
 digits_are_numeral : (b : ℕ) (bytes : List ℕ) → is_digit b ≡ true →
@@ -97,8 +99,11 @@ piece_written b bytes =
     let words = if is_letter b then word_piece b bytes else last in
     written_if (is_blank b) blank (if begins_comment b bytes then comment else words) (λ _. tt)
     (λ _. written_if (begins_comment b bytes) comment words (λ _. tt)
-    (λ _. written_if (is_letter b) (word_piece b bytes) last (λ _. word_written (run_of b (prefix_len is_word_byte bytes) bytes) (reserved_word (run_of b (prefix_len is_word_byte bytes) bytes)))
-    (λ _. written_if (is_digit b) (number_piece b bytes) (symbol_piece b bytes) (λ digit. digits_are_numeral b bytes digit)
+    (λ _. written_if (is_letter b) (word_piece b bytes) last
+    (λ _. word_written (run_of b (prefix_len is_word_byte bytes) bytes)
+    (reserved_word (run_of b (prefix_len is_word_byte bytes) bytes)))
+    (λ _. written_if (is_digit b) (number_piece b bytes) (symbol_piece b bytes)
+    (λ digit. digits_are_numeral b bytes digit)
     (λ _. symbol_written b (longest_symbol b bytes) (single_symbol b)))))
 
 pub numbers_are_numerals : (text : List ℕ) → All (λ token. IsWritten token.lexeme) (tokens_of text)

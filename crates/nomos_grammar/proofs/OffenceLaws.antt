@@ -39,7 +39,8 @@ pub kept_at : (behind front after : List Placed) (x : Placed) → AllKeep behind
     KeepsAll (behind ++ front) x rules
 kept_at behind [] after x kept = subst (λ (ts : List Placed). KeepsAll ts x rules) (sym (append-nil behind)) kept.0
 kept_at behind (y ∷ front) after x kept =
-    subst (λ (ts : List Placed). KeepsAll ts x rules) (append_assoc behind (y ∷ []) front) (kept_at (behind ++ y ∷ []) front after x kept.1)
+    subst (λ (ts : List Placed). KeepsAll ts x rules) (append_assoc behind (y ∷ []) front)
+    (kept_at (behind ++ y ∷ []) front after x kept.1)
 
 -- a rule of those that are kept
 kept_rule : (front : List Placed) (x : Placed) (before after : List Rule) (rule : Rule) →
@@ -69,16 +70,20 @@ cuts (z ∷ a) more (w ∷ b) others x y e =
 rule_once : (tokens front : List Placed) (x : Placed) (rule other : Rule) → IsFirstOffence tokens front x rule →
     IsFirstOffence tokens front x other → rule ≡ other
 unfolding Cuts
-rule_once tokens front x rule other a b = elim (cuts a.kept_rules a.other_rules b.kept_rules b.other_rules rule other (a.in_order ∙ sym b.in_order)) [
-  | inl s ↦ s.1
-  | inr (inl (m, f)) ↦ absurd (a.broken (kept_rule front x a.kept_rules m rule (subst (λ (rs : List Rule). KeepsAll front x rs) (sym f) b.keeps)))
-  | inr (inr (m, f)) ↦ absurd (b.broken (kept_rule front x b.kept_rules m other (subst (λ (rs : List Rule). KeepsAll front x rs) (sym f) a.keeps)))
-]
+rule_once tokens front x rule other a b =
+    elim (cuts a.kept_rules a.other_rules b.kept_rules b.other_rules rule other (a.in_order ∙ sym b.in_order)) [
+      | inl s ↦ s.1
+      | inr (inl (m, f)) ↦ absurd (a.broken
+          (kept_rule front x a.kept_rules m rule (subst (λ (rs : List Rule). KeepsAll front x rs) (sym f) b.keeps)))
+      | inr (inr (m, f)) ↦ absurd (b.broken
+          (kept_rule front x b.kept_rules m other (subst (λ (rs : List Rule). KeepsAll front x rs) (sym f) a.keeps)))
+    ]
 
 -- a token that breaks a rule is none of those that keep to all
 rule_kept : (front : List Placed) (x : Placed) (kept_rules other_rules : List Rule) (rule : Rule) →
     kept_rules ++ rule ∷ other_rules ≡ rules → KeepsAll front x rules → Keeps front x rule
-rule_kept front x kept_rules other_rules rule e k = kept_rule front x kept_rules other_rules rule (subst (λ (rs : List Rule). KeepsAll front x rs) (sym e) k)
+rule_kept front x kept_rules other_rules rule e k =
+    kept_rule front x kept_rules other_rules rule (subst (λ (rs : List Rule). KeepsAll front x rs) (sym e) k)
 
 no_offence : (tokens front : List Placed) (x : Placed) (rule : Rule) → AllKeep [] tokens →
     IsFirstOffence tokens front x rule → ⊥
@@ -86,19 +91,29 @@ no_offence tokens front x rule kept a =
     let all : AllKeep [] (front ++ x ∷ a.after) = subst (λ (ts : List Placed). AllKeep [] ts) (sym a.stands) kept in
     a.broken (rule_kept front x a.kept_rules a.other_rules rule a.in_order (kept_at [] front a.after x all))
 
-offence_once : (tokens front : List Placed) (x : Placed) (rule : Rule) (back : List Placed) (y : Placed) (other : Rule) → IsFirstOffence tokens front x rule → IsFirstOffence tokens back y other → error_of front x rule ≡ error_of back y other
+offence_once : (tokens front : List Placed) (x : Placed) (rule : Rule) (back : List Placed) (y : Placed) (other : Rule)
+    → IsFirstOffence tokens front x rule → IsFirstOffence tokens back y other
+    → error_of front x rule ≡ error_of back y other
 unfolding Cuts
-offence_once tokens front x rule back y other a b = elim (cuts front a.after back b.after x y (a.stands ∙ sym b.stands)) [
-  | inl s ↦
-      let here : IsFirstOffence tokens front x other = subst (λ (z : Placed). IsFirstOffence tokens front z other) (sym s.1) (subst (λ (ts : List Placed). IsFirstOffence tokens ts y other) (sym s.0) b) in
-      let rule_is = rule_once tokens front x rule other a here in
-      ap (λ r. error_of front x r) rule_is ∙ (ap (λ z. error_of front z other) s.1 ∙ ap (λ ts. error_of ts y other) s.0)
-  | inr (inl (m, f)) ↦ absurd (a.broken (rule_kept front x a.kept_rules a.other_rules rule a.in_order (kept_at [] front m x (subst (λ (ts : List Placed). AllKeep [] ts) (sym f) b.kept))))
-  | inr (inr (m, f)) ↦ absurd (b.broken (rule_kept back y b.kept_rules b.other_rules other b.in_order (kept_at [] back m y (subst (λ (ts : List Placed). AllKeep [] ts) (sym f) a.kept))))
-]
+offence_once tokens front x rule back y other a b =
+    elim (cuts front a.after back b.after x y (a.stands ∙ sym b.stands)) [
+      | inl s ↦
+          let here : IsFirstOffence tokens front x other = subst (λ (z : Placed). IsFirstOffence tokens front z other)
+          (sym s.1) (subst (λ (ts : List Placed). IsFirstOffence tokens ts y other) (sym s.0) b) in
+          let rule_is = rule_once tokens front x rule other a here in
+          ap (λ r. error_of front x r) rule_is
+          ∙ (ap (λ z. error_of front z other) s.1 ∙ ap (λ ts. error_of ts y other) s.0)
+      | inr (inl (m, f)) ↦ absurd (a.broken
+          (rule_kept front x a.kept_rules a.other_rules rule a.in_order
+          (kept_at [] front m x (subst (λ (ts : List Placed). AllKeep [] ts) (sym f) b.kept))))
+      | inr (inr (m, f)) ↦ absurd (b.broken
+          (rule_kept back y b.kept_rules b.other_rules other b.in_order
+          (kept_at [] back m y (subst (λ (ts : List Placed). AllKeep [] ts) (sym f) a.kept))))
+    ]
 
 offends_once : (tokens : List Placed) (e f : GrammarError) → Offends tokens e → Offends tokens f → e ≡ f
-offends_once tokens e f (front, x, rule, a, i) (back, y, other, b, j) = sym i ∙ (offence_once tokens front x rule back y other a b ∙ j)
+offends_once tokens e f (front, x, rule, a, i) (back, y, other, b, j) =
+    sym i ∙ (offence_once tokens front x rule back y other a b ∙ j)
 
 never_kept : (tokens : List Placed) (e : GrammarError) → AllKeep [] tokens → Offends tokens e → ⊥
 never_kept tokens e kept (front, x, rule, a, i) = no_offence tokens front x rule kept a

@@ -74,8 +74,10 @@ asked_test : (t u : Terminal) (lexeme : Lexeme) (b : Bool) → same t u ≡ b �
     (b || (same t terminal.Number && same u terminal.One)) ≡ true → Fits t lexeme
 asked_test t u lexeme true is sees h = let e : t ≡ u = (same_decides t u).0 is in inl (sym sees ∙ ap Some (sym e))
 asked_test t u lexeme false is sees h =
-    let e : t ≡ terminal.Number = (same_decides t terminal.Number).0 (and_first (same t terminal.Number) (same u terminal.One) h) in
-    let f : u ≡ terminal.One = (same_decides u terminal.One).0 (and_second (same t terminal.Number) (same u terminal.One) h) in
+    let e : t ≡ terminal.Number = (same_decides t terminal.Number).0
+    (and_first (same t terminal.Number) (same u terminal.One) h) in
+    let f : u ≡ terminal.One = (same_decides u terminal.One).0
+    (and_second (same t terminal.Number) (same u terminal.One) h) in
     inr (e, sym sees ∙ ap Some f)
 
 asked_fits : (t : Terminal) (lexeme : Lexeme) (next : Option Terminal) → next ≡ terminal_of lexeme →
@@ -99,11 +101,14 @@ fits_asked : (t : Terminal) (lexeme : Lexeme) (next : Option Terminal) → next 
     Fits t lexeme → is_asked (Some t) next ≡ true
 fits_asked t lexeme None sees (inl f) = cc
 fits_asked t lexeme None sees (inr f) = let g : terminal_of lexeme ≡ Some terminal.One = f.1 in cc
-fits_asked t lexeme (Some u) sees (inl f) = let e : t ≡ u = cc in or_true (same t u) (same t terminal.Number && same u terminal.One) ((same_decides t u).1 e)
+fits_asked t lexeme (Some u) sees (inl f) =
+    let e : t ≡ u = cc in or_true (same t u) (same t terminal.Number && same u terminal.One) ((same_decides t u).1 e)
 fits_asked t lexeme (Some u) sees (inr f) =
     let g : terminal_of lexeme ≡ Some terminal.One = f.1 in
     let e : u ≡ terminal.One = cc in
-    or_right (same t u) (same t terminal.Number && same u terminal.One) (both_true (same t terminal.Number) (same u terminal.One) ((same_decides t terminal.Number).1 f.0) ((same_decides u terminal.One).1 e))
+    or_right (same t u) (same t terminal.Number && same u terminal.One)
+    (both_true (same t terminal.Number) (same u terminal.One) ((same_decides t terminal.Number).1 f.0)
+    ((same_decides u terminal.One).1 e))
 
 -- the token may stand behind those that are read
 pub record Stands (front : List Placed) (x : Placed) (rest : List Part) (d : Counts) : Type 0 where
@@ -115,32 +120,45 @@ stands_case : (front : List Placed) (x : Placed) (asked next : Option Terminal) 
     Comes front x (with_terminal asked rest) d → next ≡ terminal_of x.lexeme → is_asked asked next ≡ true →
     Stands front x rest d
 stands_case front x None next rest d c sees h = cc
-stands_case front x (Some t) next rest d c sees h = record { terminal = t; comes = c; fits = asked_fits t x.lexeme next sees h }
+stands_case front x (Some t) next rest d c sees h =
+    record { terminal = t; comes = c; fits = asked_fits t x.lexeme next sees h }
 
 fails_case : (front : List Placed) (x : Placed) (asked next : Option Terminal) (rest : List Part) (d : Counts) →
     Comes front x (with_terminal asked rest) d → (asked ≡ None → rest ≡ []) → next ≡ terminal_of x.lexeme →
     is_asked asked next ≡ false → ¬ MayBecome (front ++ x ∷ [])
-fails_case front x None next rest d c ended sees h = never_more front x d (subst (λ (parts : List Part). Comes front x parts d) (ended refl) c)
-fails_case front x (Some t) next rest d c ended sees h = never_fits front x t rest d c (λ f. let yes = fits_asked t x.lexeme next sees f in cc)
+fails_case front x None next rest d c ended sees h =
+    never_more front x d (subst (λ (parts : List Part). Comes front x parts d) (ended refl) c)
+fails_case front x (Some t) next rest d c ended sees h =
+    never_fits front x t rest d c (λ f. let yes = fits_asked t x.lexeme next sees f in cc)
 
-module _ (front : List Placed) (x : Placed) (parts : List Part) (c : Counts) (next asked : Option Terminal) (rest : List Part) (d : Counts) (has : HasRead front parts c) (settles : Settles next parts c asked rest d) (sees : next ≡ terminal_of x.lexeme) where
+module _ (front : List Placed) (x : Placed) (parts : List Part) (c : Counts) (next asked : Option Terminal)
+    (rest : List Part) (d : Counts) (has : HasRead front parts c) (settles : Settles next parts c asked rest d)
+    (sees : next ≡ terminal_of x.lexeme) where
   pub standing : is_asked asked next ≡ true → Stands front x rest d
-  standing h = stands_case front x asked next rest d (comes front parts (with_terminal asked rest) c d next settles.marks x has settles.leads (sym sees)) sees h
+  standing h =
+      stands_case front x asked next rest d
+      (comes front parts (with_terminal asked rest) c d next settles.marks x has settles.leads (sym sees)) sees h
 
   pub failing : is_asked asked next ≡ false → ¬ MayBecome (front ++ x ∷ [])
-  failing h = fails_case front x asked next rest d (comes front parts (with_terminal asked rest) c d next settles.marks x has settles.leads (sym sees)) settles.ended sees h
+  failing h =
+      fails_case front x asked next rest d
+      (comes front parts (with_terminal asked rest) c d next settles.marks x has settles.leads (sym sees)) settles.ended
+      sees h
 
 -- the node that the token before turns out to be is one too many
 pub breaks_before : (front : List Placed) (x : Placed) (rest : List Part) (d : Counts) (at : ℕ) →
     Stands front x rest d → node_limit < d.before → at ≡ last_offset front → BreaksBy front x (Limit which.Nodes at)
 breaks_before front x rest d at s over last =
     let broken : ¬ Keeps front x nodes_before = λ k.
-    let within = stands_so (λ (n : Counts). n.before ≤ node_limit) front x s.terminal rest d s.comes (k (may_become front x s.terminal rest d s.comes s.fits)) in
+    let within = stands_so (λ (n : Counts). n.before ≤ node_limit) front x s.terminal rest d s.comes
+    (k (may_become front x s.terminal rest d s.comes s.fits)) in
     omega (arith, within, over) in (
       nodes_before,
       record {
         kept_rules = [];
-        other_rules = limit which.Name ∷ limit which.Number ∷ syntax ∷ limit which.Nesting ∷ limit which.Nodes ∷ limit which.Stars ∷ [];
+        other_rules =
+            limit which.Name ∷ limit which.Number ∷ syntax ∷ limit which.Nesting ∷ limit which.Nodes ∷
+            limit which.Stars ∷ [];
         in_order = refl;
         keeps = tt;
         broken = broken;
@@ -151,7 +169,8 @@ breaks_before front x rest d at s over last =
 -- it is not
 pub keeps_before : (front : List Placed) (x : Placed) (rest : List Part) (d : Counts) → Stands front x rest d →
     d.before ≤ node_limit → Keeps front x nodes_before
-keeps_before front x rest d s within = λ _. may_stand (λ (n : Counts). n.before ≤ node_limit) front x s.terminal rest d s.comes s.fits within
+keeps_before front x rest d s within =
+    λ _. may_stand (λ (n : Counts). n.before ≤ node_limit) front x s.terminal rest d s.comes s.fits within
 
 pub fails_before : (front : List Placed) (x : Placed) → ¬ MayBecome (front ++ x ∷ []) → Keeps front x nodes_before
 fails_before front x fails = λ m. absurd (fails m)
@@ -201,7 +220,8 @@ breaks_syntax front x at fails p e = (
 )
 
 -- what counts at the token is too much
-module _ (front : List Placed) (x : Placed) (rest : List Part) (d : Counts) (at : ℕ) (s : Stands front x rest d) (k : d.before ≤ node_limit) (p : PassesItself x.lexeme None) (e : at ≡ x.at) where
+module _ (front : List Placed) (x : Placed) (rest : List Part) (d : Counts) (at : ℕ) (s : Stands front x rest d)
+    (k : d.before ≤ node_limit) (p : PassesItself x.lexeme None) (e : at ≡ x.at) where
   stands_at : (P : Counts → Type 0) → MayStand P front x → P d
   stands_at P m = stands_so P front x s.terminal rest d s.comes m
 
@@ -231,7 +251,16 @@ module _ (front : List Placed) (x : Placed) (rest : List Part) (d : Counts) (at 
       kept_rules = nodes_before ∷ limit which.Name ∷ limit which.Number ∷ syntax ∷ limit which.Nesting ∷ [];
       other_rules = limit which.Stars ∷ [];
       in_order = refl;
-      keeps = (at_first.0, (at_first.1.0, (at_first.1.1.0, (at_first.1.1.1.0, (stands_with (λ (n : Counts). depth n ≤ nesting_limit) low, tt)))));
+      keeps = (
+        at_first.0,
+        (
+          at_first.1.0,
+          (
+            at_first.1.1.0,
+            (at_first.1.1.1.0, (stands_with (λ (n : Counts). depth n ≤ nesting_limit) low, tt)),
+          ),
+        ),
+      );
       broken = λ m. let within = stands_at (λ (n : Counts). n.nodes ≤ node_limit) m in omega (arith, within, over);
     },
     ap (λ n. Limit which.Nodes n) (sym e),
@@ -242,10 +271,26 @@ module _ (front : List Placed) (x : Placed) (rest : List Part) (d : Counts) (at 
   breaks_stars low few over = (
     limit which.Stars,
     record {
-      kept_rules = nodes_before ∷ limit which.Name ∷ limit which.Number ∷ syntax ∷ limit which.Nesting ∷ limit which.Nodes ∷ [];
+      kept_rules =
+          nodes_before ∷ limit which.Name ∷ limit which.Number ∷ syntax ∷ limit which.Nesting ∷ limit which.Nodes ∷ [];
       other_rules = [];
       in_order = refl;
-      keeps = (at_first.0, (at_first.1.0, (at_first.1.1.0, (at_first.1.1.1.0, (stands_with (λ (n : Counts). depth n ≤ nesting_limit) low, (stands_with (λ (n : Counts). n.nodes ≤ node_limit) few, tt))))));
+      keeps = (
+        at_first.0,
+        (
+          at_first.1.0,
+          (
+            at_first.1.1.0,
+            (
+              at_first.1.1.1.0,
+              (
+                stands_with (λ (n : Counts). depth n ≤ nesting_limit) low,
+                (stands_with (λ (n : Counts). n.nodes ≤ node_limit) few, tt),
+              ),
+            ),
+          ),
+        ),
+      );
       broken = λ m. let within = stands_at (λ (n : Counts). n.stars ≤ star_limit) m in omega (arith, within, over);
     },
     ap (λ n. Limit which.Stars n) (sym e),
@@ -253,24 +298,31 @@ module _ (front : List Placed) (x : Placed) (rest : List Part) (d : Counts) (at 
 
   count_cases : (a b c : Bool) → nat_lt nesting_limit (depth d) ≡ a → nat_lt node_limit d.nodes ≡ b →
       nat_lt star_limit d.stars ≡ c → (w : Which) →
-      (if a then Some which.Nesting else (if b then Some which.Nodes else (if c then Some which.Stars else None))) ≡ Some w → BreaksBy front x (Limit w at)
+      (if a then Some which.Nesting else (if b then Some which.Nodes else (if c then Some which.Stars else None)))
+      ≡ Some w → BreaksBy front x (Limit w at)
   count_cases true b c f g h w i =
       let same : which.Nesting ≡ w = cc in
       subst (λ (v : Which). BreaksBy front x (Limit v at)) same (breaks_nesting (ltb-true nesting_limit (depth d) f))
   count_cases false true c f g h w i =
       let same : which.Nodes ≡ w = cc in
-      subst (λ (v : Which). BreaksBy front x (Limit v at)) same (breaks_nodes (ltb-false nesting_limit (depth d) f) (ltb-true node_limit d.nodes g))
+      subst (λ (v : Which). BreaksBy front x (Limit v at)) same
+      (breaks_nodes (ltb-false nesting_limit (depth d) f) (ltb-true node_limit d.nodes g))
   count_cases false false true f g h w i =
       let same : which.Stars ≡ w = cc in
-      subst (λ (v : Which). BreaksBy front x (Limit v at)) same (breaks_stars (ltb-false nesting_limit (depth d) f) (ltb-false node_limit d.nodes g) (ltb-true star_limit d.stars h))
+      subst (λ (v : Which). BreaksBy front x (Limit v at)) same
+      (breaks_stars (ltb-false nesting_limit (depth d) f) (ltb-false node_limit d.nodes g)
+      (ltb-true star_limit d.stars h))
   count_cases false false false f g h w i = cc
 
   pub breaks_count : (w : Which) → passed d ≡ Some w → BreaksBy front x (Limit w at)
-  breaks_count w i = count_cases (nat_lt nesting_limit (depth d)) (nat_lt node_limit d.nodes) (nat_lt star_limit d.stars) refl refl refl w i
+  breaks_count w i =
+      count_cases (nat_lt nesting_limit (depth d)) (nat_lt node_limit d.nodes) (nat_lt star_limit d.stars) refl refl
+      refl w i
 
   keeps_cases : (a b c : Bool) → nat_lt nesting_limit (depth d) ≡ a → nat_lt node_limit d.nodes ≡ b →
       nat_lt star_limit d.stars ≡ c →
-      (if a then Some which.Nesting else (if b then Some which.Nodes else (if c then Some which.Stars else None))) ≡ None → KeepsAll front x rules
+      (if a then Some which.Nesting else (if b then Some which.Nodes else (if c then Some which.Stars else None)))
+      ≡ None → KeepsAll front x rules
   keeps_cases true b c f g h i = cc
   keeps_cases false true c f g h i = cc
   keeps_cases false false true f g h i = cc
@@ -284,7 +336,10 @@ module _ (front : List Placed) (x : Placed) (rest : List Part) (d : Counts) (at 
           at_first.1.1.1.0,
           (
             stands_with (λ (n : Counts). depth n ≤ nesting_limit) (ltb-false nesting_limit (depth d) f),
-            (stands_with (λ (n : Counts). n.nodes ≤ node_limit) (ltb-false node_limit d.nodes g), (stands_with (λ (n : Counts). n.stars ≤ star_limit) (ltb-false star_limit d.stars h), tt)),
+            (
+              stands_with (λ (n : Counts). n.nodes ≤ node_limit) (ltb-false node_limit d.nodes g),
+              (stands_with (λ (n : Counts). n.stars ≤ star_limit) (ltb-false star_limit d.stars h), tt),
+            ),
           ),
         ),
       ),
@@ -293,7 +348,9 @@ module _ (front : List Placed) (x : Placed) (rest : List Part) (d : Counts) (at 
 
   -- the token keeps to all rules
   pub keeps_all : passed d ≡ None → KeepsAll front x rules
-  keeps_all i = keeps_cases (nat_lt nesting_limit (depth d)) (nat_lt node_limit d.nodes) (nat_lt star_limit d.stars) refl refl refl i
+  keeps_all i =
+      keeps_cases (nat_lt nesting_limit (depth d)) (nat_lt node_limit d.nodes) (nat_lt star_limit d.stars) refl refl
+      refl i
 
 -- the offset of the token just read
 pub last_read : (front : List Placed) (x : Placed) → last_offset (front ++ x ∷ []) ≡ x.at
@@ -309,15 +366,22 @@ record IsWithin (d : Counts) : Type 0 where
 
 within_cases : (d : Counts) (a b c : Bool) → nat_lt nesting_limit (depth d) ≡ a → nat_lt node_limit d.nodes ≡ b →
     nat_lt star_limit d.stars ≡ c →
-    (if a then Some which.Nesting else (if b then Some which.Nodes else (if c then Some which.Stars else None))) ≡ None → IsWithin d
+    (if a then Some which.Nesting else (if b then Some which.Nodes else (if c then Some which.Stars else None))) ≡ None
+    → IsWithin d
 within_cases d true b c f g h i = cc
 within_cases d false true c f g h i = cc
 within_cases d false false true f g h i = cc
-within_cases d false false false f g h i = record { low = ltb-false nesting_limit (depth d) f; few = ltb-false node_limit d.nodes g; stars = ltb-false star_limit d.stars h }
+within_cases d false false false f g h i =
+    record {
+      low = ltb-false nesting_limit (depth d) f;
+      few = ltb-false node_limit d.nodes g;
+      stars = ltb-false star_limit d.stars h;
+    }
 
 room_again : (d : Counts) (n : ℕ) → passed d ≡ None → n ≤ 40 → HasRoom (after_token d) n
 room_again d n i near =
-    let w = within_cases d (nat_lt nesting_limit (depth d)) (nat_lt node_limit d.nodes) (nat_lt star_limit d.stars) refl refl refl i in
+    let w = within_cases d (nat_lt nesting_limit (depth d)) (nat_lt node_limit d.nodes) (nat_lt star_limit d.stars) refl
+    refl refl i in
     record {
       nested = omega (arith, w.low, near);
       nodes = omega (arith, w.few, near);
@@ -341,5 +405,11 @@ ready_first =
     record {
       stack = stack_file;
       low = low_file;
-      room = record { nested = omega (arith, near); nodes = omega (arith, near); before = omega (arith, near); stars = omega (arith, near) };
+      room =
+          record {
+            nested = omega (arith, near);
+            nodes = omega (arith, near);
+            before = omega (arith, near);
+            stars = omega (arith, near);
+          };
     }

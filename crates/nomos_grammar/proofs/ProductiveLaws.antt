@@ -50,7 +50,8 @@ pub derives_joined : {parts more : List Part} {events others : List Event} → D
 derives_joined nothing b = b
 derives_joined (read f d) b = read f (derives_joined d b)
 derives_joined (counted d) b = counted (derives_joined d b)
-derives_joined {more = more} (replaced {rest = rest} side m d) b = replaced side m (rw (← append_assoc side rest more) (derives_joined d b))
+derives_joined {more = more} (replaced {rest = rest} side m d) b =
+    replaced side m (rw (← append_assoc side rest more) (derives_joined d b))
 
 -- a token that fits
 example : Terminal → Lexeme
@@ -102,11 +103,18 @@ produced : ℕ → (parts : List Part) → Option (Product parts)
 produced zero parts = None
 produced (suc k) [] = Some (record { events = []; derived = nothing })
 produced (suc k) (part.Terminal t ∷ rest) =
-    option_map (λ (p : Product rest). record { events = token (example_token t) ∷ p.events; derived = read (example_fits t) p.derived }) (produced k rest)
+    option_map (λ (p : Product rest). record {
+      events = token (example_token t) ∷
+          p.events;
+      derived = read (example_fits t) p.derived;
+    }) (produced k rest)
 produced (suc k) (part.Mark m ∷ rest) =
-    option_map (λ (p : Product rest). record { events = mark m ∷ p.events; derived = counted p.derived }) (produced k rest)
+    option_map (λ (p : Product rest). record { events = mark m ∷ p.events; derived = counted p.derived })
+    (produced k rest)
 produced (suc k) (part.Nonterminal m ∷ rest) =
-    option_map (λ (p : Product (simplest m ++ rest)). record { events = p.events; derived = replaced (simplest m) (simplest_among m) p.derived }) (produced k (simplest m ++ rest))
+    option_map (λ (p : Product (simplest m ++ rest)).
+    record { events = p.events; derived = replaced (simplest m) (simplest_among m) p.derived })
+    (produced k (simplest m ++ rest))
 
 all_produced : (m : Nonterminal) → is_some (produced 60 (part.Nonterminal m ∷ [])) ≡ true
 unfolding produced simplest last_side
@@ -120,7 +128,8 @@ from_some (Some x) h = x
 -- any parts derive some events
 pub productive : (parts : List Part) → (events : List Event) × Derives parts events
 productive [] = ([], nothing)
-productive (part.Terminal t ∷ rest) = let p = productive rest in (token (example_token t) ∷ p.0, read (example_fits t) p.1)
+productive (part.Terminal t ∷ rest) =
+    let p = productive rest in (token (example_token t) ∷ p.0, read (example_fits t) p.1)
 productive (part.Mark m ∷ rest) = let p = productive rest in (mark m ∷ p.0, counted p.1)
 productive (part.Nonterminal m ∷ rest) =
     let own = from_some (produced 60 (part.Nonterminal m ∷ [])) (all_produced m) in

@@ -63,17 +63,71 @@ one_operator [] = omega arith
 one_operator (n ∷ terms) = omega arith
 
 room_after_mark : (m : Mark) (c : Counts) (d : ℕ) → HasRoom c (rises m + d) → HasRoom (after_mark m c) d
-room_after_mark mark.OpenPart c d r = record { nested = omega (arith, r.nested); nodes = omega (arith, r.nodes); before = omega (arith, r.before); stars = omega (arith, r.stars) }
-room_after_mark mark.ClosePart c d r = record { nested = omega (arith, r.nested); nodes = omega (arith, r.nodes); before = omega (arith, r.before); stars = omega (arith, r.stars) }
-room_after_mark mark.OpenTerm c d r = record { nested = omega (arith, r.nested); nodes = omega (arith, r.nodes); before = omega (arith, r.before); stars = omega (arith, r.stars) }
-room_after_mark mark.CloseTerm c d r = record { nested = omega (arith, r.nested, fewer_terms c.terms); nodes = omega (arith, r.nodes); before = omega (arith, r.before); stars = omega (arith, r.stars) }
-room_after_mark mark.Operator c d r = record { nested = omega (arith, r.nested, one_operator c.terms); nodes = omega (arith, r.nodes); before = omega (arith, r.before); stars = omega (arith, r.stars) }
-room_after_mark mark.Node c d r = record { nested = omega (arith, r.nested); nodes = omega (arith, r.nodes); before = omega (arith, r.before); stars = omega (arith, r.stars) }
-room_after_mark mark.NodeBefore c d r = record { nested = omega (arith, r.nested); nodes = omega (arith, r.nodes); before = omega (arith, r.before); stars = omega (arith, r.stars) }
-room_after_mark mark.Star c d r = record { nested = omega (arith, r.nested); nodes = omega (arith, r.nodes); before = omega (arith, r.before); stars = omega (arith, r.stars) }
+room_after_mark mark.OpenPart c d r =
+    record {
+      nested = omega (arith, r.nested);
+      nodes = omega (arith, r.nodes);
+      before = omega (arith, r.before);
+      stars = omega (arith, r.stars);
+    }
+room_after_mark mark.ClosePart c d r =
+    record {
+      nested = omega (arith, r.nested);
+      nodes = omega (arith, r.nodes);
+      before = omega (arith, r.before);
+      stars = omega (arith, r.stars);
+    }
+room_after_mark mark.OpenTerm c d r =
+    record {
+      nested = omega (arith, r.nested);
+      nodes = omega (arith, r.nodes);
+      before = omega (arith, r.before);
+      stars = omega (arith, r.stars);
+    }
+room_after_mark mark.CloseTerm c d r =
+    record {
+      nested = omega (arith, r.nested, fewer_terms c.terms);
+      nodes = omega (arith, r.nodes);
+      before = omega (arith, r.before);
+      stars = omega (arith, r.stars);
+    }
+room_after_mark mark.Operator c d r =
+    record {
+      nested = omega (arith, r.nested, one_operator c.terms);
+      nodes = omega (arith, r.nodes);
+      before = omega (arith, r.before);
+      stars = omega (arith, r.stars);
+    }
+room_after_mark mark.Node c d r =
+    record {
+      nested = omega (arith, r.nested);
+      nodes = omega (arith, r.nodes);
+      before = omega (arith, r.before);
+      stars = omega (arith, r.stars);
+    }
+room_after_mark mark.NodeBefore c d r =
+    record {
+      nested = omega (arith, r.nested);
+      nodes = omega (arith, r.nodes);
+      before = omega (arith, r.before);
+      stars = omega (arith, r.stars);
+    }
+room_after_mark mark.Star c d r =
+    record {
+      nested = omega (arith, r.nested);
+      nodes = omega (arith, r.nodes);
+      before = omega (arith, r.before);
+      stars = omega (arith, r.stars);
+    }
 
 room_less : (c : Counts) (d e : ℕ) → e ≤ d → HasRoom c d → HasRoom c e
-room_less c d e h r = record { nested = omega (arith, h, r.nested); nodes = omega (arith, h, r.nodes); before = omega (arith, h, r.before); stars = omega (arith, h, r.stars) }
+room_less c d e h r =
+    record {
+      nested = omega (arith, h, r.nested);
+      nodes = omega (arith, h, r.nodes);
+      before = omega (arith, h, r.before);
+      stars = omega (arith, h, r.stars);
+    }
 
 -- the way begins
 pub leads_start : (next : Option Terminal) (parts : List Part) (c : Counts) → IsReady parts c →
@@ -90,14 +144,19 @@ behind_mark : {m : Mark} {rest : List Part} {events : List Event} → Derives (p
     (more : List Event) × (events ≡ marked m ∷ more) × Derives rest more
 behind_mark (counted {events = more} d) = (more, refl, d)
 
-pub leads_mark : (next : Option Terminal) (parts : List Part) (c : Counts) (marks : List Mark) (m : Mark) (rest : List Part) (d : Counts) → Leads next parts c marks (part.Mark m ∷ rest) d → Leads next parts c (marks ++ m ∷ []) rest (after_mark m d)
+pub leads_mark : (next : Option Terminal) (parts : List Part) (c : Counts) (marks : List Mark) (m : Mark)
+    (rest : List Part) (d : Counts) → Leads next parts c marks (part.Mark m ∷ rest) d
+    → Leads next parts c (marks ++ m ∷ []) rest (after_mark m d)
 leads_mark next parts c marks m rest d way = record {
   counted = ap (λ k. after_mark m k) way.counted ∙ sym (counts_push c marks m);
   sound = λ events h. rw (events_push marks m events) (way.sound (marked m ∷ events) (counted h));
   complete = λ events e h.
       let found = way.complete events e h in
-      let behind = behind_mark found.2 in
-      (behind.0, found.1 ∙ (ap (λ more. events_of marks ++ more) behind.1 ∙ sym (events_push marks m behind.0)), behind.2);
+      let behind = behind_mark found.2 in (
+        behind.0,
+        found.1 ∙ (ap (λ more. events_of marks ++ more) behind.1 ∙ sym (events_push marks m behind.0)),
+        behind.2,
+      );
   ready = record {
     stack = way.ready.stack;
     low = way.ready.low.1;
@@ -106,7 +165,9 @@ leads_mark next parts c marks m rest d way = record {
 }
 
 -- a production is replaced
-pub leads_side : (next : Option Terminal) (parts : List Part) (c : Counts) (marks : List Mark) (n : Nonterminal) (rest : List Part) (d : Counts) → Leads next parts c marks (part.Nonterminal n ∷ rest) d → Leads next parts c marks (chosen n next ++ rest) d
+pub leads_side : (next : Option Terminal) (parts : List Part) (c : Counts) (marks : List Mark) (n : Nonterminal)
+    (rest : List Part) (d : Counts) → Leads next parts c marks (part.Nonterminal n ∷ rest) d
+    → Leads next parts c marks (chosen n next ++ rest) d
 leads_side next parts c marks n rest d way = record {
   counted = way.counted;
   sound = λ events h. way.sound events (replaced (chosen n next) (chosen_among n next) h);
@@ -117,6 +178,8 @@ leads_side next parts c marks n rest d way = record {
   ready = record {
     stack = stack_replaced n (chosen n next) rest (chosen_among n next) way.ready.stack;
     low = low_replaced n (chosen n next) rest (chosen_among n next) way.ready.low;
-    room = room_less d (distance (part.Nonterminal n ∷ rest)) (distance (chosen n next ++ rest)) (distance_replaced n (chosen n next) rest (chosen_among n next)) way.ready.room;
+    room =
+        room_less d (distance (part.Nonterminal n ∷ rest)) (distance (chosen n next ++ rest))
+        (distance_replaced n (chosen n next) rest (chosen_among n next)) way.ready.room;
   };
 }

@@ -64,24 +64,42 @@ pub record Comes (front : List Placed) (x : Placed) (rest : List Part) (d : Coun
       tokens_in all ≡ front ++ x ∷ others →
       (more : List Event) × (all ≡ earlier ++ more) × Derives rest more × (tokens_in more ≡ x ∷ others)
 
-completes : (front : List Placed) (parts rest : List Part) (c d : Counts) (next : Option Terminal) (marks : List Mark) (x : Placed) (has : HasRead front parts c) → Leads next parts c marks rest d → terminal_of x.lexeme ≡ next → (all : List Event) (others : List Placed) → Derives file all → tokens_in all ≡ front ++ x ∷ others → (more : List Event) × (all ≡ (has.events ++ events_of marks) ++ more) × Derives rest more × (tokens_in more ≡ x ∷ others)
+completes : (front : List Placed) (parts rest : List Part) (c d : Counts) (next : Option Terminal) (marks : List Mark)
+    (x : Placed) (has : HasRead front parts c) → Leads next parts c marks rest d → terminal_of x.lexeme ≡ next
+    → (all : List Event) (others : List Placed) → Derives file all → tokens_in all ≡ front ++ x ∷ others
+    → (more : List Event) × (all ≡ (has.events ++ events_of marks) ++ more) × Derives rest more
+    × (tokens_in more ≡ x ∷ others)
 completes front parts rest c d next marks x has way sees all others derived e =
     let behind = has.complete all (x ∷ others) derived e in
-    let split : front ++ tokens_in behind.0 ≡ front ++ x ∷ others = rw (← has.tokens) (sym (tokens_joined has.events behind.0) ∙ (ap tokens_in (sym behind.1) ∙ (e ∙ ap (λ ts. ts ++ x ∷ others) (sym has.tokens)))) in
+    let split : front ++ tokens_in behind.0
+    ≡ front ++ x ∷ others = rw (← has.tokens)
+    (sym (tokens_joined has.events behind.0)
+    ∙ (ap tokens_in (sym behind.1) ∙ (e ∙ ap (λ ts. ts ++ x ∷ others) (sym has.tokens)))) in
     let own : tokens_in behind.0 ≡ x ∷ others = same_behind front (tokens_in behind.0) (x ∷ others) split in
     let seen : next_in behind.0 ≡ next = next_of_tokens behind.0 x others own ∙ sees in
     let on = way.complete behind.0 seen behind.2 in
-    let whole : all ≡ (has.events ++ events_of marks) ++ on.0 = behind.1 ∙ (ap (λ more. has.events ++ more) on.1 ∙ sym (append_assoc has.events (events_of marks) on.0)) in
-    let left : tokens_in on.0 ≡ x ∷ others = sym (ap (λ ts. ts ++ tokens_in on.0) (no_tokens_in_marks marks)) ∙ (sym (tokens_joined (events_of marks) on.0) ∙ (sym (ap tokens_in on.1) ∙ own)) in
+    let whole : all ≡ (has.events ++ events_of marks) ++ on.0 = behind.1
+    ∙ (ap (λ more. has.events ++ more) on.1 ∙ sym (append_assoc has.events (events_of marks) on.0)) in
+    let left : tokens_in on.0 ≡ x ∷ others = sym (ap (λ ts. ts ++ tokens_in on.0) (no_tokens_in_marks marks))
+    ∙ (sym (tokens_joined (events_of marks) on.0) ∙ (sym (ap tokens_in on.1) ∙ own)) in
     (on.0, whole, on.2, left)
 
 -- the tokens read and the way to the next one, together
-pub comes : (front : List Placed) (parts rest : List Part) (c d : Counts) (next : Option Terminal) (marks : List Mark) (x : Placed) → HasRead front parts c → Leads next parts c marks rest d → terminal_of x.lexeme ≡ next → Comes front x rest d
+pub comes : (front : List Placed) (parts rest : List Part) (c d : Counts) (next : Option Terminal) (marks : List Mark)
+    (x : Placed) → HasRead front parts c → Leads next parts c marks rest d → terminal_of x.lexeme ≡ next
+    → Comes front x rest d
 comes front parts rest c d next marks x has way sees = record {
   earlier = has.events ++ events_of marks;
-  tokens = tokens_joined has.events (events_of marks) ∙ (ap (λ ts. ts ++ tokens_in (events_of marks)) has.tokens ∙ (ap (λ ts. front ++ ts) (no_tokens_in_marks marks) ∙ append-nil front));
-  counted = counts_joined nothing_counted has.events (events_of marks) ∙ (ap (λ k. counts_from k (events_of marks)) has.counted ∙ sym way.counted);
-  sound = λ more h. rw (append_assoc has.events (events_of marks) more) (has.sound (events_of marks ++ more) (way.sound more h));
+  tokens =
+      tokens_joined has.events (events_of marks)
+      ∙ (ap (λ ts. ts ++ tokens_in (events_of marks)) has.tokens
+      ∙ (ap (λ ts. front ++ ts) (no_tokens_in_marks marks) ∙ append-nil front));
+  counted =
+      counts_joined nothing_counted has.events (events_of marks)
+      ∙ (ap (λ k. counts_from k (events_of marks)) has.counted ∙ sym way.counted);
+  sound =
+      λ more h. rw (append_assoc has.events (events_of marks) more)
+      (has.sound (events_of marks ++ more) (way.sound more h));
   complete = completes front parts rest c d next marks x has way sees;
 }
 
@@ -104,7 +122,9 @@ reads {t} x others (read {x = y} {events = more} f d) e =
     }
 
 -- it may stand there
-pub stands : (front : List Placed) (x : Placed) (t : Terminal) (rest : List Part) (d : Counts) (c : Comes front x (part.Terminal t ∷ rest) d) → Fits t x.lexeme → (later : List Event) × Derives file (c.earlier ++ token x ∷ later)
+pub stands : (front : List Placed) (x : Placed) (t : Terminal) (rest : List Part) (d : Counts)
+    (c : Comes front x (part.Terminal t ∷ rest) d) → Fits t x.lexeme
+    → (later : List Event) × Derives file (c.earlier ++ token x ∷ later)
 stands front x t rest d c f = let p = productive rest in (p.0, c.sound (token x ∷ p.0) (read f p.1))
 
 pub may_stand : (P : Counts →
@@ -119,7 +139,8 @@ pub may_become : (front : List Placed) (x : Placed) (t : Terminal) (rest : List 
 may_become front x t rest d c f =
     let s = stands front x t rest d c f in
     let whole : tokens_in (c.earlier ++ token x ∷ s.0) ≡ (front ++ x ∷ []) ++ tokens_in s.0 =
-    tokens_joined c.earlier (token x ∷ s.0) ∙ (ap (λ ts. ts ++ x ∷ tokens_in s.0) c.tokens ∙ sym (append_assoc front (x ∷ []) (tokens_in s.0))) in
+    tokens_joined c.earlier (token x ∷ s.0)
+    ∙ (ap (λ ts. ts ++ x ∷ tokens_in s.0) c.tokens ∙ sym (append_assoc front (x ∷ []) (tokens_in s.0))) in
     (tokens_in s.0, (c.earlier ++ token x ∷ s.0, s.1, whole))
 
 -- wherever it stands, this counts at it
@@ -127,10 +148,12 @@ pub stands_so : (P : Counts →
     Type 0) (front : List Placed) (x : Placed) (t : Terminal) (rest : List Part) (d : Counts) →
     Comes front x (part.Terminal t ∷ rest) d → MayStand P front x → P d
 stands_so P front x t rest d c s =
-    let whole : tokens_in (s.0 ++ token x ∷ s.1) ≡ front ++ x ∷ tokens_in s.1 = tokens_joined s.0 (token x ∷ s.1) ∙ ap (λ ts. ts ++ x ∷ tokens_in s.1) s.3 in
+    let whole : tokens_in (s.0 ++ token x ∷ s.1)
+    ≡ front ++ x ∷ tokens_in s.1 = tokens_joined s.0 (token x ∷ s.1) ∙ ap (λ ts. ts ++ x ∷ tokens_in s.1) s.3 in
     let found = c.complete (s.0 ++ token x ∷ s.1) (tokens_in s.1) s.2 whole in
     let one = reads x (tokens_in s.1) found.2 found.3 in
-    let cut : s.0 ++ token x ∷ s.1 ≡ c.earlier ++ token x ∷ one.more = found.1 ∙ ap (λ es. c.earlier ++ es) one.begins in
+    let cut : s.0 ++ token x ∷ s.1 ≡ c.earlier ++ token x ∷ one.more = found.1
+    ∙ ap (λ es. c.earlier ++ es) one.begins in
     let same = cut_once s.0 s.1 c.earlier one.more x cut (s.3 ∙ sym c.tokens) in
     subst P (ap counts same ∙ c.counted) s.4
 
@@ -165,8 +188,12 @@ read_on front x t rest d c f = record {
   sound = λ more h. rw (append_assoc c.earlier (token x ∷ []) more) (c.sound (token x ∷ more) (read f h));
   complete = λ all others derived e.
       let found = c.complete all others derived (e ∙ append_assoc front (x ∷ []) others) in
-      let one = reads x others found.2 found.3 in
-      (one.more, found.1 ∙ (ap (λ es. c.earlier ++ es) one.begins ∙ sym (append_assoc c.earlier (token x ∷ []) one.more)), one.derived);
+      let one = reads x others found.2 found.3 in (
+        one.more,
+        found.1 ∙ (ap (λ es. c.earlier ++ es) one.begins
+            ∙ sym (append_assoc c.earlier (token x ∷ []) one.more)),
+        one.derived,
+      );
 }
 
 -- the reading begins

@@ -87,7 +87,9 @@ abbrev pub chooses_well : Nonterminal → List Row → Bool
 chooses_well n [] = false
 chooses_well n (r ∷ []) = is_nil r.begins
 chooses_well n (r ∷ other ∷ rows) =
-    not (is_nil r.begins) && (not (may_vanish r.side) && (all_in (taken_with n r.side) r.begins && (no_later r.begins n (other ∷ rows) && chooses_well n (other ∷ rows))))
+    not (is_nil r.begins) && (not (may_vanish r.side)
+    && (all_in (taken_with n r.side) r.begins
+    && (no_later r.begins n (other ∷ rows) && chooses_well n (other ∷ rows))))
 
 pub all_choose_well : (n : Nonterminal) → chooses_well n (rows n) ≡ true
 unfolding firsts follow
@@ -112,7 +114,8 @@ never_rises (p ∷ rest) = never_rises rest
 -- each end of the side is near to a token, and adds nothing where it may vanish
 abbrev pub stays_low : List Part → Bool
 stays_low [] = true
-stays_low (p ∷ rest) = nat_le (distance (p ∷ rest)) 40 && ((not (may_vanish (p ∷ rest)) || never_rises (p ∷ rest)) && stays_low rest)
+stays_low (p ∷ rest) =
+    nat_le (distance (p ∷ rest)) 40 && ((not (may_vanish (p ∷ rest)) || never_rises (p ∷ rest)) && stays_low rest)
 
 pub all_stay_low : (n : Nonterminal) → each_side stays_low (alternatives n) ≡ true
 unfolding rank

@@ -83,7 +83,8 @@ pub none_in-test : (some all : List Terminal) → none_in some all ≡ true → 
     is_in x all ≡ false
 none_in-test [] all h x m = elim m [ ]
 none_in-test (y ∷ some) all h x first = not_true (is_in y all) (and_first (not (is_in y all)) (none_in some all) h)
-none_in-test (y ∷ some) all h x (later m) = none_in-test some all (and_second (not (is_in y all)) (none_in some all) h) x m
+none_in-test (y ∷ some) all h x (later m) =
+    none_in-test some all (and_second (not (is_in y all)) (none_in some all) h) x m
 
 -- one of two lists joined
 pub among_left : {A : Type 0} (x : A) (xs ys : List A) → IsAmong x xs → IsAmong x (xs ++ ys)

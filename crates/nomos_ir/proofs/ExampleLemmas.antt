@@ -51,8 +51,24 @@ ids =
       types =
           each
           (λ t. TypeInRange example t.node)
-          example.types
-          (record { parts = All-nil _; names = All-nil _; labels = All-nil _ }, (record { parts = All-nil _; names = each (λ k. k < 2) (0 ∷ []) (lit< tt, tt); labels = All-nil _ }, (record { parts = each (λ k. k < 4) (1 ∷ []) (lit< tt, tt); names = All-nil _; labels = each (λ k. k < 1) (0 ∷ []) (lit< tt, tt) }, (record { parts = All-nil _; names = each (λ k. k < 2) (0 ∷ []) (lit< tt, tt); labels = All-nil _ }, tt))));
+          example.types (
+            record { parts = All-nil _; names = All-nil _; labels = All-nil _ },
+            (
+              record { parts = All-nil _; names = each (λ k. k < 2) (0 ∷ []) (lit< tt, tt); labels = All-nil _ },
+              (
+                record {
+                  parts = each (λ k. k < 4) (1 ∷ []) (lit< tt, tt);
+                  names = All-nil _;
+                  labels =
+                      each (λ k. k < 1) (0 ∷ []) (lit< tt, tt);
+                },
+                (
+                  record { parts = All-nil _; names = each (λ k. k < 2) (0 ∷ []) (lit< tt, tt); labels = All-nil _ },
+                  tt,
+                ),
+              ),
+            ),
+          );
       terms = each (TermInRange example) example.terms (record { parts = All-nil _; calls = All-nil _ }, tt);
       code =
           each
@@ -134,8 +150,10 @@ names =
       defs =
           each
           (λ d. IsShortName d.name)
-          example.defs
-          (short_name (codes "a") (lit< tt, refl) refl refl (lit≤ tt), (short_name (codes "b") (lit< tt, refl) refl refl (lit≤ tt), tt));
+          example.defs (
+            short_name (codes "a") (lit< tt, refl) refl refl (lit≤ tt),
+            (short_name (codes "b") (lit< tt, refl) refl refl (lit≤ tt), tt),
+          );
       fns =
           each (λ f. IsShortName f.name) example.fns (short_name (codes "f") (lit< tt, refl) refl refl (lit≤ tt), tt);
       procs =

@@ -22,11 +22,13 @@ not_reserved bytes none (w, same) =
     let there : slice_get ALL (place_of w) ≡ Some w =
     slice_get-get_or ALL (place_of w) word.Cost (place_of-below w) ∙ ap Some (word_at-place_of w) in
     let found : is_reserved bytes ≡ true =
-    any_passes_from_place (λ v. bytes_eq (text_of v) bytes) ALL (place_of w) w there ((bytes_eq-Decides (text_of w) bytes).1 same) in
+    any_passes_from_place (λ v. bytes_eq (text_of v) bytes) ALL (place_of w) w there
+    ((bytes_eq-Decides (text_of w) bytes).1 same) in
     cc
 
 -- a word that passes the tests is a name
-pub short_name : (bytes : List ℕ) → BeginsWithLetter bytes → list_all is_word_byte bytes ≡ true → is_reserved bytes ≡ false → length bytes ≤ 64 → IsShortName bytes
+pub short_name : (bytes : List ℕ) → BeginsWithLetter bytes → list_all is_word_byte bytes ≡ true
+    → is_reserved bytes ≡ false → length bytes ≤ 64 → IsShortName bytes
 short_name bytes first word_bytes free short =
     record {
       name =

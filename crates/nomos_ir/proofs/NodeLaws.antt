@@ -13,10 +13,12 @@ All-at P xs k x all found =
     subst P (get_or_from_slice_get xs k x x found) (all k x (slice_get_within xs k x found))
 
 -- a value that a map gives comes from some value
-from_mapped : {X Y : Type 0} (f : X → Y) (o : Option X) (y : Y) → option_map f o ≡ Some y → (x : X) × (o ≡ Some x) × (f x ≡ y)
+from_mapped : {X Y : Type 0} (f : X → Y) (o : Option X) (y : Y) → option_map f o ≡ Some y
+    → (x : X) × (o ≡ Some x) × (f x ≡ y)
 from_mapped f (Some x) y found = (x, refl, cc)
 from_mapped f None y found = cc
 
 -- a type node stands beside its offset
-pub type_node-at : (lists : ProgramLists) (t : ℕ) (node : TypeNode) → type_node lists t ≡ Some node → (at : TypeAt) × (slice_get lists.types t ≡ Some at) × (at.node ≡ node)
+pub type_node-at : (lists : ProgramLists) (t : ℕ) (node : TypeNode) → type_node lists t ≡ Some node
+    → (at : TypeAt) × (slice_get lists.types t ≡ Some at) × (at.node ≡ node)
 type_node-at lists t node found = from_mapped (λ at. at.node) (slice_get lists.types t) node found

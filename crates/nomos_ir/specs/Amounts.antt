@@ -21,7 +21,8 @@ proc_amounts d = flat_map par_amounts d.values ++ d.amount ∷ []
 -- the amounts of type nodes, code nodes and process declarations
 abbrev pub amounts_of : ProgramLists → List Amount
 amounts_of lists =
-    flat_map (λ t. type_amounts t.node) lists.types ++ flat_map code_amounts lists.code ++ flat_map proc_amounts lists.procs
+    flat_map (λ t. type_amounts t.node) lists.types ++ flat_map code_amounts lists.code
+    ++ flat_map proc_amounts lists.procs
 
 -- a written amount is at most 1,000,000,000, and stars have the numbers 1 to 64
 abbrev pub IsAmount : Amount → Type 0

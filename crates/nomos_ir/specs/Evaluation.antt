@@ -177,7 +177,9 @@ node_evaluation lists part calls env (node.Not at a) n = go_on (part calls env a
 node_evaluation lists part calls env (node.If at test a b) n =
     go_on (part calls env test n) (λ v. chosen v (part calls env a) (part calls env b))
 node_evaluation lists part calls env (node.Match at taken empty head tail full) n =
-    go_on (part calls env taken n) (λ v. taken_apart v (part calls env empty) (λ w ws. part calls (bind_parts head tail w ws env) full) (part calls env full))
+    go_on (part calls env taken n)
+    (λ v. taken_apart v (part calls env empty) (λ w ws. part calls (bind_parts head tail w ws env) full)
+    (part calls env full))
 
 -- a term that was entered
 abbrev pub entered : ProgramLists → Evaluator → ℕ → Environment → Option TermNode → Counted
@@ -195,7 +197,7 @@ evaluation lists zero calls env t n = faults fault.TermSteps
 evaluation lists (suc inside) calls env t n =
     counted (nat_lt n max_nodes) (entered lists (evaluation lists inside) calls env (slice_get lists.terms t.0)) n
 
--- the evaluation of a term by itself: no node is entered before it, and no call is open. A node inside others is entered after
--- them, so no more nodes than may be entered are inside one another
+-- the evaluation of a term by itself: no node is entered before it, and no call is open. A node inside others is
+-- entered after them, so no more nodes than may be entered are inside one another
 unfoldable pub term_evaluation : ProgramLists → Environment → TermId → Evaluation
 term_evaluation lists env t = evaluation lists (max_nodes + 1) 0 env t 0

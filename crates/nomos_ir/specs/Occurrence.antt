@@ -9,5 +9,7 @@ use Rattle.nomos_ir.specs.TermParts.{term_parts}
 
 -- the variable with this number occurs in the term
 pub data OccursIn (lists : ProgramLists) (v : ℕ) : TermId → Type 0 where
-  itself : (t : TermId) (at : ℕ) (w : VarId) → slice_get lists.terms t.0 ≡ Some (node.Var at w) → w.0 ≡ v → OccursIn lists v t
-  in_part : (t : TermId) (n : TermNode) (p : TermId) → slice_get lists.terms t.0 ≡ Some n → Contains (term_parts n) p.0 → OccursIn lists v p → OccursIn lists v t
+  itself : (t : TermId) (at : ℕ) (w : VarId) → slice_get lists.terms t.0 ≡ Some (node.Var at w) → w.0 ≡ v
+      → OccursIn lists v t
+  in_part : (t : TermId) (n : TermNode) (p : TermId) → slice_get lists.terms t.0 ≡ Some n → Contains (term_parts n) p.0
+      → OccursIn lists v p → OccursIn lists v t

@@ -17,7 +17,8 @@ pub data Unfolds (lists : ProgramLists) : ℕ → TypeNode → Type 0 where
   -- a constructor is itself
   constructor : (t : ℕ) (node : TypeNode) → type_node lists t ≡ Some node → IsConstructor node → Unfolds lists t node
   -- a name is what the body of its definition is
-  name : (t : ℕ) (id : DefId) (def : Def) (node : TypeNode) → type_node lists t ≡ Some (form.Named id) → slice_get lists.defs id.0 ≡ Some def → Unfolds lists def.body.0 node → Unfolds lists t node
+  name : (t : ℕ) (id : DefId) (def : Def) (node : TypeNode) → type_node lists t ≡ Some (form.Named id)
+      → slice_get lists.defs id.0 ≡ Some def → Unfolds lists def.body.0 node → Unfolds lists t node
 
 -- the body of each definition is a constructor
 abbrev pub IsContractive : ProgramLists → Type 0

@@ -56,7 +56,8 @@ mutual
   read-marks (truth b) rest = refl
   read-marks (list vs) rest = ap (read_mark (inr (inr true))) (read-list_marks vs rest)
 
-  pub read-list_marks : (vs : ValueList) (rest : List Mark) → read (list_marks vs rest) ≡ (vs, (read rest).0 ∷ (read rest).1)
+  pub read-list_marks : (vs : ValueList) (rest : List Mark)
+      → read (list_marks vs rest) ≡ (vs, (read rest).0 ∷ (read rest).1)
   read-list_marks no_values rest = refl
   read-list_marks (value v vs) rest =
       read-marks v (list_marks vs rest) ∙ ap (put_first v) (read-list_marks vs rest)

@@ -58,7 +58,12 @@ text_of word.Call = codes "call"
 -- every reserved word
 abbrev pub all_words : Bytes Word
 all_words =
-    word.Cost ∷ word.Ticks ∷ word.Sends ∷ word.All ∷ word.«Type» ∷ word.Fn ∷ word.Proc ∷ word.R ∷ word.S ∷ word.L ∷ word.T ∷ word.Int ∷ word.Bool ∷ word.List ∷ word.True ∷ word.False ∷ word.Nil ∷ word.If ∷ word.Then ∷ word.Else ∷ word.Match ∷ word.Not ∷ word.And ∷ word.Or ∷ word.Up ∷ word.Down ∷ word.SelfWord ∷ word.Me ∷ word.Send ∷ word.Recv ∷ word.Put ∷ word.Take ∷ word.Pay ∷ word.Get ∷ word.Work ∷ word.Wait ∷ word.Accept ∷ word.Detach ∷ word.Acquire ∷ word.Release ∷ word.Spawn ∷ word.As ∷ word.Let ∷ word.Emit ∷ word.Case ∷ word.Close ∷ word.Fwd ∷ word.Call ∷ []
+    word.Cost ∷ word.Ticks ∷ word.Sends ∷ word.All ∷ word.«Type» ∷ word.Fn ∷ word.Proc ∷ word.R ∷ word.S ∷ word.L ∷
+    word.T ∷ word.Int ∷ word.Bool ∷ word.List ∷ word.True ∷ word.False ∷ word.Nil ∷ word.If ∷ word.Then ∷
+    word.Else ∷ word.Match ∷ word.Not ∷ word.And ∷ word.Or ∷ word.Up ∷ word.Down ∷ word.SelfWord ∷ word.Me ∷
+    word.Send ∷ word.Recv ∷ word.Put ∷ word.Take ∷ word.Pay ∷ word.Get ∷ word.Work ∷ word.Wait ∷ word.Accept ∷
+    word.Detach ∷ word.Acquire ∷ word.Release ∷ word.Spawn ∷ word.As ∷ word.Let ∷ word.Emit ∷ word.Case ∷
+    word.Close ∷ word.Fwd ∷ word.Call ∷ []
 
 -- the reserved word of this text, if there is one
 unfoldable pub reserved_word : Bytes ℕ → Option Word

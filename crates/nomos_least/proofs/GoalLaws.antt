@@ -143,7 +143,8 @@ declared-room lists k d is_program there =
     }
 
 -- no coefficient of the goal is below 0
-not_below : (amounts others : List Amount) → others ≡ [] → (star : ℕ) → pos 0 ≤ℤ (shares amounts star -ℤ shares others star)
+not_below : (amounts others : List Amount) → others ≡ [] → (star : ℕ)
+    → pos 0 ≤ℤ (shares amounts star -ℤ shares others star)
 not_below amounts others none star =
     let (m, is, low) = shares-count amounts star in
     subst (λ (rs : List Amount). pos 0 ≤ℤ (shares amounts star -ℤ shares rs star)) (sym none)
@@ -193,7 +194,8 @@ goal-worth lists x is_program width =
     in
     let none : worth_of x a.spent ≡ 0 = ap (worth_of x) (spent-none lists.procs no_account refl) in
     form-worth x n a width stars
-    ∙ less (worth_of x a.gained) (worth_of x a.spent) (all_declared x lists) none (gained-worth x lists.procs no_account)
+    ∙ less (worth_of x a.gained) (worth_of x a.spent) (all_declared x lists) none
+    (gained-worth x lists.procs no_account)
   where
     less : (g s t : ℕ) → s ≡ 0 → g ≡ 0 + t → pos g -ℤ pos s ≡ pos t
     less g s t e f = omega (arith, ints, e, f)

@@ -37,7 +37,8 @@ sum_size high carry low h i j = omega (arith, ints)
 
 -- ---- in the code's width
 pub back_product : (f x a : ℤ) → f ≡ a → unsigned_abs a < 2 ^ 127 → unsigned_abs x < 2 ^ 127 →
-    unsigned_abs (a *ℤ x) < 2 ^ 127 → to_z w128 (of_z w128 (to_z w128 (of_z w128 f) *ℤ to_z w128 (of_z w128 x))) ≡ a *ℤ x
+    unsigned_abs (a *ℤ x) < 2 ^ 127 → to_z w128 (of_z w128 (to_z w128 (of_z w128 f) *ℤ to_z w128 (of_z w128 x)))
+    ≡ a *ℤ x
 back_product f x a e ha hx h =
     (λ p. to_z w128 (of_z w128 (to_z w128 (of_z w128 (e p)) *ℤ wide_back x hx p)))
     ∙ (λ p. to_z w128 (of_z w128 (wide_back a ha p *ℤ x))) ∙ wide_back (a *ℤ x) h

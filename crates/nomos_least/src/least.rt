@@ -22,9 +22,9 @@ use nomos_simplex::solved::{Proof, SolvedLeast};
 use nomos_types::accepted::Accepted;
 use std::alloc::Global;
 
-/// An accepted program whose transactions declare the least in all, with what shows it: its rows, the goal, which is what
-/// its transactions declare as a form, and weights. `docs/SOLVER.md`, "A proof that a goal is least, and how to check
-/// one", says how they are checked.
+/// An accepted program whose transactions declare the least in all, with what shows it: its rows, the goal, which is
+/// what its transactions declare as a form, and weights. `docs/SOLVER.md`, "A proof that a goal is least, and how to
+/// check one", says how they are checked.
 #[derive(Drop, Debug)]
 pub struct LeastBounds {
     /// The program, with the amounts that the least run finds.
@@ -43,7 +43,8 @@ pub struct LeastBounds {
 fn bounded(program: Program, rows: &RowList, goal: &Form, found: Found, proof: &Proof) -> Accepted
     requires rows { HasRows program rows.now }
     requires goal { IsForm rows.now.stars goal.now }
-    requires found { IsFound rows.now.stars found × (found.unit ≤ 2 ^ 31) × MeetsRows found.stars found.unit rows.now.rows }
+    requires found { IsFound rows.now.stars found × (found.unit ≤ 2 ^ 31)
+        × MeetsRows found.stars found.unit rows.now.rows }
     requires proof { IsProof proof.now }
     requires shows { ShowsLeast rows.now.rows goal.now found.unit proof.now }
     ensures accepted { result ≡ acceptance program found.stars found.unit }
@@ -79,8 +80,8 @@ fn judge(alloc: Global, prepared: Prepared) -> Result<LeastBounds, AcceptError>
 }
 
 /// The amounts under which a contract text is typed and of which its transactions declare the least in all, with
-/// weights that show it. A text is refused exactly as `nomos_accept::accepting::accept` refuses it, and it is unsolved where the
-/// pivot run or the least run stops. Want of memory is the one answer for which no reason is given.
+/// weights that show it. A text is refused exactly as `nomos_accept::accepting::accept` refuses it, and it is unsolved
+/// where the pivot run or the least run stops. Want of memory is the one answer for which no reason is given.
 pub fn least(alloc: Global, text: &[u8]) -> Result<LeastBounds, AcceptError>
     ensures { AnswersLeast text.now result }
 {

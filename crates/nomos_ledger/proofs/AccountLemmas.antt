@@ -23,11 +23,14 @@ pub none-among : {X : Type 0} (p : X → Bool) (xs : List X) → position p xs �
 none-among p xs none = by (ltb (position_or_len p xs) (length xs)) refl
   where
     by : (b : Bool) → ltb (position_or_len p xs) (length xs) ≡ b → list_any p xs ≡ false
-    by true e = let some : position p xs ≡ Some (position_or_len p xs) = rw e refl in absurd (let f = none in let g = some in cc)
+    by true e =
+        let some : position p xs ≡ Some (position_or_len p xs) = rw e refl in
+        absurd (let f = none in let g = some in cc)
     by false e = none-passes p xs (grind (arith, nat_tests))
 
 module _ {X : Type 0} (text : X → List ℕ) (name : List ℕ) where
-  place-account : (xs : List X) → position_or_len (λ x. bytes_eq name (text x)) xs ≡ position_or_len (λ a. bytes_eq a name) (map text xs)
+  place-account : (xs : List X) → position_or_len (λ x. bytes_eq name (text x)) xs
+      ≡ position_or_len (λ a. bytes_eq a name) (map text xs)
   place-account [] = refl
   place-account (x ∷ xs) = rw (nat_list_eq_equiv.symm name (text x), place-account xs) refl
 
@@ -36,9 +39,13 @@ module _ {X : Type 0} (text : X → List ℕ) (name : List ℕ) where
   found-account xs = rw (place-account xs, length-map xs text) refl
 
 -- a name that no account has is put at the end
-pub put-account : {X : Type 0} (text : X → List ℕ) (xs ys : List X) (x : X) (names : List (List ℕ)) (name : List ℕ) → map text xs ≡ names → text x ≡ name → account_of names name ≡ None → ys ≡ (if list_any (λ y. bytes_eq (text x) (text y)) xs then xs else xs ++ x ∷ []) → map text ys ≡ names ++ name ∷ []
+pub put-account : {X : Type 0} (text : X → List ℕ) (xs ys : List X) (x : X) (names : List (List ℕ)) (name : List ℕ)
+    → map text xs ≡ names → text x ≡ name → account_of names name ≡ None
+    → ys ≡ (if list_any (λ y. bytes_eq (text x) (text y)) xs then xs else xs ++ x ∷ [])
+    → map text ys ≡ names ++ name ∷ []
 put-account text xs ys x names name view is none kept =
     let at : position (λ y. bytes_eq (text x) (text y)) xs ≡ None =
     found-account text (text x) xs ∙ (λ i. account_of (view i) (is i)) ∙ none in
-    let new : list_any (λ y. bytes_eq (text x) (text y)) xs ≡ false = none-among (λ y. bytes_eq (text x) (text y)) xs at in
+    let new : list_any (λ y. bytes_eq (text x) (text y)) xs
+    ≡ false = none-among (λ y. bytes_eq (text x) (text y)) xs at in
     ap (map text) kept ∙ rw new (map-append text xs (x ∷ [])) ∙ (λ i. view i ++ is i ∷ [])

@@ -45,7 +45,8 @@ abbrev resolved_t : Resolved
 resolved_t = record { proc = record { 0 = 0 }; values = []; names = []; payer = 0; contract = None }
 
 -- a second deposit goes to the account that the first one made
-pub two_deposits : deposited 3 three_units (codes "u") 2 ≡ record empty_ledger { accounts = codes "u" ∷ []; deposits = 5; state = record empty { balances = 15 ∷ [] } }
+pub two_deposits : deposited 3 three_units (codes "u") 2
+    ≡ record empty_ledger { accounts = codes "u" ∷ []; deposits = 5; state = record empty { balances = 15 ∷ [] } }
 two_deposits = refl
 
 -- a start takes its potential from the account
@@ -53,10 +54,12 @@ pub balance_after : (after_starts program three_units (resolved_t ∷ [])).state
 balance_after = refl
 
 -- where nothing is deposited, the account is missed before the process
-pub no_account : (line : ℕ) (process : List ℕ) → resolve program empty_ledger (exec_start line (codes "u") process) ≡ Err (refusal.NoAccount (codes "u"))
+pub no_account : (line : ℕ) (process : List ℕ)
+    → resolve program empty_ledger (exec_start line (codes "u") process) ≡ Err (refusal.NoAccount (codes "u"))
 no_account line process = refl
 
-pub no_process : resolve program three_units (exec_start 1 (codes "u") (codes "s")) ≡ Err (refusal.NoProcess (codes "s"))
+pub no_process : resolve program three_units (exec_start 1 (codes "u") (codes "s"))
+    ≡ Err (refusal.NoProcess (codes "s"))
 no_process = refl
 
 pub one_line : resolve_batch program three_units (run_t 2 ∷ []) ≡ Ok (resolved_t ∷ [])

@@ -24,12 +24,16 @@ use Rattle.nomos_ledger.specs.declared.refusal.Refusal.{Refusal}
 use Rattle.nomos_ledger.specs.declared.resolved.Resolved.{Resolved}
 
 -- the same count of firings, written otherwise
-at-count : {a : Acceptance} {limit : ℕ} {l last : LedgerState} {items : List ScriptItem} {entries : List Entry} (n k : ℕ) → n ≡ k → Leads a limit n l items entries last → Leads a limit k l items entries last
+at-count : {a : Acceptance} {limit : ℕ} {l last : LedgerState} {items : List ScriptItem} {entries : List Entry}
+    (n k : ℕ) → n ≡ k → Leads a limit n l items entries last → Leads a limit k l items entries last
 at-count {a} {limit} {l} {last} {items} {entries} n k same leads =
     subst (λ (m : ℕ). Leads a limit m l items entries last) same leads
 
 -- what leads on after what leads here leads all the way
-pub leads-append : {a : Acceptance} {limit made : ℕ} {l m last : LedgerState} {items more : List ScriptItem} {entries others : List Entry} → Leads a limit made l items entries m → Leads a limit (made + firings_in entries) m more others last → Leads a limit made l (items ++ more) (entries ++ others) last
+pub leads-append : {a : Acceptance} {limit made : ℕ} {l m last : LedgerState} {items more : List ScriptItem}
+    {entries others : List Entry} → Leads a limit made l items entries m
+    → Leads a limit (made + firings_in entries) m more others last
+    → Leads a limit made l (items ++ more) (entries ++ others) last
 leads-append (done made l) rest = at-count (made + 0) made (omega arith) rest
 leads-append (deposit made l m line units name items entries fits on) rest =
     deposit made l _ line units name _ _ fits
@@ -42,19 +46,24 @@ leads-append (refused made l m batch line cause items entries why on) rest =
     (leads-append on (at-count (made + (0 + firings_in entries)) (made + firings_in entries) (omega arith) rest))
 leads-append (stays made l m batch starts pids s items entries begun runs on) rest =
     stays made l _ batch starts pids s _ _ begun runs
-    (leads-append on (at-count (made + (length pids + firings_in entries)) (made + length pids + firings_in entries) (omega arith) rest))
+    (leads-append on (at-count (made + (length pids + firings_in entries)) (made + length pids + firings_in entries)
+    (omega arith) rest))
 leads-append (undone made l m batch starts pids s answer items entries begun runs undoes on) rest =
     undone made l _ batch starts pids s answer _ _ begun runs undoes
-    (leads-append on (at-count (made + (length pids + firings_in entries)) (made + length pids + firings_in entries) (omega arith) rest))
+    (leads-append on (at-count (made + (length pids + firings_in entries)) (made + length pids + firings_in entries)
+    (omega arith) rest))
 leads-append (shown made l m line items entries on) rest = shown made l _ line _ _ (leads-append on rest)
 
 -- the firings of entries in a row
-pub firings-append : (entries others : List Entry) → firings_in (entries ++ others) ≡ firings_in entries + firings_in others
+pub firings-append : (entries others : List Entry)
+    → firings_in (entries ++ others) ≡ firings_in entries + firings_in others
 firings-append [] others = omega arith
 firings-append (entry ∷ entries) others = let e = firings-append entries others in omega arith
 
 -- one deposit
-pub one-deposit : (a : Acceptance) (limit made : ℕ) (l after : LedgerState) (line units : ℕ) (name : List ℕ) (answer : End) → Deposits a l line name units answer after → Leads a limit made l (item.Deposit line name units ∷ []) (bare line answer ∷ []) after
+pub one-deposit : (a : Acceptance) (limit made : ℕ) (l after : LedgerState) (line units : ℕ) (name : List ℕ)
+    (answer : End) → Deposits a l line name units answer after
+    → Leads a limit made l (item.Deposit line name units ∷ []) (bare line answer ∷ []) after
 one-deposit a limit made l after line units name answer deposits =
     ⊎_elim
     (λ (fits : l.deposits + units < 2 ^ 64).
@@ -67,15 +76,20 @@ one-deposit a limit made l after line units name answer deposits =
     (cases_lt (l.deposits + units) (2 ^ 64))
 
 -- one batch of which a line is refused
-pub one-refused : (a : Acceptance) (limit made : ℕ) (l : LedgerState) (batch : Batch) (line : ℕ) (cause : Refusal) → resolve_batch a l batch.starts ≡ Err (line, cause) → Leads a limit made l (item.Batch batch ∷ []) (bare batch.line (end.Refused line cause) ∷ []) l
+pub one-refused : (a : Acceptance) (limit made : ℕ) (l : LedgerState) (batch : Batch) (line : ℕ) (cause : Refusal)
+    → resolve_batch a l batch.starts ≡ Err (line, cause)
+    → Leads a limit made l (item.Batch batch ∷ []) (bare batch.line (end.Refused line cause) ∷ []) l
 one-refused a limit made l batch line cause why = refused made l l batch line cause [] [] why (done made l)
 
 -- one `show`
-pub one-shown : (a : Acceptance) (limit made : ℕ) (l : LedgerState) (line : ℕ) → Leads a limit made l (item.Show line ∷ []) [] l
+pub one-shown : (a : Acceptance) (limit made : ℕ) (l : LedgerState) (line : ℕ)
+    → Leads a limit made l (item.Show line ∷ []) [] l
 one-shown a limit made l line = shown made l l line [] [] (done made l)
 
 -- the firings of a world are a run from its start
-pub world-runs : (a : Acceptance) (w : WorldState) (most : ℕ) (answer : End) → WorldStandsFor a w → length w.firings ≤ most → IsAllowed a w.state (length w.firings) most answer → RunsTo a most (start_of a w).state (pids_of w.firings) w.state answer
+pub world-runs : (a : Acceptance) (w : WorldState) (most : ℕ) (answer : End) → WorldStandsFor a w
+    → length w.firings ≤ most → IsAllowed a w.state (length w.firings) most answer
+    → RunsTo a most (start_of a w).state (pids_of w.firings) w.state answer
 world-runs a w most answer stands within allowed =
     let same : length (pids_of w.firings) ≡ length w.firings = length-map w.firings (λ f. f.pid) in
     record {
@@ -89,7 +103,8 @@ record SameNames (l m : LedgerState) : Type 0 where
   accounts : m.accounts ≡ l.accounts
   deposits : m.deposits ≡ l.deposits
 
-declared-same : (a : Acceptance) (l : LedgerState) (r : Resolved) (d : Option ProcDecl) → SameNames l (after_declared a l r d)
+declared-same : (a : Acceptance) (l : LedgerState) (r : Resolved) (d : Option ProcDecl)
+    → SameNames l (after_declared a l r d)
 declared-same a l r (Some d) = record { accounts = refl; deposits = refl }
 declared-same a l r None = record { accounts = refl; deposits = refl }
 
@@ -101,26 +116,37 @@ starts-same a l (r ∷ rs) =
     record { accounts = rest.accounts ∙ one.accounts; deposits = rest.deposits ∙ one.deposits }
 
 -- the ledger that a world leaves is that of its start, with its last state
-pub committed-is : (a : Acceptance) (w : WorldState) → WorldStandsFor a w → committed w ≡ record (start_of a w) { state = cleared w.state }
+pub committed-is : (a : Acceptance) (w : WorldState) → WorldStandsFor a w
+    → committed w ≡ record (start_of a w) { state = cleared w.state }
 committed-is a w stands =
     let same = starts-same a w.origin w.starts in
     rw (stands.contracts, same.accounts, same.deposits) refl
 
 -- one batch that stays
-pub one-stays : (a : Acceptance) (limit made : ℕ) (batch : Batch) (w : WorldState) → resolve_batch a w.origin batch.starts ≡ Ok w.starts → WorldStandsFor a w → length w.firings ≤ batch_limit limit made → EndsAs a w.state (length w.firings) (batch_limit limit made) end.Committed → Leads a limit made w.origin (item.Batch batch ∷ []) (record { line = batch.line; firings = pids_of w.firings; end = end.Committed } ∷ []) (committed w)
+pub one-stays : (a : Acceptance) (limit made : ℕ) (batch : Batch) (w : WorldState)
+    → resolve_batch a w.origin batch.starts ≡ Ok w.starts → WorldStandsFor a w
+    → length w.firings ≤ batch_limit limit made
+    → EndsAs a w.state (length w.firings) (batch_limit limit made) end.Committed
+    → Leads a limit made w.origin (item.Batch batch ∷ [])
+    (record { line = batch.line; firings = pids_of w.firings; end = end.Committed } ∷ []) (committed w)
 one-stays a limit made batch w begun stands within ends =
     let runs = world-runs a w (batch_limit limit made) end.Committed stands within ends in
     rw (committed-is a w stands)
     (stays made w.origin _ batch w.starts (pids_of w.firings) w.state [] [] begun runs (done _ _))
 
 -- one batch that is undone
-pub one-undone : (a : Acceptance) (limit made : ℕ) (batch : Batch) (w : WorldState) (answer : End) → resolve_batch a w.origin batch.starts ≡ Ok w.starts → WorldStandsFor a w → length w.firings ≤ batch_limit limit made → IsAllowed a w.state (length w.firings) (batch_limit limit made) answer → Undoes answer → Leads a limit made w.origin (item.Batch batch ∷ []) (record { line = batch.line; firings = pids_of w.firings; end = answer } ∷ []) w.origin
+pub one-undone : (a : Acceptance) (limit made : ℕ) (batch : Batch) (w : WorldState) (answer : End)
+    → resolve_batch a w.origin batch.starts ≡ Ok w.starts → WorldStandsFor a w
+    → length w.firings ≤ batch_limit limit made → IsAllowed a w.state (length w.firings) (batch_limit limit made) answer
+    → Undoes answer → Leads a limit made w.origin (item.Batch batch ∷ [])
+    (record { line = batch.line; firings = pids_of w.firings; end = answer } ∷ []) w.origin
 one-undone a limit made batch w answer begun stands within allowed undoes =
     undone made w.origin w.origin batch w.starts (pids_of w.firings) w.state answer [] [] begun
     (world-runs a w (batch_limit limit made) answer stands within allowed) undoes (done _ _)
 
 -- one more firing of the lowest process that is ready
-pub first-push : (a : Acceptance) {s : State} (t u : State) {pids : List ℕ} (pid : ℕ) → IsFirst a s pids → run a s pids ≡ Some t → IsNextReady a t 0 pid → step a t pid ≡ Some u → IsFirst a s (pids ++ pid ∷ [])
+pub first-push : (a : Acceptance) {s : State} (t u : State) {pids : List ℕ} (pid : ℕ) → IsFirst a s pids
+    → run a s pids ≡ Some t → IsNextReady a t 0 pid → step a t pid ≡ Some u → IsFirst a s (pids ++ pid ∷ [])
 first-push a t u pid (no_firing s) reached next stepped =
     let same : s ≡ t = cc in
     firing s u pid [] (subst (λ (x : State). IsNextReady a x 0 pid) (sym same) next)

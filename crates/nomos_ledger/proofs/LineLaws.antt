@@ -18,12 +18,14 @@ use Rattle.nomos_ledger.proofs.ResolveLaws.{MayMake}
 use Rattle.nomos_ledger.proofs.StandingLaws.{IsClosedWith, closed-started}
 
 -- one more start comes after the others
-pub after-push : (a : Acceptance) (l : LedgerState) (rs : List Resolved) (r : Resolved) → after_starts a l (rs ++ r ∷ []) ≡ after_start a (after_starts a l rs) r
+pub after-push : (a : Acceptance) (l : LedgerState) (rs : List Resolved) (r : Resolved)
+    → after_starts a l (rs ++ r ∷ []) ≡ after_start a (after_starts a l rs) r
 after-push a l [] r = refl
 after-push a l (x ∷ rs) r = after-push a (after_start a l x) rs r
 
 -- the start of a declaration that stands there
-after-there : (a : Acceptance) (l : LedgerState) (r : Resolved) (d : ProcDecl) → slice_get a.program.procs r.proc.0 ≡ Some d → after_start a l r ≡ after_declared a l r (Some d)
+after-there : (a : Acceptance) (l : LedgerState) (r : Resolved) (d : ProcDecl)
+    → slice_get a.program.procs r.proc.0 ≡ Some d → after_start a l r ≡ after_declared a l r (Some d)
 after-there a l r d there = ap (after_declared a l r) there
 
 -- what a line that starts leaves
@@ -32,7 +34,10 @@ pub record Made (a : Acceptance) (l : LedgerState) (old new : Lines) (r : Resolv
   pub after : left l new ≡ after_start a (left l old) r
 
 -- a line that starts leaves what the definition says
-pub lined-push : (a : Acceptance) (l : LedgerState) (old new : Lines) (r : Resolved) → (may : MayMake a (left l old) r) → Lined a l old → new.starts.items ≡ old.starts.items ++ r ∷ [] → new.contracts.items ≡ named old.contracts.items r.contract old.state.next_name → new.state ≡ started a.annotations old.state may.declaration r.payer → Made a l old new r
+pub lined-push : (a : Acceptance) (l : LedgerState) (old new : Lines) (r : Resolved) → (may : MayMake a (left l old) r)
+    → Lined a l old → new.starts.items ≡ old.starts.items ++ r ∷ []
+    → new.contracts.items ≡ named old.contracts.items r.contract old.state.next_name
+    → new.state ≡ started a.annotations old.state may.declaration r.payer → Made a l old new r
 lined-push a l old new r may lined starts contracts state =
     let s : State = old.state in
     let d : ProcDecl = may.declaration in
@@ -41,17 +46,23 @@ lined-push a l old new r may lined starts contracts state =
     let after : left l new ≡ after_start a (left l old) r =
     rw (contracts, state) (sym (after-there a (left l old) r d there)) in
     let closed : IsClosedWith (gas_of l.state) t =
-    closed-started a s d r.payer (gas_of l.state) may.may.payer may.may.balance (record { closed = lined.closed; gas_is = lined.gas }) in
-    let more : length new.starts.items ≡ length old.starts.items + 1 = ap length starts ∙ length-append old.starts.items (r ∷ []) in
-    let accounts : length t.balances ≡ length s.balances = length-set {A = ℕ} s.balances r.payer (slice_index s.balances r.payer - dths a.annotations d.amount) in
+    closed-started a s d r.payer (gas_of l.state) may.may.payer may.may.balance
+    (record { closed = lined.closed; gas_is = lined.gas }) in
+    let more : length new.starts.items ≡ length old.starts.items + 1 = ap length starts
+    ∙ length-append old.starts.items (r ∷ []) in
+    let accounts : length t.balances ≡ length s.balances = length-set {A = ℕ} s.balances r.payer
+    (slice_index s.balances r.payer - dths a.annotations d.amount) in
     record {
       lined = record {
-        here = after ∙ ap (λ (m : LedgerState). after_start a m r) lined.here ∙ sym (after-push a l old.starts.items r) ∙ ap (after_starts a l) (sym starts);
+        here =
+            after ∙ ap (λ (m : LedgerState). after_start a m r) lined.here ∙ sym (after-push a l old.starts.items r)
+            ∙ ap (after_starts a l) (sym starts);
         named = rw (contracts, state) (record {
           few = lined.named.few;
           each_account = lined.named.each_account ∙ sym accounts;
           accounts_differ = lined.named.accounts_differ;
-          contracts_differ = contracts-differ old.contracts.items r.contract s.next_name may.free lined.named.contracts_differ;
+          contracts_differ =
+              contracts-differ old.contracts.items r.contract s.next_name may.free lined.named.contracts_differ;
         });
         closed = rw state closed.closed;
         gas = rw state closed.gas_is;
@@ -66,12 +77,17 @@ abbrev pub before_all : List Resolved → BatchOutcome → BatchOutcome
 before_all rs (Ok others) = Ok (rs ++ others)
 before_all rs (Err e) = Err e
 
-before_all-push : (rs : List Resolved) (r : Resolved) (o : BatchOutcome) → before_all rs (before_others r o) ≡ before_all (rs ++ r ∷ []) o
+before_all-push : (rs : List Resolved) (r : Resolved) (o : BatchOutcome)
+    → before_all rs (before_others r o) ≡ before_all (rs ++ r ∷ []) o
 before_all-push rs r (Ok others) = ap Ok (sym (append_assoc rs (r ∷ []) others))
 before_all-push rs r (Err e) = refl
 
 -- what comes of a batch after one more line
-pub batch-more : (a : Acceptance) (now next : LedgerState) (starts : List Start) (i : ℕ) (start : Start) (rs more : List Resolved) (r : Resolved) (all : BatchOutcome) → i < length starts → start ≡ get_or starts i start → resolve a now start ≡ Ok r → next ≡ after_start a now r → more ≡ rs ++ r ∷ [] → all ≡ before_all rs (resolve_batch a now (drop i starts)) → all ≡ before_all more (resolve_batch a next (drop (i + 1) starts))
+pub batch-more : (a : Acceptance) (now next : LedgerState) (starts : List Start) (i : ℕ) (start : Start)
+    (rs more : List Resolved) (r : Resolved) (all : BatchOutcome) → i < length starts → start ≡ get_or starts i start
+    → resolve a now start ≡ Ok r → next ≡ after_start a now r → more ≡ rs ++ r ∷ []
+    → all ≡ before_all rs (resolve_batch a now (drop i starts))
+    → all ≡ before_all more (resolve_batch a next (drop (i + 1) starts))
 batch-more a now next starts i start rs more r all within is made after pushed so_far =
     let rest : List Start = drop (suc i) starts in
     let head : drop i starts ≡ start ∷ rest = drop-cons starts i start within ∙ ap (λ (x : Start). x ∷ rest) (sym is) in
@@ -81,7 +97,10 @@ batch-more a now next starts i start rs more r all within is made after pushed s
     ∙ rw (add-one, pushed, after) refl
 
 -- what comes of a batch at a line that is refused
-pub batch-refused : (a : Acceptance) (now : LedgerState) (starts : List Start) (i : ℕ) (start : Start) (rs : List Resolved) (cause : Refusal) (all : BatchOutcome) → i < length starts → start ≡ get_or starts i start → resolve a now start ≡ Err cause → all ≡ before_all rs (resolve_batch a now (drop i starts)) → all ≡ Err (start.line, cause)
+pub batch-refused : (a : Acceptance) (now : LedgerState) (starts : List Start) (i : ℕ) (start : Start)
+    (rs : List Resolved) (cause : Refusal) (all : BatchOutcome) → i < length starts → start ≡ get_or starts i start
+    → resolve a now start ≡ Err cause → all ≡ before_all rs (resolve_batch a now (drop i starts))
+    → all ≡ Err (start.line, cause)
 batch-refused a now starts i start rs cause all within is refused so_far =
     let rest : List Start = drop (suc i) starts in
     let head : drop i starts ≡ start ∷ rest = drop-cons starts i start within ∙ ap (λ (x : Start). x ∷ rest) (sym is) in

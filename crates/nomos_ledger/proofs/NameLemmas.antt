@@ -12,7 +12,8 @@ use Rattle.nomos_ledger.specs.declared.refusal.Refusal.{Refusal}
 use Rattle.nomos_ledger.specs.declared.refusal.Refusal.TheVariants as refusal
 
 -- what passes stands no earlier than the first that does
-first-le : {X : Type 0} (p : X → Bool) (xs : List X) (k : ℕ) (d : X) → k < length xs → p (get_or xs k d) ≡ true → position_or_len p xs ≤ k
+first-le : {X : Type 0} (p : X → Bool) (xs : List X) (k : ℕ) (d : X) → k < length xs → p (get_or xs k d) ≡ true
+    → position_or_len p xs ≤ k
 first-le p [] k d h e = absurd (omega arith)
 first-le p (x ∷ xs) zero d h e = rw e (omega arith)
 first-le p (x ∷ xs) (suc k) d h e =
@@ -20,7 +21,8 @@ first-le p (x ∷ xs) (suc k) d h e =
     elim (p x) as (λ b. cond (not b) (1 + position_or_len p xs) 0 ≤ suc k) [ true ↦ omega arith | false ↦ omega arith ]
 
 -- where no place is found, nothing passes
-none-passes : {X : Type 0} (p : X → Bool) (xs : List X) (k : ℕ) (d : X) → position p xs ≡ None → k < length xs → ¬ (p (get_or xs k d) ≡ true)
+none-passes : {X : Type 0} (p : X → Bool) (xs : List X) (k : ℕ) (d : X) → position p xs ≡ None → k < length xs
+    → ¬ (p (get_or xs k d) ≡ true)
 none-passes p xs k d e h passes =
     let le : position_or_len p xs ≤ k = first-le p xs k d h passes in
     let lt : position_or_len p xs < length xs = omega arith in
@@ -38,7 +40,8 @@ or-rest true b e = cc
 or-rest false b e = e
 
 -- a name that is not taken is no contract's
-none-taken : (contracts : Contracts) (name : List ℕ) (k : ℕ) (d : List ℕ × ℕ) → is_taken contracts name ≡ false → k < length contracts → (get_or contracts k d).0 ≢ name
+none-taken : (contracts : Contracts) (name : List ℕ) (k : ℕ) (d : List ℕ × ℕ) → is_taken contracts name ≡ false
+    → k < length contracts → (get_or contracts k d).0 ≢ name
 none-taken [] name k d e h same = absurd (omega arith)
 none-taken (c ∷ cs) name zero d e h same =
     let no = or-first (bytes_eq c.0 name) (is_taken cs name) e in
@@ -52,7 +55,9 @@ not_taken true r e = cc
 not_taken false r e = refl
 
 -- contracts differ with one more whose name is not taken
-pub contracts-differ : (contracts : Contracts) (name : Option (List ℕ)) (shared : ℕ) → name_refusal contracts name ≡ None → AllPairs (λ c d. c.0 ≢ d.0) contracts → AllPairs (λ c d. c.0 ≢ d.0) (named contracts name shared)
+pub contracts-differ : (contracts : Contracts) (name : Option (List ℕ)) (shared : ℕ)
+    → name_refusal contracts name ≡ None → AllPairs (λ c d. c.0 ≢ d.0) contracts
+    → AllPairs (λ c d. c.0 ≢ d.0) (named contracts name shared)
 contracts-differ contracts None shared e differ = differ
 contracts-differ contracts (Some name) shared e differ =
     let free : is_taken contracts name ≡ false = not_taken (is_taken contracts name) (refusal.NameTaken name) e in
@@ -60,11 +65,15 @@ contracts-differ contracts (Some name) shared e differ =
     (λ k d h. none-taken contracts name k d free h)
 
 -- a name without an account is no account's
-new-account : (accounts : List (List ℕ)) (name : List ℕ) (k : ℕ) (d : List ℕ) → account_of accounts name ≡ None → k < length accounts → get_or accounts k d ≢ name
+new-account : (accounts : List (List ℕ)) (name : List ℕ) (k : ℕ) (d : List ℕ) → account_of accounts name ≡ None
+    → k < length accounts → get_or accounts k d ≢ name
 new-account accounts name k d e h same =
     none-passes (λ a. bytes_eq a name) accounts k d e h ((bytes_eq-Decides (get_or accounts k d) name).1 same)
 
-with-named : (accounts : List (List ℕ)) (contracts : Contracts) (s : State) (name : List ℕ) (dths : ℕ) (found : Option ℕ) → account_of accounts name ≡ found → length accounts < 2 ^ 32 - 1 → AreNamed accounts contracts s.balances → AreNamed (accounts_with accounts name found) contracts (state_with s dths found).balances
+with-named : (accounts : List (List ℕ)) (contracts : Contracts) (s : State) (name : List ℕ) (dths : ℕ)
+    (found : Option ℕ) → account_of accounts name ≡ found → length accounts < 2 ^ 32 - 1
+    → AreNamed accounts contracts s.balances
+    → AreNamed (accounts_with accounts name found) contracts (state_with s dths found).balances
 with-named accounts contracts s name dths (Some n) e few are = record {
   few = are.few;
   each_account = omega (arith, are.each_account, length-set {A = ℕ});
@@ -81,6 +90,9 @@ with-named accounts contracts s name dths None e few are = record {
 }
 
 -- accounts and contracts stay named in a deposit
-pub deposit-named : (accounts : List (List ℕ)) (contracts : Contracts) (s : State) (name : List ℕ) (dths : ℕ) → length accounts < 2 ^ 32 - 1 → AreNamed accounts contracts s.balances → AreNamed (accounts_with accounts name (account_of accounts name)) contracts (state_with s dths (account_of accounts name)).balances
+pub deposit-named : (accounts : List (List ℕ)) (contracts : Contracts) (s : State) (name : List ℕ) (dths : ℕ)
+    → length accounts < 2 ^ 32 - 1 → AreNamed accounts contracts s.balances
+    → AreNamed (accounts_with accounts name (account_of accounts name)) contracts
+    (state_with s dths (account_of accounts name)).balances
 deposit-named accounts contracts s name dths few are =
     with-named accounts contracts s name dths (account_of accounts name) refl few are

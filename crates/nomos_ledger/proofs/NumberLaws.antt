@@ -40,11 +40,13 @@ below-more n objects all =
     let more : (o : Object) → number_of o < n → number_of o < n + 1 = λ o h. omega arith in
     All-weaker (λ o. number_of o < n) (λ o. number_of o < n + 1) more objects all
 
-below-push : (n : ℕ) (objects : List Object) (o : Object) → number_of o ≡ n → AllBelow n objects → AllBelow (n + 1) (objects ++ o ∷ [])
+below-push : (n : ℕ) (objects : List Object) (o : Object) → number_of o ≡ n → AllBelow n objects
+    → AllBelow (n + 1) (objects ++ o ∷ [])
 below-push n objects o is all =
     All-push (λ x. number_of x < n + 1) objects o (below-more n objects all) (omega arith)
 
-below-set : (n : ℕ) (objects : List Object) (i : ℕ) (p q : Process) → slice_get objects i ≡ Some (object.Process p) → q.pid ≡ p.pid → AllBelow n objects → AllBelow n (set objects i (object.Process q))
+below-set : (n : ℕ) (objects : List Object) (i : ℕ) (p q : Process) → slice_get objects i ≡ Some (object.Process p)
+    → q.pid ≡ p.pid → AllBelow n objects → AllBelow n (set objects i (object.Process q))
 below-set n objects i p q there same all =
     let old : p.pid < n = All-there (λ x. number_of x < n) objects i (object.Process p) there all in
     All-set (λ x. number_of x < n) objects i (object.Process q) (omega arith) all
@@ -55,23 +57,28 @@ below-remove n objects i all =
     (All-take (λ x. number_of x < n) i objects all) (All-drop (λ x. number_of x < n) (suc i) objects all)
 
 below-closed : (s : State) (i : ℕ) (p : Process) (m : Mode) → AreBelow s → AreBelow (closed s i p m)
-below-closed s i p mode.R all = below-push s.next_object (remove s.objects i) _ refl (below-remove s.next_object s.objects i all)
+below-closed s i p mode.R all =
+    below-push s.next_object (remove s.objects i) _ refl (below-remove s.next_object s.objects i all)
 below-closed s i p _ all = below-remove s.next_object s.objects i all
 
 -- the numbers stay below the next one where a process moves
-below-moved : (s : State) (i : ℕ) (p : Process) (m : Move) → slice_get s.objects i ≡ Some (object.Process p) → AreBelow s → AreBelow (moved s i p m)
+below-moved : (s : State) (i : ℕ) (p : Process) (m : Move) → slice_get s.objects i ≡ Some (object.Process p)
+    → AreBelow s → AreBelow (moved s i p m)
 below-moved s i p (move.Label c l goes next) there all =
     below-push s.next_object _ _ refl
     (below-set s.next_object s.objects i p (goes_on p c s.next_name next) there (goes_on-pid p c s.next_name next) all)
 below-moved s i p (move.Receive c j name purse next) there all =
     below-remove s.next_object _ j
-    (below-set s.next_object s.objects i p (record (goes_on p c name next) { purse = p.purse + purse }) there (goes_on-pid p c name next) all)
+    (below-set s.next_object s.objects i p (record (goes_on p c name next) { purse = p.purse + purse }) there
+    (goes_on-pid p c name next) all)
 below-moved s i p (move.Wait v j purse next) there all =
     below-remove s.next_object _ j
-    (below-set s.next_object s.objects i p (record p { channels = forgotten p.channels v; purse = p.purse + purse; code = next }) there refl all)
+    (below-set s.next_object s.objects i p
+    (record p { channels = forgotten p.channels v; purse = p.purse + purse; code = next }) there refl all)
 below-moved s i p (move.Spawn v md first offers purse next) there all =
     below-push s.next_object _ _ refl
-    (below-set s.next_object s.objects i p (record p { channels = bound p.channels v s.next_name; purse = p.purse - purse; code = next }) there refl all)
+    (below-set s.next_object s.objects i p
+    (record p { channels = bound p.channels v s.next_name; purse = p.purse - purse; code = next }) there refl all)
 below-moved s i p move.Close there all = below-closed s i p p.mode all
 
 -- the numbers stay below the next one in a step
@@ -83,6 +90,7 @@ below-step a s t pid e all =
     subst AreBelow (sym parts.after_is) here
 
 -- the numbers stay below the next one where a process starts
-pub below-started : (x : Annotations) (s : State) (d : ProcDecl) (payer : ℕ) → AreBelow s → AreBelow (started x s d payer)
+pub below-started : (x : Annotations) (s : State) (d : ProcDecl) (payer : ℕ) → AreBelow s
+    → AreBelow (started x s d payer)
 below-started x s d payer all =
     below-push s.next_object s.objects (object.Process (starting s d (dths x d.amount) payer)) refl all

@@ -19,11 +19,13 @@ use Rattle.nomos_ledger.specs.declared.refusal.Refusal.TheVariants as refusal
 use Rattle.nomos_ledger.specs.declared.resolved.Resolved.{Resolved}
 use Rattle.nomos_ledger.proofs.StandingLaws.{account-within}
 
-and_then-Ok : {A B : Type 0} (o : Outcome A) (f : A → Outcome B) (y : B) → and_then o f ≡ Ok y → (x : A) × (o ≡ Ok x) × (f x ≡ Ok y)
+and_then-Ok : {A B : Type 0} (o : Outcome A) (f : A → Outcome B) (y : B) → and_then o f ≡ Ok y
+    → (x : A) × (o ≡ Ok x) × (f x ≡ Ok y)
 and_then-Ok (Ok x) f y e = (x, refl, e)
 and_then-Ok (Err r) f y e = cc
 
-unless-Ok : {A : Type 0} (c : Option Refusal) (next : Outcome A) (y : A) → unless c next ≡ Ok y → (c ≡ None) × (next ≡ Ok y)
+unless-Ok : {A : Type 0} (c : Option Refusal) (next : Outcome A) (y : A) → unless c next ≡ Ok y
+    → (c ≡ None) × (next ≡ Ok y)
 unless-Ok None next y e = (refl, e)
 unless-Ok (Some r) next y e = cc
 
@@ -56,10 +58,12 @@ wanted-mode named mode.R e = cc
 wanted-mode named mode.L e = cc
 
 -- what is wanted has mode S or T
-found-mode : (procs : List ProcDecl) (start : Start) (p : ℕ) (d : ProcDecl) → position (is_wanted start) procs ≡ Some p → slice_get procs p ≡ Some d → (d.mode ≡ mode.S) ⊎ (d.mode ≡ mode.T)
+found-mode : (procs : List ProcDecl) (start : Start) (p : ℕ) (d : ProcDecl) → position (is_wanted start) procs ≡ Some p
+    → slice_get procs p ≡ Some d → (d.mode ≡ mode.S) ⊎ (d.mode ≡ mode.T)
 found-mode procs start p d found there =
     let here = (position-Some (is_wanted start) procs p d found).1 in
-    let wanted : is_wanted start d ≡ true = subst (λ (x : ProcDecl). is_wanted start x ≡ true) (get_or_from_slice_get procs p d d there) here in
+    let wanted : is_wanted start d
+    ≡ true = subst (λ (x : ProcDecl). is_wanted start x ≡ true) (get_or_from_slice_get procs p d d there) here in
     wanted-mode (is_some start.contract) d.mode
     (and-last (bytes_eq d.name start.proc) (has_mode (is_some start.contract) d.mode) wanted)
 
@@ -67,7 +71,8 @@ found-mode procs start p d found there =
 fits-none : (d : ProcDecl) (start : Start) → argument_refusal start d ≡ None → Fits d [] []
 fits-none d start e =
     let all : fits d start ≡ true = passed (fits d start) (refusal.BadArguments start.proc) e in
-    let three = and-front (length d.values == 0 && length d.channels == 0 && length start.values == 0) (length start.names == 0) all in
+    let three = and-front (length d.values == 0 && length d.channels == 0 && length start.values == 0)
+    (length start.names == 0) all in
     let two = and-front (length d.values == 0 && length d.channels == 0) (length start.values == 0) three in
     record {
       no_values = no_items d.values (and-front (length d.values == 0) (length d.channels == 0) two);
@@ -87,13 +92,18 @@ abbrev pub start_by : Start → ℕ → ℕ → Resolved
 start_by start payer p =
     record { proc = record { 0 = p }; values = []; names = []; payer = payer; contract = start.contract }
 
-resolved-at : (a : Acceptance) (l : LedgerState) (start : Start) (payer p : ℕ) (d : ProcDecl) (r : Resolved) → payer < length l.state.balances → position (is_wanted start) a.program.procs ≡ Some p → slice_get a.program.procs p ≡ Some d → resolve_at a l.contracts l.state.balances start payer p d ≡ Ok r → MayMake a l r
+resolved-at : (a : Acceptance) (l : LedgerState) (start : Start) (payer p : ℕ) (d : ProcDecl) (r : Resolved)
+    → payer < length l.state.balances → position (is_wanted start) a.program.procs ≡ Some p
+    → slice_get a.program.procs p ≡ Some d → resolve_at a l.contracts l.state.balances start payer p d ≡ Ok r
+    → MayMake a l r
 resolved-at a l start payer p d r pays found there e =
     let has : ℕ = slice_index l.state.balances payer in
     let needs : ℕ = dths a.annotations d.amount in
     let made : Outcome Resolved = Ok (start_by start payer p) in
-    let arguments = unless-Ok (argument_refusal start d) (unless (name_refusal l.contracts start.contract) (unless (gas_refusal start has needs) made)) r e in
-    let names = unless-Ok (name_refusal l.contracts start.contract) (unless (gas_refusal start has needs) made) r arguments.1 in
+    let arguments = unless-Ok (argument_refusal start d)
+    (unless (name_refusal l.contracts start.contract) (unless (gas_refusal start has needs) made)) r e in
+    let names = unless-Ok (name_refusal l.contracts start.contract) (unless (gas_refusal start has needs) made) r
+    arguments.1 in
     let gas = unless-Ok (gas_refusal start has needs) made r names.1 in
     let enough : nat_le needs has ≡ true = passed (nat_le needs has) (refusal.NoGas start.sender has needs) gas.0 in
     let balance : needs ≤ has = grind (arith, enough) in
@@ -112,7 +122,8 @@ resolved-at a l start payer p d r pays found there e =
     subst (MayMake a l) is made_of
 
 -- what a start is resolved to can be made
-pub resolved-may : (a : Acceptance) (l : LedgerState) (start : Start) (r : Resolved) → length l.accounts ≡ length l.state.balances → resolve a l start ≡ Ok r → MayMake a l r
+pub resolved-may : (a : Acceptance) (l : LedgerState) (start : Start) (r : Resolved)
+    → length l.accounts ≡ length l.state.balances → resolve a l start ≡ Ok r → MayMake a l r
 resolved-may a l start r each e =
     let account = and_then-Ok (payer_of l.accounts start) (resolve_for a l start) r e in
     let payer : ℕ = account.0 in
@@ -123,7 +134,8 @@ resolved-may a l start r each e =
     let p : ℕ = declaration.0 in
     let found : position (is_wanted start) a.program.procs ≡ Some p =
     ok_or-Ok (position (is_wanted start) a.program.procs) (refusal.NoProcess start.proc) p declaration.1 in
-    let declared = and_then-Ok (declared_at a.program.procs start p) (resolve_at a l.contracts l.state.balances start payer p) r declaration.2 in
+    let declared = and_then-Ok (declared_at a.program.procs start p)
+    (resolve_at a l.contracts l.state.balances start payer p) r declaration.2 in
     let d : ProcDecl = declared.0 in
     let here : slice_get a.program.procs p ≡ Some d =
     ok_or-Ok (slice_get a.program.procs p) (refusal.NoProcess start.proc) d declared.1 in

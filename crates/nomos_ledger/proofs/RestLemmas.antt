@@ -16,14 +16,16 @@ use Rattle.nomos_ledger.specs.Ending.{HasTransaction, IsTransaction, NoTransacti
 use Rattle.nomos_ledger.specs.Gives.{IsLeft}
 
 -- no process is ready exactly where none over 0 is
-pub quiet-no_next : (a : Acceptance) (s : State) (next : Option ℕ) (none : Bool) → is_some next ≡ not none → IsSound s → MatchOption next (NoneReady a s 0) (IsNextReady a s 0) → IsTrue none ↔ IsQuiet a s
+pub quiet-no_next : (a : Acceptance) (s : State) (next : Option ℕ) (none : Bool) → is_some next ≡ not none → IsSound s
+    → MatchOption next (NoneReady a s 0) (IsNextReady a s 0) → IsTrue none ↔ IsQuiet a s
 quiet-no_next a s None true e sound idle = (λ yes. quiet-from_none_ready a s sound idle, λ quiet. refl)
 quiet-no_next a s None false e sound idle = cc
 quiet-no_next a s (Some pid) true e sound next = cc
 quiet-no_next a s (Some pid) false e sound next = (λ yes. cc, λ quiet. absurd (quiet pid next.ready))
 
 -- one more object that is none
-pub none_more : (s : State) (i : ℕ) (o : Object) → i < length s.objects → o ≡ get_or s.objects i o → All (λ x. ¬ IsLeft s x) (take i s.objects) → ¬ IsLeft s o → All (λ x. ¬ IsLeft s x) (take (i + 1) s.objects)
+pub none_more : (s : State) (i : ℕ) (o : Object) → i < length s.objects → o ≡ get_or s.objects i o
+    → All (λ x. ¬ IsLeft s x) (take i s.objects) → ¬ IsLeft s o → All (λ x. ¬ IsLeft s x) (take (i + 1) s.objects)
 none_more s i o below is all one =
     rw (take_more s.objects i o below, ← is) (All-push (λ x. ¬ IsLeft s x) (take i s.objects) o all one)
 

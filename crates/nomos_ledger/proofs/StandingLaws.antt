@@ -32,7 +32,8 @@ pub record IsClosedWith (gas : ℕ) (s : State) : Type 0 where
   pub gas_is : gas_of s ≡ gas
 
 -- a step leaves a closed state closed, with all gas
-pub closed-step : (a : Acceptance) (s t : State) (pid gas : ℕ) → step a s pid ≡ Some t → IsClosedWith gas s → IsClosedWith gas t
+pub closed-step : (a : Acceptance) (s t : State) (pid gas : ℕ) → step a s pid ≡ Some t → IsClosedWith gas s
+    → IsClosedWith gas t
 closed-step a s t pid gas e here =
     let keeps : Keeps s t = step-keeps a s t pid (paid-sound s pid here.closed.sound) e in
     let same : SameOutside s t = step-same_outside a s t pid e in
@@ -48,7 +49,8 @@ closed-step a s t pid gas e here =
     }
 
 -- a run leaves a closed state closed, with all gas
-pub closed-run : (a : Acceptance) (s t : State) (pids : List ℕ) (gas : ℕ) → run a s pids ≡ Some t → IsClosedWith gas s → IsClosedWith gas t
+pub closed-run : (a : Acceptance) (s t : State) (pids : List ℕ) (gas : ℕ) → run a s pids ≡ Some t → IsClosedWith gas s
+    → IsClosedWith gas t
 closed-run a s t [] gas e here = subst (IsClosedWith gas) (same_Some s t e) here
 closed-run a s t (pid ∷ pids) gas e here =
     option_and_then_some {P = IsClosedWith gas t} (λ (u : State). run a u pids) (step a s pid) t e
@@ -56,7 +58,9 @@ closed-run a s t (pid ∷ pids) gas e here =
     closed-run a u t pids gas rest (closed-step a s u pid gas stepped here))
 
 -- a start leaves a closed state closed, with all gas
-pub closed-started : (a : Acceptance) (s : State) (d : ProcDecl) (payer gas : ℕ) → payer < length s.balances → dths a.annotations d.amount ≤ slice_index s.balances payer → IsClosedWith gas s → IsClosedWith gas (started a.annotations s d payer)
+pub closed-started : (a : Acceptance) (s : State) (d : ProcDecl) (payer gas : ℕ) → payer < length s.balances
+    → dths a.annotations d.amount ≤ slice_index s.balances payer → IsClosedWith gas s
+    → IsClosedWith gas (started a.annotations s d payer)
 closed-started a s d payer gas pays has here =
     let same : gas_of (started a.annotations s d payer) ≡ gas_of s = gas-started a.annotations s d payer pays has in
     record {
@@ -71,29 +75,55 @@ closed-started a s d payer gas pays has here =
     }
 
 -- a state with the same processes that can move is quiet as well
-quiet-by_parts : (a : Acceptance) (s t : State) → ((q : ℕ) → ReadyParts a t q → ReadyParts a s q) → IsQuiet a s → IsQuiet a t
+quiet-by_parts : (a : Acceptance) (s t : State) → ((q : ℕ) → ReadyParts a t q → ReadyParts a s q) → IsQuiet a s
+    → IsQuiet a t
 quiet-by_parts a s t same quiet q ready =
     quiet q (ready-from_parts a s q (same q (ready-is-process a t q ready)))
 
 quiet-cleared : (a : Acceptance) (s : State) → IsQuiet a s → IsQuiet a (cleared s)
 quiet-cleared a s =
     quiet-by_parts a s (cleared s)
-    (λ q parts. record { place = parts.place; process = parts.process; does = parts.does; found = parts.found; there = parts.there; number = parts.number; moves = parts.moves })
+    (λ q parts. record {
+      place = parts.place;
+      process = parts.process;
+      does = parts.does;
+      found = parts.found;
+      there = parts.there;
+      number = parts.number;
+      moves = parts.moves;
+    })
 
 quiet-credited : (a : Acceptance) (s : State) (account units : ℕ) → IsQuiet a s → IsQuiet a (credited s account units)
 quiet-credited a s account units =
     quiet-by_parts a s (credited s account units)
-    (λ q parts. record { place = parts.place; process = parts.process; does = parts.does; found = parts.found; there = parts.there; number = parts.number; moves = parts.moves })
+    (λ q parts. record {
+      place = parts.place;
+      process = parts.process;
+      does = parts.does;
+      found = parts.found;
+      there = parts.there;
+      number = parts.number;
+      moves = parts.moves;
+    })
 
 quiet-opened : (a : Acceptance) (s : State) (units : ℕ) → IsQuiet a s → IsQuiet a (opened s units)
 quiet-opened a s units =
     quiet-by_parts a s (opened s units)
-    (λ q parts. record { place = parts.place; process = parts.process; does = parts.does; found = parts.found; there = parts.there; number = parts.number; moves = parts.moves })
+    (λ q parts. record {
+      place = parts.place;
+      process = parts.process;
+      does = parts.does;
+      found = parts.found;
+      there = parts.there;
+      number = parts.number;
+      moves = parts.moves;
+    })
 
 -- all gas of deposits is little
 pub little-deposits : (deposits unit : ℕ) → deposits < 2 ^ 64 → unit < 2 ^ 32 → deposits * unit < 2 ^ 96
 little-deposits deposits unit few small =
-    let most : deposits * unit ≤ (2 ^ 64 - 1) * (2 ^ 32 - 1) = mul-le deposits unit (2 ^ 64 - 1) (2 ^ 32 - 1) (omega arith) (omega arith) in
+    let most : deposits * unit ≤ (2 ^ 64 - 1) * (2 ^ 32 - 1) = mul-le deposits unit (2 ^ 64 - 1) (2 ^ 32 - 1)
+    (omega arith) (omega arith) in
     omega arith
 
 -- the gas of a ledger with more deposits
@@ -101,11 +131,20 @@ more-gas : (deposits units unit : ℕ) → deposits * unit + units * unit ≡ (d
 more-gas deposits units unit = omega arith
 
 -- the account of a name is one of them
-pub account-within : (accounts : List (List ℕ)) (name : List ℕ) (n : ℕ) → account_of accounts name ≡ Some n → n < length accounts
+pub account-within : (accounts : List (List ℕ)) (name : List ℕ) (n : ℕ) → account_of accounts name ≡ Some n
+    → n < length accounts
 account-within accounts name n e = (position-Some (λ a. bytes_eq a name) accounts n [] e).0
 
 -- a state with more on one account stands for more deposits
-with-stands : (a : Acceptance) (l : LedgerState) (name : List ℕ) (units : ℕ) (accounts : List (List ℕ)) (found : Option ℕ) → account_of l.accounts name ≡ found → l.deposits + units < 2 ^ 64 → a.annotations.unit < 2 ^ 32 → length l.accounts ≡ length l.state.balances → StandsFor a l → StandsFor a (record l { accounts = accounts; deposits = l.deposits + units; state = state_with l.state (units * a.annotations.unit) found })
+with-stands : (a : Acceptance) (l : LedgerState) (name : List ℕ) (units : ℕ) (accounts : List (List ℕ))
+    (found : Option ℕ) → account_of l.accounts name ≡ found → l.deposits + units < 2 ^ 64 → a.annotations.unit < 2 ^ 32
+    → length l.accounts ≡ length l.state.balances → StandsFor a l
+    → StandsFor a (record l {
+      accounts = accounts;
+      deposits = l.deposits
+          + units;
+      state = state_with l.state (units * a.annotations.unit) found;
+    })
 with-stands a l name units accounts (Some n) is few small each stands =
     let unit : ℕ = a.annotations.unit in
     let within : n < length l.accounts = account-within l.accounts name n is in
@@ -144,13 +183,16 @@ with-stands a l name units accounts None is few small each stands =
     }
 
 -- a deposit that fits leaves a ledger that stands
-pub deposited-stands : (a : Acceptance) (l : LedgerState) (name : List ℕ) (units : ℕ) → l.deposits + units < 2 ^ 64 → a.annotations.unit < 2 ^ 32 → length l.accounts ≡ length l.state.balances → StandsFor a l → StandsFor a (deposited a.annotations.unit l name units)
+pub deposited-stands : (a : Acceptance) (l : LedgerState) (name : List ℕ) (units : ℕ) → l.deposits + units < 2 ^ 64
+    → a.annotations.unit < 2 ^ 32 → length l.accounts ≡ length l.state.balances → StandsFor a l
+    → StandsFor a (deposited a.annotations.unit l name units)
 deposited-stands a l name units few small each stands =
     let found : Option ℕ = account_of l.accounts name in
     with-stands a l name units (accounts_with l.accounts name found) found refl few small each stands
 
 -- the gas that a deposit brings is little
-pub little-deposit : (a : Acceptance) (l : LedgerState) (units : ℕ) → l.deposits + units < 2 ^ 64 → a.annotations.unit < 2 ^ 32 → StandsFor a l → gas_of l.state + units * a.annotations.unit < 2 ^ 96
+pub little-deposit : (a : Acceptance) (l : LedgerState) (units : ℕ) → l.deposits + units < 2 ^ 64
+    → a.annotations.unit < 2 ^ 32 → StandsFor a l → gas_of l.state + units * a.annotations.unit < 2 ^ 96
 little-deposit a l units few small stands =
     let unit : ℕ = a.annotations.unit in
     let all : gas_of l.state + units * unit ≡ (l.deposits + units) * unit =
@@ -164,7 +206,8 @@ world-closed a w stands =
     (record { closed = stands.start; gas_is = stands.gas })
 
 -- a world that ends as committed leaves a ledger that stands
-pub commit-stands : (a : Acceptance) (w : WorldState) (limit : ℕ) → WorldStandsFor a w → EndsAs a w.state (length w.firings) limit end.Committed → StandsFor a (committed w)
+pub commit-stands : (a : Acceptance) (w : WorldState) (limit : ℕ) → WorldStandsFor a w
+    → EndsAs a w.state (length w.firings) limit end.Committed → StandsFor a (committed w)
 commit-stands a w limit stands ends =
     let here = world-closed a w stands in
     record {
@@ -186,7 +229,8 @@ pids-push [] f = refl
 pids-push (g ∷ gs) f = ap (λ (ps : List ℕ). g.pid ∷ ps) (pids-push gs f)
 
 -- a world with one more firing stands
-fired-stands : (a : Acceptance) (w : WorldState) (f : Firing) (t : State) → step a w.state f.pid ≡ Some t → WorldStandsFor a w → WorldStandsFor a (record w { firings = w.firings ++ f ∷ []; state = t })
+fired-stands : (a : Acceptance) (w : WorldState) (f : Firing) (t : State) → step a w.state f.pid ≡ Some t
+    → WorldStandsFor a w → WorldStandsFor a (record w { firings = w.firings ++ f ∷ []; state = t })
 fired-stands a w f t e stands =
     let s : State = (start_of a w).state in
     let further : run a s (pids_of w.firings ++ f.pid ∷ []) ≡ Some t =
@@ -200,7 +244,12 @@ fired-stands a w f t e stands =
     }
 
 -- what a firing answered, where its process took its step
-pub answer-stands : (a : Acceptance) (w : WorldState) (f : Firing) (firings : List Firing) (answer : Result Fire AllocError) (t : State) → IfOk answer (λ fire. Fires a w.state f.pid fire t) → answer ≡ Ok fire.Fired → firings ≡ w.firings ++ f ∷ [] → WorldStandsFor a w → WorldStandsFor a (record w { firings = firings; state = t })
+pub answer-stands : (a : Acceptance) (w : WorldState) (f : Firing) (firings : List Firing)
+    (answer : Result Fire AllocError) (t : State) → IfOk answer (λ fire. Fires a w.state f.pid fire t)
+    → answer ≡ Ok fire.Fired → firings ≡ w.firings ++ f ∷ [] → WorldStandsFor a w
+    → WorldStandsFor a (record w { firings = firings; state = t })
 answer-stands a w f firings answer t fires fired more stands =
-    let stepped : step a w.state f.pid ≡ Some t = subst (λ (r : Result Fire AllocError). IfOk r (λ fire. Fires a w.state f.pid fire t)) fired fires in
-    subst (λ (fs : List Firing). WorldStandsFor a (record w { firings = fs; state = t })) (sym more) (fired-stands a w f t stepped stands)
+    let stepped : step a w.state f.pid
+    ≡ Some t = subst (λ (r : Result Fire AllocError). IfOk r (λ fire. Fires a w.state f.pid fire t)) fired fires in
+    subst (λ (fs : List Firing). WorldStandsFor a (record w { firings = fs; state = t })) (sym more)
+    (fired-stands a w f t stepped stands)

@@ -61,7 +61,8 @@ pub record Lined (a : Acceptance) (l : LedgerState) (lines : Lines) : Type 0 whe
 -- What the start of a line answers and does. Where memory ran out, anything may be left.
 abbrev pub StartsLine : Acceptance → LedgerState → Lines → Start → Result (Unit {0}) Stop → Lines → Type 0
 StartsLine a l before start (Ok x) after =
-    (r : Resolved) × (resolve a (left l before) start ≡ Ok r) × (after.starts.items ≡ before.starts.items ++ r ∷ []) × Lined a l after × (left l after ≡ after_start a (left l before) r)
+    (r : Resolved) × (resolve a (left l before) start ≡ Ok r) × (after.starts.items ≡ before.starts.items ++ r ∷ [])
+    × Lined a l after × (left l after ≡ after_start a (left l before) r)
 StartsLine a l before start (Err (stop.Refused r)) after = resolve a (left l before) start ≡ Err r
 StartsLine a l before start (Err stop.NoMemory) after = Unit {0}
 

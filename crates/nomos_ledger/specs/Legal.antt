@@ -39,47 +39,57 @@ Undoes _ = Unit {0}
 
 -- A batch's firings are a run from the state after its start, no longer than its limit, with an end that is allowed
 -- for the last state.
-pub record RunsTo (a : Acceptance) (most : ℕ) (start : State) (pids : List ℕ) (last : State) (answer : End) : Type 0 where
-  pub reached : run a start pids ≡ Some last
-  pub within : length pids ≤ most
-  pub allowed : IsAllowed a last (length pids) most answer
+pub record RunsTo (a : Acceptance) (most : ℕ) (start : State) (pids : List ℕ) (last : State) (answer : End) : Type 0
+  where
+    pub reached : run a start pids ≡ Some last
+    pub within : length pids ≤ most
+    pub allowed : IsAllowed a last (length pids) most answer
 
 -- the entry of an item without firings
 abbrev pub bare : ℕ → End → Entry
 bare line answer = record { line = line; firings = []; end = answer }
 
 -- The journal of these items, with so many firings made before, leads from the one ledger to the other.
-pub data Leads (a : Acceptance) (limit : ℕ) : ℕ → LedgerState → List ScriptItem → List Entry → LedgerState → Type 0 where
+pub data Leads (a : Acceptance) (limit : ℕ) : ℕ → LedgerState → List ScriptItem → List Entry → LedgerState
+    → Type 0 where
   -- no item is left
   done : (made : ℕ) (l : LedgerState) → Leads a limit made l [] [] l
   -- a deposit that fits
-  deposit : (made : ℕ) (l last : LedgerState) (line units : ℕ) (name : List ℕ) (items : List ScriptItem) (entries : List Entry) →
+  deposit : (made : ℕ) (l last : LedgerState) (line units : ℕ) (name : List ℕ) (items : List ScriptItem)
+      (entries : List Entry) →
       FitsDeposits l units →
       Leads a limit made (deposited a.annotations.unit l name units) items entries last →
       Leads a limit made l (item.Deposit line name units ∷ items) (bare line end.Deposited ∷ entries) last
   -- a deposit that does not fit
-  no_deposit : (made : ℕ) (l last : LedgerState) (line units : ℕ) (name : List ℕ) (items : List ScriptItem) (entries : List Entry) →
+  no_deposit : (made : ℕ) (l last : LedgerState) (line units : ℕ) (name : List ℕ) (items : List ScriptItem)
+      (entries : List Entry) →
       ¬ FitsDeposits l units →
       Leads a limit made l items entries last →
-      Leads a limit made l (item.Deposit line name units ∷ items) (bare line (end.Refused line refusal.TooMuchGas) ∷ entries) last
+      Leads a limit made l (item.Deposit line name units ∷ items)
+      (bare line (end.Refused line refusal.TooMuchGas) ∷ entries) last
   -- a batch of which a line is refused
-  refused : (made : ℕ) (l last : LedgerState) (batch : Batch) (line : ℕ) (cause : Refusal) (items : List ScriptItem) (entries : List Entry) →
+  refused : (made : ℕ) (l last : LedgerState) (batch : Batch) (line : ℕ) (cause : Refusal) (items : List ScriptItem)
+      (entries : List Entry) →
       resolve_batch a l batch.starts ≡ Err (line, cause) →
       Leads a limit made l items entries last →
       Leads a limit made l (item.Batch batch ∷ items) (bare batch.line (end.Refused line cause) ∷ entries) last
   -- a batch that stays
-  stays : (made : ℕ) (l last : LedgerState) (batch : Batch) (starts : List Resolved) (pids : List ℕ) (s : State) (items : List ScriptItem) (entries : List Entry) →
+  stays : (made : ℕ) (l last : LedgerState) (batch : Batch) (starts : List Resolved) (pids : List ℕ) (s : State)
+      (items : List ScriptItem) (entries : List Entry) →
       resolve_batch a l batch.starts ≡ Ok starts →
       RunsTo a (batch_limit limit made) (after_starts a l starts).state pids s end.Committed →
       Leads a limit (made + length pids) (record (after_starts a l starts) { state = cleared s }) items entries last →
-      Leads a limit made l (item.Batch batch ∷ items) (record { line = batch.line; firings = pids; end = end.Committed } ∷ entries) last
+      Leads a limit made l (item.Batch batch ∷ items)
+      (record { line = batch.line; firings = pids; end = end.Committed } ∷ entries) last
   -- a batch that is undone
-  undone : (made : ℕ) (l last : LedgerState) (batch : Batch) (starts : List Resolved) (pids : List ℕ) (s : State) (answer : End) (items : List ScriptItem) (entries : List Entry) →
+  undone : (made : ℕ) (l last : LedgerState) (batch : Batch) (starts : List Resolved) (pids : List ℕ) (s : State)
+      (answer : End) (items : List ScriptItem) (entries : List Entry) →
       resolve_batch a l batch.starts ≡ Ok starts →
       RunsTo a (batch_limit limit made) (after_starts a l starts).state pids s answer →
       Undoes answer →
       Leads a limit (made + length pids) l items entries last →
-      Leads a limit made l (item.Batch batch ∷ items) (record { line = batch.line; firings = pids; end = answer } ∷ entries) last
+      Leads a limit made l (item.Batch batch ∷ items)
+      (record { line = batch.line; firings = pids; end = answer } ∷ entries) last
   -- a `show` has no entry
   shown : (made : ℕ) (l last : LedgerState) (line : ℕ) (items : List ScriptItem) (entries : List Entry) →
       Leads a limit made l items entries last →

@@ -45,8 +45,10 @@ pub record WorldStandsFor (a : Acceptance) (w : WorldState) : Type 0 where
   pub reached : run a (start_of a w).state (pids_of w.firings) ≡ Some w.state
 
 -- what a deposit at this line answers and does
-pub record Deposits (a : Acceptance) (before : LedgerState) (line : ℕ) (name : List ℕ) (units : ℕ) (answer : End) (after : LedgerState) : Type 0 where
-  pub made : FitsDeposits before units → (answer ≡ end.Deposited) × (after ≡ deposited a.annotations.unit before name units)
+pub record Deposits (a : Acceptance) (before : LedgerState) (line : ℕ) (name : List ℕ) (units : ℕ) (answer : End)
+    (after : LedgerState) : Type 0 where
+  pub made : FitsDeposits before units
+      → (answer ≡ end.Deposited) × (after ≡ deposited a.annotations.unit before name units)
   pub refused : ¬ FitsDeposits before units → (answer ≡ end.Refused line refusal.TooMuchGas) × (after ≡ before)
 
 -- what the begin of a batch answers
@@ -66,5 +68,6 @@ BegunStandsFor a (begun.NoMemory kept) = StandsFor a kept
 -- what a firing in a world answers and does
 abbrev pub FiresIn : Acceptance → WorldState → Firing → Fire → WorldState → Type 0
 FiresIn a before firing fire.Fired after =
-    (step a before.state firing.pid ≡ Some after.state) × (after ≡ record before { firings = before.firings ++ firing ∷ []; state = after.state })
+    (step a before.state firing.pid ≡ Some after.state)
+    × (after ≡ record before { firings = before.firings ++ firing ∷ []; state = after.state })
 FiresIn a before firing (fire.Faulted e) after = (fault a before.state firing.pid ≡ Some e) × (after ≡ before)

@@ -37,7 +37,12 @@ impl Model for Ledger {
 
     ghost coded = { Prim.hlevel (codes, value_code) };
 
-    ghost view = { λ l. record { accounts = l.accounts; contracts = l.contracts.items; deposits = l.deposits; state = l.state } };
+    ghost view = { λ l. record {
+      accounts = l.accounts;
+      contracts = l.contracts.items;
+      deposits = l.deposits;
+      state = l.state;
+    } };
 
     ghost invariant = { λ l. AreNamed l.accounts l.contracts.items l.state.balances };
 }
@@ -74,7 +79,8 @@ fn add(
     requires few { length state.old.balances < 2 ^ 32 - 1 }
     requires each { length accounts.old ≡ length state.old.balances }
     requires gas { gas_of state.old + dths < 2 ^ 96 }
-    ensures accounts { OnOk result (accounts.new ≡ accounts_with accounts.old name.now (account_of accounts.old name.now)) }
+    ensures accounts { OnOk result
+        (accounts.new ≡ accounts_with accounts.old name.now (account_of accounts.old name.now)) }
     ensures state { OnOk result (state.new ≡ state_with state.old dths (account_of accounts.old name.now)) }
     ensures err { OnErr result ((accounts.new ≡ accounts.old) × (state.new ≡ state.old)) }
 {

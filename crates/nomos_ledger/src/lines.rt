@@ -45,7 +45,9 @@ impl Lines {
         requires room { HasRoom self.old.state }
         requires gas { HasLittleGas self.old.state }
         ensures starts { OnOk result (self.new.starts.items ≡ self.old.starts.items ++ r ∷ []) }
-        ensures ok { OnOk result ((d : ProcDecl) → slice_get accepted.now.program.procs r.proc.0 ≡ Some d → (self.new.contracts.items ≡ named self.old.contracts.items r.contract self.old.state.next_name) × (self.new.state ≡ started accepted.now.annotations self.old.state d r.payer)) }
+        ensures ok { OnOk result ((d : ProcDecl) → slice_get accepted.now.program.procs r.proc.0 ≡ Some d
+            → (self.new.contracts.items ≡ named self.old.contracts.items r.contract self.old.state.next_name)
+            × (self.new.state ≡ started accepted.now.annotations self.old.state d r.payer)) }
     {
         let shared = self.state.next_name();
         self.state
@@ -71,7 +73,13 @@ impl Lines {
     /// The world that began with these lines.
     pub(crate) fn into_world(self, origin: Ledger) -> World
         requires { AreNamed origin.accounts self.contracts.items self.state.balances }
-        ensures { result ≡ record { origin = origin; starts = self.starts.items; contracts = self.contracts.items; firings = []; state = self.state } }
+        ensures { result ≡ record {
+          origin = origin;
+          starts = self.starts.items;
+          contracts = self.contracts.items;
+          firings = [];
+          state = self.state;
+        } }
     {
         let Lines {
             starts,

@@ -128,7 +128,9 @@ fn resolve_at(
 ) -> Result<Resolved, Stop>
     requires payer { payer < length lines.now.state.balances }
     requires declared { proc.0 < length accepted.now.program.procs }
-    ensures { Gives (λ r. r) result (and_then (declared_at accepted.now.program.procs start.now proc.0) (resolve_at accepted.now lines.now.contracts.items lines.now.state.balances start.now payer proc.0)) }
+    ensures { Gives (λ r. r) result
+        (and_then (declared_at accepted.now.program.procs start.now proc.0)
+        (resolve_at accepted.now lines.now.contracts.items lines.now.state.balances start.now payer proc.0)) }
 {
     check_arguments(alloc, accepted.program().proc(proc), start)?;
     check_name(alloc, lines.contracts.as_slice(), &start.contract)?;

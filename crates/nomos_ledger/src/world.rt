@@ -43,7 +43,13 @@ impl Model for World {
 
     ghost coded = { Prim.hlevel (codes, value_code) };
 
-    ghost view = { λ w. record { origin = w.origin; starts = w.starts; contracts = w.contracts.items; firings = w.firings; state = w.state } };
+    ghost view = { λ w. record {
+      origin = w.origin;
+      starts = w.starts;
+      contracts = w.contracts.items;
+      firings = w.firings;
+      state = w.state;
+    } };
 
     ghost invariant = { λ w. AreNamed w.origin.accounts w.contracts.items w.state.balances };
 }
@@ -72,7 +78,8 @@ fn pop_firing(alloc: Global, firings: &mut Firings)
 impl World {
     /// The lowest process over a number that is ready, or none where no process over it is ready.
     pub fn next_ready(&self, accepted: &Accepted, after: u32) -> Option<u32>
-        ensures { MatchOption result (NoneReady accepted.now self.now.state after) (IsNextReady accepted.now self.now.state after) }
+        ensures { MatchOption result (NoneReady accepted.now self.now.state after)
+            (IsNextReady accepted.now self.now.state after) }
     {
         self.state.next_ready(accepted, after)
     }
@@ -112,7 +119,8 @@ impl World {
     /// How a batch ends here that may make so many firings, faults apart, or none where it goes on.
     pub fn end(&self, accepted: &Accepted, limit: u32) -> Option<End>
         requires { WorldStandsFor accepted.now self.now }
-        ensures { MatchOption result (GoesOn accepted.now self.now.state (length self.now.firings) limit) (EndsAs accepted.now self.now.state (length self.now.firings) limit) }
+        ensures { MatchOption result (GoesOn accepted.now self.now.state (length self.now.firings) limit)
+            (EndsAs accepted.now self.now.state (length self.now.firings) limit) }
     {
         if !is_quiet(&self.state, accepted) {
             let made = self.firings.len();
@@ -133,7 +141,8 @@ impl World {
     /// the contracts and the state of the world, in which what was emitted is forgotten.
     pub fn commit(self) -> Ledger
         ensures committed { result ≡ committed self }
-        ensures stands { (a : Acceptance) (limit : ℕ) → WorldStandsFor a self → EndsAs a self.state (length self.firings) limit End.Committed → StandsFor a result }
+        ensures stands { (a : Acceptance) (limit : ℕ) → WorldStandsFor a self
+            → EndsAs a self.state (length self.firings) limit End.Committed → StandsFor a result }
     {
         let World {
             alloc,

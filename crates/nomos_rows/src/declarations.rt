@@ -27,7 +27,8 @@ fn gathered_rows(
     requires stars { stars ≤ 64 }
     requires forms { All (IsForm stars) gathered.forms.items }
     ensures stars { IfOk result (λ made. made.stars ≡ stars) }
-    ensures rows { IfOk result (λ made. AreRowsOf stars gathered.forms.items (gathered.pairs.items ++ equalities.amounts) made.rows) }
+    ensures rows { IfOk result (λ made.
+        AreRowsOf stars gathered.forms.items (gathered.pairs.items ++ equalities.amounts) made.rows) }
 {
     let Gathered { forms, mut pairs } = gathered;
     pairs.append(&mut equalities.into_amounts()?.into_vec())?;

@@ -21,7 +21,8 @@ fn is_same_kind(a: Kind, b: Kind) -> bool
 /// Whether the body of a function has the declared kind.
 fn has_its_kind(alloc: Global, program: &Program, function: &FnDecl) -> Result<bool, AllocError>
     requires { function.now.body.0 < length program.now.terms }
-    ensures { IfOk result (λ yes. IsTrue yes ↔ HasKind program.now function.now.pars function.now.body function.now.gives) }
+    ensures { IfOk result (λ yes. IsTrue yes
+        ↔ HasKind program.now function.now.pars function.now.body function.now.gives) }
 {
     match term_kind(alloc, program, function.body, &function.pars) {
         Ok(kind) => Ok(is_same_kind(kind, function.gives)),

@@ -82,8 +82,11 @@ pub(crate) fn first_stuck(
     requires no_forms { gathered.old.forms.items ≡ [] }
     requires no_pairs { gathered.old.pairs.items ≡ [] }
     ensures compared { HasCompared program.now equalities.new }
-    ensures tell { IfOk result (TellsBelow (ProcessFault program.now) (ProcessFine program.now) (length program.now.procs)) }
-    ensures gathers { IfOk result (IfNone (Gathers program.now (length program.now.procs) equalities.old equalities.new gathered.new.forms.items gathered.new.pairs.items)) }
+    ensures tell { IfOk result (TellsBelow (ProcessFault program.now) (ProcessFine program.now)
+        (length program.now.procs)) }
+    ensures gathers { IfOk result (IfNone
+        (Gathers program.now (length program.now.procs) equalities.old equalities.new gathered.new.forms.items
+        gathered.new.pairs.items)) }
     ensures small { OnOk result (All (IsForm (star_count program.now)) gathered.new.forms.items) }
 {
     let checker = Checker::new(alloc, program)?;

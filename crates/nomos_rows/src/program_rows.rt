@@ -57,11 +57,11 @@ fn find_rows(alloc: Global, program: &Program) -> Result<Result<RowList, RowsErr
     }
 }
 
-/// The rows of a program: what amounts have to meet for it to be typed under them, over all its stars (docs/LANGUAGE.md,
-/// "Rows of a program"). They are given exactly where each part of the program has a skeleton; then it is typed under
-/// exactly those amounts, over any unit, that meet the rows. Otherwise the error names what comes first: the first `up`
-/// that is not synchronizing, or else the first fault of a function or a process; and no amounts type the program. The
-/// ids of types are numbers below 2^32, so it asks for a program with fewer type nodes than that.
+/// The rows of a program: what amounts have to meet for it to be typed under them, over all its stars
+/// (docs/LANGUAGE.md, "Rows of a program"). They are given exactly where each part of the program has a skeleton; then
+/// it is typed under exactly those amounts, over any unit, that meet the rows. Otherwise the error names what comes
+/// first: the first `up` that is not synchronizing, or else the first fault of a function or a process; and no amounts
+/// type the program. The ids of types are numbers below 2^32, so it asks for a program with fewer type nodes than that.
 pub fn program_rows(alloc: Global, program: &Program) -> Result<RowList, RowsError>
     requires formed { IsWellFormed program.now }
     requires count { length program.now.types < 2 ^ 32 }

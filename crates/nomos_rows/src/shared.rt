@@ -60,7 +60,8 @@ pub(crate) fn first_astray(
     requires compared { HasCompared program.now equalities.old }
     ensures compared { HasCompared program.now equalities.new }
     ensures tell { IfOk result (TellsBelow (GoesAstray program.now) (GoesBack program.now) (length program.now.types)) }
-    ensures pairs { IfOk result (IfNone (PairsBelow program.now (length program.now.types) equalities.old equalities.new)) }
+    ensures pairs { IfOk result (IfNone
+        (PairsBelow program.now (length program.now.types) equalities.old equalities.new)) }
 {
     let count = program.lists().types.len() as u32;
     let mut first = None;

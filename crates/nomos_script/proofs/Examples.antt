@@ -7,7 +7,8 @@ use Rattle.nomos_script.specs.Lines.{lines_of}
 use Rattle.nomos_script.specs.Scan.{word, number, mark, piece_at, tokens_from, tokens_of}
 
 -- a line feed ends a line; a carriage return before it is dropped, and one at the very end stays
-pub ends_of_lines : lines_of (codes "a" ++ 13 ∷ 10 ∷ 13 ∷ 13 ∷ 10 ∷ 10 ∷ codes "b" ++ 13 ∷ []) ≡ codes "a" ∷ (13 ∷ []) ∷ [] ∷ (codes "b" ++ 13 ∷ []) ∷ []
+pub ends_of_lines : lines_of (codes "a" ++ 13 ∷ 10 ∷ 13 ∷ 13 ∷ 10 ∷ 10 ∷ codes "b" ++ 13 ∷ [])
+    ≡ codes "a" ∷ (13 ∷ []) ∷ [] ∷ (codes "b" ++ 13 ∷ []) ∷ []
 unfolding lines_of
 ends_of_lines = refl
 
@@ -22,7 +23,8 @@ unfolding lines_of
 empty_lines = refl
 
 -- a comment may follow a token at once, and holds any bytes
-pub comment_behind_number : tokens_of (codes "deposit u 007//" ++ 255 ∷ []) ≡ print_form (deposit (codes "u") (codes "007"))
+pub comment_behind_number : tokens_of (codes "deposit u 007//" ++ 255 ∷ [])
+    ≡ print_form (deposit (codes "u") (codes "007"))
 unfolding tokens_from piece_at
 comment_behind_number = refl
 
@@ -35,7 +37,8 @@ unfolding tokens_from piece_at
 comment_alone = refl
 
 -- a slash alone, a carriage return and a byte over 127 are tokens by themselves
-pub marks : tokens_of (codes "/ a" ++ 13 ∷ 200 ∷ []) ≡ mark (codes "/") ∷ word (codes "a") ∷ mark (13 ∷ []) ∷ mark (200 ∷ []) ∷ []
+pub marks : tokens_of (codes "/ a" ++ 13 ∷ 200 ∷ [])
+    ≡ mark (codes "/") ∷ word (codes "a") ∷ mark (13 ∷ []) ∷ mark (200 ∷ []) ∷ []
 unfolding tokens_from piece_at
 marks = refl
 
@@ -45,5 +48,6 @@ unfolding tokens_from piece_at
 number_and_word = refl
 
 -- lines are counted from 1, blank ones too
-pub items_of_lines : items_of 1 (deposit (codes "u") (codes "007") ∷ blank ∷ exec (codes "u") (codes "t") ∷ []) ≡ item.Deposit 1 (codes "u") 7 ∷ item.Batch (batch_of (exec_start 3 (codes "u") (codes "t"))) ∷ []
+pub items_of_lines : items_of 1 (deposit (codes "u") (codes "007") ∷ blank ∷ exec (codes "u") (codes "t") ∷ [])
+    ≡ item.Deposit 1 (codes "u") 7 ∷ item.Batch (batch_of (exec_start 3 (codes "u") (codes "t"))) ∷ []
 items_of_lines = refl

@@ -14,7 +14,8 @@ use Rattle.nomos_script.specs.Seen.{StandFor}
 use Rattle.nomos_script.proofs.LineLemmas.{lines_of-nil}
 
 -- one more line has one more form
-LinesReadAs-push : (lines : List (List ℕ)) (forms : List Form) (line : List ℕ) (form : Form) → LinesReadAs lines forms → LineReadsAs line form → LinesReadAs (lines ++ line ∷ []) (forms ++ form ∷ [])
+LinesReadAs-push : (lines : List (List ℕ)) (forms : List Form) (line : List ℕ) (form : Form) → LinesReadAs lines forms
+    → LineReadsAs line form → LinesReadAs (lines ++ line ∷ []) (forms ++ form ∷ [])
 LinesReadAs-push [] [] line form h k = (k, tt)
 LinesReadAs-push [] (f ∷ forms) line form h k = absurd h
 LinesReadAs-push (l ∷ lines) [] line form h k = absurd h
@@ -34,7 +35,8 @@ LinesReadAs-all (l ∷ lines) [] h = absurd h
 LinesReadAs-all (l ∷ lines) (f ∷ forms) h = All-cons HasForm l lines (f, h.0) (LinesReadAs-all lines forms h.1)
 
 -- one more form stands for its item
-items_of-push : (line : ℕ) (forms : List Form) (form : Form) → items_of line (forms ++ form ∷ []) ≡ items_of line forms ++ option_to_list (item_of (line + length forms) form)
+items_of-push : (line : ℕ) (forms : List Form) (form : Form)
+    → items_of line (forms ++ form ∷ []) ≡ items_of line forms ++ option_to_list (item_of (line + length forms) form)
 items_of-push line [] form = let here : line + 0 ≡ line = omega arith in rw (here, append-nil) refl
 items_of-push line (f ∷ forms) form =
     let there : (line + 1) + length forms ≡ line + length (f ∷ forms) = omega arith in
@@ -56,7 +58,9 @@ ReadSoFar-none text =
     record { before = []; forms = []; split = refl; read = tt; numbered = refl; stand_for = refl; room = omega arith }
 
 -- one more line was read
-pub ReadSoFar-line : (text rest line after : List ℕ) (number : ℕ) (items : List ScriptItem) (item : Option ScriptItem) → ReadSoFar text rest number items → lines_of rest ≡ line ∷ lines_of after → length after < length rest → StandFor number (tokens_of line) item → ReadSoFar text after (number + 1) (items ++ option_to_list item)
+pub ReadSoFar-line : (text rest line after : List ℕ) (number : ℕ) (items : List ScriptItem) (item : Option ScriptItem)
+    → ReadSoFar text rest number items → lines_of rest ≡ line ∷ lines_of after → length after < length rest
+    → StandFor number (tokens_of line) item → ReadSoFar text after (number + 1) (items ++ option_to_list item)
 ReadSoFar-line text rest line after number items item s split shorter (form, reads, is) =
     let place : 1 + length s.forms ≡ number = omega (arith, LinesReadAs-length s.before s.forms s.read, s.numbered) in
     let more : items_of 1 (s.forms ++ form ∷ []) ≡ items ++ option_to_list item =
@@ -72,14 +76,17 @@ ReadSoFar-line text rest line after number items item s split shorter (form, rea
     }
 
 -- all lines were read
-pub ReadSoFar-all : (text rest : List ℕ) (number : ℕ) (items : List ScriptItem) → length text ≤ text_limit → length rest == 0 ≡ true → ReadSoFar text rest number items → ReadsAs text items
+pub ReadSoFar-all : (text rest : List ℕ) (number : ℕ) (items : List ScriptItem) → length text ≤ text_limit
+    → length rest == 0 ≡ true → ReadSoFar text rest number items → ReadsAs text items
 ReadSoFar-all text [] number items limit done s =
     let whole : lines_of text ≡ s.before = rw (lines_of-nil, append-nil) at s.split in
     record { limit = limit; forms = s.forms; lines = rw whole s.read; stand_for = s.stand_for }
 ReadSoFar-all text (b ∷ rest) number items limit done s = absurd (omega (arith, eqb-true (length (b ∷ rest)) 0 done))
 
 -- the next line has no form
-pub ReadSoFar-bad : (text rest line after : List ℕ) (number : ℕ) (items : List ScriptItem) → length text ≤ text_limit → ReadSoFar text rest number items → lines_of rest ≡ line ∷ lines_of after → ¬ HasForm line → IsFirstBad text number line
+pub ReadSoFar-bad : (text rest line after : List ℕ) (number : ℕ) (items : List ScriptItem) → length text ≤ text_limit
+    → ReadSoFar text rest number items → lines_of rest ≡ line ∷ lines_of after → ¬ HasForm line
+    → IsFirstBad text number line
 ReadSoFar-bad text rest line after number items limit s split bad = record {
   limit = limit;
   before = s.before;

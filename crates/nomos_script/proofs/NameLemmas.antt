@@ -15,9 +15,11 @@ word_byte_below b h = grind (arith, nat_tests)
 
 pub name_is_text : (bytes : List ℕ) → IsScriptName bytes → IsUtf8 bytes
 name_is_text bytes name =
-    IsUtf8-from_ascii bytes (IsAscii-from_all bytes (All-weaker (λ b. IsTrue (is_word_byte b)) (λ b. b < 128) word_byte_below bytes name.word.each))
+    IsUtf8-from_ascii bytes (IsAscii-from_all bytes
+    (All-weaker (λ b. IsTrue (is_word_byte b)) (λ b. b < 128) word_byte_below bytes name.word.each))
 
 -- what fails only where the bytes are no text succeeds where they are
-pub text_is_read : {T E : Type 0} (U : Type 0) (P : T → Type 0) (Q : E → Type 0) (r : Result T E) → MatchResult r P (λ e. ¬ U × Q e) → U → IsOk r
+pub text_is_read : {T E : Type 0} (U : Type 0) (P : T → Type 0) (Q : E → Type 0) (r : Result T E)
+    → MatchResult r P (λ e. ¬ U × Q e) → U → IsOk r
 text_is_read U P Q (Ok x) h text = refl
 text_is_read U P Q (Err e) h text = absurd (h.0 text)

@@ -11,13 +11,17 @@ use Rattle.nomos_script.specs.Reading.{LinesReadAs, ReadsAs, IsFirstBad, IsSynta
 use Rattle.nomos_script.specs.Scan.{tokens_of}
 
 -- what is answered to the first line without a form says its cause
-pub syntax_found : (text line : List ℕ) (number k : ℕ) (answer : ScriptError) → IsFirstBad text number line → (begins : Bool) → begins_unbuilt (tokens_of line) ≡ begins → answer ≡ cond begins (error.NotYet number) (error.Syntax number) → answer ≡ error.Syntax k → IsSyntaxAt text k
+pub syntax_found : (text line : List ℕ) (number k : ℕ) (answer : ScriptError) → IsFirstBad text number line
+    → (begins : Bool) → begins_unbuilt (tokens_of line) ≡ begins
+    → answer ≡ cond begins (error.NotYet number) (error.Syntax number) → answer ≡ error.Syntax k → IsSyntaxAt text k
 syntax_found text line number k answer first true is chosen wanted = absurd (cc)
 syntax_found text line number k answer first false is chosen wanted =
     let here : number ≡ k = cc in
     (line, rw (← here) first, is)
 
-pub not_yet_found : (text line : List ℕ) (number k : ℕ) (answer : ScriptError) → IsFirstBad text number line → (begins : Bool) → begins_unbuilt (tokens_of line) ≡ begins → answer ≡ cond begins (error.NotYet number) (error.Syntax number) → answer ≡ error.NotYet k → IsNotYetAt text k
+pub not_yet_found : (text line : List ℕ) (number k : ℕ) (answer : ScriptError) → IsFirstBad text number line
+    → (begins : Bool) → begins_unbuilt (tokens_of line) ≡ begins
+    → answer ≡ cond begins (error.NotYet number) (error.Syntax number) → answer ≡ error.NotYet k → IsNotYetAt text k
 not_yet_found text line number k answer first true is chosen wanted =
     let here : number ≡ k = cc in
     (line, rw (← here) first, is)
@@ -48,24 +52,29 @@ forms_once (l ∷ lines) (f ∷ fs) (g ∷ gs) h k =
     cc
 
 -- a text reads as one list of items at most
-pub reads_once : (text : List ℕ) (items others : List ScriptItem) → ReadsAs text items → ReadsAs text others → items ≡ others
+pub reads_once : (text : List ℕ) (items others : List ScriptItem) → ReadsAs text items → ReadsAs text others
+    → items ≡ others
 reads_once text items others h k =
     sym h.stand_for ∙ ap (items_of 1) (forms_once (lines_of text) h.forms k.forms h.lines k.lines) ∙ k.stand_for
 
 -- a line without a form is not among lines that have forms
-bad_among : (before after : List (List ℕ)) (line : List ℕ) (forms : List Form) → LinesReadAs (before ++ line ∷ after) forms → HasForm line
+bad_among : (before after : List (List ℕ)) (line : List ℕ) (forms : List Form)
+    → LinesReadAs (before ++ line ∷ after) forms → HasForm line
 bad_among [] after line [] h = absurd h
 bad_among [] after line (f ∷ forms) h = (f, h.0)
 bad_among (l ∷ before) after line [] h = absurd h
 bad_among (l ∷ before) after line (f ∷ forms) h = bad_among before after line forms h.1
 
 -- a text that reads has no line without a form
-pub reads_without_bad : (text line : List ℕ) (k : ℕ) (items : List ScriptItem) → ReadsAs text items → ¬ IsFirstBad text k line
+pub reads_without_bad : (text line : List ℕ) (k : ℕ) (items : List ScriptItem) → ReadsAs text items
+    → ¬ IsFirstBad text k line
 reads_without_bad text line k items h = λ bad.
     bad.bad (bad_among bad.before bad.after line h.forms (rw bad.split at h.lines))
 
 -- two places that split lines at the first one without a form are one
-split_once : (fore front back behind : List (List ℕ)) (line other : List ℕ) → fore ++ line ∷ back ≡ front ++ other ∷ behind → All HasForm fore → All HasForm front → ¬ HasForm line → ¬ HasForm other → (length fore ≡ length front) × (line ≡ other)
+split_once : (fore front back behind : List (List ℕ)) (line other : List ℕ)
+    → fore ++ line ∷ back ≡ front ++ other ∷ behind → All HasForm fore → All HasForm front → ¬ HasForm line
+    → ¬ HasForm other → (length fore ≡ length front) × (line ≡ other)
 split_once [] [] back behind line other same h k bad worse = (refl, cc)
 split_once [] (l ∷ front) back behind line other same h k bad worse =
     let here : l ≡ line = cc in
@@ -75,13 +84,16 @@ split_once (l ∷ fore) [] back behind line other same h k bad worse =
     absurd (worse (rw here at (All-head HasForm l fore h)))
 split_once (l ∷ fore) (m ∷ front) back behind line other same h k bad worse =
     let rest : fore ++ line ∷ back ≡ front ++ other ∷ behind = cc in
-    let both = split_once fore front back behind line other rest (All-tail HasForm l fore h) (All-tail HasForm m front k) bad worse in
+    let both = split_once fore front back behind line other rest (All-tail HasForm l fore h)
+    (All-tail HasForm m front k) bad worse in
     (omega (arith, both.0), both.1)
 
 -- a text has one first line without a form at most
-first_bad_once : (text line other : List ℕ) (k j : ℕ) → IsFirstBad text k line → IsFirstBad text j other → (k ≡ j) × (line ≡ other)
+first_bad_once : (text line other : List ℕ) (k j : ℕ) → IsFirstBad text k line → IsFirstBad text j other
+    → (k ≡ j) × (line ≡ other)
 first_bad_once text line other k j h g =
-    let both = split_once h.before g.before h.after g.after line other (sym h.split ∙ g.split) h.have_forms g.have_forms h.bad g.bad in
+    let both = split_once h.before g.before h.after g.after line other (sym h.split ∙ g.split) h.have_forms g.have_forms
+    h.bad g.bad in
     (omega (arith, h.numbered, g.numbered, both.0), both.1)
 
 -- the causes exclude one another
@@ -105,13 +117,15 @@ pub record SaysCause (text : List ℕ) (e : ScriptError) : Type 0 where
   pub not_yet : (k : ℕ) → e ≡ error.NotYet k → IsNotYetAt text k
 
 -- so the error is that of the text's cause, or memory ran out
-pub syntax_answered : (text : List ℕ) (k : ℕ) (e : ScriptError) → SaysCause text e → IsSyntaxAt text k → (e ≡ error.Syntax k) ⊎ (e ≡ error.NoMemory)
+pub syntax_answered : (text : List ℕ) (k : ℕ) (e : ScriptError) → SaysCause text e → IsSyntaxAt text k
+    → (e ≡ error.Syntax k) ⊎ (e ≡ error.NoMemory)
 syntax_answered text k error.TooLong says h = absurd (says.fits refl)
 syntax_answered text k (error.Syntax j) says h = inl (ap error.Syntax (syntax_once text j k (says.syntax j refl) h))
 syntax_answered text k (error.NotYet j) says h = absurd (syntax_or_not_yet text k j h (says.not_yet j refl))
 syntax_answered text k error.NoMemory says h = inr refl
 
-pub not_yet_answered : (text : List ℕ) (k : ℕ) (e : ScriptError) → SaysCause text e → IsNotYetAt text k → (e ≡ error.NotYet k) ⊎ (e ≡ error.NoMemory)
+pub not_yet_answered : (text : List ℕ) (k : ℕ) (e : ScriptError) → SaysCause text e → IsNotYetAt text k
+    → (e ≡ error.NotYet k) ⊎ (e ≡ error.NoMemory)
 not_yet_answered text k error.TooLong says h = absurd (says.fits refl)
 not_yet_answered text k (error.Syntax j) says h = absurd (syntax_or_not_yet text j k (says.syntax j refl) h)
 not_yet_answered text k (error.NotYet j) says h = inl (ap error.NotYet (not_yet_once text j k (says.not_yet j refl) h))

@@ -24,7 +24,8 @@ unfolding tokens_from
 tokens_of-nil = refl
 
 -- the tokens are that of the first piece, if it is one, and those behind the piece
-tokens_of-piece : (b : ℕ) (bytes : List ℕ) → tokens_of (b ∷ bytes) ≡ option_to_list (piece_at b bytes).token ++ tokens_of (drop (piece_at b bytes).more bytes)
+tokens_of-piece : (b : ℕ) (bytes : List ℕ)
+    → tokens_of (b ∷ bytes) ≡ option_to_list (piece_at b bytes).token ++ tokens_of (drop (piece_at b bytes).more bytes)
 unfolding tokens_from
 tokens_of-piece b bytes =
     ap (λ tokens. option_to_list (piece_at b bytes).token ++ tokens) (tokens_from-inside (piece_at b bytes).more bytes)
@@ -38,56 +39,79 @@ pub tokens_of-blank : (b : ℕ) (bytes : List ℕ) → is_blank b ≡ true → t
 tokens_of-blank b bytes blank = tokens_of-piece b bytes ∙ rw (piece_at-blank b bytes blank) refl
 
 -- with a comment
-pub piece_at-comment : (b : ℕ) (bytes : List ℕ) → is_blank b ≡ false → begins_comment b bytes ≡ true → piece_at b bytes ≡ record { token = None; more = length bytes }
+pub piece_at-comment : (b : ℕ) (bytes : List ℕ) → is_blank b ≡ false → begins_comment b bytes ≡ true
+    → piece_at b bytes ≡ record { token = None; more = length bytes }
 unfolding piece_at
 piece_at-comment b bytes solid comment = rw (solid, comment)
 
-pub tokens_of-comment : (b : ℕ) (bytes : List ℕ) → is_blank b ≡ false → begins_comment b bytes ≡ true → tokens_of (b ∷ bytes) ≡ []
+pub tokens_of-comment : (b : ℕ) (bytes : List ℕ) → is_blank b ≡ false → begins_comment b bytes ≡ true
+    → tokens_of (b ∷ bytes) ≡ []
 tokens_of-comment b bytes solid comment =
-    tokens_of-piece b bytes ∙ rw (piece_at-comment b bytes solid comment, drop_all (length bytes) bytes (omega arith)) tokens_of-nil
+    tokens_of-piece b bytes ∙ rw (piece_at-comment b bytes solid comment, drop_all (length bytes) bytes (omega arith))
+    tokens_of-nil
 
 -- with a word
-pub piece_at-word : (b : ℕ) (bytes : List ℕ) → is_blank b ≡ false → begins_comment b bytes ≡ false → is_letter b ≡ true → piece_at b bytes ≡ record { token = Some (word (b ∷ take (prefix_len is_word_byte bytes) bytes)); more = prefix_len is_word_byte bytes }
+pub piece_at-word : (b : ℕ) (bytes : List ℕ) → is_blank b ≡ false → begins_comment b bytes ≡ false → is_letter b ≡ true
+    → piece_at b bytes ≡ record {
+      token = Some (word (b ∷ take (prefix_len is_word_byte bytes) bytes));
+      more = prefix_len is_word_byte bytes;
+    }
 unfolding piece_at
 piece_at-word b bytes solid code letter = rw (solid, code, letter)
 
-pub tokens_of-word : (b : ℕ) (bytes : List ℕ) → is_blank b ≡ false → begins_comment b bytes ≡ false → is_letter b ≡ true → tokens_of (b ∷ bytes) ≡ word (b ∷ take (prefix_len is_word_byte bytes) bytes) ∷ tokens_of (drop (prefix_len is_word_byte bytes) bytes)
+pub tokens_of-word : (b : ℕ) (bytes : List ℕ) → is_blank b ≡ false → begins_comment b bytes ≡ false → is_letter b ≡ true
+    → tokens_of (b ∷ bytes) ≡ word (b ∷ take (prefix_len is_word_byte bytes) bytes) ∷
+    tokens_of (drop (prefix_len is_word_byte bytes) bytes)
 tokens_of-word b bytes solid code letter =
     tokens_of-piece b bytes ∙ rw (piece_at-word b bytes solid code letter) refl
 
 -- with a number
-pub piece_at-number : (b : ℕ) (bytes : List ℕ) → is_blank b ≡ false → begins_comment b bytes ≡ false → is_letter b ≡ false → is_digit b ≡ true → piece_at b bytes ≡ record { token = Some (number (b ∷ take (prefix_len is_digit bytes) bytes)); more = prefix_len is_digit bytes }
+pub piece_at-number : (b : ℕ) (bytes : List ℕ) → is_blank b ≡ false → begins_comment b bytes ≡ false
+    → is_letter b ≡ false → is_digit b ≡ true
+    → piece_at b bytes ≡ record {
+      token = Some (number (b ∷ take (prefix_len is_digit bytes) bytes));
+      more = prefix_len is_digit bytes;
+    }
 unfolding piece_at
 piece_at-number b bytes solid code other digit = rw (solid, code, other, digit)
 
-pub tokens_of-number : (b : ℕ) (bytes : List ℕ) → is_blank b ≡ false → begins_comment b bytes ≡ false → is_letter b ≡ false → is_digit b ≡ true → tokens_of (b ∷ bytes) ≡ number (b ∷ take (prefix_len is_digit bytes) bytes) ∷ tokens_of (drop (prefix_len is_digit bytes) bytes)
+pub tokens_of-number : (b : ℕ) (bytes : List ℕ) → is_blank b ≡ false → begins_comment b bytes ≡ false
+    → is_letter b ≡ false → is_digit b ≡ true
+    → tokens_of (b ∷ bytes) ≡ number (b ∷ take (prefix_len is_digit bytes) bytes) ∷
+    tokens_of (drop (prefix_len is_digit bytes) bytes)
 tokens_of-number b bytes solid code other digit =
     tokens_of-piece b bytes ∙ rw (piece_at-number b bytes solid code other digit) refl
 
 -- with any other byte
-pub piece_at-mark : (b : ℕ) (bytes : List ℕ) → is_blank b ≡ false → begins_comment b bytes ≡ false → is_letter b ≡ false → is_digit b ≡ false → piece_at b bytes ≡ record { token = Some (mark (b ∷ [])); more = 0 }
+pub piece_at-mark : (b : ℕ) (bytes : List ℕ) → is_blank b ≡ false → begins_comment b bytes ≡ false → is_letter b ≡ false
+    → is_digit b ≡ false → piece_at b bytes ≡ record { token = Some (mark (b ∷ [])); more = 0 }
 unfolding piece_at
 piece_at-mark b bytes solid code other rest = rw (solid, code, other, rest)
 
-pub tokens_of-mark : (b : ℕ) (bytes : List ℕ) → is_blank b ≡ false → begins_comment b bytes ≡ false → is_letter b ≡ false → is_digit b ≡ false → tokens_of (b ∷ bytes) ≡ mark (b ∷ []) ∷ tokens_of bytes
+pub tokens_of-mark : (b : ℕ) (bytes : List ℕ) → is_blank b ≡ false → begins_comment b bytes ≡ false
+    → is_letter b ≡ false → is_digit b ≡ false → tokens_of (b ∷ bytes) ≡ mark (b ∷ []) ∷ tokens_of bytes
 tokens_of-mark b bytes solid code other rest =
     tokens_of-piece b bytes ∙ rw (piece_at-mark b bytes solid code other rest) refl
 
 -- blanks in front change nothing
 pub tokens_of-blanks : (bytes : List ℕ) → tokens_of (drop (prefix_len is_blank bytes) bytes) ≡ tokens_of bytes
 tokens_of-blanks [] = refl
-tokens_of-blanks (b ∷ bytes) = let more : 1 + prefix_len is_blank bytes ≡ suc (prefix_len is_blank bytes) = omega arith in elim (cases_Bool (is_blank b)) [
-  | inl blank ↦ rw (blank, more, tokens_of-blank b bytes blank) (tokens_of-blanks bytes)
-  | inr solid ↦ rw solid refl
-]
+tokens_of-blanks (b ∷ bytes) =
+    let more : 1 + prefix_len is_blank bytes ≡ suc (prefix_len is_blank bytes) = omega arith in
+    elim (cases_Bool (is_blank b)) [
+      | inl blank ↦ rw (blank, more, tokens_of-blank b bytes blank) (tokens_of-blanks bytes)
+      | inr solid ↦ rw solid refl
+    ]
 
 -- behind the blanks in front stands none
 pub solid_behind : (bytes : List ℕ) → is_blank (slice_index (drop (prefix_len is_blank bytes) bytes) 0) ≡ false
 solid_behind [] = refl
-solid_behind (b ∷ bytes) = let more : 1 + prefix_len is_blank bytes ≡ suc (prefix_len is_blank bytes) = omega arith in elim (cases_Bool (is_blank b)) [
-  | inl blank ↦ rw (blank, more) (solid_behind bytes)
-  | inr solid ↦ rw solid solid
-]
+solid_behind (b ∷ bytes) =
+    let more : 1 + prefix_len is_blank bytes ≡ suc (prefix_len is_blank bytes) = omega arith in
+    elim (cases_Bool (is_blank b)) [
+      | inl blank ↦ rw (blank, more) (solid_behind bytes)
+      | inr solid ↦ rw solid solid
+    ]
 
 digit_below_ten : (b : ℕ) → is_digit b ≡ true → digit_value b < 10
 digit_below_ten b digit =
@@ -97,13 +121,16 @@ digit_below_ten b digit =
 -- the digits in front are digits
 front_digits : (bytes : List ℕ) → AllDigits 10 (take (prefix_len is_digit bytes) bytes)
 front_digits [] = tt
-front_digits (b ∷ bytes) = let more : 1 + prefix_len is_digit bytes ≡ suc (prefix_len is_digit bytes) = omega arith in elim (cases_Bool (is_digit b)) [
-  | inl digit ↦ rw (digit, more) (digit_below_ten b digit, front_digits bytes)
-  | inr stops ↦ rw stops tt
-]
+front_digits (b ∷ bytes) =
+    let more : 1 + prefix_len is_digit bytes ≡ suc (prefix_len is_digit bytes) = omega arith in
+    elim (cases_Bool (is_digit b)) [
+      | inl digit ↦ rw (digit, more) (digit_below_ten b digit, front_digits bytes)
+      | inr stops ↦ rw stops tt
+    ]
 
 -- a digit and the digits after it are a numeral
-pub digits_are_numeral : (b : ℕ) (bytes : List ℕ) → is_digit b ≡ true → IsNumeral 10 (b ∷ take (prefix_len is_digit bytes) bytes)
+pub digits_are_numeral : (b : ℕ) (bytes : List ℕ) → is_digit b ≡ true
+    → IsNumeral 10 (b ∷ take (prefix_len is_digit bytes) bytes)
 digits_are_numeral b bytes digit = (omega arith, (digit_below_ten b digit, front_digits bytes))
 
 -- without bytes there are no tokens
@@ -112,7 +139,8 @@ tokens_of-empty [] none = tokens_of-nil
 tokens_of-empty (b ∷ bytes) none = absurd (omega (arith, none))
 
 -- a comment is all that is left
-pub comment_is_last : (text : List ℕ) → 1 ≤ length text → is_blank (slice_index text 0) ≡ false → begins_comment (slice_index text 0) (take (length text - 1) (drop 1 text)) ≡ true → tokens_of text ≡ []
+pub comment_is_last : (text : List ℕ) → 1 ≤ length text → is_blank (slice_index text 0) ≡ false
+    → begins_comment (slice_index text 0) (take (length text - 1) (drop 1 text)) ≡ true → tokens_of text ≡ []
 comment_is_last [] some solid comment = absurd (omega (arith, some))
 comment_is_last (b ∷ bytes) some solid comment =
     let code : begins_comment b bytes ≡ true = rw (take_rest (b ∷ bytes) 1) at comment in

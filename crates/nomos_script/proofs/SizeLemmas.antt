@@ -33,7 +33,8 @@ lines_total (b ∷ bytes) = let rest = lines_total bytes in elim (cases_Bool (b 
   | inl feed ↦ rw feed (omega (arith, rest))
   | inr other ↦ elim (cases_Bool (b == 13 && begins_with_feed bytes)) [
     | inl return ↦ rw (other, return) (omega (arith, rest))
-    | inr byte ↦ rw (other, byte) (omega (arith, put_byte-total b (length bytes + 1) (lines_of bytes) (omega arith) rest))
+    | inr byte ↦ rw (other, byte) (omega
+        (arith, put_byte-total b (length bytes + 1) (lines_of bytes) (omega arith) rest))
   ]
 ]
 
@@ -57,17 +58,24 @@ piece_fits b bytes = elim (cases_Bool (is_blank b)) [
     | inl comment ↦ rw (piece_at-comment b bytes solid comment) (record { within = omega arith; token = omega arith })
     | inr code ↦ elim (cases_Bool (is_letter b)) [
       | inl letter ↦
-          rw (piece_at-word b bytes solid code letter) (record { within = prefix_len-le-length is_word_byte bytes; token = omega (arith, length-prefix_len is_word_byte bytes) })
+          rw (piece_at-word b bytes solid code letter)
+          (record {
+            within = prefix_len-le-length is_word_byte bytes;
+            token = omega (arith, length-prefix_len is_word_byte bytes);
+          })
       | inr other ↦ elim (cases_Bool (is_digit b)) [
         | inl digit ↦
-            rw (piece_at-number b bytes solid code other digit) (record { within = prefix_len-le-length is_digit bytes; token = omega arith })
-        | inr rest ↦ rw (piece_at-mark b bytes solid code other rest) (record { within = omega arith; token = omega arith })
+            rw (piece_at-number b bytes solid code other digit)
+            (record { within = prefix_len-le-length is_digit bytes; token = omega arith })
+        | inr rest ↦ rw (piece_at-mark b bytes solid code other rest)
+            (record { within = omega arith; token = omega arith })
       ]
     ]
   ]
 ]
 
-width-token : (token : Option Token) (tokens : List Token) → width (option_to_list token ++ tokens) ≡ width (option_to_list token) + width tokens
+width-token : (token : Option Token) (tokens : List Token)
+    → width (option_to_list token ++ tokens) ≡ width (option_to_list token) + width tokens
 unfolding width
 width-token None tokens = omega arith
 width-token (Some (word text)) tokens = omega arith
@@ -75,10 +83,12 @@ width-token (Some (number digits)) tokens = omega arith
 width-token (Some (mark text)) tokens = omega arith
 
 -- the tokens take no more than their line
-tokens_width : (inside : ℕ) (bytes : List ℕ) → inside ≤ length bytes → width (tokens_from inside bytes) + inside ≤ length bytes
+tokens_width : (inside : ℕ) (bytes : List ℕ) → inside ≤ length bytes
+    → width (tokens_from inside bytes) + inside ≤ length bytes
 unfolding width tokens_from
 tokens_width inside [] within = omega (arith, within)
-tokens_width (suc inside) (b ∷ bytes) within = let rest = tokens_width inside bytes (omega (arith, within)) in omega (arith, rest)
+tokens_width (suc inside) (b ∷ bytes) within =
+    let rest = tokens_width inside bytes (omega (arith, within)) in omega (arith, rest)
 tokens_width zero (b ∷ bytes) within =
     let piece = piece_at b bytes in
     let fits = piece_fits b bytes in
@@ -86,7 +96,8 @@ tokens_width zero (b ∷ bytes) within =
     omega (arith, width-token piece.token (tokens_from piece.more bytes), rest, fits.token)
 
 -- a line with an item has nine bytes at least
-lines_width : (line : ℕ) (lines : List (List ℕ)) (forms : List Form) → LinesReadAs lines forms → (10 * entry_count (items_of line forms) ≤ total lines) × (10 * start_count (items_of line forms) ≤ total lines)
+lines_width : (line : ℕ) (lines : List (List ℕ)) (forms : List Form) → LinesReadAs lines forms
+    → (10 * entry_count (items_of line forms) ≤ total lines) × (10 * start_count (items_of line forms) ≤ total lines)
 unfolding width total
 lines_width line [] [] h = (omega arith, omega arith)
 lines_width line [] (f ∷ forms) h = absurd h
@@ -100,12 +111,17 @@ lines_width line (l ∷ lines) (deposit name digits ∷ forms) h =
     (omega (arith, rest.0, room, h.0.valid.0.word.first.0), omega (arith, rest.1))
 lines_width line (l ∷ lines) (exec sender proc ∷ forms) h =
     let rest = lines_width (line + 1) lines forms h.1 in
-    let room = rw h.0.printed at (tokens_width 0 l (omega arith)) in
-    (omega (arith, rest.0, room, h.0.valid.0.word.first.0, h.0.valid.1.word.first.0), omega (arith, rest.1, room, h.0.valid.0.word.first.0, h.0.valid.1.word.first.0))
+    let room = rw h.0.printed at (tokens_width 0 l (omega arith)) in (
+      omega (arith, rest.0, room, h.0.valid.0.word.first.0, h.0.valid.1.word.first.0),
+      omega (arith, rest.1, room, h.0.valid.0.word.first.0, h.0.valid.1.word.first.0),
+    )
 
 -- a text that reads holds no more than a script may
 pub reads_within_size : (text : List ℕ) (items : List ScriptItem) → ReadsAs text items → IsScriptSize items
 reads_within_size text items h =
     let both = lines_width 1 (lines_of text) h.forms h.lines in
     let bytes = lines_total text in
-    rw (← h.stand_for) (record { entries = omega (arith, both.0, bytes, h.limit); starts = omega (arith, both.1, bytes, h.limit) })
+    rw (← h.stand_for) (record {
+      entries = omega (arith, both.0, bytes, h.limit);
+      starts = omega (arith, both.1, bytes, h.limit);
+    })

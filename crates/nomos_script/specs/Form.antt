@@ -14,7 +14,8 @@ pub data Form : Type 0 where
 abbrev pub print_form : Form → List Token
 print_form blank = []
 print_form (deposit name digits) = word (codes "deposit") ∷ word name ∷ number digits ∷ []
-print_form (exec sender proc) = word (codes "exec") ∷ word sender ∷ word proc ∷ mark (codes "(") ∷ mark (codes ";") ∷ mark (codes ")") ∷ []
+print_form (exec sender proc) =
+    word (codes "exec") ∷ word sender ∷ word proc ∷ mark (codes "(") ∷ mark (codes ";") ∷ mark (codes ")") ∷ []
 
 -- the units that digits write in decimal
 abbrev pub units_of : List ℕ → ℕ

@@ -40,7 +40,8 @@ pub record IsFirstBad (text : List ℕ) (k : ℕ) (line : List ℕ) : Type 0 whe
 -- the words that begin the lines which are not built yet, or are built in one form only
 abbrev pub is_unbuilt_word : List ℕ → Bool
 is_unbuilt_word text =
-    bytes_eq text (codes "let") || bytes_eq text (codes "begin") || bytes_eq text (codes "end") || bytes_eq text (codes "show") || bytes_eq text (codes "exec")
+    bytes_eq text (codes "let") || bytes_eq text (codes "begin") || bytes_eq text (codes "end")
+    || bytes_eq text (codes "show") || bytes_eq text (codes "exec")
 
 -- the first token is one of these words
 abbrev pub begins_unbuilt : List Token → Bool

@@ -33,7 +33,8 @@ BeginsWithName tokens = (text : List ℕ) × (rest : List Token) × (tokens ≡ 
 
 -- the units of a deposit stand next, before the rest
 abbrev pub BeginsWithUnits : ℕ → List Token → List Token → Type 0
-BeginsWithUnits n tokens rest = (digits : List ℕ) × (tokens ≡ number digits ∷ rest) × (n ≡ units_of digits) × (n ≤ max_units)
+BeginsWithUnits n tokens rest =
+    (digits : List ℕ) × (tokens ≡ number digits ∷ rest) × (n ≡ units_of digits) × (n ≤ max_units)
 
 -- the tokens of a line with this number stand for the item, or for nothing
 abbrev pub StandFor : ℕ → List Token → Option ScriptItem → Type 0

@@ -25,7 +25,8 @@ fn name_of(alloc: Global, text: &[u8]) -> Result<ScriptName, AllocError>
 /// Reads what stands behind the word `deposit`.
 fn read_deposit(alloc: Global, number: u32, tokens: &mut Tokens<'_>) -> Result<ScriptItem, Stop>
     ensures read { IfOk result (λ item. StandFor number (word (codes "deposit") ∷ tokens.old) (Some item)) }
-    ensures none { IsErrOf result Stop.NoForm → (form : Form) → ¬ TokensReadAs (word (codes "deposit") ∷ tokens.old) form }
+    ensures none { IsErrOf result Stop.NoForm → (form : Form)
+        → ¬ TokensReadAs (word (codes "deposit") ∷ tokens.old) form }
 {
     let name = tokens.name()?;
     let units = tokens.units()?;

@@ -45,7 +45,8 @@ impl<T: Drop> From<AllocFailed<T>> for ScriptError {
 
 /// What is answered to a line without a form.
 fn bad_line(number: u32, line: &[u8]) -> ScriptError
-    ensures { result ≡ (if begins_unbuilt (tokens_of line.now) then ScriptError.NotYet number else ScriptError.Syntax number) }
+    ensures { result ≡ (if begins_unbuilt (tokens_of line.now) then ScriptError.NotYet number else ScriptError.Syntax
+        number) }
 {
     if begins_unbuilt(line) {
         ScriptError::NotYet(number)

@@ -84,7 +84,8 @@ fn after_blanks(line: &[u8]) -> &[u8]
 
 /// The first token of a line, and what comes after it.
 fn split_token(line: &[u8]) -> (Option<Token<'_>>, &[u8])
-    ensures next { MatchOption result.0 ((tokens_of line.now ≡ []) × (tokens_of result.1.now ≡ [])) (λ t. tokens_of line.now ≡ token_seen t ∷ tokens_of result.1.now) }
+    ensures next { MatchOption result.0 ((tokens_of line.now ≡ []) × (tokens_of result.1.now ≡ []))
+        (λ t. tokens_of line.now ≡ token_seen t ∷ tokens_of result.1.now) }
     ensures digits { IfSome result.0 HasDigits }
 {
     let text = after_blanks(line);
@@ -122,7 +123,8 @@ impl<'a> Tokens<'a> {
 
     /// The next token, which is taken.
     pub(crate) fn next(&mut self) -> Option<Token<'a>>
-        ensures next { MatchOption result ((self.old ≡ []) × (self.new ≡ [])) (λ t. self.old ≡ token_seen t ∷ self.new) }
+        ensures next { MatchOption result ((self.old ≡ []) × (self.new ≡ []))
+            (λ t. self.old ≡ token_seen t ∷ self.new) }
         ensures digits { IfSome result HasDigits }
     {
         let (token, left) = split_token(self.left);
@@ -155,7 +157,8 @@ impl<'a> Tokens<'a> {
     /// Takes the tokens `(`, `;` and `)`, which have to be the last.
     pub(crate) fn no_arguments(&mut self) -> Result<(), Stop>
         ensures marks { OnOk result (self.old ≡ mark (codes "(") ∷ mark (codes ";") ∷ mark (codes ")") ∷ []) }
-        ensures none { IsErrOf result Stop.NoForm → self.old ≢ mark (codes "(") ∷ mark (codes ";") ∷ mark (codes ")") ∷ [] }
+        ensures none { IsErrOf result Stop.NoForm
+            → self.old ≢ mark (codes "(") ∷ mark (codes ";") ∷ mark (codes ")") ∷ [] }
     {
         self.expect(b'(')?;
         self.expect(b';')?;

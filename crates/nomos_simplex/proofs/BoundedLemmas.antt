@@ -1,4 +1,5 @@
--- A goal that no star makes smaller is bounded: where its line has a coefficient below 0, some line has one in that column.
+-- A goal that no star makes smaller is bounded: where its line has a coefficient below 0, some line has one in that
+-- column.
 use Rattle.std.proofs.Common.{◌≡◌, ◌==◌, ℕ, zero, suc, ◌+◌, ◌*◌, ◌<◌, ◌≤◌, ◌/◌, Bool, true, false, cond, List, [], ◌∷◌, length, get_or, refl, ap, sym, subst, ◌∙◌, arith, ℤ, pos, negsuc, ◌+ℤ◌, ◌*ℤ◌, ◌≤ℤ◌, ◌<ℤ◌, unsigned_abs, int_lt, All, Option, Some, None, find}
 use Rattle.std.specs.List.{range_with_len}
 use Rattle.std.proofs.lemmas.Int.{ints}
@@ -71,7 +72,8 @@ sum_one (v ∷ vs) (c ∷ cs) (suc j) h w once =
     let some = counted (λ w. w == e) vs j 0 (omega arith) (eq-eqb e e refl) in
     one_later (v == e) c (sum_at (one_of e) vs cs) (get_or cs j (pos 0)) (nonbasic_times e (v ∷ vs))
     (nonbasic_times e vs) more once some
-    (sum_one vs cs j (omega arith) (omega arith) (most (v == e) (nonbasic_times e (v ∷ vs)) (nonbasic_times e vs) more once))
+    (sum_one vs cs j (omega arith) (omega arith)
+    (most (v == e) (nonbasic_times e (v ∷ vs)) (nonbasic_times e vs) more once))
   where
     most : (t : Bool) (n m : ℕ) → n ≡ cond t 1 0 + m → n ≤ 1 → m ≤ 1
     most true n m e h = omega arith
@@ -123,7 +125,8 @@ module _ (rows : RowList) (table : Table) (t : IsTableOfRows rows table) (j : �
       (subst (λ z. pos 0 ≤ℤ z) (sym (sum_one table.nonbasic line.coefs j h is.0 once)) own.0)
 
 -- the goal's line has no coefficient below 0 there
-pub goal-not_below : (rows : RowList) (table : Table) (j : ℕ) (line : Line) (coefs : List ℤ) → IsTableOfRows rows table →
+pub goal-not_below : (rows : RowList) (table : Table) (j : ℕ) (line : Line) (coefs : List ℤ) → IsTableOfRows rows table
+    →
     j < length table.nonbasic → All (λ line. pos 0 ≤ℤ coef_at j line) table.lines →
     length line.coefs ≡ length table.nonbasic → pos 0 <ℤ line.times → All (λ c. pos 0 ≤ℤ c) coefs →
     ((y : ℕ → ℤ) → Holds y (first_table rows) →
@@ -160,7 +163,8 @@ pub some_nearest : (rows : RowList) (table : Table) (j : ℕ) (line : Line) (coe
 some_nearest rows table j line coefs t h w over high holds under e =
     goal-not_below rows table j line coefs t h
     (λ k d l. let no = none_foremost (λ n. int_lt (coef_at j (line_at table.lines n)) (pos 0))
-    (λ n m. is_nearer rows table.nonbasic j (line_at table.lines n) (line_at table.lines m)) (length table.lines) e k l in
+    (λ n m. is_nearer rows table.nonbasic j (line_at table.lines n) (line_at table.lines m)) (length table.lines) e k
+    l in
     subst (λ x. pos 0 ≤ℤ coef_at j x) (get_or_default table.lines k _ d l)
     (at_most_in (pos 0) (coef_at j (line_at table.lines k)) (lt-false (coef_at j (line_at table.lines k)) (pos 0) no)))
     w over high holds under

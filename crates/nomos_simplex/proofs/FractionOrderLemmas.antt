@@ -36,7 +36,8 @@ module _ (a b c d : ℕ) (p : 0 < b) (o : 0 < d) where
   pub whole_parts : a / b ≢ c / d → nat_lt (a / b) (c / d) ≡ nat_lt (a * d) (c * b)
   whole_parts n = ⊎_elim
       (λ less. lt-ltb (a / b) (c / d) less
-      ∙ sym (lt-ltb (a * d) (c * b) (let whole = whole_less (b * d) (a / b) (c / d) ((a % b) * d) ((c % d) * b) less small in
+      ∙ sym (lt-ltb (a * d) (c * b) (let whole = whole_less (b * d) (a / b) (c / d) ((a % b) * d) ((c % d) * b) less
+      small in
       omega (arith, left_is, right_is))))
       (λ more. le-ltb (a / b) (c / d) more
       ∙ sym (le-ltb (a * d) (c * b) (let whole = whole_less (b * d) (c / d) (a / b) ((c % d) * b) ((a % b) * d)

@@ -1,4 +1,5 @@
--- A step of the making of the goal's line: what divides its numbers, and that a huge number stays large in lowest terms.
+-- A step of the making of the goal's line: what divides its numbers, and that a huge number stays large in lowest
+-- terms.
 use Rattle.std.proofs.Common.{◌≡◌, ℕ, zero, suc, ◌+◌, ◌*◌, ◌/◌, ◌<◌, ◌≤◌, ◌^◌, List, [], ◌∷◌, ◌++◌, length, map, get_or, take, refl, ap, ⊎_elim, sym, subst, ◌∙◌, arith, ℤ, pos, ◌+ℤ◌, ◌-ℤ◌, ◌*ℤ◌, ◌<ℤ◌, unsigned_abs, int_div, All, true, add-one, ◌||◌, Bool, false}
 use Rattle.std.specs.Int.{◌∣◌}
 use Rattle.std.specs.List.{list_any}
@@ -64,7 +65,8 @@ divides_minus : (k : ℕ) (x y : ℤ) → 0 < k → k ∣ unsigned_abs (x +ℤ y
 divides_minus k x y p h i =
     let a = int_div (x +ℤ y) (pos k) in
     let b = int_div y (pos k) in
-    let is : pos k *ℤ (a -ℤ b) ≡ x = times_minus (pos k) a b ∙ (λ q. exact k (x +ℤ y) p h q -ℤ exact k y p i q) ∙ left x y in
+    let is : pos k *ℤ (a -ℤ b) ≡ x = times_minus (pos k) a b ∙ (λ q. exact k (x +ℤ y) p h q -ℤ exact k y p i q)
+    ∙ left x y in
     subst (λ z. k ∣ z) (sym (unsigned_abs-mul (pos k) (a -ℤ b)) ∙ ap unsigned_abs is) (dvd-mul_right k
     (unsigned_abs (a -ℤ b)))
   where

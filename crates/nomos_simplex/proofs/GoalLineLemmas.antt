@@ -182,7 +182,8 @@ goal_holds y rows table star [] w line made t h low high l holds e =
     nothing w = omega (arith, ints)
 goal_holds y rows table star (c ∷ cs) w line made t h low high l holds e =
     let own = line_of table star in
-    let is = line_of_star y rows table star (find (λ line. line.basic == star) table.lines) refl t h low (omega arith) in
+    let is = line_of_star y rows table star (find (λ line. line.basic == star) table.lines) refl t h low
+    (omega arith) in
     let next = in_lowest_terms (with_added c own line) in
     let both = if_small_some next made (goal_from table (star + 1) cs) (is_large_line next) refl e in
     let rest =

@@ -93,11 +93,13 @@ value_scaled rows goal table line f a =
     dot_scaled y (amount_of u rows table) (pos u) (pos m) vs goal.coefs
     (λ i d h. amounts_scaled rows table u (get_or vs i d) (are_over_zero rows table t) a.none
     (range_within rows.stars i d h) (divided i d h))
-    ∙ ap (λ xs. pos m *ℤ dot goal.coefs xs) (sym (map_twice (λ (f : ℕ × ℕ). u * f.0 / f.1) (fraction_of rows table) vs)) in
+    ∙ ap (λ xs. pos m *ℤ dot goal.coefs xs)
+    (sym (map_twice (λ (f : ℕ × ℕ). u * f.0 / f.1) (fraction_of rows table) vs)) in
     let value = dot goal.coefs (total_amounts rows table) in
     count_cancel m (line.times *ℤ value) (pos u *ℤ bounds) (product_positive table.lines (are_over_zero rows table t))
     (times_swap (pos m) line.times value ∙ ap (λ z. line.times *ℤ z) (sym scaled)
-    ∙ times_swap line.times (pos u) (sum_at y vs goal.coefs) ∙ ap (λ z. pos u *ℤ z) sum ∙ times_swap (pos u) (pos m) bounds)
+    ∙ times_swap line.times (pos u) (sum_at y vs goal.coefs) ∙ ap (λ z. pos u *ℤ z) sum
+    ∙ times_swap (pos u) (pos m) bounds)
 
 total_is : (z : ℤ) → is_total z ≡ true → pos (unsigned_abs z) ≡ z
 total_is (pos z) e = refl
@@ -121,7 +123,8 @@ module _ (rows : RowList) (goal : Form) (table : Table) (line : Line) (f : IsFor
       (λ k l e. let c = get_or line.coefs k (pos 0) in
       let is : get_or (map neg_ℤ line.coefs) k (pos 0) ≡ neg_ℤ c =
       get_or-map neg_ℤ line.coefs k (pos 0) (pos 0) (omega (arith, a.numbers.fits.width)) in
-      let size : unsigned_abs (get_or (map neg_ℤ line.coefs) k (pos 0)) ≡ unsigned_abs c = ap unsigned_abs is ∙ abs_neg c in
+      let size : unsigned_abs (get_or (map neg_ℤ line.coefs) k (pos 0))
+      ≡ unsigned_abs c = ap unsigned_abs is ∙ abs_neg c in
       subst (λ n. P (weight_of rows (get_or table.nonbasic k 0, n))) (sym size)
       (h k l (subst (λ n. 0 < n) size (abs_of_below (get_or (map neg_ℤ line.coefs) k (pos 0)) e))))
 

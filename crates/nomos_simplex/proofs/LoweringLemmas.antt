@@ -28,7 +28,8 @@ use Rattle.nomos_simplex.proofs.RunLaws.{turn-goes_on}
 use Rattle.nomos_simplex.proofs.TableLaws.{IsTableOfRows, first-is_table, exchanged-is_table, table-is_table, small_line}
 
 -- ---- the pivot run
-pub reached-is_table : (rows : RowList) (pivots : ℕ) (table : Table) → Reaches rows pivots table → IsTableOfRows rows table
+pub reached-is_table : (rows : RowList) (pivots : ℕ) (table : Table) → Reaches rows pivots table
+    → IsTableOfRows rows table
 reached-is_table rows pivots table Reaches.at_first = first-is_table rows
 reached-is_table rows pivots table (Reaches.goes_on {pivots = before} {table = earlier} after r e) =
     turn-goes_on (2000 - before) before rows earlier after (reached-is_table rows before earlier r) e
@@ -59,7 +60,8 @@ lowered_of rows table line i j left t x =
     (λ n m. is_nearer rows table.nonbasic j (line_at table.lines n) (line_at table.lines m)) (length table.lines) i
     x.place in
     let is : line_at table.lines i ≡ left = get_or_from_slice_get table.lines i left _ x.there in
-    let under = subst (λ (l : Line). coef_at j l <ℤ pos 0) is (below_zero (coef_at j (line_at table.lines i)) place.1) in
+    let under = subst (λ (l : Line). coef_at j l <ℤ pos 0) is
+    (below_zero (coef_at j (line_at table.lines i)) place.1) in
     record {
       may = record {
         place = x.there;
@@ -78,7 +80,8 @@ aimed_after : (rows : RowList) (goal : Form) (table : Table) (line : Line) (i j 
 aimed_after rows goal table line i j left a x large =
     let t = a.of_rows in
     let m = lowered_of rows table line i j left t x in
-    let both = or_parts (is_large_table (exchanged i j left table)) (is_large_line (line_exchanged j left line)) large in
+    let both = or_parts (is_large_table (exchanged i j left table)) (is_large_line (line_exchanged j left line))
+    large in
     let own = left_of i j left table m.may in
     let column = column_of i j left table m.may in
     let width = a.numbers.fits.width ∙ sym own.width in
@@ -113,7 +116,8 @@ aimed rows goal pivots table line f (Lowers.begins ends e) =
       numbers = goal_line-numbers rows table goal line t e;
       holds = λ y h. goal_line-holds y rows table goal line t f.width (t.true_of y h) e;
     }
-aimed rows goal pivots table line f (Lowers.goes_on {pivots = before} {table = earlier} {line = own} i j left l x most large) =
+aimed rows goal pivots table line f
+    (Lowers.goes_on {pivots = before} {table = earlier} {line = own} i j left l x most large) =
     aimed_after rows goal earlier own i j left (aimed rows goal before earlier own f l) x large
 
 -- where a variable enters, another one leaves

@@ -60,13 +60,15 @@ opposite_lowest line n =
     let d = signed_like line.times g in
     let same : common (unsigned_abs (neg_ℤ line.times)) (map neg_ℤ line.coefs) ≡ g =
     ap (λ a. common a (map neg_ℤ line.coefs)) (abs_neg line.times) ∙ common_neg (unsigned_abs line.times) line.coefs in
-    let by : signed_like (neg_ℤ line.times) (common (unsigned_abs (neg_ℤ line.times)) (map neg_ℤ line.coefs)) ≡ neg_ℤ d =
+    let by : signed_like (neg_ℤ line.times) (common (unsigned_abs (neg_ℤ line.times)) (map neg_ℤ line.coefs))
+    ≡ neg_ℤ d =
     ap (signed_like (neg_ℤ line.times)) same ∙ signed_neg line.times g n in
     ap (λ e. divided_by e (opposite_of line)) by
     ∙ (λ p. record line { times = div_neg line.times d p; coefs = div_neg_all d line.coefs p })
 
 -- ---- the opposite put in, and solved
-pub coef-opposite : (j : ℕ) (line : Line) → j < length line.coefs → coef_at j (opposite_of line) ≡ neg_ℤ (coef_at j line)
+pub coef-opposite : (j : ℕ) (line : Line) → j < length line.coefs
+    → coef_at j (opposite_of line) ≡ neg_ℤ (coef_at j line)
 coef-opposite j line h = get_or-map neg_ℤ line.coefs j (pos 0) (pos 0) h
 
 cross_neg : (p a g c : ℤ) → neg_ℤ p *ℤ a -ℤ g *ℤ neg_ℤ c ≡ neg_ℤ (p *ℤ a -ℤ g *ℤ c)

@@ -34,7 +34,8 @@ through f g h p i j = cancel g.1 (f.0 * h.1) (h.0 * f.1) p
     (let a = mul-le-mul_left h.1 i in let b = mul-le-mul_left f.1 j in omega arith)
   where
     cancel : (g a b : ℕ) → 0 < g → g * a ≤ g * b → a ≤ b
-    cancel g a b p h = at_most_nat (less_by_times g (pos a) (pos b) p (at_most_in (pos (g * a)) (pos (g * b)) (omega arith)))
+    cancel g a b p h =
+        at_most_nat (less_by_times g (pos a) (pos b) p (at_most_in (pos (g * a)) (pos (g * b)) (omega arith)))
       where
         at_most_nat : pos a ≤ℤ pos b → a ≤ b
         at_most_nat l = omega (arith, le_out (pos a) (pos b) l)

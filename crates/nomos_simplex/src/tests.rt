@@ -135,8 +135,8 @@ fn with_form(
     Ok(forms)
 }
 
-/// The rows of a transaction that starts two jobs and pays for one of them. Star 1 is what the type of a job gets, 2 what
-/// a job has, 3 what it gets, 4 what the transaction has, and 5 what it pays. A job that is paid works 3 units.
+/// The rows of a transaction that starts two jobs and pays for one of them. Star 1 is what the type of a job gets, 2
+/// what a job has, 3 what it gets, 4 what the transaction has, and 5 what it pays. A job that is paid works 3 units.
 fn two_jobs(alloc: Global) -> Result<RowList, AllocError>
     ensures { IfOk result (λ made. made.stars ≡ 5) }
 {

@@ -18,7 +18,8 @@ more_nots nots [] e = cc
 more_nots nots (x ∷ rest) e = rw e refl
 
 -- no more words `not`
-pub no_nots : (nots : List ℕ) (tokens : List Placed) → is_not (front_kind tokens) ≡ false → read_nots nots tokens ≡ (nots, tokens)
+pub no_nots : (nots : List ℕ) (tokens : List Placed) → is_not (front_kind tokens) ≡ false
+    → read_nots nots tokens ≡ (nots, tokens)
 unfolding read_nots
 no_nots nots [] e = refl
 no_nots nots (x ∷ rest) e = rw e refl
@@ -39,12 +40,14 @@ unfolding read_term
 closed_term zero tokens e = refl
 closed_term (suc room) tokens e = absurd (omega arith)
 
-pub open_term : (room : ℕ) (tokens : List Placed) → 0 < room → read_term room tokens ≡ term_of_tokens (read_term (room - 1)) tokens
+pub open_term : (room : ℕ) (tokens : List Placed) → 0 < room
+    → read_term room tokens ≡ term_of_tokens (read_term (room - 1)) tokens
 unfolding read_term
 open_term zero tokens lt = absurd (omega arith)
 open_term (suc room) tokens lt = let e : suc room - 1 ≡ room = omega arith in rw e refl
 
-pub more_step : (next : TermTree → Reader TermTree) (operand : Reader TermTree) (found : Option Operator) (op : Operator) (left right : TermTree)
+pub more_step : (next : TermTree → Reader TermTree) (operand : Reader TermTree) (found : Option Operator)
+    (op : Operator) (left right : TermTree)
     (tokens rest : List Placed) → found ≡ Some op → (right, rest) ≡ operand (rest_of tokens) →
     more_from next operand left found tokens ≡ next (binary op (front_at tokens) left right) rest
 more_step next operand found op left right tokens rest is read =
@@ -59,20 +62,25 @@ last_mapped f xs ys x t e =
     ∙ ap (λ (l : Heads). with_heads l t) (mapped-end f xs x)
     ∙ last_head (map f xs) (f x) t
 
-module _ (operand : Reader TermTree) (c : Chain) (n i : ℕ) (left : TermTree) (tokens : List Placed) (total : TermTree × List Placed) where
+module _ (operand : Reader TermTree) (c : Chain) (n i : ℕ) (left : TermTree) (tokens : List Placed)
+    (total : TermTree × List Placed) where
   -- one more operator of the chain, and what stands behind it
-  pub next_operator : (op : Operator) (right : TermTree) (rest : List Placed) → i < n → operator_in c (front_kind tokens) ≡ Some op →
+  pub next_operator : (op : Operator) (right : TermTree) (rest : List Placed) → i < n
+      → operator_in c (front_kind tokens) ≡ Some op →
       (right, rest) ≡ operand (rest_of tokens) → read_more operand c (n - i) left tokens ≡ total →
       read_more operand c (n - (i + 1)) (binary op (front_at tokens) left right) rest ≡ total
   unfolding read_more
   next_operator op right rest lt is read so_far =
       let k : n - i ≡ suc (n - (i + 1)) = omega arith in
-      let step : read_more operand c (n - i) left tokens ≡ read_more operand c (n - (i + 1)) (binary op (front_at tokens) left right) rest =
-      rw k (more_step (read_more operand c (n - (i + 1))) operand (operator_in c (front_kind tokens)) op left right tokens rest is read) in
+      let step : read_more operand c (n - i) left tokens
+      ≡ read_more operand c (n - (i + 1)) (binary op (front_at tokens) left right) rest =
+      rw k (more_step (read_more operand c (n - (i + 1))) operand (operator_in c (front_kind tokens)) op left right
+      tokens rest is read) in
       sym step ∙ so_far
 
   -- no operator of the chain is next
-  pub no_operator : i < n → operator_in c (front_kind tokens) ≡ None → read_more operand c (n - i) left tokens ≡ total → (left, tokens) ≡ total
+  pub no_operator : i < n → operator_in c (front_kind tokens) ≡ None → read_more operand c (n - i) left tokens ≡ total
+      → (left, tokens) ≡ total
   unfolding read_more
   no_operator lt is so_far =
       let k : n - i ≡ suc (n - (i + 1)) = omega arith in
@@ -89,17 +97,20 @@ module _ (operand : Reader TermTree) (c : Chain) (n i : ℕ) (left : TermTree) (
 
 module _ (sum : Reader TermTree) (n i : ℕ) (heads : Heads) (tokens : List Placed) (total : TermTree × List Placed) where
   -- a sum with a `::` behind it
-  pub next_head : (t : TermTree) (rest others : List Placed) → i < n → (t, rest) ≡ sum tokens → is_cons (front_kind rest) ≡ true →
+  pub next_head : (t : TermTree) (rest others : List Placed) → i < n → (t, rest) ≡ sum tokens
+      → is_cons (front_kind rest) ≡ true →
       others ≡ rest_of rest → read_conses sum (n - i) heads tokens ≡ total →
       read_conses sum (n - (i + 1)) (heads ++ (t, front_at rest) ∷ []) others ≡ total
   unfolding read_conses
   next_head t rest others lt read is left so_far =
       let k : n - i ≡ suc (n - (i + 1)) = omega arith in
-      let step : read_conses sum (n - i) heads tokens ≡ read_conses sum (n - (i + 1)) (heads ++ (t, front_at rest) ∷ []) (rest_of rest) = rw (k, ← read, is) refl in
+      let step : read_conses sum (n - i) heads tokens
+      ≡ read_conses sum (n - (i + 1)) (heads ++ (t, front_at rest) ∷ []) (rest_of rest) = rw (k, ← read, is) refl in
       rw left (sym step ∙ so_far)
 
   -- a sum with no `::` behind it
-  pub last_sum : (t : TermTree) (rest : List Placed) → i < n → (t, rest) ≡ sum tokens → is_cons (front_kind rest) ≡ false →
+  pub last_sum : (t : TermTree) (rest : List Placed) → i < n → (t, rest) ≡ sum tokens
+      → is_cons (front_kind rest) ≡ false →
       read_conses sum (n - i) heads tokens ≡ total → (with_heads heads t, rest) ≡ total
   unfolding read_conses
   last_sum t rest lt read is so_far =
@@ -108,12 +119,14 @@ module _ (sum : Reader TermTree) (n i : ℕ) (heads : Heads) (tokens : List Plac
       sym step ∙ so_far
 
   -- no turn is left
-  pub no_sum : (t : TermTree) (rest : List Placed) → n ≤ i → (t, rest) ≡ read_number tokens → read_conses sum (n - i) heads tokens ≡ total →
+  pub no_sum : (t : TermTree) (rest : List Placed) → n ≤ i → (t, rest) ≡ read_number tokens
+      → read_conses sum (n - i) heads tokens ≡ total →
       (with_heads heads t, rest) ≡ total
   unfolding read_conses
   no_sum t rest le read so_far =
       let k : n - i ≡ 0 = omega arith in
-      let step : read_conses sum (n - i) heads tokens ≡ (with_heads heads (read_number tokens).0, rest_of tokens) = rw k refl in
+      let step : read_conses sum (n - i) heads tokens
+      ≡ (with_heads heads (read_number tokens).0, rest_of tokens) = rw k refl in
       ap (λ (p : TermTree × List Placed). (with_heads heads p.0, p.1)) read ∙ sym step ∙ so_far
 
 -- what holds of what was made
@@ -122,7 +135,8 @@ if_ok P Q (Ok x) f h = f x h
 if_ok P Q (Err e) f h = tt
 
 -- a chain begins with what stands before its operators
-pub chain_start : (operand : Reader TermTree) (c : Chain) (l : TermTree) (tokens rest : List Placed) (n : ℕ) → n ≡ length rest → (l, rest) ≡ operand tokens →
+pub chain_start : (operand : Reader TermTree) (c : Chain) (l : TermTree) (tokens rest : List Placed) (n : ℕ)
+    → n ≡ length rest → (l, rest) ≡ operand tokens →
     read_more operand c n l rest ≡ read_chain operand c tokens
 unfolding read_chain
 chain_start operand c l tokens rest n e read =
@@ -131,6 +145,7 @@ chain_start operand c l tokens rest n e read =
 
 -- the term of a list begins with no heads
 pub conses_start : (inner : Reader TermTree) (tokens : List Placed) →
-    read_conses (read_chain (read_chain (read_primary inner) chain.Product) chain.Sum) (length tokens) [] tokens ≡ read_list_term inner tokens
+    read_conses (read_chain (read_chain (read_primary inner) chain.Product) chain.Sum) (length tokens) [] tokens
+    ≡ read_list_term inner tokens
 unfolding read_list_term
 conses_start inner tokens = refl

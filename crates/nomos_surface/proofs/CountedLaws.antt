@@ -107,7 +107,8 @@ value_pars_walk pars rest after y c k =
     (the the_production.FunctionParameter) sym.Comma first (later first) the_production.FunctionParameters first
     (later first)
     pars _
-    (each_mapped_walks (the the_production.FunctionParameter) print_value_par in_value_par ShallowValuePar value_par_stands
+    (each_mapped_walks (the the_production.FunctionParameter) print_value_par in_value_par ShallowValuePar
+    value_par_stands
     value_par_walks pars) _ _ _ _ k
 
 -- declarations

@@ -33,7 +33,8 @@ sum_printed = refl
 
 pub sum_in_parentheses : IsTerm production.Product (binary operator.Mul 8 (parenthesized sum_tree) (number 10 3))
 sum_in_parentheses =
-    is_mul (is_primary (is_parenthesized (is_disjunction (is_conjunction (is_negation (is_comparison (is_list_term (is_sum
+    is_mul (is_primary (is_parenthesized
+    (is_disjunction (is_conjunction (is_negation (is_comparison (is_list_term (is_sum
     (is_add (is_product (is_primary is_number)) (is_primary is_number)))))))))) is_number
 
 no_sum : IsTerm production.Primary (binary operator.Add 2 (number 0 1) (number 4 2)) → ⊥

@@ -13,10 +13,12 @@ use Rattle.nomos_syntax.specs.declared.symbol.Symbol.{Symbol}
 use Rattle.nomos_syntax.specs.Lexeme.{Lexeme, name, reserved, number, symbol, bad, Placed}
 
 -- a number is `1` or another number
-number_terminal : (digits : List ℕ) → (terminal_of (number digits) ≡ Some terminal.One) ⊎ (terminal_of (number digits) ≡ Some terminal.Number)
+number_terminal : (digits : List ℕ) → (terminal_of (number digits) ≡ Some terminal.One)
+    ⊎ (terminal_of (number digits) ≡ Some terminal.Number)
 number_terminal digits =
     elim (bytes_eq digits (codes "1")) as
-    (λ b. (cond b (Some terminal.One) (Some terminal.Number) ≡ Some terminal.One) ⊎ (cond b (Some terminal.One) (Some terminal.Number) ≡ Some terminal.Number))
+    (λ b. (cond b (Some terminal.One) (Some terminal.Number) ≡ Some terminal.One)
+    ⊎ (cond b (Some terminal.One) (Some terminal.Number) ≡ Some terminal.Number))
     [ true ↦ inl refl | false ↦ inr refl ]
 
 symbol_fitting : (s : Symbol) (lexeme : Lexeme) → Fits (terminal.Symbol s) lexeme → lexeme ≡ symbol s

@@ -12,7 +12,8 @@ use Rattle.nomos_syntax.specs.Lexeme.{Placed}
 -- the part makes the tokens up to the others, and so do parts one after another
 mutual
   pub data Makes : Part → List Placed → List Placed → Type 0 where
-    made_token : {t : Terminal} {x : Placed} {others : List Placed} → Fits t x.lexeme → Makes (part.Terminal t) (x ∷ others) others
+    made_token : {t : Terminal} {x : Placed} {others : List Placed} → Fits t x.lexeme
+        → Makes (part.Terminal t) (x ∷ others) others
     made_mark : {m : Mark} {others : List Placed} → Makes (part.Mark m) others others
     made : {n : Nonterminal} {tokens others : List Placed} (side : List Part) →
         IsAmong side (alternatives n) → MakesAll side tokens others → Makes (part.Nonterminal n) tokens others
@@ -36,10 +37,12 @@ pub record Front (parts rest : List Part) (events : List Event) (n : ℕ) : Type
   pub derived : Derives rest others
   pub fewer : rules_in derived ≤ n
 
-more_rules : {parts rest : List Part} {events : List Event} {m n : ℕ} → m ≤ n → Front parts rest events m → Front parts rest events n
+more_rules : {parts rest : List Part} {events : List Event} {m n : ℕ} → m ≤ n → Front parts rest events m
+    → Front parts rest events n
 more_rules le f = record { others = f.others; made = f.made; derived = f.derived; fewer = omega (arith, f.fewer) }
 
-pub front_of : (n : ℕ) (parts rest : List Part) (events : List Event) (d : Derives (parts ++ rest) events) → rules_in d ≤ n →
+pub front_of : (n : ℕ) (parts rest : List Part) (events : List Event) (d : Derives (parts ++ rest) events)
+    → rules_in d ≤ n →
     Front parts rest events n
 front_of n [] rest events d le = record { others = events; made = made_none; derived = d; fewer = le }
 front_of zero (p ∷ parts) rest events (read f d) le = absurd (omega (arith, le))
@@ -47,11 +50,21 @@ front_of zero (p ∷ parts) rest events (counted d) le = absurd (omega (arith, l
 front_of zero (p ∷ parts) rest events (replaced side among d) le = absurd (omega (arith, le))
 front_of (suc n) (p ∷ parts) rest (token x ∷ events) (read f d) le =
     let r = front_of n parts rest events d (omega (arith, le)) in
-    record { others = r.others; made = made_more (made_token f) r.made; derived = r.derived; fewer = omega (arith, r.fewer) }
+    record {
+      others = r.others;
+      made = made_more (made_token f) r.made;
+      derived = r.derived;
+      fewer = omega (arith, r.fewer);
+    }
 front_of (suc n) (p ∷ parts) rest (mark m ∷ events) (counted d) le =
     let r = front_of n parts rest events d (omega (arith, le)) in
     record { others = r.others; made = made_more made_mark r.made; derived = r.derived; fewer = omega (arith, r.fewer) }
 front_of (suc n) (p ∷ parts) rest events (replaced side among d) le =
     let r = front_of n side (parts ++ rest) events d (omega (arith, le)) in
     let s = front_of n parts rest r.others r.derived r.fewer in
-    record { others = s.others; made = made_more (made side among r.made) s.made; derived = s.derived; fewer = omega (arith, s.fewer) }
+    record {
+      others = s.others;
+      made = made_more (made side among r.made) s.made;
+      derived = s.derived;
+      fewer = omega (arith, s.fewer);
+    }

@@ -9,23 +9,30 @@ pub mapped-end : {X A : Type 0} (f : X → A) (xs : List X) (x : X) → map f (x
 mapped-end f [] x = refl
 mapped-end f (y ∷ xs) x = ap (λ l. f y ∷ l) (mapped-end f xs x)
 
-module _ {X A : Type 0} (f : X → A) (item : Reader A) (between : Option TokenKind → Bool) (n i : ℕ) (xs : List X) (tokens : List Placed)
+module _ {X A : Type 0} (f : X → A) (item : Reader A) (between : Option TokenKind → Bool) (n i : ℕ) (xs : List X)
+    (tokens : List Placed)
     (total : List A × List Placed) where
-  pub last_item : (x : X) (rest : List Placed) (ys : List X) → i < n → (f x, rest) ≡ item tokens → between (front_kind rest) ≡ false → ys ≡ xs ++ x ∷ [] →
+  pub last_item : (x : X) (rest : List Placed) (ys : List X) → i < n → (f x, rest) ≡ item tokens
+      → between (front_kind rest) ≡ false → ys ≡ xs ++ x ∷ [] →
       read_parted item between (n - i) (map f xs) tokens ≡ total → (map f ys, rest) ≡ total
   unfolding read_parted
   last_item x rest ys lt read ends pushed so_far =
       let k : n - i ≡ suc (n - (i + 1)) = omega arith in
-      let one : read_parted item between (n - i) (map f xs) tokens ≡ (map f xs ++ f x ∷ [], rest) = rw (k, ← read, ends) refl in
+      let one : read_parted item between (n - i) (map f xs) tokens
+      ≡ (map f xs ++ f x ∷ [], rest) = rw (k, ← read, ends) refl in
       rw (pushed, mapped-end f xs x) (sym one ∙ so_far)
 
-  pub next_item : (x : X) (rest : List Placed) (ys : List X) (others : List Placed) → i < n → (f x, rest) ≡ item tokens → between (front_kind rest) ≡ true →
+  pub next_item : (x : X) (rest : List Placed) (ys : List X) (others : List Placed) → i < n → (f x, rest) ≡ item tokens
+      → between (front_kind rest) ≡ true →
       ys ≡ xs ++ x ∷ [] → others ≡ rest_of rest →
-      read_parted item between (n - i) (map f xs) tokens ≡ total → read_parted item between (n - (i + 1)) (map f ys) others ≡ total
+      read_parted item between (n - i) (map f xs) tokens ≡ total
+      → read_parted item between (n - (i + 1)) (map f ys) others ≡ total
   unfolding read_parted
   next_item x rest ys others lt read goes_on pushed left so_far =
       let k : n - i ≡ suc (n - (i + 1)) = omega arith in
-      let one : read_parted item between (n - i) (map f xs) tokens ≡ read_parted item between (n - (i + 1)) (map f xs ++ f x ∷ []) (rest_of rest) = rw (k, ← read, goes_on) refl in
+      let one : read_parted item between (n - i) (map f xs) tokens
+      ≡ read_parted item between (n - (i + 1)) (map f xs ++ f x ∷ []) (rest_of rest) = rw (k, ← read, goes_on)
+      refl in
       rw (pushed, left, mapped-end f xs x) (sym one ∙ so_far)
 
   pub no_item : n ≤ i → read_parted item between (n - i) (map f xs) tokens ≡ total → (map f xs, tokens) ≡ total
@@ -37,9 +44,11 @@ module _ {X A : Type 0} (f : X → A) (item : Reader A) (between : Option TokenK
 
 -- the same of items that are read as they are
 
-module _ {A : Type 0} (item : Reader A) (between : Option TokenKind → Bool) (n i : ℕ) (xs : List A) (tokens : List Placed)
+module _ {A : Type 0} (item : Reader A) (between : Option TokenKind → Bool) (n i : ℕ) (xs : List A)
+    (tokens : List Placed)
     (total : List A × List Placed) where
-  pub last_plain : (x : A) (rest : List Placed) (ys : List A) → i < n → (x, rest) ≡ item tokens → between (front_kind rest) ≡ false →
+  pub last_plain : (x : A) (rest : List Placed) (ys : List A) → i < n → (x, rest) ≡ item tokens
+      → between (front_kind rest) ≡ false →
       ys ≡ xs ++ x ∷ [] → read_parted item between (n - i) xs tokens ≡ total → (ys, rest) ≡ total
   unfolding read_parted
   last_plain x rest ys lt read ends pushed so_far =
@@ -53,7 +62,8 @@ module _ {A : Type 0} (item : Reader A) (between : Option TokenKind → Bool) (n
   unfolding read_parted
   next_plain x rest ys others lt read goes_on pushed left so_far =
       let k : n - i ≡ suc (n - (i + 1)) = omega arith in
-      let one : read_parted item between (n - i) xs tokens ≡ read_parted item between (n - (i + 1)) (xs ++ x ∷ []) (rest_of rest) =
+      let one : read_parted item between (n - i) xs tokens
+      ≡ read_parted item between (n - (i + 1)) (xs ++ x ∷ []) (rest_of rest) =
       rw (k, ← read, goes_on) refl in
       rw (pushed, left) (sym one ∙ so_far)
 
@@ -72,19 +82,22 @@ more_lists lists [] e = cc
 more_lists lists (x ∷ rest) e = rw e refl
 
 -- no more words `list`
-pub no_lists : (lists : List ℕ) (tokens : List Placed) → is_list (front_kind tokens) ≡ false → read_lists lists tokens ≡ (lists, tokens)
+pub no_lists : (lists : List ℕ) (tokens : List Placed) → is_list (front_kind tokens) ≡ false
+    → read_lists lists tokens ≡ (lists, tokens)
 unfolding read_lists
 no_lists lists [] e = refl
 no_lists lists (x ∷ rest) e = rw e refl
 
 -- no items before the end of their list
-pub until_none : {A : Type 0} (item : Reader A) (n : ℕ) (tokens : List Placed) → is_list_end (front_kind tokens) ≡ true →
+pub until_none : {A : Type 0} (item : Reader A) (n : ℕ) (tokens : List Placed) → is_list_end (front_kind tokens) ≡ true
+    →
     read_until item n tokens ≡ ([], tokens)
 unfolding read_until
 until_none item n tokens e = rw e refl
 
 -- one item or more
-pub until_some : {A : Type 0} (item : Reader A) (n : ℕ) (tokens : List Placed) → is_list_end (front_kind tokens) ≡ false →
+pub until_some : {A : Type 0} (item : Reader A) (n : ℕ) (tokens : List Placed) → is_list_end (front_kind tokens) ≡ false
+    →
     read_until item n tokens ≡ read_parted item is_comma n [] tokens
 unfolding read_until
 until_some item n tokens e = rw e refl

@@ -41,23 +41,24 @@ StandsFor p printer = (rest : List Part) (after : List Shown) → Yields rest af
 -- lists
 
 module _ (more : Nonterminal) (item : Part) (sep : Symbol)
-    (again : IsAmong (sign_part sep ∷ item ∷ the more ∷ []) (alternatives more)) (none : IsAmong [] (alternatives more)) where
-  unfoldable pub more_stand : (printers : List Printer) → Each (StandsFor item) printers →
-      StandsFor (the more) (print_more sep printers)
-  more_stand [] each rest after y = chooses [] none y
-  more_stand (p ∷ ps) each rest after y =
-      chooses _ again (shows (suits_sign sep) (each.0 _ _ (more_stand ps each.1 rest after y)))
+    (again : IsAmong (sign_part sep ∷ item ∷ the more ∷ []) (alternatives more)) (none : IsAmong [] (alternatives more))
+  where
+    unfoldable pub more_stand : (printers : List Printer) → Each (StandsFor item) printers →
+        StandsFor (the more) (print_more sep printers)
+    more_stand [] each rest after y = chooses [] none y
+    more_stand (p ∷ ps) each rest after y =
+        chooses _ again (shows (suits_sign sep) (each.0 _ _ (more_stand ps each.1 rest after y)))
 
-  unfoldable pub parted_stand : (p : Printer) (ps : List Printer) → Each (StandsFor item) (p ∷ ps) →
-      (rest : List Part) (after : List Shown) → Yields rest after →
-      Yields (item ∷ the more ∷ rest) (print_parted sep (p ∷ ps) after)
-  parted_stand p ps each rest after y = each.0 _ _ (more_stand ps each.1 rest after y)
+    unfoldable pub parted_stand : (p : Printer) (ps : List Printer) → Each (StandsFor item) (p ∷ ps) →
+        (rest : List Part) (after : List Shown) → Yields rest after →
+        Yields (item ∷ the more ∷ rest) (print_parted sep (p ∷ ps) after)
+    parted_stand p ps each rest after y = each.0 _ _ (more_stand ps each.1 rest after y)
 
-  unfoldable pub list_stand : (whole : Nonterminal) → IsAmong (item ∷ the more ∷ []) (alternatives whole) →
-      IsAmong [] (alternatives whole) →
-      (ps : List Printer) → Each (StandsFor item) ps → StandsFor (the whole) (print_parted sep ps)
-  list_stand whole some empty [] each rest after y = chooses [] empty y
-  list_stand whole some empty (p ∷ ps) each rest after y = chooses _ some (parted_stand p ps each rest after y)
+    unfoldable pub list_stand : (whole : Nonterminal) → IsAmong (item ∷ the more ∷ []) (alternatives whole) →
+        IsAmong [] (alternatives whole) →
+        (ps : List Printer) → Each (StandsFor item) ps → StandsFor (the whole) (print_parted sep ps)
+    list_stand whole some empty [] each rest after y = chooses [] empty y
+    list_stand whole some empty (p ∷ ps) each rest after y = chooses _ some (parted_stand p ps each rest after y)
 
 -- each of the printers of a list
 unfoldable pub each_mapped : {X : Type 0} (P : Printer → Type 0) (f : X → Printer) → ((x : X) → P (f x)) →
@@ -92,7 +93,8 @@ optional_stands (Some q) rest after y = chooses _ first (potential_stands q _ _ 
 
 unfoldable pub lists_stand : (lists : List ℕ) (at : ℕ) (b : Base) →
     StandsFor (the the_production.ValueType) (print_lists lists (keyword_at at (base_word b)))
-lists_stand [] at base.Int rest after y = chooses _ (later first) (passes (passes (shows (suits_keyword_at at word.Int) (passes y))))
+lists_stand [] at base.Int rest after y =
+    chooses _ (later first) (passes (passes (shows (suits_keyword_at at word.Int) (passes y))))
 lists_stand [] at base.Bool rest after y =
     chooses _ (later (later first)) (passes (passes (shows (suits_keyword_at at word.Bool) (passes y))))
 lists_stand (l ∷ lists) at b rest after y =
@@ -130,7 +132,8 @@ arrow_stands sender.Client at rest after y = chooses _ (later first) (passes (sh
 -- a choice, whose branches stand
 unfoldable pub choice_stands : (s : Sender) (at : ℕ) (printer : Printer) →
     StandsFor (the the_production.Labels) printer →
-    StandsFor (the the_production.Atom) (λ after. sign_at at (choice_sign s) ∷ sign sym.OpenBrace ∷ printer (sign sym.CloseBrace ∷ after))
+    StandsFor (the the_production.Atom)
+    (λ after. sign_at at (choice_sign s) ∷ sign sym.OpenBrace ∷ printer (sign sym.CloseBrace ∷ after))
 choice_stands sender.Provider at printer labels rest after y =
     chooses _ (later first) (passes (shows (suits_sign_at at sym.Plus) (shows (suits_sign sym.OpenBrace)
     (labels _ _ (shows (suits_sign sym.CloseBrace) y)))))
@@ -152,8 +155,10 @@ unfoldable mutual
   type_stands (is_up {at} goes) rest after y =
       chooses _ first (passes (passes (shows (suits_keyword_at at word.Up) (type_stands goes _ _ (passes y)))))
   type_stands (is_down {at} goes) rest after y =
-      chooses _ (later first) (passes (passes (shows (suits_keyword_at at word.Down) (type_stands goes _ _ (passes y)))))
-  type_stands (is_paying {s} {at} {q} goes) rest after y = payment_stands s at q rest _ (type_stands goes _ _ (passes y))
+      chooses _ (later first) (passes
+      (passes (shows (suits_keyword_at at word.Down) (type_stands goes _ _ (passes y)))))
+  type_stands (is_paying {s} {at} {q} goes) rest after y =
+      payment_stands s at q rest _ (type_stands goes _ _ (passes y))
   type_stands (is_valued {s} {at} {value} goes) rest after y =
       chooses _ (later (later (later (later first)))) (passes (value_type_stands value _ _
       (arrow_stands s at _ _ (type_stands goes _ _ (passes y)))))
@@ -163,7 +168,8 @@ unfoldable mutual
   type_stands (is_atom t) rest after y =
       chooses _ (later (later (later (later (later first))))) (passes (type_stands t _ _
       (chooses [] (later (later first)) (passes y))))
-  type_stands (is_one {at}) rest after y = chooses _ (later (later (later (later first)))) (passes (shows (suits_one at) y))
+  type_stands (is_one {at}) rest after y =
+      chooses _ (later (later (later (later first)))) (passes (shows (suits_one at) y))
   type_stands (is_named {n}) rest after y = chooses _ (later (later (later first))) (passes (shows (suits_name n) y))
   type_stands (is_choice {s} {at} are) rest after y = choice_stands s at _ (branches_stand are) rest after y
   type_stands (is_grouped inner) rest after y =
@@ -206,7 +212,8 @@ arguments_stand =
 
 unfoldable pub truth_stands : (at : ℕ) (value : Bool) →
     StandsFor (the the_production.Primary) (λ after. keyword_at at (truth_word value) ∷ after)
-truth_stands at true rest after y = chooses _ (later (later (later first))) (passes (shows (suits_keyword_at at word.True) y))
+truth_stands at true rest after y =
+    chooses _ (later (later (later first))) (passes (shows (suits_keyword_at at word.True) y))
 truth_stands at false rest after y =
     chooses _ (later (later (later (later first)))) (passes (shows (suits_keyword_at at word.False) y))
 
@@ -214,7 +221,8 @@ truth_stands at false rest after y =
 unfoldable pub heading_stands : (head tail : NameAt) (rest : List Part) (after : List Shown) → Yields rest after →
     Yields (NAME ∷ sign_part sym.DoubleColon ∷ NAME ∷ sign_part sym.FatArrow ∷ rest) (print_heading head tail after)
 heading_stands head tail rest after y =
-    shows (suits_name head) (shows (suits_sign sym.DoubleColon) (shows (suits_name tail) (shows (suits_sign sym.FatArrow) y)))
+    shows (suits_name head) (shows (suits_sign sym.DoubleColon)
+    (shows (suits_name tail) (shows (suits_sign sym.FatArrow) y)))
 
 unfoldable mutual
   pub term_stands : {n : Nonterminal} {t : TermTree} → IsTerm n t → TermStands n (print_term t)
@@ -244,7 +252,8 @@ unfoldable mutual
       chooses _ first (term_stands left _ _ (chooses _ first (passes (shows (suits_sign_at at sym.Less) (passes
       (term_stands right _ _ y))))))
   term_stands (is_equal {at} left right) rest after y =
-      chooses _ first (term_stands left _ _ (chooses _ (later first) (passes (shows (suits_sign_at at sym.Equals) (passes
+      chooses _ first (term_stands left _ _
+      (chooses _ (later first) (passes (shows (suits_sign_at at sym.Equals) (passes
       (term_stands right _ _ y))))))
   term_stands (is_list_term t) rest after y = chooses _ first (term_stands t _ _ (chooses [] (later (later first)) y))
   term_stands (is_cons {at} left right) rest after y =
@@ -308,7 +317,8 @@ unfoldable pub args_stand : (a : ArgTrees) → AreArguments a → StandsFor (the
 args_stand a are rest after y =
     chooses _ first (shows (suits_sign sym.OpenParen)
     (arguments_stand (map print_term a.values)
-    (each_kept (IsTerm the_production.Term) (StandsFor (the the_production.Term)) print_term is_term_stands a.values are) _ _
+    (each_kept (IsTerm the_production.Term) (StandsFor (the the_production.Term)) print_term is_term_stands a.values
+    are) _ _
     (shows (suits_sign sym.Semicolon)
     (list_stand the_production.MoreChannelArguments NAME sym.Comma first (later first)
     the_production.ChannelArguments first (later first)
@@ -336,7 +346,9 @@ bound_stands v rest after y = shows (suits_name v) (shows (suits_sign sym.Equals
 
 unfoldable pub step_stands : (step : StepTree) → IsStep step → StandsFor (the the_production.Step) (print_step step)
 step_stands (label x l) is rest after y =
-    chooses _ (later (later (later (later (later (later (later (later (later (later (later (later (later (later (later first))))))))))))))) (passes (chan_stands x _ _ (shows (suits_sign sym.Dot) (shows (suits_name l) y))))
+    chooses _ (later (later (later
+    (later (later (later (later (later (later (later (later (later (later (later (later first)))))))))))))))
+    (passes (chan_stands x _ _ (shows (suits_sign sym.Dot) (shows (suits_name l) y))))
 step_stands (send at x n) is rest after y =
     chooses _ first (passes (shows (suits_keyword_at at word.Send) (name_behind x n _ _ y)))
 step_stands (recv at x n) is rest after y =
@@ -347,17 +359,23 @@ step_stands (put at x e) is rest after y =
 step_stands (taking at x n) is rest after y =
     chooses _ (later (later (later first))) (passes (shows (suits_keyword_at at word.Take) (name_behind x n _ _ y)))
 step_stands (pay at x q) is rest after y =
-    chooses _ (later (later (later (later first)))) (passes (shows (suits_keyword_at at word.Pay) (potential_behind x q _ _ y)))
+    chooses _ (later (later (later (later first))))
+    (passes (shows (suits_keyword_at at word.Pay) (potential_behind x q _ _ y)))
 step_stands (getting at x q) is rest after y =
-    chooses _ (later (later (later (later (later first))))) (passes (shows (suits_keyword_at at word.Get) (potential_behind x q _ _ y)))
+    chooses _ (later (later (later (later (later first)))))
+    (passes (shows (suits_keyword_at at word.Get) (potential_behind x q _ _ y)))
 step_stands (work at q) is rest after y =
-    chooses _ (later (later (later (later (later (later first)))))) (passes (shows (suits_keyword_at at word.Work) (potential_stands q _ _ y)))
+    chooses _ (later (later (later (later (later (later first))))))
+    (passes (shows (suits_keyword_at at word.Work) (potential_stands q _ _ y)))
 step_stands (wait at n) is rest after y =
-    chooses _ (later (later (later (later (later (later (later first))))))) (passes (shows (suits_keyword_at at word.Wait) (shows (suits_name n) y)))
+    chooses _ (later (later (later (later (later (later (later first)))))))
+    (passes (shows (suits_keyword_at at word.Wait) (shows (suits_name n) y)))
 step_stands (accept at) is rest after y =
-    chooses _ (later (later (later (later (later (later (later (later first)))))))) (passes (shows (suits_keyword_at at word.Accept) y))
+    chooses _ (later (later (later (later (later (later (later (later first))))))))
+    (passes (shows (suits_keyword_at at word.Accept) y))
 step_stands (detach at) is rest after y =
-    chooses _ (later (later (later (later (later (later (later (later (later first))))))))) (passes (shows (suits_keyword_at at word.Detach) y))
+    chooses _ (later (later (later (later (later (later (later (later (later first)))))))))
+    (passes (shows (suits_keyword_at at word.Detach) y))
 step_stands (acquire at a x) is rest after y =
     chooses _ (later (later (later (later (later (later (later (later (later (later first)))))))))) (passes
     (shows (suits_keyword_at at word.Acquire) (name_as_name a x _ _ y)))
@@ -365,22 +383,28 @@ step_stands (release at x a) is rest after y =
     chooses _ (later (later (later (later (later (later (later (later (later (later (later first))))))))))) (passes
     (shows (suits_keyword_at at word.Release) (name_as_name x a _ _ y)))
 step_stands (spawn at x f arguments) is rest after y =
-    chooses _ (later (later (later (later (later (later (later (later (later (later (later (later first)))))))))))) (passes
+    chooses _ (later (later (later (later (later (later (later (later (later (later (later (later first))))))))))))
+    (passes
     (shows (suits_keyword_at at word.Spawn) (shows (suits_name x) (shows (suits_sign sym.Equals) (shows (suits_name f)
     (args_stand arguments is _ _ y))))))
 step_stands (binding at v e) is rest after y =
-    chooses _ (later (later (later (later (later (later (later (later (later (later (later (later (later first))))))))))))) (passes
+    chooses _ (later (later (later
+    (later (later (later (later (later (later (later (later (later (later first))))))))))))) (passes
     (shows (suits_keyword_at at word.Let) (bound_stands v _ _ (chooses _ (later first) (is_term_stands e is _ _ y)))))
 step_stands (empty_list at v list_at q t) is rest after y =
-    chooses _ (later (later (later (later (later (later (later (later (later (later (later (later (later first))))))))))))) (passes
-    (shows (suits_keyword_at at word.Let) (bound_stands v _ _ (chooses _ first (shows (suits_keyword_at list_at word.List)
+    chooses _ (later (later (later
+    (later (later (later (later (later (later (later (later (later (later first))))))))))))) (passes
+    (shows (suits_keyword_at at word.Let)
+    (bound_stands v _ _ (chooses _ first (shows (suits_keyword_at list_at word.List)
     (chooses _ first (passes (potential_stands q _ _ (value_type_stands t _ _ y)))))))))
 step_stands (longer_list at v e w) is rest after y =
-    chooses _ (later (later (later (later (later (later (later (later (later (later (later (later (later first))))))))))))) (passes
+    chooses _ (later (later (later
+    (later (later (later (later (later (later (later (later (later (later first))))))))))))) (passes
     (shows (suits_keyword_at at word.Let) (bound_stands v _ _ (chooses _ first (shows (suits_keyword word.List)
     (chooses _ (later first) (is_term_stands e is _ _ (shows (suits_sign sym.Comma) (shows (suits_name w) y)))))))))
 step_stands (emit at e) is rest after y =
-    chooses _ (later (later (later (later (later (later (later (later (later (later (later (later (later (later first)))))))))))))) (passes
+    chooses _ (later (later (later
+    (later (later (later (later (later (later (later (later (later (later (later first)))))))))))))) (passes
     (shows (suits_keyword_at at word.Emit) (is_term_stands e is _ _ y)))
 
 -- codes
@@ -398,7 +422,8 @@ steps_stand (step ∷ steps) each last stands rest after y =
 unfoldable pub braced_stands : (printer : Printer) → StandsFor (the the_production.Code) printer →
     StandsFor (the the_production.BracedCode) (λ after. sign sym.OpenBrace ∷ printer (sign sym.CloseBrace ∷ after))
 braced_stands printer stands rest after y =
-    chooses _ first (passes (shows (suits_sign sym.OpenBrace) (stands _ _ (shows (suits_sign sym.CloseBrace) (passes y)))))
+    chooses _ first (passes (shows (suits_sign sym.OpenBrace)
+    (stands _ _ (shows (suits_sign sym.CloseBrace) (passes y)))))
 
 unfoldable pub arm_stands : (l : NameAt) (printer : Printer) → StandsFor (the the_production.Code) printer →
     StandsFor (the the_production.Branch) (λ after. print_name l ∷ sign sym.FatArrow ∷ printer after)
@@ -433,7 +458,8 @@ unfoldable mutual
       (shows (suits_sign sym.OpenBrace) (arms_parted _ _ (each_arm (arm l goes arms) is.1) _ _
       (shows (suits_sign sym.CloseBrace) y))))))
   last_stands (code_match at w empty head tail more) is rest after y =
-      chooses _ (later (later (later (later first)))) (passes (shows (suits_keyword_at at word.Match) (shows (suits_name w)
+      chooses _ (later (later (later (later first))))
+      (passes (shows (suits_keyword_at at word.Match) (shows (suits_name w)
       (shows (suits_sign sym.OpenBrace) (passes (shows (suits_keyword word.Nil) (shows (suits_sign sym.FatArrow)
       (code_stands empty is.0 _ _ (passes (shows (suits_sign sym.Bar) (passes (heading_stands head tail _ _
       (code_stands more is.1 _ _ (passes (shows (suits_sign sym.CloseBrace) y)))))))))))))))
@@ -464,7 +490,8 @@ list_potential_stands (Some l) t = λ rest after y.
 
 unfoldable pub par_stands : (p : ProcessPar) → StandsFor (the the_production.ValueParameter) (print_par p)
 par_stands p rest after y =
-    chooses _ first (shows (suits_name p.name) (shows (suits_sign sym.Colon) (list_potential_stands p.«list» p.value _ _ y)))
+    chooses _ first (shows (suits_name p.name)
+    (shows (suits_sign sym.Colon) (list_potential_stands p.«list» p.value _ _ y)))
 
 unfoldable pub value_par_stands : (p : ValuePar) → StandsFor (the the_production.FunctionParameter) (print_value_par p)
 value_par_stands p rest after y =
@@ -486,13 +513,15 @@ pars_stand p are rest after y =
     (list_stand the_production.MoreChannelParameters (the the_production.ChannelParameter) sym.Comma first (later first)
     the_production.ChannelParameters first (later first)
     (map print_chan_par p.channels)
-    (each_kept IsChanPar (StandsFor (the the_production.ChannelParameter)) print_chan_par chan_par_stands p.channels are) _ _
+    (each_kept IsChanPar (StandsFor (the the_production.ChannelParameter)) print_chan_par chan_par_stands p.channels
+    are) _ _
     (shows (suits_sign sym.CloseParen) y)))))
 
 unfoldable pub value_pars_stand : (pars : List ValuePar) →
     StandsFor (the the_production.FunctionParameters) (print_parted sym.Comma (map print_value_par pars))
 value_pars_stand pars =
-    list_stand the_production.MoreFunctionParameters (the the_production.FunctionParameter) sym.Comma first (later first)
+    list_stand the_production.MoreFunctionParameters (the the_production.FunctionParameter) sym.Comma first
+    (later first)
     the_production.FunctionParameters first (later first)
     (map print_value_par pars)
     (each_mapped (StandsFor (the the_production.FunctionParameter)) print_value_par value_par_stands pars)
@@ -506,7 +535,8 @@ mode_stands mode.L rest after y = chooses _ (later (later first)) (shows (suits_
 -- `=`, a code and `;`
 unfoldable pub body_stands : (c : CodeTree) → IsCode c → (rest : List Part) (after : List Shown) → Yields rest after →
     Yields (sign_part sym.Equals ∷ the the_production.Code ∷ sign_part sym.Semicolon ∷ rest) (print_body c after)
-body_stands c is rest after y = shows (suits_sign sym.Equals) (code_stands c is _ _ (shows (suits_sign sym.Semicolon) y))
+body_stands c is rest after y =
+    shows (suits_sign sym.Equals) (code_stands c is _ _ (shows (suits_sign sym.Semicolon) y))
 
 unfoldable pub decl_stands : (d : DeclTree) → IsDecl d → StandsFor (the the_production.Declaration) (print_decl d)
 decl_stands (definition at m n body) is rest after y =
@@ -553,5 +583,6 @@ unfoldable pub file_yields : (f : FileTree) → IsGrammatical f → Yields file 
 file_yields f is = file_stand f.cost f.decls is
 
 -- So tokens that a tree prints are a file of the grammar.
-pub printed-is-file : (f : FileTree) → IsGrammatical f → (tokens : List Placed) → Spells (print_file f) tokens → IsFile tokens
+pub printed-is-file : (f : FileTree) → IsGrammatical f → (tokens : List Placed) → Spells (print_file f) tokens
+    → IsFile tokens
 printed-is-file f is tokens spelled = yields-derives (file_yields f is) tokens spelled

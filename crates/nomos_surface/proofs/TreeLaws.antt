@@ -63,13 +63,19 @@ amount_made (made _ (later first) (made_more (made_token {x} f) made_none)) =
     record { tree = (x.at, quantity.Number (value_of x f)); is = tt; reads = λ after h. (meets_number x f, h) }
 amount_made (made _ (later (later gap)) _) = elim gap [ ]
 
-pub potential_made : {ts us : List Placed} → Makes (the the_production.Potential) ts us → Printed Potential Any print_potential ts us
-potential_made (made _ first (made_more (made_token {x} f) (made_more amount (made_more (made_token {x = y} g) made_none)))) =
+pub potential_made : {ts us : List Placed} → Makes (the the_production.Potential) ts us
+    → Printed Potential Any print_potential ts us
+potential_made (made _ first (made_more (made_token {x} f)
+    (made_more amount (made_more (made_token {x = y} g) made_none)))) =
     let a = amount_made amount in
     record {
       tree = record { at = x.at; quantity = a.tree.1; quantity_at = a.tree.0 };
       is = tt;
-      reads = λ after h. (meets_sign_at sym.OpenBrace x f, a.reads (sign sym.CloseBrace ∷ after) (meets_sign sym.CloseBrace y g, h));
+      reads =
+          λ after h. (
+            meets_sign_at sym.OpenBrace x f,
+            a.reads (sign sym.CloseBrace ∷ after) (meets_sign sym.CloseBrace y g, h),
+          );
     }
 potential_made (made _ (later gap) _) = elim gap [ ]
 
@@ -82,21 +88,25 @@ optional_made (made _ (later (later gap)) _) = elim gap [ ]
 
 -- the types of values
 
-pub value_type_made : {ts us : List Placed} → Makes (the the_production.ValueType) ts us → Printed ValueType Any print_value_type ts us
-value_type_made (made _ first (made_more made_mark (made_more made_mark (made_more (made_token {x} f) (made_more inner (made_more made_mark made_none)))))) =
+pub value_type_made : {ts us : List Placed} → Makes (the the_production.ValueType) ts us
+    → Printed ValueType Any print_value_type ts us
+value_type_made (made _ first (made_more made_mark
+    (made_more made_mark (made_more (made_token {x} f) (made_more inner (made_more made_mark made_none)))))) =
     let r = value_type_made inner in
     record {
       tree = record { lists = x.at ∷ r.tree.lists; base = r.tree.base; base_at = r.tree.base_at };
       is = tt;
       reads = λ after h. (meets_keyword_at word.List x f, r.reads after h);
     }
-value_type_made (made _ (later first) (made_more made_mark (made_more made_mark (made_more (made_token {x} f) (made_more made_mark made_none))))) =
+value_type_made (made _ (later first)
+    (made_more made_mark (made_more made_mark (made_more (made_token {x} f) (made_more made_mark made_none))))) =
     record {
       tree = record { lists = []; base = base.Int; base_at = x.at };
       is = tt;
       reads = λ after h. (meets_keyword_at word.Int x f, h);
     }
-value_type_made (made _ (later (later first)) (made_more made_mark (made_more made_mark (made_more (made_token {x} f) (made_more made_mark made_none))))) =
+value_type_made (made _ (later (later first))
+    (made_more made_mark (made_more made_mark (made_more (made_token {x} f) (made_more made_mark made_none))))) =
     record {
       tree = record { lists = []; base = base.Bool; base_at = x.at };
       is = tt;
@@ -132,7 +142,8 @@ abbrev AreSome : BranchTrees → Type 0
 AreSome no_branches = Unit {0}
 AreSome (branch l goes branches) = AreBranches (branch l goes branches)
 
-are_branches : (l : NameAt) (goes : TypeTree) (more : BranchTrees) → IsSession goes → AreSome more → AreBranches (branch l goes more)
+are_branches : (l : NameAt) (goes : TypeTree) (more : BranchTrees) → IsSession goes → AreSome more
+    → AreBranches (branch l goes more)
 are_branches l goes no_branches is some = last_branch is
 are_branches l goes (branch m then_goes more) is some = more_branches is some
 
@@ -143,30 +154,57 @@ abbrev pub print_labelled : Labelled → Printer
 print_labelled b after = print_name b.0 ∷ sign sym.Colon ∷ print_type b.1 after
 
 mutual
-  pub type_made : {ts us : List Placed} → Makes (the the_production.SessionType) ts us → MadeType the_production.SessionType ts us
-  type_made (made _ first (made_more made_mark (made_more made_mark (made_more (made_token {x} f) (made_more goes (made_more made_mark made_none)))))) =
+  pub type_made : {ts us : List Placed} → Makes (the the_production.SessionType) ts us
+      → MadeType the_production.SessionType ts us
+  type_made (made _ first (made_more made_mark
+      (made_more made_mark (made_more (made_token {x} f) (made_more goes (made_more made_mark made_none)))))) =
       let r = type_made goes in
-      record { tree = going_up x.at r.tree; is = is_up r.is; reads = λ after h. (meets_keyword_at word.Up x f, r.reads after h) }
-  type_made (made _ (later first) (made_more made_mark (made_more made_mark (made_more (made_token {x} f) (made_more goes (made_more made_mark made_none)))))) =
+      record {
+        tree = going_up x.at r.tree;
+        is = is_up r.is;
+        reads = λ after h. (meets_keyword_at word.Up x f, r.reads after h);
+      }
+  type_made (made _ (later first)
+      (made_more made_mark (made_more made_mark
+      (made_more (made_token {x} f) (made_more goes (made_more made_mark made_none)))))) =
       let r = type_made goes in
-      record { tree = going_down x.at r.tree; is = is_down r.is; reads = λ after h. (meets_keyword_at word.Down x f, r.reads after h) }
-  type_made (made _ (later (later first)) (made_more made_mark (made_more made_mark (made_more (made_token {x} f) (made_more potential (made_more (made_token {x = y} g) (made_more goes (made_more made_mark made_none)))))))) =
+      record {
+        tree = going_down x.at r.tree;
+        is = is_down r.is;
+        reads = λ after h. (meets_keyword_at word.Down x f, r.reads after h);
+      }
+  type_made (made _ (later (later first))
+      (made_more made_mark (made_more made_mark
+      (made_more (made_token {x} f) (made_more potential
+      (made_more (made_token {x = y} g) (made_more goes (made_more made_mark made_none)))))))) =
       let q = potential_made potential in
       let r = type_made goes in
       record {
         tree = paying sender.Provider x.at q.tree r.tree;
         is = is_paying r.is;
-        reads = λ after h. (meets_sign_at sym.Bar x f, q.reads (sign sym.Greater ∷ print_type r.tree after) (meets_sign sym.Greater y g, r.reads after h));
+        reads =
+            λ after h. (
+              meets_sign_at sym.Bar x f,
+              q.reads (sign sym.Greater ∷ print_type r.tree after) (meets_sign sym.Greater y g, r.reads after h),
+            );
       }
-  type_made (made _ (later (later (later first))) (made_more made_mark (made_more made_mark (made_more (made_token {x} f) (made_more potential (made_more (made_token {x = y} g) (made_more goes (made_more made_mark made_none)))))))) =
+  type_made (made _ (later (later (later first)))
+      (made_more made_mark (made_more made_mark
+      (made_more (made_token {x} f) (made_more potential
+      (made_more (made_token {x = y} g) (made_more goes (made_more made_mark made_none)))))))) =
       let q = potential_made potential in
       let r = type_made goes in
       record {
         tree = paying sender.Client x.at q.tree r.tree;
         is = is_paying r.is;
-        reads = λ after h. (meets_sign_at sym.Less x f, q.reads (sign sym.Bar ∷ print_type r.tree after) (meets_sign sym.Bar y g, r.reads after h));
+        reads =
+            λ after h. (
+              meets_sign_at sym.Less x f,
+              q.reads (sign sym.Bar ∷ print_type r.tree after) (meets_sign sym.Bar y g, r.reads after h),
+            );
       }
-  type_made (made _ (later (later (later (later first)))) (made_more made_mark (made_more value (made_more arrow (made_more goes (made_more made_mark made_none)))))) =
+  type_made (made _ (later (later (later (later first))))
+      (made_more made_mark (made_more value (made_more arrow (made_more goes (made_more made_mark made_none)))))) =
       let v = value_type_made value in
       let a = arrow_made arrow in
       let r = type_made goes in
@@ -175,7 +213,8 @@ mutual
         is = is_valued r.is;
         reads = λ after h. v.reads _ (a.reads _ (r.reads after h));
       }
-  type_made (made _ (later (later (later (later (later first))))) (made_more made_mark (made_more atom (made_more after_atom (made_more made_mark made_none))))) =
+  type_made (made _ (later (later (later (later (later first)))))
+      (made_more made_mark (made_more atom (made_more after_atom (made_more made_mark made_none))))) =
       let a = atom_made atom in
       carried_made a.tree a.is a.reads after_atom
   type_made (made _ (later (later (later (later (later (later gap)))))) _) = elim gap [ ]
@@ -183,48 +222,72 @@ mutual
   -- an atom, and what stands behind it
   carried_made : {ts us vs : List Placed} (t : TypeTree) → IsType the_production.Atom t → Reads (print_type t) ts us →
       Makes (the the_production.AfterAtom) us vs → MadeType the_production.SessionType ts vs
-  carried_made t is reads (made _ first (made_more made_mark (made_more (made_token {x} f) (made_more goes made_none)))) =
+  carried_made t is reads (made _ first
+      (made_more made_mark (made_more (made_token {x} f) (made_more goes made_none)))) =
       let r = type_made goes in
       record {
         tree = channel sender.Provider x.at t r.tree;
         is = is_channel is r.is;
-        reads = λ after h. reads (sign_at x.at sym.Star ∷ print_type r.tree after) (meets_sign_at sym.Star x f, r.reads after h);
+        reads =
+            λ after h. reads (sign_at x.at sym.Star ∷ print_type r.tree after)
+            (meets_sign_at sym.Star x f, r.reads after h);
       }
-  carried_made t is reads (made _ (later first) (made_more made_mark (made_more (made_token {x} f) (made_more goes made_none)))) =
+  carried_made t is reads (made _ (later first)
+      (made_more made_mark (made_more (made_token {x} f) (made_more goes made_none)))) =
       let r = type_made goes in
       record {
         tree = channel sender.Client x.at t r.tree;
         is = is_channel is r.is;
-        reads = λ after h. reads (sign_at x.at sym.Lollipop ∷ print_type r.tree after) (meets_sign_at sym.Lollipop x f, r.reads after h);
+        reads =
+            λ after h. reads (sign_at x.at sym.Lollipop ∷ print_type r.tree after)
+            (meets_sign_at sym.Lollipop x f, r.reads after h);
       }
   carried_made t is reads (made _ (later (later first)) made_none) = record { tree = t; is = is_atom is; reads = reads }
   carried_made _ _ _ (made _ (later (later (later gap))) _) = elim gap [ ]
 
   atom_made : {ts us : List Placed} → Makes (the the_production.Atom) ts us → MadeType the_production.Atom ts us
-  atom_made (made _ first (made_more (made_token {x} f) (made_more inner (made_more (made_token {x = y} g) made_none)))) =
+  atom_made (made _ first (made_more (made_token {x} f)
+      (made_more inner (made_more (made_token {x = y} g) made_none)))) =
       let r = type_made inner in
       record {
         tree = grouped r.tree;
         is = is_grouped r.is;
-        reads = λ after h. (meets_sign sym.OpenParen x f, r.reads (sign sym.CloseParen ∷ after) (meets_sign sym.CloseParen y g, h));
+        reads =
+            λ after h. (
+              meets_sign sym.OpenParen x f,
+              r.reads (sign sym.CloseParen ∷ after) (meets_sign sym.CloseParen y g, h),
+            );
       }
-  atom_made (made _ (later first) (made_more made_mark (made_more (made_token {x} f) (made_more (made_token {x = y} g) (made_more labels (made_more (made_token {x = z} k) made_none)))))) =
+  atom_made (made _ (later first)
+      (made_more made_mark (made_more (made_token {x} f)
+      (made_more (made_token {x = y} g) (made_more labels (made_more (made_token {x = z} k) made_none)))))) =
       let r = labels_made labels in
       record {
         tree = choice sender.Provider x.at r.tree;
         is = is_choice r.is;
-        reads = λ after h. (meets_sign_at sym.Plus x f, (meets_sign sym.OpenBrace y g, r.reads (sign sym.CloseBrace ∷ after) (meets_sign sym.CloseBrace z k, h)));
+        reads =
+            λ after h. (
+              meets_sign_at sym.Plus x f,
+              (meets_sign sym.OpenBrace y g, r.reads (sign sym.CloseBrace ∷ after) (meets_sign sym.CloseBrace z k, h)),
+            );
       }
-  atom_made (made _ (later (later first)) (made_more made_mark (made_more (made_token {x} f) (made_more (made_token {x = y} g) (made_more labels (made_more (made_token {x = z} k) made_none)))))) =
+  atom_made (made _ (later (later first))
+      (made_more made_mark (made_more (made_token {x} f)
+      (made_more (made_token {x = y} g) (made_more labels (made_more (made_token {x = z} k) made_none)))))) =
       let r = labels_made labels in
       record {
         tree = choice sender.Client x.at r.tree;
         is = is_choice r.is;
-        reads = λ after h. (meets_sign_at sym.Ampersand x f, (meets_sign sym.OpenBrace y g, r.reads (sign sym.CloseBrace ∷ after) (meets_sign sym.CloseBrace z k, h)));
+        reads =
+            λ after h. (
+              meets_sign_at sym.Ampersand x f,
+              (meets_sign sym.OpenBrace y g, r.reads (sign sym.CloseBrace ∷ after) (meets_sign sym.CloseBrace z k, h)),
+            );
       }
   atom_made (made _ (later (later (later first))) (made_more made_mark (made_more (made_token {x} f) made_none))) =
       record { tree = named (name_of x f); is = is_named; reads = λ after h. (meets_name x f, h) }
-  atom_made (made _ (later (later (later (later first)))) (made_more made_mark (made_more (made_token {x} f) made_none))) =
+  atom_made (made _ (later (later (later (later first))))
+      (made_more made_mark (made_more (made_token {x} f) made_none))) =
       record { tree = one x.at; is = is_one; reads = λ after h. (meets_one x f, h) }
   atom_made (made _ (later (later (later (later (later gap))))) _) = elim gap [ ]
 
@@ -254,7 +317,8 @@ mutual
 
   labelled_made : {ts us : List Placed} → Makes (the the_production.LabelledType) ts us →
       Printed Labelled (λ b. IsSession b.1) print_labelled ts us
-  labelled_made (made _ first (made_more (made_token {x} f) (made_more (made_token {x = y} g) (made_more goes made_none)))) =
+  labelled_made (made _ first (made_more (made_token {x} f)
+      (made_more (made_token {x = y} g) (made_more goes made_none)))) =
       let r = type_made goes in
       record {
         tree = (name_of x f, r.tree);
@@ -285,7 +349,10 @@ print_arguments ts = print_parted sym.Comma (map print_term ts)
 
 mutual
   pub term_made : {ts us : List Placed} → Makes (the the_production.Term) ts us → MadeTerm the_production.Term ts us
-  term_made (made _ first (made_more made_mark (made_more made_mark (made_more (made_token {x} f) (made_more test (made_more (made_token {x = y} g) (made_more holds (made_more (made_token {x = z} k) (made_more fails (made_more made_mark made_none)))))))))) =
+  term_made (made _ first (made_more made_mark
+      (made_more made_mark (made_more (made_token {x} f)
+      (made_more test (made_more (made_token {x = y} g)
+      (made_more holds (made_more (made_token {x = z} k) (made_more fails (made_more made_mark made_none)))))))))) =
       let t = term_made test in
       let u = term_made holds in
       let v = term_made fails in
@@ -300,7 +367,18 @@ mutual
           ),
         );
       }
-  term_made (made _ (later first) (made_more made_mark (made_more made_mark (made_more (made_token {x} f) (made_more matched (made_more (made_token {x = x1} f1) (made_more (made_token {x = x2} f2) (made_more (made_token {x = x3} f3) (made_more empty (made_more (made_token {x = x4} f4) (made_more (made_token {x = x5} f5) (made_more (made_token {x = x6} f6) (made_more (made_token {x = x7} f7) (made_more (made_token {x = x8} f8) (made_more more (made_more (made_token {x = x9} f9) (made_more made_mark made_none))))))))))))))))) =
+  term_made (made _ (later first)
+      (made_more made_mark (made_more made_mark
+      (made_more (made_token {x} f) (made_more matched
+      (made_more (made_token {x = x1} f1)
+      (made_more (made_token {x = x2} f2)
+      (made_more (made_token {x = x3} f3)
+      (made_more empty (made_more (made_token {x = x4} f4)
+      (made_more (made_token {x = x5} f5)
+      (made_more (made_token {x = x6} f6)
+      (made_more (made_token {x = x7} f7)
+      (made_more (made_token {x = x8} f8)
+      (made_more more (made_more (made_token {x = x9} f9) (made_more made_mark made_none))))))))))))))))) =
       let t = term_made matched in
       let u = term_made empty in
       let v = term_made more in
@@ -309,115 +387,151 @@ mutual
         is = is_matching t.is u.is v.is;
         reads = λ after h. (
           meets_keyword_at word.Match x f,
-          t.reads (sign sym.OpenBrace ∷ keyword word.Nil ∷ sign sym.FatArrow ∷ print_term u.tree (sign sym.Bar ∷ print_heading (name_of x5 f5) (name_of x7 f7) (print_term v.tree (sign sym.CloseBrace ∷ after)))) (
-            meets_sign sym.OpenBrace x1 f1,
-            (
-              meets_keyword word.Nil x2 f2,
-              (
-                meets_sign sym.FatArrow x3 f3,
-                u.reads (sign sym.Bar ∷ print_heading (name_of x5 f5) (name_of x7 f7) (print_term v.tree (sign sym.CloseBrace ∷ after))) (
-                  meets_sign sym.Bar x4 f4,
+          t.reads (sign sym.OpenBrace ∷ keyword word.Nil ∷ sign sym.FatArrow ∷
+              print_term u.tree (sign sym.Bar ∷
+              print_heading (name_of x5 f5) (name_of x7 f7) (print_term v.tree (sign sym.CloseBrace ∷ after)))) (
+                meets_sign sym.OpenBrace x1 f1,
+                (
+                  meets_keyword word.Nil x2 f2,
                   (
-                    meets_name x5 f5,
-                    (
-                      meets_sign sym.DoubleColon x6 f6,
-                      (
-                        meets_name x7 f7,
-                        (
-                          meets_sign sym.FatArrow x8 f8,
-                          v.reads (sign sym.CloseBrace ∷ after) (meets_sign sym.CloseBrace x9 f9, h),
+                    meets_sign sym.FatArrow x3 f3,
+                    u.reads (sign sym.Bar ∷ print_heading (name_of x5 f5) (name_of x7 f7)
+                        (print_term v.tree (sign sym.CloseBrace ∷ after))) (
+                          meets_sign sym.Bar x4 f4,
+                          (
+                            meets_name x5 f5,
+                            (
+                              meets_sign sym.DoubleColon x6 f6,
+                              (
+                                meets_name x7 f7,
+                                (
+                                  meets_sign sym.FatArrow x8 f8,
+                                  v.reads (sign sym.CloseBrace ∷ after) (meets_sign sym.CloseBrace x9 f9, h),
+                                ),
+                              ),
+                            ),
+                          ),
                         ),
-                      ),
-                    ),
                   ),
                 ),
               ),
-            ),
-          ),
         );
       }
   term_made (made _ (later (later first)) (made_more made_mark (made_more inner (made_more made_mark made_none)))) =
       let r = disjunction_made inner in record { tree = r.tree; is = is_disjunction r.is; reads = r.reads }
   term_made (made _ (later (later (later gap))) _) = elim gap [ ]
 
-  disjunction_made : {ts us : List Placed} → Makes (the the_production.Disjunction) ts us → MadeTerm the_production.Disjunction ts us
+  disjunction_made : {ts us : List Placed} → Makes (the the_production.Disjunction) ts us
+      → MadeTerm the_production.Disjunction ts us
   disjunction_made (made _ first (made_more inner (made_more others made_none))) =
       let r = conjunction_made inner in
       more_disjuncts_made r.tree (is_conjunction r.is) r.reads others
   disjunction_made (made _ (later gap) _) = elim gap [ ]
 
   -- a term, and the operators of its production that stand behind it
-  more_disjuncts_made : {ts us vs : List Placed} (t : TermTree) → IsTerm the_production.Disjunction t → Reads (print_term t) ts us →
+  more_disjuncts_made : {ts us vs : List Placed} (t : TermTree) → IsTerm the_production.Disjunction t
+      → Reads (print_term t) ts us →
       Makes (the the_production.MoreDisjuncts) us vs → MadeTerm the_production.Disjunction ts vs
-  more_disjuncts_made t is reads (made _ first (made_more made_mark (made_more (made_token {x} f) (made_more made_mark (made_more right (made_more others made_none)))))) =
+  more_disjuncts_made t is reads
+      (made _ first (made_more made_mark
+      (made_more (made_token {x} f) (made_more made_mark (made_more right (made_more others made_none)))))) =
       let r = conjunction_made right in
       more_disjuncts_made (binary operator.Or x.at t r.tree) (is_or is r.is)
-      (λ after h. reads (keyword_at x.at word.Or ∷ print_term r.tree after) (meets_keyword_at word.Or x f, r.reads after h)) others
+      (λ after h. reads (keyword_at x.at word.Or ∷ print_term r.tree after)
+      (meets_keyword_at word.Or x f, r.reads after h)) others
   more_disjuncts_made t is reads (made _ (later first) made_none) = record { tree = t; is = is; reads = reads }
   more_disjuncts_made _ _ _ (made _ (later (later gap)) _) = elim gap [ ]
 
-  conjunction_made : {ts us : List Placed} → Makes (the the_production.Conjunction) ts us → MadeTerm the_production.Conjunction ts us
+  conjunction_made : {ts us : List Placed} → Makes (the the_production.Conjunction) ts us
+      → MadeTerm the_production.Conjunction ts us
   conjunction_made (made _ first (made_more inner (made_more others made_none))) =
       let r = negation_made inner in
       more_conjuncts_made r.tree (is_negation r.is) r.reads others
   conjunction_made (made _ (later gap) _) = elim gap [ ]
 
-  more_conjuncts_made : {ts us vs : List Placed} (t : TermTree) → IsTerm the_production.Conjunction t → Reads (print_term t) ts us →
+  more_conjuncts_made : {ts us vs : List Placed} (t : TermTree) → IsTerm the_production.Conjunction t
+      → Reads (print_term t) ts us →
       Makes (the the_production.MoreConjuncts) us vs → MadeTerm the_production.Conjunction ts vs
-  more_conjuncts_made t is reads (made _ first (made_more made_mark (made_more (made_token {x} f) (made_more made_mark (made_more right (made_more others made_none)))))) =
+  more_conjuncts_made t is reads
+      (made _ first (made_more made_mark
+      (made_more (made_token {x} f) (made_more made_mark (made_more right (made_more others made_none)))))) =
       let r = negation_made right in
       more_conjuncts_made (binary operator.And x.at t r.tree) (is_and is r.is)
-      (λ after h. reads (keyword_at x.at word.And ∷ print_term r.tree after) (meets_keyword_at word.And x f, r.reads after h)) others
+      (λ after h. reads (keyword_at x.at word.And ∷ print_term r.tree after)
+      (meets_keyword_at word.And x f, r.reads after h)) others
   more_conjuncts_made t is reads (made _ (later first) made_none) = record { tree = t; is = is; reads = reads }
   more_conjuncts_made _ _ _ (made _ (later (later gap)) _) = elim gap [ ]
 
-  negation_made : {ts us : List Placed} → Makes (the the_production.Negation) ts us → MadeTerm the_production.Negation ts us
-  negation_made (made _ first (made_more made_mark (made_more made_mark (made_more (made_token {x} f) (made_more inner (made_more made_mark made_none)))))) =
+  negation_made : {ts us : List Placed} → Makes (the the_production.Negation) ts us
+      → MadeTerm the_production.Negation ts us
+  negation_made (made _ first (made_more made_mark
+      (made_more made_mark (made_more (made_token {x} f) (made_more inner (made_more made_mark made_none)))))) =
       let r = negation_made inner in
-      record { tree = negation x.at r.tree; is = is_not r.is; reads = λ after h. (meets_keyword_at word.Not x f, r.reads after h) }
+      record {
+        tree = negation x.at r.tree;
+        is = is_not r.is;
+        reads = λ after h. (meets_keyword_at word.Not x f, r.reads after h);
+      }
   negation_made (made _ (later first) (made_more made_mark (made_more inner (made_more made_mark made_none)))) =
       let r = comparison_made inner in record { tree = r.tree; is = is_comparison r.is; reads = r.reads }
   negation_made (made _ (later (later gap)) _) = elim gap [ ]
 
-  comparison_made : {ts us : List Placed} → Makes (the the_production.Comparison) ts us → MadeTerm the_production.Comparison ts us
+  comparison_made : {ts us : List Placed} → Makes (the the_production.Comparison) ts us
+      → MadeTerm the_production.Comparison ts us
   comparison_made (made _ first (made_more inner (made_more others made_none))) =
       let r = list_term_made inner in
       more_comparison_made r.tree r.is r.reads others
   comparison_made (made _ (later gap) _) = elim gap [ ]
 
-  more_comparison_made : {ts us vs : List Placed} (t : TermTree) → IsTerm the_production.ListTerm t → Reads (print_term t) ts us →
+  more_comparison_made : {ts us vs : List Placed} (t : TermTree) → IsTerm the_production.ListTerm t
+      → Reads (print_term t) ts us →
       Makes (the the_production.MoreComparison) us vs → MadeTerm the_production.Comparison ts vs
-  more_comparison_made t is reads (made _ first (made_more made_mark (made_more (made_token {x} f) (made_more made_mark (made_more right made_none))))) =
+  more_comparison_made t is reads
+      (made _ first (made_more made_mark
+      (made_more (made_token {x} f) (made_more made_mark (made_more right made_none))))) =
       let r = list_term_made right in
       record {
         tree = binary operator.Less x.at t r.tree;
         is = is_less is r.is;
-        reads = λ after h. reads (sign_at x.at sym.Less ∷ print_term r.tree after) (meets_sign_at sym.Less x f, r.reads after h);
+        reads =
+            λ after h. reads (sign_at x.at sym.Less ∷ print_term r.tree after)
+            (meets_sign_at sym.Less x f, r.reads after h);
       }
-  more_comparison_made t is reads (made _ (later first) (made_more made_mark (made_more (made_token {x} f) (made_more made_mark (made_more right made_none))))) =
+  more_comparison_made t is reads
+      (made _ (later first) (made_more made_mark
+      (made_more (made_token {x} f) (made_more made_mark (made_more right made_none))))) =
       let r = list_term_made right in
       record {
         tree = binary operator.Equal x.at t r.tree;
         is = is_equal is r.is;
-        reads = λ after h. reads (sign_at x.at sym.Equals ∷ print_term r.tree after) (meets_sign_at sym.Equals x f, r.reads after h);
+        reads =
+            λ after h. reads (sign_at x.at sym.Equals ∷ print_term r.tree after)
+            (meets_sign_at sym.Equals x f, r.reads after h);
       }
-  more_comparison_made t is reads (made _ (later (later first)) made_none) = record { tree = t; is = is_list_term is; reads = reads }
+  more_comparison_made t is reads (made _ (later (later first)) made_none) =
+      record { tree = t; is = is_list_term is; reads = reads }
   more_comparison_made _ _ _ (made _ (later (later (later gap))) _) = elim gap [ ]
 
-  list_term_made : {ts us : List Placed} → Makes (the the_production.ListTerm) ts us → MadeTerm the_production.ListTerm ts us
+  list_term_made : {ts us : List Placed} → Makes (the the_production.ListTerm) ts us
+      → MadeTerm the_production.ListTerm ts us
   list_term_made (made _ first (made_more inner (made_more others made_none))) =
       let r = sum_made inner in
       more_list_term_made r.tree r.is r.reads others
   list_term_made (made _ (later gap) _) = elim gap [ ]
 
-  more_list_term_made : {ts us vs : List Placed} (t : TermTree) → IsTerm the_production.Sum t → Reads (print_term t) ts us →
+  more_list_term_made : {ts us vs : List Placed} (t : TermTree) → IsTerm the_production.Sum t
+      → Reads (print_term t) ts us →
       Makes (the the_production.MoreListTerm) us vs → MadeTerm the_production.ListTerm ts vs
-  more_list_term_made t is reads (made _ first (made_more made_mark (made_more (made_token {x} f) (made_more made_mark (made_more right made_none))))) =
+  more_list_term_made t is reads
+      (made _ first (made_more made_mark
+      (made_more (made_token {x} f) (made_more made_mark (made_more right made_none))))) =
       let r = list_term_made right in
       record {
         tree = binary operator.Cons x.at t r.tree;
         is = is_cons is r.is;
-        reads = λ after h. reads (sign_at x.at sym.DoubleColon ∷ print_term r.tree after) (meets_sign_at sym.DoubleColon x f, r.reads after h);
+        reads =
+            λ after h. reads (sign_at x.at sym.DoubleColon ∷ print_term r.tree after)
+            (meets_sign_at sym.DoubleColon x f, r.reads after h);
       }
   more_list_term_made t is reads (made _ (later first) made_none) = record { tree = t; is = is_sum is; reads = reads }
   more_list_term_made _ _ _ (made _ (later (later gap)) _) = elim gap [ ]
@@ -428,69 +542,104 @@ mutual
       more_summands_made r.tree (is_product r.is) r.reads others
   sum_made (made _ (later gap) _) = elim gap [ ]
 
-  more_summands_made : {ts us vs : List Placed} (t : TermTree) → IsTerm the_production.Sum t → Reads (print_term t) ts us →
+  more_summands_made : {ts us vs : List Placed} (t : TermTree) → IsTerm the_production.Sum t
+      → Reads (print_term t) ts us →
       Makes (the the_production.MoreSummands) us vs → MadeTerm the_production.Sum ts vs
-  more_summands_made t is reads (made _ first (made_more made_mark (made_more (made_token {x} f) (made_more made_mark (made_more right (made_more others made_none)))))) =
+  more_summands_made t is reads (made _ first
+      (made_more made_mark (made_more (made_token {x} f)
+      (made_more made_mark (made_more right (made_more others made_none)))))) =
       let r = product_made right in
       more_summands_made (binary operator.Add x.at t r.tree) (is_add is r.is)
-      (λ after h. reads (sign_at x.at sym.Plus ∷ print_term r.tree after) (meets_sign_at sym.Plus x f, r.reads after h)) others
-  more_summands_made t is reads (made _ (later first) (made_more made_mark (made_more (made_token {x} f) (made_more made_mark (made_more right (made_more others made_none)))))) =
+      (λ after h. reads (sign_at x.at sym.Plus ∷ print_term r.tree after) (meets_sign_at sym.Plus x f, r.reads after h))
+      others
+  more_summands_made t is reads (made _ (later first)
+      (made_more made_mark (made_more (made_token {x} f)
+      (made_more made_mark (made_more right (made_more others made_none)))))) =
       let r = product_made right in
       more_summands_made (binary operator.Sub x.at t r.tree) (is_sub is r.is)
-      (λ after h. reads (sign_at x.at sym.Minus ∷ print_term r.tree after) (meets_sign_at sym.Minus x f, r.reads after h)) others
+      (λ after h. reads (sign_at x.at sym.Minus ∷ print_term r.tree after)
+      (meets_sign_at sym.Minus x f, r.reads after h)) others
   more_summands_made t is reads (made _ (later (later first)) made_none) = record { tree = t; is = is; reads = reads }
   more_summands_made _ _ _ (made _ (later (later (later gap))) _) = elim gap [ ]
 
-  product_made : {ts us : List Placed} → Makes (the the_production.Product) ts us → MadeTerm the_production.Product ts us
+  product_made : {ts us : List Placed} → Makes (the the_production.Product) ts us
+      → MadeTerm the_production.Product ts us
   product_made (made _ first (made_more inner (made_more others made_none))) =
       let r = primary_made inner in
       more_factors_made r.tree (is_primary r.is) r.reads others
   product_made (made _ (later gap) _) = elim gap [ ]
 
-  more_factors_made : {ts us vs : List Placed} (t : TermTree) → IsTerm the_production.Product t → Reads (print_term t) ts us →
+  more_factors_made : {ts us vs : List Placed} (t : TermTree) → IsTerm the_production.Product t
+      → Reads (print_term t) ts us →
       Makes (the the_production.MoreFactors) us vs → MadeTerm the_production.Product ts vs
-  more_factors_made t is reads (made _ first (made_more made_mark (made_more (made_token {x} f) (made_more made_mark (made_more right (made_more others made_none)))))) =
+  more_factors_made t is reads (made _ first
+      (made_more made_mark (made_more (made_token {x} f)
+      (made_more made_mark (made_more right (made_more others made_none)))))) =
       let r = primary_made right in
       more_factors_made (binary operator.Mul x.at t r.tree) (is_mul is r.is)
-      (λ after h. reads (sign_at x.at sym.Star ∷ print_term r.tree after) (meets_sign_at sym.Star x f, r.reads after h)) others
-  more_factors_made t is reads (made _ (later first) (made_more made_mark (made_more (made_token {x} f) (made_more made_mark (made_more right (made_more others made_none)))))) =
+      (λ after h. reads (sign_at x.at sym.Star ∷ print_term r.tree after) (meets_sign_at sym.Star x f, r.reads after h))
+      others
+  more_factors_made t is reads (made _ (later first)
+      (made_more made_mark (made_more (made_token {x} f)
+      (made_more made_mark (made_more right (made_more others made_none)))))) =
       let r = primary_made right in
       more_factors_made (binary operator.Div x.at t r.tree) (is_div is r.is)
-      (λ after h. reads (sign_at x.at sym.Slash ∷ print_term r.tree after) (meets_sign_at sym.Slash x f, r.reads after h)) others
-  more_factors_made t is reads (made _ (later (later first)) (made_more made_mark (made_more (made_token {x} f) (made_more made_mark (made_more right (made_more others made_none)))))) =
+      (λ after h. reads (sign_at x.at sym.Slash ∷ print_term r.tree after)
+      (meets_sign_at sym.Slash x f, r.reads after h)) others
+  more_factors_made t is reads (made _ (later (later first))
+      (made_more made_mark (made_more (made_token {x} f)
+      (made_more made_mark (made_more right (made_more others made_none)))))) =
       let r = primary_made right in
       more_factors_made (binary operator.Rem x.at t r.tree) (is_rem is r.is)
-      (λ after h. reads (sign_at x.at sym.Percent ∷ print_term r.tree after) (meets_sign_at sym.Percent x f, r.reads after h)) others
-  more_factors_made t is reads (made _ (later (later (later first))) made_none) = record { tree = t; is = is; reads = reads }
+      (λ after h. reads (sign_at x.at sym.Percent ∷ print_term r.tree after)
+      (meets_sign_at sym.Percent x f, r.reads after h)) others
+  more_factors_made t is reads (made _ (later (later (later first))) made_none) =
+      record { tree = t; is = is; reads = reads }
   more_factors_made _ _ _ (made _ (later (later (later (later gap)))) _) = elim gap [ ]
 
-  primary_made : {ts us : List Placed} → Makes (the the_production.Primary) ts us → MadeTerm the_production.Primary ts us
+  primary_made : {ts us : List Placed} → Makes (the the_production.Primary) ts us
+      → MadeTerm the_production.Primary ts us
   primary_made (made _ first (made_more made_mark (made_more (made_token {x} f) (made_more arguments made_none)))) =
       call_made x f arguments
-  primary_made (made _ (later first) (made_more made_mark (made_more (made_token {x} f) (made_more element made_none)))) =
+  primary_made (made _ (later first)
+      (made_more made_mark (made_more (made_token {x} f) (made_more element made_none)))) =
       let r = value_type_made element in
-      record { tree = no_items x.at r.tree; is = is_no_items; reads = λ after h. (meets_keyword_at word.Nil x f, r.reads after h) }
-  primary_made (made _ (later (later first)) (made_more (made_token {x} f) (made_more inner (made_more (made_token {x = y} g) made_none)))) =
+      record {
+        tree = no_items x.at r.tree;
+        is = is_no_items;
+        reads = λ after h. (meets_keyword_at word.Nil x f, r.reads after h);
+      }
+  primary_made (made _ (later (later first))
+      (made_more (made_token {x} f) (made_more inner (made_more (made_token {x = y} g) made_none)))) =
       let r = term_made inner in
       record {
         tree = parenthesized r.tree;
         is = is_parenthesized r.is;
-        reads = λ after h. (meets_sign sym.OpenParen x f, r.reads (sign sym.CloseParen ∷ after) (meets_sign sym.CloseParen y g, h));
+        reads =
+            λ after h. (
+              meets_sign sym.OpenParen x f,
+              r.reads (sign sym.CloseParen ∷ after) (meets_sign sym.CloseParen y g, h),
+            );
       }
   primary_made (made _ (later (later (later first))) (made_more made_mark (made_more (made_token {x} f) made_none))) =
       record { tree = truth x.at true; is = is_truth; reads = λ after h. (meets_keyword_at word.True x f, h) }
-  primary_made (made _ (later (later (later (later first)))) (made_more made_mark (made_more (made_token {x} f) made_none))) =
+  primary_made (made _ (later (later (later (later first))))
+      (made_more made_mark (made_more (made_token {x} f) made_none))) =
       record { tree = truth x.at false; is = is_truth; reads = λ after h. (meets_keyword_at word.False x f, h) }
-  primary_made (made _ (later (later (later (later (later first))))) (made_more made_mark (made_more (made_token {x} f) made_none))) =
+  primary_made (made _ (later (later (later (later (later first)))))
+      (made_more made_mark (made_more (made_token {x} f) made_none))) =
       record { tree = me x.at; is = is_me; reads = λ after h. (meets_keyword_at word.Me x f, h) }
-  primary_made (made _ (later (later (later (later (later (later first)))))) (made_more made_mark (made_more (made_token {x} f) made_none))) =
+  primary_made (made _ (later (later (later (later (later (later first))))))
+      (made_more made_mark (made_more (made_token {x} f) made_none))) =
       record { tree = number x.at (value_of x f); is = is_number; reads = λ after h. (meets_number x f, h) }
   primary_made (made _ (later (later (later (later (later (later (later gap))))))) _) = elim gap [ ]
 
   -- a name, and the arguments behind it where it is called
-  call_made : {ts us : List Placed} (x : Placed) (f : Fits terminal.Name x.lexeme) → Makes (the the_production.CallArguments) ts us →
+  call_made : {ts us : List Placed} (x : Placed) (f : Fits terminal.Name x.lexeme)
+      → Makes (the the_production.CallArguments) ts us →
       MadeTerm the_production.Primary (x ∷ ts) us
-  call_made x f (made _ first (made_more (made_token {x = y} g) (made_more arguments (made_more (made_token {x = z} k) made_none)))) =
+  call_made x f (made _ first (made_more (made_token {x = y} g)
+      (made_more arguments (made_more (made_token {x = z} k) made_none)))) =
       let r = arguments_made arguments in
       record {
         tree = application (name_of x f) (term_trees r.tree);
@@ -531,7 +680,8 @@ mutual
 
 -- steps
 
-chan_made : {ts us : List Placed} → Makes (the the_production.Channel) ts us → Printed ChanAt Any (λ x after. print_chan x ∷ after) ts us
+chan_made : {ts us : List Placed} → Makes (the the_production.Channel) ts us
+    → Printed ChanAt Any (λ x after. print_chan x ∷ after) ts us
 chan_made (made _ first (made_more (made_token {x} f) made_none)) =
     record { tree = chan.Own x.at; is = tt; reads = λ after h. (meets_keyword_at word.SelfWord x f, h) }
 chan_made (made _ (later first) (made_more (made_token {x} f) made_none)) =
@@ -540,9 +690,14 @@ chan_made (made _ (later (later gap)) _) = elim gap [ ]
 
 more_names_made : {ts us : List Placed} → Makes (the the_production.MoreChannelArguments) ts us →
     Printed (List NameAt) Any (λ names. print_more sym.Comma (map print_named names)) ts us
-more_names_made (made _ first (made_more (made_token {x} f) (made_more (made_token {x = y} g) (made_more others made_none)))) =
+more_names_made (made _ first (made_more (made_token {x} f)
+    (made_more (made_token {x = y} g) (made_more others made_none)))) =
     let r = more_names_made others in
-    record { tree = name_of y g ∷ r.tree; is = tt; reads = λ after h. (meets_sign sym.Comma x f, (meets_name y g, r.reads after h)) }
+    record {
+      tree = name_of y g ∷ r.tree;
+      is = tt;
+      reads = λ after h. (meets_sign sym.Comma x f, (meets_name y g, r.reads after h));
+    }
 more_names_made (made _ (later first) made_none) = record { tree = []; is = tt; reads = λ after h. h }
 more_names_made (made _ (later (later gap)) _) = elim gap [ ]
 
@@ -554,8 +709,11 @@ names_made (made _ first (made_more (made_token {x = y} g) (made_more others mad
 names_made (made _ (later first) made_none) = record { tree = []; is = tt; reads = λ after h. h }
 names_made (made _ (later (later gap)) _) = elim gap [ ]
 
-args_made : {ts us : List Placed} → Makes (the the_production.Arguments) ts us → Printed ArgTrees AreArguments print_args ts us
-args_made (made _ first (made_more (made_token {x} f) (made_more values (made_more (made_token {x = y} g) (made_more channels (made_more (made_token {x = z} k) made_none)))))) =
+args_made : {ts us : List Placed} → Makes (the the_production.Arguments) ts us
+    → Printed ArgTrees AreArguments print_args ts us
+args_made (made _ first (made_more (made_token {x} f)
+    (made_more values (made_more (made_token {x = y} g)
+    (made_more channels (made_more (made_token {x = z} k) made_none)))))) =
     let v = arguments_made values in
     let c = names_made channels in
     record {
@@ -570,10 +728,12 @@ args_made (made _ first (made_more (made_token {x} f) (made_more values (made_mo
 args_made (made _ (later gap) _) = elim gap [ ]
 
 -- what a `let` binds to a list, behind the word `list`
-after_list_made : {ts us : List Placed} (x n e l : Placed) (fx : Fits (terminal.Reserved word.Let) x.lexeme) (fn : Fits terminal.Name n.lexeme)
+after_list_made : {ts us : List Placed} (x n e l : Placed) (fx : Fits (terminal.Reserved word.Let) x.lexeme)
+    (fn : Fits terminal.Name n.lexeme)
     (fe : Fits (terminal.Symbol sym.Equals) e.lexeme) (fl : Fits (terminal.Reserved word.List) l.lexeme) →
     Makes (the the_production.AfterList) ts us → Printed StepTree IsStep print_step (x ∷ n ∷ e ∷ l ∷ ts) us
-after_list_made x n e l fx fn fe fl (made _ first (made_more made_mark (made_more potential (made_more element made_none)))) =
+after_list_made x n e l fx fn fe fl
+    (made _ first (made_more made_mark (made_more potential (made_more element made_none)))) =
     let q = potential_made potential in
     let t = value_type_made element in
     record {
@@ -593,7 +753,9 @@ after_list_made x n e l fx fn fe fl (made _ first (made_more made_mark (made_mor
         ),
       );
     }
-after_list_made x n e l fx fn fe fl (made _ (later first) (made_more value (made_more (made_token {x = y} g) (made_more (made_token {x = z} k) made_none)))) =
+after_list_made x n e l fx fn fe fl
+    (made _ (later first) (made_more value
+    (made_more (made_token {x = y} g) (made_more (made_token {x = z} k) made_none)))) =
     let t = term_made value in
     record {
       tree = longer_list x.at (name_of n fn) t.tree (name_of z k);
@@ -606,7 +768,8 @@ after_list_made x n e l fx fn fe fl (made _ (later first) (made_more value (made
             meets_sign sym.Equals e fe,
             (
               meets_keyword word.List l fl,
-              t.reads (sign sym.Comma ∷ print_name (name_of z k) ∷ after) (meets_sign sym.Comma y g, (meets_name z k, h)),
+              t.reads (sign sym.Comma ∷ print_name (name_of z k) ∷ after)
+                  (meets_sign sym.Comma y g, (meets_name z k, h)),
             ),
           ),
         ),
@@ -615,7 +778,8 @@ after_list_made x n e l fx fn fe fl (made _ (later first) (made_more value (made
 after_list_made _ _ _ _ _ _ _ _ (made _ (later (later gap)) _) = elim gap [ ]
 
 -- what a `let` binds
-bound_made : {ts us : List Placed} (x n e : Placed) (fx : Fits (terminal.Reserved word.Let) x.lexeme) (fn : Fits terminal.Name n.lexeme)
+bound_made : {ts us : List Placed} (x n e : Placed) (fx : Fits (terminal.Reserved word.Let) x.lexeme)
+    (fn : Fits terminal.Name n.lexeme)
     (fe : Fits (terminal.Symbol sym.Equals) e.lexeme) →
     Makes (the the_production.BoundValue) ts us → Printed StepTree IsStep print_step (x ∷ n ∷ e ∷ ts) us
 bound_made x n e fx fn fe (made _ first (made_more (made_token {x = l} fl) (made_more others made_none))) =
@@ -625,26 +789,33 @@ bound_made x n e fx fn fe (made _ (later first) (made_more value made_none)) =
     record {
       tree = binding x.at (name_of n fn) t.tree;
       is = t.is;
-      reads = λ after h. (meets_keyword_at word.Let x fx, (meets_name n fn, (meets_sign sym.Equals e fe, t.reads after h)));
+      reads =
+          λ after h. (meets_keyword_at word.Let x fx, (meets_name n fn, (meets_sign sym.Equals e fe, t.reads after h)));
     }
 bound_made _ _ _ _ _ _ (made _ (later (later gap)) _) = elim gap [ ]
 
 pub step_made : {ts us : List Placed} → Makes (the the_production.Step) ts us → Printed StepTree IsStep print_step ts us
-step_made (made _ first (made_more made_mark (made_more (made_token {x = x} f) (made_more ch (made_more (made_token {x = y} g) made_none))))) =
+step_made (made _ first (made_more made_mark
+    (made_more (made_token {x = x} f) (made_more ch (made_more (made_token {x = y} g) made_none))))) =
     let c = chan_made ch in
     record {
       tree = send x.at c.tree (name_of y g);
       is = tt;
-      reads = λ after h. (meets_keyword_at word.Send x f, c.reads (print_name (name_of y g) ∷ after) (meets_name y g, h));
+      reads =
+          λ after h. (meets_keyword_at word.Send x f, c.reads (print_name (name_of y g) ∷ after) (meets_name y g, h));
     }
-step_made (made _ (later first) (made_more made_mark (made_more (made_token {x = x} f) (made_more ch (made_more (made_token {x = y} g) made_none))))) =
+step_made (made _ (later first)
+    (made_more made_mark (made_more (made_token {x = x} f)
+    (made_more ch (made_more (made_token {x = y} g) made_none))))) =
     let c = chan_made ch in
     record {
       tree = recv x.at c.tree (name_of y g);
       is = tt;
-      reads = λ after h. (meets_keyword_at word.Recv x f, c.reads (print_name (name_of y g) ∷ after) (meets_name y g, h));
+      reads =
+          λ after h. (meets_keyword_at word.Recv x f, c.reads (print_name (name_of y g) ∷ after) (meets_name y g, h));
     }
-step_made (made _ (later (later first)) (made_more made_mark (made_more (made_token {x = x} f) (made_more ch (made_more part made_none))))) =
+step_made (made _ (later (later first))
+    (made_more made_mark (made_more (made_token {x = x} f) (made_more ch (made_more part made_none))))) =
     let c = chan_made ch in
     let p = term_made part in
     record {
@@ -652,14 +823,18 @@ step_made (made _ (later (later first)) (made_more made_mark (made_more (made_to
       is = p.is;
       reads = λ after h. (meets_keyword_at word.Put x f, c.reads (print_term p.tree after) (p.reads after h));
     }
-step_made (made _ (later (later (later first))) (made_more made_mark (made_more (made_token {x = x} f) (made_more ch (made_more (made_token {x = y} g) made_none))))) =
+step_made (made _ (later (later (later first)))
+    (made_more made_mark (made_more (made_token {x = x} f)
+    (made_more ch (made_more (made_token {x = y} g) made_none))))) =
     let c = chan_made ch in
     record {
       tree = taking x.at c.tree (name_of y g);
       is = tt;
-      reads = λ after h. (meets_keyword_at word.Take x f, c.reads (print_name (name_of y g) ∷ after) (meets_name y g, h));
+      reads =
+          λ after h. (meets_keyword_at word.Take x f, c.reads (print_name (name_of y g) ∷ after) (meets_name y g, h));
     }
-step_made (made _ (later (later (later (later first)))) (made_more made_mark (made_more (made_token {x = x} f) (made_more ch (made_more part made_none))))) =
+step_made (made _ (later (later (later (later first))))
+    (made_more made_mark (made_more (made_token {x = x} f) (made_more ch (made_more part made_none))))) =
     let c = chan_made ch in
     let p = potential_made part in
     record {
@@ -667,7 +842,8 @@ step_made (made _ (later (later (later (later first)))) (made_more made_mark (ma
       is = tt;
       reads = λ after h. (meets_keyword_at word.Pay x f, c.reads (print_potential p.tree after) (p.reads after h));
     }
-step_made (made _ (later (later (later (later (later first))))) (made_more made_mark (made_more (made_token {x = x} f) (made_more ch (made_more part made_none))))) =
+step_made (made _ (later (later (later (later (later first)))))
+    (made_more made_mark (made_more (made_token {x = x} f) (made_more ch (made_more part made_none))))) =
     let c = chan_made ch in
     let p = potential_made part in
     record {
@@ -675,47 +851,88 @@ step_made (made _ (later (later (later (later (later first))))) (made_more made_
       is = tt;
       reads = λ after h. (meets_keyword_at word.Get x f, c.reads (print_potential p.tree after) (p.reads after h));
     }
-step_made (made _ (later (later (later (later (later (later first)))))) (made_more made_mark (made_more (made_token {x = x} f) (made_more part made_none)))) =
+step_made (made _ (later (later (later (later (later (later first))))))
+    (made_more made_mark (made_more (made_token {x = x} f) (made_more part made_none)))) =
     let p = potential_made part in
     record { tree = work x.at p.tree; is = tt; reads = λ after h. (meets_keyword_at word.Work x f, p.reads after h) }
-step_made (made _ (later (later (later (later (later (later (later first))))))) (made_more made_mark (made_more (made_token {x = x} f) (made_more (made_token {x = y} g) made_none)))) =
-    record { tree = wait x.at (name_of y g); is = tt; reads = λ after h. (meets_keyword_at word.Wait x f, (meets_name y g, h)) }
-step_made (made _ (later (later (later (later (later (later (later (later first)))))))) (made_more made_mark (made_more (made_token {x = x} f) made_none))) =
+step_made (made _ (later (later (later (later (later (later (later first)))))))
+    (made_more made_mark (made_more (made_token {x = x} f) (made_more (made_token {x = y} g) made_none)))) =
+    record {
+      tree = wait x.at (name_of y g);
+      is = tt;
+      reads = λ after h. (meets_keyword_at word.Wait x f, (meets_name y g, h));
+    }
+step_made (made _ (later (later (later (later (later (later (later (later first))))))))
+    (made_more made_mark (made_more (made_token {x = x} f) made_none))) =
     record { tree = accept x.at; is = tt; reads = λ after h. (meets_keyword_at word.Accept x f, h) }
-step_made (made _ (later (later (later (later (later (later (later (later (later first))))))))) (made_more made_mark (made_more (made_token {x = x} f) made_none))) =
+step_made (made _ (later (later (later (later (later (later (later (later (later first)))))))))
+    (made_more made_mark (made_more (made_token {x = x} f) made_none))) =
     record { tree = detach x.at; is = tt; reads = λ after h. (meets_keyword_at word.Detach x f, h) }
-step_made (made _ (later (later (later (later (later (later (later (later (later (later first)))))))))) (made_more made_mark (made_more (made_token {x = x} f) (made_more (made_token {x = y} g) (made_more (made_token {x = z} k) (made_more (made_token {x = w} m) made_none)))))) =
+step_made (made _ (later (later (later (later (later (later (later (later (later (later first))))))))))
+    (made_more made_mark (made_more (made_token {x = x} f)
+    (made_more (made_token {x = y} g)
+    (made_more (made_token {x = z} k) (made_more (made_token {x = w} m) made_none)))))) =
     record {
       tree = acquire x.at (name_of y g) (name_of w m);
       is = tt;
-      reads = λ after h. (meets_keyword_at word.Acquire x f, (meets_name y g, (meets_keyword word.As z k, (meets_name w m, h))));
+      reads =
+          λ after h. (
+            meets_keyword_at word.Acquire x f,
+            (meets_name y g, (meets_keyword word.As z k, (meets_name w m, h))),
+          );
     }
-step_made (made _ (later (later (later (later (later (later (later (later (later (later (later first))))))))))) (made_more made_mark (made_more (made_token {x = x} f) (made_more (made_token {x = y} g) (made_more (made_token {x = z} k) (made_more (made_token {x = w} m) made_none)))))) =
+step_made (made _ (later (later (later (later (later (later (later (later (later (later (later first)))))))))))
+    (made_more made_mark (made_more (made_token {x = x} f)
+    (made_more (made_token {x = y} g)
+    (made_more (made_token {x = z} k) (made_more (made_token {x = w} m) made_none)))))) =
     record {
       tree = release x.at (name_of y g) (name_of w m);
       is = tt;
-      reads = λ after h. (meets_keyword_at word.Release x f, (meets_name y g, (meets_keyword word.As z k, (meets_name w m, h))));
+      reads =
+          λ after h. (
+            meets_keyword_at word.Release x f,
+            (meets_name y g, (meets_keyword word.As z k, (meets_name w m, h))),
+          );
     }
-step_made (made _ (later (later (later (later (later (later (later (later (later (later (later (later first)))))))))))) (made_more made_mark (made_more (made_token {x = x} f) (made_more (made_token {x = y} g) (made_more (made_token {x = z} k) (made_more (made_token {x = w} m) (made_more part made_none))))))) =
+step_made (made _ (later (later (later (later (later (later (later (later (later (later (later (later first))))))))))))
+    (made_more made_mark (made_more (made_token {x = x} f)
+    (made_more (made_token {x = y} g)
+    (made_more (made_token {x = z} k) (made_more (made_token {x = w} m) (made_more part made_none))))))) =
     let p = args_made part in
     record {
       tree = spawn x.at (name_of y g) (name_of w m) p.tree;
       is = p.is;
-      reads = λ after h. (meets_keyword_at word.Spawn x f, (meets_name y g, (meets_sign sym.Equals z k, (meets_name w m, p.reads after h))));
+      reads =
+          λ after h. (
+            meets_keyword_at word.Spawn x f,
+            (meets_name y g, (meets_sign sym.Equals z k, (meets_name w m, p.reads after h))),
+          );
     }
-step_made (made _ (later (later (later (later (later (later (later (later (later (later (later (later (later first))))))))))))) (made_more made_mark (made_more (made_token {x = x} f) (made_more (made_token {x = y} g) (made_more (made_token {x = z} k) (made_more part made_none)))))) =
+step_made (made _ (later (later
+    (later (later (later (later (later (later (later (later (later (later (later first)))))))))))))
+    (made_more made_mark (made_more (made_token {x = x} f)
+    (made_more (made_token {x = y} g) (made_more (made_token {x = z} k) (made_more part made_none)))))) =
     bound_made x y z f g k part
-step_made (made _ (later (later (later (later (later (later (later (later (later (later (later (later (later (later first)))))))))))))) (made_more made_mark (made_more (made_token {x = x} f) (made_more part made_none)))) =
+step_made (made _ (later (later
+    (later (later (later (later (later (later (later (later (later (later (later (later first))))))))))))))
+    (made_more made_mark (made_more (made_token {x = x} f) (made_more part made_none)))) =
     let p = term_made part in
     record { tree = emit x.at p.tree; is = p.is; reads = λ after h. (meets_keyword_at word.Emit x f, p.reads after h) }
-step_made (made _ (later (later (later (later (later (later (later (later (later (later (later (later (later (later (later first))))))))))))))) (made_more made_mark (made_more ch (made_more (made_token {x = y} g) (made_more (made_token {x = z} k) made_none))))) =
+step_made (made _ (later (later
+    (later (later (later (later (later (later (later (later (later (later (later (later (later first)))))))))))))))
+    (made_more made_mark (made_more ch
+    (made_more (made_token {x = y} g) (made_more (made_token {x = z} k) made_none))))) =
     let c = chan_made ch in
     record {
       tree = label c.tree (name_of z k);
       is = tt;
-      reads = λ after h. c.reads (sign sym.Dot ∷ print_name (name_of z k) ∷ after) (meets_sign sym.Dot y g, (meets_name z k, h));
+      reads =
+          λ after h. c.reads (sign sym.Dot ∷ print_name (name_of z k) ∷ after)
+          (meets_sign sym.Dot y g, (meets_name z k, h));
     }
-step_made (made _ (later (later (later (later (later (later (later (later (later (later (later (later (later (later (later (later gap)))))))))))))))) _) = elim gap [ ]
+step_made (made _ (later (later
+    (later (later (later (later (later
+    (later (later (later (later (later (later (later (later (later gap)))))))))))))))) _) = elim gap [ ]
 
 -- codes
 
@@ -742,31 +959,49 @@ mutual
       record {
         tree = (p.tree ∷ c.tree.0, c.tree.1);
         is = ((p.is, c.is.0), c.is.1);
-        reads = λ after h. p.reads (sign sym.Semicolon ∷ print_whole c.tree after) (meets_sign sym.Semicolon y g, c.reads after h);
+        reads =
+            λ after h. p.reads (sign sym.Semicolon ∷ print_whole c.tree after)
+            (meets_sign sym.Semicolon y g, c.reads after h);
       }
   steps_made (made _ (later (later gap)) _) = elim gap [ ]
 
-  braced_made : {ts us : List Placed} → Makes (the the_production.BracedCode) ts us → Printed CodeTree IsCode print_braced ts us
-  braced_made (made _ first (made_more made_mark (made_more (made_token {x = x} f) (made_more inner (made_more (made_token {x = y} g) (made_more made_mark made_none)))))) =
+  braced_made : {ts us : List Placed} → Makes (the the_production.BracedCode) ts us
+      → Printed CodeTree IsCode print_braced ts us
+  braced_made (made _ first (made_more made_mark
+      (made_more (made_token {x = x} f)
+      (made_more inner (made_more (made_token {x = y} g) (made_more made_mark made_none)))))) =
       let c = steps_made inner in
       record {
         tree = code c.tree.0 c.tree.1;
         is = c.is;
-        reads = λ after h. (meets_sign sym.OpenBrace x f, c.reads (sign sym.CloseBrace ∷ after) (meets_sign sym.CloseBrace y g, h));
+        reads =
+            λ after h. (
+              meets_sign sym.OpenBrace x f,
+              c.reads (sign sym.CloseBrace ∷ after) (meets_sign sym.CloseBrace y g, h),
+            );
       }
   braced_made (made _ (later gap) _) = elim gap [ ]
 
   last_made : {ts us : List Placed} → Makes (the the_production.Last) ts us → Printed LastTree IsLast print_last ts us
-  last_made (made _ first (made_more made_mark (made_more (made_token {x = x} f) (made_more (made_token {x = y} g) made_none)))) =
-      record { tree = fwd x.at (name_of y g); is = tt; reads = λ after h. (meets_keyword_at word.Fwd x f, (meets_name y g, h)) }
-  last_made (made _ (later first) (made_more made_mark (made_more (made_token {x = x} f) (made_more (made_token {x = y} g) (made_more part made_none))))) =
+  last_made (made _ first (made_more made_mark
+      (made_more (made_token {x = x} f) (made_more (made_token {x = y} g) made_none)))) =
+      record {
+        tree = fwd x.at (name_of y g);
+        is = tt;
+        reads = λ after h. (meets_keyword_at word.Fwd x f, (meets_name y g, h));
+      }
+  last_made (made _ (later first)
+      (made_more made_mark (made_more (made_token {x = x} f)
+      (made_more (made_token {x = y} g) (made_more part made_none))))) =
       let p = args_made part in
       record {
         tree = calling x.at (name_of y g) p.tree;
         is = p.is;
         reads = λ after h. (meets_keyword_at word.Call x f, (meets_name y g, p.reads after h));
       }
-  last_made (made _ (later (later first)) (made_more made_mark (made_more (made_token {x = x} f) (made_more test (made_more holds (made_more (made_token {x = y} g) (made_more fails made_none))))))) =
+  last_made (made _ (later (later first))
+      (made_more made_mark (made_more (made_token {x = x} f)
+      (made_more test (made_more holds (made_more (made_token {x = y} g) (made_more fails made_none))))))) =
       let t = term_made test in
       let u = braced_made holds in
       let v = braced_made fails in
@@ -775,10 +1010,14 @@ mutual
         is = (t.is, u.is, v.is);
         reads = λ after h. (
           meets_keyword_at word.If x f,
-          t.reads _ (u.reads (keyword word.Else ∷ print_braced v.tree after) (meets_keyword word.Else y g, v.reads after h)),
+          t.reads _ (u.reads (keyword word.Else ∷ print_braced v.tree after)
+              (meets_keyword word.Else y g, v.reads after h)),
         );
       }
-  last_made (made _ (later (later (later first))) (made_more made_mark (made_more (made_token {x = x} f) (made_more ch (made_more (made_token {x = y} g) (made_more branches (made_more (made_token {x = z} k) made_none))))))) =
+  last_made (made _ (later (later (later first)))
+      (made_more made_mark (made_more (made_token {x = x} f)
+      (made_more ch (made_more (made_token {x = y} g)
+      (made_more branches (made_more (made_token {x = z} k) made_none))))))) =
       let c = chan_made ch in
       let r = arms_made branches in
       record {
@@ -790,11 +1029,25 @@ mutual
               (meets_sign sym.OpenBrace y g, r.reads (sign sym.CloseBrace ∷ after) (meets_sign sym.CloseBrace z k, h)),
         );
       }
-  last_made (made _ (later (later (later (later first)))) (made_more made_mark (made_more (made_token {x = x} f) (made_more (made_token {x = x1} f1) (made_more (made_token {x = x2} f2) (made_more made_mark (made_more (made_token {x = x3} f3) (made_more (made_token {x = x4} f4) (made_more empty (made_more made_mark (made_more (made_token {x = x5} f5) (made_more made_mark (made_more (made_token {x = x6} f6) (made_more (made_token {x = x7} f7) (made_more (made_token {x = x8} f8) (made_more (made_token {x = x9} f9) (made_more more (made_more made_mark (made_more (made_token {x = y1} g1) made_none))))))))))))))))))) =
+  last_made (made _ (later (later (later (later first))))
+      (made_more made_mark (made_more (made_token {x = x} f)
+      (made_more (made_token {x = x1} f1)
+      (made_more (made_token {x = x2} f2)
+      (made_more made_mark (made_more (made_token {x = x3} f3)
+      (made_more (made_token {x = x4} f4)
+      (made_more empty (made_more made_mark
+      (made_more (made_token {x = x5} f5)
+      (made_more made_mark (made_more (made_token {x = x6} f6)
+      (made_more (made_token {x = x7} f7)
+      (made_more (made_token {x = x8} f8)
+      (made_more (made_token {x = x9} f9)
+      (made_more more (made_more made_mark (made_more (made_token {x = y1} g1) made_none))))))))))))))))))) =
       let u = steps_made empty in
       let v = steps_made more in
       record {
-        tree = code_match x.at (name_of x1 f1) (code u.tree.0 u.tree.1) (name_of x6 f6) (name_of x8 f8) (code v.tree.0 v.tree.1);
+        tree =
+            code_match x.at (name_of x1 f1) (code u.tree.0 u.tree.1) (name_of x6 f6) (name_of x8 f8)
+            (code v.tree.0 v.tree.1);
         is = (u.is, v.is);
         reads = λ after h. (
           meets_keyword_at word.Match x f,
@@ -806,29 +1059,31 @@ mutual
                 meets_keyword word.Nil x3 f3,
                 (
                   meets_sign sym.FatArrow x4 f4,
-                  u.reads (sign sym.Bar ∷ print_heading (name_of x6 f6) (name_of x8 f8) (print_whole v.tree (sign sym.CloseBrace ∷ after))) (
-                    meets_sign sym.Bar x5 f5,
-                    (
-                      meets_name x6 f6,
-                      (
-                        meets_sign sym.DoubleColon x7 f7,
+                  u.reads (sign sym.Bar ∷ print_heading (name_of x6 f6) (name_of x8 f8)
+                      (print_whole v.tree (sign sym.CloseBrace ∷ after))) (
+                        meets_sign sym.Bar x5 f5,
                         (
-                          meets_name x8 f8,
+                          meets_name x6 f6,
                           (
-                            meets_sign sym.FatArrow x9 f9,
-                            v.reads (sign sym.CloseBrace ∷ after) (meets_sign sym.CloseBrace y1 g1, h),
+                            meets_sign sym.DoubleColon x7 f7,
+                            (
+                              meets_name x8 f8,
+                              (
+                                meets_sign sym.FatArrow x9 f9,
+                                v.reads (sign sym.CloseBrace ∷ after) (meets_sign sym.CloseBrace y1 g1, h),
+                              ),
+                            ),
                           ),
                         ),
                       ),
-                    ),
-                  ),
                 ),
               ),
             ),
           ),
         );
       }
-  last_made (made _ (later (later (later (later (later first))))) (made_more made_mark (made_more (made_token {x = x} f) made_none))) =
+  last_made (made _ (later (later (later (later (later first)))))
+      (made_more made_mark (made_more (made_token {x = x} f) made_none))) =
       record { tree = close x.at; is = tt; reads = λ after h. (meets_keyword_at word.Close x f, h) }
   last_made (made _ (later (later (later (later (later (later gap)))))) _) = elim gap [ ]
 
@@ -858,8 +1113,11 @@ mutual
   more_arms_made (made _ (later (later gap)) _) = elim gap [ ]
 
   arm_made : {ts us : List Placed} → Makes (the the_production.Branch) ts us →
-      Printed (NameAt × CodeTree) (λ a. IsCode a.1) (λ a after. print_name a.0 ∷ sign sym.FatArrow ∷ print_code a.1 after) ts us
-  arm_made (made _ first (made_more made_mark (made_more made_mark (made_more (made_token {x = x} f) (made_more (made_token {x = y} g) (made_more inner (made_more made_mark made_none))))))) =
+      Printed (NameAt × CodeTree) (λ a. IsCode a.1)
+      (λ a after. print_name a.0 ∷ sign sym.FatArrow ∷ print_code a.1 after) ts us
+  arm_made (made _ first (made_more made_mark
+      (made_more made_mark (made_more (made_token {x = x} f)
+      (made_more (made_token {x = y} g) (made_more inner (made_more made_mark made_none))))))) =
       let c = steps_made inner in
       record {
         tree = (name_of x f, code c.tree.0 c.tree.1);
@@ -891,7 +1149,8 @@ after_par_list_made x f (made _ first (made_more potential (made_more element ma
       is = tt;
       reads = λ after h. (meets_keyword_at word.List x f, q.reads (print_value_type t.tree after) (t.reads after h));
     }
-after_par_list_made x f (made _ (later first) (made_more made_mark (made_more element (made_more made_mark made_none)))) =
+after_par_list_made x f (made _ (later first)
+    (made_more made_mark (made_more element (made_more made_mark made_none)))) =
     let t = value_type_made element in
     record {
       tree = (None, record { lists = x.at ∷ t.tree.lists; base = t.tree.base; base_at = t.tree.base_at });
@@ -900,15 +1159,19 @@ after_par_list_made x f (made _ (later first) (made_more made_mark (made_more el
     }
 after_par_list_made _ _ (made _ (later (later gap)) _) = elim gap [ ]
 
-kind_made : {ts us : List Placed} → Makes (the the_production.ParameterKind) ts us → Printed ParKind Any print_kind ts us
-kind_made (made _ first (made_more made_mark (made_more (made_token {x = x} f) (made_more others made_none)))) = after_par_list_made x f others
-kind_made (made _ (later first) (made_more made_mark (made_more made_mark (made_more (made_token {x = x} f) (made_more made_mark made_none))))) =
+kind_made : {ts us : List Placed} → Makes (the the_production.ParameterKind) ts us
+    → Printed ParKind Any print_kind ts us
+kind_made (made _ first (made_more made_mark (made_more (made_token {x = x} f) (made_more others made_none)))) =
+    after_par_list_made x f others
+kind_made (made _ (later first)
+    (made_more made_mark (made_more made_mark (made_more (made_token {x = x} f) (made_more made_mark made_none))))) =
     record {
       tree = (None, record { lists = []; base = base.Int; base_at = x.at });
       is = tt;
       reads = λ after h. (meets_keyword_at word.Int x f, h);
     }
-kind_made (made _ (later (later first)) (made_more made_mark (made_more made_mark (made_more (made_token {x = x} f) (made_more made_mark made_none))))) =
+kind_made (made _ (later (later first))
+    (made_more made_mark (made_more made_mark (made_more (made_token {x = x} f) (made_more made_mark made_none))))) =
     record {
       tree = (None, record { lists = []; base = base.Bool; base_at = x.at });
       is = tt;
@@ -916,8 +1179,10 @@ kind_made (made _ (later (later first)) (made_more made_mark (made_more made_mar
     }
 kind_made (made _ (later (later (later gap))) _) = elim gap [ ]
 
-par_made : {ts us : List Placed} → Makes (the the_production.ValueParameter) ts us → Printed ProcessPar Any print_par ts us
-par_made (made _ first (made_more (made_token {x = x} f) (made_more (made_token {x = y} g) (made_more kind made_none)))) =
+par_made : {ts us : List Placed} → Makes (the the_production.ValueParameter) ts us
+    → Printed ProcessPar Any print_par ts us
+par_made (made _ first (made_more (made_token {x = x} f)
+    (made_more (made_token {x = y} g) (made_more kind made_none)))) =
     let k = kind_made kind in
     record {
       tree = record { name = name_of x f; «list» = k.tree.0; value = k.tree.1 };
@@ -926,8 +1191,10 @@ par_made (made _ first (made_more (made_token {x = x} f) (made_more (made_token 
     }
 par_made (made _ (later gap) _) = elim gap [ ]
 
-value_par_made : {ts us : List Placed} → Makes (the the_production.FunctionParameter) ts us → Printed ValuePar Any print_value_par ts us
-value_par_made (made _ first (made_more (made_token {x = x} f) (made_more (made_token {x = y} g) (made_more element made_none)))) =
+value_par_made : {ts us : List Placed} → Makes (the the_production.FunctionParameter) ts us
+    → Printed ValuePar Any print_value_par ts us
+value_par_made (made _ first (made_more (made_token {x = x} f)
+    (made_more (made_token {x = y} g) (made_more element made_none)))) =
     let t = value_type_made element in
     record {
       tree = record { name = name_of x f; value = t.tree };
@@ -936,8 +1203,10 @@ value_par_made (made _ first (made_more (made_token {x = x} f) (made_more (made_
     }
 value_par_made (made _ (later gap) _) = elim gap [ ]
 
-chan_par_made : {ts us : List Placed} → Makes (the the_production.ChannelParameter) ts us → Printed ChanParTree IsChanPar print_chan_par ts us
-chan_par_made (made _ first (made_more (made_token {x = x} f) (made_more (made_token {x = y} g) (made_more goes made_none)))) =
+chan_par_made : {ts us : List Placed} → Makes (the the_production.ChannelParameter) ts us
+    → Printed ChanParTree IsChanPar print_chan_par ts us
+chan_par_made (made _ first (made_more (made_token {x = x} f)
+    (made_more (made_token {x = y} g) (made_more goes made_none)))) =
     let t = type_made goes in
     record {
       tree = record { name = name_of x f; goes = t.tree };
@@ -951,7 +1220,11 @@ more_pars_made : {ts us : List Placed} → Makes (the the_production.MoreValuePa
 more_pars_made (made _ first (made_more (made_token {x = x} f) (made_more item (made_more others made_none)))) =
     let p = par_made item in
     let r = more_pars_made others in
-    record { tree = p.tree ∷ r.tree; is = tt; reads = λ after h. (meets_sign sym.Comma x f, p.reads _ (r.reads after h)) }
+    record {
+      tree = p.tree ∷ r.tree;
+      is = tt;
+      reads = λ after h. (meets_sign sym.Comma x f, p.reads _ (r.reads after h));
+    }
 more_pars_made (made _ (later first) made_none) = record { tree = []; is = tt; reads = λ after h. h }
 more_pars_made (made _ (later (later gap)) _) = elim gap [ ]
 
@@ -969,7 +1242,11 @@ more_value_pars_made : {ts us : List Placed} → Makes (the the_production.MoreF
 more_value_pars_made (made _ first (made_more (made_token {x = x} f) (made_more item (made_more others made_none)))) =
     let p = value_par_made item in
     let r = more_value_pars_made others in
-    record { tree = p.tree ∷ r.tree; is = tt; reads = λ after h. (meets_sign sym.Comma x f, p.reads _ (r.reads after h)) }
+    record {
+      tree = p.tree ∷ r.tree;
+      is = tt;
+      reads = λ after h. (meets_sign sym.Comma x f, p.reads _ (r.reads after h));
+    }
 more_value_pars_made (made _ (later first) made_none) = record { tree = []; is = tt; reads = λ after h. h }
 more_value_pars_made (made _ (later (later gap)) _) = elim gap [ ]
 
@@ -987,7 +1264,11 @@ more_chan_pars_made : {ts us : List Placed} → Makes (the the_production.MoreCh
 more_chan_pars_made (made _ first (made_more (made_token {x = x} f) (made_more item (made_more others made_none)))) =
     let p = chan_par_made item in
     let r = more_chan_pars_made others in
-    record { tree = p.tree ∷ r.tree; is = (p.is, r.is); reads = λ after h. (meets_sign sym.Comma x f, p.reads _ (r.reads after h)) }
+    record {
+      tree = p.tree ∷ r.tree;
+      is = (p.is, r.is);
+      reads = λ after h. (meets_sign sym.Comma x f, p.reads _ (r.reads after h));
+    }
 more_chan_pars_made (made _ (later first) made_none) = record { tree = []; is = tt; reads = λ after h. h }
 more_chan_pars_made (made _ (later (later gap)) _) = elim gap [ ]
 
@@ -1000,8 +1281,12 @@ chan_pars_made (made _ first (made_more item (made_more others made_none))) =
 chan_pars_made (made _ (later first) made_none) = record { tree = []; is = tt; reads = λ after h. h }
 chan_pars_made (made _ (later (later gap)) _) = elim gap [ ]
 
-pars_together_made : {ts us : List Placed} → Makes (the the_production.Parameters) ts us → Printed ParTrees ArePars print_pars ts us
-pars_together_made (made _ first (made_more (made_token {x = x} f) (made_more values (made_more (made_token {x = y} g) (made_more channels (made_more (made_token {x = z} k) made_none)))))) =
+pars_together_made : {ts us : List Placed} → Makes (the the_production.Parameters) ts us
+    → Printed ParTrees ArePars print_pars ts us
+pars_together_made (made _ first
+    (made_more (made_token {x = x} f)
+    (made_more values (made_more (made_token {x = y} g)
+    (made_more channels (made_more (made_token {x = z} k) made_none)))))) =
     let v = pars_made values in
     let c = chan_pars_made channels in
     record {
@@ -1017,15 +1302,21 @@ pars_together_made (made _ (later gap) _) = elim gap [ ]
 
 mode_made : {ts us : List Placed} → Makes (the the_production.DefinitionMode) ts us →
     Printed OfferedMode Any (λ m after. keyword (mode_word m) ∷ after) ts us
-mode_made (made _ first (made_more (made_token {x = x} f) made_none)) = record { tree = mode.R; is = tt; reads = λ after h. (meets_keyword word.R x f, h) }
-mode_made (made _ (later first) (made_more (made_token {x = x} f) made_none)) = record { tree = mode.S; is = tt; reads = λ after h. (meets_keyword word.S x f, h) }
-mode_made (made _ (later (later first)) (made_more (made_token {x = x} f) made_none)) = record { tree = mode.L; is = tt; reads = λ after h. (meets_keyword word.L x f, h) }
+mode_made (made _ first (made_more (made_token {x = x} f) made_none)) =
+    record { tree = mode.R; is = tt; reads = λ after h. (meets_keyword word.R x f, h) }
+mode_made (made _ (later first) (made_more (made_token {x = x} f) made_none)) =
+    record { tree = mode.S; is = tt; reads = λ after h. (meets_keyword word.S x f, h) }
+mode_made (made _ (later (later first)) (made_more (made_token {x = x} f) made_none)) =
+    record { tree = mode.L; is = tt; reads = λ after h. (meets_keyword word.L x f, h) }
 mode_made (made _ (later (later (later gap))) _) = elim gap [ ]
 
 -- a process or a transaction, behind its first token
 proc_made : {ts us : List Placed} (x : Placed) → Fits (terminal.Reserved word.Proc) x.lexeme →
     Makes (the the_production.Process) ts us → Printed DeclTree IsDecl print_decl (x ∷ ts) us
-proc_made x f (made _ first (made_more (made_token {x = x1} f1) (made_more (made_token {x = x2} f2) (made_more pars (made_more amount (made_more (made_token {x = x3} f3) (made_more inner (made_more (made_token {x = x4} f4) made_none)))))))) =
+proc_made x f (made _ first (made_more (made_token {x = x1} f1)
+    (made_more (made_token {x = x2} f2)
+    (made_more pars (made_more amount
+    (made_more (made_token {x = x3} f3) (made_more inner (made_more (made_token {x = x4} f4) made_none)))))))) =
     let p = pars_together_made pars in
     let q = optional_made amount in
     let c = code_made inner in
@@ -1038,13 +1329,21 @@ proc_made x f (made _ first (made_more (made_token {x = x1} f1) (made_more (made
           meets_keyword word.T x1 f1,
           (
             meets_name x2 f2,
-            p.reads (print_optional q.tree (print_body c.tree after)) (q.reads (print_body c.tree after)
-                (meets_sign sym.Equals x3 f3, c.reads (sign sym.Semicolon ∷ after) (meets_sign sym.Semicolon x4 f4, h))),
+            p.reads (print_optional q.tree (print_body c.tree after)) (q.reads (print_body c.tree after) (
+              meets_sign sym.Equals x3 f3,
+              c.reads (sign sym.Semicolon ∷ after)
+                  (meets_sign sym.Semicolon x4 f4, h),
+            )),
           ),
         ),
       );
     }
-proc_made x f (made _ (later first) (made_more mode_part (made_more (made_token {x = x2} f2) (made_more pars (made_more amount (made_more (made_token {x = x3} f3) (made_more offers (made_more (made_token {x = x4} f4) (made_more inner (made_more (made_token {x = x5} f5) made_none)))))))))) =
+proc_made x f (made _ (later first)
+    (made_more mode_part (made_more (made_token {x = x2} f2)
+    (made_more pars (made_more amount
+    (made_more (made_token {x = x3} f3)
+    (made_more offers (made_more (made_token {x = x4} f4)
+    (made_more inner (made_more (made_token {x = x5} f5) made_none)))))))))) =
     let m = mode_made mode_part in
     let p = pars_together_made pars in
     let q = optional_made amount in
@@ -1055,21 +1354,29 @@ proc_made x f (made _ (later first) (made_more mode_part (made_more (made_token 
       is = (p.is, t.is, c.is);
       reads = λ after h. (
         meets_keyword_at word.Proc x f,
-        m.reads (print_name (name_of x2 f2) ∷ print_pars p.tree (print_optional q.tree (sign sym.Colon ∷ print_type t.tree (print_body c.tree after)))) (
-          meets_name x2 f2,
-          p.reads (print_optional q.tree (sign sym.Colon ∷ print_type t.tree (print_body c.tree after)))
-              (q.reads (sign sym.Colon ∷ print_type t.tree (print_body c.tree after)) (
-                meets_sign sym.Colon x3 f3,
-                t.reads (print_body c.tree after)
-                    (meets_sign sym.Equals x4 f4, c.reads (sign sym.Semicolon ∷ after) (meets_sign sym.Semicolon x5 f5, h)),
-              )),
-        ),
+        m.reads (print_name (name_of x2 f2) ∷
+            print_pars p.tree (print_optional q.tree (sign sym.Colon ∷ print_type t.tree (print_body c.tree after)))) (
+              meets_name x2 f2,
+              p.reads (print_optional q.tree (sign sym.Colon ∷ print_type t.tree (print_body c.tree after)))
+                  (q.reads (sign sym.Colon ∷ print_type t.tree (print_body c.tree after)) (
+                    meets_sign sym.Colon x3 f3,
+                    t.reads (print_body c.tree after) (
+                      meets_sign sym.Equals x4 f4,
+                      c.reads (sign sym.Semicolon ∷ after)
+                          (meets_sign sym.Semicolon x5 f5, h),
+                    ),
+                  )),
+            ),
       );
     }
 proc_made _ _ (made _ (later (later gap)) _) = elim gap [ ]
 
-decl_made : {ts us : List Placed} → Makes (the the_production.Declaration) ts us → Printed DeclTree IsDecl print_decl ts us
-decl_made (made _ first (made_more made_mark (made_more (made_token {x = x} f) (made_more mode_part (made_more (made_token {x = x1} f1) (made_more (made_token {x = x2} f2) (made_more body (made_more (made_token {x = x3} f3) made_none)))))))) =
+decl_made : {ts us : List Placed} → Makes (the the_production.Declaration) ts us
+    → Printed DeclTree IsDecl print_decl ts us
+decl_made (made _ first (made_more made_mark
+    (made_more (made_token {x = x} f)
+    (made_more mode_part (made_more (made_token {x = x1} f1)
+    (made_more (made_token {x = x2} f2) (made_more body (made_more (made_token {x = x3} f3) made_none)))))))) =
     let m = mode_made mode_part in
     let t = type_made body in
     record {
@@ -1086,7 +1393,14 @@ decl_made (made _ first (made_more made_mark (made_more (made_token {x = x} f) (
         ),
       );
     }
-decl_made (made _ (later first) (made_more made_mark (made_more (made_token {x = x} f) (made_more (made_token {x = x1} f1) (made_more (made_token {x = x2} f2) (made_more pars (made_more (made_token {x = x3} f3) (made_more (made_token {x = x4} f4) (made_more gives (made_more (made_token {x = x5} f5) (made_more body (made_more (made_token {x = x6} f6) made_none)))))))))))) =
+decl_made (made _ (later first)
+    (made_more made_mark (made_more (made_token {x = x} f)
+    (made_more (made_token {x = x1} f1)
+    (made_more (made_token {x = x2} f2)
+    (made_more pars (made_more (made_token {x = x3} f3)
+    (made_more (made_token {x = x4} f4)
+    (made_more gives (made_more (made_token {x = x5} f5)
+    (made_more body (made_more (made_token {x = x6} f6) made_none)))))))))))) =
     let p = value_pars_made pars in
     let v = value_type_made gives in
     let t = term_made body in
@@ -1099,24 +1413,27 @@ decl_made (made _ (later first) (made_more made_mark (made_more (made_token {x =
           meets_name x1 f1,
           (
             meets_sign sym.OpenParen x2 f2,
-            p.reads (sign sym.CloseParen ∷ sign sym.Colon ∷ print_value_type v.tree (sign sym.Equals ∷ print_term t.tree (sign sym.Semicolon ∷ after))) (
-              meets_sign sym.CloseParen x3 f3,
-              (
-                meets_sign sym.Colon x4 f4,
-                v.reads (sign sym.Equals ∷ print_term t.tree (sign sym.Semicolon ∷ after)) (
-                  meets_sign sym.Equals x5 f5,
-                  t.reads (sign sym.Semicolon ∷ after) (meets_sign sym.Semicolon x6 f6, h),
+            p.reads (sign sym.CloseParen ∷ sign sym.Colon ∷
+                print_value_type v.tree (sign sym.Equals ∷ print_term t.tree (sign sym.Semicolon ∷ after))) (
+                  meets_sign sym.CloseParen x3 f3,
+                  (
+                    meets_sign sym.Colon x4 f4,
+                    v.reads (sign sym.Equals ∷ print_term t.tree (sign sym.Semicolon ∷ after)) (
+                      meets_sign sym.Equals x5 f5,
+                      t.reads (sign sym.Semicolon ∷ after) (meets_sign sym.Semicolon x6 f6, h),
+                    ),
+                  ),
                 ),
-              ),
-            ),
           ),
         ),
       );
     }
-decl_made (made _ (later (later first)) (made_more made_mark (made_more (made_token {x = x} f) (made_more others made_none)))) = proc_made x f others
+decl_made (made _ (later (later first))
+    (made_more made_mark (made_more (made_token {x = x} f) (made_more others made_none)))) = proc_made x f others
 decl_made (made _ (later (later (later gap))) _) = elim gap [ ]
 
-decls_made : {ts us : List Placed} → Makes (the the_production.Declarations) ts us → Printed (List DeclTree) (Each IsDecl) print_decls ts us
+decls_made : {ts us : List Placed} → Makes (the the_production.Declarations) ts us
+    → Printed (List DeclTree) (Each IsDecl) print_decls ts us
 decls_made (made _ first (made_more item (made_more others made_none))) =
     let d = decl_made item in
     let r = decls_made others in
@@ -1128,16 +1445,21 @@ decls_made (made _ (later (later gap)) _) = elim gap [ ]
 
 model_made : {ts us : List Placed} → Makes (the the_production.CostModel) ts us →
     Printed CostModel Any (λ m after. keyword (cost_word m) ∷ after) ts us
-model_made (made _ first (made_more (made_token {x = x} f) made_none)) = record { tree = cost.Ticks; is = tt; reads = λ after h. (meets_keyword word.Ticks x f, h) }
-model_made (made _ (later first) (made_more (made_token {x = x} f) made_none)) = record { tree = cost.Sends; is = tt; reads = λ after h. (meets_keyword word.Sends x f, h) }
-model_made (made _ (later (later first)) (made_more (made_token {x = x} f) made_none)) = record { tree = cost.All; is = tt; reads = λ after h. (meets_keyword word.All x f, h) }
+model_made (made _ first (made_more (made_token {x = x} f) made_none)) =
+    record { tree = cost.Ticks; is = tt; reads = λ after h. (meets_keyword word.Ticks x f, h) }
+model_made (made _ (later first) (made_more (made_token {x = x} f) made_none)) =
+    record { tree = cost.Sends; is = tt; reads = λ after h. (meets_keyword word.Sends x f, h) }
+model_made (made _ (later (later first)) (made_more (made_token {x = x} f) made_none)) =
+    record { tree = cost.All; is = tt; reads = λ after h. (meets_keyword word.All x f, h) }
 model_made (made _ (later (later (later gap))) _) = elim gap [ ]
 
 abbrev pub print_front : FileTree → Printer
 print_front f after = print_cost f.cost (print_decls f.decls after)
 
-file_made : {ts us : List Placed} → Makes (the the_production.File) ts us → Printed FileTree IsGrammatical print_front ts us
-file_made (made _ first (made_more (made_token {x = x} f) (made_more model (made_more (made_token {x = y} g) (made_more others made_none))))) =
+file_made : {ts us : List Placed} → Makes (the the_production.File) ts us
+    → Printed FileTree IsGrammatical print_front ts us
+file_made (made _ first (made_more (made_token {x = x} f)
+    (made_more model (made_more (made_token {x = y} g) (made_more others made_none))))) =
     let m = model_made model in
     let r = decls_made others in
     record {
@@ -1172,7 +1494,8 @@ nothing_left : {events : List Event} → Derives [] events → events ≡ []
 nothing_left nothing = refl
 
 -- Every file of the grammar is what a tree that stands for a text prints.
-pub file-has_tree : (tokens : List Placed) → IsFile tokens → (f : FileTree) × IsGrammatical f × Spells (print_file f) tokens
+pub file-has_tree : (tokens : List Placed) → IsFile tokens
+    → (f : FileTree) × IsGrammatical f × Spells (print_file f) tokens
 file-has_tree tokens is =
     let r = front_of (rules_in is.1) file [] is.0 is.1 (omega arith) in
     let end : tokens_in r.others ≡ [] = ap tokens_in (nothing_left r.derived) in

@@ -121,8 +121,12 @@ mutual
   type_walks (is_paying {s} {at} {q} goes) rest after y c k =
       let p = payment_walks s at q _ _ _ _ k in
       let r = type_walks goes _ _ _ _ p.keeps in
-      record
-      { fact = (p.fact, r.fact); behind = _; keeps = r.keeps; adds = regrouped (nodes 1) (in_potential q) p.adds r.adds }
+      record {
+        fact = (p.fact, r.fact);
+        behind = _;
+        keeps = r.keeps;
+        adds = regrouped (nodes 1) (in_potential q) p.adds r.adds;
+      }
   type_walks (is_valued {s} {at} {value} goes) rest after y c k =
       let v = value_type_walks value _ _ _ _ k in
       let a = arrow_walks s at _ _ _ _ v.keeps in

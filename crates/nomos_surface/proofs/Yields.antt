@@ -29,7 +29,8 @@ pub data Yields : List Part → List Shown → Type 0 where
       IsAmong side (alternatives n) → Yields (side ++ rest) after → Yields (part.Nonterminal n ∷ rest) after
 
 -- what parts yield they derive, whichever tokens spell it
-unfoldable pub yields-derives : {parts : List Part} {after : List Shown} → Yields parts after → (tokens : List Placed) → Spells after tokens →
+unfoldable pub yields-derives : {parts : List Part} {after : List Shown} → Yields parts after → (tokens : List Placed)
+    → Spells after tokens →
     (events : List Event) × Derives parts events × (tokens_in events ≡ tokens)
 yields-derives ends [] h = ([], nothing, refl)
 yields-derives ends (x ∷ tokens) h = absurd h
@@ -69,7 +70,9 @@ fits_number value (name text) h = absurd h
 fits_number value (reserved w) h = absurd h
 fits_number value (number digits) h =
     elim (bytes_eq digits (codes "1")) as
-    (λ b. (cond b (Some terminal.One) (Some terminal.Number) ≡ Some terminal.Number) ⊎ ((terminal.Number ≡ terminal.Number) × (cond b (Some terminal.One) (Some terminal.Number) ≡ Some terminal.One)))
+    (λ b. (cond b (Some terminal.One) (Some terminal.Number) ≡ Some terminal.Number)
+    ⊎ ((terminal.Number ≡ terminal.Number)
+    × (cond b (Some terminal.One) (Some terminal.Number) ≡ Some terminal.One)))
     [ true ↦ inr (refl, refl) | false ↦ inl refl ]
 fits_number value (symbol s) h = absurd h
 fits_number value (bad byte) h = absurd h

@@ -29,7 +29,8 @@ mutual
     is_atom : {t : TypeTree} → IsType Atom t → IsType SessionType t
     is_one : {at : ℕ} → IsType Atom (one at)
     is_named : {n : NameAt} → IsType Atom (named n)
-    is_choice : {s : Sender} {at : ℕ} {branches : BranchTrees} → AreBranches branches → IsType Atom (choice s at branches)
+    is_choice : {s : Sender} {at : ℕ} {branches : BranchTrees} → AreBranches branches
+        → IsType Atom (choice s at branches)
     is_grouped : {inner : TypeTree} → IsType SessionType inner → IsType Atom (grouped inner)
 
   -- one branch or more
@@ -79,7 +80,8 @@ mutual
     is_truth : {at : ℕ} {value : Bool} → IsTerm Primary (truth at value)
     is_me : {at : ℕ} → IsTerm Primary (me at)
     is_variable : {n : NameAt} → IsTerm Primary (variable n)
-    is_application : {f : NameAt} {arguments : TermTrees} → AreTerms arguments → IsTerm Primary (application f arguments)
+    is_application : {f : NameAt} {arguments : TermTrees} → AreTerms arguments
+        → IsTerm Primary (application f arguments)
     is_no_items : {at : ℕ} {element : ValueType} → IsTerm Primary (no_items at element)
     is_parenthesized : {inner : TermTree} → IsTerm Term inner → IsTerm Primary (parenthesized inner)
 

@@ -36,7 +36,8 @@ print_quantity at (quantity.Number value) = number_at at value
 print_quantity at quantity.Star = sign_at at sym.Star
 
 abbrev pub print_potential : Potential → Printer
-print_potential q after = sign_at q.at sym.OpenBrace ∷ print_quantity q.quantity_at q.quantity ∷ sign sym.CloseBrace ∷ after
+print_potential q after =
+    sign_at q.at sym.OpenBrace ∷ print_quantity q.quantity_at q.quantity ∷ sign sym.CloseBrace ∷ after
 
 abbrev pub print_optional : Option Potential → Printer
 print_optional None after = after
@@ -83,7 +84,8 @@ abbrev mutual
   print_type (choice s at branches) after =
       sign_at at (choice_sign s) ∷ sign sym.OpenBrace ∷
       print_parted sym.Bar (print_branches branches) (sign sym.CloseBrace ∷ after)
-  print_type (channel s at carried goes) after = print_type carried (sign_at at (channel_sign s) ∷ print_type goes after)
+  print_type (channel s at carried goes) after =
+      print_type carried (sign_at at (channel_sign s) ∷ print_type goes after)
   print_type (valued s at value goes) after = print_value_type value (sign_at at (value_sign s) ∷ print_type goes after)
   print_type (paying s at q goes) after = print_payment s at q (print_type goes after)
   print_type (going_up at goes) after = keyword_at at word.Up ∷ print_type goes after

@@ -73,9 +73,10 @@ fn read_tokens(alloc: Global, text: &[u8], found: &TokenList) -> Result<Surface,
     }
 }
 
-/// The tree as which a text reads. It is given exactly where the text reads as one, and then it is the only one. Otherwise
-/// the text is too long, or the error has its first byte over 127, or its first offending token with why it offends, or
-/// its length, where it ends too early; and it reads as no tree. A tree that is given is within the limits of texts.
+/// The tree as which a text reads. It is given exactly where the text reads as one, and then it is the only one.
+/// Otherwise the text is too long, or the error has its first byte over 127, or its first offending token with why it
+/// offends, or its length, where it ends too early; and it reads as no tree. A tree that is given is within the limits
+/// of texts.
 pub fn parse(alloc: Global, text: &[u8]) -> Result<Surface, ParseError>
     ensures answer { AnswersParse text.now result }
     ensures limits { IfOk result (λ surface. IsWithinLimits (file_tree surface)) }

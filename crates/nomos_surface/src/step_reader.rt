@@ -218,7 +218,8 @@ fn read_list(
     list_at: u32,
     tokens: &mut Tokens<'_>,
 ) -> Result<SurfaceStep, AllocError>
-    ensures { IfOk result (λ s. (step_tree s, tokens.new) ≡ list_from at bound list_at (is_open_brace (front_kind tokens.old)) tokens.old) }
+    ensures { IfOk result (λ s. (step_tree s, tokens.new)
+        ≡ list_from at bound list_at (is_open_brace (front_kind tokens.old)) tokens.old) }
 {
     if begins_potential(tokens) {
         let potential = read_potential(tokens);
@@ -245,7 +246,8 @@ fn read_list(
 /// Reads what stands behind `let NAME =`, of a `let` at an offset.
 #[tactic(auto, unfolding(crate::specs::mirror::Codes::bound_from))]
 fn read_bound(at: u32, bound: NameAt, tokens: &mut Tokens<'_>) -> Result<SurfaceStep, AllocError>
-    ensures { IfOk result (λ s. (step_tree s, tokens.new) ≡ bound_from at bound (is_list (front_kind tokens.old)) tokens.old) }
+    ensures { IfOk result (λ s. (step_tree s, tokens.new)
+        ≡ bound_from at bound (is_list (front_kind tokens.old)) tokens.old) }
 {
     if at_list(tokens) {
         let list_at = tokens.skip();

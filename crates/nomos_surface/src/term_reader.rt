@@ -240,7 +240,8 @@ fn read_operand(
 /// Reads terms with the operators of a chain between them.
 #[cycle(reading_terms)]
 fn read_chain(room: usize, chain: Chain, tokens: &mut Tokens<'_>) -> Result<SurfaceTerm, AllocError>
-    ensures { IfOk result (λ t. (term_tree t, tokens.new) ≡ read_chain (operand_of (read_term room) chain) chain tokens.old) }
+    ensures { IfOk result (λ t. (term_tree t, tokens.new)
+        ≡ read_chain (operand_of (read_term room) chain) chain tokens.old) }
 {
     let mut left = read_operand(room, chain, tokens)?;
     for _ in 0..tokens.len() {
@@ -358,7 +359,8 @@ pub(crate) fn read_arguments(
     room: usize,
     tokens: &mut Tokens<'_>,
 ) -> Result<Vec<SurfaceTerm>, AllocError>
-    ensures { IfOk result (λ ts. (map term_tree ts.items, tokens.new) ≡ read_until (read_term room) (length tokens.old) tokens.old) }
+    ensures { IfOk result (λ ts. (map term_tree ts.items, tokens.new)
+        ≡ read_until (read_term room) (length tokens.old) tokens.old) }
 {
     let mut terms = Vec::new(tokens.alloc());
     if tokens.at_list_end() {

@@ -23,12 +23,14 @@ use Rattle.nomos_equality.proofs.HeadLaws.{goes-label}
 use Rattle.nomos_equality.proofs.PathLaws.{part-below}
 use Rattle.nomos_sync.specs.Continuing.{continuation_by, behind_down, Continues, stops, continues}
 
-contains-map : {X Y : Type 0} (f : X → Y) (xs : List X) (x : X) (y : Y) → Contains xs x → f x ≡ y → Contains (map f xs) y
+contains-map : {X Y : Type 0} (f : X → Y) (xs : List X) (x : X) (y : Y) → Contains xs x → f x ≡ y
+    → Contains (map f xs) y
 contains-map f xs x y there same =
     let inside : there.0 < length (map f xs) = rw length-map there.1 in
     (there.0, inside, get_or-map f xs there.0 x y there.1 ∙ ap f there.2 ∙ same)
 
-contains-unmap : {X Y : Type 0} (f : X → Y) (xs : List X) (y : Y) → Contains (map f xs) y → (x : X) × Contains xs x × (f x ≡ y)
+contains-unmap : {X Y : Type 0} (f : X → Y) (xs : List X) (y : Y) → Contains (map f xs) y
+    → (x : X) × Contains xs x × (f x ≡ y)
 contains-unmap f [] y there = absurd (omega (arith, there.1))
 contains-unmap f (x ∷ xs) y (zero, inside, is) = (x, Contains-get_or (x ∷ xs) 0 x (omega arith), is)
 contains-unmap f (x ∷ xs) y (suc k, inside, is) =
@@ -42,15 +44,18 @@ one-element x y (suc k, inside, is) = absurd (omega arith)
 
 -- ---- where labels differ, a choice goes on after the label of a branch as the branch says
 
-tested-first : (b : Branch) (rest : Option Branch) (passes : Bool) → passes ≡ true → option_map (λ c. c.goes) (cond passes (Some b) rest) ≡ Some b.goes
+tested-first : (b : Branch) (rest : Option Branch) (passes : Bool) → passes ≡ true
+    → option_map (λ c. c.goes) (cond passes (Some b) rest) ≡ Some b.goes
 tested-first b rest true is = refl
 tested-first b rest false is = absurd cc
 
-tested-later : (b : Branch) (rest : Option Branch) (passes : Bool) (t : TypeId) → passes ≡ false → option_map (λ c. c.goes) rest ≡ Some t → option_map (λ c. c.goes) (cond passes (Some b) rest) ≡ Some t
+tested-later : (b : Branch) (rest : Option Branch) (passes : Bool) (t : TypeId) → passes ≡ false
+    → option_map (λ c. c.goes) rest ≡ Some t → option_map (λ c. c.goes) (cond passes (Some b) rest) ≡ Some t
 tested-later b rest true t is goes = absurd cc
 tested-later b rest false t is goes = goes
 
-goes-own : (bs : List Branch) → AllDiffer (map (λ b. b.label.0) bs) → (c : Branch) → Contains bs c → goes_by bs c.label ≡ Some c.goes
+goes-own : (bs : List Branch) → AllDiffer (map (λ b. b.label.0) bs) → (c : Branch) → Contains bs c
+    → goes_by bs c.label ≡ Some c.goes
 goes-own [] differ c among = absurd (omega (arith, among.1))
 goes-own (b ∷ bs) differ c (zero, inside, is) =
     let same : b ≡ c = is in
@@ -60,27 +65,35 @@ goes-own (b ∷ bs) differ c (suc k, inside, is) =
     let numbers = map (λ (d : Branch). d.label.0) bs in
     let below : k < length bs = omega arith in
     let mapped : k < length numbers = rw length-map below in
-    let apart : b.label.0 ≢ get_or numbers k c.label.0 = differ 0 (suc k) c.label.0 (omega arith) (omega (arith, mapped)) in
-    let other : get_or numbers k c.label.0 ≡ c.label.0 = get_or-map (λ (d : Branch). d.label.0) bs k c c.label.0 below ∙ ap (λ (d : Branch). d.label.0) is in
+    let apart : b.label.0 ≢ get_or numbers k c.label.0 = differ 0 (suc k) c.label.0 (omega arith)
+    (omega (arith, mapped)) in
+    let other : get_or numbers k c.label.0
+    ≡ c.label.0 = get_or-map (λ (d : Branch). d.label.0) bs k c c.label.0 below
+    ∙ ap (λ (d : Branch). d.label.0) is in
     let different : b.label.0 ≢ c.label.0 = λ e. apart (e ∙ sym other) in
     let rest : AllDiffer numbers = λ i j d less in_rest. differ (suc i) (suc j) d (omega arith) (omega arith) in
-    tested-later b (find (λ e. e.label.0 == c.label.0) bs) (b.label.0 == c.label.0) c.goes (ne_eqb b.label.0 c.label.0 different) (goes-own bs rest c (k, below, is))
+    tested-later b (find (λ e. e.label.0 == c.label.0) bs) (b.label.0 == c.label.0) c.goes
+    (ne_eqb b.label.0 c.label.0 different) (goes-own bs rest c (k, below, is))
 
 -- the labels of a choice of a program differ
-pub labels-differ : (lists : ProgramLists) (t : ℕ) (n : TypeNode) → IsProgram lists → type_node lists t ≡ Some n → AllDiffer (type_labels n)
+pub labels-differ : (lists : ProgramLists) (t : ℕ) (n : TypeNode) → IsProgram lists → type_node lists t ≡ Some n
+    → AllDiffer (type_labels n)
 labels-differ lists t n is_program there =
     let at = type_node-at lists t n there in
-    subst (λ (m : TypeNode). AllDiffer (type_labels m)) at.2 (All-at (λ (e : TypeAt). AllDiffer (type_labels e.node)) lists.types t at.0 is_program.labels.choices at.1)
+    subst (λ (m : TypeNode). AllDiffer (type_labels m)) at.2
+    (All-at (λ (e : TypeAt). AllDiffer (type_labels e.node)) lists.types t at.0 is_program.labels.choices at.1)
 
 -- ---- both forms
 
-branch-hop : (bs : List Branch) (s : TypeId) → AllDiffer (map (λ b. b.label.0) bs) → Contains (map (λ b. b.goes) bs) s → (h : Hop) × (l : Label) × (h ≡ hop.Label l) × (goes_by bs l ≡ Some s)
+branch-hop : (bs : List Branch) (s : TypeId) → AllDiffer (map (λ b. b.label.0) bs) → Contains (map (λ b. b.goes) bs) s
+    → (h : Hop) × (l : Label) × (h ≡ hop.Label l) × (goes_by bs l ≡ Some s)
 branch-hop bs s differ among =
     let c = contains-unmap (λ (b : Branch). b.goes) bs s among in
     (hop.Label c.0.label, c.0.label, refl, goes-own bs differ c.0 c.1 ∙ ap (λ (t : TypeId). Some t) c.2)
 
 -- each continuation is one by a hop
-pub continuation-hop : (n : TypeNode) (s : TypeId) → AllDiffer (type_labels n) → Contains (continuations n) s → (h : Hop) × (continuation_by n h ≡ Some s)
+pub continuation-hop : (n : TypeNode) (s : TypeId) → AllDiffer (type_labels n) → Contains (continuations n) s
+    → (h : Hop) × (continuation_by n h ≡ Some s)
 continuation-hop (node.Plus bs) s differ among = let r = branch-hop bs s differ among in (hop.Label r.1, r.3)
 continuation-hop (node.With bs) s differ among = let r = branch-hop bs s differ among in (hop.Label r.1, r.3)
 continuation-hop (node.Tensor a b) s differ among = (hop.Next, ap (λ (t : TypeId). Some t) (one-element b s among))
@@ -95,10 +108,13 @@ branch-among : (bs : List Branch) (l : Label) (s : TypeId) → goes_by bs l ≡ 
 branch-among bs l s found = let c = goes-label bs l s found in contains-map (λ (b : Branch). b.goes) bs c.0 s c.1 c.3
 
 only : (a s : TypeId) → Some a ≡ Some s → Contains (a ∷ []) s
-only a s found = let same : a ≡ s = cc in subst (λ (t : TypeId). Contains (a ∷ []) t) same (Contains-get_or (a ∷ []) 0 a (omega arith))
+only a s found =
+    let same : a ≡ s = cc in
+    subst (λ (t : TypeId). Contains (a ∷ []) t) same (Contains-get_or (a ∷ []) 0 a (omega arith))
 
 -- a continuation by a hop is one
-pub hop-continuation : (n : TypeNode) (h : Hop) (s : TypeId) → continuation_by n h ≡ Some s → Contains (continuations n) s
+pub hop-continuation : (n : TypeNode) (h : Hop) (s : TypeId) → continuation_by n h ≡ Some s
+    → Contains (continuations n) s
 hop-continuation (node.Plus bs) (hop.Label l) s found = branch-among bs l s found
 hop-continuation (node.With bs) (hop.Label l) s found = branch-among bs l s found
 hop-continuation (node.Tensor a b) hop.Next s found = only b s found
@@ -112,7 +128,8 @@ hop-continuation n hop.Next s found = absurd cc
 hop-continuation n hop.Carried s found = absurd cc
 
 -- what a path of continuations leads to is reached
-pub continues-reaches : (lists : ProgramLists) (a t u : TypeId) (path : List Hop) → Reaches lists a t → Continues lists path t u → Reaches lists a u
+pub continues-reaches : (lists : ProgramLists) (a t u : TypeId) (path : List Hop) → Reaches lists a t
+    → Continues lists path t u → Reaches lists a u
 continues-reaches lists a t u [] reached (stops _) = reached
 continues-reaches lists a t u (h ∷ path) reached (continues _ _ _ s _ n unfolds part rest) =
     continues-reaches lists a s u path (further n reached unfolds (hop-continuation n h s part)) rest
@@ -123,13 +140,15 @@ down-behind (node.Down a) b found = let same : a ≡ b = cc in ap (λ (t : TypeI
 down-behind n b found = absurd cc
 
 -- the type behind a `down` of a program is one of the program
-pub down-below : (lists : ProgramLists) (t : ℕ) (n : TypeNode) (b : TypeId) → IsProgram lists → type_node lists t ≡ Some n → behind_down n ≡ Some b → b.0 < length lists.types
+pub down-below : (lists : ProgramLists) (t : ℕ) (n : TypeNode) (b : TypeId) → IsProgram lists
+    → type_node lists t ≡ Some n → behind_down n ≡ Some b → b.0 < length lists.types
 down-below lists t n b is_program there found =
     let part : part_by n hop.Next ≡ Some b = ap (λ (m : TypeNode). part_by m hop.Next) (down-behind n b found) in
     part-below lists t n hop.Next b is_program there part
 
 -- a `down` at a type
-pub down-there : (lists : ProgramLists) (t : ℕ) (n : TypeNode) (b : TypeId) → type_node lists t ≡ Some n → behind_down n ≡ Some b → type_node lists t ≡ Some (node.Down b)
+pub down-there : (lists : ProgramLists) (t : ℕ) (n : TypeNode) (b : TypeId) → type_node lists t ≡ Some n
+    → behind_down n ≡ Some b → type_node lists t ≡ Some (node.Down b)
 down-there lists t n b there found = there ∙ ap (λ (m : TypeNode). Some m) (down-behind n b found)
 
 -- a continuation is a part
@@ -141,5 +160,7 @@ continuation-part n hop.Next s found = found
 continuation-part n hop.Carried s found = absurd cc
 
 -- a continuation of a type of a program is one of the program
-pub continuation-below : (lists : ProgramLists) (t : ℕ) (n : TypeNode) (h : Hop) (s : TypeId) → IsProgram lists → type_node lists t ≡ Some n → continuation_by n h ≡ Some s → s.0 < length lists.types
-continuation-below lists t n h s is_program there found = part-below lists t n h s is_program there (continuation-part n h s found)
+pub continuation-below : (lists : ProgramLists) (t : ℕ) (n : TypeNode) (h : Hop) (s : TypeId) → IsProgram lists
+    → type_node lists t ≡ Some n → continuation_by n h ≡ Some s → s.0 < length lists.types
+continuation-below lists t n h s is_program there found =
+    part-below lists t n h s is_program there (continuation-part n h s found)

@@ -4,11 +4,13 @@ use Rattle.std.specs.Map.{lookup}
 use Rattle.std.proofs.lemmas.List.Elements.{Contains-get_or, Contains-append_right}
 
 -- a key that is found has an entry
-pub entry-there : {V : Type 0} (es : List (ℕ × V)) (k : ℕ) → is_some (lookup (nat_eq k) es) ≡ true → (v : V) × Contains es (k, v)
+pub entry-there : {V : Type 0} (es : List (ℕ × V)) (k : ℕ) → is_some (lookup (nat_eq k) es) ≡ true
+    → (v : V) × Contains es (k, v)
 entry-there [] k found = absurd (true≢false (sym found))
 entry-there {V = V} (e ∷ es) k found = by (nat_eq k e.0) refl (entry-there es k) found
   where
-    by : (b : Bool) → nat_eq k e.0 ≡ b → (is_some (lookup (nat_eq k) es) ≡ true → (v : V) × Contains es (k, v)) → is_some (cond b (Some e.1) (lookup (nat_eq k) es)) ≡ true → (v : V) × Contains (e ∷ es) (k, v)
+    by : (b : Bool) → nat_eq k e.0 ≡ b → (is_some (lookup (nat_eq k) es) ≡ true → (v : V) × Contains es (k, v))
+        → is_some (cond b (Some e.1) (lookup (nat_eq k) es)) ≡ true → (v : V) × Contains (e ∷ es) (k, v)
     by true is rest h =
         let same : k ≡ e.0 = eqb-true k e.0 is in
         (e.1, subst (λ (j : ℕ). Contains (e ∷ es) (j, e.1)) (sym same) (Contains-get_or (e ∷ es) 0 e (omega arith)))

@@ -28,17 +28,21 @@ use Rattle.nomos_sync.proofs.WalkLemmas.{AreReached, reached-begins, reached-wal
 pub record IsPassed (lists : ProgramLists) (shared : TypeId) (visits : Visits) (e : Compared) (at : ℕ) : Type 0 where
   pub follows : FollowsAll lists at visits
   pub equal : (b : TypeId) → type_node lists at ≡ Some (node.Down b) → EqualShapes lists b shared
-  pub noted : (b : TypeId) (q : Amount × Amount) → type_node lists at ≡ Some (node.Down b) → StandAtEqualPaths lists b shared q → Contains e.amounts q
+  pub noted : (b : TypeId) (q : Amount × Amount) → type_node lists at ≡ Some (node.Down b)
+      → StandAtEqualPaths lists b shared q → Contains e.amounts q
 
 -- what holds of a walk at each moment
-pub record IsPassing (lists : ProgramLists) (start shared : TypeId) (old e : Compared) (visits : Visits) (next : ℕ) : Type 0 where
+pub record IsPassing (lists : ProgramLists) (start shared : TypeId) (old e : Compared) (visits : Visits)
+    (next : ℕ) : Type 0 where
   pub reached : AreReached lists start visits
   pub begun : IsVisited lists visits start
-  pub passed : (i at : ℕ) (from : Option Arrival) → i < next → slice_get visits i ≡ Some (at, from) → IsPassed lists shared visits e at
+  pub passed : (i at : ℕ) (from : Option Arrival) → i < next → slice_get visits i ≡ Some (at, from)
+      → IsPassed lists shared visits e at
   pub kept : (q : Amount × Amount) → Contains old.amounts q → Contains e.amounts q
   pub found : (q : Amount × Amount) → Contains e.amounts q → Contains old.amounts q ⊎ StandAtDown lists start shared q
 
-pub passing-begins : (lists : ProgramLists) (start shared : TypeId) (old : Compared) (s n : Visits) → s ≡ [] → MeetsType lists s start None n → IsPassing lists start shared old old n 0
+pub passing-begins : (lists : ProgramLists) (start shared : TypeId) (old : Compared) (s n : Visits) → s ≡ []
+    → MeetsType lists s start None n → IsPassing lists start shared old old n 0
 passing-begins lists start shared old s n empty met =
     record {
       reached = reached-begins lists start s n empty met;
@@ -49,23 +53,30 @@ passing-begins lists start shared old s n empty met =
     }
 
 -- what was noted stays noted
-agrees-kept : (lists : ProgramLists) (at shared : TypeId) (e f : Compared) (q : Amount × Amount) → AgreesBehind lists at shared e f → Contains e.amounts q → Contains f.amounts q
-agrees-kept lists at shared e f q (no_down none same) among = subst (λ (c : Compared). Contains c.amounts q) (sym same) among
+agrees-kept : (lists : ProgramLists) (at shared : TypeId) (e f : Compared) (q : Amount × Amount)
+    → AgreesBehind lists at shared e f → Contains e.amounts q → Contains f.amounts q
+agrees-kept lists at shared e f q (no_down none same) among =
+    subst (λ (c : Compared). Contains c.amounts q) (sym same) among
 agrees-kept lists at shared e f q (down b there finds) among = (finds.amounts q).1 (inl among)
 
-agrees-equal : (lists : ProgramLists) (at shared : TypeId) (e f : Compared) (b : TypeId) → AgreesBehind lists at shared e f → type_node lists at.0 ≡ Some (node.Down b) → EqualShapes lists b shared
+agrees-equal : (lists : ProgramLists) (at shared : TypeId) (e f : Compared) (b : TypeId)
+    → AgreesBehind lists at shared e f → type_node lists at.0 ≡ Some (node.Down b) → EqualShapes lists b shared
 agrees-equal lists at shared e f b (no_down none same) there = absurd (none b there)
 agrees-equal lists at shared e f b (down c found finds) there =
     let same : c ≡ b = cc in
     subst (λ (t : TypeId). EqualShapes lists t shared) same finds.shapes
 
-agrees-noted : (lists : ProgramLists) (at shared : TypeId) (e f : Compared) (b : TypeId) (q : Amount × Amount) → AgreesBehind lists at shared e f → type_node lists at.0 ≡ Some (node.Down b) → StandAtEqualPaths lists b shared q → Contains f.amounts q
+agrees-noted : (lists : ProgramLists) (at shared : TypeId) (e f : Compared) (b : TypeId) (q : Amount × Amount)
+    → AgreesBehind lists at shared e f → type_node lists at.0 ≡ Some (node.Down b) → StandAtEqualPaths lists b shared q
+    → Contains f.amounts q
 agrees-noted lists at shared e f b q (no_down none same) there stand = absurd (none b there)
 agrees-noted lists at shared e f b q (down c found finds) there stand =
     let same : b ≡ c = cc in
     (finds.amounts q).1 (inr (subst (λ (t : TypeId). StandAtEqualPaths lists t shared q) same stand))
 
-passed-more : (lists : ProgramLists) (shared : TypeId) (s n : Visits) (e f : Compared) (at : ℕ) → WalksTo lists s n → ((q : Amount × Amount) → Contains e.amounts q → Contains f.amounts q) → IsPassed lists shared s e at → IsPassed lists shared n f at
+passed-more : (lists : ProgramLists) (shared : TypeId) (s n : Visits) (e f : Compared) (at : ℕ) → WalksTo lists s n
+    → ((q : Amount × Amount) → Contains e.amounts q → Contains f.amounts q)
+    → IsPassed lists shared s e at → IsPassed lists shared n f at
 passed-more lists shared s n e f at walks kept passed =
     record {
       follows = λ h. follows-walks lists at h s n walks (passed.follows h);
@@ -74,7 +85,11 @@ passed-more lists shared s n e f at walks kept passed =
     }
 
 -- what is found behind a visit is found at a `down` that is reached
-agrees-found : (lists : ProgramLists) (start shared at : TypeId) (old e f : Compared) (s : Visits) (i : ℕ) (from : Option Arrival) (q : Amount × Amount) → AreReached lists start s → slice_get s i ≡ Some (at.0, from) → AgreesBehind lists at shared e f → (Contains e.amounts q → Contains old.amounts q ⊎ StandAtDown lists start shared q) → Contains f.amounts q → Contains old.amounts q ⊎ StandAtDown lists start shared q
+agrees-found : (lists : ProgramLists) (start shared at : TypeId) (old e f : Compared) (s : Visits) (i : ℕ)
+    (from : Option Arrival) (q : Amount × Amount) → AreReached lists start s → slice_get s i ≡ Some (at.0, from)
+    → AgreesBehind lists at shared e
+    f → (Contains e.amounts q → Contains old.amounts q ⊎ StandAtDown lists start shared q) → Contains f.amounts q
+    → Contains old.amounts q ⊎ StandAtDown lists start shared q
 agrees-found lists start shared at old e f s i from q reached there (no_down none same) before among =
     before (subst (λ (c : Compared). Contains c.amounts q) same among)
 agrees-found lists start shared at old e f s i from q reached there (down b found finds) before among =
@@ -92,7 +107,10 @@ agrees-found lists start shared at old e f s i from q reached there (down b foun
     ]
 
 -- one visit further
-pub passing-more : (lists : ProgramLists) (start shared at : TypeId) (old e f : Compared) (s n : Visits) (next : ℕ) (from : Option Arrival) → IsPassing lists start shared old e s next → slice_get s next ≡ Some (at.0, from) → AgreesBehind lists at shared e f → WalksTo lists s n → FollowsAll lists at.0 n → IsPassing lists start shared old f n (next + 1)
+pub passing-more : (lists : ProgramLists) (start shared at : TypeId) (old e f : Compared) (s n : Visits) (next : ℕ)
+    (from : Option Arrival) → IsPassing lists start shared old e s next → slice_get s next ≡ Some (at.0, from)
+    → AgreesBehind lists at shared e f → WalksTo lists s n → FollowsAll lists at.0 n
+    → IsPassing lists start shared old f n (next + 1)
 passing-more lists start shared at old e f s n next from passing there agrees walks follows =
     record {
       reached = reached-walks lists start s n passing.reached walks;
@@ -104,13 +122,17 @@ passing-more lists start shared at old e f s n next from passing there agrees wa
                 let d = slice_get-get_or s i (at.0, from) (omega (arith, inside, less)) in
                 let now = walks-get lists s n i (get_or s i (at.0, from)) walks d in
                 let same : get_or s i (at.0, from) ≡ (k, g) = cc in
-                let before : slice_get s i ≡ Some (k, g) = subst (λ (v : ℕ × Option Arrival). slice_get s i ≡ Some v) same d in
-                passed-more lists shared s n e f k walks (λ q among. agrees-kept lists at shared e f q agrees among) (passing.passed i k g less before)
+                let before : slice_get s i ≡ Some (k, g) = subst (λ (v : ℕ × Option Arrival). slice_get s i ≡ Some v)
+                same d in
+                passed-more lists shared s n e f k walks (λ q among. agrees-kept lists at shared e f q agrees among)
+                (passing.passed i k g less before)
             | inr more ↦
                 let is : next ≡ i = omega (arith, below, more) in
                 let now = walks-get lists s n next (at.0, from) walks there in
-                let now_at : slice_get n i ≡ Some (at.0, from) = subst (λ (j : ℕ). slice_get n j ≡ Some (at.0, from)) is now in
-                let same : at.0 ≡ k = ap (λ (v : ℕ × Option Arrival). v.0) (one-visit n i (at.0, from) (k, g) now_at found) in
+                let now_at : slice_get n i ≡ Some (at.0, from) = subst (λ (j : ℕ). slice_get n j ≡ Some (at.0, from)) is
+                now in
+                let same : at.0 ≡ k = ap (λ (v : ℕ × Option Arrival). v.0)
+                (one-visit n i (at.0, from) (k, g) now_at found) in
                 subst (λ (j : ℕ). IsPassed lists shared n f j) same
                 (record {
                   follows = follows;
@@ -119,7 +141,9 @@ passing-more lists start shared at old e f s n next from passing there agrees wa
                 })
           ];
       kept = λ q among. agrees-kept lists at shared e f q agrees (passing.kept q among);
-      found = λ q among. agrees-found lists start shared at old e f s next from q passing.reached there agrees (passing.found q) among;
+      found =
+          λ q among. agrees-found lists start shared at old e f s next from q passing.reached there agrees
+          (passing.found q) among;
     }
 
 -- ---- the end
@@ -134,19 +158,24 @@ none-past xs n i x none found =
           absurd cc
     ]
 
-node-unique : (lists : ProgramLists) (t : ℕ) (n m : TypeNode) → type_node lists t ≡ Some n → IsConstructor n → Unfolds lists t m → n ≡ m
+node-unique : (lists : ProgramLists) (t : ℕ) (n m : TypeNode) → type_node lists t ≡ Some n → IsConstructor n
+    → Unfolds lists t m → n ≡ m
 node-unique lists t n m there constructs unfolds = Unfolds-unique lists t n m (constructor t n there constructs) unfolds
 
-module _ (lists : ProgramLists) (start shared : TypeId) (old e : Compared) (s : Visits) (next : ℕ) (is_program : IsProgram lists) (passing : IsPassing lists start shared old e s next) (none : slice_get s next ≡ None) where
+module _ (lists : ProgramLists) (start shared : TypeId) (old e : Compared) (s : Visits) (next : ℕ)
+    (is_program : IsProgram lists) (passing : IsPassing lists start shared old e s next)
+    (none : slice_get s next ≡ None) where
   -- a type that was met is passed
   visited-passed : (t : TypeId) (met : IsVisited lists s t) → IsPassed lists shared s e met.at
   visited-passed t met =
       let k = met.among.0 in
-      let found : slice_get s k ≡ Some (met.at, met.from) = slice_get-get_or s k (met.at, met.from) met.among.1 ∙ ap (λ (v : ℕ × Option Arrival). Some v) met.among.2 in
+      let found : slice_get s k ≡ Some (met.at, met.from) = slice_get-get_or s k (met.at, met.from) met.among.1
+      ∙ ap (λ (v : ℕ × Option Arrival). Some v) met.among.2 in
       passing.passed k met.at met.from (none-past s next k (met.at, met.from) none found) found
 
   -- what a type unfolds to stands where it was met
-  visited-node : (t : TypeId) (n : TypeNode) (met : IsVisited lists s t) → Unfolds lists t.0 n → type_node lists met.at ≡ Some n
+  visited-node : (t : TypeId) (n : TypeNode) (met : IsVisited lists s t) → Unfolds lists t.0 n
+      → type_node lists met.at ≡ Some n
   visited-node t n met unfolds =
       let same : met.is.node ≡ n = Unfolds-unique lists t.0 met.is.node n met.is.unfolds unfolds in
       subst (λ (m : TypeNode). type_node lists met.at ≡ Some m) same met.is.there
@@ -172,13 +201,16 @@ module _ (lists : ProgramLists) (start shared : TypeId) (old e : Compared) (s : 
             | inl h ↦ passing.kept q h
             | inr h ↦
                 let met = reached-visited h.at h.reached in
-                (visited-passed h.at met).noted h.behind q (visited-node h.at (node.Down h.behind) met h.unfolds) h.stand
+                (visited-passed h.at met).noted h.behind q (visited-node h.at (node.Down h.behind) met h.unfolds)
+                h.stand
           ],
         );
       }
 
 -- a visit behind which another type stands
-pub passing-offends : (lists : ProgramLists) (start shared at : TypeId) (s : Visits) (i : ℕ) (from : Option Arrival) (path : List Hop) → AreReached lists start s → slice_get s i ≡ Some (at.0, from) → WayTo s i path → DiffersBehind lists at shared → OffendsAt lists start shared path
+pub passing-offends : (lists : ProgramLists) (start shared at : TypeId) (s : Visits) (i : ℕ) (from : Option Arrival)
+    (path : List Hop) → AreReached lists start s → slice_get s i ≡ Some (at.0, from) → WayTo s i path
+    → DiffersBehind lists at shared → OffendsAt lists start shared path
 passing-offends lists start shared at s i from path reached there way differs =
     let r = way-reached lists start s i at.0 from path reached way there in
     record {

@@ -17,13 +17,16 @@ use Rattle.nomos_sync.specs.declared.synchronizing.Synced.TheVariants as synced
 use Rattle.nomos_sync.proofs.ContinuationLemmas.{continues-reaches}
 
 -- the pairs say under which amounts the type is synchronizing
-pub synchronizes_with-exact : (lists : ProgramLists) (from shared : TypeId) (pairs : List (Amount × Amount)) (x : Annotations) → SynchronizesWith lists from shared pairs → IsSynchronizingAt lists x from shared ↔ SameWorth x pairs
+pub synchronizes_with-exact : (lists : ProgramLists) (from shared : TypeId) (pairs : List (Amount × Amount))
+    (x : Annotations) → SynchronizesWith lists from shared pairs
+    → IsSynchronizingAt lists x from shared ↔ SameWorth x pairs
 synchronizes_with-exact lists from shared pairs x answer = (
   λ synchronizing.
       All-weaker (Contains pairs) (λ (p : Amount × Amount). dths x p.0 ≡ dths x p.1)
       (λ p among.
       let stand = (answer.pairs p).0 among in
-      equal-worth lists x stand.behind shared p (synchronizing stand.at stand.behind stand.reached stand.unfolds) stand.stand)
+      equal-worth lists x stand.behind shared p (synchronizing stand.at stand.behind stand.reached stand.unfolds)
+      stand.stand)
       pairs (All-contains_itself pairs),
   λ worth.
       λ t b reached unfolds.
@@ -34,20 +37,24 @@ synchronizes_with-exact lists from shared pairs x answer = (
 )
 
 -- a type with an offending `down` is synchronizing under no amounts
-pub offends-not_synchronizing : (lists : ProgramLists) (x : Annotations) (from shared : TypeId) (path : List Hop) → OffendsAt lists from shared path → IsSynchronizingAt lists x from shared → ⊥
+pub offends-not_synchronizing : (lists : ProgramLists) (x : Annotations) (from shared : TypeId) (path : List Hop)
+    → OffendsAt lists from shared path → IsSynchronizingAt lists x from shared → ⊥
 offends-not_synchronizing lists x from shared path offends synchronizing =
     offends.unequal
     (equal-shapes lists x offends.behind shared
-    (synchronizing offends.at offends.behind (continues-reaches lists from from offends.at path here offends.leads) offends.unfolds))
+    (synchronizing offends.at offends.behind (continues-reaches lists from from offends.at path here offends.leads)
+    offends.unfolds))
 
 -- the answer says under which amounts the type is synchronizing
-pub synced-exact : (lists : ProgramLists) (from shared : TypeId) (answer : Synced) (x : Annotations) → AnswersSynchronizing lists from shared answer → IsSynchronizingAt lists x from shared ↔ SaysSynchronizing x answer
+pub synced-exact : (lists : ProgramLists) (from shared : TypeId) (answer : Synced) (x : Annotations)
+    → AnswersSynchronizing lists from shared answer → IsSynchronizingAt lists x from shared ↔ SaysSynchronizing x answer
 synced-exact lists from shared (synced.Yes pairs) x answers = synchronizes_with-exact lists from shared pairs x answers
 synced-exact lists from shared (synced.No path) x answers =
     (λ synchronizing. offends-not_synchronizing lists x from shared path answers synchronizing, λ says. absurd says)
 
 -- from nothing on, what is found is the answer
-pub sync-answered : (lists : ProgramLists) (from shared : TypeId) (new : Compared) → HasCompared lists new → FindsSynchronizing lists from shared nothing_compared new → SynchronizesWith lists from shared new.amounts
+pub sync-answered : (lists : ProgramLists) (from shared : TypeId) (new : Compared) → HasCompared lists new
+    → FindsSynchronizing lists from shared nothing_compared new → SynchronizesWith lists from shared new.amounts
 sync-answered lists from shared new compared finds =
     record {
       shapes = finds.shapes;

@@ -35,7 +35,8 @@ abbrev pub behind_down : TypeNode → Option TypeId
 behind_down (node.Down b) = Some b
 behind_down _ = None
 
--- The amounts stand at equal paths of the shared type and of the type behind a `down` that is reached from the first type.
+-- The amounts stand at equal paths of the shared type and of the type behind a `down` that is reached from the first
+-- type.
 pub record StandAtDown (lists : ProgramLists) (from shared : TypeId) (amounts : Amount × Amount) : Type 0 where
   pub at : TypeId
   pub behind : TypeId

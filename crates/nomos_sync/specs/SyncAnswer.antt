@@ -26,7 +26,8 @@ pub record OffendsAt (lists : ProgramLists) (from shared : TypeId) (path : List 
   pub unfolds : Unfolds lists at.0 (node.Down behind)
   pub unequal : ¬ (EqualShapes lists behind shared)
 
--- the shared type is synchronizing where amounts are ignored, and these are, each once, the pairs of amounts that need to be equal
+-- the shared type is synchronizing where amounts are ignored, and these are, each once, the pairs of amounts that need
+-- to be equal
 pub record SynchronizesWith (lists : ProgramLists) (from shared : TypeId) (given : List (Amount × Amount))
     : Type 0 where
   pub shapes : IsSynchronizingAt lists no_amounts from shared

@@ -16,20 +16,26 @@ use Rattle.nomos_syntax.proofs.WordLemmas.{not_reserved}
 -- the elements that pass in front pass
 front_passes : (p : ℕ → Bool) (bytes : List ℕ) → All (λ byte. IsTrue (p byte)) (take (prefix_len p bytes) bytes)
 front_passes p [] = All-nil (λ byte. IsTrue (p byte))
-front_passes p (b ∷ bytes) = let more : 1 + prefix_len p bytes ≡ suc (prefix_len p bytes) = omega arith in elim (cases_Bool (p b)) [
-  | inl passes ↦ rw (passes, more) (All-cons (λ byte. IsTrue (p byte)) b (take (prefix_len p bytes) bytes) passes (front_passes p bytes))
-  | inr stops ↦ rw stops (All-nil (λ byte. IsTrue (p byte)))
-]
+front_passes p (b ∷ bytes) =
+    let more : 1 + prefix_len p bytes ≡ suc (prefix_len p bytes) = omega arith in elim (cases_Bool (p b)) [
+      | inl passes ↦ rw (passes, more)
+          (All-cons (λ byte. IsTrue (p byte)) b (take (prefix_len p bytes) bytes) passes (front_passes p bytes))
+      | inr stops ↦ rw stops (All-nil (λ byte. IsTrue (p byte)))
+    ]
 
 -- a letter and the bytes of words after it are a word
-word_is_word : (b : ℕ) (bytes : List ℕ) → is_letter b ≡ true → IsWordText (run_of b (prefix_len is_word_byte bytes) bytes)
+word_is_word : (b : ℕ) (bytes : List ℕ) → is_letter b ≡ true
+    → IsWordText (run_of b (prefix_len is_word_byte bytes) bytes)
 word_is_word b bytes letter = record {
   first = (omega arith, letter);
-  each = All-cons (λ byte. IsTrue (is_word_byte byte)) b (take (prefix_len is_word_byte bytes) bytes) (rw letter refl) (front_passes is_word_byte bytes);
+  each =
+      All-cons (λ byte. IsTrue (is_word_byte byte)) b (take (prefix_len is_word_byte bytes) bytes) (rw letter refl)
+      (front_passes is_word_byte bytes);
 }
 
 -- a word is reserved or a name
-word_named : (text : List ℕ) (reading : Option Word) → reserved_word text ≡ reading → IsWordText text → IsWellNamed (word_lexeme reading text)
+word_named : (text : List ℕ) (reading : Option Word) → reserved_word text ≡ reading → IsWordText text
+    → IsWellNamed (word_lexeme reading text)
 word_named text (Some w) is word = tt
 word_named text None is word = record { word = word; free = not_reserved text is }
 
@@ -48,26 +54,34 @@ piece_named b bytes = elim (cases_Bool (is_blank b)) [
     | inr code ↦ elim (cases_Bool (is_letter b)) [
       | inl letter ↦
           let text = run_of b (prefix_len is_word_byte bytes) bytes in
-          rw (piece_at-word b bytes solid code letter) (word_named text (reserved_word text) refl (word_is_word b bytes letter))
+          rw (piece_at-word b bytes solid code letter)
+          (word_named text (reserved_word text) refl (word_is_word b bytes letter))
       | inr other ↦ elim (cases_Bool (is_digit b)) [
         | inl digit ↦ rw (piece_at-number b bytes solid code other digit) tt
-        | inr rest ↦ rw (piece_at-symbol b bytes solid code other rest) (symbol_named b (longest_symbol b bytes) (single_symbol b))
+        | inr rest ↦ rw (piece_at-symbol b bytes solid code other rest)
+            (symbol_named b (longest_symbol b bytes) (single_symbol b))
       ]
     ]
   ]
 ]
 
 -- what holds of what a piece says holds of its token
-All-placed_at : (P : Lexeme → Type 0) (at : ℕ) (lexeme : Option Lexeme) → IfSome lexeme P → All (λ token. P token.lexeme) (placed_at at lexeme)
+All-placed_at : (P : Lexeme → Type 0) (at : ℕ) (lexeme : Option Lexeme) → IfSome lexeme P
+    → All (λ token. P token.lexeme) (placed_at at lexeme)
 All-placed_at P at None h = All-nil (λ token. P token.lexeme)
-All-placed_at P at (Some lexeme) h = All-cons (λ token. P token.lexeme) (record { at = at; lexeme = lexeme }) [] h (All-nil (λ token. P token.lexeme))
+All-placed_at P at (Some lexeme) h =
+    All-cons (λ token. P token.lexeme) (record { at = at; lexeme = lexeme }) [] h (All-nil (λ token. P token.lexeme))
 
 -- what holds of what each piece says holds of each token
-pub All-tokens_from : (P : Lexeme → Type 0) → ((b : ℕ) (bytes : List ℕ) → IfSome (piece_at b bytes).lexeme P) → (at inside : ℕ) (bytes : List ℕ) → All (λ token. P token.lexeme) (tokens_from at inside bytes)
+pub All-tokens_from : (P : Lexeme → Type 0) → ((b : ℕ) (bytes : List ℕ) → IfSome (piece_at b bytes).lexeme P)
+    → (at inside : ℕ) (bytes : List ℕ) → All (λ token. P token.lexeme) (tokens_from at inside bytes)
 unfolding tokens_from
 All-tokens_from P each at inside [] = All-nil (λ token. P token.lexeme)
 All-tokens_from P each at (suc inside) (b ∷ bytes) = All-tokens_from P each (suc at) inside bytes
-All-tokens_from P each at zero (b ∷ bytes) = All-append (λ token. P token.lexeme) (placed_at at (piece_at b bytes).lexeme) (tokens_from (suc at) (piece_at b bytes).more bytes) (All-placed_at P at (piece_at b bytes).lexeme (each b bytes)) (All-tokens_from P each (suc at) (piece_at b bytes).more bytes)
+All-tokens_from P each at zero (b ∷ bytes) =
+    All-append (λ token. P token.lexeme) (placed_at at (piece_at b bytes).lexeme)
+    (tokens_from (suc at) (piece_at b bytes).more bytes) (All-placed_at P at (piece_at b bytes).lexeme (each b bytes))
+    (All-tokens_from P each (suc at) (piece_at b bytes).more bytes)
 
 -- each name among the tokens of a text is a word that is not reserved
 pub names_are_names : (text : List ℕ) → All (λ token. IsWellNamed token.lexeme) (tokens_of text)

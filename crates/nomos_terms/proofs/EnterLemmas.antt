@@ -23,84 +23,110 @@ use Rattle.nomos_terms.specs.mirror.Left.{Leads, IsDone, IsVain, bulk, width, wo
 use Rattle.nomos_terms.proofs.WorkLemmas.{bulk-part, bulk-wide, width-wide, arguments-less, width-parts, work-append}
 
 -- a kind that a derivation gives is that of its node
-pub node_of : (lists : ProgramLists) (vars : VariableKinds) (t : TermId) (n : TermNode) (k : Kind) → slice_get lists.terms t.0 ≡ Some n → HasKind lists vars t k → NodeHasKind lists vars n k
+pub node_of : (lists : ProgramLists) (vars : VariableKinds) (t : TermId) (n : TermNode) (k : Kind)
+    → slice_get lists.terms t.0 ≡ Some n → HasKind lists vars t k → NodeHasKind lists vars n k
 node_of lists vars t n k found (kind.term _ _ _ m there has) =
     let P : TermNode → Type 0 = λ x. NodeHasKind lists vars x k in
     let same : m ≡ n = cc in subst P same has
 
 -- a term without a node has no kind
-pub no_node : (lists : ProgramLists) (vars : VariableKinds) (t : TermId) (k : Kind) → slice_get lists.terms t.0 ≡ None → HasKind lists vars t k → ⊥
+pub no_node : (lists : ProgramLists) (vars : VariableKinds) (t : TermId) (k : Kind) → slice_get lists.terms t.0 ≡ None
+    → HasKind lists vars t k → ⊥
 no_node lists vars t k none (kind.term _ _ _ m there has) = cc
 
 -- what holds of the images of all holds of all
 All-map-back : {X Y : Type 0} (P : Y → Type 0) (g : X → Y) (xs : List X) → All P (map g xs) → All (λ x. P (g x)) xs
 All-map-back P g [] all = All-nil _
-All-map-back P g (x ∷ xs) all = All-cons (λ y. P (g y)) x xs (All-head P (g x) (map g xs) all) (All-map-back P g xs (All-tail P (g x) (map g xs) all))
+All-map-back P g (x ∷ xs) all =
+    All-cons (λ y. P (g y)) x xs (All-head P (g x) (map g xs) all)
+    (All-map-back P g xs (All-tail P (g x) (map g xs) all))
 
 -- what the kinds of operators rest on
 module _ (lists : ProgramLists) (vars : VariableKinds) where
-  pub apart_plus : (at : ℕ) (a b : TermId) (k : Kind) → NodeHasKind lists vars (node.Add at a b) k → (k ≡ int_kind) × HasKind lists vars a int_kind × HasKind lists vars b int_kind
+  pub apart_plus : (at : ℕ) (a b : TermId) (k : Kind) → NodeHasKind lists vars (node.Add at a b) k
+      → (k ≡ int_kind) × HasKind lists vars a int_kind × HasKind lists vars b int_kind
   apart_plus at a b k (kind.plus _ _ _ _ x y) = (refl, x, y)
 
-  pub apart_minus : (at : ℕ) (a b : TermId) (k : Kind) → NodeHasKind lists vars (node.Sub at a b) k → (k ≡ int_kind) × HasKind lists vars a int_kind × HasKind lists vars b int_kind
+  pub apart_minus : (at : ℕ) (a b : TermId) (k : Kind) → NodeHasKind lists vars (node.Sub at a b) k
+      → (k ≡ int_kind) × HasKind lists vars a int_kind × HasKind lists vars b int_kind
   apart_minus at a b k (kind.minus _ _ _ _ x y) = (refl, x, y)
 
-  pub apart_times : (at : ℕ) (a b : TermId) (k : Kind) → NodeHasKind lists vars (node.Mul at a b) k → (k ≡ int_kind) × HasKind lists vars a int_kind × HasKind lists vars b int_kind
+  pub apart_times : (at : ℕ) (a b : TermId) (k : Kind) → NodeHasKind lists vars (node.Mul at a b) k
+      → (k ≡ int_kind) × HasKind lists vars a int_kind × HasKind lists vars b int_kind
   apart_times at a b k (kind.times _ _ _ _ x y) = (refl, x, y)
 
-  pub apart_quotient : (at : ℕ) (a b : TermId) (k : Kind) → NodeHasKind lists vars (node.Div at a b) k → (k ≡ int_kind) × HasKind lists vars a int_kind × HasKind lists vars b int_kind
+  pub apart_quotient : (at : ℕ) (a b : TermId) (k : Kind) → NodeHasKind lists vars (node.Div at a b) k
+      → (k ≡ int_kind) × HasKind lists vars a int_kind × HasKind lists vars b int_kind
   apart_quotient at a b k (kind.quotient _ _ _ _ x y) = (refl, x, y)
 
-  pub apart_remainder : (at : ℕ) (a b : TermId) (k : Kind) → NodeHasKind lists vars (node.Rem at a b) k → (k ≡ int_kind) × HasKind lists vars a int_kind × HasKind lists vars b int_kind
+  pub apart_remainder : (at : ℕ) (a b : TermId) (k : Kind) → NodeHasKind lists vars (node.Rem at a b) k
+      → (k ≡ int_kind) × HasKind lists vars a int_kind × HasKind lists vars b int_kind
   apart_remainder at a b k (kind.remainder _ _ _ _ x y) = (refl, x, y)
 
-  pub apart_less : (at : ℕ) (a b : TermId) (k : Kind) → NodeHasKind lists vars (node.Less at a b) k → (k ≡ bool_kind) × HasKind lists vars a int_kind × HasKind lists vars b int_kind
+  pub apart_less : (at : ℕ) (a b : TermId) (k : Kind) → NodeHasKind lists vars (node.Less at a b) k
+      → (k ≡ bool_kind) × HasKind lists vars a int_kind × HasKind lists vars b int_kind
   apart_less at a b k (kind.less _ _ _ _ x y) = (refl, x, y)
 
-  pub apart_equal : (at : ℕ) (a b : TermId) (k : Kind) → NodeHasKind lists vars (node.Equal at a b) k → (k ≡ bool_kind) × HasKind lists vars a int_kind × HasKind lists vars b int_kind
+  pub apart_equal : (at : ℕ) (a b : TermId) (k : Kind) → NodeHasKind lists vars (node.Equal at a b) k
+      → (k ≡ bool_kind) × HasKind lists vars a int_kind × HasKind lists vars b int_kind
   apart_equal at a b k (kind.equal _ _ _ _ x y) = (refl, x, y)
 
-  pub apart_and : (at : ℕ) (a b : TermId) (k : Kind) → NodeHasKind lists vars (node.And at a b) k → (k ≡ bool_kind) × HasKind lists vars a bool_kind × HasKind lists vars b bool_kind
+  pub apart_and : (at : ℕ) (a b : TermId) (k : Kind) → NodeHasKind lists vars (node.And at a b) k
+      → (k ≡ bool_kind) × HasKind lists vars a bool_kind × HasKind lists vars b bool_kind
   apart_and at a b k (kind.and _ _ _ _ x y) = (refl, x, y)
 
-  pub apart_or : (at : ℕ) (a b : TermId) (k : Kind) → NodeHasKind lists vars (node.Or at a b) k → (k ≡ bool_kind) × HasKind lists vars a bool_kind × HasKind lists vars b bool_kind
+  pub apart_or : (at : ℕ) (a b : TermId) (k : Kind) → NodeHasKind lists vars (node.Or at a b) k
+      → (k ≡ bool_kind) × HasKind lists vars a bool_kind × HasKind lists vars b bool_kind
   apart_or at a b k (kind.or _ _ _ _ x y) = (refl, x, y)
 
   -- what the kinds of other forms rest on
-  pub apart_cons : (at : ℕ) (a b : TermId) (k : Kind) → NodeHasKind lists vars (node.Cons at a b) k → (e : Kind) × (k ≡ list_kind e) × HasKind lists vars a e × HasKind lists vars b (list_kind e)
+  pub apart_cons : (at : ℕ) (a b : TermId) (k : Kind) → NodeHasKind lists vars (node.Cons at a b) k
+      → (e : Kind) × (k ≡ list_kind e) × HasKind lists vars a e × HasKind lists vars b (list_kind e)
   apart_cons at a b k (kind.cons _ _ _ _ e x y) = (e, refl, x, y)
 
-  pub apart_not : (at : ℕ) (a : TermId) (k : Kind) → NodeHasKind lists vars (node.Not at a) k → (k ≡ bool_kind) × HasKind lists vars a bool_kind
+  pub apart_not : (at : ℕ) (a : TermId) (k : Kind) → NodeHasKind lists vars (node.Not at a) k
+      → (k ≡ bool_kind) × HasKind lists vars a bool_kind
   apart_not at a k (kind.not _ _ _ x) = (refl, x)
 
-  pub apart_choice : (at : ℕ) (test a b : TermId) (k : Kind) → NodeHasKind lists vars (node.If at test a b) k → HasKind lists vars test bool_kind × HasKind lists vars a k × HasKind lists vars b k
+  pub apart_choice : (at : ℕ) (test a b : TermId) (k : Kind) → NodeHasKind lists vars (node.If at test a b) k
+      → HasKind lists vars test bool_kind × HasKind lists vars a k × HasKind lists vars b k
   apart_choice at test a b k (kind.choice _ _ _ _ _ _ x y z) = (x, y, z)
 
-  pub apart_parts : (at : ℕ) (taken empty full : TermId) (head tail : VarId) (k : Kind) → NodeHasKind lists vars (node.Match at taken empty head tail full) k
-      → (e : Kind) × HasKind lists vars taken (list_kind e) × HasKind lists vars empty k × HasKind lists (with_parts head tail e vars) full k
+  pub apart_parts : (at : ℕ) (taken empty full : TermId) (head tail : VarId) (k : Kind)
+      → NodeHasKind lists vars (node.Match at taken empty head tail full) k
+      → (e : Kind) × HasKind lists vars taken (list_kind e) × HasKind lists vars empty k
+      × HasKind lists (with_parts head tail e vars) full k
   apart_parts at taken empty full head tail k (kind.parts _ _ _ _ _ _ _ e _ x y z) = (e, x, y, z)
 
-  pub apart_call : (at : ℕ) (f : FnId) (values : List TermId) (k : Kind) → NodeHasKind lists vars (node.Call at f values) k → (d : FnDecl) × (slice_get lists.fns f.0 ≡ Some d) × HaveKinds lists vars values d.pars × (d.gives ≡ k)
+  pub apart_call : (at : ℕ) (f : FnId) (values : List TermId) (k : Kind)
+      → NodeHasKind lists vars (node.Call at f values) k
+      → (d : FnDecl) × (slice_get lists.fns f.0 ≡ Some d) × HaveKinds lists vars values d.pars × (d.gives ≡ k)
   apart_call at f values k (kind.call _ _ _ _ d _ there have given) = (d, there, have, given)
 
-  pub apart_variable : (at : ℕ) (v : VarId) (k : Kind) → NodeHasKind lists vars (node.Var at v) k → bound_to v.0 vars ≡ Some k
+  pub apart_variable : (at : ℕ) (v : VarId) (k : Kind) → NodeHasKind lists vars (node.Var at v) k
+      → bound_to v.0 vars ≡ Some k
   apart_variable at v k (kind.variable _ _ _ _ there) = there
 
-  pub apart_have : (a : TermId) (values : List TermId) (par : VarId × Kind) (pars : VariableKinds) → HaveKinds lists vars (a ∷ values) (par ∷ pars) → HasKind lists vars a par.1 × HaveKinds lists vars values pars
+  pub apart_have : (a : TermId) (values : List TermId) (par : VarId × Kind) (pars : VariableKinds)
+      → HaveKinds lists vars (a ∷ values) (par ∷ pars) → HasKind lists vars a par.1 × HaveKinds lists vars values pars
   apart_have a values par pars (kind.more _ _ _ _ _ has have) = (has, have)
 
   -- as many arguments as parameters
-  pub same_length : (values : List TermId) (pars : VariableKinds) → HaveKinds lists vars values pars → length values ≡ length pars
+  pub same_length : (values : List TermId) (pars : VariableKinds) → HaveKinds lists vars values pars
+      → length values ≡ length pars
   same_length values pars (kind.none _) = refl
   same_length values pars (kind.more _ a others par rest has have) = ap suc (same_length others rest have)
 
 module _ (lists : ProgramLists) (outer : VariableKinds) where
   -- a term whose kind is known at once
-  pub found : (t : TermId) (n : TermNode) (k : Kind) (old : Search) (kinds : List Kind) → slice_get lists.terms t.0 ≡ Some n → NodeHasKind lists (old.bound ++ outer) n k → kinds ≡ k ∷ old.kinds → IsDone lists outer (task.Term t) old (record { todo = old.todo; kinds = kinds; bound = old.bound })
+  pub found : (t : TermId) (n : TermNode) (k : Kind) (old : Search) (kinds : List Kind)
+      → slice_get lists.terms t.0 ≡ Some n → NodeHasKind lists (old.bound ++ outer) n k → kinds ≡ k ∷ old.kinds
+      → IsDone lists outer (task.Term t) old (record { todo = old.todo; kinds = kinds; bound = old.bound })
   found t n k old kinds there has same =
       let whole : HasKind lists (old.bound ++ outer) t k = kind.term _ t k n there has in
       let wide = bulk-wide (width lists) t.0 (width-wide lists) in
-      let P : List Kind → Type 0 = λ l. IsDone lists outer (task.Term t) old (record { todo = old.todo; kinds = l; bound = old.bound }) in
+      let P : List Kind → Type 0 = λ l.
+      IsDone lists outer (task.Term t) old (record { todo = old.todo; kinds = l; bound = old.bound }) in
       subst
       P
       (sym same)
@@ -113,19 +139,26 @@ module _ (lists : ProgramLists) (outer : VariableKinds) where
       })
 
   -- a term that has no kind
-  pub vain : (t : TermId) (n : TermNode) (old : Search) → slice_get lists.terms t.0 ≡ Some n → ((k : Kind) → NodeHasKind lists (old.bound ++ outer) n k → ⊥) → IsVain lists outer (task.Term t) old
+  pub vain : (t : TermId) (n : TermNode) (old : Search) → slice_get lists.terms t.0 ≡ Some n
+      → ((k : Kind) → NodeHasKind lists (old.bound ++ outer) n k → ⊥) → IsVain lists outer (task.Term t) old
   vain t n old there none = λ result (k, has, rest). none k (node_of lists _ t n k there has)
 
   -- a term that leads to tasks
-  pub planned : (t : TermId) (n : TermNode) (tasks : List Task) (old : Search) (todo : List Task) → slice_get lists.terms t.0 ≡ Some n
-      → ((result : Kind) (k : Kind) → NodeHasKind lists (old.bound ++ outer) n k → Leads lists outer old.todo (k ∷ old.kinds) old.bound result → Leads lists outer (tasks ++ old.todo) old.kinds old.bound result)
-      → ((result : Kind) → Leads lists outer (tasks ++ old.todo) old.kinds old.bound result → (k : Kind) × NodeHasKind lists (old.bound ++ outer) n k × Leads lists outer old.todo (k ∷ old.kinds) old.bound result)
+  pub planned : (t : TermId) (n : TermNode) (tasks : List Task) (old : Search) (todo : List Task)
+      → slice_get lists.terms t.0 ≡ Some n
+      → ((result : Kind) (k : Kind) → NodeHasKind lists (old.bound ++ outer) n k
+      → Leads lists outer old.todo (k ∷ old.kinds) old.bound result
+      → Leads lists outer (tasks ++ old.todo) old.kinds old.bound result)
+      → ((result : Kind) → Leads lists outer (tasks ++ old.todo) old.kinds old.bound result
+      → (k : Kind) × NodeHasKind lists (old.bound ++ outer) n k
+      × Leads lists outer old.todo (k ∷ old.kinds) old.bound result)
       → work (width lists) tasks < bulk (width lists) t.0
       → todo ≡ tasks ++ old.todo
       → IsDone lists outer (task.Term t) old (record { todo = todo; kinds = old.kinds; bound = old.bound })
   planned t n tasks old todo there to from less same =
       let sum = work-append (width lists) tasks old.todo in
-      let P : List Task → Type 0 = λ l. IsDone lists outer (task.Term t) old (record { todo = l; kinds = old.kinds; bound = old.bound }) in
+      let P : List Task → Type 0 = λ l.
+      IsDone lists outer (task.Term t) old (record { todo = l; kinds = old.kinds; bound = old.bound }) in
       subst
       P
       (sym same)
@@ -136,10 +169,13 @@ module _ (lists : ProgramLists) (outer : VariableKinds) where
       })
 
   -- an operator
-  pub operated : (t : TermId) (n : TermNode) (a b : TermId) (takes gives : Kind) (old : Search) (todo : List Task) → IsProgram lists → slice_get lists.terms t.0 ≡ Some n
+  pub operated : (t : TermId) (n : TermNode) (a b : TermId) (takes gives : Kind) (old : Search) (todo : List Task)
+      → IsProgram lists → slice_get lists.terms t.0 ≡ Some n
       → term_parts n ≡ a.0 ∷ b.0 ∷ []
-      → ((k : Kind) → NodeHasKind lists (old.bound ++ outer) n k → (k ≡ gives) × HasKind lists (old.bound ++ outer) a takes × HasKind lists (old.bound ++ outer) b takes)
-      → (HasKind lists (old.bound ++ outer) a takes → HasKind lists (old.bound ++ outer) b takes → NodeHasKind lists (old.bound ++ outer) n gives)
+      → ((k : Kind) → NodeHasKind lists (old.bound ++ outer) n k
+      → (k ≡ gives) × HasKind lists (old.bound ++ outer) a takes × HasKind lists (old.bound ++ outer) b takes)
+      → (HasKind lists (old.bound ++ outer) a takes → HasKind lists (old.bound ++ outer) b takes
+      → NodeHasKind lists (old.bound ++ outer) n gives)
       → todo ≡ task.Term a ∷ task.Expect takes ∷ task.Term b ∷ task.Expect takes ∷ task.Give gives ∷ old.todo
       → IsDone lists outer (task.Term t) old (record { todo = todo; kinds = old.kinds; bound = old.bound })
   operated t n a b takes gives old todo program there parts apart together same =
@@ -149,7 +185,8 @@ module _ (lists : ProgramLists) (outer : VariableKinds) where
       let below_b : b.0 < t.0 = All-head (λ k. k < t.0) b.0 [] (All-tail (λ k. k < t.0) a.0 (b.0 ∷ []) lower) in
       let small_a = bulk-part (width lists) a.0 t.0 (width-wide lists) below_a in
       let small_b = bulk-part (width lists) b.0 t.0 (width-wide lists) below_b in
-      planned t n (task.Term a ∷ task.Expect takes ∷ task.Term b ∷ task.Expect takes ∷ task.Give gives ∷ []) old todo there
+      planned t n (task.Term a ∷ task.Expect takes ∷ task.Term b ∷ task.Expect takes ∷ task.Give gives ∷ []) old todo
+      there
       (λ result k has rest.
       let sides = apart k has in
       let Q : Kind → Type 0 = λ m. Leads lists outer old.todo (m ∷ old.kinds) old.bound result in
@@ -162,26 +199,33 @@ module _ (lists : ProgramLists) (outer : VariableKinds) where
       same
 
   -- `::`
-  pub put_before : (t : TermId) (at : ℕ) (a b : TermId) (old : Search) (todo : List Task) → IsProgram lists → slice_get lists.terms t.0 ≡ Some (node.Cons at a b)
+  pub put_before : (t : TermId) (at : ℕ) (a b : TermId) (old : Search) (todo : List Task) → IsProgram lists
+      → slice_get lists.terms t.0 ≡ Some (node.Cons at a b)
       → todo ≡ task.Term a ∷ task.Term b ∷ task.Cons ∷ old.todo
       → IsDone lists outer (task.Term t) old (record { todo = todo; kinds = old.kinds; bound = old.bound })
   put_before t at a b old todo program there same =
       let lower = program.parts.terms t.0 (node.Cons at a b) there in
       let small_a = bulk-part (width lists) a.0 t.0 (width-wide lists) (All-head (λ k. k < t.0) a.0 (b.0 ∷ []) lower) in
-      let small_b = bulk-part (width lists) b.0 t.0 (width-wide lists) (All-head (λ k. k < t.0) b.0 [] (All-tail (λ k. k < t.0) a.0 (b.0 ∷ []) lower)) in
+      let small_b = bulk-part (width lists) b.0 t.0 (width-wide lists)
+      (All-head (λ k. k < t.0) b.0 [] (All-tail (λ k. k < t.0) a.0 (b.0 ∷ []) lower)) in
       planned t (node.Cons at a b) (task.Term a ∷ task.Term b ∷ task.Cons ∷ []) old todo there
       (λ result k has rest.
       let sides = apart_cons lists (old.bound ++ outer) at a b k has in
       let Q : Kind → Type 0 = λ m. Leads lists outer old.todo (m ∷ old.kinds) old.bound result in
       (sides.0, sides.2, (list_kind sides.0, sides.3, (refl, subst Q sides.1 rest))))
       (λ result (e, has_a, (l, has_b, (is_list, rest))).
-      let B : Kind → Type 0 = λ m. HasKind lists (old.bound ++ outer) b m in
-      (l, (let N : Kind → Type 0 = λ m. NodeHasKind lists (old.bound ++ outer) (node.Cons at a b) m in subst N (sym is_list) (kind.cons _ at a b e has_a (subst B is_list has_b))), rest))
+      let B : Kind → Type 0 = λ m. HasKind lists (old.bound ++ outer) b m in (
+        l,
+        (let N : Kind → Type 0 = λ m. NodeHasKind lists (old.bound ++ outer) (node.Cons at a b) m in subst N
+            (sym is_list) (kind.cons _ at a b e has_a (subst B is_list has_b))),
+        rest,
+      ))
       (omega (arith, small_a.0, small_a.1, small_b.0, small_b.1))
       same
 
   -- `not`
-  pub negated : (t : TermId) (at : ℕ) (a : TermId) (old : Search) (todo : List Task) → IsProgram lists → slice_get lists.terms t.0 ≡ Some (node.Not at a)
+  pub negated : (t : TermId) (at : ℕ) (a : TermId) (old : Search) (todo : List Task) → IsProgram lists
+      → slice_get lists.terms t.0 ≡ Some (node.Not at a)
       → todo ≡ task.Term a ∷ task.Expect bool_kind ∷ task.Give bool_kind ∷ old.todo
       → IsDone lists outer (task.Term t) old (record { todo = todo; kinds = old.kinds; bound = old.bound })
   negated t at a old todo program there same =
@@ -199,16 +243,21 @@ module _ (lists : ProgramLists) (outer : VariableKinds) where
       same
 
   -- `if`
-  pub chosen : (t : TermId) (at : ℕ) (test a b : TermId) (old : Search) (todo : List Task) → IsProgram lists → slice_get lists.terms t.0 ≡ Some (node.If at test a b)
+  pub chosen : (t : TermId) (at : ℕ) (test a b : TermId) (old : Search) (todo : List Task) → IsProgram lists
+      → slice_get lists.terms t.0 ≡ Some (node.If at test a b)
       → todo ≡ task.Term test ∷ task.Expect bool_kind ∷ task.Term a ∷ task.Term b ∷ task.Same ∷ old.todo
       → IsDone lists outer (task.Term t) old (record { todo = todo; kinds = old.kinds; bound = old.bound })
   chosen t at test a b old todo program there same =
       let lower = program.parts.terms t.0 (node.If at test a b) there in
       let others = All-tail (λ k. k < t.0) test.0 (a.0 ∷ b.0 ∷ []) lower in
-      let small_t = bulk-part (width lists) test.0 t.0 (width-wide lists) (All-head (λ k. k < t.0) test.0 (a.0 ∷ b.0 ∷ []) lower) in
-      let small_a = bulk-part (width lists) a.0 t.0 (width-wide lists) (All-head (λ k. k < t.0) a.0 (b.0 ∷ []) others) in
-      let small_b = bulk-part (width lists) b.0 t.0 (width-wide lists) (All-head (λ k. k < t.0) b.0 [] (All-tail (λ k. k < t.0) a.0 (b.0 ∷ []) others)) in
-      planned t (node.If at test a b) (task.Term test ∷ task.Expect bool_kind ∷ task.Term a ∷ task.Term b ∷ task.Same ∷ []) old todo there
+      let small_t = bulk-part (width lists) test.0 t.0 (width-wide lists)
+      (All-head (λ k. k < t.0) test.0 (a.0 ∷ b.0 ∷ []) lower) in
+      let small_a = bulk-part (width lists) a.0 t.0 (width-wide lists)
+      (All-head (λ k. k < t.0) a.0 (b.0 ∷ []) others) in
+      let small_b = bulk-part (width lists) b.0 t.0 (width-wide lists)
+      (All-head (λ k. k < t.0) b.0 [] (All-tail (λ k. k < t.0) a.0 (b.0 ∷ []) others)) in
+      planned t (node.If at test a b)
+      (task.Term test ∷ task.Expect bool_kind ∷ task.Term a ∷ task.Term b ∷ task.Same ∷ []) old todo there
       (λ result k has rest.
       let sides = apart_choice lists (old.bound ++ outer) at test a b k has in
       (bool_kind, sides.0, (refl, (k, sides.1, (k, sides.2, (refl, rest))))))
@@ -220,16 +269,21 @@ module _ (lists : ProgramLists) (outer : VariableKinds) where
       same
 
   -- `match`
-  pub taken_apart : (t : TermId) (at : ℕ) (taken empty full : TermId) (head tail : VarId) (old : Search) (todo : List Task) → IsProgram lists → slice_get lists.terms t.0 ≡ Some (node.Match at taken empty head tail full)
+  pub taken_apart : (t : TermId) (at : ℕ) (taken empty full : TermId) (head tail : VarId) (old : Search)
+      (todo : List Task) → IsProgram lists → slice_get lists.terms t.0 ≡ Some (node.Match at taken empty head tail full)
       → todo ≡ task.Term taken ∷ task.Part empty head tail full ∷ old.todo
       → IsDone lists outer (task.Term t) old (record { todo = todo; kinds = old.kinds; bound = old.bound })
   taken_apart t at taken empty full head tail old todo program there same =
       let lower = program.parts.terms t.0 (node.Match at taken empty head tail full) there in
       let others = All-tail (λ k. k < t.0) taken.0 (empty.0 ∷ full.0 ∷ []) lower in
-      let small_t = bulk-part (width lists) taken.0 t.0 (width-wide lists) (All-head (λ k. k < t.0) taken.0 (empty.0 ∷ full.0 ∷ []) lower) in
-      let small_a = bulk-part (width lists) empty.0 t.0 (width-wide lists) (All-head (λ k. k < t.0) empty.0 (full.0 ∷ []) others) in
-      let small_b = bulk-part (width lists) full.0 t.0 (width-wide lists) (All-head (λ k. k < t.0) full.0 [] (All-tail (λ k. k < t.0) empty.0 (full.0 ∷ []) others)) in
-      planned t (node.Match at taken empty head tail full) (task.Term taken ∷ task.Part empty head tail full ∷ []) old todo there
+      let small_t = bulk-part (width lists) taken.0 t.0 (width-wide lists)
+      (All-head (λ k. k < t.0) taken.0 (empty.0 ∷ full.0 ∷ []) lower) in
+      let small_a = bulk-part (width lists) empty.0 t.0 (width-wide lists)
+      (All-head (λ k. k < t.0) empty.0 (full.0 ∷ []) others) in
+      let small_b = bulk-part (width lists) full.0 t.0 (width-wide lists)
+      (All-head (λ k. k < t.0) full.0 [] (All-tail (λ k. k < t.0) empty.0 (full.0 ∷ []) others)) in
+      planned t (node.Match at taken empty head tail full) (task.Term taken ∷ task.Part empty head tail full ∷ []) old
+      todo there
       (λ result k has rest.
       let sides = apart_parts lists (old.bound ++ outer) at taken empty full head tail k has in
       (list_kind sides.0, sides.1, (sides.0, refl, (k, sides.3, sides.2, rest))))
@@ -240,14 +294,20 @@ module _ (lists : ProgramLists) (outer : VariableKinds) where
       same
 
   -- the arguments of a call
-  arguments_to : (values : List TermId) (pars : VariableKinds) (todo : List Task) (kinds : List Kind) (bound : VariableKinds) (result : Kind) → HaveKinds lists (bound ++ outer) values pars → Leads lists outer todo kinds bound result → Leads lists outer (argument_tasks values pars ++ todo) kinds bound result
+  arguments_to : (values : List TermId) (pars : VariableKinds) (todo : List Task) (kinds : List Kind)
+      (bound : VariableKinds) (result : Kind) → HaveKinds lists (bound ++ outer) values pars
+      → Leads lists outer todo kinds bound result
+      → Leads lists outer (argument_tasks values pars ++ todo) kinds bound result
   arguments_to [] pars todo kinds bound result have led = led
   arguments_to (a ∷ values) [] todo kinds bound result have led = led
   arguments_to (a ∷ values) (par ∷ pars) todo kinds bound result have led =
       let first = apart_have lists (bound ++ outer) a values par pars have in
       (par.1, first.0, (refl, arguments_to values pars todo kinds bound result first.1 led))
 
-  arguments_from : (values : List TermId) (pars : VariableKinds) (todo : List Task) (kinds : List Kind) (bound : VariableKinds) (result : Kind) → length values ≡ length pars → Leads lists outer (argument_tasks values pars ++ todo) kinds bound result → HaveKinds lists (bound ++ outer) values pars × Leads lists outer todo kinds bound result
+  arguments_from : (values : List TermId) (pars : VariableKinds) (todo : List Task) (kinds : List Kind)
+      (bound : VariableKinds) (result : Kind) → length values ≡ length pars
+      → Leads lists outer (argument_tasks values pars ++ todo) kinds bound result
+      → HaveKinds lists (bound ++ outer) values pars × Leads lists outer todo kinds bound result
   arguments_from [] [] todo kinds bound result same led = (kind.none _, led)
   arguments_from [] (par ∷ pars) todo kinds bound result same led = absurd (omega arith)
   arguments_from (a ∷ values) [] todo kinds bound result same led = absurd (omega arith)
@@ -257,7 +317,8 @@ module _ (lists : ProgramLists) (outer : VariableKinds) where
       (kind.more _ a values par pars (subst A is_wanted has) rest.0, rest.1)
 
   -- a call
-  pub called : (t : TermId) (at : ℕ) (f : FnId) (values : List TermId) (d : FnDecl) (old : Search) (todo : List Task) → IsProgram lists → slice_get lists.terms t.0 ≡ Some (node.Call at f values)
+  pub called : (t : TermId) (at : ℕ) (f : FnId) (values : List TermId) (d : FnDecl) (old : Search) (todo : List Task)
+      → IsProgram lists → slice_get lists.terms t.0 ≡ Some (node.Call at f values)
       → slice_get lists.fns f.0 ≡ Some d → length values ≡ length d.pars
       → todo ≡ argument_tasks values d.pars ++ task.Give d.gives ∷ old.todo
       → IsDone lists outer (task.Term t) old (record { todo = todo; kinds = old.kinds; bound = old.bound })
@@ -275,15 +336,20 @@ module _ (lists : ProgramLists) (outer : VariableKinds) where
       let H : FnDecl → Type 0 = λ g. HaveKinds lists (old.bound ++ outer) values g.pars in
       let gives_too : k ≡ d.gives = cc in
       let Q : Kind → Type 0 = λ m. Leads lists outer old.todo (m ∷ old.kinds) old.bound result in
-      rw (append_assoc (argument_tasks values d.pars) (task.Give d.gives ∷ []) old.todo) (arguments_to values d.pars (task.Give d.gives ∷ old.todo) old.kinds old.bound result (subst H declared_too sides.2) (subst Q gives_too rest)))
+      rw (append_assoc (argument_tasks values d.pars) (task.Give d.gives ∷ []) old.todo)
+      (arguments_to values d.pars (task.Give d.gives ∷ old.todo) old.kinds old.bound result
+      (subst H declared_too sides.2) (subst Q gives_too rest)))
       (λ result led.
       let L : List Task → Type 0 = λ l. Leads lists outer l old.kinds old.bound result in
       let led_on = subst L (append_assoc (argument_tasks values d.pars) (task.Give d.gives ∷ []) old.todo) led in
-      let back = arguments_from values d.pars (task.Give d.gives ∷ old.todo) old.kinds old.bound result same_count led_on in
+      let back = arguments_from values d.pars (task.Give d.gives ∷ old.todo) old.kinds old.bound result same_count
+      led_on in
       (d.gives, kind.call _ at f values d d.gives declared back.0 refl, back.1))
       (omega (arith, less, sum))
       (rw (append_assoc (argument_tasks values d.pars) (task.Give d.gives ∷ []) old.todo) same)
 
 -- what was planned, under the names of the call
-pub joined : (values given : List TermId) (pars wanted : VariableKinds) (new todo pushed : List Task) → new ≡ argument_tasks given wanted ++ pushed → given ≡ values → wanted ≡ pars → pushed ≡ todo → new ≡ argument_tasks values pars ++ todo
+pub joined : (values given : List TermId) (pars wanted : VariableKinds) (new todo pushed : List Task)
+    → new ≡ argument_tasks given wanted ++ pushed → given ≡ values → wanted ≡ pars → pushed ≡ todo
+    → new ≡ argument_tasks values pars ++ todo
 joined values given pars wanted new todo pushed planned same_values same_pars same_todo = cc

@@ -12,7 +12,8 @@ use Rattle.nomos_terms.specs.declared.stop.Stop.TheVariants as stop
 use Rattle.nomos_terms.specs.mirror.Left.{IsDone, IsVain, IsKind, Stays}
 
 -- a search is its parts
-same_search : (s : Search) (todo : List Task) (kinds : List Kind) (bound : VariableKinds) → s.todo ≡ todo → s.kinds ≡ kinds → s.bound ≡ bound → s ≡ record { todo = todo; kinds = kinds; bound = bound }
+same_search : (s : Search) (todo : List Task) (kinds : List Kind) (bound : VariableKinds) → s.todo ≡ todo
+    → s.kinds ≡ kinds → s.bound ≡ bound → s ≡ record { todo = todo; kinds = kinds; bound = bound }
 same_search s todo kinds bound same_todo same_kinds same_bound =
     ap (λ x. record { todo = x; kinds = s.kinds; bound = s.bound }) same_todo
     ∙ ap (λ x. record { todo = todo; kinds = x; bound = s.bound }) same_kinds
@@ -34,7 +35,8 @@ module _ (lists : ProgramLists) (outer : VariableKinds) (t : TermId) where
       })
 
   -- a task is done
-  pub stays-done : (task : Task) (whole old new : Search) → whole.todo ≡ task ∷ old.todo → whole.kinds ≡ old.kinds → whole.bound ≡ old.bound → Stays lists outer t whole → IsDone lists outer task old new → Stays lists outer t new
+  pub stays-done : (task : Task) (whole old new : Search) → whole.todo ≡ task ∷ old.todo → whole.kinds ≡ old.kinds
+      → whole.bound ≡ old.bound → Stays lists outer t whole → IsDone lists outer task old new → Stays lists outer t new
   stays-done task whole old new todo kinds bound stays done =
       let P : Search → Type 0 = λ x. Stays lists outer t x in
       let before : Search = record { todo = task ∷ old.todo; kinds = old.kinds; bound = old.bound } in
@@ -46,7 +48,9 @@ module _ (lists : ProgramLists) (outer : VariableKinds) (t : TermId) where
       }
 
   -- a task leads to no kind
-  pub stays-vain : (task : Task) (whole old : Search) → whole.todo ≡ task ∷ old.todo → whole.kinds ≡ old.kinds → whole.bound ≡ old.bound → Stays lists outer t whole → IsVain lists outer task old → (kind : Kind) → HasKind lists outer t kind → ⊥
+  pub stays-vain : (task : Task) (whole old : Search) → whole.todo ≡ task ∷ old.todo → whole.kinds ≡ old.kinds
+      → whole.bound ≡ old.bound → Stays lists outer t whole → IsVain lists outer task old → (kind : Kind)
+      → HasKind lists outer t kind → ⊥
   stays-vain task whole old todo kinds bound stays vain =
       let P : Search → Type 0 = λ x. Stays lists outer t x in
       let before : Search = record { todo = task ∷ old.todo; kinds = old.kinds; bound = old.bound } in
@@ -54,20 +58,23 @@ module _ (lists : ProgramLists) (outer : VariableKinds) (t : TermId) where
       let stays_too = subst P same stays in λ kind has. vain kind (stays_too.to kind has)
 
   -- at last the kind is on the top
-  pub stays-last : (s : Search) (k : Kind) (kinds : List Kind) → s.todo ≡ [] → s.kinds ≡ k ∷ kinds → Stays lists outer t s → HasKind lists outer t k
+  pub stays-last : (s : Search) (k : Kind) (kinds : List Kind) → s.todo ≡ [] → s.kinds ≡ k ∷ kinds
+      → Stays lists outer t s → HasKind lists outer t k
   stays-last s k kinds todo top stays =
       let P : Search → Type 0 = λ x. Stays lists outer t x in
       let last : Search = record { todo = []; kinds = k ∷ kinds; bound = s.bound } in
       let same : s ≡ last = same_search s [] (k ∷ kinds) s.bound todo top refl in (subst P same stays).from k refl
 
   -- or there is none
-  pub stays-none : (s : Search) → s.todo ≡ [] → s.kinds ≡ [] → Stays lists outer t s → (kind : Kind) → HasKind lists outer t kind → ⊥
+  pub stays-none : (s : Search) → s.todo ≡ [] → s.kinds ≡ [] → Stays lists outer t s → (kind : Kind)
+      → HasKind lists outer t kind → ⊥
   stays-none s todo top stays =
       let P : Search → Type 0 = λ x. Stays lists outer t x in
       let last : Search = record { todo = []; kinds = []; bound = s.bound } in
       let same : s ≡ last = same_search s [] [] s.bound todo top refl in λ kind has. (subst P same stays).to kind has
 
   -- a search that stops
-  pub stopped : (why : Stop) → (why ≡ stop.NoKind → (kind : Kind) → HasKind lists outer t kind → ⊥) → IsKind lists outer t (Err why)
+  pub stopped : (why : Stop) → (why ≡ stop.NoKind → (kind : Kind) → HasKind lists outer t kind → ⊥)
+      → IsKind lists outer t (Err why)
   stopped stop.NoKind none = none refl
   stopped stop.NoMemory none = tt

@@ -53,25 +53,30 @@ work-append w [] todo = omega arith
 work-append w (task ∷ tasks) todo = omega (arith, work-append w tasks todo)
 
 -- a node has fewer parts than the width
-pub width-parts : (lists : ProgramLists) (t : ℕ) (n : TermNode) → slice_get lists.terms t ≡ Some n → 16 + 2 * length (term_parts n) ≤ width lists
+pub width-parts : (lists : ProgramLists) (t : ℕ) (n : TermNode) → slice_get lists.terms t ≡ Some n
+    → 16 + 2 * length (term_parts n) ≤ width lists
 width-parts lists t n found =
     let inside = slice_get_within lists.terms t n found in
     let at_most = get_or-le-sum_by (λ m. length (term_parts m)) lists.terms t n inside in
     let P : TermNode → Type 0 = λ m. length (term_parts m) ≤ sum_by (λ k. length (term_parts k)) lists.terms in
-    let parts : length (term_parts n) ≤ sum_by (λ k. length (term_parts k)) lists.terms = subst P (get_or_from_slice_get lists.terms t n n found) at_most in
+    let parts : length (term_parts n) ≤ sum_by (λ k. length (term_parts k)) lists.terms = subst P
+    (get_or_from_slice_get lists.terms t n n found) at_most in
     omega (arith, parts)
 
 -- one more argument, with what is expected of it
-one_more : (w b others t k : ℕ) → w * b ≤ t → w * others ≤ 2 * (k * t) → w ≤ t → w * (b + (1 + others)) ≤ 2 * (suc k * t)
+one_more : (w b others t k : ℕ) → w * b ≤ t → w * others ≤ 2 * (k * t) → w ≤ t
+    → w * (b + (1 + others)) ≤ 2 * (suc k * t)
 one_more w b others t k first rest single = rw (suc-mul k t) (omega (arith, first, rest, single))
 
 -- arguments that are lower terms have less to do by the width
-pub arguments-lower : (w t : ℕ) (values : List TermId) (pars : VariableKinds) → 16 ≤ w → All (λ e. e.0 < t) values → w * work w (argument_tasks values pars) ≤ 2 * (length values * bulk w t)
+pub arguments-lower : (w t : ℕ) (values : List TermId) (pars : VariableKinds) → 16 ≤ w → All (λ e. e.0 < t) values
+    → w * work w (argument_tasks values pars) ≤ 2 * (length values * bulk w t)
 arguments-lower w t [] pars wide lower = omega arith
 arguments-lower w t (e ∷ es) [] wide lower = omega arith
 arguments-lower w t (e ∷ es) (par ∷ pars) wide lower =
     let first : w * bulk w e.0 ≤ bulk w t = bulk-lower w e.0 t wide (All-head (λ d. d.0 < t) e es lower) in
-    let others : w * work w (argument_tasks es pars) ≤ 2 * (length es * bulk w t) = arguments-lower w t es pars wide (All-tail (λ d. d.0 < t) e es lower) in
+    let others : w * work w (argument_tasks es pars)
+    ≤ 2 * (length es * bulk w t) = arguments-lower w t es pars wide (All-tail (λ d. d.0 < t) e es lower) in
     let single : w ≤ bulk w t = bulk-wide w t wide in
     one_more w (bulk w e.0) (work w (argument_tasks es pars)) (bulk w t) (length es) first others single
 
@@ -87,7 +92,8 @@ less_by s w k t wide sum single =
     (cases_lt (s + 1) t)
 
 -- what a call plans is less than the call
-pub arguments-less : (w t : ℕ) (values : List TermId) (pars : VariableKinds) → 16 + 2 * length values ≤ w → All (λ e. e.0 < t) values → work w (argument_tasks values pars) + 1 < bulk w t
+pub arguments-less : (w t : ℕ) (values : List TermId) (pars : VariableKinds) → 16 + 2 * length values ≤ w
+    → All (λ e. e.0 < t) values → work w (argument_tasks values pars) + 1 < bulk w t
 arguments-less w t values pars wide lower =
     let high : 16 ≤ w = omega arith in
     let all = arguments-lower w t values pars high lower in

@@ -13,7 +13,8 @@ use nomos_ir::kind::Kind;
 
 /// The kind of a list's elements, where the kind is that of a list.
 fn element_of(kind: Kind) -> Option<Kind>
-    ensures { MatchOption result ((element : Kind) → kind ≡ list_kind element → ⊥) (λ element. kind ≡ list_kind element) }
+    ensures { MatchOption result ((element : Kind) → kind ≡ list_kind element → ⊥)
+        (λ element. kind ≡ list_kind element) }
 {
     if kind.lists == 0 {
         return None;
@@ -26,8 +27,10 @@ fn element_of(kind: Kind) -> Option<Kind>
 
 /// The kind found last is to be this one.
 pub(crate) fn expect(search: &mut Search, wanted: Kind) -> Result<(), Stop>
-    ensures done { (lists : ProgramLists) (outer : VariableKinds) → OnOk result (IsDone lists outer (task.Expect wanted) search.old search.new) }
-    ensures vain { (lists : ProgramLists) (outer : VariableKinds) → IsErrOf result NoKind → IsVain lists outer (task.Expect wanted) search.old }
+    ensures done { (lists : ProgramLists) (outer : VariableKinds)
+        → OnOk result (IsDone lists outer (task.Expect wanted) search.old search.new) }
+    ensures vain { (lists : ProgramLists) (outer : VariableKinds) → IsErrOf result NoKind
+        → IsVain lists outer (task.Expect wanted) search.old }
 {
     let Some(kind) = search.kinds.pop() else {
         return Err(Stop::NoKind);
@@ -40,8 +43,10 @@ pub(crate) fn expect(search: &mut Search, wanted: Kind) -> Result<(), Stop>
 
 /// The kind found last is to be that of lists of the kind found before it.
 pub(crate) fn put_before(search: &mut Search) -> Result<(), Stop>
-    ensures done { (lists : ProgramLists) (outer : VariableKinds) → OnOk result (IsDone lists outer task.Cons search.old search.new) }
-    ensures vain { (lists : ProgramLists) (outer : VariableKinds) → IsErrOf result NoKind → IsVain lists outer task.Cons search.old }
+    ensures done { (lists : ProgramLists) (outer : VariableKinds)
+        → OnOk result (IsDone lists outer task.Cons search.old search.new) }
+    ensures vain { (lists : ProgramLists) (outer : VariableKinds) → IsErrOf result NoKind
+        → IsVain lists outer task.Cons search.old }
 {
     let Some(list) = search.kinds.pop() else {
         return Err(Stop::NoKind);
@@ -61,8 +66,10 @@ pub(crate) fn put_before(search: &mut Search) -> Result<(), Stop>
 
 /// The two kinds found last are to be the same one.
 pub(crate) fn compare(search: &mut Search) -> Result<(), Stop>
-    ensures done { (lists : ProgramLists) (outer : VariableKinds) → OnOk result (IsDone lists outer task.Same search.old search.new) }
-    ensures vain { (lists : ProgramLists) (outer : VariableKinds) → IsErrOf result NoKind → IsVain lists outer task.Same search.old }
+    ensures done { (lists : ProgramLists) (outer : VariableKinds)
+        → OnOk result (IsDone lists outer task.Same search.old search.new) }
+    ensures vain { (lists : ProgramLists) (outer : VariableKinds) → IsErrOf result NoKind
+        → IsVain lists outer task.Same search.old }
 {
     let Some(second) = search.kinds.pop() else {
         return Err(Stop::NoKind);
@@ -79,8 +86,10 @@ pub(crate) fn compare(search: &mut Search) -> Result<(), Stop>
 
 /// The two variables bound last are no longer in scope.
 pub(crate) fn unbind(search: &mut Search) -> Result<(), Stop>
-    ensures done { (lists : ProgramLists) (outer : VariableKinds) → OnOk result (IsDone lists outer task.Unbind search.old search.new) }
-    ensures vain { (lists : ProgramLists) (outer : VariableKinds) → IsErrOf result NoKind → IsVain lists outer task.Unbind search.old }
+    ensures done { (lists : ProgramLists) (outer : VariableKinds)
+        → OnOk result (IsDone lists outer task.Unbind search.old search.new) }
+    ensures vain { (lists : ProgramLists) (outer : VariableKinds) → IsErrOf result NoKind
+        → IsVain lists outer task.Unbind search.old }
 {
     if search.bound.pop().is_none() {
         return Err(Stop::NoKind);
@@ -99,8 +108,10 @@ pub(crate) fn take_apart(
     tail: VarId,
     full: TermId,
 ) -> Result<(), Stop>
-    ensures done { (lists : ProgramLists) (outer : VariableKinds) → OnOk result (IsDone lists outer (task.Part empty head tail full) search.old search.new) }
-    ensures vain { (lists : ProgramLists) (outer : VariableKinds) → IsErrOf result NoKind → IsVain lists outer (task.Part empty head tail full) search.old }
+    ensures done { (lists : ProgramLists) (outer : VariableKinds)
+        → OnOk result (IsDone lists outer (task.Part empty head tail full) search.old search.new) }
+    ensures vain { (lists : ProgramLists) (outer : VariableKinds) → IsErrOf result NoKind
+        → IsVain lists outer (task.Part empty head tail full) search.old }
 {
     let Some(list) = search.kinds.pop() else {
         return Err(Stop::NoKind);

@@ -53,7 +53,8 @@ abbrev DueStop : List (List ℕ) → List ℕ → List ℕ → Type 0
 DueStop words text bytes = (stop : Stop) × HasStoppedFor words text stop × (bytes ≡ unsolved_line stop)
 
 -- the claim of what is due, before it is written
-record DueClaim (words : List (List ℕ)) (text : List ℕ) (status : ℕ) (bytes : List ℕ) (given : Option Acceptance) : Type 0 where
+record DueClaim (words : List (List ℕ)) (text : List ℕ) (status : ℕ) (bytes : List ℕ) (given : Option Acceptance) : Type
+    0 where
   sound : (a : Acceptance) → given ≡ Some a → IsGivenFor words text a
   is_given : (status ≡ 0) ⊎ ((status ≡ 2) ⊎ (status ≡ 3)) → (a : Acceptance) × (given ≡ Some a)
   shown : IsCheck words → status ≡ 0 → (a : Acceptance) × (given ≡ Some a) × (bytes ≡ accepted_block a)
@@ -116,7 +117,8 @@ least-stops text lists x stop typed stopped =
 
 -- what is due where nothing is accepted, with a status that is none of 0, 2 and 3
 of-none : (words : List (List ℕ)) (text : List ℕ) (status : ℕ) (bytes : List ℕ) → status ≢ 0 → status ≢ 2 → status ≢ 3
-    → DueComplete words text status → (status ≡ 1 → DueRefusal words text bytes None) → (status ≡ 8 → DueStop words text bytes)
+    → DueComplete words text status → (status ≡ 1 → DueRefusal words text bytes None)
+    → (status ≡ 8 → DueStop words text bytes)
     → DueClaim words text status bytes None
 of-none words text status bytes well script run complete is_refused stopped = record {
   sound = none-sound words text;
@@ -162,7 +164,8 @@ none-asks words none (inl checks) = cc (checks.1, none)
 none-asks words none (inr seeks) = cc (seeks.1, none)
 
 -- what is due keeps the claim
-due-keeps : (words : List (List ℕ)) (contract script : Input) (status : ℕ) (bytes : List ℕ) (given : Option Acceptance) (journal : Journal)
+due-keeps : (words : List (List ℕ)) (contract script : Input) (status : ℕ) (bytes : List ℕ) (given : Option Acceptance)
+    (journal : Journal)
     → IsDue words contract script status bytes given journal → DueClaim words contract.text status bytes given
 due-keeps words contract script status bytes given journal (usage none) =
     of-none words contract.text 4 bytes (λ e. omega (arith, e)) (λ e. omega (arith, e)) (λ e. omega (arith, e))
@@ -271,7 +274,8 @@ claim-of c sound given shown bounds complete truly stopped = record {
 }
 
 -- a call that failed to write, or ran out of memory
-failed : (c : Call) → (c.status ≡ 6) ⊎ (c.status ≡ 7) → c.status ≢ 0 → c.status ≢ 1 → c.status ≢ 2 → c.status ≢ 3 → c.status ≢ 8
+failed : (c : Call) → (c.status ≡ 6) ⊎ (c.status ≡ 7) → c.status ≢ 0 → c.status ≢ 1 → c.status ≢ 2 → c.status ≢ 3
+    → c.status ≢ 8
     → IsSound c → Claim c
 failed c fails well one script run eight sound =
     claim-of c sound
@@ -301,7 +305,8 @@ unwritten : (words : List (List ℕ)) (text : List ℕ) (before after : Option (
     → ((a : Acceptance) → given ≡ Some a → IsGivenFor words text a) → Claim (call_of words text before after 6 given)
 unwritten words text before after given sound =
     failed (call_of words text before after 6 given) (inl refl)
-    (λ e. omega (arith, e)) (λ e. omega (arith, e)) (λ e. omega (arith, e)) (λ e. omega (arith, e)) (λ e. omega (arith, e))
+    (λ e. omega (arith, e)) (λ e. omega (arith, e)) (λ e. omega (arith, e)) (λ e. omega (arith, e))
+    (λ e. omega (arith, e))
     sound
 
 -- a call that ran out of memory
@@ -309,7 +314,8 @@ no_memory-keeps : (words : List (List ℕ)) (text : List ℕ) (before after : Op
     → ((a : Acceptance) → given ≡ Some a → IsGivenFor words text a) → Claim (call_of words text before after 7 given)
 no_memory-keeps words text before after given sound =
     failed (call_of words text before after 7 given) (inr refl)
-    (λ e. omega (arith, e)) (λ e. omega (arith, e)) (λ e. omega (arith, e)) (λ e. omega (arith, e)) (λ e. omega (arith, e))
+    (λ e. omega (arith, e)) (λ e. omega (arith, e)) (λ e. omega (arith, e)) (λ e. omega (arith, e))
+    (λ e. omega (arith, e))
     sound
 
 -- what was written, of what was due
@@ -318,7 +324,8 @@ wrote : (before after : Option (List ℕ)) (bytes text : List ℕ) → after ≡
 wrote before after bytes text e same = subst (λ (t : List ℕ). after ≡ with_end before t) same e
 
 -- a refusal that was written
-refusal-written : (words : List (List ℕ)) (text : List ℕ) (before after : Option (List ℕ)) (status : ℕ) (bytes : List ℕ) (given : Option Acceptance)
+refusal-written : (words : List (List ℕ)) (text : List ℕ) (before after : Option (List ℕ)) (status : ℕ) (bytes : List ℕ)
+    (given : Option Acceptance)
     → after ≡ with_end before bytes → DueRefusal words text bytes given
     → ((why : Why) × IsRefused text why × HasWritten (call_of words text before after status given) (refusal why))
     ⊎ ((a : Acceptance) × (given ≡ Some a) × IsRun words × (is_runnable a.program ≡ false)
@@ -329,8 +336,10 @@ refusal-written words text before after status bytes given e (inr h) =
     inr (h.0, h.1, h.2, h.3, wrote before after bytes not_yet_line e h.4)
 
 -- what was written whole, with what holds of what was due
-whole-keeps : (words : List (List ℕ)) (text : List ℕ) (before after : Option (List ℕ)) (status : ℕ) (bytes : List ℕ) (given : Option Acceptance)
-    → DueClaim words text status bytes given → after ≡ with_end before bytes → Claim (call_of words text before after status given)
+whole-keeps : (words : List (List ℕ)) (text : List ℕ) (before after : Option (List ℕ)) (status : ℕ) (bytes : List ℕ)
+    (given : Option Acceptance)
+    → DueClaim words text status bytes given → after ≡ with_end before bytes
+    → Claim (call_of words text before after status given)
 whole-keeps words text before after status bytes given due e =
     claim-of (call_of words text before after status given)
     due.sound
@@ -347,28 +356,39 @@ whole-keeps words text before after status bytes given due e =
     (λ s. let h = due.stopped s in (h.0, h.1, wrote before after bytes (unsolved_line h.0) e h.2))
 
 -- what was written, whole or in part
-written-keeps : (words : List (List ℕ)) (text : List ℕ) (before after : Option (List ℕ)) (status ended : ℕ) (bytes : List ℕ) (out : Counts) (given : Option Acceptance)
-    → DueClaim words text status bytes given → IsWritten status bytes out before after ended → Claim (call_of words text before after ended given)
+written-keeps : (words : List (List ℕ)) (text : List ℕ) (before after : Option (List ℕ)) (status ended : ℕ)
+    (bytes : List ℕ) (out : Counts) (given : Option Acceptance)
+    → DueClaim words text status bytes given → IsWritten status bytes out before after ended
+    → Claim (call_of words text before after ended given)
 written-keeps words text before after status ended bytes out given due (whole e) =
     whole-keeps words text before after status bytes given due e
 written-keeps words text before after status ended bytes out given due (write_fault rose part) =
     unwritten words text before after given due.sound
 
 -- what was done before memory ran out
-part-keeps : (words : List (List ℕ)) (contract script : Reading) (before after : Option (List ℕ)) (given : Option Acceptance) (journal : Journal)
+part-keeps : (words : List (List ℕ)) (contract script : Reading) (before after : Option (List ℕ))
+    (given : Option Acceptance) (journal : Journal)
     → IsPart words contract script given journal → Claims words contract.left before after 7 given
 part-keeps words contract script before after given journal nothing =
     let t = some_text contract.left in (t.0, t.1, no_memory-keeps words t.0 before after None (none-sound words t.0))
 part-keeps words contract script before after given journal (accepted_part a text runs told h) =
     (text, told, no_memory-keeps words text before after (Some a) (λ b e. pivots-sound words text a b (inr runs) h e))
-part-keeps words contract script before after given journal (run_part a text script_text items count kept told on script_told reads run) =
-    (text, told, no_memory-keeps words text before after (Some a) (λ b e. pivots-sound words text a b (inr on.runs) on.accepted e))
+part-keeps words contract script before after given journal
+    (run_part a text script_text items count kept told on script_told reads run) = (
+      text,
+      told,
+      no_memory-keeps words text before after (Some a)
+          (λ b e. pivots-sound words text a b (inr on.runs) on.accepted e),
+    )
 
 -- how a call ends keeps the claim
-pub ends-claims : (words : List (List ℕ)) (contract script : Reading) (out : Counts) (before after : Option (List ℕ)) (ended : ℕ) (given : Option Acceptance) (journal : Journal)
-    → EndsFor words contract script out before after ended given journal → Claims words contract.left before after ended given
+pub ends-claims : (words : List (List ℕ)) (contract script : Reading) (out : Counts) (before after : Option (List ℕ))
+    (ended : ℕ) (given : Option Acceptance) (journal : Journal)
+    → EndsFor words contract script out before after ended given journal
+    → Claims words contract.left before after ended given
 ends-claims words contract script out before after ended given journal (written status bytes is_due is_written) =
-    let due = due-keeps words (input_of contract is_due.text) (input_of script is_due.script_text) status bytes given journal is_due.due in
+    let due = due-keeps words (input_of contract is_due.text) (input_of script is_due.script_text) status bytes given
+    journal is_due.due in
     (is_due.text, is_due.told, written-keeps words is_due.text before after status ended bytes out given due is_written)
 ends-claims words contract script out before after ended given journal (no_memory same part) =
     part-keeps words contract script before after given journal part

@@ -43,7 +43,8 @@ pub some_longer : (n : ℕ) → (text : List ℕ) × (n < length text)
 some_longer n = (replicate (n + 1) 0, rw length-replicate (omega arith))
 
 -- a text past a limit, which the source has
-pub long_text : (limit : ℕ) (left now : Option (List ℕ)) → TakesExactly (limit + 1) left now → (text : List ℕ) × IsTextOf left text × (limit < length text)
+pub long_text : (limit : ℕ) (left now : Option (List ℕ)) → TakesExactly (limit + 1) left now
+    → (text : List ℕ) × IsTextOf left text × (limit < length text)
 long_text limit None now h = let longer = some_longer limit in (longer.0, tt, longer.1)
 long_text limit (Some text) now h = (text, refl, omega (arith, TakesExactly-told (limit + 1) text now h))
 
@@ -75,25 +76,33 @@ has-task words t e =
     let here : IsSome (Some t) = refl in subst (λ (o : Option Task). IsSome o) e here
 
 -- what is due consists of what is due
-pub due-as : (words : List (List ℕ)) (contract script : Reading) (due : Due) (code : ℕ) (bytes : List ℕ) (given : Option Acceptance) (kept : Journal) → IsDueFor words contract script code bytes given kept → IsDueAs due code bytes given kept → IsDueFor words contract script due.status due.text.items due.accepted due.journal
-due-as words contract script due code bytes given kept is_due parts = rw (parts.status, parts.text, parts.accepted, parts.journal) is_due
+pub due-as : (words : List (List ℕ)) (contract script : Reading) (due : Due) (code : ℕ) (bytes : List ℕ)
+    (given : Option Acceptance) (kept : Journal) → IsDueFor words contract script code bytes given kept
+    → IsDueAs due code bytes given kept
+    → IsDueFor words contract script due.status due.text.items due.accepted due.journal
+due-as words contract script due code bytes given kept is_due parts =
+    rw (parts.status, parts.text, parts.accepted, parts.journal) is_due
 
 -- words without a form
-pub due-usage : (words : List (List ℕ)) (contract script : Reading) → task_of words ≡ None → IsDueFor words contract script 4 usage_line None no_journal
+pub due-usage : (words : List (List ℕ)) (contract script : Reading) → task_of words ≡ None
+    → IsDueFor words contract script 4 usage_line None no_journal
 due-usage words contract script none =
     let t = some_text contract.left in
     let s = some_text script.left in
     record { text = t.0; script_text = s.0; told = t.1; script_told = s.1; due = usage none }
 
 -- a contract that could not be read
-pub due-fault : (words : List (List ℕ)) (contract script : Reading) → IsSome (task_of words) → HaveRisen contract.counts → IsDueFor words contract script 5 (read_fault_line (codes "contract")) None no_journal
+pub due-fault : (words : List (List ℕ)) (contract script : Reading) → IsSome (task_of words) → HaveRisen contract.counts
+    → IsDueFor words contract script 5 (read_fault_line (codes "contract")) None no_journal
 due-fault words contract script some rose =
     let t = some_text contract.left in
     let s = some_text script.left in
     record { text = t.0; script_text = s.0; told = t.1; script_told = s.1; due = read_fault some rose }
 
 -- a contract that is refused
-pub due-refused : (words : List (List ℕ)) (contract script : Reading) (text : List ℕ) (why : Why) → IsSome (task_of words) → IsTextOf contract.left text → IsRefused text why → IsDueFor words contract script 1 (refusal why) None no_journal
+pub due-refused : (words : List (List ℕ)) (contract script : Reading) (text : List ℕ) (why : Why)
+    → IsSome (task_of words) → IsTextOf contract.left text → IsRefused text why
+    → IsDueFor words contract script 1 (refusal why) None no_journal
 due-refused words contract script text why some told is_refused =
     let s = some_text script.left in
     record { text = text; script_text = s.0; told = told; script_told = s.1; due = refused why some is_refused }
@@ -102,7 +111,8 @@ due-refused words contract script text why some told is_refused =
 pub due-out : (words : List (List ℕ)) (contract script : Reading) (text : List ℕ) (Stops : Stop → Type 0)
     (u : Unaccepted) (due : Due) → IsSome (task_of words) → IsTextOf contract.left text
     → ((stop : Stop) → Stops stop
-    → IsDue words (input_of contract text) (input_of script (some_text script.left).0) 8 (unsolved_line stop) None no_journal)
+    → IsDue words (input_of contract text) (input_of script (some_text script.left).0) 8 (unsolved_line stop) None
+    no_journal)
     → IsUnaccepted Stops text contract.counts u → IsDueOut u due
     → IsDueFor words contract script due.status due.text.items due.accepted due.journal
 due-out words contract script text Stops (unaccepted.Refused why) due some told stops is_refused parts =
@@ -142,13 +152,18 @@ due-bounded words contract script text b asks told is_least =
     record { text = text; script_text = s.0; told = told; script_told = s.1; due = bounded b asks is_least }
 
 -- a contract that is checked and accepted
-pub due-accepted : (words : List (List ℕ)) (contract script : Reading) (text : List ℕ) (a : Acceptance) → IsCheck words → IsTextOf contract.left text → IsAcceptedAs text a → IsDueFor words contract script 0 (accepted_block a) (Some a) no_journal
+pub due-accepted : (words : List (List ℕ)) (contract script : Reading) (text : List ℕ) (a : Acceptance) → IsCheck words
+    → IsTextOf contract.left text → IsAcceptedAs text a
+    → IsDueFor words contract script 0 (accepted_block a) (Some a) no_journal
 due-accepted words contract script text a checks told is_accepted =
     let s = some_text script.left in
     record { text = text; script_text = s.0; told = told; script_told = s.1; due = accepted a checks is_accepted }
 
 -- a run that is asked for on an accepted contract
-pub due-of : (words : List (List ℕ)) (contract script : Reading) (text : List ℕ) (a : Acceptance) (code : ℕ) (bytes : List ℕ) (given : Option Acceptance) (kept : Journal) → IsRun words → IsTextOf contract.left text → IsAcceptedAs text a → IsDueOf a script.left script.counts code bytes given kept → IsDueFor words contract script code bytes given kept
+pub due-of : (words : List (List ℕ)) (contract script : Reading) (text : List ℕ) (a : Acceptance) (code : ℕ)
+    (bytes : List ℕ) (given : Option Acceptance) (kept : Journal) → IsRun words → IsTextOf contract.left text
+    → IsAcceptedAs text a → IsDueOf a script.left script.counts code bytes given kept
+    → IsDueFor words contract script code bytes given kept
 due-of words contract script text a code bytes given kept runs told is_accepted is_due = record {
   text = text;
   script_text = is_due.0;
@@ -158,13 +173,18 @@ due-of words contract script text a code bytes given kept runs told is_accepted 
 }
 
 -- nothing was done
-pub part-nothing : (words : List (List ℕ)) (contract script : Reading) (part : Part) → IsPartAs part None no_journal → IsPart words contract script part.accepted part.journal
+pub part-nothing : (words : List (List ℕ)) (contract script : Reading) (part : Part) → IsPartAs part None no_journal
+    → IsPart words contract script part.accepted part.journal
 part-nothing words contract script part parts = rw (parts.accepted, parts.journal) nothing
 
 -- what was done of a run
-pub part-of : (words : List (List ℕ)) (contract script : Reading) (text : List ℕ) (a : Acceptance) (given : Option Acceptance) (kept : Journal) → IsRun words → IsTextOf contract.left text → IsAcceptedAs text a → IsPartOf a script.left given kept → IsPart words contract script given kept
-part-of words contract script text a given kept runs told is_accepted not_run = accepted_part a text runs told is_accepted
-part-of words contract script text a given kept runs told is_accepted (run_so_far script_text items count journal runnable script_told reads run) =
+pub part-of : (words : List (List ℕ)) (contract script : Reading) (text : List ℕ) (a : Acceptance)
+    (given : Option Acceptance) (kept : Journal) → IsRun words → IsTextOf contract.left text → IsAcceptedAs text a
+    → IsPartOf a script.left given kept → IsPart words contract script given kept
+part-of words contract script text a given kept runs told is_accepted not_run =
+    accepted_part a text runs told is_accepted
+part-of words contract script text a given kept runs told is_accepted
+    (run_so_far script_text items count journal runnable script_told reads run) =
     let run_on : IsRunOn words text a = record { runs = runs; accepted = is_accepted; runnable = runnable } in
     run_part a text script_text items count journal told run_on script_told reads run
 
@@ -178,13 +198,24 @@ finds-text text counts found.ReadFault h = absurd h
 finds-text text counts found.NoMemory h = tt
 
 -- what is due where the contract is none that `run` takes
-pub due_of-not_yet : (a : Acceptance) (left : Option (List ℕ)) (counts : Counts) (due : Due) → is_runnable a.program ≡ false → IsDueAs due 1 not_yet_line (Some a) no_journal → IsDueOf a left counts due.status due.text.items due.accepted due.journal
+pub due_of-not_yet : (a : Acceptance) (left : Option (List ℕ)) (counts : Counts) (due : Due)
+    → is_runnable a.program ≡ false → IsDueAs due 1 not_yet_line (Some a) no_journal
+    → IsDueOf a left counts due.status due.text.items due.accepted due.journal
 due_of-not_yet a left counts due not_runnable parts =
-    let t = some_text left in
-    (t.0, t.1, λ words contract runs is_accepted. rw (parts.status, parts.text, parts.accepted, parts.journal) (not_yet a runs is_accepted not_runnable))
+    let t = some_text left in (
+      t.0,
+      t.1,
+      λ words contract runs is_accepted.
+          rw (parts.status, parts.text, parts.accepted, parts.journal) (not_yet a runs is_accepted not_runnable),
+    )
 
 -- what is due where the script can not be run, from its parts
-pub due_of-line : (a : Acceptance) (left : Option (List ℕ)) (counts : Counts) (text : List ℕ) (due : Due) (code : ℕ) (bytes : List ℕ) → is_runnable a.program ≡ true → IsTextOf left text → ((words : List (List ℕ)) (contract : Input) → IsRunOn words contract.text a → IsDue words contract (record { text = text; counts = counts }) code bytes (Some a) no_journal) → IsDueAs due code bytes (Some a) no_journal → IsDueOf a left counts due.status due.text.items due.accepted due.journal
+pub due_of-line : (a : Acceptance) (left : Option (List ℕ)) (counts : Counts) (text : List ℕ) (due : Due) (code : ℕ)
+    (bytes : List ℕ) → is_runnable a.program ≡ true → IsTextOf left text
+    → ((words : List (List ℕ)) (contract : Input) → IsRunOn words contract.text a
+    → IsDue words contract (record { text = text; counts = counts }) code bytes (Some a) no_journal)
+    → IsDueAs due code bytes (Some a) no_journal
+    → IsDueOf a left counts due.status due.text.items due.accepted due.journal
 due_of-line a left counts text due code bytes runnable told is_due parts = (
   text,
   told,
@@ -195,7 +226,10 @@ due_of-line a left counts text due code bytes runnable told is_due parts = (
 )
 
 -- a run of a script, from its parts
-pub due_of-run : (a : Acceptance) (left : Option (List ℕ)) (counts : Counts) (text : List ℕ) (items : List ScriptItem) (code : ℕ) (bytes : List ℕ) (given : Option Acceptance) (kept : Journal) → is_runnable a.program ≡ true → IsTextOf left text → ReadsAs text items → HasRunAs a items code bytes given kept → IsDueOf a left counts code bytes given kept
+pub due_of-run : (a : Acceptance) (left : Option (List ℕ)) (counts : Counts) (text : List ℕ) (items : List ScriptItem)
+    (code : ℕ) (bytes : List ℕ) (given : Option Acceptance) (kept : Journal) → is_runnable a.program ≡ true
+    → IsTextOf left text → ReadsAs text items → HasRunAs a items code bytes given kept
+    → IsDueOf a left counts code bytes given kept
 due_of-run a left counts text items code bytes given kept runnable told reads run = (
   text,
   told,
@@ -205,32 +239,44 @@ due_of-run a left counts text items code bytes given kept runnable told reads ru
       (ran a items kept (record { runs = runs; accepted = is_accepted; runnable = runnable }) reads (record {
         limit = run.limit;
         last = run.last;
-        legal = record { limit = rw run.limit (record { some = lit≤ tt; few = lit≤ tt }); leads = rw run.limit run.leads };
+        legal =
+            record { limit = rw run.limit (record { some = lit≤ tt; few = lit≤ tt }); leads = rw run.limit run.leads };
         stands = run.stands;
         first = run.first;
       })),
 )
 
 -- what was done of a script that is not run
-pub part_of-line : (a : Acceptance) (left : Option (List ℕ)) (part : Part) → IsPartAs part (Some a) no_journal → IsPartOf a left part.accepted part.journal
+pub part_of-line : (a : Acceptance) (left : Option (List ℕ)) (part : Part) → IsPartAs part (Some a) no_journal
+    → IsPartOf a left part.accepted part.journal
 part_of-line a left part parts = rw (parts.accepted, parts.journal) not_run
 
 -- what was done of a script that is run in part
-pub part_of-run : (a : Acceptance) (left : Option (List ℕ)) (text : List ℕ) (items : List ScriptItem) (given : Option Acceptance) (kept : Journal) → is_runnable a.program ≡ true → IsTextOf left text → ReadsAs text items → HasRunPart a items given kept → IsPartOf a left given kept
+pub part_of-run : (a : Acceptance) (left : Option (List ℕ)) (text : List ℕ) (items : List ScriptItem)
+    (given : Option Acceptance) (kept : Journal) → is_runnable a.program ≡ true → IsTextOf left text
+    → ReadsAs text items → HasRunPart a items given kept → IsPartOf a left given kept
 part_of-run a left text items given kept runnable told reads part =
     let so_far = part.so_far in
     rw part.given (run_so_far text items so_far.count kept runnable told reads (record {
       limit = part.limit;
       last = so_far.last;
-      legal = record { limit = rw part.limit (record { some = lit≤ tt; few = lit≤ tt }); leads = rw part.limit so_far.leads };
+      legal =
+          record {
+            limit = rw part.limit (record { some = lit≤ tt; few = lit≤ tt });
+            leads = rw part.limit so_far.leads;
+          };
       stands = so_far.stands;
       first = so_far.first;
     }))
 
 -- what was done of a script that was run to its end
-pub ran-part : (a : Acceptance) (items : List ScriptItem) (running : Running) (part : Part) → HasCome a steps items running → IsPartAs part (Some a) (journal_of running.entries.items) → HasRunPart a items part.accepted part.journal
+pub ran-part : (a : Acceptance) (items : List ScriptItem) (running : Running) (part : Part)
+    → HasCome a steps items running → IsPartAs part (Some a) (journal_of running.entries.items)
+    → HasRunPart a items part.accepted part.journal
 ran-part a items running part come parts = record {
   limit = rw parts.journal refl;
-  so_far = rw (parts.journal) (so_far-at a steps items (length items) running running.entries.items (rw (take-length items) come) refl);
+  so_far =
+      rw (parts.journal) (so_far-at a steps items (length items) running running.entries.items
+      (rw (take-length items) come) refl);
   given = parts.accepted;
 }

@@ -34,7 +34,8 @@ pub firings-cons : (e : Entry) (es : List Entry) → firings_in (e ∷ es) ≡ l
 firings-cons e es = refl
 
 -- a batch whose lines are resolved starts from the ledger after its starts
-pub start-is : (a : Acceptance) (l : LedgerState) (batch : Batch) (starts : List Resolved) → resolve_batch a l batch.starts ≡ Ok starts → batch_start a l batch ≡ after_starts a l starts
+pub start-is : (a : Acceptance) (l : LedgerState) (batch : Batch) (starts : List Resolved)
+    → resolve_batch a l batch.starts ≡ Ok starts → batch_start a l batch ≡ after_starts a l starts
 start-is a l batch starts resolved = ap (started_ledger a l) resolved
 
 -- the state that is reached is the one that the run gives
@@ -42,13 +43,17 @@ pub reached-is : (a : Acceptance) (s t : State) (pids : List ℕ) → run a s pi
 reached-is a s t pids ran = ap (state_or s) ran
 
 -- the ledger after a batch that stays
-pub after-stays : (a : Acceptance) (l : LedgerState) (batch : Batch) (starts : List Resolved) (pids : List ℕ) (s : State) → resolve_batch a l batch.starts ≡ Ok starts → run a (after_starts a l starts).state pids ≡ Some s → after_item a l (item.Batch batch) (entry_of batch.line pids end.Committed) ≡ record (after_starts a l starts) { state = cleared s }
+pub after-stays : (a : Acceptance) (l : LedgerState) (batch : Batch) (starts : List Resolved) (pids : List ℕ)
+    (s : State) → resolve_batch a l batch.starts ≡ Ok starts → run a (after_starts a l starts).state pids ≡ Some s
+    → after_item a l (item.Batch batch) (entry_of batch.line pids end.Committed)
+    ≡ record (after_starts a l starts) { state = cleared s }
 after-stays a l batch starts pids s resolved ran =
     let start : LedgerState = batch_start a l batch in
     let is : start ≡ after_starts a l starts = start-is a l batch starts resolved in
     let state_is : reached a start.state pids ≡ s =
     ap (λ (t : LedgerState). reached a t.state pids) is ∙ reached-is a (after_starts a l starts).state s pids ran in
-    ap (λ (t : State). after_batch l start t end.Committed) state_is ∙ ap (λ (t : LedgerState). after_batch l t s end.Committed) is
+    ap (λ (t : State). after_batch l start t end.Committed) state_is
+    ∙ ap (λ (t : LedgerState). after_batch l t s end.Committed) is
 
 -- an end that undoes a batch leaves the ledger as it was
 pub after-undone : (l start : LedgerState) (s : State) (answer : End) → Undoes answer → after_batch l start s answer ≡ l
@@ -60,7 +65,9 @@ after-undone l start s (end.Steps k) undoes = refl
 after-undone l start s (end.Refused line cause) undoes = refl
 
 -- The firings of a journal, and those of one from the ledger to which it leads, all follow the policy together.
-pub first-join : (a : Acceptance) (limit made : ℕ) (l mid : LedgerState) (xs ys : List ScriptItem) (es fs : List Entry) → Leads a limit made l xs es mid → AllFollowFirst a l xs es → AllFollowFirst a mid ys fs → AllFollowFirst a l (xs ++ ys) (es ++ fs)
+pub first-join : (a : Acceptance) (limit made : ℕ) (l mid : LedgerState) (xs ys : List ScriptItem) (es fs : List Entry)
+    → Leads a limit made l xs es mid → AllFollowFirst a l xs es → AllFollowFirst a mid ys fs
+    → AllFollowFirst a l (xs ++ ys) (es ++ fs)
 first-join a limit _ _ _ _ ys _ fs (done made l) one two = two
 first-join a limit _ _ _ _ ys _ fs (deposit made l mid line units name items entries fits rest) one two =
     (tt, first-join a limit made _ mid items ys entries fs rest one.1 two)
@@ -74,7 +81,8 @@ first-join a limit _ _ _ _ ys _ fs (stays made l mid batch starts pids s items e
     let others = subst (λ (t : LedgerState). AllFollowFirst a t items entries) is one.1 in
     let joined = first-join a limit (made + length pids) next mid items ys entries fs rest others two in
     (one.0, subst (λ (t : LedgerState). AllFollowFirst a t (items ++ ys) (entries ++ fs)) (sym is) joined)
-first-join a limit _ _ _ _ ys _ fs (undone made l mid batch starts pids s answer items entries resolved runs undoes rest) one two =
+first-join a limit _ _ _ _ ys _ fs
+    (undone made l mid batch starts pids s answer items entries resolved runs undoes rest) one two =
     let start : LedgerState = batch_start a l batch in
     let is = after-undone l start (reached a start.state pids) answer undoes in
     let others = subst (λ (t : LedgerState). AllFollowFirst a t items entries) is one.1 in
@@ -88,34 +96,46 @@ before-both : (first all one two : List ℕ) → all ≡ one ++ two → first ++
 before-both first all one two is = ap (λ (z : List ℕ). first ++ z) is ∙ sym (append_assoc first one two)
 
 -- the same for lines from another ledger that is this one
-before-lines : (a : Acceptance) (l next mid : LedgerState) (first : List ℕ) (xs ys : List ScriptItem) (es fs : List Entry) → l ≡ next → report_lines a next (xs ++ ys) (es ++ fs) ≡ report_lines a next xs es ++ report_lines a mid ys fs → first ++ report_lines a l (xs ++ ys) (es ++ fs) ≡ (first ++ report_lines a l xs es) ++ report_lines a mid ys fs
+before-lines : (a : Acceptance) (l next mid : LedgerState) (first : List ℕ) (xs ys : List ScriptItem)
+    (es fs : List Entry) → l ≡ next → report_lines a next (xs ++ ys) (es ++ fs)
+    ≡ report_lines a next xs es ++ report_lines a mid ys fs
+    → first ++ report_lines a l (xs ++ ys) (es ++ fs) ≡ (first ++ report_lines a l xs es) ++ report_lines a mid ys fs
 before-lines a l next mid first xs ys es fs same is =
     let here =
-    subst (λ (t : LedgerState). report_lines a t (xs ++ ys) (es ++ fs) ≡ report_lines a t xs es ++ report_lines a mid ys fs) (sym same) is in
+    subst (λ (t : LedgerState). report_lines a t (xs ++ ys) (es ++ fs)
+    ≡ report_lines a t xs es ++ report_lines a mid ys fs) (sym same) is in
     before-both first (report_lines a l (xs ++ ys) (es ++ fs)) (report_lines a l xs es) (report_lines a mid ys fs) here
 
 -- The report of a journal, and that of one from the ledger to which it leads, are the report of both.
-pub report-join : (a : Acceptance) (limit made : ℕ) (l mid : LedgerState) (xs ys : List ScriptItem) (es fs : List Entry) → Leads a limit made l xs es mid → report_lines a l (xs ++ ys) (es ++ fs) ≡ report_lines a l xs es ++ report_lines a mid ys fs
+pub report-join : (a : Acceptance) (limit made : ℕ) (l mid : LedgerState) (xs ys : List ScriptItem) (es fs : List Entry)
+    → Leads a limit made l xs es mid → report_lines a l (xs ++ ys) (es ++ fs)
+    ≡ report_lines a l xs es ++ report_lines a mid ys fs
 report-join a limit _ _ _ _ ys _ fs (done made l) = refl
 report-join a limit _ _ _ _ ys _ fs (deposit made l mid line units name items entries fits rest) =
     let next : LedgerState = deposited a.annotations.unit l name units in
-    before-lines a next next mid (item_lines a l (item.Deposit line name units) (bare line end.Deposited)) items ys entries fs refl
+    before-lines a next next mid (item_lines a l (item.Deposit line name units) (bare line end.Deposited)) items ys
+    entries fs refl
     (report-join a limit made next mid items ys entries fs rest)
 report-join a limit _ _ _ _ ys _ fs (no_deposit made l mid line units name items entries fits rest) =
-    before-lines a l l mid (item_lines a l (item.Deposit line name units) (bare line (end.Refused line refusal.TooMuchGas))) items ys entries fs refl
+    before-lines a l l mid (item_lines a l (item.Deposit line name units)
+    (bare line (end.Refused line refusal.TooMuchGas))) items ys entries fs refl
     (report-join a limit made l mid items ys entries fs rest)
 report-join a limit _ _ _ _ ys _ fs (refused made l mid batch line cause items entries resolved rest) =
-    before-lines a l l mid (item_lines a l (item.Batch batch) (bare batch.line (end.Refused line cause))) items ys entries fs refl
+    before-lines a l l mid (item_lines a l (item.Batch batch) (bare batch.line (end.Refused line cause))) items ys
+    entries fs refl
     (report-join a limit made l mid items ys entries fs rest)
 report-join a limit _ _ _ _ ys _ fs (stays made l mid batch starts pids s items entries resolved runs rest) =
     let next : LedgerState = record (after_starts a l starts) { state = cleared s } in
     let e : Entry = entry_of batch.line pids end.Committed in
-    before-lines a (after_item a l (item.Batch batch) e) next mid (item_lines a l (item.Batch batch) e) items ys entries fs (after-stays a l batch starts pids s resolved runs.reached)
+    before-lines a (after_item a l (item.Batch batch) e) next mid (item_lines a l (item.Batch batch) e) items ys entries
+    fs (after-stays a l batch starts pids s resolved runs.reached)
     (report-join a limit (made + length pids) next mid items ys entries fs rest)
-report-join a limit _ _ _ _ ys _ fs (undone made l mid batch starts pids s answer items entries resolved runs undoes rest) =
+report-join a limit _ _ _ _ ys _ fs
+    (undone made l mid batch starts pids s answer items entries resolved runs undoes rest) =
     let start : LedgerState = batch_start a l batch in
     let e : Entry = entry_of batch.line pids answer in
-    before-lines a (after_item a l (item.Batch batch) e) l mid (item_lines a l (item.Batch batch) e) items ys entries fs (after-undone l start (reached a start.state pids) answer undoes)
+    before-lines a (after_item a l (item.Batch batch) e) l mid (item_lines a l (item.Batch batch) e) items ys entries fs
+    (after-undone l start (reached a start.state pids) answer undoes)
     (report-join a limit (made + length pids) l mid items ys entries fs rest)
 report-join a limit _ _ _ _ ys _ fs (shown made l mid line items entries rest) =
     report-join a limit made l mid items ys entries fs rest
@@ -169,14 +189,16 @@ pub record KeepsAccounts (n : ℕ) (before after : LedgerState) : Type 0 where
   pub deposits : after.deposits ≡ before.deposits
   pub rises : RisesBy n before.state after.state
 
-declared-keeps : (a : Acceptance) (l : LedgerState) (r : Resolved) (d : Option ProcDecl) → KeepsAccounts 1 l (after_declared a l r d)
+declared-keeps : (a : Acceptance) (l : LedgerState) (r : Resolved) (d : Option ProcDecl)
+    → KeepsAccounts 1 l (after_declared a l r d)
 declared-keeps a l r (Some d) =
     record { accounts = refl; deposits = refl; rises = record { objects = omega arith; names = omega arith } }
 declared-keeps a l r None =
     record { accounts = refl; deposits = refl; rises = record { objects = omega arith; names = omega arith } }
 
 -- what starts keep
-pub starts-keep : (a : Acceptance) (l : LedgerState) (starts : List Resolved) → KeepsAccounts (length starts) l (after_starts a l starts)
+pub starts-keep : (a : Acceptance) (l : LedgerState) (starts : List Resolved)
+    → KeepsAccounts (length starts) l (after_starts a l starts)
 starts-keep a l [] = record { accounts = refl; deposits = refl; rises = rises-none l.state l.state refl }
 starts-keep a l (r ∷ rs) =
     let next : LedgerState = after_start a l r in
@@ -186,16 +208,21 @@ starts-keep a l (r ∷ rs) =
       accounts = rest.accounts ∙ one.accounts;
       deposits = rest.deposits ∙ one.deposits;
       rises =
-          rises-more 1 (length rs) (length (r ∷ rs)) l.state next.state (after_starts a next rs).state one.rises rest.rises
+          rises-more 1 (length rs) (length (r ∷ rs)) l.state next.state (after_starts a next rs).state one.rises
+          rest.rises
           (omega arith);
     }
 
 -- what is resolved is the first start's, and then the others'
-others-parts : (r : Resolved) (others : BatchOutcome) (starts : List Resolved) → before_others r others ≡ Ok starts → (rest : List Resolved) × (others ≡ Ok rest) × (starts ≡ r ∷ rest)
+others-parts : (r : Resolved) (others : BatchOutcome) (starts : List Resolved) → before_others r others ≡ Ok starts
+    → (rest : List Resolved) × (others ≡ Ok rest) × (starts ≡ r ∷ rest)
 others-parts r (Ok rest) starts is = (rest, refl, cc)
 others-parts r (Err cause) starts is = absurd cc
 
-line-length : (a : Acceptance) (l : LedgerState) (line n : ℕ) (o : Outcome Resolved) (others : LedgerState → BatchOutcome) (starts : List Resolved) → ((next : LedgerState) (rest : List Resolved) → others next ≡ Ok rest → length rest ≡ n) → resolve_line a l line o others ≡ Ok starts → length starts ≡ n + 1
+line-length : (a : Acceptance) (l : LedgerState) (line n : ℕ) (o : Outcome Resolved)
+    (others : LedgerState → BatchOutcome) (starts : List Resolved)
+    → ((next : LedgerState) (rest : List Resolved) → others next ≡ Ok rest → length rest ≡ n)
+    → resolve_line a l line o others ≡ Ok starts → length starts ≡ n + 1
 line-length a l line n (Ok r) others starts each is =
     let parts = others-parts r (others (after_start a l r)) starts is in
     let rest_is : length parts.0 ≡ n = each (after_start a l r) parts.0 parts.1 in
@@ -204,16 +231,19 @@ line-length a l line n (Ok r) others starts each is =
 line-length a l line n (Err cause) others starts each is = absurd cc
 
 -- each start of a batch is resolved to one
-pub resolved-length : (a : Acceptance) (l : LedgerState) (given : List Start) (starts : List Resolved) → resolve_batch a l given ≡ Ok starts → length starts ≡ length given
+pub resolved-length : (a : Acceptance) (l : LedgerState) (given : List Start) (starts : List Resolved)
+    → resolve_batch a l given ≡ Ok starts → length starts ≡ length given
 resolved-length a l [] starts is = let none : starts ≡ [] = cc in ap (length {A = Resolved}) none
 resolved-length a l (start ∷ given) starts is =
     let all =
     line-length a l start.line (length given) (resolve a l start) (λ next. resolve_batch a next given) starts
-    (λ (next : LedgerState) (rest : List Resolved) (e : resolve_batch a next given ≡ Ok rest). resolved-length a next given rest e) is in
+    (λ (next : LedgerState) (rest : List Resolved) (e : resolve_batch a next given ≡ Ok rest).
+    resolved-length a next given rest e) is in
     omega (arith, all)
 
 -- a deposit opens one account at most
-deposit-accounts : (accounts : List (List ℕ)) (name : List ℕ) (account : Option ℕ) → length (accounts_with accounts name account) ≤ length accounts + 1
+deposit-accounts : (accounts : List (List ℕ)) (name : List ℕ) (account : Option ℕ)
+    → length (accounts_with accounts name account) ≤ length accounts + 1
 deposit-accounts accounts name (Some account) = omega arith
 deposit-accounts accounts name None = omega (arith, length-append accounts (name ∷ []))
 
@@ -223,7 +253,8 @@ deposit-rises s dths (Some account) = record { objects = omega arith; names = om
 deposit-rises s dths None = record { objects = omega arith; names = omega arith }
 
 -- A journal opens one account for each of its entries at most.
-pub leads-accounts : (a : Acceptance) (limit made : ℕ) (l last : LedgerState) (xs : List ScriptItem) (es : List Entry) → Leads a limit made l xs es last → length last.accounts ≤ length l.accounts + entry_count xs
+pub leads-accounts : (a : Acceptance) (limit made : ℕ) (l last : LedgerState) (xs : List ScriptItem) (es : List Entry)
+    → Leads a limit made l xs es last → length last.accounts ≤ length l.accounts + entry_count xs
 leads-accounts a limit _ _ _ _ _ (done made l) = omega arith
 leads-accounts a limit _ _ _ _ _ (deposit made l last line units name items entries fits rest) =
     let next : LedgerState = deposited a.annotations.unit l name units in
@@ -243,28 +274,35 @@ leads-accounts a limit _ _ _ _ _ (stays made l last batch starts pids s items en
     let others : length last.accounts ≤ length start.accounts + entry_count items =
     leads-accounts a limit (made + length pids) next last items entries rest in
     omega (arith, one, others)
-leads-accounts a limit _ _ _ _ _ (undone made l last batch starts pids s answer items entries resolved runs undoes rest) =
+leads-accounts a limit _ _ _ _ _
+    (undone made l last batch starts pids s answer items entries resolved runs undoes rest) =
     omega (arith, leads-accounts a limit (made + length pids) l last items entries rest)
 leads-accounts a limit _ _ _ _ _ (shown made l last line items entries rest) =
     leads-accounts a limit made l last items entries rest
 
 -- A journal raises each of the next numbers by one for each start and each firing at most.
-pub leads-rise : (a : Acceptance) (limit made : ℕ) (l last : LedgerState) (xs : List ScriptItem) (es : List Entry) → Leads a limit made l xs es last → RisesBy (start_count xs + firings_in es) l.state last.state
+pub leads-rise : (a : Acceptance) (limit made : ℕ) (l last : LedgerState) (xs : List ScriptItem) (es : List Entry)
+    → Leads a limit made l xs es last → RisesBy (start_count xs + firings_in es) l.state last.state
 leads-rise a limit _ _ _ _ _ (done made l) = record { objects = omega arith; names = omega arith }
 leads-rise a limit _ _ _ _ _ (deposit made l last line units name items entries fits rest) =
     let next : LedgerState = deposited a.annotations.unit l name units in
     let e : Entry = bare line end.Deposited in
     let one = deposit-rises l.state (units * a.annotations.unit) (account_of l.accounts name) in
-    rises-more 0 (start_count items + firings_in entries) (start_count items + firings_in (e ∷ entries)) l.state next.state last.state one
+    rises-more 0 (start_count items + firings_in entries) (start_count items + firings_in (e ∷ entries)) l.state
+    next.state last.state one
     (leads-rise a limit made next last items entries rest) (omega (arith, firings-cons e entries))
 leads-rise a limit _ _ _ _ _ (no_deposit made l last line units name items entries fits rest) =
     let e : Entry = bare line (end.Refused line refusal.TooMuchGas) in
-    rises-more 0 (start_count items + firings_in entries) (start_count items + firings_in (e ∷ entries)) l.state l.state last.state
-    (rises-none l.state l.state refl) (leads-rise a limit made l last items entries rest) (omega (arith, firings-cons e entries))
+    rises-more 0 (start_count items + firings_in entries) (start_count items + firings_in (e ∷ entries)) l.state l.state
+    last.state
+    (rises-none l.state l.state refl) (leads-rise a limit made l last items entries rest)
+    (omega (arith, firings-cons e entries))
 leads-rise a limit _ _ _ _ _ (refused made l last batch line cause items entries resolved rest) =
     let e : Entry = bare batch.line (end.Refused line cause) in
-    rises-more 0 (start_count items + firings_in entries) (length batch.starts + start_count items + firings_in (e ∷ entries)) l.state l.state last.state
-    (rises-none l.state l.state refl) (leads-rise a limit made l last items entries rest) (omega (arith, firings-cons e entries))
+    rises-more 0 (start_count items + firings_in entries)
+    (length batch.starts + start_count items + firings_in (e ∷ entries)) l.state l.state last.state
+    (rises-none l.state l.state refl) (leads-rise a limit made l last items entries rest)
+    (omega (arith, firings-cons e entries))
 leads-rise a limit _ _ _ _ _ (stays made l last batch starts pids s items entries resolved runs rest) =
     let start : LedgerState = after_starts a l starts in
     let next : LedgerState = record start { state = cleared s } in
@@ -273,7 +311,8 @@ leads-rise a limit _ _ _ _ _ (stays made l last batch starts pids s items entrie
     let keeps = starts-keep a l starts in
     let ran : RisesBy (length pids) start.state s = rises-run a start.state s pids runs.reached in
     let batch_rises : RisesBy (length starts + length pids) l.state s =
-    rises-more (length starts) (length pids) (length starts + length pids) l.state start.state s keeps.rises ran (omega arith) in
+    rises-more (length starts) (length pids) (length starts + length pids) l.state start.state s keeps.rises ran
+    (omega arith) in
     let here : RisesBy (length starts + length pids) l.state next.state =
     record { objects = batch_rises.objects; names = batch_rises.names } in
     rises-more (length starts + length pids) (start_count items + firings_in entries)
@@ -281,26 +320,45 @@ leads-rise a limit _ _ _ _ _ (stays made l last batch starts pids s items entrie
     (leads-rise a limit (made + length pids) next last items entries rest) (omega (arith, same, firings-cons e entries))
 leads-rise a limit _ _ _ _ _ (undone made l last batch starts pids s answer items entries resolved runs undoes rest) =
     let e : Entry = entry_of batch.line pids answer in
-    rises-more 0 (start_count items + firings_in entries) (length batch.starts + start_count items + firings_in (e ∷ entries)) l.state l.state last.state
+    rises-more 0 (start_count items + firings_in entries)
+    (length batch.starts + start_count items + firings_in (e ∷ entries)) l.state l.state last.state
     (rises-none l.state l.state refl) (leads-rise a limit (made + length pids) l last items entries rest)
     (omega (arith, firings-cons e entries))
 leads-rise a limit _ _ _ _ _ (shown made l last line items entries rest) =
     leads-rise a limit made l last items entries rest
 
 -- Where few firings were made before, few are made with those of a journal.
-pub leads-few : (a : Acceptance) (limit made : ℕ) (l last : LedgerState) (xs : List ScriptItem) (es : List Entry) → Leads a limit made l xs es last → made ≤ max_firings → made + firings_in es ≤ max_firings
+pub leads-few : (a : Acceptance) (limit made : ℕ) (l last : LedgerState) (xs : List ScriptItem) (es : List Entry)
+    → Leads a limit made l xs es last → made ≤ max_firings → made + firings_in es ≤ max_firings
 leads-few a limit _ _ _ _ _ (done made l) few = omega arith
 leads-few a limit _ _ _ _ _ (deposit made l last line units name items entries fits rest) few =
     omega (arith, firings-cons (bare line end.Deposited) entries, leads-few a limit made _ last items entries rest few)
 leads-few a limit _ _ _ _ _ (no_deposit made l last line units name items entries fits rest) few =
-    omega (arith, firings-cons (bare line (end.Refused line refusal.TooMuchGas)) entries, leads-few a limit made l last items entries rest few)
+    omega (
+      arith,
+      firings-cons (bare line (end.Refused line refusal.TooMuchGas)) entries,
+      leads-few a limit made l last items entries rest few,
+    )
 leads-few a limit _ _ _ _ _ (refused made l last batch line cause items entries resolved rest) few =
-    omega (arith, firings-cons (bare batch.line (end.Refused line cause)) entries, leads-few a limit made l last items entries rest few)
+    omega (
+      arith,
+      firings-cons (bare batch.line (end.Refused line cause)) entries,
+      leads-few a limit made l last items entries rest few,
+    )
 leads-few a limit _ _ _ _ _ (stays made l last batch starts pids s items entries resolved runs rest) few =
     let within : made + length pids ≤ max_firings = omega (arith, few, runs.within) in
-    omega (arith, firings-cons (entry_of batch.line pids end.Committed) entries, leads-few a limit (made + length pids) _ last items entries rest within)
-leads-few a limit _ _ _ _ _ (undone made l last batch starts pids s answer items entries resolved runs undoes rest) few =
+    omega (
+      arith,
+      firings-cons (entry_of batch.line pids end.Committed) entries,
+      leads-few a limit (made + length pids) _ last items entries rest within,
+    )
+leads-few a limit _ _ _ _ _ (undone made l last batch starts pids s answer items entries resolved runs undoes rest)
+    few =
     let within : made + length pids ≤ max_firings = omega (arith, few, runs.within) in
-    omega (arith, firings-cons (entry_of batch.line pids answer) entries, leads-few a limit (made + length pids) l last items entries rest within)
+    omega (
+      arith,
+      firings-cons (entry_of batch.line pids answer) entries,
+      leads-few a limit (made + length pids) l last items entries rest within,
+    )
 leads-few a limit _ _ _ _ _ (shown made l last line items entries rest) few =
     leads-few a limit made l last items entries rest few

@@ -27,7 +27,10 @@ use Rattle.nomos_top.specs.declared.running.Running.{Running}
 use Rattle.nomos_top.proofs.JournalLaws.{RisesBy, firings-cons, first-join, leads-accounts, leads-few, leads-rise, reached-is, report-join, start-is}
 
 -- The bounds of what a run has come to follow from its journal.
-come-of : (a : Acceptance) (limit : ℕ) (items : List ScriptItem) (r : Running) → Leads a limit 0 empty_ledger items r.entries.items r.ledger → AllFollowFirst a empty_ledger items r.entries.items → r.text.items ≡ report_lines a empty_ledger items r.entries.items → r.made ≡ firings_in r.entries.items → StandsFor a r.ledger → HasCome a limit items r
+come-of : (a : Acceptance) (limit : ℕ) (items : List ScriptItem) (r : Running)
+    → Leads a limit 0 empty_ledger items r.entries.items r.ledger → AllFollowFirst a empty_ledger items r.entries.items
+    → r.text.items ≡ report_lines a empty_ledger items r.entries.items → r.made ≡ firings_in r.entries.items
+    → StandsFor a r.ledger → HasCome a limit items r
 come-of a limit items r leads first told made stands =
     let accounts : length r.ledger.accounts ≤ length empty_ledger.accounts + entry_count items =
     leads-accounts a limit 0 empty_ledger r.ledger items r.entries.items leads in
@@ -47,29 +50,35 @@ come-of a limit items r leads first told made stands =
       names = omega (arith, rises.names, made);
     }
 
-leads-none : (a : Acceptance) (limit : ℕ) (l : LedgerState) (es : List Entry) → l ≡ empty_ledger → es ≡ [] → Leads a limit 0 empty_ledger [] es l
+leads-none : (a : Acceptance) (limit : ℕ) (l : LedgerState) (es : List Entry) → l ≡ empty_ledger → es ≡ []
+    → Leads a limit 0 empty_ledger [] es l
 leads-none a limit l es same none =
     let here : Leads a limit 0 empty_ledger [] [] l =
     subst (λ (m : LedgerState). Leads a limit 0 empty_ledger [] [] m) (sym same) (done 0 empty_ledger) in
     subst (λ (fs : List Entry). Leads a limit 0 empty_ledger [] fs l) (sym none) here
 
 -- before the first item
-pub come-none : (a : Acceptance) (limit : ℕ) (r : Running) → r.ledger ≡ empty_ledger → r.entries.items ≡ [] → r.text.items ≡ [] → r.made ≡ 0 → StandsFor a r.ledger → HasCome a limit [] r
+pub come-none : (a : Acceptance) (limit : ℕ) (r : Running) → r.ledger ≡ empty_ledger → r.entries.items ≡ []
+    → r.text.items ≡ [] → r.made ≡ 0 → StandsFor a r.ledger → HasCome a limit [] r
 come-none a limit r ledger entries text made stands =
     let all : firings_in r.entries.items ≡ 0 = ap firings_in entries in
-    come-of a limit [] r (leads-none a limit r.ledger r.entries.items ledger entries) tt text (omega (arith, made, all)) stands
+    come-of a limit [] r (leads-none a limit r.ledger r.entries.items ledger entries) tt text (omega (arith, made, all))
+    stands
 
 -- one item more
-pub come-more : (a : Acceptance) (limit : ℕ) (xs : List ScriptItem) (i : ScriptItem) (before after : Running) → HasCome a limit xs before → Adds a limit i before after → HasCome a limit (xs ++ i ∷ []) after
+pub come-more : (a : Acceptance) (limit : ℕ) (xs : List ScriptItem) (i : ScriptItem) (before after : Running)
+    → HasCome a limit xs before → Adds a limit i before after → HasCome a limit (xs ++ i ∷ []) after
 come-more a limit xs i before after come adds =
     let es : List Entry = before.entries.items in
     let fs : List Entry = adds.entries in
     let from : before.made ≡ 0 + firings_in es = omega (arith, come.made) in
     let leads : Leads a limit 0 empty_ledger (xs ++ i ∷ []) (es ++ fs) after.ledger =
-    leads-append come.leads (subst (λ (n : ℕ). Leads a limit n before.ledger (i ∷ []) fs after.ledger) from adds.leads) in
+    leads-append come.leads (subst (λ (n : ℕ). Leads a limit n before.ledger (i ∷ []) fs after.ledger) from
+    adds.leads) in
     let first : AllFollowFirst a empty_ledger (xs ++ i ∷ []) (es ++ fs) =
     first-join a limit 0 empty_ledger before.ledger xs (i ∷ []) es fs come.leads come.first adds.first in
-    let lines : report_lines a empty_ledger (xs ++ i ∷ []) (es ++ fs) ≡ report_lines a empty_ledger xs es ++ report_lines a before.ledger (i ∷ []) fs =
+    let lines : report_lines a empty_ledger (xs ++ i ∷ []) (es ++ fs)
+    ≡ report_lines a empty_ledger xs es ++ report_lines a before.ledger (i ∷ []) fs =
     report-join a limit 0 empty_ledger before.ledger xs (i ∷ []) es fs come.leads in
     let told : after.text.items ≡ report_lines a empty_ledger (xs ++ i ∷ []) (es ++ fs) =
     adds.told ∙ ap (λ (text : List ℕ). text ++ report_lines a before.ledger (i ∷ []) fs) come.told ∙ sym lines in
@@ -84,12 +93,14 @@ come-more a limit xs i before after come adds =
     adds.stands
 
 -- the counts of an item and of those after it
-entry-cons : (i : ScriptItem) (items : List ScriptItem) → entry_count (i ∷ items) ≡ entry_count (i ∷ []) + entry_count items
+entry-cons : (i : ScriptItem) (items : List ScriptItem)
+    → entry_count (i ∷ items) ≡ entry_count (i ∷ []) + entry_count items
 entry-cons (item.Deposit line name units) items = omega arith
 entry-cons (item.Batch batch) items = omega arith
 entry-cons (item.Show line) items = omega arith
 
-start-cons : (i : ScriptItem) (items : List ScriptItem) → start_count (i ∷ items) ≡ start_count (i ∷ []) + start_count items
+start-cons : (i : ScriptItem) (items : List ScriptItem)
+    → start_count (i ∷ items) ≡ start_count (i ∷ []) + start_count items
 start-cons (item.Deposit line name units) items = omega arith
 start-cons (item.Batch batch) items = omega arith
 start-cons (item.Show line) items = omega arith
@@ -102,7 +113,8 @@ entries-take (i ∷ items) (suc n) =
     omega (arith, entry-cons i items, entry-cons i (take n items), entries-take items n)
 
 -- the first items and the next one have no more starts than all
-pub starts-take : (items : List ScriptItem) (n : ℕ) (i : ScriptItem) → slice_get items n ≡ Some i → start_count (take n items) + start_count (i ∷ []) ≤ start_count items
+pub starts-take : (items : List ScriptItem) (n : ℕ) (i : ScriptItem) → slice_get items n ≡ Some i
+    → start_count (take n items) + start_count (i ∷ []) ≤ start_count items
 starts-take [] n i there = absurd cc
 starts-take (x ∷ items) zero i there =
     let same : x ≡ i = cc in
@@ -112,7 +124,9 @@ starts-take (x ∷ items) (suc n) i there =
     omega (arith, start-cons x items, start-cons x (take n items), starts-take items n i there)
 
 -- there is room for the next item of a script
-pub come-space : (a : Acceptance) (limit : ℕ) (items : List ScriptItem) (n : ℕ) (i : ScriptItem) (r : Running) → HasCome a limit (take n items) r → slice_get items n ≡ Some i → IsScriptSize items → HasSpace r (start_count (i ∷ []))
+pub come-space : (a : Acceptance) (limit : ℕ) (items : List ScriptItem) (n : ℕ) (i : ScriptItem) (r : Running)
+    → HasCome a limit (take n items) r → slice_get items n ≡ Some i → IsScriptSize items
+    → HasSpace r (start_count (i ∷ []))
 come-space a limit items n i r come there size =
     let entries = entries-take items n in
     let starts = starts-take items n i there in
@@ -124,7 +138,8 @@ come-space a limit items n i r come there size =
     }
 
 -- what a run has come to after the first items is what was done so far
-pub so_far-at : (a : Acceptance) (limit : ℕ) (items : List ScriptItem) (n : ℕ) (r : Running) (entries : List Entry) → HasCome a limit (take n items) r → entries ≡ r.entries.items → IsSoFar a limit items entries
+pub so_far-at : (a : Acceptance) (limit : ℕ) (items : List ScriptItem) (n : ℕ) (r : Running) (entries : List Entry)
+    → HasCome a limit (take n items) r → entries ≡ r.entries.items → IsSoFar a limit items entries
 so_far-at a limit items n r entries come same = record {
   count = n;
   last = r.ledger;
@@ -134,23 +149,30 @@ so_far-at a limit items n r entries come same = record {
 }
 
 -- What one entry of an item adds, with its lines.
-pub record Enters (a : Acceptance) (limit made : ℕ) (l : LedgerState) (i : ScriptItem) (e : Entry) (lines : List ℕ) (last : LedgerState) : Type 0 where
+pub record Enters (a : Acceptance) (limit made : ℕ) (l : LedgerState) (i : ScriptItem) (e : Entry) (lines : List ℕ)
+    (last : LedgerState) : Type 0 where
   pub leads : Leads a limit made l (i ∷ []) (e ∷ []) last
   pub first : AllFollowFirst a l (i ∷ []) (e ∷ [])
   pub told : report_lines a l (i ∷ []) (e ∷ []) ≡ lines
 
 -- the line of a deposit tells its answer alone
-deposit-told : (a : Acceptance) (l last : LedgerState) (line units : ℕ) (name : List ℕ) (answer : End) (one two : ℕ) (s t : State) → Deposits a l line name units answer last → end_lines a.annotations.unit line 0 one s answer ≡ end_lines a.annotations.unit line 0 two t answer
+deposit-told : (a : Acceptance) (l last : LedgerState) (line units : ℕ) (name : List ℕ) (answer : End) (one two : ℕ)
+    (s t : State) → Deposits a l line name units answer last
+    → end_lines a.annotations.unit line 0 one s answer ≡ end_lines a.annotations.unit line 0 two t answer
 deposit-told a l last line units name answer one two s t deposits =
     ⊎_elim
     (λ (fits : l.deposits + units < 2 ^ 64). rw (deposits.made fits).0 refl)
     (λ (over : 2 ^ 64 ≤ l.deposits + units).
-    let fits_not : ¬ FitsDeposits l units = λ (fits : l.deposits + units < 2 ^ 64). absurd (omega (arith, fits, over)) in
+    let fits_not : ¬ FitsDeposits l units = λ (fits : l.deposits + units < 2 ^ 64).
+    absurd (omega (arith, fits, over)) in
     rw (deposits.refused fits_not).0 refl)
     (cases_lt (l.deposits + units) (2 ^ 64))
 
 -- What a deposit adds.
-pub adds-deposit : (a : Acceptance) (limit made : ℕ) (l last : LedgerState) (line units : ℕ) (name : List ℕ) (answer : End) (spent : ℕ) (s : State) → Deposits a l line name units answer last → Enters a limit made l (item.Deposit line name units) (entry_of line [] answer) (end_lines a.annotations.unit line 0 spent s answer) last
+pub adds-deposit : (a : Acceptance) (limit made : ℕ) (l last : LedgerState) (line units : ℕ) (name : List ℕ)
+    (answer : End) (spent : ℕ) (s : State) → Deposits a l line name units answer last
+    → Enters a limit made l (item.Deposit line name units) (entry_of line [] answer)
+    (end_lines a.annotations.unit line 0 spent s answer) last
 adds-deposit a limit made l last line units name answer spent s deposits = record {
   leads = one-deposit a limit made l last line units name answer deposits;
   first = (tt, tt);
@@ -160,7 +182,10 @@ adds-deposit a limit made l last line units name answer spent s deposits = recor
 }
 
 -- What a batch adds of which a line is refused.
-pub adds-refused : (a : Acceptance) (limit made : ℕ) (l : LedgerState) (batch : Batch) (line : ℕ) (cause : Refusal) (spent : ℕ) (s : State) → resolve_batch a l batch.starts ≡ Err (line, cause) → Enters a limit made l (item.Batch batch) (entry_of batch.line [] (end.Refused line cause)) (end_lines a.annotations.unit batch.line 0 spent s (end.Refused line cause)) l
+pub adds-refused : (a : Acceptance) (limit made : ℕ) (l : LedgerState) (batch : Batch) (line : ℕ) (cause : Refusal)
+    (spent : ℕ) (s : State) → resolve_batch a l batch.starts ≡ Err (line, cause)
+    → Enters a limit made l (item.Batch batch) (entry_of batch.line [] (end.Refused line cause))
+    (end_lines a.annotations.unit batch.line 0 spent s (end.Refused line cause)) l
 adds-refused a limit made l batch line cause spent s resolved = record {
   leads = one-refused a limit made l batch line cause resolved;
   first = (no_firing (batch_start a l batch).state, tt);
@@ -168,7 +193,8 @@ adds-refused a limit made l batch line cause spent s resolved = record {
 }
 
 -- the ends that a state gives are allowed
-ends-allowed : (a : Acceptance) (s : State) (count limit : ℕ) (answer : End) → EndsAs a s count limit answer → IsAllowed a s count limit answer
+ends-allowed : (a : Acceptance) (s : State) (count limit : ℕ) (answer : End) → EndsAs a s count limit answer
+    → IsAllowed a s count limit answer
 ends-allowed a s count limit end.Deposited ends = ends
 ends-allowed a s count limit end.Committed ends = ends
 ends-allowed a s count limit end.Blocked ends = ends
@@ -187,12 +213,17 @@ pub record Closes (a : Acceptance) (limit made : ℕ) (b : Batch) (w : WorldStat
 pub pids-length : (firings : List Firing) → length (pids_of firings) ≡ length firings
 pids-length firings = length-map firings (λ (f : Firing). f.pid)
 
-world-first : (a : Acceptance) (limit made : ℕ) (b : Batch) (w : WorldState) (answer : End) → Closes a limit made b w answer → AllFollowFirst a w.origin (item.Batch b ∷ []) (entry_of b.line (pids_of w.firings) answer ∷ [])
+world-first : (a : Acceptance) (limit made : ℕ) (b : Batch) (w : WorldState) (answer : End)
+    → Closes a limit made b w answer
+    → AllFollowFirst a w.origin (item.Batch b ∷ []) (entry_of b.line (pids_of w.firings) answer ∷ [])
 world-first a limit made b w answer closes =
     let is : start_of a w ≡ batch_start a w.origin b = sym (start-is a w.origin b w.starts closes.resolved) in
     (subst (λ (l : LedgerState). IsFirst a l.state (pids_of w.firings)) is closes.first, tt)
 
-world-told : (a : Acceptance) (limit made : ℕ) (b : Batch) (w : WorldState) (answer : End) → Closes a limit made b w answer → report_lines a w.origin (item.Batch b ∷ []) (entry_of b.line (pids_of w.firings) answer ∷ []) ≡ end_lines a.annotations.unit b.line (length w.firings) (start_of a w).state.spent w.state answer
+world-told : (a : Acceptance) (limit made : ℕ) (b : Batch) (w : WorldState) (answer : End)
+    → Closes a limit made b w answer → report_lines a w.origin (item.Batch b ∷ [])
+    (entry_of b.line (pids_of w.firings) answer ∷ [])
+    ≡ end_lines a.annotations.unit b.line (length w.firings) (start_of a w).state.spent w.state answer
 world-told a limit made b w answer closes =
     let unit : ℕ = a.annotations.unit in
     let pids : List ℕ = pids_of w.firings in
@@ -207,7 +238,11 @@ world-told a limit made b w answer closes =
     ap (λ (n : ℕ). end_lines unit b.line n start.state.spent w.state answer) (pids-length w.firings)))
 
 -- What a batch adds that stays.
-pub adds-committed : (a : Acceptance) (limit made : ℕ) (b : Batch) (w : WorldState) → Closes a limit made b w end.Committed → Enters a limit made w.origin (item.Batch b) (entry_of b.line (pids_of w.firings) end.Committed) (end_lines a.annotations.unit b.line (length w.firings) (start_of a w).state.spent w.state end.Committed) (committed w)
+pub adds-committed : (a : Acceptance) (limit made : ℕ) (b : Batch) (w : WorldState)
+    → Closes a limit made b w end.Committed
+    → Enters a limit made w.origin (item.Batch b) (entry_of b.line (pids_of w.firings) end.Committed)
+    (end_lines a.annotations.unit b.line (length w.firings) (start_of a w).state.spent w.state end.Committed)
+    (committed w)
 adds-committed a limit made b w closes = record {
   leads = one-stays a limit made b w closes.resolved closes.stands closes.within closes.ends;
   first = world-first a limit made b w end.Committed closes;
@@ -215,7 +250,10 @@ adds-committed a limit made b w closes = record {
 }
 
 -- What a batch adds that is undone.
-pub adds-undone : (a : Acceptance) (limit made : ℕ) (b : Batch) (w : WorldState) (answer : End) → Closes a limit made b w answer → Undoes answer → Enters a limit made w.origin (item.Batch b) (entry_of b.line (pids_of w.firings) answer) (end_lines a.annotations.unit b.line (length w.firings) (start_of a w).state.spent w.state answer) w.origin
+pub adds-undone : (a : Acceptance) (limit made : ℕ) (b : Batch) (w : WorldState) (answer : End)
+    → Closes a limit made b w answer → Undoes answer
+    → Enters a limit made w.origin (item.Batch b) (entry_of b.line (pids_of w.firings) answer)
+    (end_lines a.annotations.unit b.line (length w.firings) (start_of a w).state.spent w.state answer) w.origin
 adds-undone a limit made b w answer closes undoes =
     let allowed = ends-allowed a w.state (length w.firings) (batch_limit limit made) answer closes.ends in
     record {
@@ -225,7 +263,10 @@ adds-undone a limit made b w answer closes undoes =
     }
 
 -- A run that keeps an entry with its lines adds its item.
-pub adds-from : (a : Acceptance) (limit : ℕ) (i : ScriptItem) (before after : Running) (e : Entry) (lines : List ℕ) → Enters a limit before.made before.ledger i e lines after.ledger → after.entries.items ≡ before.entries.items ++ e ∷ [] → after.text.items ≡ before.text.items ++ lines → after.made ≡ before.made + length e.firings → StandsFor a after.ledger → Adds a limit i before after
+pub adds-from : (a : Acceptance) (limit : ℕ) (i : ScriptItem) (before after : Running) (e : Entry) (lines : List ℕ)
+    → Enters a limit before.made before.ledger i e lines after.ledger
+    → after.entries.items ≡ before.entries.items ++ e ∷ [] → after.text.items ≡ before.text.items ++ lines
+    → after.made ≡ before.made + length e.firings → StandsFor a after.ledger → Adds a limit i before after
 adds-from a limit i before after e lines enters kept told made stands = record {
   entries = e ∷ [];
   leads = enters.leads;
@@ -242,7 +283,9 @@ on_ok-both (Ok x) P Q R f p q = f p q
 on_ok-both (Err e) P Q R f p q = tt
 
 -- a `show` adds neither entry nor line
-pub adds-shown : (a : Acceptance) (limit line : ℕ) (before after : Running) → after.ledger ≡ before.ledger → after.entries.items ≡ before.entries.items → after.text.items ≡ before.text.items → after.made ≡ before.made → StandsFor a after.ledger → Adds a limit (item.Show line) before after
+pub adds-shown : (a : Acceptance) (limit line : ℕ) (before after : Running) → after.ledger ≡ before.ledger
+    → after.entries.items ≡ before.entries.items → after.text.items ≡ before.text.items → after.made ≡ before.made
+    → StandsFor a after.ledger → Adds a limit (item.Show line) before after
 adds-shown a limit n before after ledger kept told made stands = record {
   entries = [];
   leads =

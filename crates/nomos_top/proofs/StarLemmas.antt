@@ -10,7 +10,8 @@ use Rattle.nomos_ir.specs.declared.lists.ProgramLists.{ProgramLists}
 use Rattle.nomos_top.specs.Block.{star_line, star_lines}
 
 -- the lines of two lists of amounts
-lines-append : (unit star : ℕ) (xs ys : List ℕ) → star_lines unit star (xs ++ ys) ≡ star_lines unit star xs ++ star_lines unit (star + length xs) ys
+lines-append : (unit star : ℕ) (xs ys : List ℕ)
+    → star_lines unit star (xs ++ ys) ≡ star_lines unit star xs ++ star_lines unit (star + length xs) ys
 lines-append unit star [] ys = let none : star + 0 ≡ star = omega arith in rw none refl
 lines-append unit star (x ∷ xs) ys =
     let one : List ℕ = star_line unit star x in
@@ -51,7 +52,8 @@ greatest-small : (amounts : List Amount) → All IsAmount amounts → greatest (
 greatest-small [] all = omega arith
 greatest-small (a ∷ amounts) all =
     let first : star_of a ≤ 64 = star-small a (all 0 a (omega arith)) in
-    let rest : greatest (map star_of amounts) ≤ 64 = greatest-small amounts (λ k d inside. all (suc k) d (omega arith)) in
+    let rest : greatest (map star_of amounts)
+    ≤ 64 = greatest-small amounts (λ k d inside. all (suc k) d (omega arith)) in
     omega arith
 
 -- a program has 64 stars at most

@@ -30,7 +30,8 @@ abbrev pub firing_of : ℕ → Firing
 firing_of pid = record { pass = 0; pid = pid }
 
 -- worlds with one origin and the same starts have one start
-pub same-start : (a : Acceptance) (v w : WorldState) → w.origin ≡ v.origin → w.starts ≡ v.starts → start_of a w ≡ start_of a v
+pub same-start : (a : Acceptance) (v w : WorldState) → w.origin ≡ v.origin → w.starts ≡ v.starts
+    → start_of a w ≡ start_of a v
 same-start a v w origin starts = rw (origin, starts) refl
 
 -- no firing yet
@@ -43,7 +44,8 @@ fires-none a w stands fresh = record {
 }
 
 -- one firing more
-pub fires-more : (a : Acceptance) (v w u : WorldState) (pid : ℕ) → Fires a v w → IsNextReady a w.state 0 pid → WorldStandsFor a u → FiresIn a w (firing_of pid) fire.Fired u → Fires a v u
+pub fires-more : (a : Acceptance) (v w u : WorldState) (pid : ℕ) → Fires a v w → IsNextReady a w.state 0 pid
+    → WorldStandsFor a u → FiresIn a w (firing_of pid) fire.Fired u → Fires a v u
 fires-more a v w u pid fires next stands fired =
     let start : State = (start_of a v).state in
     let is : u ≡ record w { firings = w.firings ++ firing_of pid ∷ []; state = u.state } = fired.1 in
@@ -52,8 +54,10 @@ fires-more a v w u pid fires next stands fired =
     let firings : u.firings ≡ w.firings ++ firing_of pid ∷ [] = ap (λ (x : WorldState). x.firings) is in
     let same : start_of a w ≡ start_of a v = same-start a v w fires.origin fires.starts in
     let reached : run a start (pids_of w.firings) ≡ Some w.state = rw same at fires.stands.reached in
-    let pushed : IsFirst a start (pids_of w.firings ++ pid ∷ []) = first-push a w.state u.state pid fires.first reached next fired.0 in
-    let pids : pids_of u.firings ≡ pids_of w.firings ++ pid ∷ [] = ap pids_of firings ∙ map-append (λ (f : Firing). f.pid) w.firings (firing_of pid ∷ []) in
+    let pushed : IsFirst a start (pids_of w.firings ++ pid ∷ []) = first-push a w.state u.state pid fires.first reached
+    next fired.0 in
+    let pids : pids_of u.firings ≡ pids_of w.firings ++ pid ∷ [] = ap pids_of firings
+    ∙ map-append (λ (f : Firing). f.pid) w.firings (firing_of pid ∷ []) in
     record {
       stands = stands;
       origin = origin ∙ fires.origin;
@@ -62,7 +66,8 @@ fires-more a v w u pid fires next stands fired =
     }
 
 -- how many firings there are after one more
-pub fired-length : (a : Acceptance) (w u : WorldState) (pid : ℕ) → FiresIn a w (firing_of pid) fire.Fired u → length u.firings ≡ length w.firings + 1
+pub fired-length : (a : Acceptance) (w u : WorldState) (pid : ℕ) → FiresIn a w (firing_of pid) fire.Fired u
+    → length u.firings ≡ length w.firings + 1
 fired-length a w u pid fired =
     let firings : u.firings ≡ w.firings ++ firing_of pid ∷ [] = ap (λ (x : WorldState). x.firings) fired.1 in
     ap length firings ∙ length-append w.firings (firing_of pid ∷ [])
@@ -72,13 +77,18 @@ pub none-quiet : (a : Acceptance) (w : WorldState) → WorldStandsFor a w → No
 none-quiet a w stands none = quiet-from_none_ready a w.state (world-closed a w stands).closed.sound none
 
 -- a world that has not fired is at its start
-pub fresh-start : (a : Acceptance) (w : WorldState) → WorldStandsFor a w → w.firings ≡ [] → w.state ≡ (start_of a w).state
+pub fresh-start : (a : Acceptance) (w : WorldState) → WorldStandsFor a w → w.firings ≡ []
+    → w.state ≡ (start_of a w).state
 fresh-start a w stands fresh =
     let at : Some (start_of a w).state ≡ Some w.state = rw fresh at stands.reached in
     sym (same_Some (start_of a w).state w.state at)
 
 -- what an end adds
-pub world-enters : (a : Acceptance) (limit made : ℕ) (b : Batch) (w : WorldState) (answer : End) → Closes a limit made b w answer → Enters a limit made w.origin (item.Batch b) (entry_of b.line (pids_of w.firings) answer) (end_lines a.annotations.unit b.line (length w.firings) (start_of a w).state.spent w.state answer) (if is_committed answer then committed w else w.origin)
+pub world-enters : (a : Acceptance) (limit made : ℕ) (b : Batch) (w : WorldState) (answer : End)
+    → Closes a limit made b w answer → Enters a limit made w.origin (item.Batch b)
+    (entry_of b.line (pids_of w.firings) answer)
+    (end_lines a.annotations.unit b.line (length w.firings) (start_of a w).state.spent w.state answer)
+    (if is_committed answer then committed w else w.origin)
 world-enters a limit made b w end.Committed closes = adds-committed a limit made b w closes
 world-enters a limit made b w end.Blocked closes = adds-undone a limit made b w end.Blocked closes tt
 world-enters a limit made b w (end.Steps n) closes = adds-undone a limit made b w (end.Steps n) closes tt
@@ -87,7 +97,9 @@ world-enters a limit made b w (end.Aborted pid f) closes = absurd closes.ends
 world-enters a limit made b w (end.Refused line cause) closes = absurd closes.ends
 
 -- the ledger that a batch leaves stands
-pub settled-stands : (a : Acceptance) (limit : ℕ) (w : WorldState) (answer : End) → WorldStandsFor a w → EndsAs a w.state (length w.firings) limit answer → StandsFor a (if is_committed answer then committed w else w.origin)
+pub settled-stands : (a : Acceptance) (limit : ℕ) (w : WorldState) (answer : End) → WorldStandsFor a w
+    → EndsAs a w.state (length w.firings) limit answer
+    → StandsFor a (if is_committed answer then committed w else w.origin)
 settled-stands a limit w end.Committed stands ends = commit-stands a w limit stands ends
 settled-stands a limit w end.Blocked stands ends = stands.origin
 settled-stands a limit w (end.Steps n) stands ends = stands.origin
@@ -96,10 +108,14 @@ settled-stands a limit w (end.Aborted pid f) stands ends = stands.origin
 settled-stands a limit w (end.Refused line cause) stands ends = stands.origin
 
 -- what a batch adds that started as the world v and came to w
-pub world-adds : (a : Acceptance) (limit : ℕ) (b : Batch) (before after : Running) (v w : WorldState) (answer : End) → before.ledger ≡ v.origin → WorldStandsFor a v → v.firings ≡ [] → resolve_batch a v.origin b.starts ≡ Ok v.starts → Fires a v w → length w.firings ≤ batch_limit limit before.made → EndsAs a w.state (length w.firings) (batch_limit limit before.made) answer
+pub world-adds : (a : Acceptance) (limit : ℕ) (b : Batch) (before after : Running) (v w : WorldState) (answer : End)
+    → before.ledger ≡ v.origin → WorldStandsFor a v → v.firings ≡ [] → resolve_batch a v.origin b.starts ≡ Ok v.starts
+    → Fires a v w → length w.firings ≤ batch_limit limit before.made
+    → EndsAs a w.state (length w.firings) (batch_limit limit before.made) answer
     → after.ledger ≡ (if is_committed answer then committed w else w.origin)
     → after.entries.items ≡ before.entries.items ++ entry_of b.line (pids_of w.firings) answer ∷ []
-    → after.text.items ≡ before.text.items ++ end_lines a.annotations.unit b.line (length w.firings) v.state.spent w.state answer
+    → after.text.items ≡ before.text.items
+    ++ end_lines a.annotations.unit b.line (length w.firings) v.state.spent w.state answer
     → after.made ≡ before.made + length w.firings
     → Adds a limit (item.Batch b) before after
 world-adds a limit b before after v w answer ledger stands fresh resolved fires within ends left entries text made =
@@ -112,7 +128,8 @@ world-adds a limit b before after v w answer ledger stands fresh resolved fires 
       within = within;
     } in
     let enters = world-enters a limit before.made b w answer closes in
-    let spent : v.state.spent ≡ (start_of a w).state.spent = ap (λ (s : State). s.spent) (fresh-start a v stands fresh) ∙ sym (ap (λ (l : LedgerState). l.state.spent) same) in
+    let spent : v.state.spent ≡ (start_of a w).state.spent = ap (λ (s : State). s.spent) (fresh-start a v stands fresh)
+    ∙ sym (ap (λ (l : LedgerState). l.state.spent) same) in
     let origin : before.ledger ≡ w.origin = ledger ∙ sym fires.origin in
     let counted : length (pids_of w.firings) ≡ length w.firings = pids-length w.firings in
     adds-from
@@ -130,5 +147,6 @@ world-adds a limit b before after v w answer ledger stands fresh resolved fires 
     (rw left (settled-stands a (batch_limit limit before.made) w answer fires.stands ends))
 
 -- the room of a run is that of a batch which begins
-pub space-world : (before : Running) (o : LedgerState) (n m : ℕ) → o ≡ before.ledger → n ≡ m → HasSpace before m → HasSpace (record before { ledger = o }) n
+pub space-world : (before : Running) (o : LedgerState) (n m : ℕ) → o ≡ before.ledger → n ≡ m → HasSpace before m
+    → HasSpace (record before { ledger = o }) n
 space-world before o n m origin count space = rw (origin, count) space

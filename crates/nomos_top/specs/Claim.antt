@@ -20,8 +20,8 @@ use Rattle.nomos_top.specs.Runnable.{is_runnable}
 use Rattle.nomos_types.specs.Acceptance.{Acceptance}
 use Rattle.nomos_types.specs.Amount.{Annotations}
 
--- A call: its words; the text that the source of the contract has left; what the output has got before the call and after
--- it, where it tells that; the status, and the accepted program, if one is given.
+-- A call: its words; the text that the source of the contract has left; what the output has got before the call and
+-- after it, where it tells that; the status, and the accepted program, if one is given.
 pub record Call : Type 0 where
   pub words : List (List ℕ)
   pub text : List ℕ
@@ -35,8 +35,8 @@ abbrev pub HasWritten : Call → List ℕ → Type 0
 HasWritten c bytes = c.after ≡ with_end c.before bytes
 
 -- What is accepted is typed. Where a program is given, the text reads as it, and it is typed under the amounts that are
--- given with it, over their unit. They are those that the pivot run finds; where least bounds are sought, they are those
--- that the least run finds, and under no others do the transactions declare less.
+-- given with it, over their unit. They are those that the pivot run finds; where least bounds are sought, they are
+-- those that the least run finds, and under no others do the transactions declare less.
 abbrev pub IsGivenFor : List (List ℕ) → List ℕ → Acceptance → Type 0
 IsGivenFor words text a =
     (AsksPivots words × IsAcceptedAs text a)
@@ -62,13 +62,14 @@ IsBounded c =
     (b : LeastBounds) × (c.accepted ≡ Some b.accepted) × IsLeastAs c.text b × HasWritten c (least_block b)
 
 -- What is typed is not refused. Where the text reads as a program that is typed under some amounts over some unit, and
--- the pivot run on its rows does not stop, nor the least run where least bounds are sought, the status is not 8; it is 1
--- only where a run is asked for of a program that `run` does not take; and that of a check, or of a search for least
+-- the pivot run on its rows does not stop, nor the least run where least bounds are sought, the status is not 8; it is
+-- 1 only where a run is asked for of a program that `run` does not take; and that of a check, or of a search for least
 -- bounds, is 0, unless reading, writing or memory fails (5, 6, 7).
 pub record IsAnswered (c : Call) (lists : ProgramLists) : Type 0 where
   pub solved : c.status ≢ 8
   pub not_refused : c.status ≡ 1 → IsRun c.words × (is_runnable lists ≡ false)
-  pub checked : IsCheck c.words ⊎ IsLeast c.words → (c.status ≡ 0) ⊎ ((c.status ≡ 5) ⊎ ((c.status ≡ 6) ⊎ (c.status ≡ 7)))
+  pub checked : IsCheck c.words ⊎ IsLeast c.words
+      → (c.status ≡ 0) ⊎ ((c.status ≡ 5) ⊎ ((c.status ≡ 6) ⊎ (c.status ≡ 7)))
 
 abbrev pub IsComplete : Call → Type 0
 IsComplete c =
@@ -77,8 +78,9 @@ IsComplete c =
     → (IsLeast c.words → (stop : Stop) → ¬ (EndsLeastWith lists (least.Unsolved stop)))
     → IsAnswered c lists
 
--- A refusal is true. Where the status is 1, the text is refused for a cause that is true of it, which is written, and it
--- is typed under no amounts over any unit; or it is accepted, and a run is asked for of a program that `run` does not take.
+-- A refusal is true. Where the status is 1, the text is refused for a cause that is true of it, which is written, and
+-- it is typed under no amounts over any unit; or it is accepted, and a run is asked for of a program that `run` does
+-- not take.
 abbrev pub IsRefusedTruly : Call → Type 0
 IsRefusedTruly c =
     c.status ≡ 1 →

@@ -129,15 +129,16 @@ abbrev pub input_of : Reading → List ℕ → Input
 input_of source text = record { text = text; counts = source.counts }
 
 -- it is due for the texts that the sources have left, or for some texts where they do not tell
-pub record IsDueFor (words : List (List ℕ)) (contract script : Reading) (status : ℕ) (bytes : List ℕ) (accepted : Option Acceptance) (journal : Journal) : Type 0 where
+pub record IsDueFor (words : List (List ℕ)) (contract script : Reading) (status : ℕ) (bytes : List ℕ)
+    (accepted : Option Acceptance) (journal : Journal) : Type 0 where
   pub text : List ℕ
   pub script_text : List ℕ
   pub told : IsTextOf contract.left text
   pub script_told : IsTextOf script.left script_text
   pub due : IsDue words (input_of contract text) (input_of script script_text) status bytes accepted journal
 
--- What is known where memory ran out: nothing is accepted; or a run was asked for and the contract accepted, and nothing
--- was run yet; or the journal is that of a run of the first items of the script.
+-- What is known where memory ran out: nothing is accepted; or a run was asked for and the contract accepted, and
+-- nothing was run yet; or the journal is that of a run of the first items of the script.
 pub data IsPart (words : List (List ℕ)) (contract script : Reading) : Option Acceptance → Journal → Type 0 where
   nothing : IsPart words contract script None no_journal
   accepted_part : (a : Acceptance) (text : List ℕ) → IsRun words → IsTextOf contract.left text → IsAcceptedAs text a
@@ -153,9 +154,11 @@ pub data IsWritten (status : ℕ) (bytes : List ℕ) (out : Counts) (before afte
   write_fault : HaveRisen out → AppendsSome bytes before after → IsWritten status bytes out before after 6
 
 -- How the call ends: what is due was written, or memory ran out and nothing was.
-pub data EndsFor (words : List (List ℕ)) (contract script : Reading) (out : Counts) (before after : Option (List ℕ)) : ℕ → Option Acceptance → Journal → Type 0 where
+pub data EndsFor (words : List (List ℕ)) (contract script : Reading) (out : Counts) (before after : Option (List ℕ)) : ℕ
+    → Option Acceptance → Journal → Type 0 where
   written : {ended : ℕ} {accepted : Option Acceptance} {journal : Journal} (status : ℕ) (bytes : List ℕ)
       → IsDueFor words contract script status bytes accepted journal → IsWritten status bytes out before after ended
       → EndsFor words contract script out before after ended accepted journal
-  no_memory : {accepted : Option Acceptance} {journal : Journal} → after ≡ before → IsPart words contract script accepted journal
+  no_memory : {accepted : Option Acceptance} {journal : Journal} → after ≡ before
+      → IsPart words contract script accepted journal
       → EndsFor words contract script out before after 7 accepted journal

@@ -14,8 +14,8 @@ use Rattle.nomos_ledger.specs.declared.journal.Entry.{Entry}
 use Rattle.nomos_top.specs.Report.{report_lines, AllFollowFirst}
 use Rattle.nomos_top.specs.declared.running.Running.{Running}
 
--- What an item adds to a run whose batches may make so many firings each: entries that are legal, by the policy, and the
--- lines of these entries.
+-- What an item adds to a run whose batches may make so many firings each: entries that are legal, by the policy, and
+-- the lines of these entries.
 pub record Adds (a : Acceptance) (limit : ℕ) (i : ScriptItem) (before after : Running) : Type 0 where
   pub entries : List Entry
   pub leads : Leads a limit before.made before.ledger (i ∷ []) entries after.ledger

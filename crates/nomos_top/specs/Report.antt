@@ -105,7 +105,8 @@ after_item a l (item.Show n) e = l
 
 -- the lines of an item, by its entry
 abbrev pub item_lines : Acceptance → LedgerState → ScriptItem → Entry → List ℕ
-item_lines a l (item.Deposit n name units) e = end_lines a.annotations.unit e.line (length e.firings) l.state.spent l.state e.end
+item_lines a l (item.Deposit n name units) e =
+    end_lines a.annotations.unit e.line (length e.firings) l.state.spent l.state e.end
 item_lines a l (item.Batch batch) e =
     let s = (batch_start a l batch).state in
     end_lines a.annotations.unit e.line (length e.firings) s.spent (reached a s e.firings) e.end
@@ -131,7 +132,8 @@ abbrev pub AllFollowFirst : Acceptance → LedgerState → List ScriptItem → L
 AllFollowFirst a l [] entries = Unit {0}
 AllFollowFirst a l (item.Show n ∷ items) entries = AllFollowFirst a l items entries
 AllFollowFirst a l (i ∷ items) [] = Unit {0}
-AllFollowFirst a l (i ∷ items) (e ∷ entries) = FollowsFirst a l i e × AllFollowFirst a (after_item a l i e) items entries
+AllFollowFirst a l (i ∷ items) (e ∷ entries) =
+    FollowsFirst a l i e × AllFollowFirst a (after_item a l i e) items entries
 
 -- the ends of what was carried out: a deposit, and a batch that stays
 abbrev pub is_well : End → Bool

@@ -56,7 +56,9 @@ fn push_no_gas(
     has: u128,
     needs: u128,
 ) -> Result<(), AllocError>
-    ensures { OnOk result (text.new.items ≡ text.old.items ++ (codes "NoGas " ++ name.now ++ codes " has " ++ gas_text has unit ++ codes " needs " ++ gas_text needs unit)) }
+    ensures { OnOk result (text.new.items
+        ≡ text.old.items ++ (codes "NoGas " ++ name.now ++ codes " has " ++ gas_text has unit ++ codes " needs "
+        ++ gas_text needs unit)) }
 {
     push_named(text, b"NoGas ", name)?;
     text.extend_from_slice(b" has ")?;
@@ -159,7 +161,9 @@ fn push_spent(text: &mut Vec<u8>, unit: u32, spent: u128) -> Result<(), AllocErr
 
 // Appends the firings of a batch that stays and what they spent, to the end of the line.
 fn push_course(text: &mut Vec<u8>, unit: u32, count: u64, spent: u128) -> Result<(), AllocError>
-    ensures { OnOk result (text.new.items ≡ text.old.items ++ line (codes "committed firings " ++ decimal count ++ codes " spent " ++ gas_text spent unit)) }
+    ensures { OnOk result (text.new.items
+        ≡ text.old.items ++ line (codes "committed firings " ++ decimal count ++ codes " spent "
+        ++ gas_text spent unit)) }
 {
     push_counted(text, b"committed firings ", count)?;
     push_spent(text, unit, spent)?;
@@ -174,7 +178,9 @@ fn push_committed(
     count: u64,
     spent: u128,
 ) -> Result<(), AllocError>
-    ensures { OnOk result (text.new.items ≡ text.old.items ++ line_of line (codes "committed firings " ++ decimal count ++ codes " spent " ++ gas_text spent unit)) }
+    ensures { OnOk result (text.new.items
+        ≡ text.old.items ++ line_of line
+        (codes "committed firings " ++ decimal count ++ codes " spent " ++ gas_text spent unit)) }
 {
     push_line(text, line)?;
     push_course(text, unit, count, spent)?;
@@ -188,7 +194,9 @@ fn push_blocked(
     count: u64,
     objects: &[Object],
 ) -> Result<(), AllocError>
-    ensures { OnOk result (text.new.items ≡ text.old.items ++ (line_of line (codes "blocked firings " ++ decimal count) ++ flat_map left_lines objects.now)) }
+    ensures { OnOk result (text.new.items
+        ≡ text.old.items ++ (line_of line (codes "blocked firings " ++ decimal count)
+        ++ flat_map left_lines objects.now)) }
 {
     push_line(text, line)?;
     text.extend_from_slice(b"blocked firings ")?;
@@ -205,7 +213,9 @@ fn push_aborted(
     fault: Fault,
     count: u64,
 ) -> Result<(), AllocError>
-    ensures { OnOk result (text.new.items ≡ text.old.items ++ line_of line (codes "aborted " ++ decimal pid ++ codes " " ++ fault_text fault ++ codes " firings " ++ decimal count)) }
+    ensures { OnOk result (text.new.items
+        ≡ text.old.items ++ line_of line
+        (codes "aborted " ++ decimal pid ++ codes " " ++ fault_text fault ++ codes " firings " ++ decimal count)) }
 {
     push_line(text, line)?;
     push_counted(text, b"aborted ", u64::from(pid))?;
@@ -234,7 +244,9 @@ fn push_refused(
     at: u32,
     cause: &Refusal,
 ) -> Result<(), AllocError>
-    ensures { OnOk result (text.new.items ≡ text.old.items ++ line_of line (codes "refused at " ++ decimal at ++ codes " " ++ cause_text unit cause.now)) }
+    ensures { OnOk result (text.new.items
+        ≡ text.old.items ++ line_of line
+        (codes "refused at " ++ decimal at ++ codes " " ++ cause_text unit cause.now)) }
 {
     push_line(text, line)?;
     text.extend_from_slice(b"refused at ")?;
@@ -262,7 +274,9 @@ pub(crate) fn push_end(
     course: &Course,
     end: &End,
 ) -> Result<(), AllocError>
-    ensures { OnOk result (text.new.items ≡ text.old.items ++ end_lines unit course.now.line course.now.count course.now.spent_before course.now.last.now end.now) }
+    ensures { OnOk result (text.new.items
+        ≡ text.old.items ++ end_lines unit course.now.line course.now.count course.now.spent_before course.now.last.now
+        end.now) }
 {
     let Course {
         line,

@@ -125,7 +125,9 @@ impl Running {
         end: End,
     ) -> Result<(), AllocError>
         ensures entries { OnOk result (self.new.entries.items ≡ self.old.entries.items ++ entry_of line [] end ∷ []) }
-        ensures text { OnOk result (self.new.text.items ≡ self.old.text.items ++ end_lines accepted.now.annotations.unit line 0 self.old.ledger.state.spent self.old.ledger.state end) }
+        ensures text { OnOk result (self.new.text.items
+            ≡ self.old.text.items ++ end_lines accepted.now.annotations.unit line 0 self.old.ledger.state.spent
+            self.old.ledger.state end) }
         ensures kept { (self.new.ledger ≡ self.old.ledger) × (self.new.made ≡ self.old.made) }
         ensures err { OnErr result (self.new.entries.items ≡ self.old.entries.items) }
     {
@@ -156,8 +158,11 @@ impl Running {
         firings: &Firings,
         end: End,
     ) -> Result<(), AllocError>
-        ensures entries { OnOk result (self.new.entries.items ≡ self.old.entries.items ++ entry_of course.now.line (pids_of firings.now) end ∷ []) }
-        ensures text { OnOk result (self.new.text.items ≡ self.old.text.items ++ end_lines unit course.now.line course.now.count course.now.spent_before course.now.last.now end) }
+        ensures entries { OnOk result (self.new.entries.items
+            ≡ self.old.entries.items ++ entry_of course.now.line (pids_of firings.now) end ∷ []) }
+        ensures text { OnOk result (self.new.text.items
+            ≡ self.old.text.items ++ end_lines unit course.now.line course.now.count course.now.spent_before
+            course.now.last.now end) }
         ensures kept { (self.new.ledger ≡ self.old.ledger) × (self.new.made ≡ self.old.made) }
         ensures err { OnErr result (self.new.entries.items ≡ self.old.entries.items) }
     {
@@ -183,7 +188,8 @@ impl Running {
     ) -> Result<(), AllocError>
         requires stands { StandsFor accepted.now self.old.ledger }
         requires space { HasSpace self.old 0 }
-        ensures ok { (limit : ℕ) → OnOk result (Adds accepted.now limit (ScriptItem.Deposit line name.now units) self.old self.new) }
+        ensures ok { (limit : ℕ) → OnOk result
+            (Adds accepted.now limit (ScriptItem.Deposit line name.now units) self.old self.new) }
         ensures err { OnErr result (self.new.entries.items ≡ self.old.entries.items) }
     {
         let end = self.ledger.deposit(accepted, line, name, units)?;
@@ -202,7 +208,9 @@ impl Running {
         requires stands { WorldStandsFor accepted.now world }
         requires fresh { world.firings ≡ [] }
         requires space { HasSpace (record self.old { ledger = world.origin }) (length world.starts) }
-        ensures ok { (b : Batch) → b.line ≡ line → resolve_batch accepted.now world.origin b.starts ≡ Ok world.starts → OnOk result (Adds accepted.now limit (ScriptItem.Batch b) (record self.old { ledger = world.origin }) self.new) }
+        ensures ok { (b : Batch) → b.line ≡ line → resolve_batch accepted.now world.origin b.starts ≡ Ok world.starts
+            → OnOk result (Adds accepted.now limit (ScriptItem.Batch b) (record self.old { ledger = world.origin })
+            self.new) }
         ensures err { OnErr result (self.new.entries.items ≡ self.old.entries.items) }
     {
         let most = batch_limit(limit, self.made);
@@ -293,7 +301,9 @@ fn keep(
     end: End,
 ) -> Result<(), AllocError>
     ensures entries { OnOk result (entries.new.items ≡ entries.old.items ++ entry_of course.now.line firings end ∷ []) }
-    ensures text { OnOk result (text.new.items ≡ text.old.items ++ end_lines unit course.now.line course.now.count course.now.spent_before course.now.last.now end) }
+    ensures text { OnOk result (text.new.items
+        ≡ text.old.items ++ end_lines unit course.now.line course.now.count course.now.spent_before course.now.last.now
+        end) }
     ensures err { OnErr result (entries.new.items ≡ entries.old.items) }
 {
     push_end(text, unit, course, &end)?;
@@ -305,8 +315,8 @@ fn keep(
     Ok(())
 }
 
-/// Runs the items of a script from the empty ledger, where one batch may make so many firings. Where memory runs out, the
-/// entries that were kept before.
+/// Runs the items of a script from the empty ledger, where one batch may make so many firings. Where memory runs out,
+/// the entries that were kept before.
 pub(crate) fn run_items(
     alloc: Global,
     accepted: &Accepted,

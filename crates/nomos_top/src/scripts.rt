@@ -81,7 +81,8 @@ pub(crate) fn script_due<S: Source>(
 
 // The line of a script's refusal at a line, with status 2.
 fn refused_due(alloc: Global, accepted: Accepted, cause: &[u8], line: u32) -> Result<Due, Part>
-    ensures ok { IfOk result (λ due. IsDueAs due 2 (cause.now ++ decimal line ++ codes "\n") (Some accepted) no_journal) }
+    ensures ok { IfOk result (λ due.
+        IsDueAs due 2 (cause.now ++ decimal line ++ codes "\n") (Some accepted) no_journal) }
     ensures err { IfErr result (λ part. IsPartAs part (Some accepted) no_journal) }
 {
     match numbered(alloc, cause, line) {

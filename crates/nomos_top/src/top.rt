@@ -53,9 +53,16 @@ pub fn nomos<S: Source, K: Sink>(
     out: &mut K,
 ) -> Ended
     ensures ends { EndsFor (map string_bytes words.now)
-        (record { left = S.left contract.old; counts = record { before = S.faults contract.old; after = S.faults contract.new } })
-        (record { left = S.left script.old; counts = record { before = S.faults script.old; after = S.faults script.new } })
-        (record { before = K.faults out.old; after = K.faults out.new }) (K.written out.old) (K.written out.new) result.status result.accepted result.journal }
+        (record {
+          left = S.left contract.old;
+          counts = record { before = S.faults contract.old; after = S.faults contract.new };
+        })
+        (record {
+          left = S.left script.old;
+          counts = record { before = S.faults script.old; after = S.faults script.new };
+        })
+        (record { before = K.faults out.old; after = K.faults out.new }) (K.written out.old) (K.written out.new)
+        result.status result.accepted result.journal }
     ensures claim { Claims (map string_bytes words.now) (S.left contract.old) (K.written out.old) (K.written out.new)
         result.status result.accepted }
 {
@@ -71,7 +78,8 @@ pub fn nomos<S: Source, K: Sink>(
 
 // Writes what is due.
 fn write_due<K: Sink>(due: Due, out: &mut K) -> Ended
-    ensures written { IsWritten due.status due.text.items (record { before = K.faults out.old; after = K.faults out.new })
+    ensures written { IsWritten due.status due.text.items
+        (record { before = K.faults out.old; after = K.faults out.new })
         (K.written out.old) (K.written out.new) result.status }
     ensures accepted { result.accepted ≡ due.accepted }
     ensures journal { result.journal ≡ due.journal }
@@ -104,12 +112,24 @@ fn job_due<S: Source>(
     script: &mut S,
 ) -> Result<Due, Part>
     ensures ok { IfOk result (λ due. IsDueFor (map string_bytes words.now)
-        (record { left = S.left contract.old; counts = record { before = S.faults contract.old; after = S.faults contract.new } })
-        (record { left = S.left script.old; counts = record { before = S.faults script.old; after = S.faults script.new } })
+        (record {
+          left = S.left contract.old;
+          counts = record { before = S.faults contract.old; after = S.faults contract.new };
+        })
+        (record {
+          left = S.left script.old;
+          counts = record { before = S.faults script.old; after = S.faults script.new };
+        })
         due.status due.text.items due.accepted due.journal) }
     ensures err { IfErr result (λ part. IsPart (map string_bytes words.now)
-        (record { left = S.left contract.old; counts = record { before = S.faults contract.old; after = S.faults contract.new } })
-        (record { left = S.left script.old; counts = record { before = S.faults script.old; after = S.faults script.new } })
+        (record {
+          left = S.left contract.old;
+          counts = record { before = S.faults contract.old; after = S.faults contract.new };
+        })
+        (record {
+          left = S.left script.old;
+          counts = record { before = S.faults script.old; after = S.faults script.new };
+        })
         part.accepted part.journal) }
 {
     match job::words(words) {
@@ -126,12 +146,24 @@ fn work_due<S: Source>(
     script: &mut S,
 ) -> Result<Due, Part>
     ensures ok { (words : List (List ℕ)) → Some (task job.entry) ≡ task_of words → IfOk result (λ due. IsDueFor words
-        (record { left = S.left contract.old; counts = record { before = S.faults contract.old; after = S.faults contract.new } })
-        (record { left = S.left script.old; counts = record { before = S.faults script.old; after = S.faults script.new } })
+        (record {
+          left = S.left contract.old;
+          counts = record { before = S.faults contract.old; after = S.faults contract.new };
+        })
+        (record {
+          left = S.left script.old;
+          counts = record { before = S.faults script.old; after = S.faults script.new };
+        })
         due.status due.text.items due.accepted due.journal) }
     ensures err { (words : List (List ℕ)) → Some (task job.entry) ≡ task_of words → IfErr result (λ part. IsPart words
-        (record { left = S.left contract.old; counts = record { before = S.faults contract.old; after = S.faults contract.new } })
-        (record { left = S.left script.old; counts = record { before = S.faults script.old; after = S.faults script.new } })
+        (record {
+          left = S.left contract.old;
+          counts = record { before = S.faults contract.old; after = S.faults contract.new };
+        })
+        (record {
+          left = S.left script.old;
+          counts = record { before = S.faults script.old; after = S.faults script.new };
+        })
         part.accepted part.journal) }
 {
     match job {
@@ -178,12 +210,24 @@ fn least_due<S: Source>(alloc: Global, contract: &mut S) -> Result<Due, Part>
 // What is due for a run.
 fn run_due<S: Source>(alloc: Global, contract: &mut S, script: &mut S) -> Result<Due, Part>
     ensures ok { (words : List (List ℕ)) → IsRun words → IfOk result (λ due. IsDueFor words
-        (record { left = S.left contract.old; counts = record { before = S.faults contract.old; after = S.faults contract.new } })
-        (record { left = S.left script.old; counts = record { before = S.faults script.old; after = S.faults script.new } })
+        (record {
+          left = S.left contract.old;
+          counts = record { before = S.faults contract.old; after = S.faults contract.new };
+        })
+        (record {
+          left = S.left script.old;
+          counts = record { before = S.faults script.old; after = S.faults script.new };
+        })
         due.status due.text.items due.accepted due.journal) }
     ensures err { (words : List (List ℕ)) → IsRun words → IfErr result (λ part. IsPart words
-        (record { left = S.left contract.old; counts = record { before = S.faults contract.old; after = S.faults contract.new } })
-        (record { left = S.left script.old; counts = record { before = S.faults script.old; after = S.faults script.new } })
+        (record {
+          left = S.left contract.old;
+          counts = record { before = S.faults contract.old; after = S.faults contract.new };
+        })
+        (record {
+          left = S.left script.old;
+          counts = record { before = S.faults script.old; after = S.faults script.new };
+        })
         part.accepted part.journal) }
 {
     match judge(alloc, contract) {

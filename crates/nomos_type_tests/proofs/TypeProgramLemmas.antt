@@ -16,20 +16,26 @@ use Rattle.nomos_ir.specs.TypeParts.{type_parts, type_amounts}
 use Rattle.nomos_type_tests.specs.Fitting.{NodeFits, NodesFit, StandOnce, BodiesFit, HasBodies, NamesFit, TypesFit}
 
 -- what holds of the elements of each piece holds of all
-all-flat : {X A : Type 0} (P : A → Type 0) (f : X → List A) (xs : List X) → All (λ x. All P (f x)) xs → All P (flat_map f xs)
+all-flat : {X A : Type 0} (P : A → Type 0) (f : X → List A) (xs : List X) → All (λ x. All P (f x)) xs
+    → All P (flat_map f xs)
 all-flat P f [] each = All-nil P
 all-flat P f (x ∷ xs) each =
-    rw (flat_map-cons f x xs) (All-append P (f x) (flat_map f xs) (each 0 x (omega arith)) (all-flat P f xs (λ k d inside. each (suc k) d (omega arith))))
+    rw (flat_map-cons f x xs) (All-append P (f x) (flat_map f xs) (each 0 x (omega arith))
+    (all-flat P f xs (λ k d inside. each (suc k) d (omega arith))))
 
 -- the parts of what is asked of bodies
-pub bodies_fit : (defs : List Def) (types : List TypeAt) (places : List ℕ) (limit : ℕ) → places ≡ map (λ d. d.body.0) defs ++ flat_map (λ t. type_parts t.node) types → limit ≡ length types → StandOnce places limit → HasBodies defs (length types) → BodiesFit defs types
+pub bodies_fit : (defs : List Def) (types : List TypeAt) (places : List ℕ) (limit : ℕ)
+    → places ≡ map (λ d. d.body.0) defs ++ flat_map (λ t. type_parts t.node) types → limit ≡ length types
+    → StandOnce places limit → HasBodies defs (length types) → BodiesFit defs types
 bodies_fit defs types places limit are is once bodies =
     let S : List ℕ → Type 0 = λ ps. StandOnce ps (length types) in
     let T : ℕ → Type 0 = λ n. StandOnce places n in
     record { bodies = bodies; once = subst S are (subst T is once) }
 
 -- the parts of all that is asked
-pub types_fit : (lists : ProgramLists) (defs : List Def) (types : List TypeAt) (labels : List (List ℕ)) → defs ≡ lists.defs → types ≡ lists.types → labels ≡ lists.labels → BodiesFit defs types → NodesFit lists → NamesFit defs labels → TypesFit lists
+pub types_fit : (lists : ProgramLists) (defs : List Def) (types : List TypeAt) (labels : List (List ℕ))
+    → defs ≡ lists.defs → types ≡ lists.types → labels ≡ lists.labels → BodiesFit defs types → NodesFit lists
+    → NamesFit defs labels → TypesFit lists
 types_fit lists defs types labels same_defs same_types same_labels bodies nodes names =
     let B : List TypeAt → Type 0 = λ ts. BodiesFit lists.defs ts in
     let D : List Def → Type 0 = λ ds. BodiesFit ds types in
@@ -43,24 +49,29 @@ types_fit lists defs types labels same_defs same_types same_labels bodies nodes 
 
 -- these definitions, types and labels, and nothing else
 abbrev pub types_alone : List Def → List TypeAt → List (List ℕ) → ProgramLists
-types_alone defs types labels = record { defs = defs; types = types; terms = []; code = []; fns = []; procs = []; labels = labels }
+types_alone defs types labels =
+    record { defs = defs; types = types; terms = []; code = []; fns = []; procs = []; labels = labels }
 
 -- nodes stand in definitions and types alone
-places-alone : (defs : List Def) (types : List TypeAt) (labels : List (List ℕ)) → type_places (types_alone defs types labels) ≡ map (λ d. d.body.0) defs ++ flat_map (λ t. type_parts t.node) types
+places-alone : (defs : List Def) (types : List TypeAt) (labels : List (List ℕ))
+    → type_places (types_alone defs types labels) ≡ map (λ d. d.body.0) defs ++ flat_map (λ t. type_parts t.node) types
 places-alone defs types labels = simp append-nil refl
 
 -- amounts stand in types alone
-amounts-alone : (defs : List Def) (types : List TypeAt) (labels : List (List ℕ)) → amounts_of (types_alone defs types labels) ≡ flat_map (λ t. type_amounts t.node) types
+amounts-alone : (defs : List Def) (types : List TypeAt) (labels : List (List ℕ))
+    → amounts_of (types_alone defs types labels) ≡ flat_map (λ t. type_amounts t.node) types
 amounts-alone defs types labels = simp append-nil refl
 
 -- the node that stands at a place
-node-at : (lists : ProgramLists) (t : ℕ) (at : TypeAt) → slice_get lists.types t ≡ Some at → NodesFit lists → NodeFits lists t at.node
+node-at : (lists : ProgramLists) (t : ℕ) (at : TypeAt) → slice_get lists.types t ≡ Some at → NodesFit lists
+    → NodeFits lists t at.node
 node-at lists t at found fit =
     let P : TypeAt → Type 0 = λ a. NodeFits lists t a.node in
     subst P (get_or_from_slice_get lists.types t at at found) (fit t at (slice_get_within lists.types t at found))
 
 -- what is looked at holds of a program's lists alone
-pub types_alone-is_program : (defs : List Def) (types : List TypeAt) (labels : List (List ℕ)) → TypesFit (types_alone defs types labels) → IsProgram (types_alone defs types labels)
+pub types_alone-is_program : (defs : List Def) (types : List TypeAt) (labels : List (List ℕ))
+    → TypesFit (types_alone defs types labels) → IsProgram (types_alone defs types labels)
 types_alone-is_program defs types labels fit =
     record {
       ids =
@@ -69,7 +80,11 @@ types_alone-is_program defs types labels fit =
             types =
                 λ k d inside.
                 let node = fit.nodes k d inside in
-                record { parts = λ i e within. let below = node.parts i e within in omega arith; names = node.names; labels = node.labels };
+                record {
+                  parts = λ i e within. let below = node.parts i e within in omega arith;
+                  names = node.names;
+                  labels = node.labels;
+                };
             terms = All-nil _;
             code = All-nil _;
             fns = All-nil _;

@@ -24,7 +24,8 @@ pub record NodeFits (lists : ProgramLists) (place : ℕ) (node : TypeNode) : Typ
 
 -- the same of each node
 abbrev pub NodesFit : ProgramLists → Type 0
-NodesFit lists = (place : ℕ) (d : TypeAt) → place < length lists.types → NodeFits lists place (get_or lists.types place d).node
+NodesFit lists =
+    (place : ℕ) (d : TypeAt) → place < length lists.types → NodeFits lists place (get_or lists.types place d).node
 
 -- each number below the limit occurs once
 abbrev pub StandOnce : List ℕ → ℕ → Type 0

@@ -1,4 +1,5 @@
--- The typing rules where channels, values and lists are passed on: small judgements to which they apply, and near misses.
+-- The typing rules where channels, values and lists are passed on: small judgements to which they apply, and near
+-- misses.
 use Rattle.std.proofs.Common.{◌≡◌, ℕ, List, [], ◌∷◌, Some, None, slice_get, subst, ap, refl, lit≤, lit<, arith}
 use Rattle.nomos_ir.specs.declared.code_node.Args.{Args}
 use Rattle.nomos_ir.specs.declared.code_node.ValueArg.{ValueArg}
@@ -25,13 +26,17 @@ use Rattle.nomos_types.proofs.RowLaws.{row-inverted}
 -- ---- what passing says
 
 -- the declaration is the one that stands there
-declared-fit : {j : Judgement} {args : Args} {left : Judgement} (f : ℕ) (d e : ProcDecl) → slice_get tried.procs f ≡ Some d → slice_get tried.procs f ≡ Some e → ArgumentsFit tried units j d args left → ArgumentsFit tried units j e args left
+declared-fit : {j : Judgement} {args : Args} {left : Judgement} (f : ℕ) (d e : ProcDecl)
+    → slice_get tried.procs f ≡ Some d → slice_get tried.procs f ≡ Some e → ArgumentsFit tried units j d args left
+    → ArgumentsFit tried units j e args left
 declared-fit {j} {args} {left} f d e d_there e_there fit =
     let same : d ≡ e = cc in
     subst (λ (p : ProcDecl). ArgumentsFit tried units j p args left) same fit
 
 -- where no values pass, channels pass from the start
-channels-alone : {j k left : Judgement} {vs : List VarId} {pars : List (VarId × TypeId)} → PassesValues tried units j [] [] k → PassesChannels tried units k vs pars left → PassesChannels tried units j vs pars left
+channels-alone : {j k left : Judgement} {vs : List VarId} {pars : List (VarId × TypeId)}
+    → PassesValues tried units j [] [] k → PassesChannels tried units k vs pars left
+    → PassesChannels tried units j vs pars left
 channels-alone passes.none channels = channels
 
 -- no channels leave everything
@@ -39,19 +44,26 @@ no-more_channels : {j k : Judgement} → PassesChannels tried units j [] [] k �
 no-more_channels passes.none = refl
 
 -- the first passes, and then the others
-first-channel : {j left : Judgement} {v : VarId} {vs : List VarId} {par : VarId × TypeId} {pars : List (VarId × TypeId)} → PassesChannels tried units j (v ∷ vs) (par ∷ pars) left → (k : Judgement) × PassesChannel tried units j v par.1 k × PassesChannels tried units k vs pars left
+first-channel : {j left : Judgement} {v : VarId} {vs : List VarId} {par : VarId × TypeId} {pars : List (VarId × TypeId)}
+    → PassesChannels tried units j (v ∷ vs) (par ∷ pars) left
+    → (k : Judgement) × PassesChannel tried units j v par.1 k × PassesChannels tried units k vs pars left
 first-channel (passes.channel first others) = (_, first, others)
 
-first-value : {j left : Judgement} {a : ValueArg} {args : List ValueArg} {par : Par} {pars : List Par} → PassesValues tried units j (a ∷ args) (par ∷ pars) left → (k : Judgement) × PassesValue tried units j a par k × PassesValues tried units k args pars left
+first-value : {j left : Judgement} {a : ValueArg} {args : List ValueArg} {par : Par} {pars : List Par}
+    → PassesValues tried units j (a ∷ args) (par ∷ pars) left
+    → (k : Judgement) × PassesValue tried units j a par k × PassesValues tried units k args pars left
 first-value (passes.value first others) = (_, first, others)
 
 -- a channel that is no reference is there, is alike, and is used up
-channel-used : {j : Judgement} {v : VarId} {t : TypeId} {k : Judgement} → PassesChannel tried units j v t k → bound_to v.0 j.shared ≡ None → (own : TypeId) × (bound_to v.0 j.linear ≡ Some own) × AlikeTypes tried units own t × (k ≡ record j { linear = unbind v.0 j.linear })
+channel-used : {j : Judgement} {v : VarId} {t : TypeId} {k : Judgement} → PassesChannel tried units j v t k
+    → bound_to v.0 j.shared ≡ None → (own : TypeId) × (bound_to v.0 j.linear ≡ Some own) × AlikeTypes tried units own t
+    × (k ≡ record j { linear = unbind v.0 j.linear })
 channel-used (passes.shared own found alike) none = absurd cc
 channel-used (passes.linear own _ found alike) none = (own, found, alike, refl)
 
 -- a list is there, and is used up
-list-used : {j : Judgement} {w : VarId} {par : Par} {k : Judgement} → PassesValue tried units j (arg.List w) par k → (list : ListType) × (bound_to w.0 j.lists ≡ Some list) × (k ≡ record j { lists = unbind w.0 j.lists })
+list-used : {j : Judgement} {w : VarId} {par : Par} {k : Judgement} → PassesValue tried units j (arg.List w) par k
+    → (list : ListType) × (bound_to w.0 j.lists ≡ Some list) × (k ≡ record j { lists = unbind w.0 j.lists })
 list-used (passes.list amount _ found) = (_, found, refl)
 
 -- ---- channels
@@ -65,7 +77,9 @@ spawn-applies = (
     arguments = record {
       between = _;
       values = passes.none;
-      channels = passes.channel (passes.linear (type_id 31) refl refl (ended-alike 31 26 refl refl (whole (14, lit< tt, refl)) (whole (11, lit< tt, refl)))) passes.none;
+      channels =
+          passes.channel (passes.linear (type_id 31) refl refl
+          (ended-alike 31 26 refl refl (whole (14, lit< tt, refl)) (whole (11, lit< tt, refl)))) passes.none;
     };
     enough = lit≤ tt;
     free = refl;
@@ -102,7 +116,12 @@ spawn-references =
       row.spawn refl two_references _ (record {
         declared = refl;
         mode = refl;
-        arguments = record { between = _; values = passes.none; channels = passes.channel first (passes.channel second passes.none) };
+        arguments =
+            record {
+              between = _;
+              values = passes.none;
+              channels = passes.channel first (passes.channel second passes.none);
+            };
         enough = lit≤ tt;
         free = refl;
       }),
@@ -132,7 +151,9 @@ call-applies = (
     arguments = record {
       between = _;
       values = passes.none;
-      channels = passes.channel (passes.linear (type_id 31) refl refl (ended-alike 31 26 refl refl (whole (14, lit< tt, refl)) (whole (11, lit< tt, refl)))) passes.none;
+      channels =
+          passes.channel (passes.linear (type_id 31) refl refl
+          (ended-alike 31 26 refl refl (whole (14, lit< tt, refl)) (whole (11, lit< tt, refl)))) passes.none;
     };
     nothing_held = refl;
     enough = lit≤ tt;
@@ -168,7 +189,13 @@ spawn-lists = (
   row.spawn refl two_lists _ (record {
     declared = refl;
     mode = refl;
-    arguments = record { between = _; values = passes.value (passes.list _ refl refl) (passes.value (passes.list _ refl refl) passes.none); channels = passes.none };
+    arguments =
+        record {
+          between = _;
+          values = passes.value (passes.list _ refl refl)
+              (passes.value (passes.list _ refl refl) passes.none);
+          channels = passes.none;
+        };
     enough = lit≤ tt;
     free = refl;
   }),

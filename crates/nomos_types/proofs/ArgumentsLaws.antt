@@ -28,7 +28,8 @@ left-whole : {lists : ProgramLists} {j : Judgement} → IsJudgement lists j → 
 left-whole h = record { judgement = h; mode = refl; others = λ v. omega arith; parts = λ v. omega arith }
 
 -- what is left of what is left
-left-through : {lists : ProgramLists} {i j k : Judgement} → LeavesJudgement lists i j → LeavesJudgement lists j k → LeavesJudgement lists i k
+left-through : {lists : ProgramLists} {i j k : Judgement} → LeavesJudgement lists i j → LeavesJudgement lists j k
+    → LeavesJudgement lists i k
 left-through first second =
     record {
       judgement = second.judgement;
@@ -38,7 +39,8 @@ left-through first second =
     }
 
 -- a channel passes
-pub passes-channel_left : {lists : ProgramLists} {x : Annotations} {j : Judgement} {v : VarId} {t : TypeId} {k : Judgement} → IsJudgement lists j → PassesChannel lists x j v t k → LeavesJudgement lists j k
+pub passes-channel_left : {lists : ProgramLists} {x : Annotations} {j : Judgement} {v : VarId} {t : TypeId}
+    {k : Judgement} → IsJudgement lists j → PassesChannel lists x j v t k → LeavesJudgement lists j k
 passes-channel_left h (shared own found alike) = left-whole h
 passes-channel_left {j = j} {v = v} h (linear own no_reference found alike) =
     record {
@@ -49,14 +51,17 @@ passes-channel_left {j = j} {v = v} h (linear own no_reference found alike) =
     }
 
 -- channels pass
-passes-channels_left : {lists : ProgramLists} {x : Annotations} {j k : Judgement} {vs : List VarId} {pars : List (VarId × TypeId)} → IsJudgement lists j → PassesChannels lists x j vs pars k → LeavesJudgement lists j k
+passes-channels_left : {lists : ProgramLists} {x : Annotations} {j k : Judgement} {vs : List VarId}
+    {pars : List (VarId × TypeId)} → IsJudgement lists j → PassesChannels lists x j vs pars k
+    → LeavesJudgement lists j k
 passes-channels_left h none = left-whole h
 passes-channels_left h (channel first others) =
     let after = passes-channel_left h first in
     left-through after (passes-channels_left after.judgement others)
 
 -- a value or a list passes
-passes-value_left : {lists : ProgramLists} {x : Annotations} {j : Judgement} {a : ValueArg} {par : Par} {k : Judgement} → IsJudgement lists j → PassesValue lists x j a par k → LeavesJudgement lists j k
+passes-value_left : {lists : ProgramLists} {x : Annotations} {j : Judgement} {a : ValueArg} {par : Par} {k : Judgement}
+    → IsJudgement lists j → PassesValue lists x j a par k → LeavesJudgement lists j k
 passes-value_left h (term no_list kind) = left-whole h
 passes-value_left {j = j} h (list {w = w} amount its_amount found) =
     record {
@@ -67,20 +72,23 @@ passes-value_left {j = j} h (list {w = w} amount its_amount found) =
     }
 
 -- values and lists pass
-passes-values_left : {lists : ProgramLists} {x : Annotations} {j k : Judgement} {args : List ValueArg} {pars : List Par} → IsJudgement lists j → PassesValues lists x j args pars k → LeavesJudgement lists j k
+passes-values_left : {lists : ProgramLists} {x : Annotations} {j k : Judgement} {args : List ValueArg} {pars : List Par}
+    → IsJudgement lists j → PassesValues lists x j args pars k → LeavesJudgement lists j k
 passes-values_left h none = left-whole h
 passes-values_left h (value first others) =
     let after = passes-value_left h first in
     left-through after (passes-values_left after.judgement others)
 
 -- the arguments of a declaration pass
-pub arguments-left : {lists : ProgramLists} {x : Annotations} {j k : Judgement} {d : ProcDecl} {args : Args} → IsJudgement lists j → ArgumentsFit lists x j d args k → LeavesJudgement lists j k
+pub arguments-left : {lists : ProgramLists} {x : Annotations} {j k : Judgement} {d : ProcDecl} {args : Args}
+    → IsJudgement lists j → ArgumentsFit lists x j d args k → LeavesJudgement lists j k
 arguments-left h fit =
     let between = passes-values_left h fit.values in
     left-through between (passes-channels_left between.judgement fit.channels)
 
 -- a channel that may go on may go on in what is left
-pub left-goes_on : {lists : ProgramLists} {j k : Judgement} → LeavesJudgement lists j k → (c : Chan) (t : TypeId) → MayGoOn lists j c t → MayGoOn lists k c t
+pub left-goes_on : {lists : ProgramLists} {j k : Judgement} → LeavesJudgement lists j k → (c : Chan) (t : TypeId)
+    → MayGoOn lists j c t → MayGoOn lists k c t
 left-goes_on {lists = lists} left chan.Own t may = subst (λ (m : Mode). HasMode lists t m) (sym left.mode) may
 left-goes_on {lists = lists} left (chan.Var v) t may =
     (omega (arith, left.others v.0, may.0), subst (λ (m : Mode). MayBeHeld lists m t) (sym left.mode) may.1)

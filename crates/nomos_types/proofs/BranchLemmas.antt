@@ -7,14 +7,17 @@ use Rattle.nomos_ir.specs.declared.type_node.Branch.{Branch}
 use Rattle.nomos_types.specs.Branches.{goes_by}
 
 -- the same, where the test of the first branch is known
-first-branch : (P : TypeId → Type 0) (b : Branch) (others : Option Branch) (t : TypeId) (passes : Bool) → P b.goes → (option_map (λ c. c.goes) others ≡ Some t → P t) → option_map (λ c. c.goes) (cond passes (Some b) others) ≡ Some t → P t
+first-branch : (P : TypeId → Type 0) (b : Branch) (others : Option Branch) (t : TypeId) (passes : Bool) → P b.goes
+    → (option_map (λ c. c.goes) others ≡ Some t → P t) → option_map (λ c. c.goes) (cond passes (Some b) others) ≡ Some t
+    → P t
 first-branch P b others t true here rest found =
     let same : b.goes ≡ t = cc in
     subst P same here
 first-branch P b others t false here rest found = rest found
 
 -- what holds of the types of all branches holds of the type after a label
-pub goes-all : (P : TypeId → Type 0) (branches : List Branch) (l : Label) (t : TypeId) → All (λ b. P b.goes) branches → goes_by branches l ≡ Some t → P t
+pub goes-all : (P : TypeId → Type 0) (branches : List Branch) (l : Label) (t : TypeId) → All (λ b. P b.goes) branches
+    → goes_by branches l ≡ Some t → P t
 goes-all P [] l t all found = absurd cc
 goes-all P (b ∷ branches) l t all found =
     let others = find (λ (c : Branch). c.label.0 == l.0) branches in

@@ -25,17 +25,22 @@ all-first P xs ys all =
     subst P (get_or_append_left xs ys d k inside) (all k d in_both)
 
 -- what holds of the items of all lists holds of those of one
-all-within : {X Y : Type 0} (P : Y → Type 0) (f : X → List Y) (xs : List X) (k : ℕ) (d : X) → All P (flat_map f xs) → k < length xs → All P (f (get_or xs k d))
+all-within : {X Y : Type 0} (P : Y → Type 0) (f : X → List Y) (xs : List X) (k : ℕ) (d : X) → All P (flat_map f xs)
+    → k < length xs → All P (f (get_or xs k d))
 all-within P f [] k d all inside = absurd (omega arith)
 all-within P f (x ∷ xs) zero d all inside = all-first P (f x) (flat_map f xs) all
-all-within P f (x ∷ xs) (suc k) d all inside = all-within P f xs k d (all-last P (f x) (flat_map f xs) all) (omega arith)
+all-within P f (x ∷ xs) (suc k) d all inside =
+    all-within P f xs k d (all-last P (f x) (flat_map f xs) all) (omega arith)
 
 -- what holds of all amounts holds of a declared one
-declared-all : (P : Amount → Type 0) (lists : ProgramLists) (p : ℕ) (d : ProcDecl) → All P (amounts_of lists) → p < length lists.procs → P (get_or lists.procs p d).amount
+declared-all : (P : Amount → Type 0) (lists : ProgramLists) (p : ℕ) (d : ProcDecl) → All P (amounts_of lists)
+    → p < length lists.procs → P (get_or lists.procs p d).amount
 declared-all P lists p d all inside =
     let earlier : List Amount = flat_map (λ t. type_amounts t.node) lists.types ++ flat_map code_amounts lists.code in
-    let of_procs : All P (flat_map proc_amounts lists.procs) = all-last P earlier (flat_map proc_amounts lists.procs) all in
-    let of_proc : All P (proc_amounts (get_or lists.procs p d)) = all-within P proc_amounts lists.procs p d of_procs inside in
+    let of_procs : All P (flat_map proc_amounts lists.procs) = all-last P earlier (flat_map proc_amounts lists.procs)
+    all in
+    let of_proc : All P (proc_amounts (get_or lists.procs p d)) = all-within P proc_amounts lists.procs p d of_procs
+    inside in
     let own = (get_or lists.procs p d).amount in
     all-last P (flat_map par_amounts (get_or lists.procs p d).values) (own ∷ []) of_proc 0 own (omega arith)
 
@@ -48,10 +53,12 @@ star-within amounts =
     subst (λ (n : ℕ). n ≤ greatest (map star_of amounts)) e (greatest-above (map star_of amounts) k 0 there)
 
 -- the declared amount of a process is an amount
-pub declared-is_amount : (lists : ProgramLists) (p : ℕ) (d : ProcDecl) → AmountsAreSmall lists → p < length lists.procs → IsAmount (get_or lists.procs p d).amount
+pub declared-is_amount : (lists : ProgramLists) (p : ℕ) (d : ProcDecl) → AmountsAreSmall lists → p < length lists.procs
+    → IsAmount (get_or lists.procs p d).amount
 declared-is_amount lists p d small inside = declared-all IsAmount lists p d small inside
 
 -- its star is one of the program's
-pub declared-star : (lists : ProgramLists) (p : ℕ) (d : ProcDecl) → p < length lists.procs → star_of (get_or lists.procs p d).amount ≤ star_count lists
+pub declared-star : (lists : ProgramLists) (p : ℕ) (d : ProcDecl) → p < length lists.procs
+    → star_of (get_or lists.procs p d).amount ≤ star_count lists
 declared-star lists p d inside =
     declared-all (λ a. star_of a ≤ star_count lists) lists p d (star-within (amounts_of lists)) inside

@@ -1,5 +1,5 @@
--- Type equality on small definitions: two that name one another are equal; eight choices in one another that end otherwise
--- agree to depth 8 and are not equal.
+-- Type equality on small definitions: two that name one another are equal; eight choices in one another that end
+-- otherwise agree to depth 8 and are not equal.
 use Rattle.std.proofs.Common.{◌≡◌, ◌==◌, ℕ, zero, suc, Bool, true, false, cond, List, [], ◌∷◌, Option, Some, None, option_map, subst, refl}
 use Rattle.std.specs.Prelude.{codes}
 use Rattle.nomos_ir.specs.declared.ids.DefId.{DefId}
@@ -30,18 +30,22 @@ abbrev type_of : TypeNode → TypeAt
 type_of n = record { node = n; at = 0 }
 
 abbrev types_alone : List Def → List TypeAt → ProgramLists
-types_alone defs types = record { defs = defs; types = types; terms = []; code = []; fns = []; procs = []; labels = codes "x" ∷ [] }
+types_alone defs types =
+    record { defs = defs; types = types; terms = []; code = []; fns = []; procs = []; labels = codes "x" ∷ [] }
 
 -- what the one branch goes on at, where its label passes a test
 abbrev goes_if : ℕ → Bool → Option TypeId
-goes_if t passes = option_map (λ (b : Branch). b.goes) (cond passes (Some (record { label = label_id 0; goes = type_id t })) None)
+goes_if t passes =
+    option_map (λ (b : Branch). b.goes) (cond passes (Some (record { label = label_id 0; goes = type_id t })) None)
 
 -- choices of one branch go on in related ways where their branches do
-branch-at : (R : TypeId → TypeId → Type 0) (t u : ℕ) (passes : Bool) → R (type_id t) (type_id u) → BothOrNeither R (goes_if t passes) (goes_if u passes)
+branch-at : (R : TypeId → TypeId → Type 0) (t u : ℕ) (passes : Bool) → R (type_id t) (type_id u)
+    → BothOrNeither R (goes_if t passes) (goes_if u passes)
 branch-at R t u true related = both (type_id t) (type_id u) related
 branch-at R t u false related = neither
 
-same-branch : (R : TypeId → TypeId → Type 0) (t u : ℕ) → R (type_id t) (type_id u) → SameBranches R (one_branch t) (one_branch u)
+same-branch : (R : TypeId → TypeId → Type 0) (t u : ℕ) → R (type_id t) (type_id u)
+    → SameBranches R (one_branch t) (one_branch u)
 same-branch R t u related = λ l. branch-at R t u (0 == l.0) related
 
 -- ---- definitions that name one another
@@ -71,23 +75,38 @@ a-unfolds : Unfolds mutual_pair 3 (choice 1)
 a-unfolds = name 3 first_id first_def (choice 1) refl refl (constructor 0 (choice 1) refl tt)
 
 mutual
-  first-second : (n : ℕ) (t u : TypeId) → Unfolds mutual_pair t.0 (choice 1) → Unfolds mutual_pair u.0 (choice 3) → Agree mutual_pair units n t u
+  first-second : (n : ℕ) (t u : TypeId) → Unfolds mutual_pair t.0 (choice 1) → Unfolds mutual_pair u.0 (choice 3)
+      → Agree mutual_pair units n t u
   first-second zero t u left right = tt
   first-second (suc n) t u left right =
       let R : TypeId → TypeId → Type 0 = λ a b. Agree mutual_pair units n a b in
       let after = second-first n (type_id 1) (type_id 3) b-unfolds a-unfolds in
-      record { left = choice 1; right = choice 3; left_unfolds = left; right_unfolds = right; same = plus (one_branch 1) (one_branch 3) (same-branch R 1 3 after) }
+      record {
+        left = choice 1;
+        right = choice 3;
+        left_unfolds = left;
+        right_unfolds = right;
+        same = plus (one_branch 1) (one_branch 3) (same-branch R 1 3 after);
+      }
 
-  second-first : (n : ℕ) (t u : TypeId) → Unfolds mutual_pair t.0 (choice 3) → Unfolds mutual_pair u.0 (choice 1) → Agree mutual_pair units n t u
+  second-first : (n : ℕ) (t u : TypeId) → Unfolds mutual_pair t.0 (choice 3) → Unfolds mutual_pair u.0 (choice 1)
+      → Agree mutual_pair units n t u
   second-first zero t u left right = tt
   second-first (suc n) t u left right =
       let R : TypeId → TypeId → Type 0 = λ a b. Agree mutual_pair units n a b in
       let after = first-second n (type_id 3) (type_id 1) a-unfolds b-unfolds in
-      record { left = choice 3; right = choice 1; left_unfolds = left; right_unfolds = right; same = plus (one_branch 3) (one_branch 1) (same-branch R 3 1 after) }
+      record {
+        left = choice 3;
+        right = choice 1;
+        left_unfolds = left;
+        right_unfolds = right;
+        same = plus (one_branch 3) (one_branch 1) (same-branch R 3 1 after);
+      }
 
 -- the bodies of the two definitions are equal
 pair-equal : EqualTypes mutual_pair units (type_id 0) (type_id 2)
-pair-equal = λ n. first-second n (type_id 0) (type_id 2) (constructor 0 (choice 1) refl tt) (constructor 2 (choice 3) refl tt)
+pair-equal =
+    λ n. first-second n (type_id 0) (type_id 2) (constructor 0 (choice 1) refl tt) (constructor 2 (choice 3) refl tt)
 
 -- ---- choices that end otherwise
 
@@ -103,7 +122,8 @@ towers =
     ∷ [])
 
 -- one more choice over types that agree agrees to one more depth
-one-higher : (n t u c d : ℕ) → type_node towers t ≡ Some (choice c) → type_node towers u ≡ Some (choice d) → Agree towers units n (type_id c) (type_id d) → Agree towers units (suc n) (type_id t) (type_id u)
+one-higher : (n t u c d : ℕ) → type_node towers t ≡ Some (choice c) → type_node towers u ≡ Some (choice d)
+    → Agree towers units n (type_id c) (type_id d) → Agree towers units (suc n) (type_id t) (type_id u)
 one-higher n t u c d t_there u_there agree =
     let R : TypeId → TypeId → Type 0 = λ a b. Agree towers units n a b in
     record {
@@ -117,32 +137,43 @@ one-higher n t u c d t_there u_there agree =
 -- the towers agree to depth 8
 towers-agree : Agree towers units 8 (type_id 16) (type_id 17)
 towers-agree =
-    one-higher 7 16 17 14 15 refl refl (one-higher 6 14 15 12 13 refl refl (one-higher 5 12 13 10 11 refl refl (one-higher 4 10 11 8 9 refl refl
-    (one-higher 3 8 9 6 7 refl refl (one-higher 2 6 7 4 5 refl refl (one-higher 1 4 5 2 3 refl refl (one-higher 0 2 3 0 1 refl refl tt)))))))
+    one-higher 7 16 17 14 15 refl refl
+    (one-higher 6 14 15 12 13 refl refl (one-higher 5 12 13 10 11 refl refl (one-higher 4 10 11 8 9 refl refl
+    (one-higher 3 8 9 6 7 refl refl
+    (one-higher 2 6 7 4 5 refl refl (one-higher 1 4 5 2 3 refl refl (one-higher 0 2 3 0 1 refl refl tt)))))))
 
 -- related choices have related branches
-branches-of : {R : TypeId → TypeId → Type 0} {bs cs : List Branch} → SameHead units R (node.Plus bs) (node.Plus cs) → SameBranches R bs cs
+branches-of : {R : TypeId → TypeId → Type 0} {bs cs : List Branch} → SameHead units R (node.Plus bs) (node.Plus cs)
+    → SameBranches R bs cs
 branches-of (plus _ _ same) = same
 
 -- where the choices are equal, so is what is one lower
-one-lower : (t u c d : ℕ) → type_node towers t ≡ Some (choice c) → type_node towers u ≡ Some (choice d) → EqualTypes towers units (type_id t) (type_id u) → EqualTypes towers units (type_id c) (type_id d)
+one-lower : (t u c d : ℕ) → type_node towers t ≡ Some (choice c) → type_node towers u ≡ Some (choice d)
+    → EqualTypes towers units (type_id t) (type_id u) → EqualTypes towers units (type_id c) (type_id d)
 one-lower t u c d t_there u_there equal =
     let R : TypeId → TypeId → Type 0 = EqualTypes towers units in
-    let (q, unfolds, heads) = equal-unfolded towers units (type_id t) (type_id u) (choice c) equal (constructor t (choice c) t_there tt) in
+    let (q, unfolds, heads) = equal-unfolded towers units (type_id t) (type_id u) (choice c) equal
+    (constructor t (choice c) t_there tt) in
     let there : q ≡ choice d = Unfolds-unique towers u q (choice d) unfolds (constructor u (choice d) u_there tt) in
-    let same : SameHead units R (choice c) (choice d) = subst (λ (p : TypeNode). SameHead units R (choice c) p) there heads in
+    let same : SameHead units R (choice c) (choice d) = subst (λ (p : TypeNode). SameHead units R (choice c) p) there
+    heads in
     both-there (type_id c) (type_id d) (branches-of same (label_id 0)) refl refl
 
 -- `1` is not `&{}`
 ends-differ : EqualTypes towers units (type_id 0) (type_id 1) → ⊥
 ends-differ equal =
-    let (q, unfolds, heads) = equal-unfolded towers units (type_id 0) (type_id 1) node.One equal (constructor 0 node.One refl tt) in
-    let there : q ≡ node.With [] = Unfolds-unique towers 1 q (node.With []) unfolds (constructor 1 (node.With []) refl tt) in
-    let same : SameHead units (EqualTypes towers units) node.One (node.With []) = subst (λ (p : TypeNode). SameHead units (EqualTypes towers units) node.One p) there heads in
+    let (q, unfolds, heads) = equal-unfolded towers units (type_id 0) (type_id 1) node.One equal
+    (constructor 0 node.One refl tt) in
+    let there : q ≡ node.With [] = Unfolds-unique towers 1 q (node.With []) unfolds
+    (constructor 1 (node.With []) refl tt) in
+    let same : SameHead units (EqualTypes towers units) node.One (node.With []) =
+    subst (λ (p : TypeNode). SameHead units (EqualTypes towers units) node.One p) there heads in
     elim same [ ]
 
 -- so the towers are not equal
 towers-differ : EqualTypes towers units (type_id 16) (type_id 17) → ⊥
 towers-differ equal =
-    ends-differ (one-lower 2 3 0 1 refl refl (one-lower 4 5 2 3 refl refl (one-lower 6 7 4 5 refl refl (one-lower 8 9 6 7 refl refl
-    (one-lower 10 11 8 9 refl refl (one-lower 12 13 10 11 refl refl (one-lower 14 15 12 13 refl refl (one-lower 16 17 14 15 refl refl equal))))))))
+    ends-differ (one-lower 2 3 0 1 refl refl
+    (one-lower 4 5 2 3 refl refl (one-lower 6 7 4 5 refl refl (one-lower 8 9 6 7 refl refl
+    (one-lower 10 11 8 9 refl refl
+    (one-lower 12 13 10 11 refl refl (one-lower 14 15 12 13 refl refl (one-lower 16 17 14 15 refl refl equal))))))))

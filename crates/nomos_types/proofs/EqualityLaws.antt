@@ -25,15 +25,18 @@ use Rattle.nomos_types.proofs.Nodes.{type_node-in_range, named-below, element-th
 -- ---- both or neither
 
 -- what is related stays so under a wider relation; relations go back and through
-both-map : {X : Type 0} {R S : X → X → Type 0} {o r : Option X} → ((a b : X) → R a b → S a b) → BothOrNeither R o r → BothOrNeither S o r
+both-map : {X : Type 0} {R S : X → X → Type 0} {o r : Option X} → ((a b : X) → R a b → S a b) → BothOrNeither R o r
+    → BothOrNeither S o r
 both-map wider (both a b related) = both a b (wider a b related)
 both-map wider neither = neither
 
-both-back : {X : Type 0} {R S : X → X → Type 0} {o r : Option X} → ((a b : X) → R a b → S b a) → BothOrNeither R o r → BothOrNeither S r o
+both-back : {X : Type 0} {R S : X → X → Type 0} {o r : Option X} → ((a b : X) → R a b → S b a) → BothOrNeither R o r
+    → BothOrNeither S r o
 both-back back (both a b related) = both b a (back a b related)
 both-back back neither = neither
 
-both-through : {X : Type 0} {R : X → X → Type 0} {o r s : Option X} → ((a b c : X) → R a b → R b c → R a c) → BothOrNeither R o r → BothOrNeither R r s → BothOrNeither R o s
+both-through : {X : Type 0} {R : X → X → Type 0} {o r s : Option X} → ((a b c : X) → R a b → R b c → R a c)
+    → BothOrNeither R o r → BothOrNeither R r s → BothOrNeither R o s
 both-through through (both a b first) (both _ c second) = both a c (through a b c first second)
 both-through through neither neither = neither
 
@@ -42,7 +45,8 @@ both-related : {X : Type 0} {R : X → X → Type 0} {a b : X} → BothOrNeither
 both-related (both _ _ related) = related
 
 -- what is related at every depth is related by all depths together
-both-every : {X : Type 0} (R : ℕ → X → X → Type 0) (o r : Option X) → ((n : ℕ) → BothOrNeither (R n) o r) → BothOrNeither (λ a b. (n : ℕ) → R n a b) o r
+both-every : {X : Type 0} (R : ℕ → X → X → Type 0) (o r : Option X) → ((n : ℕ) → BothOrNeither (R n) o r)
+    → BothOrNeither (λ a b. (n : ℕ) → R n a b) o r
 both-every R (Some a) (Some b) every = both a b (λ n. both-related (every n))
 both-every R (Some a) None every = elim (every 0) [ ]
 both-every R None (Some b) every = elim (every 0) [ ]
@@ -56,7 +60,9 @@ both-same R None same = neither
 -- ---- heads
 
 -- related heads stay related under other amounts that agree where the first ones do, and a wider relation of the parts
-same_head-change : {x y : Annotations} {R S : TypeId → TypeId → Type 0} {p q : TypeNode} → ((q r : Amount) → dths x q ≡ dths x r → dths y q ≡ dths y r) → ((a b : TypeId) → R a b → S a b) → SameHead x R p q → SameHead y S p q
+same_head-change : {x y : Annotations} {R S : TypeId → TypeId → Type 0} {p q : TypeNode}
+    → ((q r : Amount) → dths x q ≡ dths x r → dths y q ≡ dths y r) → ((a b : TypeId) → R a b → S a b) → SameHead x R p q
+    → SameHead y S p q
 same_head-change amounts wider one = one
 same_head-change amounts wider (plus bs cs same) = plus bs cs (λ l. both-map wider (same l))
 same_head-change amounts wider (with bs cs same) = with bs cs (λ l. both-map wider (same l))
@@ -70,11 +76,13 @@ same_head-change amounts wider (up a b h) = up a b (wider a b h)
 same_head-change amounts wider (down a b h) = down a b (wider a b h)
 
 -- related heads stay related under a wider relation of the parts
-pub same_head-map : {x : Annotations} {R S : TypeId → TypeId → Type 0} {p q : TypeNode} → ((a b : TypeId) → R a b → S a b) → SameHead x R p q → SameHead x S p q
+pub same_head-map : {x : Annotations} {R S : TypeId → TypeId → Type 0} {p q : TypeNode}
+    → ((a b : TypeId) → R a b → S a b) → SameHead x R p q → SameHead x S p q
 same_head-map wider same = same_head-change (λ q r e. e) wider same
 
 -- heads go back
-same_head-back : {x : Annotations} {R S : TypeId → TypeId → Type 0} {p q : TypeNode} → ((a b : TypeId) → R a b → S b a) → SameHead x R p q → SameHead x S q p
+same_head-back : {x : Annotations} {R S : TypeId → TypeId → Type 0} {p q : TypeNode} → ((a b : TypeId) → R a b → S b a)
+    → SameHead x R p q → SameHead x S q p
 same_head-back back one = one
 same_head-back back (plus bs cs same) = plus cs bs (λ l. both-back back (same l))
 same_head-back back (with bs cs same) = with cs bs (λ l. both-back back (same l))
@@ -88,7 +96,8 @@ same_head-back back (up a b h) = up b a (back a b h)
 same_head-back back (down a b h) = down b a (back a b h)
 
 -- heads go through
-same_head-through : {x : Annotations} {R : TypeId → TypeId → Type 0} {p q r : TypeNode} → ((a b c : TypeId) → R a b → R b c → R a c) → SameHead x R p q → SameHead x R q r → SameHead x R p r
+same_head-through : {x : Annotations} {R : TypeId → TypeId → Type 0} {p q r : TypeNode}
+    → ((a b c : TypeId) → R a b → R b c → R a c) → SameHead x R p q → SameHead x R q r → SameHead x R p r
 same_head-through through one one = one
 same_head-through through (plus bs cs same) (plus _ ds same2) =
     plus bs ds (λ l. both-through through (same l) (same2 l))
@@ -139,7 +148,8 @@ module _ {x : Annotations} {R : TypeId → TypeId → Type 0} where
   down-part (down _ _ h) = h
 
 -- heads that are related at every depth are related by all depths together
-same_head-every : {x : Annotations} {S : TypeId → TypeId → Type 0} {p q : TypeNode} → (R : ℕ → TypeId → TypeId → Type 0) → SameHead x S p q → ((n : ℕ) → SameHead x (R n) p q) → SameHead x (λ a b. (n : ℕ) → R n a b) p q
+same_head-every : {x : Annotations} {S : TypeId → TypeId → Type 0} {p q : TypeNode} → (R : ℕ → TypeId → TypeId → Type 0)
+    → SameHead x S p q → ((n : ℕ) → SameHead x (R n) p q) → SameHead x (λ a b. (n : ℕ) → R n a b) p q
 same_head-every R one every = one
 same_head-every R (plus bs cs _) every =
     plus bs cs (λ l. both-every R (goes_by bs l) (goes_by cs l) (λ n. plus-parts (every n) l))
@@ -159,7 +169,8 @@ same_head-every R (down a b _) every = down a b (λ n. down-part (every n))
 -- ---- a type equals itself
 
 -- a branch goes on at a type node
-branch-below : (n : ℕ) (branches : List Branch) (l : Label) (t : TypeId) → AllBelow n (map (λ b. b.goes.0) branches) → goes_by branches l ≡ Some t → t.0 < n
+branch-below : (n : ℕ) (branches : List Branch) (l : Label) (t : TypeId) → AllBelow n (map (λ b. b.goes.0) branches)
+    → goes_by branches l ≡ Some t → t.0 < n
 branch-below n branches l t all found =
     let mapped : All (λ b. b.goes.0 < n) branches =
     λ k d inside.
@@ -169,7 +180,8 @@ branch-below n branches l t all found =
     goes-all (λ u. u.0 < n) branches l t mapped found
 
 -- a node is its own head, where its parts are related to themselves
-same_head-same : (x : Annotations) (R : TypeId → TypeId → Type 0) (n : ℕ) (p : TypeNode) → ((t : TypeId) → t.0 < n → R t t) → AllBelow n (type_parts p) → IsConstructor p → SameHead x R p p
+same_head-same : (x : Annotations) (R : TypeId → TypeId → Type 0) (n : ℕ) (p : TypeNode)
+    → ((t : TypeId) → t.0 < n → R t t) → AllBelow n (type_parts p) → IsConstructor p → SameHead x R p p
 same_head-same x R n node.One same parts no_name = one
 same_head-same x R n (node.Plus bs) same parts no_name =
     plus bs bs (λ l. both-same R (goes_by bs l) (λ t found. same t (branch-below n bs l t parts found)))
@@ -195,7 +207,8 @@ record UnfoldsInRange (lists : ProgramLists) (t : ℕ) : Type 0 where
   parts : AllBelow (length lists.types) (type_parts node)
 
 -- a type unfolds, by the node that stands there
-node-unfolds : (lists : ProgramLists) (t : ℕ) (n : TypeNode) → IsProgram lists → IsContractive lists → type_node lists t ≡ Some n → UnfoldsInRange lists t
+node-unfolds : (lists : ProgramLists) (t : ℕ) (n : TypeNode) → IsProgram lists → IsContractive lists
+    → type_node lists t ≡ Some n → UnfoldsInRange lists t
 node-unfolds lists t (node.Named id) is_program contractive there =
     let def = element-there lists.defs id.0 (named-below lists t id is_program there) in
     let body = named-unfolds lists t id def.0 is_program contractive there def.1 in
@@ -214,13 +227,15 @@ node-unfolds lists t n is_program contractive there =
     }
 
 -- each type unfolds
-type-unfolds : (lists : ProgramLists) (t : ℕ) → IsProgram lists → IsContractive lists → t < length lists.types → UnfoldsInRange lists t
+type-unfolds : (lists : ProgramLists) (t : ℕ) → IsProgram lists → IsContractive lists → t < length lists.types
+    → UnfoldsInRange lists t
 type-unfolds lists t is_program contractive inside =
     let there = type_node-there lists t inside in
     node-unfolds lists t there.0 is_program contractive there.1
 
 -- a type agrees with itself to every depth
-agree-same : (lists : ProgramLists) (x : Annotations) (n : ℕ) (t : TypeId) → IsProgram lists → IsContractive lists → t.0 < length lists.types → Agree lists x n t t
+agree-same : (lists : ProgramLists) (x : Annotations) (n : ℕ) (t : TypeId) → IsProgram lists → IsContractive lists
+    → t.0 < length lists.types → Agree lists x n t t
 agree-same lists x zero t is_program contractive inside = tt
 agree-same lists x (suc n) t is_program contractive inside =
     let u = type-unfolds lists t.0 is_program contractive inside in
@@ -236,7 +251,8 @@ agree-same lists x (suc n) t is_program contractive inside =
     }
 
 -- a type equals itself
-pub equal-same : (lists : ProgramLists) (x : Annotations) (t : TypeId) → IsProgram lists → IsContractive lists → t.0 < length lists.types → EqualTypes lists x t t
+pub equal-same : (lists : ProgramLists) (x : Annotations) (t : TypeId) → IsProgram lists → IsContractive lists
+    → t.0 < length lists.types → EqualTypes lists x t t
 equal-same lists x t is_program contractive inside = λ n. agree-same lists x n t is_program contractive inside
 
 -- ---- back and through
@@ -254,11 +270,13 @@ agree-back lists x (suc n) a b agree =
     }
 
 -- equality goes back
-pub equal-back : (lists : ProgramLists) (x : Annotations) (a b : TypeId) → EqualTypes lists x a b → EqualTypes lists x b a
+pub equal-back : (lists : ProgramLists) (x : Annotations) (a b : TypeId) → EqualTypes lists x a b
+    → EqualTypes lists x b a
 equal-back lists x a b equal = λ n. agree-back lists x n a b (equal n)
 
 -- types whose unfoldings are known have the heads of these
-head-at : {lists : ProgramLists} {x : Annotations} {R : TypeId → TypeId → Type 0} {a b : TypeId} {p q : TypeNode} → SameUnfolding lists x R a b → Unfolds lists a.0 p → Unfolds lists b.0 q → SameHead x R p q
+head-at : {lists : ProgramLists} {x : Annotations} {R : TypeId → TypeId → Type 0} {a b : TypeId} {p q : TypeNode}
+    → SameUnfolding lists x R a b → Unfolds lists a.0 p → Unfolds lists b.0 q → SameHead x R p q
 head-at {lists = lists} {x = x} {R = R} {a = a} {b = b} {p = p} {q = q} u left right =
     let same_left : u.left ≡ p = Unfolds-unique lists a.0 u.left p u.left_unfolds left in
     let same_right : u.right ≡ q = Unfolds-unique lists b.0 u.right q u.right_unfolds right in
@@ -266,7 +284,8 @@ head-at {lists = lists} {x = x} {R = R} {a = a} {b = b} {p = p} {q = q} u left r
     subst (λ (m : TypeNode). SameHead x R p m) same_right at_left
 
 -- agreement to a depth goes through
-agree-through : (lists : ProgramLists) (x : Annotations) (n : ℕ) (a b c : TypeId) → Agree lists x n a b → Agree lists x n b c → Agree lists x n a c
+agree-through : (lists : ProgramLists) (x : Annotations) (n : ℕ) (a b c : TypeId) → Agree lists x n a b
+    → Agree lists x n b c → Agree lists x n a c
 agree-through lists x zero a b c first second = tt
 agree-through lists x (suc n) a b c first second =
     let same = head-at second first.right_unfolds second.right_unfolds in
@@ -279,13 +298,15 @@ agree-through lists x (suc n) a b c first second =
     }
 
 -- equality goes through
-pub equal-through : (lists : ProgramLists) (x : Annotations) (a b c : TypeId) → EqualTypes lists x a b → EqualTypes lists x b c → EqualTypes lists x a c
+pub equal-through : (lists : ProgramLists) (x : Annotations) (a b c : TypeId) → EqualTypes lists x a b
+    → EqualTypes lists x b c → EqualTypes lists x a c
 equal-through lists x a b c first second = λ n. agree-through lists x n a b c (first n) (second n)
 
 -- ---- one step of unfolding
 
 -- types that are equal unfold to the same head, and the parts are equal
-pub equal-unfolded : (lists : ProgramLists) (x : Annotations) (a b : TypeId) (p : TypeNode) → EqualTypes lists x a b → Unfolds lists a.0 p → (q : TypeNode) × Unfolds lists b.0 q × SameHead x (EqualTypes lists x) p q
+pub equal-unfolded : (lists : ProgramLists) (x : Annotations) (a b : TypeId) (p : TypeNode) → EqualTypes lists x a b
+    → Unfolds lists a.0 p → (q : TypeNode) × Unfolds lists b.0 q × SameHead x (EqualTypes lists x) p q
 equal-unfolded lists x a b p equal unfolds =
     let first : SameUnfolding lists x (Agree lists x zero) a b = equal (suc zero) in
     let q = first.right in
@@ -294,13 +315,15 @@ equal-unfolded lists x a b p equal unfolds =
     (q, first.right_unfolds, same_head-every (λ n. Agree lists x n) here every)
 
 -- types that unfold to the same head with equal parts agree to every depth
-agree-from_unfolded : (lists : ProgramLists) (x : Annotations) (n : ℕ) (a b : TypeId) (p q : TypeNode) → Unfolds lists a.0 p → Unfolds lists b.0 q → SameHead x (EqualTypes lists x) p q → Agree lists x n a b
+agree-from_unfolded : (lists : ProgramLists) (x : Annotations) (n : ℕ) (a b : TypeId) (p q : TypeNode)
+    → Unfolds lists a.0 p → Unfolds lists b.0 q → SameHead x (EqualTypes lists x) p q → Agree lists x n a b
 agree-from_unfolded lists x zero a b p q left right same = tt
 agree-from_unfolded lists x (suc n) a b p q left right same =
     record { left = p; right = q; left_unfolds = left; right_unfolds = right; same = same_head-map (λ c d e. e n) same }
 
 -- types that unfold to the same head with equal parts are equal
-pub equal-from_unfolded : (lists : ProgramLists) (x : Annotations) (a b : TypeId) (p q : TypeNode) → Unfolds lists a.0 p → Unfolds lists b.0 q → SameHead x (EqualTypes lists x) p q → EqualTypes lists x a b
+pub equal-from_unfolded : (lists : ProgramLists) (x : Annotations) (a b : TypeId) (p q : TypeNode) → Unfolds lists a.0 p
+    → Unfolds lists b.0 q → SameHead x (EqualTypes lists x) p q → EqualTypes lists x a b
 equal-from_unfolded lists x a b p q left right same = λ n. agree-from_unfolded lists x n a b p q left right same
 
 -- ---- amounts ignored
@@ -311,7 +334,8 @@ no_dths (amount.Written units) = mul-zero units
 no_dths (amount.Star star) = refl
 
 -- types that agree to a depth agree to it where amounts are ignored
-agree-shapes : (lists : ProgramLists) (x : Annotations) (n : ℕ) (a b : TypeId) → Agree lists x n a b → Agree lists no_amounts n a b
+agree-shapes : (lists : ProgramLists) (x : Annotations) (n : ℕ) (a b : TypeId) → Agree lists x n a b
+    → Agree lists no_amounts n a b
 agree-shapes lists x zero a b agree = tt
 agree-shapes lists x (suc n) a b agree =
     record {
@@ -323,5 +347,6 @@ agree-shapes lists x (suc n) a b agree =
     }
 
 -- equal types have equal shapes
-pub equal-shapes : (lists : ProgramLists) (x : Annotations) (a b : TypeId) → EqualTypes lists x a b → EqualShapes lists a b
+pub equal-shapes : (lists : ProgramLists) (x : Annotations) (a b : TypeId) → EqualTypes lists x a b
+    → EqualShapes lists a b
 equal-shapes lists x a b equal = λ n. agree-shapes lists x n a b (equal n)

@@ -43,18 +43,21 @@ binds-place j v mode.L t = refl
 binds-place j v mode.T t = refl
 
 -- the arms go on at their instructions
-arms-places : (j : Judgement) (c : Chan) (branches : List Branch) (arms : List Arm) (after : List Judgement) → ArmsGoOn j c branches arms after → map place after ≡ map (λ a. a.goes.0) arms
+arms-places : (j : Judgement) (c : Chan) (branches : List Branch) (arms : List Arm) (after : List Judgement)
+    → ArmsGoOn j c branches arms after → map place after ≡ map (λ a. a.goes.0) arms
 arms-places j c branches [] [] ArmsGoOn.none = refl
 arms-places j c branches [] (k ∷ after) goes = elim goes [ ]
 arms-places j c branches (a ∷ arms) _ (ArmsGoOn.arm {after = after} t goes others) =
-    ap (λ (n : ℕ). n ∷ map place after) (goes_on-place j c t a.goes) ∙ ap (λ (ns : List ℕ). a.goes.0 ∷ ns) (arms-places j c branches arms after others)
+    ap (λ (n : ℕ). n ∷ map place after) (goes_on-place j c t a.goes)
+    ∙ ap (λ (ns : List ℕ). a.goes.0 ∷ ns) (arms-places j c branches arms after others)
 
 -- one judgement at one place
 one-next : {after : List Judgement} (k : Judgement) (n : ℕ) → after ≡ k ∷ [] → place k ≡ n → map place after ≡ n ∷ []
 one-next k n is at = ap (map place) is ∙ ap (λ (m : ℕ). m ∷ []) at
 
 -- a row leads to the instructions with which the node goes on, in order
-pub row-places : (lists : ProgramLists) (x : Annotations) (j : Judgement) (after : List Judgement) (n : CodeNode) → RowAt lists x j n after → map place after ≡ code_next n
+pub row-places : (lists : ProgramLists) (x : Annotations) (j : Judgement) (after : List Judgement) (n : CodeNode)
+    → RowAt lists x j n after → map place after ≡ code_next n
 row-places lists x j after (code.Label at c l next) (t, h, e) = one-next _ next.0 e (goes_on-place j c t next)
 row-places lists x j after (code.Case at c arms) h = arms-places j c h.branches arms after h.each_arm
 row-places lists x j after (code.Send at c y next) (left, t, h, e) = one-next _ next.0 e (goes_on-place left c t next)
@@ -95,11 +98,16 @@ record LedBy (lists : ProgramLists) (j k : Judgement) : Type 0 where
   there : StandsAtCode lists j node
   among : Contains (code_next node) (place k)
 
-led-by : {lists : ProgramLists} {x : Annotations} {j k : Judgement} (after : List Judgement) → Row lists x j after → Contains after k → LedBy lists j k
+led-by : {lists : ProgramLists} {x : Annotations} {j k : Judgement} (after : List Judgement) → Row lists x j after
+    → Contains after k → LedBy lists j k
 led-by {lists} {x} {j} {k} after row among =
     let (n, there, says) = row-at row in
     let to : Contains (map place after) (place k) = contains-map place after k (place k) among refl in
-    record { node = n; there = there; among = subst (λ (ns : List ℕ). Contains ns (place k)) (row-places lists x j after n says) to }
+    record {
+      node = n;
+      there = there;
+      among = subst (λ (ns : List ℕ). Contains ns (place k)) (row-places lists x j after n says) to;
+    }
 
 -- what a row goes on to stands after a code node
 led-counted : {lists : ProgramLists} {j k : Judgement} → LedBy lists j k → 1 ≤ count_of (place k) (nexts lists)
@@ -109,9 +117,11 @@ led-counted {lists} {j} {k} led =
 
 module _ {lists : ProgramLists} (is_program : IsProgram lists) where
   -- no row goes on to where a declaration begins
-  not-first : {j k : Judgement} (p : ℕ) (d : ProcDecl) → slice_get lists.procs p ≡ Some d → LedBy lists j k → place k ≡ d.first.0 → ⊥
+  not-first : {j k : Judgement} (p : ℕ) (d : ProcDecl) → slice_get lists.procs p ≡ Some d → LedBy lists j k
+      → place k ≡ d.first.0 → ⊥
   not-first {j} {k} p d declared led same =
-      let first : Contains (firsts lists) (place k) = contains-map (λ (e : ProcDecl). e.first.0) lists.procs d (place k) (contains-found lists.procs p d declared) (sym same) in
+      let first : Contains (firsts lists) (place k) = contains-map (λ (e : ProcDecl). e.first.0) lists.procs d (place k)
+      (contains-found lists.procs p d declared) (sym same) in
       let at_first : 1 ≤ count_of (place k) (firsts lists) = counted (place k) (firsts lists) first in
       let after_node : 1 ≤ count_of (place k) (nexts lists) = led-counted led in
       let once : count_of (place k) (nexts lists ++ firsts lists) ≤ 1 = is_program.code (place k) in
@@ -121,32 +131,44 @@ module _ {lists : ProgramLists} (is_program : IsProgram lists) where
   same-place : {i j k l : Judgement} → LedBy lists i k → LedBy lists j l → place k ≡ place l → i.code ≡ j.code
   same-place {i} {j} {k} {l} led led_too same =
       let once : count_of (place k) (nexts lists ++ firsts lists) ≤ 1 = is_program.code (place k) in
-      let among_there : Contains (code_next led_too.node) (place k) = subst (λ (c : ℕ). Contains (code_next led_too.node) c) (sym same) led_too.among in
-      let few : count_of (place k) (nexts lists) ≤ 1 = omega (arith, count-append (place k) (nexts lists) (firsts lists)) in
-      let places : place i ≡ place j = one-part code_next (place k) lists.code (place i) (place j) led.node led_too.node few led.there led_too.there (counted (place k) (code_next led.node) led.among) (counted (place k) (code_next led_too.node) among_there) in
+      let among_there : Contains (code_next led_too.node) (place k) =
+      subst (λ (c : ℕ). Contains (code_next led_too.node) c) (sym same) led_too.among in
+      let few : count_of (place k) (nexts lists)
+      ≤ 1 = omega (arith, count-append (place k) (nexts lists) (firsts lists)) in
+      let places : place i ≡ place j = one-part code_next (place k) lists.code (place i) (place j) led.node led_too.node
+      few led.there led_too.there (counted (place k) (code_next led.node) led.among)
+      (counted (place k) (code_next led_too.node) among_there) in
       ap (λ (c : ℕ). let id : CodeId = record { 0 = c } in id) places
 
 module _ {lists : ProgramLists} {x : Annotations} (is_program : IsProgram lists) where
   -- a row goes on to one judgement at a place
-  same-next : {j k l : Judgement} (after : List Judgement) → Row lists x j after → Contains after k → Contains after l → place k ≡ place l → k ≡ l
+  same-next : {j k l : Judgement} (after : List Judgement) → Row lists x j after → Contains after k → Contains after l
+      → place k ≡ place l → k ≡ l
   same-next {j} {k} {l} after row among among_too same =
       let (n, there, says) = row-at row in
       let places = row-places lists x j after n says in
       let once : count_of (place k) (nexts lists ++ firsts lists) ≤ 1 = is_program.code (place k) in
-      let part : count_of (place k) (code_next n) ≤ count_of (place k) (nexts lists) = count-part code_next (place k) lists.code (place j) n there in
-      let few : count_of (place k) (map place after) ≤ 1 = subst (λ (ns : List ℕ). count_of (place k) ns ≤ 1) (sym places) (omega (arith, count-append (place k) (nexts lists) (firsts lists))) in
+      let part : count_of (place k) (code_next n)
+      ≤ count_of (place k) (nexts lists) = count-part code_next (place k) lists.code (place j) n there in
+      let few : count_of (place k) (map place after)
+      ≤ 1 = subst (λ (ns : List ℕ). count_of (place k) ns ≤ 1) (sym places)
+      (omega (arith, count-append (place k) (nexts lists) (firsts lists))) in
       one-place place (place k) after k l refl (sym same) few among among_too
 
   -- at a place one judgement follows from the start of the declaration
-  pub follows-unique : {first j k : Judgement} (p : ℕ) (d : ProcDecl) → slice_get lists.procs p ≡ Some d → first.code ≡ d.first → Follows lists x first j → Follows lists x first k → j.code ≡ k.code → j ≡ k
+  pub follows-unique : {first j k : Judgement} (p : ℕ) (d : ProcDecl) → slice_get lists.procs p ≡ Some d
+      → first.code ≡ d.first → Follows lists x first j → Follows lists x first k → j.code ≡ k.code → j ≡ k
   follows-unique p d declared begins Follows.first Follows.first same = refl
   follows-unique p d declared begins Follows.first (Follows.next after follows row among) same =
       absurd (not-first is_program p d declared (led-by after row among) (ap (λ c. c.0) (sym same ∙ begins)))
   follows-unique p d declared begins (Follows.next after follows row among) Follows.first same =
       absurd (not-first is_program p d declared (led-by after row among) (ap (λ c. c.0) (same ∙ begins)))
-  follows-unique {first} {j} {k} p d declared begins (Follows.next {j = i} after follows row among) (Follows.next {j = l} after_too follows_too row_too among_too) same =
+  follows-unique {first} {j} {k} p d declared begins (Follows.next {j = i} after follows row among)
+      (Follows.next {j = l} after_too follows_too row_too among_too) same =
       let places : place j ≡ place k = ap (λ c. c.0) same in
-      let before : i ≡ l = follows-unique p d declared begins follows follows_too (same-place is_program (led-by after row among) (led-by after_too row_too among_too) places) in
-      let row_there : Row lists x i after_too = subst (λ (s : Judgement). Row lists x s after_too) (sym before) row_too in
+      let before : i ≡ l = follows-unique p d declared begins follows follows_too
+      (same-place is_program (led-by after row among) (led-by after_too row_too among_too) places) in
+      let row_there : Row lists x i after_too = subst (λ (s : Judgement). Row lists x s after_too) (sym before)
+      row_too in
       let lists_same : after_too ≡ after = row-unique x is_program row_there row in
       same-next after row among (subst (λ (s : List Judgement). Contains s k) lists_same among_too) places

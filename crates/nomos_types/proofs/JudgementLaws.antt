@@ -76,17 +76,21 @@ acquired-comes holder (inr at_t) = (inr refl, subst (λ (k : Mode). IsTrue (may_
 
 module _ {lists : ProgramLists} (formed : IsWellFormed lists) where
   -- a channel that is used exactly once may be held, and its variable is in no other map
-  channel-held : {j : Judgement} → IsJudgement lists j → (v : VarId) (s : TypeId) → bound_to v.0 j.linear ≡ Some s → (others_with j v.0 ≡ 0) × MayBeHeld lists j.mode s
+  channel-held : {j : Judgement} → IsJudgement lists j → (v : VarId) (s : TypeId) → bound_to v.0 j.linear ≡ Some s
+      → (others_with j v.0 ≡ 0) × MayBeHeld lists j.mode s
   channel-held {j} h v s found =
       let here : count_one (bound_to v.0 j.linear) ≡ 1 = ap (λ (o : Option TypeId). count_one o) found in
       (omega (arith, h.apart v.0), all-bound (MayBeHeld lists j.mode) v.0 s j.linear h.linear_modes found)
 
   -- a part of what a channel's type unfolds to has the mode that it has as a part at the channel's mode
-  part-mode : {t u : TypeId} {m : Mode} {n : TypeNode} → (k : Mode) → HasMode lists t m → Unfolds lists t.0 n → Contains (part_modes lists m n) (u, k) → HasMode lists u k
+  part-mode : {t u : TypeId} {m : Mode} {n : TypeNode} → (k : Mode) → HasMode lists t m → Unfolds lists t.0 n
+      → Contains (part_modes lists m n) (u, k) → HasMode lists u k
   part-mode k there unfolds among = part-has_mode formed.program formed.contractive formed.modes there unfolds among
 
   -- a channel may go on at a part that has the channel's mode
-  may-go_on : {j : Judgement} → IsJudgement lists j → (c : Chan) (own client : TypeNode) (t : TypeId) → HasType lists j c (by_side c own client) → ((m : Mode) → Contains (part_modes lists m own) (t, m)) → ((m : Mode) → Contains (part_modes lists m client) (t, m)) → MayGoOn lists j c t
+  may-go_on : {j : Judgement} → IsJudgement lists j → (c : Chan) (own client : TypeNode) (t : TypeId)
+      → HasType lists j c (by_side c own client) → ((m : Mode) → Contains (part_modes lists m own) (t, m))
+      → ((m : Mode) → Contains (part_modes lists m client) (t, m)) → MayGoOn lists j c t
   may-go_on {j} h chan.Own own client t channel own_part client_part =
       let (s, found, unfolds) = channel in
       let same : j.offers ≡ s = cc in
@@ -99,7 +103,11 @@ module _ {lists : ProgramLists} (formed : IsWellFormed lists) where
       (no_other, (m, part-mode m its_mode unfolds (client_part m), linear, may))
 
   -- what is carried over a channel, for a pair of dual nodes that carry it first, is carried at its mode
-  carried-over : {j : Judgement} → IsJudgement lists j → (c : Chan) (own client : TypeNode) (a : TypeId) (k : Mode) → HasType lists j c (by_side c own client) → ((m : Mode) → Contains (part_modes lists m own) (a, carried_mode lists m a)) → ((m : Mode) → Contains (part_modes lists m client) (a, carried_mode lists m a)) → HasMode lists a k → IsCarriedMode k
+  carried-over : {j : Judgement} → IsJudgement lists j → (c : Chan) (own client : TypeNode) (a : TypeId) (k : Mode)
+      → HasType lists j c (by_side c own client)
+      → ((m : Mode) → Contains (part_modes lists m own) (a, carried_mode lists m a))
+      → ((m : Mode) → Contains (part_modes lists m client) (a, carried_mode lists m a)) → HasMode lists a k
+      → IsCarriedMode k
   carried-over {j} h chan.Own own client a k channel own_part client_part there =
       let (s, found, unfolds) = channel in
       let same : j.offers ≡ s = cc in
@@ -120,7 +128,9 @@ module _ {lists : ProgramLists} (formed : IsWellFormed lists) where
   one-judgement j h = All-cons (IsJudgement lists) j [] h (All-nil (IsJudgement lists))
 
   -- the arms go on at judgements
-  arms-keep : {j : Judgement} → (c : Chan) (branches : List Branch) → IsJudgement lists j → HasType lists j c (by_side c (node.With branches) (node.Plus branches)) → {arms : List Arm} {after : List Judgement} → ArmsGoOn j c branches arms after → All (IsJudgement lists) after
+  arms-keep : {j : Judgement} → (c : Chan) (branches : List Branch) → IsJudgement lists j
+      → HasType lists j c (by_side c (node.With branches) (node.Plus branches))
+      → {arms : List Arm} {after : List Judgement} → ArmsGoOn j c branches arms after → All (IsJudgement lists) after
   arms-keep c branches h channel none = All-nil (IsJudgement lists)
   arms-keep {j} c branches h channel (arm {a = a} {after = after} t goes rest) =
       let among = λ (m : Mode). branch-among m branches a.label t goes in
@@ -129,13 +139,15 @@ module _ {lists : ProgramLists} (formed : IsWellFormed lists) where
       All-cons (IsJudgement lists) (goes_on j c t a.goes) after (gone-on h c t a.goes may) others
 
   -- the type of `self` has the mode of the process
-  offers-mode : {j : Judgement} {s : TypeId} → IsJudgement lists j → channel_type j chan.Own ≡ Some s → HasMode lists s j.mode
+  offers-mode : {j : Judgement} {s : TypeId} → IsJudgement lists j → channel_type j chan.Own ≡ Some s
+      → HasMode lists s j.mode
   offers-mode {j} {s} h found =
       let same : j.offers ≡ s = cc in
       subst (λ (r : TypeId). HasMode lists r j.mode) same h.offers
 
   -- each judgement with which a row goes on is one
-  pub row-keeps_judgement : {x : Annotations} {j : Judgement} {after : List Judgement} → IsJudgement lists j → Row lists x j after → All (IsJudgement lists) after
+  pub row-keeps_judgement : {x : Annotations} {j : Judgement} {after : List Judgement} → IsJudgement lists j
+      → Row lists x j after → All (IsJudgement lists) after
   row-keeps_judgement {j = j} h (label {c = c} {l = l} {next = next} stands t says) =
       let bs = says.branches in
       let among = λ (m : Mode). branch-among m bs l t says.goes in
@@ -153,12 +165,14 @@ module _ {lists : ProgramLists} (formed : IsWellFormed lists) where
       let client = node.Tensor carried t in
       let may = may-go_on h c own client t says.channel (λ m. (1, omega arith, refl)) (λ m. (1, omega arith, refl)) in
       let carried_at =
-      carried-over h c own client carried m says.channel (λ m. (0, omega arith, refl)) (λ m. (0, omega arith, refl)) says.mode
+      carried-over h c own client carried m says.channel (λ m. (0, omega arith, refl)) (λ m. (0, omega arith, refl))
+      says.mode
       in
       let after = goes_on j c t next in
       let free = free-gone_on h c says.channel.0 t next y says.channel.1 says.free in
       let comes = carried-comes after.mode m carried_at in
-      one-judgement (binds_channel after y m carried) (channel-bound (gone-on h c t next may) y m carried free says.mode comes)
+      one-judgement (binds_channel after y m carried)
+      (channel-bound (gone-on h c t next may) y m carried free says.mode comes)
   row-keeps_judgement {j = j} h (put {c = c} {next = next} stands t says) =
       let own = node.ValueOut says.kind t in
       let client = node.ValueIn says.kind t in
@@ -195,14 +209,16 @@ module _ {lists : ProgramLists} (formed : IsWellFormed lists) where
       let held : All (λ b. MayBeHeld lists mode.L b.1) j.linear =
       λ k d inside. let (m, there, linear, may) = h.linear_modes k d inside in (m, there, linear, l-holds m linear)
       in
-      one-judgement (record j { mode = mode.L; offers = t; code = next }) (placed-elsewhere (taken-over h mode.L t its_mode held) j.q next)
+      one-judgement (record j { mode = mode.L; offers = t; code = next })
+      (placed-elsewhere (taken-over h mode.L t its_mode held) j.q next)
   row-keeps_judgement {j = j} h (detach {next = next} stands t says) =
       let (s, found, unfolds) = says.channel in
       let its_mode = part-mode mode.S (offers-mode h found) unfolds (0, omega arith, refl) in
       let held : All (λ b. MayBeHeld lists mode.S b.1) j.linear =
       λ k d inside. (mode.R, says.nothing_held k d inside, inl refl, refl)
       in
-      one-judgement (record j { mode = mode.S; offers = t; code = next }) (placed-elsewhere (taken-over h mode.S t its_mode held) j.q next)
+      one-judgement (record j { mode = mode.S; offers = t; code = next })
+      (placed-elsewhere (taken-over h mode.S t its_mode held) j.q next)
   row-keeps_judgement {j = j} h (acquire {a = a} {v = v} {next = next} stands t says) =
       let AtS : TypeId → Type 0 = λ s. HasMode lists s mode.S in
       let shared = all-bound AtS a.0 says.own j.shared h.shared_modes says.reference in
@@ -231,7 +247,8 @@ module _ {lists : ProgramLists} (formed : IsWellFormed lists) where
       one-judgement (binds_channel after v d.mode d.offers) (channel-bound there v d.mode d.offers free its_mode comes)
   row-keeps_judgement {j = j} h («let» {v = v} {next = next} stands kind says free) =
       one-judgement (binds_value (at_code j next) v kind) (value-bound (placed-elsewhere h j.q next) v kind free)
-  row-keeps_judgement {j = j} h (emit {next = next} stands kind says) = one-judgement (at_code j next) (placed-elsewhere h j.q next)
+  row-keeps_judgement {j = j} h (emit {next = next} stands kind says) =
+      one-judgement (at_code j next) (placed-elsewhere h j.q next)
   row-keeps_judgement {j = j} h (choose {then_next = then_next} {else_next = else_next} stands says) =
       All-cons (IsJudgement lists) (at_code j then_next) (at_code j else_next ∷ []) (placed-elsewhere h j.q then_next)
       (one-judgement (at_code j else_next) (placed-elsewhere h j.q else_next))
@@ -246,8 +263,10 @@ module _ {lists : ProgramLists} (formed : IsWellFormed lists) where
       let there : IsJudgement lists after = placed-elsewhere (list-unbound h w.0) j.q next in
       let free : IsFree after v = omega (arith, count-unbind v.0 w.0 j.lists h.lists_ascend, says.free) in
       let q = j.q - list.amount in
-      one-judgement (with_potential (binds_list after v list) q) (placed-elsewhere (list-bound there v list free) q next)
-  row-keeps_judgement {j = j} h (match {w = w} {head = head} {tail = tail} {empty_next = empty_next} {full_next = full_next} stands list says) =
+      one-judgement (with_potential (binds_list after v list) q)
+      (placed-elsewhere (list-bound there v list free) q next)
+  row-keeps_judgement {j = j} h (match {w = w} {head = head} {tail = tail} {empty_next = empty_next}
+      {full_next = full_next} stands list says) =
       let ended : Judgement = record (at_code j empty_next) { lists = unbind w.0 j.lists } in
       let after : Judgement = record (at_code j full_next) { lists = unbind w.0 j.lists } in
       let there : IsJudgement lists after = placed-elsewhere (list-unbound h w.0) j.q full_next in
@@ -260,15 +279,21 @@ module _ {lists : ProgramLists} (formed : IsWellFormed lists) where
       let head_free : IsFree (binds_list after tail list) head = omega (arith, says.head_free) in
       let q = j.q + list.amount in
       let full : Judgement = with_potential (binds_value (binds_list after tail list) head list.kind) q in
-      let full_there : IsJudgement lists full = placed-elsewhere (value-bound with_tail head list.kind head_free) q full_next in
-      All-cons (IsJudgement lists) ended (full ∷ []) (placed-elsewhere (list-unbound h w.0) j.q empty_next) (one-judgement full full_there)
+      let full_there : IsJudgement lists full = placed-elsewhere (value-bound with_tail head list.kind head_free) q
+      full_next in
+      All-cons (IsJudgement lists) ended (full ∷ []) (placed-elsewhere (list-unbound h w.0) j.q empty_next)
+      (one-judgement full full_there)
 
   -- each judgement that follows from one is one
-  follows-from_judgement : {x : Annotations} {i j : Judgement} → IsJudgement lists i → Follows lists x i j → IsJudgement lists j
+  follows-from_judgement : {x : Annotations} {i j : Judgement} → IsJudgement lists i → Follows lists x i j
+      → IsJudgement lists j
   follows-from_judgement h derivation.first = h
   follows-from_judgement {x} {i} h (derivation.next {k = k} after before row among) =
       All-contains (IsJudgement lists) after k (row-keeps_judgement (follows-from_judgement h before) row) among
 
 -- each judgement that follows from the start of a declaration is one
-pub follows-is_judgement : {lists : ProgramLists} {d : ProcDecl} {j : Judgement} → (x : Annotations) (p : ℕ) → IsWellFormed lists → slice_get lists.procs p ≡ Some d → Follows lists x (start_of lists x d) j → IsJudgement lists j
-follows-is_judgement x p formed found follows = follows-from_judgement formed (start-is_judgement x p formed found) follows
+pub follows-is_judgement : {lists : ProgramLists} {d : ProcDecl} {j : Judgement} → (x : Annotations) (p : ℕ)
+    → IsWellFormed lists → slice_get lists.procs p ≡ Some d → Follows lists x (start_of lists x d) j
+    → IsJudgement lists j
+follows-is_judgement x p formed found follows =
+    follows-from_judgement formed (start-is_judgement x p formed found) follows

@@ -25,11 +25,13 @@ others_with j v = count_one (bound_to v j.kinds) + count_one (bound_to v j.lists
 count-bound : {X : Type 0} (v : VarId) (x : X) (b : List (VarId × X)) → count_one (bound_to v.0 (bind v x b)) ≡ 1
 count-bound {X = X} v x b = ap (λ (o : Option X). count_one o) (bound-after_bind v x b)
 
-pub count-other : {X : Type 0} (w : ℕ) (v : VarId) (x : X) (b : List (VarId × X)) → w ≢ v.0 → count_one (bound_to w (bind v x b)) ≡ count_one (bound_to w b)
+pub count-other : {X : Type 0} (w : ℕ) (v : VarId) (x : X) (b : List (VarId × X)) → w ≢ v.0
+    → count_one (bound_to w (bind v x b)) ≡ count_one (bound_to w b)
 count-other {X = X} w v x b other = ap (λ (o : Option X). count_one o) (bound-after_bind_other w v x b other)
 
 -- an unbound variable is bound in no more maps
-pub count-unbind : {X : Type 0} (w v : ℕ) (b : List (VarId × X)) → IsAscending b → count_one (bound_to w (unbind v b)) ≤ count_one (bound_to w b)
+pub count-unbind : {X : Type 0} (w v : ℕ) (b : List (VarId × X)) → IsAscending b
+    → count_one (bound_to w (unbind v b)) ≤ count_one (bound_to w b)
 count-unbind {X = X} w v b ascending =
     elim (cases_eq w v) [
       | inl same ↦
@@ -73,7 +75,8 @@ module _ {lists : ProgramLists} {j : Judgement} (h : IsJudgement lists j) where
       }
 
   -- at another mode, with a type of that mode, where what it holds may be held at that mode
-  pub taken-over : (m : Mode) (t : TypeId) → HasMode lists t m → All (λ b. MayBeHeld lists m b.1) j.linear → IsJudgement lists (record j { mode = m; offers = t })
+  pub taken-over : (m : Mode) (t : TypeId) → HasMode lists t m → All (λ b. MayBeHeld lists m b.1) j.linear
+      → IsJudgement lists (record j { mode = m; offers = t })
   taken-over m t its_mode held =
       record {
         kinds = h.kinds;
@@ -89,7 +92,8 @@ module _ {lists : ProgramLists} {j : Judgement} (h : IsJudgement lists j) where
   -- ---- a variable bound
 
   -- a channel that is used exactly once, at a variable that is in no other map
-  pub linear-bound : (v : VarId) (t : TypeId) → others_with j v.0 ≡ 0 → MayBeHeld lists j.mode t → IsJudgement lists (record j { linear = bind v t j.linear })
+  pub linear-bound : (v : VarId) (t : TypeId) → others_with j v.0 ≡ 0 → MayBeHeld lists j.mode t
+      → IsJudgement lists (record j { linear = bind v t j.linear })
   linear-bound v t free held =
       let after : Judgement = record j { linear = bind v t j.linear } in
       let here : parts_with after v.0 ≤ 1 = omega (arith, count-bound v t j.linear) in
@@ -108,7 +112,8 @@ module _ {lists : ProgramLists} {j : Judgement} (h : IsJudgement lists j) where
       }
 
   -- a reference, at a free variable
-  pub shared-bound : (v : VarId) (t : TypeId) → IsFree j v → HasMode lists t mode.S → IsJudgement lists (record j { shared = bind v t j.shared })
+  pub shared-bound : (v : VarId) (t : TypeId) → IsFree j v → HasMode lists t mode.S
+      → IsJudgement lists (record j { shared = bind v t j.shared })
   shared-bound v t free its_mode =
       let after : Judgement = record j { shared = bind v t j.shared } in
       let here : parts_with after v.0 ≤ 1 = omega (arith, count-bound v t j.shared) in
@@ -165,7 +170,8 @@ module _ {lists : ProgramLists} {j : Judgement} (h : IsJudgement lists j) where
       }
 
   -- a channel of any mode that may come, at a free variable
-  pub channel-bound : (v : VarId) (m : Mode) (t : TypeId) → IsFree j v → HasMode lists t m → MayCome j.mode m → IsJudgement lists (binds_channel j v m t)
+  pub channel-bound : (v : VarId) (m : Mode) (t : TypeId) → IsFree j v → HasMode lists t m → MayCome j.mode m
+      → IsJudgement lists (binds_channel j v m t)
   channel-bound v mode.S t free its_mode may = shared-bound v t free its_mode
   channel-bound v mode.R t free its_mode may = linear-bound v t (omega arith) (mode.R, its_mode, may.0, may.1)
   channel-bound v mode.L t free its_mode may = linear-bound v t (omega arith) (mode.L, its_mode, may.0, may.1)
@@ -209,12 +215,15 @@ MayGoOn lists j chan.Own t = HasMode lists t j.mode
 MayGoOn lists j (chan.Var v) t = (others_with j v.0 ≡ 0) × MayBeHeld lists j.mode t
 
 -- it goes on
-pub gone-on : {lists : ProgramLists} {j : Judgement} → IsJudgement lists j → (c : Chan) (t : TypeId) (next : CodeId) → MayGoOn lists j c t → IsJudgement lists (goes_on j c t next)
+pub gone-on : {lists : ProgramLists} {j : Judgement} → IsJudgement lists j → (c : Chan) (t : TypeId) (next : CodeId)
+    → MayGoOn lists j c t → IsJudgement lists (goes_on j c t next)
 gone-on {j = j} h chan.Own t next may = placed-elsewhere (taken-over h j.mode t may h.linear_modes) j.q next
 gone-on {j = j} h (chan.Var v) t next may = placed-elsewhere (linear-bound h v t may.0 may.1) j.q next
 
 -- a variable that is free stays free when a channel goes on
-pub free-gone_on : {lists : ProgramLists} {j : Judgement} → IsJudgement lists j → (c : Chan) (s t : TypeId) (next : CodeId) (y : VarId) → channel_type j c ≡ Some s → IsFree j y → IsFree (goes_on j c t next) y
+pub free-gone_on : {lists : ProgramLists} {j : Judgement} → IsJudgement lists j
+    → (c : Chan) (s t : TypeId) (next : CodeId) (y : VarId) → channel_type j c ≡ Some s → IsFree j y
+    → IsFree (goes_on j c t next) y
 free-gone_on h chan.Own s t next y found free = free
 free-gone_on {j = j} h (chan.Var v) s t next y found free =
     let here : count_one (bound_to v.0 j.linear) ≡ 1 = ap (λ (o : Option TypeId). count_one o) found in

@@ -9,7 +9,9 @@ lt_or_same : (k i : ℕ) → k < i + 1 → (k < i) ⊎ (i ≡ k)
 lt_or_same k i h = elim (cases_lt k i) [ inl below ↦ inl below | inr above ↦ inr (omega arith) ]
 
 -- what holds of the items below i, and of the item at i, holds of those below i + 1
-pub all_below_more : {X : Type 0} (P : X → Type 0) (xs : List X) (i : ℕ) (e : X) → i < length xs → ((k : ℕ) (d : X) → k < i → P (get_or xs k d)) → P (get_or xs i e) → (k : ℕ) (d : X) → k < i + 1 → P (get_or xs k d)
+pub all_below_more : {X : Type 0} (P : X → Type 0) (xs : List X) (i : ℕ) (e : X) → i < length xs
+    → ((k : ℕ) (d : X) → k < i → P (get_or xs k d)) → P (get_or xs i e) → (k : ℕ) (d : X) → k < i + 1
+    → P (get_or xs k d)
 all_below_more {X} P xs i e inside before here k d h =
     elim (lt_or_same k i h) [
       | inl below ↦ before k d below

@@ -41,7 +41,8 @@ map-twice f g [] = refl
 map-twice f g (x ∷ xs) = ap (λ ys. f (g x) ∷ ys) (map-twice f g xs)
 
 -- the same over the lists of many items
-map-flat : {X Y Z W : Type 0} (f : Y → Z) (g : W → Y) (h : X → List W) (xs : List X) → map f (flat_map (λ x. map g (h x)) xs) ≡ flat_map (λ x. map (λ w. f (g w)) (h x)) xs
+map-flat : {X Y Z W : Type 0} (f : Y → Z) (g : W → Y) (h : X → List W) (xs : List X)
+    → map f (flat_map (λ x. map g (h x)) xs) ≡ flat_map (λ x. map (λ w. f (g w)) (h x)) xs
 map-flat f g h [] = refl
 map-flat f g h (x ∷ xs) =
     map-append f (map g (h x)) (flat_map (λ y. map g (h y)) xs) ∙ ap₂ ◌++◌ (map-twice f g (h x)) (map-flat f g h xs)
@@ -61,7 +62,8 @@ abbrev pub node_parts : TypeAt → List ℕ
 node_parts at = type_parts at.node
 
 -- the whole types with modes are the whole types in their places
-whole-numbers : (lists : ProgramLists) → map type_number (whole_modes lists) ≡ def_places lists ++ channel_places lists ++ offer_places lists
+whole-numbers : (lists : ProgramLists)
+    → map type_number (whole_modes lists) ≡ def_places lists ++ channel_places lists ++ offer_places lists
 whole-numbers lists =
     let of_def : Def → TypeId × Mode = λ d. (d.body, d.mode) in
     let of_channel : VarId × TypeId → TypeId × Mode = λ par. (par.1, parameter_mode lists par.1) in
@@ -92,7 +94,8 @@ part-numbers lists m (node.Down a) = refl
 part-numbers lists m (node.Named d) = refl
 
 -- a type stands once: either as a whole type or as a part
-stands-once : (lists : ProgramLists) (t : ℕ) → IsProgram lists → t < length lists.types → count_of t (map type_number (whole_modes lists)) + count_of t (flat_map node_parts lists.types) ≡ 1
+stands-once : (lists : ProgramLists) (t : ℕ) → IsProgram lists → t < length lists.types
+    → count_of t (map type_number (whole_modes lists)) + count_of t (flat_map node_parts lists.types) ≡ 1
 stands-once lists t is_program inside =
     let defs = def_places lists in
     let parts = flat_map node_parts lists.types in
@@ -110,7 +113,8 @@ stands-once lists t is_program inside =
 -- ---- ranges
 
 -- what stands whole is a type node
-whole-in_range : (lists : ProgramLists) (t : ℕ) → IsProgram lists → Contains (map type_number (whole_modes lists)) t → t < length lists.types
+whole-in_range : (lists : ProgramLists) (t : ℕ) → IsProgram lists → Contains (map type_number (whole_modes lists)) t
+    → t < length lists.types
 whole-in_range lists t is_program among =
     let n = length lists.types in
     let P : ℕ → Type 0 = λ k. k < n in
@@ -131,13 +135,15 @@ whole-in_range lists t is_program among =
     All-contains P (before ++ offer_places lists) t all there
 
 -- the numbers of types that stand as parts are parts
-pub part-number : (lists : ProgramLists) (m k : Mode) (n : TypeNode) (t : TypeId) → Contains (part_modes lists m n) (t, k) → Contains (type_parts n) t.0
+pub part-number : (lists : ProgramLists) (m k : Mode) (n : TypeNode) (t : TypeId)
+    → Contains (part_modes lists m n) (t, k) → Contains (type_parts n) t.0
 part-number lists m k n t among =
     let numbered = contains-map type_number (part_modes lists m n) (t, k) t.0 among refl in
     subst (λ (xs : List ℕ). Contains xs t.0) (part-numbers lists m n) numbered
 
 -- what has a mode is a type node
-pub mode-in_range : {lists : ProgramLists} {t : TypeId} {m : Mode} → IsProgram lists → HasMode lists t m → t.0 < length lists.types
+pub mode-in_range : {lists : ProgramLists} {t : TypeId} {m : Mode} → IsProgram lists → HasMode lists t m
+    → t.0 < length lists.types
 mode-in_range {lists = lists} {t = t} {m = m} is_program (whole among) =
     whole-in_range lists t.0 is_program (contains-map type_number (whole_modes lists) (t, m) t.0 among refl)
 mode-in_range {lists = lists} {t = t} {m = m} is_program (part outer k n _ there among) =
@@ -171,7 +177,8 @@ body-has_mode lists k d found =
     whole (Contains-append_left (defs ++ channels) offers (of_def d) before)
 
 -- a channel parameter has the mode that its type shows
-pub parameter-has_mode : (lists : ProgramLists) (p : ℕ) (d : ProcDecl) (v : VarId) (t : TypeId) → slice_get lists.procs p ≡ Some d → Contains d.channels (v, t) → HasMode lists t (parameter_mode lists t)
+pub parameter-has_mode : (lists : ProgramLists) (p : ℕ) (d : ProcDecl) (v : VarId) (t : TypeId)
+    → slice_get lists.procs p ≡ Some d → Contains d.channels (v, t) → HasMode lists t (parameter_mode lists t)
 parameter-has_mode lists p d v t found among =
     let defs = map of_def lists.defs in
     let channels = flat_map (of_channels lists) lists.procs in
@@ -182,7 +189,8 @@ parameter-has_mode lists p d v t found among =
     whole (Contains-append_left (defs ++ channels) offers place (Contains-append_right defs channels place here))
 
 -- the offered type of a declaration has the declaration's mode
-pub offered-has_mode : (lists : ProgramLists) (p : ℕ) (d : ProcDecl) → slice_get lists.procs p ≡ Some d → HasMode lists d.offers d.mode
+pub offered-has_mode : (lists : ProgramLists) (p : ℕ) (d : ProcDecl) → slice_get lists.procs p ≡ Some d
+    → HasMode lists d.offers d.mode
 offered-has_mode lists p d found =
     let defs = map of_def lists.defs in
     let channels = flat_map (of_channels lists) lists.procs in
@@ -198,7 +206,9 @@ abbrev type_with : ℕ → TypeId
 type_with n = record { 0 = n }
 
 -- the same, by the number of the type
-keeps-mode : {lists : ProgramLists} {t : ℕ} {n : TypeNode} → (m : Mode) → ObeysModes lists → HasMode lists (type_with t) m → Unfolds lists t n → (u : TypeId) × (type_node lists u.0 ≡ Some n) × HasMode lists u m
+keeps-mode : {lists : ProgramLists} {t : ℕ} {n : TypeNode} → (m : Mode) → ObeysModes lists
+    → HasMode lists (type_with t) m → Unfolds lists t n
+    → (u : TypeId) × (type_node lists u.0 ≡ Some n) × HasMode lists u m
 keeps-mode m obeys there (constructor t n found no_name) = (type_with t, found, there)
 keeps-mode {lists = lists} m obeys there (name t id def n named found rest) =
     let shown = (obeys.allowed (type_with t) m (node.Named id) there named).0 in
@@ -209,17 +219,22 @@ keeps-mode {lists = lists} m obeys there (name t id def n named found rest) =
     keeps-mode m obeys body rest
 
 -- what a type unfolds to stands at a type of the same mode
-pub unfolding-keeps_mode : {lists : ProgramLists} {t : TypeId} {m : Mode} {n : TypeNode} → IsProgram lists → IsContractive lists → ObeysModes lists → HasMode lists t m → Unfolds lists t.0 n → (u : TypeId) × (type_node lists u.0 ≡ Some n) × HasMode lists u m
+pub unfolding-keeps_mode : {lists : ProgramLists} {t : TypeId} {m : Mode} {n : TypeNode} → IsProgram lists
+    → IsContractive lists → ObeysModes lists → HasMode lists t m → Unfolds lists t.0 n
+    → (u : TypeId) × (type_node lists u.0 ≡ Some n) × HasMode lists u m
 unfolding-keeps_mode {m = m} is_program contractive obeys there unfolds = keeps-mode m obeys there unfolds
 
 -- the parts of what a type unfolds to have the modes of parts at its mode
-pub part-has_mode : {lists : ProgramLists} {t u : TypeId} {m k : Mode} {n : TypeNode} → IsProgram lists → IsContractive lists → ObeysModes lists → HasMode lists t m → Unfolds lists t.0 n → Contains (part_modes lists m n) (u, k) → HasMode lists u k
+pub part-has_mode : {lists : ProgramLists} {t u : TypeId} {m k : Mode} {n : TypeNode} → IsProgram lists
+    → IsContractive lists → ObeysModes lists → HasMode lists t m → Unfolds lists t.0 n
+    → Contains (part_modes lists m n) (u, k) → HasMode lists u k
 part-has_mode {m = m} {n = n} is_program contractive obeys there unfolds among =
     let head = keeps-mode m obeys there unfolds in
     part head.0 m n head.2 head.1 among
 
 -- each branch is a part with the mode of the choice
-pub branch-among : (m : Mode) (branches : List Branch) (l : Label) (u : TypeId) → goes_by branches l ≡ Some u → Contains {X = TypeId × Mode} (map (λ b. (b.goes, m)) branches) (u, m)
+pub branch-among : (m : Mode) (branches : List Branch) (l : Label) (u : TypeId) → goes_by branches l ≡ Some u
+    → Contains {X = TypeId × Mode} (map (λ b. (b.goes, m)) branches) (u, m)
 branch-among m branches l u goes =
     let place : Branch → TypeId × Mode = λ b. (b.goes, m) in
     let each : All (λ b. Contains (map place branches) (place b)) branches =
@@ -230,19 +245,25 @@ branch-among m branches l u goes =
     goes-all (λ t. Contains {X = TypeId × Mode} (map place branches) (t, m)) branches l u each goes
 
 -- the branches of an internal choice have its mode
-pub plus-branch-has_mode : {lists : ProgramLists} {t u : TypeId} {m : Mode} → (branches : List Branch) (l : Label) → IsProgram lists → IsContractive lists → ObeysModes lists → HasMode lists t m → Unfolds lists t.0 (node.Plus branches) → goes_by branches l ≡ Some u → HasMode lists u m
+pub plus-branch-has_mode : {lists : ProgramLists} {t u : TypeId} {m : Mode} → (branches : List Branch) (l : Label)
+    → IsProgram lists → IsContractive lists → ObeysModes lists → HasMode lists t m
+    → Unfolds lists t.0 (node.Plus branches) → goes_by branches l ≡ Some u → HasMode lists u m
 plus-branch-has_mode {u = u} {m = m} branches l is_program contractive obeys there unfolds goes =
     part-has_mode is_program contractive obeys there unfolds (branch-among m branches l u goes)
 
 -- the branches of an external choice have its mode
-pub with-branch-has_mode : {lists : ProgramLists} {t u : TypeId} {m : Mode} → (branches : List Branch) (l : Label) → IsProgram lists → IsContractive lists → ObeysModes lists → HasMode lists t m → Unfolds lists t.0 (node.With branches) → goes_by branches l ≡ Some u → HasMode lists u m
+pub with-branch-has_mode : {lists : ProgramLists} {t u : TypeId} {m : Mode} → (branches : List Branch) (l : Label)
+    → IsProgram lists → IsContractive lists → ObeysModes lists → HasMode lists t m
+    → Unfolds lists t.0 (node.With branches) → goes_by branches l ≡ Some u → HasMode lists u m
 with-branch-has_mode {u = u} {m = m} branches l is_program contractive obeys there unfolds goes =
     part-has_mode is_program contractive obeys there unfolds (branch-among m branches l u goes)
 
 -- ---- one mode
 
 -- a part stands among the parts of the node at its outer type
-part-stands : (lists : ProgramLists) (t outer : TypeId) (m k : Mode) (n : TypeNode) → type_node lists outer.0 ≡ Some n → Contains (part_modes lists k n) (t, m) → (at : TypeAt) × (slice_get lists.types outer.0 ≡ Some at) × (1 ≤ count_of t.0 (node_parts at)) × (at.node ≡ n)
+part-stands : (lists : ProgramLists) (t outer : TypeId) (m k : Mode) (n : TypeNode) → type_node lists outer.0 ≡ Some n
+    → Contains (part_modes lists k n) (t, m)
+    → (at : TypeAt) × (slice_get lists.types outer.0 ≡ Some at) × (1 ≤ count_of t.0 (node_parts at)) × (at.node ≡ n)
 part-stands lists t outer m k n there among =
     let at = type_node-at lists outer.0 n there in
     let parts : Contains (type_parts at.0.node) t.0 =
@@ -251,7 +272,9 @@ part-stands lists t outer m k n there among =
     (at.0, at.1, counted t.0 (type_parts at.0.node) parts, at.2)
 
 -- a type does not stand both whole and as a part
-whole-or-part : (lists : ProgramLists) (t outer : TypeId) (m j k : Mode) (n : TypeNode) → IsProgram lists → t.0 < length lists.types → Contains (whole_modes lists) (t, m) → type_node lists outer.0 ≡ Some n → Contains (part_modes lists k n) (t, j) → ⊥
+whole-or-part : (lists : ProgramLists) (t outer : TypeId) (m j k : Mode) (n : TypeNode) → IsProgram lists
+    → t.0 < length lists.types → Contains (whole_modes lists) (t, m) → type_node lists outer.0 ≡ Some n
+    → Contains (part_modes lists k n) (t, j) → ⊥
 whole-or-part lists t outer m j k n is_program inside among there part_among =
     let wholes = map type_number (whole_modes lists) in
     let numbered = contains-map type_number (whole_modes lists) (t, m) t.0 among refl in
@@ -261,7 +284,9 @@ whole-or-part lists t outer m j k n is_program inside among there part_among =
     omega (arith, stands-once lists t.0 is_program inside, at.2)
 
 -- where the outer types, their modes and nodes are the same, so are the modes of a part
-same-part : (lists : ProgramLists) (t outer : TypeId) (m j k : Mode) (n : TypeNode) → IsProgram lists → t.0 < length lists.types → type_node lists outer.0 ≡ Some n → Contains (part_modes lists k n) (t, m) → Contains (part_modes lists k n) (t, j) → m ≡ j
+same-part : (lists : ProgramLists) (t outer : TypeId) (m j k : Mode) (n : TypeNode) → IsProgram lists
+    → t.0 < length lists.types → type_node lists outer.0 ≡ Some n → Contains (part_modes lists k n) (t, m)
+    → Contains (part_modes lists k n) (t, j) → m ≡ j
 same-part lists t outer m j k n is_program inside there m_among j_among =
     let at = part-stands lists t outer m k n there m_among in
     let as_part = count-part node_parts t.0 lists.types outer.0 at.0 at.1 in
@@ -273,7 +298,9 @@ same-part lists t outer m j k n is_program inside there m_among j_among =
     ap (λ (p : TypeId × Mode). p.1) same
 
 -- a part has one outer type
-same-outer : (lists : ProgramLists) (t o p : TypeId) (m j k i : Mode) (n q : TypeNode) → IsProgram lists → t.0 < length lists.types → type_node lists o.0 ≡ Some n → Contains (part_modes lists k n) (t, m) → type_node lists p.0 ≡ Some q → Contains (part_modes lists i q) (t, j) → o ≡ p
+same-outer : (lists : ProgramLists) (t o p : TypeId) (m j k i : Mode) (n q : TypeNode) → IsProgram lists
+    → t.0 < length lists.types → type_node lists o.0 ≡ Some n → Contains (part_modes lists k n) (t, m)
+    → type_node lists p.0 ≡ Some q → Contains (part_modes lists i q) (t, j) → o ≡ p
 same-outer lists t o p m j k i n q is_program inside o_there m_among p_there j_among =
     let o_at = part-stands lists t o m k n o_there m_among in
     let p_at = part-stands lists t p j i q p_there j_among in
@@ -282,7 +309,8 @@ same-outer lists t o p m j k i n q is_program inside o_there m_among p_there j_a
     ap type_with (one-part node_parts t.0 lists.types o.0 p.0 o_at.0 p_at.0 once o_at.1 p_at.1 o_at.2 p_at.2)
 
 -- a type has one mode
-pub mode-unique : {lists : ProgramLists} {t : TypeId} {m n : Mode} → IsProgram lists → HasMode lists t m → HasMode lists t n → m ≡ n
+pub mode-unique : {lists : ProgramLists} {t : TypeId} {m n : Mode} → IsProgram lists → HasMode lists t m
+    → HasMode lists t n → m ≡ n
 mode-unique {lists = lists} {t = t} {m = m} {n = n} is_program (whole m_among) (whole n_among) =
     let inside : t.0 < length lists.types = mode-in_range is_program (whole m_among) in
     let stands = stands-once lists t.0 is_program inside in
@@ -295,7 +323,8 @@ mode-unique {lists = lists} {t = t} {m = m} {n = n} is_program (whole m_among) (
 mode-unique {lists = lists} {t = t} {m = m} {n = n} is_program (part outer k node _ there m_among) (whole n_among) =
     let inside : t.0 < length lists.types = mode-in_range is_program (whole n_among) in
     absurd (whole-or-part lists t outer n m k node is_program inside n_among there m_among)
-mode-unique {lists = lists} {t = t} {m = m} {n = n} is_program (part o k a o_mode there m_among) (part p i b p_mode there2 n_among) =
+mode-unique {lists = lists} {t = t} {m = m} {n = n} is_program (part o k a o_mode there m_among)
+    (part p i b p_mode there2 n_among) =
     let inside : t.0 < length lists.types = mode-in_range is_program (part o k a o_mode there m_among) in
     let outers : o ≡ p = same-outer lists t o p m n k i a b is_program inside there m_among there2 n_among in
     let nodes : a ≡ b = cc in
@@ -308,14 +337,16 @@ mode-unique {lists = lists} {t = t} {m = m} {n = n} is_program (part o k a o_mod
 -- ---- a mode for each type
 
 -- a type that stands whole has a mode
-whole-exists : (lists : ProgramLists) (t : TypeId) → Contains (map type_number (whole_modes lists)) t.0 → (m : Mode) × HasMode lists t m
+whole-exists : (lists : ProgramLists) (t : TypeId) → Contains (map type_number (whole_modes lists)) t.0
+    → (m : Mode) × HasMode lists t m
 whole-exists lists t among =
     let p = contains-unmap type_number (whole_modes lists) t.0 among in
     let place : p.0 ≡ (t, p.0.1) = ap (λ (n : ℕ). let q : TypeId × Mode = (type_with n, p.0.1) in q) p.2 in
     (p.0.1, whole (subst (λ (q : TypeId × Mode). Contains (whole_modes lists) q) place p.1))
 
 -- a part of a type that has a mode has a mode
-part-exists : (lists : ProgramLists) (t outer : TypeId) (k : Mode) (n : TypeNode) → HasMode lists outer k → type_node lists outer.0 ≡ Some n → Contains (type_parts n) t.0 → (m : Mode) × HasMode lists t m
+part-exists : (lists : ProgramLists) (t outer : TypeId) (k : Mode) (n : TypeNode) → HasMode lists outer k
+    → type_node lists outer.0 ≡ Some n → Contains (type_parts n) t.0 → (m : Mode) × HasMode lists t m
 part-exists lists t outer k n outer_mode there among =
     let parts = part_modes lists k n in
     let numbers = sym (part-numbers lists k n) in
@@ -325,7 +356,8 @@ part-exists lists t outer k n outer_mode there among =
     (p.0.1, part outer k n outer_mode there (subst (λ (q : TypeId × Mode). Contains parts q) place p.1))
 
 -- by the number of types from this one on: an outer type has a higher number
-exists-from : (lists : ProgramLists) (left : ℕ) (t : TypeId) → IsProgram lists → t.0 < length lists.types → length lists.types ≤ t.0 + left → (m : Mode) × HasMode lists t m
+exists-from : (lists : ProgramLists) (left : ℕ) (t : TypeId) → IsProgram lists → t.0 < length lists.types
+    → length lists.types ≤ t.0 + left → (m : Mode) × HasMode lists t m
 exists-from lists zero t is_program inside enough = absurd (omega arith)
 exists-from lists (suc left) t is_program inside enough =
     let wholes = map type_number (whole_modes lists) in
@@ -345,5 +377,6 @@ exists-from lists (suc left) t is_program inside enough =
     ]
 
 -- each type node has a mode
-pub mode-exists : (lists : ProgramLists) (t : TypeId) → IsProgram lists → t.0 < length lists.types → (m : Mode) × HasMode lists t m
+pub mode-exists : (lists : ProgramLists) (t : TypeId) → IsProgram lists → t.0 < length lists.types
+    → (m : Mode) × HasMode lists t m
 mode-exists lists t is_program inside = exists-from lists (length lists.types) t is_program inside (omega arith)

@@ -23,7 +23,8 @@ contains-tail : {X : Type 0} (x y : X) (xs : List X) → Contains xs y → Conta
 contains-tail x y xs there = (suc there.0, omega arith, there.2)
 
 -- an element is the first or one of the others, by its place
-contains-at : {X : Type 0} (x y : X) (xs : List X) (k : ℕ) → k < length (x ∷ xs) → get_or (x ∷ xs) k y ≡ y → (x ≡ y) ⊎ Contains xs y
+contains-at : {X : Type 0} (x y : X) (xs : List X) (k : ℕ) → k < length (x ∷ xs) → get_or (x ∷ xs) k y ≡ y
+    → (x ≡ y) ⊎ Contains xs y
 contains-at x y xs zero inside at = inl at
 contains-at x y xs (suc k) inside at = inr (k, omega arith, at)
 
@@ -32,13 +33,15 @@ contains-cases : {X : Type 0} (x y : X) (xs : List X) → Contains (x ∷ xs) y 
 contains-cases x y xs there = contains-at x y xs there.0 there.1 there.2
 
 -- what an element is mapped to is an element of the mapped list
-pub contains-map : {X Y : Type 0} (f : X → Y) (xs : List X) (x : X) (y : Y) → Contains xs x → f x ≡ y → Contains (map f xs) y
+pub contains-map : {X Y : Type 0} (f : X → Y) (xs : List X) (x : X) (y : Y) → Contains xs x → f x ≡ y
+    → Contains (map f xs) y
 contains-map f xs x y there same =
     let inside : there.0 < length (map f xs) = rw length-map there.1 in
     (there.0, inside, get_or-map f xs there.0 x y there.1 ∙ ap f there.2 ∙ same)
 
 -- an element of the mapped list comes from one of the list
-pub contains-unmap : {X Y : Type 0} (f : X → Y) (xs : List X) (y : Y) → Contains (map f xs) y → (x : X) × Contains xs x × (f x ≡ y)
+pub contains-unmap : {X Y : Type 0} (f : X → Y) (xs : List X) (y : Y) → Contains (map f xs) y
+    → (x : X) × Contains xs x × (f x ≡ y)
 contains-unmap f [] y there = absurd (omega (arith, there.1))
 contains-unmap f (x ∷ xs) y there =
     elim (contains-cases (f x) y (map f xs) there) [
@@ -51,7 +54,8 @@ pub contains-found : {X : Type 0} (xs : List X) (k : ℕ) (x : X) → slice_get 
 contains-found xs k x found = (k, slice_get_within xs k x found, get_or_from_slice_get xs k x x found)
 
 -- an element of the list of one item is an element of the lists of all
-pub contains-part : {X Y : Type 0} (g : X → List Y) (xs : List X) (k : ℕ) (x : X) (y : Y) → slice_get xs k ≡ Some x → Contains (g x) y → Contains (flat_map g xs) y
+pub contains-part : {X Y : Type 0} (g : X → List Y) (xs : List X) (k : ℕ) (x : X) (y : Y) → slice_get xs k ≡ Some x
+    → Contains (g x) y → Contains (flat_map g xs) y
 contains-part g [] k x y found there = absurd cc
 contains-part g (z ∷ xs) zero x y found there =
     let same : x ≡ z = cc in
@@ -60,7 +64,8 @@ contains-part g (z ∷ xs) (suc k) x y found there =
     Contains-append_right (g z) (flat_map g xs) y (contains-part g xs k x y found there)
 
 -- what holds of the elements of each item's list holds of those of all
-pub all-flat : {X Y : Type 0} (P : Y → Type 0) (g : X → List Y) (xs : List X) → All (λ x. All P (g x)) xs → All P (flat_map g xs)
+pub all-flat : {X Y : Type 0} (P : Y → Type 0) (g : X → List Y) (xs : List X) → All (λ x. All P (g x)) xs
+    → All P (flat_map g xs)
 all-flat P g [] all = All-nil P
 all-flat {X = X} P g (x ∷ xs) all =
     let Q : X → Type 0 = λ z. All P (g z) in
@@ -92,7 +97,8 @@ counted n xs there =
     omega (arith, get_or-le-sum_by (one_at n) xs there.0 n there.1)
 
 -- the same, where the test of the first is known
-contained-at : (n x : ℕ) (xs : List ℕ) (t : Bool) → (x == n) ≡ t → 1 ≤ count_of n (x ∷ xs) → (1 ≤ count_of n xs → Contains xs n) → Contains (x ∷ xs) n
+contained-at : (n x : ℕ) (xs : List ℕ) (t : Bool) → (x == n) ≡ t → 1 ≤ count_of n (x ∷ xs)
+    → (1 ≤ count_of n xs → Contains xs n) → Contains (x ∷ xs) n
 contained-at n x xs true here occurs rest = contains-head x n xs (eqb-true x n here)
 contained-at n x xs false here occurs rest =
     contains-tail x n xs (rest (omega (arith, count-elsewhere n x xs here)))
@@ -103,13 +109,15 @@ contained n [] occurs = absurd (omega arith)
 contained n (x ∷ xs) occurs = contained-at n x xs (x == n) refl occurs (contained n xs)
 
 -- a number that stands first and further on occurs twice
-twice : {X : Type 0} (f : X → ℕ) (n : ℕ) (x y : X) (xs : List X) → f x ≡ n → f y ≡ n → Contains xs y → count_of n (map f (x ∷ xs)) ≤ 1 → ⊥
+twice : {X : Type 0} (f : X → ℕ) (n : ℕ) (x y : X) (xs : List X) → f x ≡ n → f y ≡ n → Contains xs y
+    → count_of n (map f (x ∷ xs)) ≤ 1 → ⊥
 twice f n x y xs here there among once =
     let further : 1 ≤ count_of n (map f xs) = counted n (map f xs) (contains-map f xs y n among there) in
     omega (arith, count-here n (f x) (map f xs) here)
 
 -- where a number occurs once, one element only is mapped to it
-pub one-place : {X : Type 0} (f : X → ℕ) (n : ℕ) (xs : List X) (p q : X) → f p ≡ n → f q ≡ n → count_of n (map f xs) ≤ 1 → Contains xs p → Contains xs q → p ≡ q
+pub one-place : {X : Type 0} (f : X → ℕ) (n : ℕ) (xs : List X) (p q : X) → f p ≡ n → f q ≡ n → count_of n (map f xs) ≤ 1
+    → Contains xs p → Contains xs q → p ≡ q
 one-place f n [] p q p_is q_is once p_there q_there = absurd (omega (arith, p_there.1))
 one-place f n (x ∷ xs) p q p_is q_is once p_there q_there =
     elim (contains-cases x p xs p_there) [
@@ -125,7 +133,8 @@ one-place f n (x ∷ xs) p q p_is q_is once p_there q_there =
       ]
     ]
 
-once-at : (n x : ℕ) (xs : List ℕ) (t : Bool) → (x == n) ≡ t → AllDiffer (x ∷ xs) → count_of n xs ≤ 1 → count_of n (x ∷ xs) ≤ 1
+once-at : (n x : ℕ) (xs : List ℕ) (t : Bool) → (x == n) ≡ t → AllDiffer (x ∷ xs) → count_of n xs ≤ 1
+    → count_of n (x ∷ xs) ≤ 1
 once-at n x xs true here differ rest =
     let first : x ≡ n = eqb-true x n here in
     elim (cases_lt 0 (count_of n xs)) [
@@ -146,7 +155,8 @@ differ-once n (x ∷ xs) differ =
 -- ---- lists of lists
 
 -- a number occurs in the list of one item at most as often as in those of all
-pub count-part : {X : Type 0} (g : X → List ℕ) (n : ℕ) (xs : List X) (i : ℕ) (x : X) → slice_get xs i ≡ Some x → count_of n (g x) ≤ count_of n (flat_map g xs)
+pub count-part : {X : Type 0} (g : X → List ℕ) (n : ℕ) (xs : List X) (i : ℕ) (x : X) → slice_get xs i ≡ Some x
+    → count_of n (g x) ≤ count_of n (flat_map g xs)
 count-part g n [] i x found = absurd cc
 count-part g n (y ∷ xs) zero x found =
     let same : y ≡ x = cc in
@@ -157,7 +167,8 @@ count-part g n (y ∷ xs) (suc i) x found =
     omega (arith, count-append n (g y) (flat_map g xs), count-part g n xs i x found)
 
 -- where a number occurs once, it stands in the list of one item only
-pub one-part : {X : Type 0} (g : X → List ℕ) (n : ℕ) (xs : List X) (i j : ℕ) (x y : X) → count_of n (flat_map g xs) ≤ 1 → slice_get xs i ≡ Some x → slice_get xs j ≡ Some y → 1 ≤ count_of n (g x) → 1 ≤ count_of n (g y) → i ≡ j
+pub one-part : {X : Type 0} (g : X → List ℕ) (n : ℕ) (xs : List X) (i j : ℕ) (x y : X) → count_of n (flat_map g xs) ≤ 1
+    → slice_get xs i ≡ Some x → slice_get xs j ≡ Some y → 1 ≤ count_of n (g x) → 1 ≤ count_of n (g y) → i ≡ j
 one-part g n [] i j x y once x_found y_found x_has y_has = absurd cc
 one-part g n (z ∷ xs) zero zero x y once x_found y_found x_has y_has = refl
 one-part g n (z ∷ xs) zero (suc j) x y once x_found y_found x_has y_has =

@@ -1,4 +1,5 @@
--- A program obeys the tables of modes where no type node offends, and the first that offends is the least of the three kinds.
+-- A program obeys the tables of modes where no type node offends, and the first that offends is the least of the three
+-- kinds.
 use Rattle.std.proofs.Common.{◌≡◌, ◌≢◌, ◌<◌, ◌⊎◌, inl, inr, ℕ, zero, suc, Bool, true, false, IsTrue, List, [], ◌∷◌, Option, Some, None, MatchOption, Contains, length, get_or, slice_get, refl, ap, ◌∙◌, arith}
 use Rattle.std.specs.Option.{option_map}
 use Rattle.nomos_ir.specs.declared.ids.TypeId.{TypeId}
@@ -41,7 +42,8 @@ mode-decided mode.T mode.L = inr (λ same. cc)
 -- a name shows a mode or not
 shown-decided : (o : Option Mode) (m : Mode) → (o ≡ Some m) ⊎ (o ≢ Some m)
 shown-decided None m = inr (λ same. cc)
-shown-decided (Some n) m = elim (mode-decided n m) [ inl same ↦ inl (ap Some same) | inr other ↦ inr (λ same. other cc) ]
+shown-decided (Some n) m =
+    elim (mode-decided n m) [ inl same ↦ inl (ap Some same) | inr other ↦ inr (λ same. other cc) ]
 
 -- one of two modes, or neither
 either-decided : (m a b : Mode) → ((m ≡ a) ⊎ (m ≡ b)) ⊎ (¬ ((m ≡ a) ⊎ (m ≡ b)))
@@ -61,7 +63,8 @@ allows-decided lists m (node.Up a) = mode-decided m mode.S
 allows-decided lists m (node.Down a) = mode-decided m mode.L
 allows-decided lists m (node.Named d) =
     elim (shown-decided (head_mode lists (Some (node.Named d))) m) [
-      | inl shown ↦ elim (mode-decided m mode.T) [ inl transaction ↦ inr (λ both. both.1 transaction) | inr other ↦ inl (shown, other) ]
+      | inl shown ↦ elim (mode-decided m mode.T)
+          [ inl transaction ↦ inr (λ both. both.1 transaction) | inr other ↦ inl (shown, other) ]
       | inr hidden ↦ inr (λ both. hidden both.0)
     ]
 allows-decided lists m (node.Plus branches) = either-decided m mode.R mode.L
@@ -89,7 +92,8 @@ none-inside (x ∷ xs) zero inside none = absurd cc
 none-inside (x ∷ xs) (suc k) inside none = none-inside xs k (omega arith) none
 
 -- a type in range stands at an offset
-offset-in : (lists : ProgramLists) (t : TypeId) (o : Option TypeAt) → slice_get lists.types t.0 ≡ o → t.0 < length lists.types → (at : ℕ) × StandsAtOffset lists t at
+offset-in : (lists : ProgramLists) (t : TypeId) (o : Option TypeAt) → slice_get lists.types t.0 ≡ o
+    → t.0 < length lists.types → (at : ℕ) × StandsAtOffset lists t at
 offset-in lists t (Some place) found inside = (place.at, ap (option_map (λ (p : TypeAt). p.at)) found)
 offset-in lists t None found inside = absurd (none-inside lists.types t.0 inside found)
 
@@ -103,21 +107,55 @@ module _ (lists : ProgramLists) (is_program : IsProgram lists) where
 
   offence-kinds : (n : ℕ) → OffendsAt lists n → Kinds n ⊎ OfTransactionsBelow lists (length lists.defs) n
   offence-kinds n (t, forbidden m node has there not_allowed, offset) =
-      inl (inl (record { t = t; below = mode-in_range is_program has; m = m; n = node; has = has; there = there; not_allowed = not_allowed; offset = offset }))
+      inl (inl (record {
+        t = t;
+        below = mode-in_range is_program has;
+        m = m;
+        n = node;
+        has = has;
+        there = there;
+        not_allowed = not_allowed;
+        offset = offset;
+      }))
   offence-kinds n (t, not_held d v _ (p, p_inside, p_is) (k, k_inside, k_is) held, offset) =
       let par : VarId × TypeId = (v, t) in
-      let inner : NotHeldBelow lists d (length d.channels) n = record { place = k; par = par; below = k_inside; there = found-at d.channels par k k_inside k_is; not_held = held; offset = offset } in
-      inl (inr (record { place = p; d = d; below = p_inside; there = found-at lists.procs d p p_inside p_is; not_held = inner }))
+      let inner : NotHeldBelow lists d (length d.channels) n =
+      record {
+        place = k;
+        par = par;
+        below = k_inside;
+        there = found-at d.channels par k k_inside k_is;
+        not_held = held;
+        offset = offset;
+      } in
+      inl (inr (record {
+        place = p;
+        d = d;
+        below = p_inside;
+        there = found-at lists.procs d p p_inside p_is;
+        not_held = inner;
+      }))
   offence-kinds n (_, of_transactions d (p, p_inside, p_is) own, offset) =
-      inr (record { place = p; d = d; below = p_inside; there = found-at lists.defs d p p_inside p_is; of_transactions = own; offset = offset })
+      inr (record {
+        place = p;
+        d = d;
+        below = p_inside;
+        there = found-at lists.defs d p p_inside p_is;
+        of_transactions = own;
+        offset = offset;
+      })
 
   forbidden-offends : (n : ℕ) → ForbiddenBelow lists (length lists.types) n → OffendsAt lists n
   forbidden-offends n f = (f.t, forbidden f.m f.n f.has f.there f.not_allowed, f.offset)
 
   not_held-offends : (n : ℕ) → NotHeldInBelow lists (length lists.procs) n → OffendsAt lists n
   not_held-offends n f =
-      let inner = f.not_held in
-      (inner.par.1, not_held f.d inner.par.0 inner.par.1 (contains-found lists.procs f.place f.d f.there) (contains-found f.d.channels inner.place inner.par inner.there) inner.not_held, inner.offset)
+      let inner = f.not_held in (
+        inner.par.1,
+        not_held f.d inner.par.0 inner.par.1 (contains-found lists.procs f.place f.d f.there)
+            (contains-found f.d.channels inner.place inner.par inner.there) inner.not_held,
+        inner.offset,
+      )
 
   transactions-offend : (n : ℕ) → OfTransactionsBelow lists (length lists.defs) n → OffendsAt lists n
   transactions-offend n f =
@@ -141,26 +179,35 @@ module _ (lists : ProgramLists) (is_program : IsProgram lists) where
           | inr other ↦
               let within = (is_program.ids.procs p d p_inside).channels k par k_inside in
               let (at, offset) = offset-exists lists own.1 within in
-              let in_procs : Contains lists.procs e = contains-found lists.procs p e (slice_get-get_or lists.procs p d p_inside) in
-              let in_channels : Contains e.channels own = contains-found e.channels k own (slice_get-get_or e.channels k par k_inside) in
+              let in_procs : Contains lists.procs e = contains-found lists.procs p e
+              (slice_get-get_or lists.procs p d p_inside) in
+              let in_channels : Contains e.channels own = contains-found e.channels k own
+              (slice_get-get_or e.channels k par k_inside) in
               absurd (none at (own.1, not_held e own.0 own.1 in_procs in_channels other, offset))
         ];
     definitions = λ p d p_inside own.
         let e = get_or lists.defs p d in
         let (at, offset) = offset-exists lists e.body (is_program.ids.defs p d p_inside) in
-        let in_defs : Contains lists.defs e = contains-found lists.defs p e (slice_get-get_or lists.defs p d p_inside) in
+        let in_defs : Contains lists.defs e = contains-found lists.defs p e
+        (slice_get-get_or lists.defs p d p_inside) in
         none at (e.body, of_transactions e in_defs own, offset);
   }
 
   -- the answer by the least of all offences
-  offence-answer : (o : Option ℕ) → IsLeast (OffendsAt lists) o → MatchOption o (ObeysModes lists) (λ at. IsFirstOffence lists at)
+  offence-answer : (o : Option ℕ) → IsLeast (OffendsAt lists) o
+      → MatchOption o (ObeysModes lists) (λ at. IsFirstOffence lists at)
   offence-answer None none = none-obeys none
   offence-answer (Some at) least = record { there = least.0; first = least.1 }
 
   -- the lesser of the three is the first offence
-  pub first-offence : (a b c : Option ℕ) → IsLeast (ForbiddenBelow lists (length lists.types)) a → IsLeast (NotHeldInBelow lists (length lists.procs)) b → IsLeast (OfTransactionsBelow lists (length lists.defs)) c → MatchOption (lesser (lesser a b) c) (ObeysModes lists) (λ at. IsFirstOffence lists at)
+  pub first-offence : (a b c : Option ℕ) → IsLeast (ForbiddenBelow lists (length lists.types)) a
+      → IsLeast (NotHeldInBelow lists (length lists.procs)) b
+      → IsLeast (OfTransactionsBelow lists (length lists.defs)) c
+      → MatchOption (lesser (lesser a b) c) (ObeysModes lists) (λ at. IsFirstOffence lists at)
   first-offence a b c least_a least_b least_c =
-      let two : IsLeast Kinds (lesser a b) = least-of_two (ForbiddenBelow lists (length lists.types)) (NotHeldInBelow lists (length lists.procs)) Kinds (λ n k. k) (λ n k. inl k) (λ n k. inr k) a b least_a least_b in
+      let two : IsLeast Kinds (lesser a b) = least-of_two (ForbiddenBelow lists (length lists.types))
+      (NotHeldInBelow lists (length lists.procs)) Kinds (λ n k. k) (λ n k. inl k) (λ n k. inr k) a b least_a
+      least_b in
       let all : IsLeast (OffendsAt lists) (lesser (lesser a b) c) =
       least-of_two Kinds (OfTransactionsBelow lists (length lists.defs)) (OffendsAt lists) offence-kinds
       (λ n k. elim k [ inl f ↦ forbidden-offends n f | inr f ↦ not_held-offends n f ])

@@ -94,7 +94,8 @@ def m body = record { name = codes "d"; mode = m; body = type_id body }
 
 abbrev tried_defs : List Def
 tried_defs =
-    def mode.R 0 ∷ def mode.R 1 ∷ def mode.R 4 ∷ def mode.R 7 ∷ def mode.R 10 ∷ def mode.R 13 ∷ def mode.R 15 ∷ def mode.R 17
+    def mode.R 0 ∷ def mode.R 1 ∷ def mode.R 4 ∷ def mode.R 7 ∷ def mode.R 10 ∷ def mode.R 13 ∷ def mode.R 15 ∷
+    def mode.R 17
     ∷ def mode.R 19 ∷ def mode.S 21 ∷ def mode.L 24
     ∷ []
 
@@ -144,7 +145,8 @@ list_args [] = []
 list_args (v ∷ vs) = arg.List (var_id v) ∷ list_args vs
 
 abbrev spawns : ℕ → List ℕ → List ℕ → CodeNode
-spawns p lists channels = code.Spawn 0 (var_id 2) (proc_id p) (record { values = list_args lists; channels = var_ids channels }) (code_id 0)
+spawns p lists channels =
+    code.Spawn 0 (var_id 2) (proc_id p) (record { values = list_args lists; channels = var_ids channels }) (code_id 0)
 
 abbrev tried_code : List CodeNode
 tried_code =

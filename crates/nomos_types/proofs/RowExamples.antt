@@ -58,27 +58,32 @@ end-unfolds t there =
     name t (record { 0 = 0 }) (record { name = _; mode = mode.R; body = type_id 0 }) node.One there refl body
 
 -- a type that is a name of the shared definition
-pub market-unfolds : (t : ℕ) → type_node tried t ≡ Some (node.Named (record { 0 = 9 })) → Unfolds tried t (node.Up (type_id 22))
+pub market-unfolds : (t : ℕ) → type_node tried t ≡ Some (node.Named (record { 0 = 9 }))
+    → Unfolds tried t (node.Up (type_id 22))
 market-unfolds t there =
     let up_node = node.Up (type_id 22) in
     let body = constructor 21 up_node refl tt in
     name t (record { 0 = 9 }) (record { name = _; mode = mode.S; body = type_id 21 }) up_node there refl body
 
 -- the node to which the type of `self` unfolds, and that of a held channel, is the one that stands there
-own-type : (m : Mode) (q c t : ℕ) (n : TypeNode) → type_node tried t ≡ Some n → IsConstructor n → HasType tried (empty_handed m q c t) chan.Own n
+own-type : (m : Mode) (q c t : ℕ) (n : TypeNode) → type_node tried t ≡ Some n → IsConstructor n
+    → HasType tried (empty_handed m q c t) chan.Own n
 own-type m q c t n there no_name = (type_id t, refl, constructor t n there no_name)
 
-held-type : (j : Judgement) (t : ℕ) (n : TypeNode) → type_node tried t ≡ Some n → IsConstructor n → HasType tried (holding t j) (chan.Var (var_id 1)) n
+held-type : (j : Judgement) (t : ℕ) (n : TypeNode) → type_node tried t ≡ Some n → IsConstructor n
+    → HasType tried (holding t j) (chan.Var (var_id 1)) n
 held-type j t n there no_name = (type_id t, refl, constructor t n there no_name)
 
-own-is : (m : Mode) (q c t : ℕ) (k n : TypeNode) → type_node tried t ≡ Some k → IsConstructor k → HasType tried (empty_handed m q c t) chan.Own n → k ≡ n
+own-is : (m : Mode) (q c t : ℕ) (k n : TypeNode) → type_node tried t ≡ Some k → IsConstructor k
+    → HasType tried (empty_handed m q c t) chan.Own n → k ≡ n
 own-is m q c t k n there no_name channel =
     let (s, found, unfolds) = channel in
     let same : s ≡ type_id t = cc in
     let here : Unfolds tried t n = subst (λ (u : TypeId). Unfolds tried u.0 n) same unfolds in
     Unfolds-unique tried t k n (constructor t k there no_name) here
 
-held-is : (j : Judgement) (t : ℕ) (k n : TypeNode) → type_node tried t ≡ Some k → IsConstructor k → HasType tried (holding t j) (chan.Var (var_id 1)) n → k ≡ n
+held-is : (j : Judgement) (t : ℕ) (k n : TypeNode) → type_node tried t ≡ Some k → IsConstructor k
+    → HasType tried (holding t j) (chan.Var (var_id 1)) n → k ≡ n
 held-is j t k n there no_name channel =
     let (s, found, unfolds) = channel in
     let same : s ≡ type_id t = cc in
@@ -94,7 +99,8 @@ pub no-channels : (c : VarId × TypeId) → ◌≡◌ {A = List (VarId × TypeId
 no-channels c e = cc
 
 -- types with other heads are not equal
-pub not-equal : (t u : TypeId) (m n : TypeNode) → Unfolds tried t.0 m → Unfolds tried u.0 n → (SameHead units (EqualTypes tried units) m n → ⊥) → EqualTypes tried units t u → ⊥
+pub not-equal : (t u : TypeId) (m n : TypeNode) → Unfolds tried t.0 m → Unfolds tried u.0 n
+    → (SameHead units (EqualTypes tried units) m n → ⊥) → EqualTypes tried units t u → ⊥
 not-equal t u m n left right differ equal =
     let (q, q_unfolds, same) = equal-unfolded tried units t u m equal left in
     let there : q ≡ n = Unfolds-unique tried u.0 q n q_unfolds right in
@@ -108,10 +114,14 @@ truth : (vars : List (VarId × Kind)) → HasKind tried vars (record { 0 = 1 }) 
 truth vars = kind.term vars (record { 0 = 1 }) bool_kind _ refl (kind.truth vars 0 true)
 
 -- types that end and stand at R are alike
-pub ended-alike : (t u : ℕ) → type_node tried t ≡ Some (node.Named (record { 0 = 0 })) → type_node tried u ≡ Some (node.Named (record { 0 = 0 })) → HasMode tried (type_id t) mode.R → HasMode tried (type_id u) mode.R → AlikeTypes tried units (type_id t) (type_id u)
+pub ended-alike : (t u : ℕ) → type_node tried t ≡ Some (node.Named (record { 0 = 0 }))
+    → type_node tried u ≡ Some (node.Named (record { 0 = 0 })) → HasMode tried (type_id t) mode.R
+    → HasMode tried (type_id u) mode.R → AlikeTypes tried units (type_id t) (type_id u)
 ended-alike t u t_there u_there t_mode u_mode =
     record {
-      equal = equal-from_unfolded tried units (type_id t) (type_id u) node.One node.One (end-unfolds t t_there) (end-unfolds u u_there) one;
+      equal =
+          equal-from_unfolded tried units (type_id t) (type_id u) node.One node.One (end-unfolds t t_there)
+          (end-unfolds u u_there) one;
       mode = mode.R;
       left_mode = t_mode;
       right_mode = u_mode;
@@ -119,7 +129,8 @@ ended-alike t u t_there u_there t_mode u_mode =
 
 -- what unfolds to the shared contract agrees to every depth
 mutual
-  agree-shared : (n : ℕ) (t u : TypeId) → Unfolds tried t.0 (node.Up (type_id 22)) → Unfolds tried u.0 (node.Up (type_id 22)) → Agree tried units n t u
+  agree-shared : (n : ℕ) (t u : TypeId) → Unfolds tried t.0 (node.Up (type_id 22))
+      → Unfolds tried u.0 (node.Up (type_id 22)) → Agree tried units n t u
   agree-shared zero t u left right = tt
   agree-shared (suc n) t u left right =
       record {
@@ -138,10 +149,13 @@ mutual
         right = node.Down (type_id 23);
         left_unfolds = constructor 22 (node.Down (type_id 23)) refl tt;
         right_unfolds = constructor 22 (node.Down (type_id 23)) refl tt;
-        same = down (type_id 23) (type_id 23) (agree-shared n (type_id 23) (type_id 23) (market-unfolds 23 refl) (market-unfolds 23 refl));
+        same =
+            down (type_id 23) (type_id 23)
+            (agree-shared n (type_id 23) (type_id 23) (market-unfolds 23 refl) (market-unfolds 23 refl));
       }
 
-pub shared-alike : (t : ℕ) → type_node tried t ≡ Some (node.Named (record { 0 = 9 })) → HasMode tried (type_id t) mode.S → AlikeTypes tried units (type_id 28) (type_id t)
+pub shared-alike : (t : ℕ) → type_node tried t ≡ Some (node.Named (record { 0 = 9 })) → HasMode tried (type_id t) mode.S
+    → AlikeTypes tried units (type_id 28) (type_id t)
 shared-alike t there its_mode =
     record {
       equal = λ n. agree-shared n (type_id 28) (type_id t) (market-unfolds 28 refl) (market-unfolds t there);
@@ -161,11 +175,14 @@ label-applies =
 label-by_client : NoLineApplies (holding 1 (empty_handed mode.R 0 2 27))
 label-by_client after applied =
     let (t, says, goes) = row-inverted _ refl applied in
-    let same = held-is (empty_handed mode.R 0 2 27) 1 (node.Plus plus_branches) (node.With says.branches) refl tt says.channel in
+    let same = held-is (empty_handed mode.R 0 2 27) 1 (node.Plus plus_branches) (node.With says.branches) refl tt
+    says.channel in
     cc
 
 -- the label of a type to which a choice goes on is one of its labels
-goes-label_at : (b : Branch) (l : Label) (o : Option Branch) (t : TypeId) (bs : List Branch) (test : Bool) → (b.label.0 == l.0) ≡ test → (option_map (λ c. c.goes) o ≡ Some t → Contains (map (λ c. c.label) bs) l) → option_map (λ c. c.goes) (cond test (Some b) o) ≡ Some t → Contains (map (λ c. c.label) (b ∷ bs)) l
+goes-label_at : (b : Branch) (l : Label) (o : Option Branch) (t : TypeId) (bs : List Branch) (test : Bool)
+    → (b.label.0 == l.0) ≡ test → (option_map (λ c. c.goes) o ≡ Some t → Contains (map (λ c. c.label) bs) l)
+    → option_map (λ c. c.goes) (cond test (Some b) o) ≡ Some t → Contains (map (λ c. c.label) (b ∷ bs)) l
 goes-label_at b l o t bs true here rest found =
     let same : b.label ≡ l = ap label_id (eqb-true b.label.0 l.0 here) in
     (zero, omega arith, same)
@@ -174,7 +191,8 @@ goes-label_at b l o t bs false here rest found = let there = rest found in (suc 
 goes-label : (bs : List Branch) (l : Label) (t : TypeId) → goes_by bs l ≡ Some t → Contains (map (λ b. b.label) bs) l
 goes-label [] l t found = absurd cc
 goes-label (b ∷ bs) l t found =
-    goes-label_at b l (find (λ (c : Branch). c.label.0 == l.0) bs) t bs (b.label.0 == l.0) refl (goes-label bs l t) found
+    goes-label_at b l (find (λ (c : Branch). c.label.0 == l.0) bs) t bs (b.label.0 == l.0) refl (goes-label bs l t)
+    found
 
 case-applies : LineApplies (holding 1 (empty_handed mode.R 0 3 27))
 case-applies = (
@@ -196,20 +214,23 @@ no-label (suc k) inside found = omega arith
 case-missing_arm : NoLineApplies (holding 1 (empty_handed mode.R 0 4 27))
 case-missing_arm after applied =
     let says = row-inverted _ refl applied in
-    let same = held-is (empty_handed mode.R 0 4 27) 1 (node.Plus plus_branches) (node.Plus says.branches) refl tt says.channel in
+    let same = held-is (empty_handed mode.R 0 4 27) 1 (node.Plus plus_branches) (node.Plus says.branches) refl tt
+    says.channel in
     let its_own : plus_branches ≡ says.branches = cc in
     let goes = sym (ap (λ (bs : List Branch). goes_by bs (label_id 1)) its_own) in
     let (k, inside, found) = says.each_label (label_id 1) (type_id 3) goes in
     no-label k inside found
 
 -- the third arm's label is none of the choice
-third-arm : {j : Judgement} {c : Chan} {bs : List Branch} {a b d : Arm} {after : List Judgement} → ArmsGoOn j c bs (a ∷ b ∷ d ∷ []) after → (t : TypeId) × (goes_by bs d.label ≡ Some t)
+third-arm : {j : Judgement} {c : Chan} {bs : List Branch} {a b d : Arm} {after : List Judgement}
+    → ArmsGoOn j c bs (a ∷ b ∷ d ∷ []) after → (t : TypeId) × (goes_by bs d.label ≡ Some t)
 third-arm (lines.arm _ _ (lines.arm _ _ (lines.arm t goes _))) = (t, goes)
 
 case-extra_arm : NoLineApplies (holding 1 (empty_handed mode.R 0 5 27))
 case-extra_arm after applied =
     let says = row-inverted _ refl applied in
-    let same = held-is (empty_handed mode.R 0 5 27) 1 (node.Plus plus_branches) (node.Plus says.branches) refl tt says.channel in
+    let same = held-is (empty_handed mode.R 0 5 27) 1 (node.Plus plus_branches) (node.Plus says.branches) refl tt
+    says.channel in
     let its_own : plus_branches ≡ says.branches = cc in
     let none = ap (λ (bs : List Branch). goes_by bs (label_id 2)) its_own in
     let (t, goes) = third-arm says.each_arm in
@@ -218,7 +239,8 @@ case-extra_arm after applied =
 -- ---- channels over channels
 
 pair-carries : HasMode tried (type_id 8) mode.R
-pair-carries = part (type_id 7) mode.R (node.Tensor (type_id 8) (type_id 9)) (whole (3, lit< tt, refl)) refl (0, lit< tt, refl)
+pair-carries =
+    part (type_id 7) mode.R (node.Tensor (type_id 8) (type_id 9)) (whole (3, lit< tt, refl)) refl (0, lit< tt, refl)
 
 send-applies : LineApplies (holding 31 (empty_handed mode.R 0 6 7))
 send-applies = (
@@ -242,7 +264,9 @@ recv-applies = (
   _,
   row.recv refl mode.R (type_id 11) (type_id 12) (record {
     channel = own-type mode.R 0 8 10 (node.Lolli (type_id 11) (type_id 12)) refl tt;
-    mode = part (type_id 10) mode.R (node.Lolli (type_id 11) (type_id 12)) (whole (4, lit< tt, refl)) refl (0, lit< tt, refl);
+    mode =
+        part (type_id 10) mode.R (node.Lolli (type_id 11) (type_id 12)) (whole (4, lit< tt, refl)) refl
+        (0, lit< tt, refl);
     free = refl;
   }),
 )
@@ -393,12 +417,14 @@ detach-applies = (
   row.detach refl (type_id 23) (record {
     mode = refl;
     channel = (type_id 22, refl, constructor 22 (node.Down (type_id 23)) refl tt);
-    nothing_held = All-cons (λ b. HasMode tried b.1 mode.R) (var_id 1, type_id 31) [] (whole (14, lit< tt, refl)) (All-nil _);
+    nothing_held =
+        All-cons (λ b. HasMode tried b.1 mode.R) (var_id 1, type_id 31) [] (whole (14, lit< tt, refl)) (All-nil _);
   }),
 )
 
 -- a test fails at each element of a list
-none-there : {X : Type 0} (test : X → Bool) (xs : List X) (y : X) → list_any test xs ≡ false → test y ≡ true → Contains xs y → ⊥
+none-there : {X : Type 0} (test : X → Bool) (xs : List X) (y : X) → list_any test xs ≡ false → test y ≡ true
+    → Contains xs y → ⊥
 none-there test xs y none passes there =
     let found = slice_get_read xs (length xs) there.0 y refl there.1 (sym there.2) in
     let some = any_passes_from_place test xs there.0 y found passes in

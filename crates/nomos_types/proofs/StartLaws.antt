@@ -35,7 +35,9 @@ abbrev variables_of : {X : Type 0} → List (VarId × X) → List ℕ
 variables_of ps = map (λ e. e.0.0) ps
 
 -- a variable that is bound occurs, where the test of the first one is known
-bound-once_at : {X : Type 0} (v : ℕ) (e : VarId × X) (ps : List (VarId × X)) (t : Bool) → (e.0.0 == v) ≡ t → count_one (bound_to v ps) ≤ count_of v (variables_of ps) → count_one (cond t (Some e.1) (bound_to v ps)) ≤ count_of v (variables_of (e ∷ ps))
+bound-once_at : {X : Type 0} (v : ℕ) (e : VarId × X) (ps : List (VarId × X)) (t : Bool) → (e.0.0 == v) ≡ t
+    → count_one (bound_to v ps) ≤ count_of v (variables_of ps)
+    → count_one (cond t (Some e.1) (bound_to v ps)) ≤ count_of v (variables_of (e ∷ ps))
 bound-once_at v e ps true here rest = omega (arith, count-here v e.0.0 (variables_of ps) (eqb-true e.0.0 v here))
 bound-once_at v e ps false here rest = omega (arith, count-elsewhere v e.0.0 (variables_of ps) here)
 
@@ -45,7 +47,8 @@ bound-occurs v [] = omega arith
 bound-occurs v (e ∷ ps) = bound-once_at v e ps (e.0.0 == v) refl (bound-occurs v ps)
 
 -- a variable that the map of pairs binds occurs among them
-map-occurs : {X : Type 0} (v : ℕ) (ps : List (VarId × X)) → count_one (bound_to v (bindings_of ps)) ≤ count_of v (variables_of ps)
+map-occurs : {X : Type 0} (v : ℕ) (ps : List (VarId × X))
+    → count_one (bound_to v (bindings_of ps)) ≤ count_of v (variables_of ps)
 map-occurs {X} v ps =
     omega (arith, bound-occurs v ps, ap (λ (o : Option X). count_one o) (bound-in_bindings_of v ps))
 
@@ -53,14 +56,21 @@ map-occurs {X} v ps =
 
 module _ (x : Annotations) (v : ℕ) where
   -- one more parameter is a value or a list
-  value-or_list : (var : VarId) (kind : Kind) (amount : Option Amount) (ks : List (VarId × Kind)) (ls : List (VarId × ListType)) (ns : List ℕ) → count_of v (variables_of ks) + count_of v (variables_of ls) ≡ count_of v ns → count_of v (variables_of (value_par var kind amount ++ ks)) + count_of v (variables_of (list_par x var kind amount ++ ls)) ≡ count_of v (var.0 ∷ ns)
+  value-or_list : (var : VarId) (kind : Kind) (amount : Option Amount) (ks : List (VarId × Kind))
+      (ls : List (VarId × ListType)) (ns : List ℕ)
+      → count_of v (variables_of ks) + count_of v (variables_of ls) ≡ count_of v ns
+      → count_of v (variables_of (value_par var kind amount ++ ks))
+      + count_of v (variables_of (list_par x var kind amount ++ ls)) ≡ count_of v (var.0 ∷ ns)
   value-or_list var kind None ks ls ns rest =
       omega (arith, sum_by-cons (one_at v) var.0 (variables_of ks), sum_by-cons (one_at v) var.0 ns)
   value-or_list var kind (Some amount) ks ls ns rest =
       omega (arith, sum_by-cons (one_at v) var.0 (variables_of ls), sum_by-cons (one_at v) var.0 ns)
 
   -- each parameter is a value or a list
-  values-and_lists : (pars : List Par) → count_of v (variables_of (flat_map (λ par. value_par par.var par.kind par.amount) pars)) + count_of v (variables_of (flat_map (λ par. list_par x par.var par.kind par.amount) pars)) ≡ count_of v (map (λ par. par.var.0) pars)
+  values-and_lists : (pars : List Par)
+      → count_of v (variables_of (flat_map (λ par. value_par par.var par.kind par.amount) pars))
+      + count_of v (variables_of (flat_map (λ par. list_par x par.var par.kind par.amount) pars))
+      ≡ count_of v (map (λ par. par.var.0) pars)
   values-and_lists [] = refl
   values-and_lists (par ∷ pars) =
       let ks = flat_map (λ (q : Par). value_par q.var q.kind q.amount) pars in
@@ -69,14 +79,19 @@ module _ (x : Annotations) (v : ℕ) where
 
 module _ (p : VarId × TypeId → Bool) (v : ℕ) where
   -- one more channel passes or does not
-  passing-or_not : (e : VarId × TypeId) (ks ls : List (VarId × TypeId)) (ns : List ℕ) (t : Bool) → count_of v (variables_of ks) + count_of v (variables_of ls) ≡ count_of v ns → count_of v (variables_of (cond t (e ∷ ks) ks)) + count_of v (variables_of (cond (not t) (e ∷ ls) ls)) ≡ count_of v (e.0.0 ∷ ns)
+  passing-or_not : (e : VarId × TypeId) (ks ls : List (VarId × TypeId)) (ns : List ℕ) (t : Bool)
+      → count_of v (variables_of ks) + count_of v (variables_of ls) ≡ count_of v ns
+      → count_of v (variables_of (cond t (e ∷ ks) ks)) + count_of v (variables_of (cond (not t) (e ∷ ls) ls))
+      ≡ count_of v (e.0.0 ∷ ns)
   passing-or_not e ks ls ns true rest =
       omega (arith, sum_by-cons (one_at v) e.0.0 (variables_of ks), sum_by-cons (one_at v) e.0.0 ns)
   passing-or_not e ks ls ns false rest =
       omega (arith, sum_by-cons (one_at v) e.0.0 (variables_of ls), sum_by-cons (one_at v) e.0.0 ns)
 
   -- each channel passes a test or does not
-  filter-both : (cs : List (VarId × TypeId)) → count_of v (variables_of (filter p cs)) + count_of v (variables_of (filter (λ e. not (p e)) cs)) ≡ count_of v (variables_of cs)
+  filter-both : (cs : List (VarId × TypeId))
+      → count_of v (variables_of (filter p cs)) + count_of v (variables_of (filter (λ e. not (p e)) cs))
+      ≡ count_of v (variables_of cs)
   filter-both [] = refl
   filter-both (e ∷ cs) =
       passing-or_not e (filter p cs) (filter (λ f. not (p f)) cs) (variables_of cs) (p e) (filter-both cs)
@@ -87,7 +102,8 @@ payer-variable (Some v) = refl
 payer-variable None = refl
 
 -- no parameter stands in two maps of the start
-start-apart : (lists : ProgramLists) (x : Annotations) (d : ProcDecl) (v : ℕ) → AllDiffer (proc_parameters d) → parts_with (start_of lists x d) v ≤ 1
+start-apart : (lists : ProgramLists) (x : Annotations) (d : ProcDecl) (v : ℕ) → AllDiffer (proc_parameters d)
+    → parts_with (start_of lists x d) v ≤ 1
 start-apart lists x d v differ =
     let payer = payer_kinds d.me in
     let values = flat_map (λ (par : Par). value_par par.var par.kind par.amount) d.values in
@@ -126,7 +142,8 @@ parameter-linear (Some mode.L) is = inr refl
 parameter-linear o is = inl refl
 
 -- the start of a declaration is a judgement
-pub start-is_judgement : {lists : ProgramLists} {d : ProcDecl} → (x : Annotations) (p : ℕ) → IsWellFormed lists → slice_get lists.procs p ≡ Some d → IsJudgement lists (start_of lists x d)
+pub start-is_judgement : {lists : ProgramLists} {d : ProcDecl} → (x : Annotations) (p : ℕ) → IsWellFormed lists
+    → slice_get lists.procs p ≡ Some d → IsJudgement lists (start_of lists x d)
 start-is_judgement {lists = lists} {d = d} x p formed found =
     let is_reference = is_shared lists in
     let is_used_once : VarId × TypeId → Bool = λ par. not (is_shared lists par) in
@@ -139,7 +156,8 @@ start-is_judgement {lists = lists} {d = d} x p formed found =
     let par = get_or d.channels k e in
     parameter-has_mode lists p d par.0 par.1 found (Contains-get_or d.channels k e inside)
     in
-    let MayHold : ProcDecl → Type 0 = λ e. All (λ par. IsTrue (may_hold e.mode (parameter_mode lists par.1))) e.channels in
+    let MayHold : ProcDecl → Type 0 = λ e.
+    All (λ par. IsTrue (may_hold e.mode (parameter_mode lists par.1))) e.channels in
     let held : All IsHeld d.channels = All-at MayHold lists.procs p d formed.modes.held found in
     let references_have = All-filter is_reference HasItsMode d.channels have_modes in
     let references_are = filter_passes is_reference d.channels in

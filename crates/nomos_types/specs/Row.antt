@@ -89,7 +89,8 @@ pub data Row (lists : ProgramLists) (x : Annotations) : Judgement → List Judge
   spawn : {j : Judgement} {at : ℕ} {v : VarId} {f : ProcId} {args : Args} {next : CodeId}
       → StandsAtCode lists j (code.Spawn at v f args next)
       → (d : ProcDecl) (left : Judgement) → Spawns lists x j v f args d left
-      → Row lists x j (binds_channel (with_potential (at_code left next) (j.q - dths x d.amount)) v d.mode d.offers ∷ [])
+      → Row lists x j (binds_channel (with_potential (at_code left next) (j.q - dths x d.amount)) v d.mode
+      d.offers ∷ [])
   «let» : {j : Judgement} {at : ℕ} {v : VarId} {e : TermId} {next : CodeId}
       → StandsAtCode lists j (code.Let at v e next)
       → (kind : Kind) → HasKind lists j.kinds e kind → IsFree j v
@@ -121,4 +122,5 @@ pub data Row (lists : ProgramLists) (x : Annotations) : Judgement → List Judge
   match : {j : Judgement} {at : ℕ} {w head tail : VarId} {empty_next full_next : CodeId}
       → StandsAtCode lists j (code.Match at w empty_next head tail full_next)
       → (list : ListType) → TakesApart j w head tail list
-      → Row lists x j (without_list j w empty_next ∷ with_potential (takes_parts j w head tail list full_next) (j.q + list.amount) ∷ [])
+      → Row lists x j (without_list j w empty_next ∷
+      with_potential (takes_parts j w head tail list full_next) (j.q + list.amount) ∷ [])

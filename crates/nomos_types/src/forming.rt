@@ -81,7 +81,8 @@ fn is_allowed(program: &Program, mode: Mode, node: &TypeNode) -> bool
 /// The offset of a type node, if the mode does not allow it.
 fn forbidden_at(program: &Program, mode: Mode, place: &TypeAt) -> Option<u32>
     requires { AllBelow (length program.now.defs) (type_names place.now.node) }
-    ensures { MatchOption result (Allows program.now mode place.now.node) (λ at. (¬ (Allows program.now mode place.now.node)) × (at ≡ place.now.at)) }
+    ensures { MatchOption result (Allows program.now mode place.now.node)
+        (λ at. (¬ (Allows program.now mode place.now.node)) × (at ≡ place.now.at)) }
 {
     if is_allowed(program, mode, &place.node) {
         return None;
@@ -106,7 +107,8 @@ fn first_forbidden(program: &Program, modes: &[Mode]) -> Option<u32>
 /// The offset of the type of a channel parameter, if a process of the mode may not hold it.
 fn not_held_at(program: &Program, holder: Mode, t: TypeId) -> Option<u32>
     requires { t.0 < length program.now.types }
-    ensures { MatchOption result (IsTrue (may_hold holder (parameter_mode program.now t))) (λ at. (¬ (IsTrue (may_hold holder (parameter_mode program.now t)))) × StandsAtOffset program.now t at) }
+    ensures { MatchOption result (IsTrue (may_hold holder (parameter_mode program.now t)))
+        (λ at. (¬ (IsTrue (may_hold holder (parameter_mode program.now t)))) × StandsAtOffset program.now t at) }
 {
     if may_hold(holder, taken_mode(program, t)) {
         return None;
@@ -140,7 +142,8 @@ fn first_not_held_in_all(program: &Program) -> Option<u32>
 /// The offset of the body of a definition, if it has the mode of transactions.
 fn of_transactions_at(program: &Program, def: &Def) -> Option<u32>
     requires { def.now.body.0 < length program.now.types }
-    ensures { MatchOption result (def.now.mode ≢ Mode.T) (λ at. (def.now.mode ≡ Mode.T) × StandsAtOffset program.now def.now.body at) }
+    ensures { MatchOption result (def.now.mode ≢ Mode.T)
+        (λ at. (def.now.mode ≡ Mode.T) × StandsAtOffset program.now def.now.body at) }
 {
     if def.mode != Mode::T {
         return None;
@@ -170,8 +173,8 @@ fn first_offence(program: &Program, modes: &[Mode]) -> Option<u32>
     lesser(lesser(forbidden, not_held), of_transactions)
 }
 
-/// Looks whether a program is well formed: `docs/LANGUAGE.md`, "Modes of types and processes". The first definition that is a bare
-/// name is answered before any mode.
+/// Looks whether a program is well formed: `docs/LANGUAGE.md`, "Modes of types and processes". The first definition
+/// that is a bare name is answered before any mode.
 pub fn well_formed(alloc: Global, program: &Program) -> Result<(), FormError>
     ensures formed { IfOk result (λ _. IsContractive program.now × ObeysModes program.now) }
     ensures refused { IfErr result (λ e. IsFormFault program.now e) }

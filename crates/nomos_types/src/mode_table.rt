@@ -144,7 +144,9 @@ fn set_channels(program: &Program, channels: &VarTypes, modes: &mut [Mode])
 /// Sets the modes of the types of all channel parameters.
 fn set_parameters(program: &Program, modes: &mut [Mode])
     requires { length modes.old ≡ length program.now.types }
-    ensures { modes.new ≡ with_modes (flat_map (λ d. map (λ par. (par.1, parameter_mode program.now par.1)) d.channels) program.now.procs) modes.old }
+    ensures { modes.new ≡ with_modes
+        (flat_map (λ d. map (λ par. (par.1, parameter_mode program.now par.1)) d.channels) program.now.procs)
+        modes.old }
 {
     for d in program.lists().procs.as_slice() {
         set_channels(program, &d.channels, modes);

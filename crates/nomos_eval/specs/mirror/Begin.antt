@@ -17,7 +17,8 @@ pub record IsBegun (t : TermId) (env : Environment) (m : Machine) : Type 0 where
   pub same : (program : ProgramLists) → left program m 0 ≡ term_evaluation program env t
 
 -- the last variables were taken in
-pub record AreHeld (env : Environment) (count : ℕ) (lists : List ValueList) (scopes : List (List (VarId × Datum))) (place : ℕ) : Type 0 where
+pub record AreHeld (env : Environment) (count : ℕ) (lists : List ValueList) (scopes : List (List (VarId × Datum)))
+    (place : ℕ) : Type 0 where
   pub within : count ≤ length env
   pub there : place < length scopes
   pub inside : AllByRecursion (AllByRecursion (λ b. reach b.1 ≤ length lists)) scopes

@@ -13,7 +13,8 @@ pub record IsLoaded (old new : List ValueList) (v : Value) (d : Datum) : Type 0 
   pub same : datum_value new d ≡ v
 
 -- the last values of a list were taken in
-pub record AreLoaded (old : List ValueList) (nodes : List ValueNode) (left : ℕ) (new : List ValueList) (place : ℕ) : Type 0 where
+pub record AreLoaded (old : List ValueList) (nodes : List ValueNode) (left : ℕ) (new : List ValueList)
+    (place : ℕ) : Type 0 where
   pub within : left ≤ length nodes
   pub grown : (more : List ValueList) × (new ≡ old ++ more)
   pub there : place < length new

@@ -50,7 +50,9 @@ pub record IsSound (m : Machine) : Type 0 where
 -- a node was entered
 pub record IsEntered (scope : Scope) (node : TermNode) (old new : Machine) : Type 0 where
   pub sound : IsSound new
-  pub same : (program : ProgramLists) (n : ℕ) → go_on (node_evaluation program (evaluation_from program) scope.calls (variables_at (scopes_held old) scope.variables) node n) (left_with program old) ≡ left program new n
+  pub same : (program : ProgramLists) (n : ℕ)
+      → go_on (node_evaluation program (evaluation_from program) scope.calls
+      (variables_at (scopes_held old) scope.variables) node n) (left_with program old) ≡ left program new n
   pub little : work new.todo ≤ 2 + work old.todo
 
 -- what an act leads to, with what is left after it
@@ -91,9 +93,11 @@ IsGiven (give.Fault f) r = r ≡ Err (stop.Fault f)
 -- what an operator gives of two values
 abbrev pub Operated : Operator → Datum → Datum → Result Datum Stop → Type 0
 Operated operator x y (Ok d) =
-    ((lists : List ValueList) (n : ℕ) → on_numbers (operation operator) (datum_value lists x) (datum_value lists y) n ≡ ends (datum_value lists d) n) × (reach d ≡ 0)
+    ((lists : List ValueList) (n : ℕ) → on_numbers (operation operator) (datum_value lists x) (datum_value lists y) n
+    ≡ ends (datum_value lists d) n) × (reach d ≡ 0)
 Operated operator x y (Err (stop.Fault f)) =
-    (lists : List ValueList) (n : ℕ) → on_numbers (operation operator) (datum_value lists x) (datum_value lists y) n ≡ faults f
+    (lists : List ValueList) (n : ℕ) → on_numbers (operation operator) (datum_value lists x) (datum_value lists y) n
+    ≡ faults f
 Operated operator x y (Err stop.NoMemory) = ⊥
 
 -- the same of one program
@@ -130,9 +134,12 @@ bound_on zero names ds env = env
 bound_on (suc k) names ds env = bound_on k names (below_top ds) (with_parameter (slice_get names k) (top_datum ds) env)
 
 -- how far arguments are bound
-pub record IsBinding (names : List VarId) (count : ℕ) (first : List Datum) (before : List (List (VarId × Datum))) (left : ℕ) (ds : List Datum) (scopes : List (List (VarId × Datum))) (place : ℕ) : Type 0 where
+pub record IsBinding (names : List VarId) (count : ℕ) (first : List Datum) (before : List (List (VarId × Datum)))
+    (left : ℕ) (ds : List Datum) (scopes : List (List (VarId × Datum))) (place : ℕ) : Type 0 where
   pub grown : (more : List (List (VarId × Datum))) × (scopes ≡ before ++ more)
   pub there : place < length scopes
   pub bound : bound_on left names ds (slice_index_or scopes place []) ≡ bound_on count names first []
   pub under : below_at left ds ≡ below_at count first
-  pub sound : (n : ℕ) → AllByRecursion (λ d. reach d ≤ n) first → AllByRecursion (AllByRecursion (λ b. reach b.1 ≤ n)) before → AllByRecursion (λ d. reach d ≤ n) ds × AllByRecursion (AllByRecursion (λ b. reach b.1 ≤ n)) scopes
+  pub sound : (n : ℕ) → AllByRecursion (λ d. reach d ≤ n) first
+      → AllByRecursion (AllByRecursion (λ b. reach b.1 ≤ n)) before
+      → AllByRecursion (λ d. reach d ≤ n) ds × AllByRecursion (AllByRecursion (λ b. reach b.1 ≤ n)) scopes

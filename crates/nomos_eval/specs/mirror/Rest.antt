@@ -42,7 +42,8 @@ module _ (from : Evaluator) (lists : ProgramLists) (scopes : List Environment) w
   rest [] values n = ends (top values) n
   rest (act.Term s t ∷ todo) values n = go_on (follow s t n) (λ v. rest todo (v ∷ values))
   rest (act.Numbers operator ∷ todo) values n =
-      go_on (on_numbers (operation operator) (top (below values)) (top values) n) (λ v. rest todo (v ∷ below (below values)))
+      go_on (on_numbers (operation operator) (top (below values)) (top values) n)
+      (λ v. rest todo (v ∷ below (below values)))
   rest (act.PutBefore ∷ todo) values n =
       go_on (put_before (top (below values)) (top values) n) (λ v. rest todo (v ∷ below (below values)))
   rest (act.Both s t ∷ todo) values n = go_on (both (top values) (follow s t) n) (λ v. rest todo (v ∷ below values))
@@ -52,9 +53,12 @@ module _ (from : Evaluator) (lists : ProgramLists) (scopes : List Environment) w
   rest (act.Choose s a b ∷ todo) values n =
       go_on (chosen (top values) (follow s a) (follow s b) n) (λ v. rest todo (v ∷ below values))
   rest (act.Open s c ∷ todo) values n =
-      go_on (taken_apart (top values) (follow s c.empty) (λ x xs. from s.calls (bind_parts c.head c.tail x xs (variables_at scopes s.variables)) c.full) (follow s c.full) n) (λ v. rest todo (v ∷ below values))
+      go_on (taken_apart (top values) (follow s c.empty)
+      (λ x xs. from s.calls (bind_parts c.head c.tail x xs (variables_at scopes s.variables)) c.full)
+      (follow s c.full) n) (λ v. rest todo (v ∷ below values))
   rest (act.Enter calls f count ∷ todo) values n =
-      go_on (body_evaluation from calls (slice_get lists.fns f.0) (arguments_on count values) n) (λ v. rest todo (v ∷ below_by count values))
+      go_on (body_evaluation from calls (slice_get lists.fns f.0) (arguments_on count values) n)
+      (λ v. rest todo (v ∷ below_by count values))
 
 -- the terms of arguments, one after another
 abbrev pub argument_acts : Scope → List TermId → List Act

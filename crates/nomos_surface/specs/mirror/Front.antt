@@ -92,11 +92,13 @@ unfoldable pub read_parted : {A : Type 0} → Reader A → (Option TokenKind →
 read_parted item between zero items tokens = (items, tokens)
 read_parted item between (suc n) items tokens =
     let r = item tokens in
-    if between (front_kind r.1) then read_parted item between n (items ++ r.0 ∷ []) (rest_of r.1) else (items ++ r.0 ∷ [], r.1)
+    if between (front_kind r.1) then read_parted item between n (items ++ r.0 ∷ []) (rest_of r.1) else
+    (items ++ r.0 ∷ [], r.1)
 
 -- items with a `,` between them, which may be none, up to the end of their list
 unfoldable pub read_until : {A : Type 0} → Reader A → ℕ → Reader (List A)
-read_until item n tokens = if is_list_end (front_kind tokens) then ([], tokens) else read_parted item is_comma n [] tokens
+read_until item n tokens =
+    if is_list_end (front_kind tokens) then ([], tokens) else read_parted item is_comma n [] tokens
 
 -- potentials
 
@@ -109,12 +111,15 @@ front_quantity tokens = quantity_from (front_kind tokens) (front_number tokens)
 
 abbrev pub read_potential : Reader Potential
 read_potential tokens =
-    let inside = rest_of tokens in
-    (record { at = front_at tokens; quantity = front_quantity inside; quantity_at = front_at inside }, rest_of (rest_of inside))
+    let inside = rest_of tokens in (
+      record { at = front_at tokens; quantity = front_quantity inside; quantity_at = front_at inside },
+      rest_of (rest_of inside),
+    )
 
 abbrev pub read_optional : Reader (Option Potential)
 read_optional tokens =
-    if is_open_brace (front_kind tokens) then (Some (read_potential tokens).0, (read_potential tokens).1) else (None, tokens)
+    if is_open_brace (front_kind tokens) then (Some (read_potential tokens).0, (read_potential tokens).1) else
+    (None, tokens)
 
 -- the types of values
 

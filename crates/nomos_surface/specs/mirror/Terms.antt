@@ -117,7 +117,8 @@ is_not _ = false
 -- the words `not` at the front, behind those that were read
 unfoldable pub read_nots : List ℕ → Reader (List ℕ)
 read_nots nots [] = (nots, [])
-read_nots nots (x ∷ rest) = if is_not (front_kind (x ∷ rest)) then read_nots (nots ++ x.at ∷ []) rest else (nots, x ∷ rest)
+read_nots nots (x ∷ rest) =
+    if is_not (front_kind (x ∷ rest)) then read_nots (nots ++ x.at ∷ []) rest else (nots, x ∷ rest)
 
 abbrev pub with_nots : List ℕ → TermTree → TermTree
 with_nots [] t = t

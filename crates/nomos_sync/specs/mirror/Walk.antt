@@ -33,9 +33,10 @@ pub record IsVisited (lists : ProgramLists) (visits : Visits) (t : TypeId) : Typ
   pub among : Contains visits (at, from)
 
 -- a type is met by a hop: it was met before, or is put at the end
-pub data MeetsType (lists : ProgramLists) (old : Visits) (t : TypeId) (from : Option Arrival) (new : Visits) : Type 0 where
-  known : IsVisited lists old t → new ≡ old → MeetsType lists old t from new
-  fresh : (at : ℕ) → IsUnfolding lists t.0 at → new ≡ old ++ (at, from) ∷ [] → MeetsType lists old t from new
+pub data MeetsType (lists : ProgramLists) (old : Visits) (t : TypeId) (from : Option Arrival) (new : Visits) : Type 0
+  where
+    known : IsVisited lists old t → new ≡ old → MeetsType lists old t from new
+    fresh : (at : ℕ) → IsUnfolding lists t.0 at → new ≡ old ++ (at, from) ∷ [] → MeetsType lists old t from new
 
 -- by a hop from a visit a type is met
 pub record LeadsOn (lists : ProgramLists) (visits : Visits) (o : Arrival) (t : TypeId) : Type 0 where
@@ -84,7 +85,8 @@ pub data WayTo (visits : Visits) : ℕ → List Hop → Type 0 where
 abbrev pub VisitsAreInOrder : Visits → Type 0
 VisitsAreInOrder visits = (i at : ℕ) (o : Arrival) → slice_get visits i ≡ Some (at, Some o) → o.visit < i
 
--- behind the type, where it is a `down`, stands a type that was found equal to the shared one; elsewhere nothing was compared
+-- behind the type, where it is a `down`, stands a type that was found equal to the shared one; elsewhere nothing was
+-- compared
 pub data AgreesBehind (lists : ProgramLists) (at shared : TypeId) (old new : Compared) : Type 0 where
   no_down : ((b : TypeId) → type_node lists at.0 ≡ Some (node.Down b) → ⊥) → new ≡ old →
       AgreesBehind lists at shared old new

@@ -34,7 +34,8 @@ module _ (lists : ProgramLists) (outer : VariableKinds) where
   Leads (task.Part empty head tail full ∷ todo) [] bound result = ⊥
   Leads (task.Part empty head tail full ∷ todo) (k ∷ kinds) bound result =
       (element : Kind) × (k ≡ list_kind element)
-      × ((l : Kind) × HasKind lists (with_parts head tail element (bound ++ outer)) full l × HasKind lists (bound ++ outer) empty l × Leads todo (l ∷ kinds) bound result)
+      × ((l : Kind) × HasKind lists (with_parts head tail element (bound ++ outer)) full l
+      × HasKind lists (bound ++ outer) empty l × Leads todo (l ∷ kinds) bound result)
   Leads (task.Unbind ∷ todo) kinds [] result = ⊥
   Leads (task.Unbind ∷ todo) kinds (x ∷ []) result = ⊥
   Leads (task.Unbind ∷ todo) kinds (x ∷ y ∷ bound) result = Leads todo kinds bound result
@@ -74,8 +75,10 @@ work w (task ∷ todo) = task_work w task + work w todo
 
 -- the task is done: what is left leads to the same kinds, and is less
 pub record IsDone (lists : ProgramLists) (outer : VariableKinds) (task : Task) (old new : Search) : Type 0 where
-  pub to : (result : Kind) → Leads lists outer (task ∷ old.todo) old.kinds old.bound result → LeadsTo lists outer new result
-  pub from : (result : Kind) → LeadsTo lists outer new result → Leads lists outer (task ∷ old.todo) old.kinds old.bound result
+  pub to : (result : Kind) → Leads lists outer (task ∷ old.todo) old.kinds old.bound result
+      → LeadsTo lists outer new result
+  pub from : (result : Kind) → LeadsTo lists outer new result
+      → Leads lists outer (task ∷ old.todo) old.kinds old.bound result
   pub less : work (width lists) new.todo < task_work (width lists) task + work (width lists) old.todo
 
 -- the task leads to no kind

@@ -10,7 +10,8 @@ returns-in-Ok-Found c = λ text read.
     let found = c.in-Ok-Found.found in
     let both = c.in-Ok-Found.ensures.found found (cc) in
     let accepted =
-    found-is_accepted prepared.program prepared.rows found c.requires.rows both.0 (c.in-Ok-Found.ensures.unit found (cc))
+    found-is_accepted prepared.program prepared.rows found c.requires.rows both.0
+    (c.in-Ok-Found.ensures.unit found (cc))
     both.1
     in
     subst (IsAcceptedAs text) (sym c.accepted.ensures)

@@ -10,9 +10,11 @@ returns-in_err-read_piece-clause-too_long g c =
     let so_far = c.loop-bytes.invariant in
     λ too_long.
     let same : c.read_piece.result ≡ Err TooLong = cc (c.in_err-read_piece.was, passed_on.1, passed_on.2, too_long) in
-    TakesExactly-behind _ _ c.loop-bytes.bytes.items _ _ _ c.loop-bytes.bytes.ok.0 so_far.within so_far.taken (c.read_piece.ensures.too_long same)
+    TakesExactly-behind _ _ c.loop-bytes.bytes.items _ _ _ c.loop-bytes.bytes.ok.0 so_far.within so_far.taken
+    (c.read_piece.ensures.too_long same)
 
 pub returns-in_err-read_piece-clause-front : goal.returns-in_err-read_piece-clause-front
 returns-in_err-read_piece-clause-front g c =
     let so_far = c.loop-bytes.invariant in
-    TakesAtMost-behind _ _ c.loop-bytes.bytes.items _ _ _ c.loop-bytes.bytes.ok.0 so_far.within so_far.taken c.read_piece.ensures.front
+    TakesAtMost-behind _ _ c.loop-bytes.bytes.items _ _ _ c.loop-bytes.bytes.ok.0 so_far.within so_far.taken
+    c.read_piece.ensures.front

@@ -10,8 +10,10 @@ returns-in_err-lists c =
 
 pub returns-in-Some : goal.returns-in-Some
 returns-in-Some c =
-    cost_answers (file_tree c.args.surface.now) c.in_ok-lists.lists c.written_work.result c.in-Some.at c.in_ok-lists.ensures c.written_work.ensures c.in-Some.is
+    cost_answers (file_tree c.args.surface.now) c.in_ok-lists.lists c.written_work.result c.in-Some.at
+    c.in_ok-lists.ensures c.written_work.ensures c.in-Some.is
 
 pub returns-in-None : goal.returns-in-None
 returns-in-None c =
-    lists_answer (file_tree c.args.surface.now) c.in_ok-lists.lists c.written_work.result c.in_ok-lists.ensures c.written_work.ensures c.in-None.is
+    lists_answer (file_tree c.args.surface.now) c.in_ok-lists.lists c.written_work.result c.in_ok-lists.ensures
+    c.written_work.ensures c.in-None.is

@@ -9,8 +9,11 @@ returns-then-not-same_constructor c = (
 )
 
 pub returns-then-not-same_kind : goal.returns-then-not-same_kind
-returns-then-not-same_kind c =
-    (λ h. absurd (true≢false (sym h)), λ form. sym c.if-not-same_kind.true ∙ c.same_kind.ensures.1 (form-kinds _ _ form))
+returns-then-not-same_kind c = (
+  λ h. absurd (true≢false (sym h)),
+  λ form. sym c.if-not-same_kind.true
+      ∙ c.same_kind.ensures.1 (form-kinds _ _ form),
+)
 
 pub returns-then-not-covers : goal.returns-then-not-covers
 returns-then-not-covers c =
@@ -19,7 +22,8 @@ returns-then-not-covers c =
 pub returns : goal.returns
 returns c = (
   λ h.
-      form-from _ _ c.requires (c.same_constructor.ensures.0 c.if-not-same_constructor.false) (c.same_kind.ensures.0 c.if-not-same_kind.false)
+      form-from _ _ c.requires (c.same_constructor.ensures.0 c.if-not-same_constructor.false)
+      (c.same_kind.ensures.0 c.if-not-same_kind.false)
       (c.covers.ensures.0 c.if-not-covers.false) (c.covers-2.ensures.0 h),
   λ form. c.covers-2.ensures.1 ((form-labels _ _ form).1),
 )

@@ -11,6 +11,7 @@ use Rattle.nomos_eval.proofs.numbers.remain.Goals as goal
 
 pub returns : goal.returns
 returns c =
-    let fits : FitsSigned w64 (int_rem c.args.x c.args.y) = record { sfits = omega (arith, mag_rem c.args.x c.args.y, c.ranges.x.sfits) } in
+    let fits : FitsSigned w64 (int_rem c.args.x c.args.y) =
+    record { sfits = omega (arith, mag_rem c.args.x c.args.y, c.ranges.x.sfits) } in
     λ n. rest-is c.args.x c.args.y n (λ none. c.if-y-eq0.false (ap (cast_unsigned w64) none)) fits
     ∙ ap (λ z. ends (int z) n) (sym (rem_is w64 c.args.x c.args.y c.ranges.x c.ranges.y))

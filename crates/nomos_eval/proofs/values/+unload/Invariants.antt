@@ -11,7 +11,8 @@ decreases-unload l = reach l.of
 
 abbrev pub invariant-loop-head : goal.invariant-loop-head
 invariant-loop-head l =
-    (l.at ≤ l.place) × (l.at < length l.lists) × (before_list (map value_of l.items.items) (get_or l.lists l.at no_values) ≡ get_or l.lists l.place no_values)
+    (l.at ≤ l.place) × (l.at < length l.lists)
+    × (before_list (map value_of l.items.items) (get_or l.lists l.at no_values) ≡ get_or l.lists l.place no_values)
 
 abbrev pub decreases-loop-head : goal.decreases-loop-head
 decreases-loop-head l = l.at

@@ -13,13 +13,21 @@ loop-i-preserved g c =
     let items = c.loop-i.places.items in
     let i : ℕ = c.loop-i.i in
     let place = c.index_mut.result.now in
-    let here : HoldsPass floor (1 + i) c.take.result = subst (HoldsPass floor (1 + i)) (sym (c.take.ensures.value ∙ c.index_mut.ensures.value)) (old.places i place (omega arith) c.loop-i-test.true) in
+    let here : HoldsPass floor (1 + i) c.take.result = subst (HoldsPass floor (1 + i))
+    (sym (c.take.ensures.value ∙ c.index_mut.ensures.value))
+    (old.places i place (omega arith) c.loop-i-test.true) in
     record {
       of_floor = joined.floor.0;
       opening = joined.floor.1;
-      out = λ left e. joined.out (1 + i) here ∙ (ap (without_number (1 + i)) (old.out (suc left) (omega arith)) ∙ (without_number-first (1 + i) (range_with_len (1 + i + 1) left) ∙ ap (λ (k : ℕ). range_with_len k left) (omega arith)));
+      out =
+          λ left e. joined.out (1 + i) here ∙ (ap (without_number (1 + i)) (old.out (suc left) (omega arith))
+          ∙ (without_number-first (1 + i) (range_with_len (1 + i + 1) left)
+          ∙ ap (λ (k : ℕ). range_with_len k left) (omega arith)));
       long = old.long;
-      places = λ k d past below. subst (HoldsPass floor (1 + k)) (sym (get_or-set_other items i k c.take.new.self d (λ same. omega arith))) (old.places k d (omega arith) below);
+      places =
+          λ k d past below. subst (HoldsPass floor (1 + k))
+          (sym (get_or-set_other items i k c.take.new.self d (λ same. omega arith)))
+          (old.places k d (omega arith) below);
     }
 
 pub returns : goal.returns

@@ -10,5 +10,6 @@ invariant-loop-i g l = record {
   opening : IsOpening l.opening;
   out : (left : ℕ) → l.i + left ≡ l.i-end → out_of l.opening ≡ range_with_len (1 + l.i) left;
   long : vec_len l.places ≡ l.i-end;
-  places : (k : ℕ) (d : Option (Pass g.row.W.Denot g.row.W-Start.Denot g.row.W-Entry.Denot)) → l.i ≤ k → k < l.i-end → HoldsPass l.floor (1 + k) (slice_index_or l.places.items k d);
+  places : (k : ℕ) (d : Option (Pass g.row.W.Denot g.row.W-Start.Denot g.row.W-Entry.Denot)) → l.i ≤ k → k < l.i-end
+      → HoldsPass l.floor (1 + k) (slice_index_or l.places.items k d);
 }

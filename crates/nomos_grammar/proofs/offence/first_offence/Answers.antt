@@ -38,9 +38,11 @@ written_at : (text : List ℕ) (tokens : List Token) (i : ℕ) (d : Token) →
     map (placed_of text) tokens ≡ tokens_of text → i < length tokens →
     IsWritten (placed_of text (get_or tokens i d)).lexeme
 written_at text tokens i d same h =
-    let all = subst (λ (ts : List Placed). All (λ token. IsWritten token.lexeme) ts) (sym same) (numbers_are_numerals text) in
+    let all = subst (λ (ts : List Placed). All (λ token. IsWritten token.lexeme) ts) (sym same)
+    (numbers_are_numerals text) in
     let within : i < length (map (placed_of text) tokens) = rw length-map h in
-    subst (λ (x : Placed). IsWritten x.lexeme) (get_or-map (placed_of text) tokens i d) (all i (placed_of text d) within)
+    subst (λ (x : Placed). IsWritten x.lexeme) (get_or-map (placed_of text) tokens i d)
+    (all i (placed_of text d) within)
 
 pub returns-in_err-read : goal.returns-in_err-read
 returns-in_err-read c =
@@ -50,9 +52,12 @@ returns-in_err-read c =
     let d : Token = record { kind = kind.Name; from = 0; to = 0 } in
     let x = placed_of text (get_or items i d) in
     let front = map (placed_of text) (take i items) in
-    let same : map (placed_of text) items ≡ tokens_of text = ap (map (placed_of text)) c.as_slice-token-items.ensures ∙ c.requires.tokens.same in
-    answers_so (tokens_of text) (length text) c.in_err-read.field-0.0 c.from_residual-in_err-read.result c.from_residual-in_err-read.ensures.1
-    (answers_error (Unit {0}) (Unit {0}) (tokens_of text) front (map (placed_of text) (drop (suc i) items)) x (length text) c.read.new.self c.in_err-read.field-0.0
+    let same : map (placed_of text) items
+    ≡ tokens_of text = ap (map (placed_of text)) c.as_slice-token-items.ensures ∙ c.requires.tokens.same in
+    answers_so (tokens_of text) (length text) c.in_err-read.field-0.0 c.from_residual-in_err-read.result
+    c.from_residual-in_err-read.ensures.1
+    (answers_error (Unit {0}) (Unit {0}) (tokens_of text) front (map (placed_of text) (drop (suc i) items)) x
+    (length text) c.read.new.self c.in_err-read.field-0.0
     (map_split (placed_of text) items i d c.loop-token-test.true ∙ same) c.loop-token.invariant.kept
     (c.in_err-read.ensures.reads front x c.look_at.ensures c.loop-token.invariant.behind))
 
@@ -61,7 +66,8 @@ look_at-requires-clause-written c =
     let text = c.args.text.now in
     let items = c.as_slice-token-items.result.now in
     let d : Token = record { kind = kind.Name; from = 0; to = 0 } in
-    written_at text items c.loop-token.token-index d (ap (map (placed_of text)) c.as_slice-token-items.ensures ∙ c.requires.tokens.same) c.loop-token-test.true
+    written_at text items c.loop-token.token-index d
+    (ap (map (placed_of text)) c.as_slice-token-items.ensures ∙ c.requires.tokens.same) c.loop-token-test.true
 
 pub loop-token-preserved : goal.loop-token-preserved
 loop-token-preserved c =
@@ -71,10 +77,13 @@ loop-token-preserved c =
     let d : Token = record { kind = kind.Name; from = 0; to = 0 } in
     let x = placed_of text (get_or items i d) in
     let front = map (placed_of text) (take i items) in
-    let more : map (placed_of text) (take (i + 1) items) ≡ front ++ x ∷ [] = map_more (placed_of text) items i d c.loop-token-test.true in
+    let more : map (placed_of text) (take (i + 1) items)
+    ≡ front ++ x ∷ [] = map_more (placed_of text) items i d c.loop-token-test.true in
     let reads = c.in_ok-read.ensures.reads front x c.look_at.ensures c.loop-token.invariant.behind in
     record {
       steady = c.in_ok-read.ensures.steady;
       behind = subst (λ (ts : List Placed). IsBehind ts c.read.new.self) (sym more) reads.1;
-      kept = subst (λ (ts : List Placed). AllKeep [] ts) (sym more) (keep_more [] front x c.loop-token.invariant.kept reads.0);
+      kept =
+          subst (λ (ts : List Placed). AllKeep [] ts) (sym more)
+          (keep_more [] front x c.loop-token.invariant.kept reads.0);
     }

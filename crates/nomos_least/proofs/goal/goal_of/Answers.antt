@@ -31,7 +31,8 @@ gain_declared-requires c =
     let d = c.declaration-item.result in
     subst (λ (f : Form). HasRoom f d.amount) (sym c.loop-declaration.invariant)
     (declared-room lists k d c.lists.ensures.program
-    (declared-at lists c.lists.result.now c.as_slice-declaration-items.result.now k d c.as_slice-declaration-items.ensures
+    (declared-at lists c.lists.result.now c.as_slice-declaration-items.result.now k d
+    c.as_slice-declaration-items.ensures
     c.lists.ensures.lists c.loop-declaration-test.true c.declaration-item.is))
 
 pub loop-declaration-preserved : goal.loop-declaration-preserved
@@ -43,7 +44,8 @@ loop-declaration-preserved c =
     c.gain_declared.ensures n (gains_all (take k lists.procs) no_account) c.loop-declaration.invariant
     ∙ ap (form_of n)
     (gains-next lists.procs d k no_account
-    (declared-at lists c.lists.result.now c.as_slice-declaration-items.result.now k d c.as_slice-declaration-items.ensures
+    (declared-at lists c.lists.result.now c.as_slice-declaration-items.result.now k d
+    c.as_slice-declaration-items.ensures
     c.lists.ensures.lists c.loop-declaration-test.true c.declaration-item.is))
 
 -- at the end the sum is the goal
@@ -70,4 +72,5 @@ returns-clause-form c =
 
 pub returns-clause-coefs : goal.returns-clause-coefs
 returns-clause-coefs c =
-    subst (λ (f : Form). All (λ (z : ℤ). pos 0 ≤ℤ z) f.coefs) (sym (returns-clause-goal c)) (goal-coefs c.args.program.now)
+    subst (λ (f : Form). All (λ (z : ℤ). pos 0 ≤ℤ z) f.coefs) (sym (returns-clause-goal c))
+    (goal-coefs c.args.program.now)

@@ -33,7 +33,8 @@ returns-then-is_zero c =
     let back_carry = wide_back carry.result.0 (omega (arith, less, low.ensures.size)) in
     let sum = (λ p. to_z w128 (of_z w128 (back_high p +ℤ back_carry p)))
     ∙ wide_back (high.result +ℤ carry.result.0) size in
-    let rest = sym (wide_back carry.result.1 (omega (arith, carry.ensures.low))) ∙ c.is_zero.ensures.0 c.if-is_zero.true in
+    let rest = sym (wide_back carry.result.1 (omega (arith, carry.ensures.low)))
+    ∙ c.is_zero.ensures.0 c.if-is_zero.true in
     let fits_xh : FitsSigned w128 x.result.0 = search rules in
     let fits_yh : FitsSigned w128 y.result.0 = search rules in
     let fits_xl : FitsSigned w128 x.result.1 = search rules in

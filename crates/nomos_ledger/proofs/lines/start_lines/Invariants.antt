@@ -9,5 +9,7 @@ abbrev pub invariant-loop-start : goal.invariant-loop-start
 invariant-loop-start l = record {
   lined : Lined l.accepted l.ledger l.lines;
   count : length l.lines.starts.items ≡ l.start-index;
-  so_far : resolve_batch l.accepted l.ledger l.starts ≡ before_all l.lines.starts.items (resolve_batch l.accepted (left l.ledger l.lines) (drop l.start-index l.starts));
+  so_far : resolve_batch l.accepted l.ledger l.starts
+      ≡ before_all l.lines.starts.items
+      (resolve_batch l.accepted (left l.ledger l.lines) (drop l.start-index l.starts));
 }

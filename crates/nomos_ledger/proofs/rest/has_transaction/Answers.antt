@@ -17,5 +17,6 @@ returns-then-is_left c =
 pub returns : goal.returns
 returns c =
     let s = c.args.state.now in
-    let all = rw (take_all c.loop-object.object-index s.objects (rw c.objects-object-items.ensures at c.loop-object-test.false)) at c.loop-object.invariant in
+    let all = rw (take_all c.loop-object.object-index s.objects
+    (rw c.objects-object-items.ensures at c.loop-object-test.false)) at c.loop-object.invariant in
     (λ yes. cc, λ t. absurd (none_left s all t.0 t.1))

@@ -12,5 +12,11 @@ returns-then-length-text-clause-lines c =
 
 pub returns-clause-lines : goal.returns-clause-lines
 returns-clause-lines c =
-    let room : prefix_len is_line_byte c.args.text.now < length c.args.text.now = omega (arith, c.line_length-length.ensures.value) in
-    rw (take_rest c.args.text.now (c.line_length-length.result + 1), add-one, c.without_return.ensures, c.line_length-length.ensures.value) (lines_of-first c.args.text.now room)
+    let room : prefix_len is_line_byte c.args.text.now
+    < length c.args.text.now = omega (arith, c.line_length-length.ensures.value) in
+    rw (
+      take_rest c.args.text.now (c.line_length-length.result + 1),
+      add-one,
+      c.without_return.ensures,
+      c.line_length-length.ensures.value,
+    ) (lines_of-first c.args.text.now room)

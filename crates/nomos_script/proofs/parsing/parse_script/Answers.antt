@@ -6,7 +6,8 @@ use Rattle.nomos_script.proofs.parsing.parse_script.Goals as goal
 use Rattle.nomos_script.proofs.parsing.parse_script.Goals.{In_err-read_items}
 
 pub returns-in_err-read_items-clause-readable : goal.returns-in_err-read_items-clause-readable
-returns-in_err-read_items-clause-readable c = λ items reads. let given = c.in_err-read_items.ensures.readable items reads in search rules
+returns-in_err-read_items-clause-readable c =
+    λ items reads. let given = c.in_err-read_items.ensures.readable items reads in search rules
 
 -- the error says what is wrong with the text
 says_cause : (c : In_err-read_items) → SaysCause c.args.bytes.now c.in_err-read_items.field-0.0
@@ -19,12 +20,14 @@ says_cause c = record {
 pub returns-in_err-read_items-clause-syntax_refused : goal.returns-in_err-read_items-clause-syntax_refused
 returns-in_err-read_items-clause-syntax_refused c = λ k h.
     let says = says_cause (goal.at.returns-in_err-read_items-clause-syntax_refused c).In_err-read_items in
-    elim (syntax_answered c.args.bytes.now k c.in_err-read_items.field-0.0 says h) [ inl e ↦ inl (search rules) | inr e ↦ inr (search rules) ]
+    elim (syntax_answered c.args.bytes.now k c.in_err-read_items.field-0.0 says h)
+    [ inl e ↦ inl (search rules) | inr e ↦ inr (search rules) ]
 
 pub returns-in_err-read_items-clause-not_yet_refused : goal.returns-in_err-read_items-clause-not_yet_refused
 returns-in_err-read_items-clause-not_yet_refused c = λ k h.
     let says = says_cause (goal.at.returns-in_err-read_items-clause-not_yet_refused c).In_err-read_items in
-    elim (not_yet_answered c.args.bytes.now k c.in_err-read_items.field-0.0 says h) [ inl e ↦ inl (search rules) | inr e ↦ inr (search rules) ]
+    elim (not_yet_answered c.args.bytes.now k c.in_err-read_items.field-0.0 says h)
+    [ inl e ↦ inl (search rules) | inr e ↦ inr (search rules) ]
 
 pub of_items-requires : goal.of_items-requires
 of_items-requires c = reads_within_size c.args.bytes.now c.in_ok-read_items.field-0 c.in_ok-read_items.ensures.read
@@ -39,4 +42,5 @@ returns-clause-not_yet_refused c = λ k h.
 
 pub returns-clause-only : goal.returns-clause-only
 returns-clause-only c = λ items reads.
-    rw c.of_items.ensures (reads_once c.args.bytes.now items c.in_ok-read_items.field-0 reads c.in_ok-read_items.ensures.read)
+    rw c.of_items.ensures (reads_once c.args.bytes.now items c.in_ok-read_items.field-0 reads
+    c.in_ok-read_items.ensures.read)

@@ -14,7 +14,9 @@ loop-rest-init c = rw c.new-items.ensures.items (ReadSoFar-none c.args.text.now)
 first_bad : (c : In-Err-NoForm) → IsFirstBad c.args.text.now c.loop-rest.number c.split_line.result.0.now
 first_bad c =
     let none = rw c.in-Err-NoForm.field-0-is at c.in-Err-NoForm.ensures.none in
-    ReadSoFar-bad c.args.text.now c.loop-rest.rest.now c.split_line.result.0.now c.split_line.result.1.now c.loop-rest.number c.loop-rest.items.items c.requires c.loop-rest.invariant c.split_line.ensures.lines (none refl)
+    ReadSoFar-bad c.args.text.now c.loop-rest.rest.now c.split_line.result.0.now c.split_line.result.1.now
+    c.loop-rest.number c.loop-rest.items.items c.requires c.loop-rest.invariant c.split_line.ensures.lines
+    (none refl)
 
 pub returns-in-Err-NoForm-clause-readable : goal.returns-in-Err-NoForm-clause-readable
 returns-in-Err-NoForm-clause-readable c = λ items reads.
@@ -24,17 +26,23 @@ returns-in-Err-NoForm-clause-readable c = λ items reads.
 pub returns-in-Err-NoForm-clause-syntax : goal.returns-in-Err-NoForm-clause-syntax
 returns-in-Err-NoForm-clause-syntax c = λ k e.
     let first = first_bad (goal.at.returns-in-Err-NoForm-clause-syntax c).In-Err-NoForm in
-    syntax_found c.args.text.now c.split_line.result.0.now c.loop-rest.number k c.bad_line.result first (begins_unbuilt (tokens_of c.split_line.result.0.now)) refl c.bad_line.ensures (cc e)
+    syntax_found c.args.text.now c.split_line.result.0.now c.loop-rest.number k c.bad_line.result first
+    (begins_unbuilt (tokens_of c.split_line.result.0.now)) refl c.bad_line.ensures (cc e)
 
 pub returns-in-Err-NoForm-clause-not_yet : goal.returns-in-Err-NoForm-clause-not_yet
 returns-in-Err-NoForm-clause-not_yet c = λ k e.
     let first = first_bad (goal.at.returns-in-Err-NoForm-clause-not_yet c).In-Err-NoForm in
-    not_yet_found c.args.text.now c.split_line.result.0.now c.loop-rest.number k c.bad_line.result first (begins_unbuilt (tokens_of c.split_line.result.0.now)) refl c.bad_line.ensures (cc e)
+    not_yet_found c.args.text.now c.split_line.result.0.now c.loop-rest.number k c.bad_line.result first
+    (begins_unbuilt (tokens_of c.split_line.result.0.now)) refl c.bad_line.ensures (cc e)
 
 pub loop-rest-preserved : goal.loop-rest-preserved
 loop-rest-preserved c =
-    rw c.in_ok-push_item-in-Ok.ensures (ReadSoFar-line c.args.text.now c.loop-rest.rest.now c.split_line.result.0.now c.split_line.result.1.now c.loop-rest.number c.loop-rest.items.items c.in-Ok.item c.loop-rest.invariant c.split_line.ensures.lines c.split_line.ensures.shorter c.in-Ok.ensures.read)
+    rw c.in_ok-push_item-in-Ok.ensures
+    (ReadSoFar-line c.args.text.now c.loop-rest.rest.now c.split_line.result.0.now c.split_line.result.1.now
+    c.loop-rest.number c.loop-rest.items.items c.in-Ok.item c.loop-rest.invariant c.split_line.ensures.lines
+    c.split_line.ensures.shorter c.in-Ok.ensures.read)
 
 pub returns-clause-read : goal.returns-clause-read
 returns-clause-read c =
-    rw c.of_vec.ensures (ReadSoFar-all c.args.text.now c.loop-rest.rest.now c.loop-rest.number c.loop-rest.items.items c.requires (cc) c.loop-rest.invariant)
+    rw c.of_vec.ensures (ReadSoFar-all c.args.text.now c.loop-rest.rest.now c.loop-rest.number c.loop-rest.items.items
+    c.requires (cc) c.loop-rest.invariant)

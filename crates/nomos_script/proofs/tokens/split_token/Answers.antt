@@ -10,5 +10,6 @@ returns-in_default-clause-next c =
 
 pub returns-then-begins_comment-clause-next : goal.returns-then-begins_comment-clause-next
 returns-then-begins_comment-clause-next c =
-    let none = comment_is_last c.after_blanks-text.result.now c.in-len1-up.len_at_least c.after_blanks-text.ensures.solid (cc) in
+    let none = comment_is_last c.after_blanks-text.result.now c.in-len1-up.len_at_least
+    c.after_blanks-text.ensures.solid (cc) in
     (sym c.after_blanks-text.ensures.same ∙ none, tokens_of-nil)

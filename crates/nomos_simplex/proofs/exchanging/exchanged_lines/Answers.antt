@@ -24,7 +24,8 @@ oriented-requires-clause-line c =
     let left = c.remove.result in
     let is = slice_get_read c.args.lines.items _ c.args.place left refl c.requires.place c.remove.ensures.value in
     subst HasNumbers (sym c.remove.ensures.value)
-    (numbers (length left.coefs) (get_or c.args.lines.items c.args.place left) (c.requires.lines left is c.args.place left
+    (numbers (length left.coefs) (get_or c.args.lines.items c.args.place left)
+    (c.requires.lines left is c.args.place left
     c.requires.place))
 
 pub enter_others-requires-clause-left : goal.enter_others-requires-clause-left
@@ -32,7 +33,8 @@ enter_others-requires-clause-left c =
     let left = c.remove.result in
     let is = slice_get_read c.args.lines.items _ c.args.place left refl c.requires.place c.remove.ensures.value in
     let own = subst HasNumbers (sym c.remove.ensures.value)
-    (numbers (length left.coefs) (get_or c.args.lines.items c.args.place left) (c.requires.lines left is c.args.place left
+    (numbers (length left.coefs) (get_or c.args.lines.items c.args.place left)
+    (c.requires.lines left is c.args.place left
     c.requires.place)) in
     subst HasNumbers (sym c.in_ok-left.ensures)
     (oriented_numbers c.args.column left (c.requires.column left is) (c.requires.not_zero left is) own)
@@ -75,7 +77,8 @@ solved-requires-clause-left c =
     let left = c.remove.result in
     let is = slice_get_read c.args.lines.items _ c.args.place left refl c.requires.place c.remove.ensures.value in
     let own = subst HasNumbers (sym c.remove.ensures.value)
-    (numbers (length left.coefs) (get_or c.args.lines.items c.args.place left) (c.requires.lines left is c.args.place left
+    (numbers (length left.coefs) (get_or c.args.lines.items c.args.place left)
+    (c.requires.lines left is c.args.place left
     c.requires.place)) in
     subst HasNumbers (sym c.in_ok-left.ensures)
     (oriented_numbers c.args.column left (c.requires.column left is) (c.requires.not_zero left is) own)
@@ -101,7 +104,8 @@ returns c = λ left h.
     (λ line. in_lowest_terms (put_into j own line)) rest
     (λ k d l. ap (λ x. in_lowest_terms (put_into j x (get_or rest k d))) oriented
     ∙ put_oriented j own column n (get_or rest k d) (put_not_zero j own (get_or rest k d) n
-    (All-remove (IsLine (length own.coefs)) c.args.lines.items c.args.place (c.requires.lines own there) k d l).positive)) in
+    (All-remove (IsLine (length own.coefs)) c.args.lines.items c.args.place (c.requires.lines own there) k d
+    l).positive)) in
     let others = c.in_ok-enter_others.ensures
     ∙ ap (map (λ line. in_lowest_terms (put_into j c.in_ok-left.left line))) c.remove.ensures.items ∙ alike in
     let entered = c.in_ok-entered.ensures ∙ ap (λ x. in_lowest_terms (solved_for j c.args.entering x)) oriented

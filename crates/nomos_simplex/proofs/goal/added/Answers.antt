@@ -17,7 +17,8 @@ returns-in_default c =
     let star_times = number_back star.times c.requires.star.times in
     let p = c.times_to_common-p in
     let q = c.times_to_common-q in
-    let first = number_back p.result p.ensures.small ∙ p.ensures.value ∙ (λ i. times_to_common (times i) (star_times i)) in
+    let first = number_back p.result p.ensures.small ∙ p.ensures.value
+    ∙ (λ i. times_to_common (times i) (star_times i)) in
     let second = number_back q.result q.ensures.small ∙ q.ensures.value
     ∙ (λ i. times_to_common (star_times i) (times i)) in
     let fits : FitsSigned w128 c.scaled.result = search rules in
@@ -40,7 +41,8 @@ lowest_terms-made-requires c =
     let times = number_back line.times c.requires.line.times in
     let star_times = number_back star.times c.requires.star.times in
     let p = c.times_to_common-p in
-    let first = number_back p.result p.ensures.small ∙ p.ensures.value ∙ (λ i. times_to_common (times i) (star_times i)) in
+    let first = number_back p.result p.ensures.small ∙ p.ensures.value
+    ∙ (λ i. times_to_common (times i) (star_times i)) in
     let whole = wide_back c.product.result (omega (arith, c.product.ensures.size)) ∙ c.product.ensures.value
     ∙ (λ i. first i *ℤ times i) in
     subst (λ z. pos 0 <ℤ z) (sym whole)

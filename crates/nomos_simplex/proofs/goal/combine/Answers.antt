@@ -17,7 +17,8 @@ returns-in-None c =
     let fits_by : FitsSigned w128 (get_or by i (pos 0)) = search rules in
     let back_p = number_back p c.requires.p in
     let back_of = number_back (get_or of i (pos 0)) (c.requires.of i (pos 0) in_of) in
-    let value = (λ k. back_p k *ℤ back_of k +ℤ to_z-of_z w128 q fits_q k *ℤ to_z-of_z w128 (get_or by i (pos 0)) fits_by k)
+    let value = (λ k. back_p k *ℤ back_of k +ℤ to_z-of_z w128 q fits_q k *ℤ to_z-of_z w128 (get_or by i (pos 0)) fits_by
+    k)
     ∙ sym (get_or-combined p q of by i (pos 0) c.requires.width in_of) in (
       i,
       omega (arith, length-combined p q of by c.requires.width, in_of),

@@ -51,7 +51,8 @@ loop-before-init c =
     let is = c.in_ok-line.ensures in
     record {
       rest = ap (goal_from table 1 c.args.goal.now.coefs) is;
-      line = subst (IsLine (length table.nonbasic)) (sym is) (line_numbers table (no_goal table) (no_goal-is_line table));
+      line =
+          subst (IsLine (length table.nonbasic)) (sym is) (line_numbers table (no_goal table) (no_goal-is_line table));
       lowest = subst IsLowest (sym is) (no_goal-is_line table).lowest;
     }
 

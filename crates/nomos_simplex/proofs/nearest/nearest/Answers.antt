@@ -23,7 +23,8 @@ loop-place-preserved c =
     let here = line_at table.lines place in
     let is = ap (λ ls. get_or ls place line) lines ∙ sym (get_or_default table.lines place _ line within) in
     let own = c.requires.table.lines place _ within in
-    let coef = ap (λ xs. to_z w128 (of_z w128 (get_or xs column (pos 0)))) (c.as_slice.ensures ∙ ap (λ (l : Line). l.coefs) is)
+    let coef = ap (λ xs. to_z w128 (of_z w128 (get_or xs column (pos 0))))
+    (c.as_slice.ensures ∙ ap (λ (l : Line). l.coefs) is)
     ∙ number_back (coef_at column here) (own.coefs column (pos 0) (omega (arith, own.width, c.requires.column))) in
     let passes = λ (i : ℕ). int_lt (coef_at column (line_at table.lines i)) (pos 0) in
     let is_former = λ (i : ℕ) (k : ℕ). is_nearer c.args.rows.now table.nonbasic column (line_at table.lines i)

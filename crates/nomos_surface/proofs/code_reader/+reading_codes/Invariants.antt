@@ -35,7 +35,8 @@ decreases-read_code_match l = 6 * l.room + 1
 -- the steps that are left, behind those that were read, make the whole
 abbrev pub invariant-read_open_code-loop : goal.invariant-read_open_code-loop
 invariant-read_open_code-loop l =
-    read_steps (read_code l.room) (l.end - l.counter) (map step_tree l.steps.items) l.tokens ≡ code_of_tokens (read_code l.room) l.fn.tokens
+    read_steps (read_code l.room) (l.end - l.counter) (map step_tree l.steps.items) l.tokens
+    ≡ code_of_tokens (read_code l.room) l.fn.tokens
 
 -- the arms that are left, behind those that were read, are all of them
 abbrev pub invariant-read_arms-loop : goal.invariant-read_arms-loop

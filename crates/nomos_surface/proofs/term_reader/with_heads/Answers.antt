@@ -8,5 +8,6 @@ use Rattle.nomos_surface.proofs.term_reader.with_heads.Goals as goal
 pub loop-head-preserved : goal.loop-head-preserved
 loop-head-preserved c =
     ap (with_heads (map head_tree c.pop.new.self.items)) c.in_ok-term.ensures
-    ∙ sym (last_mapped head_tree c.pop.new.self.items c.loop-head.heads.items (c.in-Some.head, c.in-Some.at) (term_tree c.loop-head.term) c.in-Some.ensures.items)
+    ∙ sym (last_mapped head_tree c.pop.new.self.items c.loop-head.heads.items (c.in-Some.head, c.in-Some.at)
+    (term_tree c.loop-head.term) c.in-Some.ensures.items)
     ∙ c.loop-head.invariant

@@ -10,4 +10,5 @@ decreases-loop-head l = vec_len l.heads
 -- the terms that are left before the term make what all of them do
 abbrev pub invariant-loop-head : goal.invariant-loop-head
 invariant-loop-head l =
-    with_heads (map head_tree l.heads.items) (term_tree l.term) ≡ with_heads (map head_tree l.fn.heads.items) (term_tree l.fn.last)
+    with_heads (map head_tree l.heads.items) (term_tree l.term)
+    ≡ with_heads (map head_tree l.fn.heads.items) (term_tree l.fn.last)

@@ -5,4 +5,5 @@ use Rattle.nomos_surface.proofs.tokens.value_of.Goals as goal
 
 pub returns-in_default : goal.returns-in_default
 returns-in_default c =
-    absurd (c.in_default.ensures.cases.0 (IsUtf8-from_ascii c.args.digits.now (IsAscii-from_digits c.args.digits.now c.requires.digits.1)))
+    absurd (c.in_default.ensures.cases.0
+    (IsUtf8-from_ascii c.args.digits.now (IsAscii-from_digits c.args.digits.now c.requires.digits.1)))

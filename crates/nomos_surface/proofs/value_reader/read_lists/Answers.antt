@@ -5,8 +5,10 @@ use Rattle.nomos_surface.proofs.value_reader.read_lists.Goals as goal
 pub loop-lists-preserved : goal.loop-lists-preserved
 loop-lists-preserved c =
     rw (c.in_ok-push.ensures.items, c.skip.ensures.at, c.skip.ensures.rest)
-    (sym (more_lists c.loop-lists.lists.items c.loop-lists.tokens (sym c.at_list.ensures ∙ c.loop-lists-test.true)) ∙ c.loop-lists.invariant)
+    (sym (more_lists c.loop-lists.lists.items c.loop-lists.tokens (sym c.at_list.ensures ∙ c.loop-lists-test.true))
+    ∙ c.loop-lists.invariant)
 
 pub returns : goal.returns
 returns c =
-    sym (no_lists c.loop-lists.lists.items c.loop-lists.tokens (sym c.at_list.ensures ∙ c.loop-lists-test.false)) ∙ c.loop-lists.invariant
+    sym (no_lists c.loop-lists.lists.items c.loop-lists.tokens (sym c.at_list.ensures ∙ c.loop-lists-test.false))
+    ∙ c.loop-lists.invariant

@@ -7,16 +7,22 @@ use Rattle.nomos_sync.proofs.synchronizing.agrees_behind.Goals.{in-Equal, in-Dif
 
 pub compare-requires-clause-left : goal.compare-requires-clause-left
 compare-requires-clause-left c =
-    down-below c.args.program.now c.args.at.0 c.node.result.now c.in-Some.behind c.requires.walkable.program c.node.ensures (sym c.behind_down.ensures ∙ c.in-Some.is)
+    down-below c.args.program.now c.args.at.0 c.node.result.now c.in-Some.behind c.requires.walkable.program
+    c.node.ensures (sym c.behind_down.ensures ∙ c.in-Some.is)
 
 pub returns-clause-tells : goal.returns-clause-tells
 returns-clause-tells c =
-    let there = down-there c.args.program.now c.args.at.0 c.node.result.now c.in-Some.behind c.node.ensures (sym c.behind_down.ensures ∙ c.in-Some.is) in
+    let there = down-there c.args.program.now c.args.at.0 c.node.result.now c.in-Some.behind c.node.ensures
+    (sym c.behind_down.ensures ∙ c.in-Some.is) in
     elim c.match-branch-2.branch [
       | in-Equal w ↦
           let finds = rw w.in-Equal.is at c.in_ok-compare.ensures.answers in
           rw w.result-is (down c.in-Some.behind there finds)
       | in-Different w ↦
           let differs = rw w.in-Different.is at c.in_ok-compare.ensures.answers in
-          rw w.result-is (record { behind = c.in-Some.behind; there = there; unequal = differ-unequal c.args.program.now c.in-Some.behind c.args.shared _ differs.0 })
+          rw w.result-is (record {
+            behind = c.in-Some.behind;
+            there = there;
+            unequal = differ-unequal c.args.program.now c.in-Some.behind c.args.shared _ differs.0;
+          })
     ]

@@ -8,43 +8,60 @@ use Rattle.nomos_sync.proofs.synchronizing.leads_back.Goals as goal
 
 pub agrees_behind-requires-clause-at : goal.agrees_behind-requires-clause-at
 agrees_behind-requires-clause-at c =
-    let n = visit-node c.args.program.now c.args.start c.loop-at.walk.visits.entries c.loop-at.next c.in-Some.at c.in-Some.field-0-1 c.loop-at.invariant.passing.reached (sym c.visit.ensures.there ∙ c.in-Some.is) in
+    let n = visit-node c.args.program.now c.args.start c.loop-at.walk.visits.entries c.loop-at.next c.in-Some.at
+    c.in-Some.field-0-1 c.loop-at.invariant.passing.reached (sym c.visit.ensures.there ∙ c.in-Some.is) in
     there-below c.args.program.now c.in-Some.at n.0 n.1
 
 pub path_to-requires-clause-there : goal.path_to-requires-clause-there
 path_to-requires-clause-there c =
-    slice_get_within c.loop-at.walk.visits.entries c.loop-at.next (c.in-Some.at, c.in-Some.field-0-1) (sym c.visit.ensures.there ∙ c.in-Some.is)
+    slice_get_within c.loop-at.walk.visits.entries c.loop-at.next (c.in-Some.at, c.in-Some.field-0-1)
+    (sym c.visit.ensures.there ∙ c.in-Some.is)
 
 pub path_to-requires-clause-order : goal.path_to-requires-clause-order
-path_to-requires-clause-order c = reached-order c.args.program.now c.args.start c.loop-at.walk.visits.entries c.loop-at.invariant.passing.reached
+path_to-requires-clause-order c =
+    reached-order c.args.program.now c.args.start c.loop-at.walk.visits.entries c.loop-at.invariant.passing.reached
 
 pub returns-then-not-branch-clause-answers : goal.returns-then-not-branch-clause-answers
 returns-then-not-branch-clause-answers c =
-    let differs = subst (λ (b : Bool). TellsBehind c.args.program.now (record { 0 = c.in-Some.at }) c.args.shared c.loop-at.equalities c.agrees_behind.new.equalities b) c.if-not-branch.true c.in_ok-agrees_behind.ensures.tells in
-    passing-offends c.args.program.now c.args.start c.args.shared (record { 0 = c.in-Some.at }) c.loop-at.walk.visits.entries c.loop-at.next c.in-Some.field-0-1 c.in_ok-path_to.field-0
+    let differs = subst (λ (b : Bool). TellsBehind c.args.program.now (record { 0 = c.in-Some.at }) c.args.shared
+    c.loop-at.equalities c.agrees_behind.new.equalities b) c.if-not-branch.true
+    c.in_ok-agrees_behind.ensures.tells in
+    passing-offends c.args.program.now c.args.start c.args.shared (record { 0 = c.in-Some.at })
+    c.loop-at.walk.visits.entries c.loop-at.next c.in-Some.field-0-1 c.in_ok-path_to.field-0
     c.loop-at.invariant.passing.reached (sym c.visit.ensures.there ∙ c.in-Some.is) c.in_ok-path_to.ensures differs
 
 pub step-requires-clause-in_range : goal.step-requires-clause-in_range
 step-requires-clause-in_range c =
-    let n = visit-node c.args.program.now c.args.start c.loop-at.walk.visits.entries c.loop-at.next c.in-Some.at c.in-Some.field-0-1 c.loop-at.invariant.passing.reached (sym c.visit.ensures.there ∙ c.in-Some.is) in
+    let n = visit-node c.args.program.now c.args.start c.loop-at.walk.visits.entries c.loop-at.next c.in-Some.at
+    c.in-Some.field-0-1 c.loop-at.invariant.passing.reached (sym c.visit.ensures.there ∙ c.in-Some.is) in
     there-below c.args.program.now c.in-Some.at n.0 n.1
 
 pub loop-at-preserved : goal.loop-at-preserved
 loop-at-preserved c =
-    let agrees = subst (λ (b : Bool). TellsBehind c.args.program.now (record { 0 = c.in-Some.at }) c.args.shared c.loop-at.equalities c.agrees_behind.new.equalities b) c.if-not-branch.false c.in_ok-agrees_behind.ensures.tells in
+    let agrees = subst (λ (b : Bool). TellsBehind c.args.program.now (record { 0 = c.in-Some.at }) c.args.shared
+    c.loop-at.equalities c.agrees_behind.new.equalities b) c.if-not-branch.false
+    c.in_ok-agrees_behind.ensures.tells in
     record {
-      passing = passing-more c.args.program.now c.args.start c.args.shared (record { 0 = c.in-Some.at }) c.args.equalities.now c.loop-at.equalities c.agrees_behind.new.equalities c.loop-at.walk.visits.entries c.step.new.self.visits.entries c.loop-at.next c.in-Some.field-0-1
-          c.loop-at.invariant.passing (sym c.visit.ensures.there ∙ c.in-Some.is) agrees c.in_ok-step.ensures.walks c.in_ok-step.ensures.follows;
+      passing =
+          passing-more c.args.program.now c.args.start c.args.shared (record { 0 = c.in-Some.at }) c.args.equalities.now
+          c.loop-at.equalities c.agrees_behind.new.equalities c.loop-at.walk.visits.entries
+          c.step.new.self.visits.entries c.loop-at.next c.in-Some.field-0-1
+          c.loop-at.invariant.passing (sym c.visit.ensures.there ∙ c.in-Some.is) agrees c.in_ok-step.ensures.walks
+          c.in_ok-step.ensures.follows;
       compared = c.agrees_behind.ensures.compared;
     }
 
 pub loop-at-init : goal.loop-at-init
 loop-at-init c =
     record {
-      passing = passing-begins c.args.program.now c.args.start c.args.shared c.args.equalities.now c.args.walk.now.visits.entries c.meet.new.self.visits.entries c.requires.unused c.in_ok-meet.ensures;
+      passing =
+          passing-begins c.args.program.now c.args.start c.args.shared c.args.equalities.now
+          c.args.walk.now.visits.entries c.meet.new.self.visits.entries c.requires.unused c.in_ok-meet.ensures;
       compared = c.requires.compared;
     }
 
 pub returns-clause-answers : goal.returns-clause-answers
 returns-clause-answers c =
-    passing-ends c.args.program.now c.args.start c.args.shared c.args.equalities.now c.loop-at.equalities c.loop-at.walk.visits.entries c.loop-at.next c.requires.walkable.program c.loop-at.invariant.passing (sym c.visit.ensures.there ∙ c.in_default.is)
+    passing-ends c.args.program.now c.args.start c.args.shared c.args.equalities.now c.loop-at.equalities
+    c.loop-at.walk.visits.entries c.loop-at.next c.requires.walkable.program c.loop-at.invariant.passing
+    (sym c.visit.ensures.there ∙ c.in_default.is)

@@ -9,15 +9,19 @@ pub returns-in_ok-pairs-in-Equal-clause-answers : goal.returns-in_ok-pairs-in-Eq
 returns-in_ok-pairs-in-Equal-clause-answers c =
     let finds = rw c.new-equalities.ensures at (rw c.in-Equal.is at c.in_ok-synchronizing_with.ensures.answers) in
     λ body there.
-    subst (λ (pairs : List (Amount × Amount)). SynchronizesWith c.args.program.now body c.args.shared pairs) (sym c.in_ok-pairs-in-Equal.ensures)
-    (sync-answered c.args.program.now body c.args.shared c.synchronizing_with.new.equalities c.in_ok-synchronizing_with.ensures.compared (finds body there))
+    subst (λ (pairs : List (Amount × Amount)). SynchronizesWith c.args.program.now body c.args.shared pairs)
+    (sym c.in_ok-pairs-in-Equal.ensures)
+    (sync-answered c.args.program.now body c.args.shared c.synchronizing_with.new.equalities
+    c.in_ok-synchronizing_with.ensures.compared (finds body there))
 
 pub returns-in_ok-pairs-in-Equal-clause-exact : goal.returns-in_ok-pairs-in-Equal-clause-exact
 returns-in_ok-pairs-in-Equal-clause-exact c =
     λ body there x.
-    synced-exact c.args.program.now body c.args.shared (synced.Yes c.in_ok-pairs-in-Equal.pairs) x (returns-in_ok-pairs-in-Equal-clause-answers c body there)
+    synced-exact c.args.program.now body c.args.shared (synced.Yes c.in_ok-pairs-in-Equal.pairs) x
+    (returns-in_ok-pairs-in-Equal-clause-answers c body there)
 
 pub returns-in-Different-clause-exact : goal.returns-in-Different-clause-exact
 returns-in-Different-clause-exact c =
     let offends = rw c.in-Different.is at c.in_ok-synchronizing_with.ensures.answers in
-    λ body there x. synced-exact c.args.program.now body c.args.shared (synced.No c.in-Different.path) x (offends body there)
+    λ body there x. synced-exact c.args.program.now body c.args.shared (synced.No c.in-Different.path) x
+    (offends body there)

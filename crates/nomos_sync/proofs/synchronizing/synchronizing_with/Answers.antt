@@ -7,4 +7,5 @@ use Rattle.nomos_sync.proofs.synchronizing.synchronizing_with.Goals as goal
 
 pub leads_back-requires-clause-start : goal.leads_back-requires-clause-start
 leads_back-requires-clause-start c =
-    part-below c.args.program.now c.args.shared.0 c.node.result.now hop.Next c.in-Up.body c.lists-lists.ensures.program c.node.ensures (ap (λ (n : TypeNode). part_by n hop.Next) c.in-Up.is)
+    part-below c.args.program.now c.args.shared.0 c.node.result.now hop.Next c.in-Up.body c.lists-lists.ensures.program
+    c.node.ensures (ap (λ (n : TypeNode). part_by n hop.Next) c.in-Up.is)

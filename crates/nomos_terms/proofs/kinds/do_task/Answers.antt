@@ -8,5 +8,6 @@ use Rattle.nomos_terms.proofs.kinds.do_task.Goals as goal
 
 pub returns-in-Term-clause-vain : goal.returns-in-Term-clause-vain
 returns-in-Term-clause-vain c =
-    let P : Task → Type 0 = λ task. IsErrOf c.enter.result NoKind → IsVain c.args.program.now c.args.outer.now task c.args.search.now in
+    let P : Task → Type 0 = λ task. IsErrOf c.enter.result NoKind
+    → IsVain c.args.program.now c.args.outer.now task c.args.search.now in
     subst P (sym c.in-Term.is) c.enter.ensures.vain

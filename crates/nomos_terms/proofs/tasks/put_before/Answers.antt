@@ -4,4 +4,5 @@ use Rattle.nomos_terms.proofs.tasks.put_before.Goals as goal
 
 pub returns-in_default-element_of-clause-vain : goal.returns-in_default-element_of-clause-vain
 returns-in_default-element_of-clause-vain c =
-    λ lists outer _. vain_before lists outer c.args.search.now _ c.in_default-element_of.ensures _ _ _ c.in-Some.ensures c.in-Some-pop.ensures
+    λ lists outer _. vain_before lists outer c.args.search.now _ c.in_default-element_of.ensures _ _ _ c.in-Some.ensures
+    c.in-Some-pop.ensures

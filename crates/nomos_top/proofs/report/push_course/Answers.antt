@@ -4,7 +4,8 @@ use Rattle.nomos_base.specs.Gas.{gas_text}
 use Rattle.nomos_top.proofs.report.push_course.Goals as goal
 
 -- two ends, one after the other
-joined : (text word count spent gas feed : List ℕ) → (text ++ (word ++ count)) ++ (spent ++ gas ++ feed) ≡ text ++ ((word ++ count ++ spent ++ gas) ++ feed)
+joined : (text word count spent gas feed : List ℕ)
+    → (text ++ (word ++ count)) ++ (spent ++ gas ++ feed) ≡ text ++ ((word ++ count ++ spent ++ gas) ++ feed)
 joined text word count spent gas feed = simp append_assoc
 
 pub returns : goal.returns

@@ -12,8 +12,10 @@ item-requires-clause-stands c = c.loop-item.invariant.stands
 
 pub item-requires-clause-space : goal.item-requires-clause-space
 item-requires-clause-space c =
-    come-space c.args.accepted.now c.args.limit c.args.items.now c.loop-item.item-index _ c.loop-item.running c.loop-item.invariant
-    (slice_get_read c.args.items.now (length c.args.items.now) c.loop-item.item-index c.item-item.result refl c.loop-item-test.true c.item-item.is)
+    come-space c.args.accepted.now c.args.limit c.args.items.now c.loop-item.item-index _ c.loop-item.running
+    c.loop-item.invariant
+    (slice_get_read c.args.items.now (length c.args.items.now) c.loop-item.item-index c.item-item.result refl
+    c.loop-item-test.true c.item-item.is)
     c.requires
 
 pub loop-item-preserved : goal.loop-item-preserved
@@ -23,4 +25,5 @@ loop-item-preserved c =
     let x = c.item-item.result in
     rw
     (take_more items i x c.loop-item-test.true, ← c.item-item.is)
-    (come-more c.args.accepted.now c.args.limit (take i items) x c.loop-item.running c.item.new.self c.loop-item.invariant c.in-Ok.ensures.ok)
+    (come-more c.args.accepted.now c.args.limit (take i items) x c.loop-item.running c.item.new.self
+    c.loop-item.invariant c.in-Ok.ensures.ok)

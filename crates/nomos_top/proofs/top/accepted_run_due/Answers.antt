@@ -4,7 +4,10 @@ use Rattle.nomos_top.proofs.top.accepted_run_due.Goals as goal
 
 pub returns-else-is_runnable-clause-ok : goal.returns-else-is_runnable-clause-ok
 returns-else-is_runnable-clause-ok g c =
-    let counts : Counts = record { before = g.S.Source.faults c.args.script.now; after = g.S.Source.faults c.args.script.now } in
+    let counts : Counts = record {
+      before = g.S.Source.faults c.args.script.now;
+      after = g.S.Source.faults c.args.script.now;
+    } in
     if_ok-map c.line_due.result _ _
     (λ due parts. due_of-not_yet c.args.accepted (g.S.Source.left c.args.script.now) counts due (cc) parts)
     c.line_due.ensures.ok

@@ -5,7 +5,11 @@ use Rattle.nomos_top.proofs.top.check_due.Goals as goal
 
 pub returns-in-Ok-clause-ok : goal.returns-in-Ok-clause-ok
 returns-in-Ok-clause-ok g c =
-    let contract : Reading = record { left = g.S.Source.left c.args.contract.now; counts = record { before = g.S.Source.faults c.args.contract.now; after = g.S.Source.faults c.judge.new.contract } } in
+    let contract : Reading = record {
+      left = g.S.Source.left c.args.contract.now;
+      counts =
+          record { before = g.S.Source.faults c.args.contract.now; after = g.S.Source.faults c.judge.new.contract };
+    } in
     let f = c.in-Ok.ensures in
     if_ok-map c.accepted_due.result _ _
     (λ due parts words script asks. due-as words contract script due _ _ _ _
@@ -14,13 +18,21 @@ returns-in-Ok-clause-ok g c =
 
 pub returns-in-Ok-clause-err : goal.returns-in-Ok-clause-err
 returns-in-Ok-clause-err g c =
-    let contract : Reading = record { left = g.S.Source.left c.args.contract.now; counts = record { before = g.S.Source.faults c.args.contract.now; after = g.S.Source.faults c.judge.new.contract } } in
+    let contract : Reading = record {
+      left = g.S.Source.left c.args.contract.now;
+      counts =
+          record { before = g.S.Source.faults c.args.contract.now; after = g.S.Source.faults c.judge.new.contract };
+    } in
     if_err-map c.accepted_due.result _ _
     (λ part parts words script asks. part-nothing words contract script part parts) c.accepted_due.ensures.err
 
 pub returns-in-Err-clause-ok : goal.returns-in-Err-clause-ok
 returns-in-Err-clause-ok g c =
-    let contract : Reading = record { left = g.S.Source.left c.args.contract.now; counts = record { before = g.S.Source.faults c.args.contract.now; after = g.S.Source.faults c.judge.new.contract } } in
+    let contract : Reading = record {
+      left = g.S.Source.left c.args.contract.now;
+      counts =
+          record { before = g.S.Source.faults c.args.contract.now; after = g.S.Source.faults c.judge.new.contract };
+    } in
     let f = c.in-Err.ensures in
     if_ok-map c.unaccepted_due.result _ _
     (λ due parts words script asks. due-pivots_out words contract script f.0 c.in-Err.unaccepted due (inl asks)
@@ -29,7 +41,11 @@ returns-in-Err-clause-ok g c =
 
 pub returns-in-Err-clause-err : goal.returns-in-Err-clause-err
 returns-in-Err-clause-err g c =
-    let contract : Reading = record { left = g.S.Source.left c.args.contract.now; counts = record { before = g.S.Source.faults c.args.contract.now; after = g.S.Source.faults c.judge.new.contract } } in
+    let contract : Reading = record {
+      left = g.S.Source.left c.args.contract.now;
+      counts =
+          record { before = g.S.Source.faults c.args.contract.now; after = g.S.Source.faults c.judge.new.contract };
+    } in
     if_err-map c.unaccepted_due.result _ _
     (λ part parts words script asks. part-nothing words contract script part parts) c.unaccepted_due.ensures.err
 

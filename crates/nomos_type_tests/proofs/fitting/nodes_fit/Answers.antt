@@ -20,7 +20,8 @@ loop-place-preserved c =
     let here : (d : TypeAt) → P (get_or types place d) =
     λ d. subst P (same-item types place e d c.loop-place-test.true) fits in
     λ t d inside.
-    below_more (λ n. (x : TypeAt) → NodeFits lists n (get_or types n x).node) place (λ k before x. c.loop-place.invariant k x before) here t inside d
+    below_more (λ n. (x : TypeAt) → NodeFits lists n (get_or types n x).node) place
+    (λ k before x. c.loop-place.invariant k x before) here t inside d
 
 pub returns : goal.returns
 returns c =

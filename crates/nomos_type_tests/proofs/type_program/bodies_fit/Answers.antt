@@ -7,4 +7,6 @@ pub returns : goal.returns
 returns c =
     λ yes.
     let all : c.in-Ok.limit ≡ length c.args.types.now = let is = c.in-Ok.ensures in cc in
-    bodies_fit c.args.defs.now c.args.types.now c.deref.result.now c.in-Ok.limit (c.deref.ensures.value ∙ c.in_ok-places.ensures) all (c.stand_once.ensures c.if-not-stand_once.false) (c.has_bodies.ensures yes)
+    bodies_fit c.args.defs.now c.args.types.now c.deref.result.now c.in-Ok.limit
+    (c.deref.ensures.value ∙ c.in_ok-places.ensures) all (c.stand_once.ensures c.if-not-stand_once.false)
+    (c.has_bodies.ensures yes)

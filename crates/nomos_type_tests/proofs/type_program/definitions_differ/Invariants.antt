@@ -4,4 +4,5 @@ use Rattle.nomos_type_tests.proofs.type_program.definitions_differ.Given as goal
 
 -- the names so far differ from all earlier ones
 abbrev pub invariant-loop-place : goal.invariant-loop-place
-invariant-loop-place l = (j : ℕ) → j < l.place → (k : ℕ) (d : Def) → k < j → (get_or l.defs k d).name ≢ (get_or l.defs j d).name
+invariant-loop-place l =
+    (j : ℕ) → j < l.place → (k : ℕ) (d : Def) → k < j → (get_or l.defs k d).name ≢ (get_or l.defs j d).name

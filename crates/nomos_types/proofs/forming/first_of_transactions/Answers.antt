@@ -19,15 +19,18 @@ loop-def-preserved c =
     let i = c.loop-def.def-index in
     let d = c.def-item.result in
     let same = defs-of lists c.lists.result.now defs c.as_slice-def-items.ensures c.lists.ensures.lists in
-    let here : slice_get defs i ≡ Some d = slice_get-get_or defs i d c.loop-def-test.true ∙ ap Some (sym c.def-item.is) in
+    let here : slice_get defs i ≡ Some d = slice_get-get_or defs i d c.loop-def-test.true
+    ∙ ap Some (sym c.def-item.is) in
     let found : slice_get lists.defs i ≡ Some d = subst (λ (ds : List Def). slice_get ds i ≡ Some d) same here in
-    let more = transactions-more lists i d found c.loop-def.first c.of_transactions_at.result c.loop-def.invariant c.of_transactions_at.ensures in
+    let more = transactions-more lists i d found c.loop-def.first c.of_transactions_at.result c.loop-def.invariant
+    c.of_transactions_at.ensures in
     rw c.lesser-first.ensures more
 
 pub returns : goal.returns
 returns c =
     let lists = c.args.program.now in
-    let same = defs-of lists c.lists.result.now c.as_slice-def-items.result.now c.as_slice-def-items.ensures c.lists.ensures.lists in
+    let same = defs-of lists c.lists.result.now c.as_slice-def-items.result.now c.as_slice-def-items.ensures
+    c.lists.ensures.lists in
     let defs_length : length c.as_slice-def-items.result.now ≡ length lists.defs = ap length same in
     let all : c.loop-def.def-index ≡ length lists.defs = omega arith in
     subst (λ (n : ℕ). IsLeast (OfTransactionsBelow lists n) c.loop-def.first) all c.loop-def.invariant

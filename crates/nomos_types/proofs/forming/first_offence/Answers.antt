@@ -12,6 +12,9 @@ returns c =
     let a = c.first_forbidden-forbidden.result in
     let b = c.first_not_held_in_all-not_held.result in
     let t = c.first_of_transactions-of_transactions.result in
-    let is : c.lesser-2.result ≡ lesser (lesser a b) t = c.lesser-2.ensures ∙ ap (λ (o : Option ℕ). lesser o t) c.lesser.ensures in
-    let answer = first-offence lists c.first_forbidden-forbidden.ensures.program a b t c.first_forbidden-forbidden.ensures.least c.first_not_held_in_all-not_held.ensures c.first_of_transactions-of_transactions.ensures in
+    let is : c.lesser-2.result ≡ lesser (lesser a b) t = c.lesser-2.ensures
+    ∙ ap (λ (o : Option ℕ). lesser o t) c.lesser.ensures in
+    let answer = first-offence lists c.first_forbidden-forbidden.ensures.program a b t
+    c.first_forbidden-forbidden.ensures.least c.first_not_held_in_all-not_held.ensures
+    c.first_of_transactions-of_transactions.ensures in
     subst (λ (o : Option ℕ). MatchOption o (ObeysModes lists) (λ at. IsFirstOffence lists at)) (sym is) answer

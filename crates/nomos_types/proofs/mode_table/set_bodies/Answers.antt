@@ -8,5 +8,6 @@ use Rattle.nomos_types.proofs.mode_table.set_bodies.Goals as goal
 pub loop-def-preserved : goal.loop-def-preserved
 loop-def-preserved c =
     let f : Def → TypeId × Mode = λ d. (d.body, d.mode) in
-    let more = with_modes-more_item f c.as_slice-def-items.result.now c.loop-def.def-index c.def-item.result c.args.modes.now c.def-item.is c.loop-def-test.true in
+    let more = with_modes-more_item f c.as_slice-def-items.result.now c.loop-def.def-index c.def-item.result
+    c.args.modes.now c.def-item.is c.loop-def-test.true in
     cc (more, c.loop-def.invariant, c.as_slice-def-items.ensures)

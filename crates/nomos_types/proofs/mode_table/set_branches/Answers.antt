@@ -9,5 +9,6 @@ pub loop-branch-preserved : goal.loop-branch-preserved
 loop-branch-preserved c =
     let f : Branch → TypeId × Mode = λ b. (b.goes, c.args.mode) in
     let none : Branch = record { label = record { 0 = 0 }; goes = record { 0 = 0 } } in
-    let more = with_modes-more f c.args.branches.now c.loop-branch.branch-index none c.args.modes.now c.loop-branch-test.true in
+    let more = with_modes-more f c.args.branches.now c.loop-branch.branch-index none c.args.modes.now
+    c.loop-branch-test.true in
     cc (more, c.loop-branch.invariant)

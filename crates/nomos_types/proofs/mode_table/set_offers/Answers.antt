@@ -8,5 +8,6 @@ use Rattle.nomos_types.proofs.mode_table.set_offers.Goals as goal
 pub loop-d-preserved : goal.loop-d-preserved
 loop-d-preserved c =
     let f : ProcDecl → TypeId × Mode = λ d. (d.offers, d.mode) in
-    let more = with_modes-more_item f c.as_slice-d-items.result.now c.loop-d.d-index c.d-item.result c.args.modes.now c.d-item.is c.loop-d-test.true in
+    let more = with_modes-more_item f c.as_slice-d-items.result.now c.loop-d.d-index c.d-item.result c.args.modes.now
+    c.d-item.is c.loop-d-test.true in
     cc (more, c.loop-d.invariant, c.as_slice-d-items.ensures)

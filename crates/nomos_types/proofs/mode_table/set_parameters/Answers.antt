@@ -9,6 +9,8 @@ use Rattle.nomos_types.proofs.mode_table.set_parameters.Goals as goal
 -- the parameters of one more declaration
 pub loop-d-preserved : goal.loop-d-preserved
 loop-d-preserved c =
-    let f : ProcDecl → List (TypeId × Mode) = λ d. map (λ par. (par.1, parameter_mode c.args.program.now par.1)) d.channels in
-    let more = with_modes-more_each f c.as_slice-d-items.result.now c.loop-d.d-index c.d-item.result c.args.modes.now c.d-item.is c.loop-d-test.true in
+    let f : ProcDecl → List (TypeId × Mode) = λ d.
+    map (λ par. (par.1, parameter_mode c.args.program.now par.1)) d.channels in
+    let more = with_modes-more_each f c.as_slice-d-items.result.now c.loop-d.d-index c.d-item.result c.args.modes.now
+    c.d-item.is c.loop-d-test.true in
     cc (more, c.loop-d.invariant, c.as_slice-d-items.ensures, c.lists.ensures.lists, c.set_channels.ensures)

@@ -8,7 +8,9 @@ use Rattle.nomos_ir.specs.declared.type_node.TypeNode.TheVariants as node
 use Rattle.nomos_types.proofs.mode_table.set_parts.Goals as goal
 
 -- the branches of a choice are in range where its parts are
-branches-below : (n : TypeNode) (branches : List Branch) (count : ℕ) → ((n ≡ node.Plus branches) ⊎ (n ≡ node.With branches)) → AllBelow count (type_parts n) → AllBelow count (map (λ b. b.goes.0) branches)
+branches-below : (n : TypeNode) (branches : List Branch) (count : ℕ)
+    → ((n ≡ node.Plus branches) ⊎ (n ≡ node.With branches)) → AllBelow count (type_parts n)
+    → AllBelow count (map (λ b. b.goes.0) branches)
 branches-below n branches count (inl is) below = subst (λ m. AllBelow count (type_parts m)) is below
 branches-below n branches count (inr is) below = subst (λ m. AllBelow count (type_parts m)) is below
 
@@ -18,7 +20,9 @@ set_branches-requires c =
     let branches = c.in-Plus.branches in
     let same = c.as_slice.ensures in
     let within : k < length branches = rw (← same) inside in
-    let there : k < length (map (λ (b : Branch). b.goes.0) branches) = rw (length-map branches (λ (b : Branch). b.goes.0)) within in
-    let below = branches-below c.args.node.now branches (length c.args.program.now.types) c.in-Plus.is c.requires.parts k d.goes.0 there in
+    let there : k < length (map (λ (b : Branch). b.goes.0) branches) =
+    rw (length-map branches (λ (b : Branch). b.goes.0)) within in
+    let below = branches-below c.args.node.now branches (length c.args.program.now.types) c.in-Plus.is c.requires.parts
+    k d.goes.0 there in
     let at = get_or-map (λ (b : Branch). b.goes.0) branches k d d.goes.0 within in
     rw (same, c.requires.types, ← at) below

@@ -15,11 +15,14 @@ returns-in-Named-clause-in_range c =
 pub returns-in-Named-clause-unfolds : goal.returns-in-Named-clause-unfolds
 returns-in-Named-clause-unfolds c =
     let there = rw c.lists-lists.ensures.lists at c.definition.ensures in
-    named-unfolds _ c.args.t.0 c.in-Named.id c.definition.result.now c.lists-lists.ensures.program c.requires.contractive (c.node.ensures ∙ ap Some c.in-Named.is) there
+    named-unfolds _ c.args.t.0 c.in-Named.id c.definition.result.now c.lists-lists.ensures.program
+    c.requires.contractive (c.node.ensures ∙ ap Some c.in-Named.is) there
 
 pub returns-in_default : goal.returns-in_default
 returns-in_default c =
     record {
       in_range = c.requires.in_range;
-      unfolds = constructor-unfolds c.args.program.now c.args.t.0 c.node.result.now c.node.ensures (not_named-constructor _ c.in_default.not-Named);
+      unfolds =
+          constructor-unfolds c.args.program.now c.args.t.0 c.node.result.now c.node.ensures
+          (not_named-constructor _ c.in_default.not-Named);
     }

@@ -11,7 +11,8 @@ returns-else-is_between c =
         found = λ h. h;
         kept = λ n h. h;
         here = λ above ready.
-            let clash : false ≡ true = sym w.if-is_ready.false ∙ w.is_ready.ensures.1 (rw c.number_of-number.ensures ready) in absurd (cc);
+            let clash : false ≡ true = sym w.if-is_ready.false
+            ∙ w.is_ready.ensures.1 (rw c.number_of-number.ensures ready) in absurd (cc);
       }
       | else-is_between-via-else-is_between w ↦ record {
         found = λ h. h;
@@ -22,7 +23,8 @@ returns-else-is_between c =
             (number_of c.args.o.now)
             c.args.before
             (λ both.
-            let clash : false ≡ true = sym w.if-is_between.false ∙ c.is_between.ensures.1 (rw c.number_of-number.ensures both) in cc)
+            let clash : false ≡ true = sym w.if-is_between.false
+            ∙ c.is_between.ensures.1 (rw c.number_of-number.ensures both) in cc)
             above;
       }
     ]

@@ -12,7 +12,8 @@ use Rattle.nomos_elaborate.proofs.elaborator.Elaborator.+codes.Given as goal
 abbrev pub invariant-arms-loop-tree : goal.invariant-arms-loop-tree
 invariant-arms-loop-tree l = record {
   gave :
-      each (λ v a. check_arm (λ w. check_code w (arm_tree a).1) v (arm_tree a).0) (l.fn.self, []) (take l.tree-index l.trees)
+      each (λ v a. check_arm (λ w. check_code w (arm_tree a).1) v (arm_tree a).0) (l.fn.self, [])
+      (take l.tree-index l.trees)
       ≡ found ((l.self, l.before), l.arms.items);
   keeps : KeepsArms (arm_trees (map arm_tree (drop l.tree-index l.trees)));
   room :

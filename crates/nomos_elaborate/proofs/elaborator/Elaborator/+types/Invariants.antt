@@ -12,7 +12,8 @@ use Rattle.nomos_elaborate.proofs.elaborator.Elaborator.+types.Given as goal
 abbrev pub invariant-branches-loop-tree : goal.invariant-branches-loop-tree
 invariant-branches-loop-tree l = record {
   gave :
-      each (λ v b. check_branch (λ w. check_type w (branch_tree b).1) v (branch_tree b).0) (l.fn.self, []) (take l.tree-index l.trees)
+      each (λ v b. check_branch (λ w. check_type w (branch_tree b).1) v (branch_tree b).0) (l.fn.self, [])
+      (take l.tree-index l.trees)
       ≡ found ((l.self, l.before), l.branches.items);
   keeps : KeepsBranches (branch_trees (map branch_tree (drop l.tree-index l.trees)));
   room :

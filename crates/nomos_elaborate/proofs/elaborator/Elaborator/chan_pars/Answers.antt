@@ -22,7 +22,10 @@ loop-par-init c = record {
 pub returns-in_err-channel-clause-gives : goal.returns-in_err-channel-clause-gives
 returns-in_err-channel-clause-gives c =
     let p = err_from_is_err_and c.from_residual.result c.from_residual.ensures.1 in
-    rw (p.1, p.2) (each-stops (λ w p. check_chan_par w (chan_par_tree p)) c.args.self.now c.args.pars.now c.loop-par.par-index c.loop-par.self c.loop-par.channels.items c.par-item.result c.loop-par-test.true c.par-item.is c.loop-par.invariant.gave c.in_err-channel.field-0.0 _ (each-map check_chan_par chan_par_tree c.args.self.now c.args.pars.now) c.in_err-channel.ensures.gives)
+    rw (p.1, p.2) (each-stops (λ w p. check_chan_par w (chan_par_tree p)) c.args.self.now c.args.pars.now
+    c.loop-par.par-index c.loop-par.self c.loop-par.channels.items c.par-item.result c.loop-par-test.true
+    c.par-item.is c.loop-par.invariant.gave c.in_err-channel.field-0.0 _
+    (each-map check_chan_par chan_par_tree c.args.self.now c.args.pars.now) c.in_err-channel.ensures.gives)
 
 pub loop-par-preserved : goal.loop-par-preserved
 loop-par-preserved c =
@@ -30,7 +33,9 @@ loop-par-preserved c =
     let rest = ap (λ xs. most_of (in_each in_chan_par (map chan_par_tree xs))) left in
     record {
       gave =
-          each-more (λ w p. check_chan_par w (chan_par_tree p)) c.args.self.now c.args.pars.now c.loop-par.par-index c.loop-par.self c.loop-par.channels.items c.par-item.result c.loop-par-test.true c.par-item.is c.loop-par.invariant.gave c.chan_par.new.self c.in_ok-channel.channel c.in_ok-channel.ensures.gives
+          each-more (λ w p. check_chan_par w (chan_par_tree p)) c.args.self.now c.args.pars.now c.loop-par.par-index
+          c.loop-par.self c.loop-par.channels.items c.par-item.result c.loop-par-test.true c.par-item.is
+          c.loop-par.invariant.gave c.chan_par.new.self c.in_ok-channel.channel c.in_ok-channel.ensures.gives
           ∙ ap (λ items. found (c.chan_par.new.self, items)) (sym c.in_ok-push.ensures.items);
       keeps = (subst (λ xs. Each KeepsChanPar (map chan_par_tree xs)) left c.loop-par.invariant.keeps).1;
       room = omega (arith, c.in_ok-channel.ensures.grows);
@@ -39,10 +44,14 @@ loop-par-preserved c =
 pub returns-clause-gives : goal.returns-clause-gives
 returns-clause-gives c =
     each-map check_chan_par chan_par_tree c.args.self.now c.args.pars.now
-    ∙ each-all (λ w p. check_chan_par w (chan_par_tree p)) c.args.self.now c.args.pars.now c.loop-par.par-index _ c.loop-par-test.false c.loop-par.invariant.gave
+    ∙ each-all (λ w p. check_chan_par w (chan_par_tree p)) c.args.self.now c.args.pars.now c.loop-par.par-index _
+    c.loop-par-test.false c.loop-par.invariant.gave
 
 pub chan_par-requires : goal.chan_par-requires
 chan_par-requires c =
     let left = items-left c.args.pars.now c.loop-par.par-index c.par-item.result c.loop-par-test.true c.par-item.is in
     let rest = ap (λ xs. most_of (in_each in_chan_par (map chan_par_tree xs))) left in
-    record { keeps = (subst (λ xs. Each KeepsChanPar (map chan_par_tree xs)) left c.loop-par.invariant.keeps).0; room = omega arith }
+    record {
+      keeps = (subst (λ xs. Each KeepsChanPar (map chan_par_tree xs)) left c.loop-par.invariant.keeps).0;
+      room = omega arith;
+    }

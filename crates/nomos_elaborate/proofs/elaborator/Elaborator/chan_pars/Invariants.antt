@@ -12,7 +12,8 @@ use Rattle.nomos_elaborate.proofs.elaborator.Elaborator.chan_pars.Given as goal
 -- the parameters so far gave what is there so far, and those that are left have room
 abbrev pub invariant-loop-par : goal.invariant-loop-par
 invariant-loop-par l = record {
-  gave : each (λ w p. check_chan_par w (chan_par_tree p)) l.fn.self (take l.par-index l.pars) ≡ found (l.self, l.channels.items);
+  gave : each (λ w p. check_chan_par w (chan_par_tree p)) l.fn.self (take l.par-index l.pars)
+      ≡ found (l.self, l.channels.items);
   keeps : Each KeepsChanPar (map chan_par_tree (drop l.par-index l.pars));
   room :
       all_entries l.self + most_of (in_each in_chan_par (map chan_par_tree (drop l.par-index l.pars)))

@@ -15,6 +15,7 @@ invariant-loop-step l = record {
   gave : each (λ w s. check_step w (step_tree s)) l.fn.self (take l.step-index l.steps) ≡ found (l.self, l.nodes.items);
   keeps : Each KeepsStep (map step_tree (drop l.step-index l.steps));
   room :
-      all_entries l.self + 2 * length l.nodes.items + most_of (in_each in_step (map step_tree (drop l.step-index l.steps)))
+      all_entries l.self + 2 * length l.nodes.items
+      + most_of (in_each in_step (map step_tree (drop l.step-index l.steps)))
       ≤ all_entries l.fn.self + most_of (in_each in_step (map step_tree l.steps));
 }

@@ -22,15 +22,21 @@ loop-term-init c = record {
 pub returns-in_err-value-clause-gives : goal.returns-in_err-value-clause-gives
 returns-in_err-value-clause-gives c =
     let p = err_from_is_err_and c.from_residual.result c.from_residual.ensures.1 in
-    rw (p.1, p.2) (each-stops (λ w x. check_argument w (term_tree x)) c.args.self.now c.args.terms.now c.loop-term.term-index c.loop-term.self c.loop-term.values.items c.term-item.result c.loop-term-test.true c.term-item.is c.loop-term.invariant.gave c.in_err-value.field-0.0 _ (each-map check_argument term_tree c.args.self.now c.args.terms.now) c.in_err-value.ensures.gives)
+    rw (p.1, p.2) (each-stops (λ w x. check_argument w (term_tree x)) c.args.self.now c.args.terms.now
+    c.loop-term.term-index c.loop-term.self c.loop-term.values.items c.term-item.result c.loop-term-test.true
+    c.term-item.is c.loop-term.invariant.gave c.in_err-value.field-0.0 _
+    (each-map check_argument term_tree c.args.self.now c.args.terms.now) c.in_err-value.ensures.gives)
 
 pub loop-term-preserved : goal.loop-term-preserved
 loop-term-preserved c =
-    let left = items-left c.args.terms.now c.loop-term.term-index c.term-item.result c.loop-term-test.true c.term-item.is in
+    let left = items-left c.args.terms.now c.loop-term.term-index c.term-item.result c.loop-term-test.true
+    c.term-item.is in
     let rest = ap (λ xs. most_of (in_each in_term (map term_tree xs))) left in
     record {
       gave =
-          each-more (λ w x. check_argument w (term_tree x)) c.args.self.now c.args.terms.now c.loop-term.term-index c.loop-term.self c.loop-term.values.items c.term-item.result c.loop-term-test.true c.term-item.is c.loop-term.invariant.gave c.argument.new.self c.in_ok-value.value c.in_ok-value.ensures.gives
+          each-more (λ w x. check_argument w (term_tree x)) c.args.self.now c.args.terms.now c.loop-term.term-index
+          c.loop-term.self c.loop-term.values.items c.term-item.result c.loop-term-test.true c.term-item.is
+          c.loop-term.invariant.gave c.argument.new.self c.in_ok-value.value c.in_ok-value.ensures.gives
           ∙ ap (λ items. found (c.argument.new.self, items)) (sym c.in_ok-push.ensures.items);
       keeps = (subst (λ xs. Each KeepsTerm (map term_tree xs)) left c.loop-term.invariant.keeps).1;
       room = omega (arith, c.in_ok-value.ensures.grows);
@@ -39,10 +45,15 @@ loop-term-preserved c =
 pub returns-clause-gives : goal.returns-clause-gives
 returns-clause-gives c =
     each-map check_argument term_tree c.args.self.now c.args.terms.now
-    ∙ each-all (λ w x. check_argument w (term_tree x)) c.args.self.now c.args.terms.now c.loop-term.term-index _ c.loop-term-test.false c.loop-term.invariant.gave
+    ∙ each-all (λ w x. check_argument w (term_tree x)) c.args.self.now c.args.terms.now c.loop-term.term-index _
+    c.loop-term-test.false c.loop-term.invariant.gave
 
 pub argument-requires : goal.argument-requires
 argument-requires c =
-    let left = items-left c.args.terms.now c.loop-term.term-index c.term-item.result c.loop-term-test.true c.term-item.is in
+    let left = items-left c.args.terms.now c.loop-term.term-index c.term-item.result c.loop-term-test.true
+    c.term-item.is in
     let rest = ap (λ xs. most_of (in_each in_term (map term_tree xs))) left in
-    record { keeps = (subst (λ xs. Each KeepsTerm (map term_tree xs)) left c.loop-term.invariant.keeps).0; room = omega arith }
+    record {
+      keeps = (subst (λ xs. Each KeepsTerm (map term_tree xs)) left c.loop-term.invariant.keeps).0;
+      room = omega arith;
+    }

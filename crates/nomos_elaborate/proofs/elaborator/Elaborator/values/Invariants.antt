@@ -12,7 +12,8 @@ use Rattle.nomos_elaborate.proofs.elaborator.Elaborator.values.Given as goal
 -- the arguments so far gave what is there so far, and those that are left have room
 abbrev pub invariant-loop-term : goal.invariant-loop-term
 invariant-loop-term l = record {
-  gave : each (λ w t. check_argument w (term_tree t)) l.fn.self (take l.term-index l.terms) ≡ found (l.self, l.values.items);
+  gave : each (λ w t. check_argument w (term_tree t)) l.fn.self (take l.term-index l.terms)
+      ≡ found (l.self, l.values.items);
   keeps : Each KeepsTerm (map term_tree (drop l.term-index l.terms));
   room :
       all_entries l.self + most_of (in_each in_term (map term_tree (drop l.term-index l.terms)))

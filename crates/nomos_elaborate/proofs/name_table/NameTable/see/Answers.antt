@@ -5,7 +5,9 @@ use Rattle.nomos_elaborate.proofs.name_table.NameTable.see.Goals as goal
 
 pub returns : goal.returns
 returns c =
-    let seen = put-name_seen (λ k. k.items) c.self.inside.texts.keys c.in_ok-text.text _ c.args.self.now c.args.text.now c.in_ok-place.place c.in_ok-place.ensures.keys c.self.view_is c.in_ok-text.ensures.items c.in_ok-place.ensures.index in
+    let seen = put-name_seen (λ k. k.items) c.self.inside.texts.keys c.in_ok-text.text _ c.args.self.now c.args.text.now
+    c.in_ok-place.place c.in_ok-place.ensures.keys c.self.view_is c.in_ok-text.ensures.items
+    c.in_ok-place.ensures.index in
     record {
       gives = ap (λ p. found p) (sym seen);
       within = seen-within c.args.self.now _ c.args.text.now c.in_ok-place.place seen;

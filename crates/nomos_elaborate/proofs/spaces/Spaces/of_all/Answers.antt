@@ -10,7 +10,8 @@ loop-decl-init c = ap (λ s. declaring_all s (map decl_tree c.args.decls.now)) c
 
 pub loop-decl-preserved : goal.loop-decl-preserved
 loop-decl-preserved c =
-    names_next decl_tree c.args.decls.now c.loop-decl.decl-index c.loop-decl.spaces c.declare.new.self _ c.decl-item.result c.loop-decl-test.true c.decl-item.is c.in_ok-declare.ensures c.loop-decl.invariant
+    names_next decl_tree c.args.decls.now c.loop-decl.decl-index c.loop-decl.spaces c.declare.new.self _
+    c.decl-item.result c.loop-decl-test.true c.decl-item.is c.in_ok-declare.ensures c.loop-decl.invariant
 
 pub returns-in_err-declare : goal.returns-in_err-declare
 returns-in_err-declare c =
@@ -18,4 +19,6 @@ returns-in_err-declare c =
     rw (p.1, p.2) (stops-found c.in_err-declare.field-0.0 _ _ c.in_err-declare.ensures)
 
 pub returns : goal.returns
-returns c = names_all decl_tree c.args.decls.now c.loop-decl.decl-index c.loop-decl.spaces _ c.loop-decl-test.false c.loop-decl.invariant
+returns c =
+    names_all decl_tree c.args.decls.now c.loop-decl.decl-index c.loop-decl.spaces _ c.loop-decl-test.false
+    c.loop-decl.invariant

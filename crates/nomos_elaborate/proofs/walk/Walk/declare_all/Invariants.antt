@@ -10,7 +10,8 @@ use Rattle.nomos_elaborate.proofs.walk.Walk.declare_all.Given as goal
 -- the declarations that are left give what all of them give, and have room
 abbrev pub invariant-loop-decl : goal.invariant-loop-decl
 invariant-loop-decl l = record {
-  gives : check_decls l.self (map decl_tree (drop l.decl-index l.decls)) ≡ check_decls l.fn.self (map decl_tree l.decls);
+  gives : check_decls l.self (map decl_tree (drop l.decl-index l.decls))
+      ≡ check_decls l.fn.self (map decl_tree l.decls);
   keeps : Each KeepsDecl (map decl_tree (drop l.decl-index l.decls));
   room : MayMake l.self.work (in_each in_decl (map decl_tree (drop l.decl-index l.decls)));
 }

@@ -12,11 +12,13 @@ loop-branch-init c = record { goes = stays; followed = λ k d inside. absurd (om
 
 pub follow-requires-clause-there : goal.follow-requires-clause-there
 follow-requires-clause-there c =
-    goes-get c.args.program.now c.args.self.now c.loop-branch.self c.args.number c.args.visit c.loop-branch.invariant.goes c.requires.there
+    goes-get c.args.program.now c.args.self.now c.loop-branch.self c.args.number c.args.visit
+    c.loop-branch.invariant.goes c.requires.there
 
 pub returns-in_err-follow-clause-grows : goal.returns-in_err-follow-clause-grows
 returns-in_err-follow-clause-grows c =
-    grows-through _ c.loop-branch.self _ (goes-grows c.args.program.now _ _ c.loop-branch.invariant.goes) c.follow.ensures.grows
+    grows-through _ c.loop-branch.self _ (goes-grows c.args.program.now _ _ c.loop-branch.invariant.goes)
+    c.follow.ensures.grows
 
 pub loop-branch-preserved : goal.loop-branch-preserved
 loop-branch-preserved c =
@@ -25,12 +27,17 @@ loop-branch-preserved c =
       followed = λ k d inside.
           elim (cases_lt k c.loop-branch.branch-index) [
             | inl less ↦
-                follows-grows c.args.program.now c.args.visit (hop.Label (get_or c.choices_of-branches.result.now k d).label) c.loop-branch.self.pairs c.follow.new.self.pairs c.follow.ensures.grows.pairs (c.loop-branch.invariant.followed k d less)
+                follows-grows c.args.program.now c.args.visit
+                (hop.Label (get_or c.choices_of-branches.result.now k d).label) c.loop-branch.self.pairs
+                c.follow.new.self.pairs c.follow.ensures.grows.pairs (c.loop-branch.invariant.followed k d less)
             | inr more ↦
                 let at : c.loop-branch.branch-index ≡ k = omega arith in
-                let one = get_or_default c.choices_of-branches.result.now c.loop-branch.branch-index (record { label = record { 0 = 0 }; goes = record { 0 = 0 } }) d c.loop-branch-test.true in
-                subst (λ (n : ℕ). Follows c.args.program.now c.args.visit (hop.Label (get_or c.choices_of-branches.result.now n d).label) c.follow.new.self.pairs) at
-                (subst (λ (e : Branch). Follows c.args.program.now c.args.visit (hop.Label e.label) c.follow.new.self.pairs) one c.in_ok-follow.ensures.follows)
+                let one = get_or_default c.choices_of-branches.result.now c.loop-branch.branch-index
+                (record { label = record { 0 = 0 }; goes = record { 0 = 0 } }) d c.loop-branch-test.true in
+                subst (λ (n : ℕ). Follows c.args.program.now c.args.visit
+                (hop.Label (get_or c.choices_of-branches.result.now n d).label) c.follow.new.self.pairs) at
+                (subst (λ (e : Branch). Follows c.args.program.now c.args.visit (hop.Label e.label)
+                c.follow.new.self.pairs) one c.in_ok-follow.ensures.follows)
           ];
     }
 
@@ -38,8 +45,10 @@ pub returns-clause-follows : goal.returns-clause-follows
 returns-clause-follows c =
     labels-known c.args.program.now c.args.visit c.node.result.now c.requires.nodes.right c.loop-branch.self.pairs
     (record { left_there = c.node.ensures; right_there = c.requires.nodes.at.right_there })
-    (subst (λ (bs : List Branch). (k : ℕ) (d : Branch) → k < length bs → Follows c.args.program.now c.args.visit (hop.Label (get_or bs k d).label) c.loop-branch.self.pairs)
-    c.choices_of-branches.ensures (λ k d inside. c.loop-branch.invariant.followed k d (omega (arith, inside, c.loop-branch-test.false))))
+    (subst (λ (bs : List Branch). (k : ℕ) (d : Branch) → k < length bs
+    → Follows c.args.program.now c.args.visit (hop.Label (get_or bs k d).label) c.loop-branch.self.pairs)
+    c.choices_of-branches.ensures (λ k d inside.
+    c.loop-branch.invariant.followed k d (omega (arith, inside, c.loop-branch-test.false))))
 
 pub returns-clause-grows : goal.returns-clause-grows
 returns-clause-grows c = goes-grows c.args.program.now _ _ c.loop-branch.invariant.goes

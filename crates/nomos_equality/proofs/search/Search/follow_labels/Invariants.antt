@@ -9,5 +9,6 @@ abbrev pub invariant-loop-branch : goal.invariant-loop-branch
 invariant-loop-branch l =
     record {
       goes : GoesTo l.program l.fn.self l.self;
-      followed : (k : ℕ) (d : Branch) → k < l.branch-index → Follows l.program l.visit (hop.Label (get_or l.branches k d).label) l.self.pairs;
+      followed : (k : ℕ) (d : Branch) → k < l.branch-index
+          → Follows l.program l.visit (hop.Label (get_or l.branches k d).label) l.self.pairs;
     }

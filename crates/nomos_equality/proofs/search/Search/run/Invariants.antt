@@ -11,7 +11,8 @@ invariant-loop-next l =
       inside : l.next ≤ length l.self.visits.items;
       walk : IsWalk l.program l.fn.left l.fn.right l.fn.self l.self;
       met : IsMet l.program l.self.pairs l.fn.left l.fn.right;
-      compared : (i : ℕ) (v : Visit) → i < l.next → slice_get l.self.visits.items i ≡ Some v → IsCompared l.program v l.self.pairs l.self.amounts;
+      compared : (i : ℕ) (v : Visit) → i < l.next → slice_get l.self.visits.items i ≡ Some v
+          → IsCompared l.program v l.self.pairs l.self.amounts;
     }
 
 abbrev pub decreases-loop-next : goal.decreases-loop-next

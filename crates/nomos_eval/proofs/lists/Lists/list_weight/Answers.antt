@@ -6,11 +6,20 @@ use Rattle.nomos_eval.proofs.ListLemmas.{empty_at, weight_at, long}
 use Rattle.nomos_eval.proofs.lists.Lists.list_weight.Goals as goal
 
 pub index-requires : goal.index-requires
-index-requires c = omega (arith, long c.self.inside.cells.items c.args.self.now c.self.view_is c.self.invariant, c.self.inside.cells.ok.0)
+index-requires c =
+    omega (
+      arith,
+      long c.self.inside.cells.items c.args.self.now c.self.view_is c.self.invariant,
+      c.self.inside.cells.ok.0,
+    )
 
 pub returns-in-Empty : goal.returns-in-Empty
 returns-in-Empty c =
-    sym (ap (λ vs. capped (list vs)) (empty_at c.self.inside.cells.items c.args.self.now c.self.view_is c.self.invariant c.args.place c.index.result.now c.requires c.index.ensures c.in-Empty.is))
+    sym (ap (λ vs. capped (list vs))
+    (empty_at c.self.inside.cells.items c.args.self.now c.self.view_is c.self.invariant c.args.place
+    c.index.result.now c.requires c.index.ensures c.in-Empty.is))
 
 pub returns-in-More : goal.returns-in-More
-returns-in-More c = weight_at c.self.inside.cells.items c.args.self.now c.self.view_is c.self.invariant c.args.place c.index.result.now _ _ _ c.requires c.index.ensures c.in-More.is
+returns-in-More c =
+    weight_at c.self.inside.cells.items c.args.self.now c.self.view_is c.self.invariant c.args.place c.index.result.now
+    _ _ _ c.requires c.index.ensures c.in-More.is

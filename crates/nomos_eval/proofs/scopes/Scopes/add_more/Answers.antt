@@ -8,8 +8,13 @@ pub invariant_of-self-2 : goal.invariant_of-self-2
 invariant_of-self-2 c =
     rw
     c.in_ok-push.ensures.items
-    (are-pushed c.self.inside.cells.items (binding.More c.args.v c.args.value c.args.others) c.self.invariant (omega (arith, long c.self.inside.cells.items c.args.self.now c.self.view_is c.self.invariant, c.requires)))
+    (are-pushed c.self.inside.cells.items (binding.More c.args.v c.args.value c.args.others) c.self.invariant
+    (omega (arith, long c.self.inside.cells.items c.args.self.now c.self.view_is c.self.invariant, c.requires)))
 
 pub returns : goal.returns
-returns c =
-    (c.len-place.ensures ∙ c.self.inside.cells.ok.0 ∙ long c.self.inside.cells.items c.args.self.now c.self.view_is c.self.invariant, view-push c.self.inside.cells.items c.args.self.now c.self.view_is c.self.invariant c.push.new.self.items (binding.More c.args.v c.args.value c.args.others) c.in_ok-push.ensures.items)
+returns c = (
+  c.len-place.ensures ∙ c.self.inside.cells.ok.0
+      ∙ long c.self.inside.cells.items c.args.self.now c.self.view_is c.self.invariant,
+  view-push c.self.inside.cells.items c.args.self.now c.self.view_is c.self.invariant c.push.new.self.items
+      (binding.More c.args.v c.args.value c.args.others) c.in_ok-push.ensures.items,
+)

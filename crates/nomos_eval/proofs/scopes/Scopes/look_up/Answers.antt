@@ -5,24 +5,39 @@ use Rattle.nomos_eval.proofs.scopes.Scopes.look_up.Goals as goal
 
 pub index-requires : goal.index-requires
 index-requires c =
-    omega (arith, long c.self.inside.cells.items c.args.self.now c.self.view_is c.self.invariant, c.self.inside.cells.ok.0, c.loop-w.invariant.0)
+    omega (
+      arith,
+      long c.self.inside.cells.items c.args.self.now c.self.view_is c.self.invariant,
+      c.self.inside.cells.ok.0,
+      c.loop-w.invariant.0,
+    )
 
 pub returns-in-Nothing : goal.returns-in-Nothing
 returns-in-Nothing c =
-    sym (c.loop-w.invariant.1 ∙ none_at c.self.inside.cells.items c.args.self.now c.self.view_is c.self.invariant c.args.v.0 c.loop-w.at c.index.result.now c.loop-w.invariant.0 c.index.ensures c.in-Nothing.is)
+    sym (c.loop-w.invariant.1 ∙ none_at c.self.inside.cells.items c.args.self.now c.self.view_is c.self.invariant
+    c.args.v.0 c.loop-w.at c.index.result.now c.loop-w.invariant.0 c.index.ensures c.in-Nothing.is)
 
 pub returns-then-eq : goal.returns-then-eq
 returns-then-eq c =
-    let found = some_at c.self.inside.cells.items c.args.self.now c.self.view_is c.self.invariant c.args.v.0 c.loop-w.at c.index.result.now c.in-More.w c.in-More.value c.in-More.others c.loop-w.invariant.0 c.index.ensures c.in-More.is in
+    let found = some_at c.self.inside.cells.items c.args.self.now c.self.view_is c.self.invariant c.args.v.0 c.loop-w.at
+    c.index.result.now c.in-More.w c.in-More.value c.in-More.others c.loop-w.invariant.0 c.index.ensures
+    c.in-More.is in
     let same : (c.in-More.w.0 == c.args.v.0) ≡ true = search (tests, rules, c.if-eq.ensures) in
     sym (c.loop-w.invariant.1 ∙ found_here _ _ _ c.in-More.value found.1 same)
 
 pub loop-w-smaller : goal.loop-w-smaller
 loop-w-smaller c =
-    (some_at c.self.inside.cells.items c.args.self.now c.self.view_is c.self.invariant c.args.v.0 c.loop-w.at c.index.result.now c.in-More.w c.in-More.value c.in-More.others c.loop-w.invariant.0 c.index.ensures c.in-More.is).0
+    (some_at c.self.inside.cells.items c.args.self.now c.self.view_is c.self.invariant c.args.v.0 c.loop-w.at
+    c.index.result.now c.in-More.w c.in-More.value c.in-More.others c.loop-w.invariant.0 c.index.ensures
+    c.in-More.is).0
 
 pub loop-w-preserved : goal.loop-w-preserved
 loop-w-preserved c =
-    let found = some_at c.self.inside.cells.items c.args.self.now c.self.view_is c.self.invariant c.args.v.0 c.loop-w.at c.index.result.now c.in-More.w c.in-More.value c.in-More.others c.loop-w.invariant.0 c.index.ensures c.in-More.is in
-    let other : (c.in-More.w.0 == c.args.v.0) ≡ false = search (tests, rules, c.if-eq.ensures) in
-    (omega (arith, found.0, c.loop-w.invariant.0), c.loop-w.invariant.1 ∙ missed_here _ _ _ c.in-More.value found.1 other)
+    let found = some_at c.self.inside.cells.items c.args.self.now c.self.view_is c.self.invariant c.args.v.0 c.loop-w.at
+    c.index.result.now c.in-More.w c.in-More.value c.in-More.others c.loop-w.invariant.0 c.index.ensures
+    c.in-More.is in
+    let other : (c.in-More.w.0 == c.args.v.0) ≡ false = search (tests, rules, c.if-eq.ensures) in (
+      omega (arith, found.0, c.loop-w.invariant.0),
+      c.loop-w.invariant.1
+          ∙ missed_here _ _ _ c.in-More.value found.1 other,
+    )

@@ -11,5 +11,6 @@ fetch_add-requires g c =
     let new = rw c.if-is_new.true at (c.requires.new held.0 held.1) in (
       c.requires.table,
       omega (arith, floor.sized.0),
-      counts g.W.Shared.start g.W.Shared.history floor.table.shared.key.value floor.table.shared.table_id.slots seat.id turn.0 seat.me held.0 new.0 turn.1 held.1 new.1,
+      counts g.W.Shared.start g.W.Shared.history floor.table.shared.key.value floor.table.shared.table_id.slots seat.id
+          turn.0 seat.me held.0 new.0 turn.1 held.1 new.1,
     )

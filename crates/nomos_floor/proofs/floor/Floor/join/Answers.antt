@@ -14,7 +14,8 @@ join_seat-requires g c =
       other.of_floor.table,
       other.holds,
       omega (arith, floor.sized.0),
-      joins g.W.Shared.start g.W.Shared.history floor.table.shared.key.value seat.id their.id seat.me.0 their.me.0 pass.idle other.idle (pass.of_floor.number ∙ c.requires.opening),
+      joins g.W.Shared.start g.W.Shared.history floor.table.shared.key.value seat.id their.id seat.me.0 their.me.0
+          pass.idle other.idle (pass.of_floor.number ∙ c.requires.opening),
     )
 
 pub load-requires : goal.load-requires
@@ -26,5 +27,6 @@ load-requires g c =
     let table : seat.table_id ≡ floor.table.shared.table_id = cc (c.join_seat.ensures.0, pass.of_floor.table) in (
       table,
       omega (arith, floor.sized.0),
-      learns_at g.W.Shared.start g.W.Shared.history floor.table.shared.key.value floor.table.shared.table_id.slots seat.id seat.me (joined old.me.0 c.args.other.seat.me.0) old.me.1 c.join_seat.ensures.2 pass.idle,
+      learns_at g.W.Shared.start g.W.Shared.history floor.table.shared.key.value floor.table.shared.table_id.slots
+          seat.id seat.me (joined old.me.0 c.args.other.seat.me.0) old.me.1 c.join_seat.ensures.2 pass.idle,
     )

@@ -8,6 +8,7 @@ split_seat-seat-requires g c =
     let seat = c.args.pass.now.seat in (
       pass.of_floor.table,
       omega (arith, c.args.self.now.sized.0),
-      splits g.W.Shared.start g.W.Shared.history c.args.self.now.table.shared.key.value seat.id seat.me.0 pass.idle (pass.of_floor.number ∙ c.requires.opening)
+      splits g.W.Shared.start g.W.Shared.history c.args.self.now.table.shared.key.value seat.id seat.me.0 pass.idle
+          (pass.of_floor.number ∙ c.requires.opening)
           (omega (arith, pass.of_floor.next, c.requires.room)),
     )

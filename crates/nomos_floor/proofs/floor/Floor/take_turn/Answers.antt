@@ -9,7 +9,8 @@ fetch_add-ticket-requires g c =
     let seat = c.args.pass.seat in (
       c.requires.of_floor.table,
       omega (arith, floor.sized.0),
-      draws g.W.Shared.start g.W.Shared.history floor.table.shared.key.value floor.table.shared.table_id.slots seat.id seat.me c.requires.idle,
+      draws g.W.Shared.start g.W.Shared.history floor.table.shared.key.value floor.table.shared.table_id.slots seat.id
+          seat.me c.requires.idle,
     )
 
 pub exchange-requires : goal.exchange-requires

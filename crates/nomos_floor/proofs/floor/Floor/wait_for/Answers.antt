@@ -10,5 +10,6 @@ load-requires g c =
     let drawn = c.requires.drawn.0 in (
       same.0 ∙ c.requires.table,
       omega (arith, floor.sized.0),
-      looks_at g.W.Shared.start g.W.Shared.history floor.table.shared.key.value floor.table.shared.table_id.slots seat.id drawn.0 seat.me floor.sized.1 (ap (λ m. m.0.stage) same.1 ∙ drawn.1),
+      looks_at g.W.Shared.start g.W.Shared.history floor.table.shared.key.value floor.table.shared.table_id.slots
+          seat.id drawn.0 seat.me floor.sized.1 (ap (λ m. m.0.stage) same.1 ∙ drawn.1),
     )

@@ -8,5 +8,6 @@ pub returns : goal.returns
 returns c = λ front behind.
     let asked = c.in_ok-asked.asked in
     let e : IsTrue c.is_none.result ↔ (asked ≡ None) = none_test asked c.is_none.result c.is_none.ensures in
-    ends_well front c.args.self.now.parts c.next_terminal.new.parts (counts_of c.args.self.now.tally) (counts_of c.next_terminal.new.tally) asked c.is_none.result
+    ends_well front c.args.self.now.parts c.next_terminal.new.parts (counts_of c.args.self.now.tally)
+    (counts_of c.next_terminal.new.tally) asked c.is_none.result
     behind.read c.in_ok-asked.ensures.settles e

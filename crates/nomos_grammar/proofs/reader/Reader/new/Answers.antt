@@ -13,15 +13,20 @@ use Rattle.nomos_grammar.proofs.reader.Reader.new.Goals as goal
 
 pub returns : goal.returns
 returns c =
-    let parts : c.push.new.self ≡ file = c.in_ok-push.ensures ∙ ap (λ (rest : List Part). part.Nonterminal File ∷ rest) c.new-parts.ensures in
+    let parts : c.push.new.self ≡ file = c.in_ok-push.ensures
+    ∙ ap (λ (rest : List Part). part.Nonterminal File ∷ rest) c.new-parts.ensures in
     let none : counts_of c.new.result ≡ nothing_counted = c.new.ensures.counted in
     record {
       steady = record {
         kept = c.new.ensures.kept;
-        ready = subst (λ (p : List Part). IsReady p (counts_of c.new.result)) (sym parts) (subst (λ (k : Counts). IsReady file k) (sym none) ready_first);
+        ready =
+            subst (λ (p : List Part). IsReady p (counts_of c.new.result)) (sym parts)
+            (subst (λ (k : Counts). IsReady file k) (sym none) ready_first);
       };
       behind = record {
-        read = subst (λ (p : List Part). HasRead [] p (counts_of c.new.result)) (sym parts) (subst (λ (k : Counts). HasRead [] file k) (sym none) nothing_read);
+        read =
+            subst (λ (p : List Part). HasRead [] p (counts_of c.new.result)) (sym parts)
+            (subst (λ (k : Counts). HasRead [] file k) (sym none) nothing_read);
         last = refl;
       };
     }

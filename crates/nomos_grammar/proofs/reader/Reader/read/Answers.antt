@@ -30,7 +30,8 @@ pub returns-then-self-gt-NODE_LIMIT-clause-reads : goal.returns-then-self-gt-NOD
 returns-then-self-gt-NODE_LIMIT-clause-reads c = λ front x seen behind.
     let rest = c.next_terminal.new.parts in
     let d = counts_of c.next_terminal.new.tally in
-    let s = standing front x c.args.self.now.parts (counts_of c.args.self.now.tally) c.args.sight.terminal c.in_ok-asked.asked rest d
+    let s = standing front x c.args.self.now.parts (counts_of c.args.self.now.tally) c.args.sight.terminal
+    c.in_ok-asked.asked rest d
     behind.read c.in_ok-asked.ensures.settles seen.terminal (sym c.fits-may_stand.ensures ∙ c.if-may_stand.true) in
     breaks_before front x rest d c.args.self.now.last s c.if-self-gt-NODE_LIMIT.true behind.last
 
@@ -41,50 +42,64 @@ returns-in-Some-clause-reads c = λ front x seen behind.
     let kept : Keeps front x nodes_before = elim c.else-may_stand.branch [
       | else-may_stand-via-then-may_stand+else-self-gt-NODE_LIMIT w ↦
           keeps_before front x rest d
-          (standing front x c.args.self.now.parts (counts_of c.args.self.now.tally) c.args.sight.terminal c.in_ok-asked.asked rest d
-          behind.read c.in_ok-asked.ensures.settles seen.terminal (sym c.fits-may_stand.ensures ∙ w.if-may_stand.true)) w.if-self-gt-NODE_LIMIT.false
+          (standing front x c.args.self.now.parts (counts_of c.args.self.now.tally) c.args.sight.terminal
+          c.in_ok-asked.asked rest d
+          behind.read c.in_ok-asked.ensures.settles seen.terminal (sym c.fits-may_stand.ensures ∙ w.if-may_stand.true))
+          w.if-self-gt-NODE_LIMIT.false
       | else-may_stand-via-else-may_stand w ↦
           fails_before front x
-          (failing front x c.args.self.now.parts (counts_of c.args.self.now.tally) c.args.sight.terminal c.in_ok-asked.asked rest d
+          (failing front x c.args.self.now.parts (counts_of c.args.self.now.tally) c.args.sight.terminal
+          c.in_ok-asked.asked rest d
           behind.read c.in_ok-asked.ensures.settles seen.terminal (sym c.fits-may_stand.ensures ∙ w.if-may_stand.false))
     ] in
-    breaks_itself front x c.in-Some.which c.args.sight.at kept (subst (λ (o : Option Which). PassesItself x.lexeme o) c.in-Some.is seen.passed) seen.at
+    breaks_itself front x c.in-Some.which c.args.sight.at kept
+    (subst (λ (o : Option Which). PassesItself x.lexeme o) c.in-Some.is seen.passed) seen.at
 
 pub returns-then-not-may_stand-clause-reads : goal.returns-then-not-may_stand-clause-reads
 returns-then-not-may_stand-clause-reads c = λ front x seen behind.
     let rest = c.next_terminal.new.parts in
     let d = counts_of c.next_terminal.new.tally in
-    let fails = failing front x c.args.self.now.parts (counts_of c.args.self.now.tally) c.args.sight.terminal c.in_ok-asked.asked rest d
+    let fails = failing front x c.args.self.now.parts (counts_of c.args.self.now.tally) c.args.sight.terminal
+    c.in_ok-asked.asked rest d
     behind.read c.in_ok-asked.ensures.settles seen.terminal (sym c.fits-may_stand.ensures ∙ c.if-not-may_stand.true) in
-    breaks_syntax front x c.args.sight.at fails (subst (λ (o : Option Which). PassesItself x.lexeme o) c.in_default.is seen.passed) seen.at
+    breaks_syntax front x c.args.sight.at fails
+    (subst (λ (o : Option Which). PassesItself x.lexeme o) c.in_default.is seen.passed) seen.at
 
 pub returns-in-Some-passed-clause-reads : goal.returns-in-Some-passed-clause-reads
 returns-in-Some-passed-clause-reads c = λ front x seen behind.
     let rest = c.next_terminal.new.parts in
     let d = counts_of c.next_terminal.new.tally in
-    let s = standing front x c.args.self.now.parts (counts_of c.args.self.now.tally) c.args.sight.terminal c.in_ok-asked.asked rest d
+    let s = standing front x c.args.self.now.parts (counts_of c.args.self.now.tally) c.args.sight.terminal
+    c.in_ok-asked.asked rest d
     behind.read c.in_ok-asked.ensures.settles seen.terminal (sym c.fits-may_stand.ensures ∙ c.if-not-may_stand.false) in
     let within : d.before ≤ node_limit = elim c.else-may_stand.branch [
       | else-may_stand-via-then-may_stand+else-self-gt-NODE_LIMIT w ↦ w.if-self-gt-NODE_LIMIT.false
-      | else-may_stand-via-else-may_stand w ↦ let clash : true ≡ false = sym c.if-not-may_stand.false ∙ w.if-may_stand.false in cc
+      | else-may_stand-via-else-may_stand w ↦ let clash : true ≡ false =
+          sym c.if-not-may_stand.false ∙ w.if-may_stand.false in cc
     ] in
-    breaks_count front x rest d c.args.sight.at s within (subst (λ (o : Option Which). PassesItself x.lexeme o) c.in_default.is seen.passed) seen.at
+    breaks_count front x rest d c.args.sight.at s within
+    (subst (λ (o : Option Which). PassesItself x.lexeme o) c.in_default.is seen.passed) seen.at
     c.in-Some-passed.which (sym c.in-Some-passed.ensures)
 
 pub returns-clause-reads : goal.returns-clause-reads
 returns-clause-reads c = λ front x seen behind.
     let rest = c.next_terminal.new.parts in
     let d = counts_of c.next_terminal.new.tally in
-    let s = standing front x c.args.self.now.parts (counts_of c.args.self.now.tally) c.args.sight.terminal c.in_ok-asked.asked rest d
+    let s = standing front x c.args.self.now.parts (counts_of c.args.self.now.tally) c.args.sight.terminal
+    c.in_ok-asked.asked rest d
     behind.read c.in_ok-asked.ensures.settles seen.terminal (sym c.fits-may_stand.ensures ∙ c.if-not-may_stand.false) in
     let within : d.before ≤ node_limit = elim c.else-may_stand.branch [
       | else-may_stand-via-then-may_stand+else-self-gt-NODE_LIMIT w ↦ w.if-self-gt-NODE_LIMIT.false
-      | else-may_stand-via-else-may_stand w ↦ let clash : true ≡ false = sym c.if-not-may_stand.false ∙ w.if-may_stand.false in cc
+      | else-may_stand-via-else-may_stand w ↦ let clash : true ≡ false =
+          sym c.if-not-may_stand.false ∙ w.if-may_stand.false in cc
     ] in (
-      keeps_all front x rest d c.args.sight.at s within (subst (λ (o : Option Which). PassesItself x.lexeme o) c.in_default.is seen.passed) seen.at
+      keeps_all front x rest d c.args.sight.at s within
+          (subst (λ (o : Option Which). PassesItself x.lexeme o) c.in_default.is seen.passed) seen.at
           (sym c.passed.ensures ∙ c.in_default-passed.is),
       record {
-        read = subst (λ (k : Counts). HasRead (front ++ x ∷ []) rest k) (sym c.add_token.ensures.counted) (read_on front x s.terminal rest d s.comes s.fits);
+        read =
+            subst (λ (k : Counts). HasRead (front ++ x ∷ []) rest k) (sym c.add_token.ensures.counted)
+            (read_on front x s.terminal rest d s.comes s.fits);
         last = seen.at ∙ sym (last_read front x);
       },
     )

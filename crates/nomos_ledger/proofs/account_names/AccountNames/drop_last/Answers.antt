@@ -8,7 +8,8 @@ use Rattle.nomos_ledger.proofs.account_names.AccountNames.drop_last.Goals as goa
 pub returns : goal.returns
 returns c =
     let keys = c.self.inside.names.keys in
-    let count = c.saturating_sub.ensures ∙ ap (λ (n : ℕ). n - 1) (c.len.ensures.len ∙ sym (length-map keys string_bytes)) in
+    let count = c.saturating_sub.ensures
+    ∙ ap (λ (n : ℕ). n - 1) (c.len.ensures.len ∙ sym (length-map keys string_bytes)) in
     ap (map string_bytes) c.truncate.ensures.keys
     ∙ sym (take-map string_bytes c.saturating_sub.result keys)
     ∙ ap (λ (n : ℕ). take n (map string_bytes keys)) count
@@ -17,4 +18,5 @@ returns c =
 pub invariant_of-self : goal.invariant_of-self
 invariant_of-self c =
     let names = rw c.self.view_is at c.self.invariant in
-    subst (All IsScriptName) (sym (returns c)) (All-take IsScriptName (length c.args.self.now - 1) c.args.self.now names)
+    subst (All IsScriptName) (sym (returns c))
+    (All-take IsScriptName (length c.args.self.now - 1) c.args.self.now names)

@@ -8,13 +8,18 @@ is_quiet-requires c =
 
 pub returns-then-made-limit : goal.returns-then-made-limit
 returns-then-made-limit c =
-    rw (← c.self.view_is)
-    (refl, sym c.len-made.ensures ∙ c.if-made-limit.true, λ quiet. let yes = c.is_quiet.ensures.1 quiet in let no = c.if-not-is_quiet.true in cc)
+    rw (← c.self.view_is) (
+      refl,
+      sym c.len-made.ensures ∙ c.if-made-limit.true,
+      λ quiet. let yes = c.is_quiet.ensures.1 quiet in let no = c.if-not-is_quiet.true in cc,
+    )
 
 pub returns-else-made-limit : goal.returns-else-made-limit
 returns-else-made-limit c =
-    rw (← c.self.view_is)
-    (λ quiet. let yes = c.is_quiet.ensures.1 quiet in let no = c.if-not-is_quiet.true in cc, λ same. c.if-made-limit.false (c.len-made.ensures ∙ same))
+    rw (← c.self.view_is) (
+      λ quiet. let yes = c.is_quiet.ensures.1 quiet in let no = c.if-not-is_quiet.true in cc,
+      λ same. c.if-made-limit.false (c.len-made.ensures ∙ same),
+    )
 
 pub returns-then-has_transaction : goal.returns-then-has_transaction
 returns-then-has_transaction c =
@@ -23,5 +28,7 @@ returns-then-has_transaction c =
 
 pub returns-else-has_transaction : goal.returns-else-has_transaction
 returns-else-has_transaction c =
-    rw (← c.self.view_is)
-    (c.is_quiet.ensures.0 c.if-not-is_quiet.false, λ pid t. let yes = c.has_transaction.ensures.1 (pid, t) in let no = c.if-has_transaction.false in cc)
+    rw (← c.self.view_is) (
+      c.is_quiet.ensures.0 c.if-not-is_quiet.false,
+      λ pid t. let yes = c.has_transaction.ensures.1 (pid, t) in let no = c.if-has_transaction.false in cc,
+    )

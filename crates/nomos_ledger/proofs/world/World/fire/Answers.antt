@@ -17,7 +17,9 @@ pub returns-else-not-matches-clause-stands : goal.returns-else-not-matches-claus
 returns-else-not-matches-clause-stands c =
     let stands = rw (← c.self.view_is) at c.requires.stands in
     elim c.match-matches.branch [
-      | in-Ok-Fired w ↦ answer-stands _ _ c.args.firing _ c.fire-answer.result _ c.fire-answer.ensures.fires (let field = rw w.in-Ok-Fired.is at w.in-Ok-Fired.field-0-is in let whole = w.in-Ok-Fired.is in cc) c.in_ok-push_firing.ensures.ok stands
+      | in-Ok-Fired w ↦ answer-stands _ _ c.args.firing _ c.fire-answer.result _ c.fire-answer.ensures.fires
+          (let field = rw w.in-Ok-Fired.is at w.in-Ok-Fired.field-0-is in let whole = w.in-Ok-Fired.is in cc)
+          c.in_ok-push_firing.ensures.ok stands
       | in_default w ↦ absurd (let no = w.matches-is in let yes = c.if-not-matches.false in cc)
       | in_default-2 w ↦ absurd (let no = w.matches-is in let yes = c.if-not-matches.false in cc)
     ]

@@ -6,13 +6,15 @@ use Rattle.nomos_sync.proofs.walk.Walk.follow.Goals as goal
 
 pub meet-requires-clause-in_range : goal.meet-requires-clause-in_range
 meet-requires-clause-in_range c =
-    continuation-below c.args.program.now c.args.at.0 c.node.result.now c.args.hop c.in-Some.next c.requires.walkable.program c.node.ensures (sym c.continuation_by.ensures ∙ c.in-Some.is)
+    continuation-below c.args.program.now c.args.at.0 c.node.result.now c.args.hop c.in-Some.next
+    c.requires.walkable.program c.node.ensures (sym c.continuation_by.ensures ∙ c.in-Some.is)
 
 pub returns-in-Some-clause-walks : goal.returns-in-Some-clause-walks
 returns-in-Some-clause-walks c =
     ok-map c.meet.result
     (λ met.
-    (follow-goes c.args.program.now c.args.self.now.visits.entries c.meet.new.self.visits.entries c.args.number c.args.at.0 c.requires.there.0 c.args.hop c.node.result.now c.in-Some.next c.requires.there.1 c.node.ensures
+    (follow-goes c.args.program.now c.args.self.now.visits.entries c.meet.new.self.visits.entries c.args.number
+    c.args.at.0 c.requires.there.0 c.args.hop c.node.result.now c.in-Some.next c.requires.there.1 c.node.ensures
     (sym c.continuation_by.ensures ∙ c.in-Some.is) met).0)
     c.meet.ensures
 
@@ -20,7 +22,8 @@ pub returns-in-Some-clause-follows : goal.returns-in-Some-clause-follows
 returns-in-Some-clause-follows c =
     ok-map c.meet.result
     (λ met.
-    (follow-goes c.args.program.now c.args.self.now.visits.entries c.meet.new.self.visits.entries c.args.number c.args.at.0 c.requires.there.0 c.args.hop c.node.result.now c.in-Some.next c.requires.there.1 c.node.ensures
+    (follow-goes c.args.program.now c.args.self.now.visits.entries c.meet.new.self.visits.entries c.args.number
+    c.args.at.0 c.requires.there.0 c.args.hop c.node.result.now c.in-Some.next c.requires.there.1 c.node.ensures
     (sym c.continuation_by.ensures ∙ c.in-Some.is) met).1)
     c.meet.ensures
 

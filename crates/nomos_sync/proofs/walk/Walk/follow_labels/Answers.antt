@@ -13,7 +13,8 @@ loop-branch-init c = record { walks = stays; followed = λ k d inside. absurd (o
 pub follow-requires-clause-there : goal.follow-requires-clause-there
 follow-requires-clause-there c = (
   c.requires.there.0,
-  walks-get c.args.program.now c.args.self.now.visits.entries c.loop-branch.self.visits.entries c.args.number (c.args.at.0, c.requires.there.0) c.loop-branch.invariant.walks c.requires.there.1,
+  walks-get c.args.program.now c.args.self.now.visits.entries c.loop-branch.self.visits.entries c.args.number
+      (c.args.at.0, c.requires.there.0) c.loop-branch.invariant.walks c.requires.there.1,
 )
 
 pub loop-branch-preserved : goal.loop-branch-preserved
@@ -23,17 +24,25 @@ loop-branch-preserved c =
       followed = λ k d inside.
           elim (cases_lt k c.loop-branch.branch-index) [
             | inl less ↦
-                follows-walks c.args.program.now c.args.at.0 (hop.Label (get_or c.choices_of-branches.result.now k d).label) c.loop-branch.self.visits.entries c.follow.new.self.visits.entries c.in_ok-follow.ensures.walks (c.loop-branch.invariant.followed k d less)
+                follows-walks c.args.program.now c.args.at.0
+                (hop.Label (get_or c.choices_of-branches.result.now k d).label) c.loop-branch.self.visits.entries
+                c.follow.new.self.visits.entries c.in_ok-follow.ensures.walks
+                (c.loop-branch.invariant.followed k d less)
             | inr more ↦
                 let at : c.loop-branch.branch-index ≡ k = omega arith in
-                let one = get_or_default c.choices_of-branches.result.now c.loop-branch.branch-index (record { label = record { 0 = 0 }; goes = record { 0 = 0 } }) d c.loop-branch-test.true in
-                subst (λ (n : ℕ). FollowsHop c.args.program.now c.args.at.0 (hop.Label (get_or c.choices_of-branches.result.now n d).label) c.follow.new.self.visits.entries) at
-                (subst (λ (e : Branch). FollowsHop c.args.program.now c.args.at.0 (hop.Label e.label) c.follow.new.self.visits.entries) one c.in_ok-follow.ensures.follows)
+                let one = get_or_default c.choices_of-branches.result.now c.loop-branch.branch-index
+                (record { label = record { 0 = 0 }; goes = record { 0 = 0 } }) d c.loop-branch-test.true in
+                subst (λ (n : ℕ). FollowsHop c.args.program.now c.args.at.0
+                (hop.Label (get_or c.choices_of-branches.result.now n d).label) c.follow.new.self.visits.entries) at
+                (subst (λ (e : Branch). FollowsHop c.args.program.now c.args.at.0 (hop.Label e.label)
+                c.follow.new.self.visits.entries) one c.in_ok-follow.ensures.follows)
           ];
     }
 
 pub returns-clause-follows : goal.returns-clause-follows
 returns-clause-follows c =
     labels-known c.args.program.now c.args.at.0 c.node.result.now c.loop-branch.self.visits.entries c.node.ensures
-    (subst (λ (bs : List Branch). (k : ℕ) (d : Branch) → k < length bs → FollowsHop c.args.program.now c.args.at.0 (hop.Label (get_or bs k d).label) c.loop-branch.self.visits.entries)
-    c.choices_of-branches.ensures (λ k d inside. c.loop-branch.invariant.followed k d (omega (arith, inside, c.loop-branch-test.false))))
+    (subst (λ (bs : List Branch). (k : ℕ) (d : Branch) → k < length bs
+    → FollowsHop c.args.program.now c.args.at.0 (hop.Label (get_or bs k d).label) c.loop-branch.self.visits.entries)
+    c.choices_of-branches.ensures (λ k d inside.
+    c.loop-branch.invariant.followed k d (omega (arith, inside, c.loop-branch-test.false))))

@@ -9,5 +9,6 @@ abbrev pub invariant-loop-branch : goal.invariant-loop-branch
 invariant-loop-branch l =
     record {
       walks : WalksTo l.program l.fn.self.visits.entries l.self.visits.entries;
-      followed : (k : ℕ) (d : Branch) → k < l.branch-index → FollowsHop l.program l.at.0 (hop.Label (get_or l.branches k d).label) l.self.visits.entries;
+      followed : (k : ℕ) (d : Branch) → k < l.branch-index
+          → FollowsHop l.program l.at.0 (hop.Label (get_or l.branches k d).label) l.self.visits.entries;
     }

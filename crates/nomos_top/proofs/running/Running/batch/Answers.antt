@@ -35,8 +35,11 @@ returns-in-Refused-clause-ok c =
     let begins = c.in-Refused.ensures.begins in
     let value = c.replace-ledger.ensures.value in
     let kept = c.keep_bare.ensures.kept in
-    let enters = adds-refused a c.args.limit before.made before.ledger b c.in-Refused.line cause s.spent s (rw value at begins.0) in
+    let enters = adds-refused a c.args.limit before.made before.ledger b c.in-Refused.line cause s.spent s
+    (rw value at begins.0) in
     let same : c.keep_bare.new.self.ledger ≡ before.ledger = kept.0 ∙ begins.1 ∙ value in
     on_ok-both c.keep_bare.result _ _ _
-    (λ entries text. adds-from a c.args.limit (item.Batch b) before c.keep_bare.new.self (entry_of b.line _ answer) (end_lines a.annotations.unit b.line 0 s.spent s answer) (rw same enters) entries text (omega (arith, kept.1)) (rw kept.0 c.in-Refused.ensures.stands))
+    (λ entries text. adds-from a c.args.limit (item.Batch b) before c.keep_bare.new.self (entry_of b.line _ answer)
+    (end_lines a.annotations.unit b.line 0 s.spent s answer) (rw same enters) entries text (omega (arith, kept.1))
+    (rw kept.0 c.in-Refused.ensures.stands))
     c.keep_bare.ensures.entries c.keep_bare.ensures.text

@@ -18,7 +18,10 @@ returns-clause-ok c = λ limit.
     let last : LedgerState = c.deposit.new.self in
     let s : State = last.state in
     let kept = c.keep_bare.ensures.kept in
-    let enters = adds-deposit a limit before.made before.ledger last line units name answer s.spent s c.in_ok-end.ensures.ok in
+    let enters = adds-deposit a limit before.made before.ledger last line units name answer s.spent s
+    c.in_ok-end.ensures.ok in
     on_ok-both c.keep_bare.result _ _ _
-    (λ entries text. adds-from a limit (item.Deposit line name units) before c.keep_bare.new.self (entry_of line _ answer) (end_lines a.annotations.unit line 0 s.spent s answer) (rw kept.0 enters) entries text (omega (arith, kept.1)) (rw kept.0 c.deposit.ensures.stands))
+    (λ entries text. adds-from a limit (item.Deposit line name units) before c.keep_bare.new.self
+    (entry_of line _ answer) (end_lines a.annotations.unit line 0 s.spent s answer) (rw kept.0 enters) entries text
+    (omega (arith, kept.1)) (rw kept.0 c.deposit.ensures.stands))
     c.keep_bare.ensures.entries c.keep_bare.ensures.text

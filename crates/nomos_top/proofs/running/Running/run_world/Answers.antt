@@ -29,7 +29,8 @@ returns-clause-ok c = λ b line resolved.
     let pids : pids_of c.firings-2.result.now ≡ pids_of w.firings = rw c.firings-2.ensures refl in
     let count : c.len-count.result ≡ length w.firings = rw (c.len-count.ensures, c.firings.ensures) refl in
     let long : c.from.result ≡ length w.firings = rw (c.from.ensures, count) refl in
-    let spent : c.spent-spent_before.result ≡ c.args.world.state.spent = rw (c.spent-spent_before.ensures, c.state.ensures) refl in
+    let spent : c.spent-spent_before.result
+    ≡ c.args.world.state.spent = rw (c.spent-spent_before.ensures, c.state.ensures) refl in
     let last : c.state-2.result.now ≡ w.state = c.state-2.ensures in
     let stays = c.is_committed-stays.ensures in
     world-adds
