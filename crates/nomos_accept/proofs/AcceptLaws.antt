@@ -1,6 +1,6 @@
 -- A text reads as one program at most, and a text that is typed is refused for no cause.
 use Rattle.std.proofs.Common.{◌≡◌, ℕ, List, ap, sym, subst, ◌∙◌}
-use Rattle.nomos_accept.specs.Acceptance.{IsReadAs, IsTypedAs, IsNeverTyped, EndsWith, IsProgramWith, IsRefused, IsUnsolved}
+use Rattle.nomos_accept.specs.AcceptedText.{IsReadAs, IsTypedAs, IsNeverTyped, EndsWith, IsProgramWith, IsRefused, IsUnsolved}
 use Rattle.nomos_accept.specs.declared.refusal.Why.{Why}
 use Rattle.nomos_elaborate.specs.FileBuild.{program_of}
 use Rattle.nomos_ir.specs.declared.lists.ProgramLists.{ProgramLists}

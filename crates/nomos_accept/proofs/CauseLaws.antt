@@ -2,11 +2,11 @@
 use Rattle.std.proofs.Common.{◌≡◌, ◌<◌, ◌≤◌, ℕ, zero, suc, List, Option, Some, None, length, slice_get, inl, inr, refl, sym, ap, subst, ◌∙◌, arith}
 use Rattle.nomos_accept.proofs.AcceptLaws.{one-tree, one-program}
 use Rattle.nomos_accept.proofs.StepLemmas.{one-step}
-use Rattle.nomos_accept.specs.Acceptance.{IsReadAs, ReadsWith, IsOffence, IsCauseOf}
+use Rattle.nomos_accept.specs.AcceptedText.{IsReadAs, ReadsWith, IsOffence, IsCauseOf}
 use Rattle.nomos_accept.specs.Causes.{step_of, offset_of, limit_of, SameCause}
 use Rattle.nomos_accept.specs.declared.refusal.Why.{Why}
 use Rattle.nomos_accept.specs.declared.refusal.Why.TheVariants as why
-use Rattle.nomos_elaborate.specs.Claim.{first_broken}
+use Rattle.nomos_elaborate.specs.NameClaim.{first_broken}
 use Rattle.nomos_elaborate.specs.FileClaims.{claims_of}
 use Rattle.nomos_elaborate.specs.WrittenWork.{written_work}
 use Rattle.nomos_equality.specs.declared.hop.Hop.{Hop}

@@ -2,9 +2,9 @@
 use Rattle.std.proofs.Common.{◌≡◌, ℕ, List, All, Some, None, IsTrue, ◌≢◌, sym, subst, ◌∙◌}
 use Rattle.std.proofs.lemmas.List.Elements.{All-contains}
 use Rattle.nomos_accept.proofs.AcceptLaws.{one-tree}
-use Rattle.nomos_accept.specs.Acceptance.{IsNeverTyped}
+use Rattle.nomos_accept.specs.AcceptedText.{IsNeverTyped}
 use Rattle.nomos_elaborate.specs.Answer.{BreaksCosts}
-use Rattle.nomos_elaborate.specs.Claim.{first_broken}
+use Rattle.nomos_elaborate.specs.NameClaim.{first_broken}
 use Rattle.nomos_elaborate.specs.FileClaims.{claims_of}
 use Rattle.nomos_elaborate.specs.WrittenWork.{written_work}
 use Rattle.nomos_ir.proofs.NodeLaws.{All-at}

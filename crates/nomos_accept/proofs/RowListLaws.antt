@@ -7,7 +7,7 @@ use Rattle.std.proofs.Math.Nat.{ℕ_set}
 use Rattle.std.specs.List.{AllByRecursion, flat_map}
 use Rattle.std.specs.List.Sorted.{IsStrictlySortedBy}
 use Rattle.std.specs.declared.cmp.Ordering.TheVariants.{Less, Equal}
-use Rattle.nomos_accept.specs.Acceptance.{AreRowsFor, EndsWith}
+use Rattle.nomos_accept.specs.AcceptedText.{AreRowsFor, EndsWith}
 use Rattle.nomos_forms.specs.Bounds.{IsRow}
 use Rattle.nomos_forms.specs.declared.row.Row.{Row}
 use Rattle.nomos_forms.specs.declared.row_list.RowList.{RowList}

@@ -2,7 +2,7 @@
 use Rattle.std.proofs.Common.{◌≡◌, ℕ, List, [], length, map, pos, Option, Some, None, slice_get, ap, sym, subst, ◌∙◌}
 use Rattle.std.specs.Prelude.{int_lt, slice_index, slice_index_or}
 use Rattle.std.specs.List.{range_with_len}
-use Rattle.nomos_accept.specs.Acceptance.{EndsWith}
+use Rattle.nomos_accept.specs.AcceptedText.{EndsWith}
 use Rattle.nomos_forms.specs.declared.row_list.RowList.{RowList}
 use Rattle.nomos_ir.specs.Amounts.{star_count}
 use Rattle.nomos_ir.specs.declared.lists.ProgramLists.{ProgramLists}

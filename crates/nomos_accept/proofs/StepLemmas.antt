@@ -4,12 +4,12 @@ use Rattle.std.proofs.lemmas.Bool.Decides.{leb_tells}
 use Rattle.std.proofs.lemmas.List.Quantifiers.{position-Some}
 use Rattle.nomos_accept.proofs.AcceptLaws.{one-tree, one-program}
 use Rattle.nomos_accept.proofs.RefusalLemmas.{bare-not_contractive, offence-not_obeying}
-use Rattle.nomos_accept.specs.Acceptance.{IsReadAs, IsOffence, IsProgramWith, ReadsWith, IsCauseOf}
+use Rattle.nomos_accept.specs.AcceptedText.{IsReadAs, IsOffence, IsProgramWith, ReadsWith, IsCauseOf}
 use Rattle.nomos_accept.specs.Causes.{step_of}
 use Rattle.nomos_accept.specs.declared.refusal.Why.{Why}
 use Rattle.nomos_accept.specs.declared.refusal.Why.TheVariants as why
 use Rattle.nomos_elaborate.specs.Answer.{ObeysNames}
-use Rattle.nomos_elaborate.specs.Claim.{first_broken}
+use Rattle.nomos_elaborate.specs.NameClaim.{first_broken}
 use Rattle.nomos_elaborate.specs.FileClaims.{claims_of}
 use Rattle.nomos_elaborate.specs.WrittenWork.{written_work}
 use Rattle.nomos_grammar.specs.declared.offence.GrammarError.{GrammarError}

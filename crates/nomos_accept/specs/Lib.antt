@@ -1,4 +1,4 @@
-pub mod Acceptance
+pub mod AcceptedText
 pub mod Causes
 pub mod Preparing
 pub mod mirror

@@ -1,6 +1,6 @@
 //! Programs of which each part has a skeleton, with their rows.
 ghost use Rattle.std.specs.Prelude.{◌≤◌, ℕ, List, length, IfOk};
-ghost use Rattle.nomos_accept.specs.Acceptance.{IsReadAs};
+ghost use Rattle.nomos_accept.specs.AcceptedText.{IsReadAs};
 ghost use Rattle.nomos_accept.specs.Preparing.{AnswersPrepared};
 ghost use Rattle.nomos_accept.specs.mirror.Read.{AnswersRead};
 ghost use Rattle.nomos_syntax.specs.Limits.{node_limit};

@@ -17,7 +17,7 @@ use Rattle.nomos_config.specs.Channels.{bound, forgotten}
 use Rattle.nomos_config.specs.Moves.{present_name}
 use Rattle.nomos_config.specs.Objects.{number_of, purse_of}
 use Rattle.nomos_config.specs.Run.{run}
-use Rattle.nomos_config.specs.Standing.{Fires, HasLittleGas, HasPayer, IsPaid, IsSound, Keeps}
+use Rattle.nomos_config.specs.Keeping.{Fires, HasLittleGas, HasPayer, IsPaid, IsSound, Keeps}
 use Rattle.nomos_config.specs.Start.{opened, credited, cleared, starting, started}
 use Rattle.nomos_config.specs.State.{State, empty, gas_of}
 use Rattle.nomos_config.specs.Step.{goes_on, is_provider_of, name_or, sent, received, waited, spawned, child, left, told_closed, closed, moved, tidied, step}

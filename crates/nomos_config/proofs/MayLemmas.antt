@@ -3,7 +3,7 @@ use Rattle.std.proofs.Common.{◌≡◌, ℕ, ◌<◌, ◌≤◌, ◌^◌, lengt
 use Rattle.nomos_types.specs.Acceptance.{Acceptance}
 use Rattle.nomos_config.specs.Objects.{purse_of}
 use Rattle.nomos_config.specs.Parts.{MayClose, MayTake, MayMove, Finds}
-use Rattle.nomos_config.specs.Standing.{HasLittleGas, IsPaid}
+use Rattle.nomos_config.specs.Keeping.{HasLittleGas, IsPaid}
 use Rattle.nomos_config.specs.State.{State, gas_of}
 use Rattle.nomos_config.specs.declared.moves.Move.{Move}
 use Rattle.nomos_config.specs.declared.moves.Move.TheVariants as move

@@ -18,7 +18,7 @@ use Rattle.nomos_types.specs.Acceptance.{Acceptance}
 use Rattle.nomos_types.specs.Amount.{dths}
 use Rattle.nomos_config.specs.Moves.{taken_move, closed_move, spawn_of, is_plain, move_at, move_of, awaited}
 use Rattle.nomos_config.specs.Objects.{is_process, process_place, process_of, message_of}
-use Rattle.nomos_config.specs.Standing.{process_at}
+use Rattle.nomos_config.specs.Keeping.{process_at}
 use Rattle.nomos_config.specs.State.{State}
 use Rattle.nomos_config.specs.Step.{tidied, moved, fired, step}
 use Rattle.nomos_config.specs.Types.{NameTypes}

@@ -5,7 +5,7 @@ use Rattle.nomos_types.specs.Acceptance.{Acceptance}
 use Rattle.nomos_config.specs.Moves.{move_of}
 use Rattle.nomos_config.specs.Objects.{number_of, process_place}
 use Rattle.nomos_config.specs.Run.{IsReady, IsNextReady, NoneReady, IsQuiet}
-use Rattle.nomos_config.specs.Standing.{IsSound}
+use Rattle.nomos_config.specs.Keeping.{IsSound}
 use Rattle.nomos_config.specs.State.{State}
 use Rattle.nomos_config.specs.Step.{tidied, moved, step}
 use Rattle.nomos_config.specs.declared.moves.Move.{Move}

@@ -6,7 +6,7 @@ pub mod Moves
 pub mod Step
 pub mod Run
 pub mod Start
-pub mod Standing
+pub mod Keeping
 pub mod Views
 pub mod Parts
 pub mod Example

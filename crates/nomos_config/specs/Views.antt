@@ -1,7 +1,7 @@
 -- What is shown of a process.
 use Rattle.std.specs.Prelude.{ℕ, Option}
 use Rattle.std.specs.Option.{option_map}
-use Rattle.nomos_config.specs.Standing.{process_at}
+use Rattle.nomos_config.specs.Keeping.{process_at}
 use Rattle.nomos_config.specs.State.{State}
 use Rattle.nomos_config.specs.declared.object.Process.{Process}
 use Rattle.nomos_config.specs.declared.view.View.{View}

@@ -6,7 +6,7 @@ ghost use Rattle.nomos_ir.specs.declared.mode.Mode.{Mode};
 ghost use Rattle.nomos_types.specs.Amount.{dths};
 ghost use Rattle.nomos_config.specs.Objects.{purse_of};
 ghost use Rattle.nomos_config.specs.Run.{IsReady, IsNextReady, NoneReady};
-ghost use Rattle.nomos_config.specs.Standing.{Fires, Keeps, IsPaid, HasRoom, HasLittleGas};
+ghost use Rattle.nomos_config.specs.Keeping.{Fires, Keeps, IsPaid, HasRoom, HasLittleGas};
 ghost use Rattle.nomos_config.specs.Start.{opened, credited, cleared, started, Fits};
 ghost use Rattle.nomos_config.specs.State.{State, gas_of};
 ghost use Rattle.nomos_config.specs.Views.{process_view};

@@ -5,7 +5,7 @@ ghost use Rattle.nomos_config.specs.Objects.{is_mentioned, number_of, purse_of};
 ghost use Rattle.nomos_config.specs.Parts.{state_of, ended, MayClose, MayMove, Finds, Lowers};
 ghost use Rattle.nomos_config.specs.Run.{IsReady, IsNextReady, NoneReady};
 ghost use Rattle.nomos_config.specs.Views.{process_view};
-ghost use Rattle.nomos_config.specs.Standing.{HasRoom, HasLittleGas, IsPaid};
+ghost use Rattle.nomos_config.specs.Keeping.{HasRoom, HasLittleGas, IsPaid};
 ghost use Rattle.nomos_config.specs.Step.{sent, received, waited, spawned, moved, tidied, goes_on, is_provider_of, child as new_child, told, step};
 ghost use Rattle.nomos_config.specs.Start.{cleared, credited, opened, started_with, me_value};
 ghost use Rattle.nomos_config.specs.declared.moves.Move.{Move};

@@ -2,7 +2,7 @@
 use Rattle.std.proofs.Common.{◌≡◌, ℕ, Option, Some, None, Ok, Err, refl, sym, ◌∙◌}
 use Rattle.nomos_elaborate.proofs.FileLaws.{lists_law}
 use Rattle.nomos_elaborate.specs.Answer.{Answers, ObeysNames}
-use Rattle.nomos_elaborate.specs.Claim.{first_broken}
+use Rattle.nomos_elaborate.specs.NameClaim.{first_broken}
 use Rattle.nomos_elaborate.specs.FileBuild.{program_of}
 use Rattle.nomos_elaborate.specs.FileClaims.{claims_of}
 use Rattle.nomos_elaborate.specs.WrittenWork.{written_work}

@@ -2,7 +2,7 @@
 use Rattle.std.proofs.Common.{◌≡◌, ℕ, Bool, true, false, List, [], ◌∷◌, ◌++◌, length, take, Some, refl, sym, ap, ◌∙◌, append_assoc}
 use Rattle.std.specs.Prelude.{if◌then◌else◌}
 use Rattle.std.specs.Str.{bytes_eq}
-use Rattle.nomos_elaborate.specs.Claim.{Claim, first_broken, new_on_way}
+use Rattle.nomos_elaborate.specs.NameClaim.{NameClaim, first_broken, new_on_way}
 use Rattle.nomos_elaborate.specs.Scope.{Scope, sort_of, bind, is_unbound}
 use Rattle.nomos_elaborate.specs.declared.elaborator.Elaborator.{Elaborator}
 use Rattle.nomos_elaborate.specs.declared.sort.Sort.{Sort}
@@ -17,7 +17,7 @@ abbrev tested : Bool → ℕ → Checked (Unit {0})
 tested b at = if b then found tt else broken at
 
 -- a claim and what goes on where it holds
-pub demand-then : {B : Type 0} (c : Claim) (more : List Claim) (f : Unit {0} → Checked B) (y : B)
+pub demand-then : {B : Type 0} (c : NameClaim) (more : List NameClaim) (f : Unit {0} → Checked B) (y : B)
     → (c.holds ≡ true → f tt ≡ where_all_hold more y) → (demand c >>= f) ≡ where_all_hold (c ∷ more) y
 demand-then {B} c more f y h = by c.holds refl
   where
@@ -26,8 +26,8 @@ demand-then {B} c more f y h = by c.holds refl
     by false e = refl
 
 -- claims, and what goes on where they hold
-module _ {A B : Type 0} (x : A) (f : A → Checked B) (more : List Claim) (y : B) where
-  held-then : (claims : List Claim) → f x ≡ where_all_hold more y
+module _ {A B : Type 0} (x : A) (f : A → Checked B) (more : List NameClaim) (y : B) where
+  held-then : (claims : List NameClaim) → f x ≡ where_all_hold more y
       → (where_all_hold claims x >>= f) ≡ where_all_hold (claims ++ more) y
   held-then [] h = h
   held-then (c ∷ claims) h = by c.holds (held-then claims h)
@@ -38,13 +38,13 @@ module _ {A B : Type 0} (x : A) (f : A → Checked B) (more : List Claim) (y : B
       by true ih = ih
       by false ih = refl
 
-  pub law-then : (c : Checked A) (claims : List Claim) → c ≡ where_all_hold claims x → f x ≡ where_all_hold more y
+  pub law-then : (c : Checked A) (claims : List NameClaim) → c ≡ where_all_hold claims x → f x ≡ where_all_hold more y
       → (c >>= f) ≡ where_all_hold (claims ++ more) y
   law-then c claims e h = ap (λ d. d >>= f) e ∙ held-then claims h
 
 -- claims, and what is made where they hold
 module _ {A B : Type 0} (x : A) (f : A → Checked B) (y : B) where
-  held-last : (claims : List Claim) → f x ≡ found y → (where_all_hold claims x >>= f) ≡ where_all_hold claims y
+  held-last : (claims : List NameClaim) → f x ≡ found y → (where_all_hold claims x >>= f) ≡ where_all_hold claims y
   held-last [] h = h
   held-last (c ∷ claims) h = by c.holds (held-last claims h)
     where
@@ -54,12 +54,12 @@ module _ {A B : Type 0} (x : A) (f : A → Checked B) (y : B) where
       by true ih = ih
       by false ih = refl
 
-  pub law-last : (c : Checked A) (claims : List Claim) → c ≡ where_all_hold claims x → f x ≡ found y
+  pub law-last : (c : Checked A) (claims : List NameClaim) → c ≡ where_all_hold claims x → f x ≡ found y
       → (c >>= f) ≡ where_all_hold claims y
   law-last c claims e h = ap (λ d. d >>= f) e ∙ held-last claims h
 
 -- a binder that is not bound yet
-pub new-then : {B : Type 0} (w : Elaborator) (n : NameAt) (more : List Claim) (f : Elaborator × VarId → Checked B)
+pub new-then : {B : Type 0} (w : Elaborator) (n : NameAt) (more : List NameClaim) (f : Elaborator × VarId → Checked B)
     (y : B)
     → (is_unbound (sort_of w.scope n.name) ≡ true → f (made w (variable_seen w.built n)) ≡ where_all_hold more y)
     → (check_new w n >>= f) ≡ where_all_hold (new_on_way w.scope n ∷ more) y
@@ -75,7 +75,7 @@ new-then {B} w n more f y h = by (is_unbound (sort_of w.scope n.name)) refl
 abbrev pub now_bound : Elaborator → NameAt → Sort → Elaborator × VarId
 now_bound w n s = (bound (made w (variable_seen w.built n)).0 n s, (variable_seen w.built n).1)
 
-pub bind-then : {B : Type 0} (w : Elaborator) (n : NameAt) (s : Sort) (more : List Claim)
+pub bind-then : {B : Type 0} (w : Elaborator) (n : NameAt) (s : Sort) (more : List NameClaim)
     (f : Elaborator × VarId → Checked B) (y : B)
     → (is_unbound (sort_of w.scope n.name) ≡ true → f (now_bound w n s) ≡ where_all_hold more y)
     → (check_bind w n s >>= f) ≡ where_all_hold (new_on_way w.scope n ∷ more) y
@@ -132,6 +132,6 @@ pub bounds-kept : (scope inner : Scope) → Bounds scope inner → take (length 
 bounds-kept scope inner e = ap (take (length scope)) e.is ∙ take-front scope e.more
 
 -- three claims in a row
-pub grouped-law : {A : Type 0} (a b c : List Claim) (y : A)
+pub grouped-law : {A : Type 0} (a b c : List NameClaim) (y : A)
     → where_all_hold (a ++ (b ++ c)) y ≡ where_all_hold ((a ++ b) ++ c) y
 grouped-law a b c y = ap (λ claims. where_all_hold claims y) (sym (append_assoc a b c))

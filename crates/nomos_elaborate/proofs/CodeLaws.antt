@@ -1,11 +1,11 @@
 -- What the code makes of a code, and where it ends early, is what the definitions say.
 use Rattle.std.proofs.Common.{◌≡◌, List, [], ◌∷◌, ◌++◌, refl, ap, ◌∙◌, append_assoc}
 use Rattle.nomos_elaborate.proofs.CheckedLaws.{demand-then, law-then, law-last, grouped-law, bind-then, now_bound, Bounds, bounds-none, bounds-bind, bounds-kept}
-use Rattle.nomos_elaborate.proofs.ClaimLaws.{AllHold, left_hold, right_hold, law-knowing}
+use Rattle.nomos_elaborate.proofs.NameClaimLaws.{AllHold, left_hold, right_hold, law-knowing}
 use Rattle.nomos_elaborate.proofs.StepLaws.{place_of, value_built, channel_law, list_law, chan_law, process_law, arguments_built, arguments_law, after_step, step_built, step_law, step_bounds, step_next}
 use Rattle.nomos_elaborate.proofs.TermLaws.{term_law}
 use Rattle.nomos_elaborate.specs.Built.{Built, variable_id}
-use Rattle.nomos_elaborate.specs.Claim.{Claim, declared, bound_channel, bound_list, new_on_way, new_among, chan_claims}
+use Rattle.nomos_elaborate.specs.NameClaim.{NameClaim, declared, bound_channel, bound_list, new_on_way, new_among, chan_claims}
 use Rattle.nomos_elaborate.specs.CodeBuild.{build_step, build_steps, build_code, build_last, build_arms, chan_of, process_id}
 use Rattle.nomos_elaborate.specs.CodeClaims.{Place, value_claims, arguments_claims, step_claims, steps_claims, scope_after, scope_behind, matched_list, code_claims, last_claims, arm_claims}
 use Rattle.nomos_elaborate.specs.CostModel.{put_code}
@@ -100,7 +100,7 @@ arms_built v arms =
     ((record v.0 { built = b.0 }, labels_behind v.1 arms), b.1)
 
 -- a branch whose code gives what it is to give
-arm_law : (goes : Elaborator → Checked (Elaborator × CodeId)) (v : Labelled) (l : NameAt) (claims : List Claim)
+arm_law : (goes : Elaborator → Checked (Elaborator × CodeId)) (v : Labelled) (l : NameAt) (claims : List NameClaim)
     (b : Elaborator × CodeId)
     → goes (made v.0 (label_seen v.0.built l)).0 ≡ where_all_hold claims b
     → check_arm goes v l ≡ where_all_hold (new_among v.1 l ∷ claims)

@@ -3,11 +3,11 @@ use Rattle.std.proofs.Common.{◌≡◌, ℕ, ◌<◌, ◌≤◌, true, List, []
 use Rattle.std.specs.List.{flat_map}
 use Rattle.std.proofs.lemmas.List.Elements.{All-cons, All-append}
 use Rattle.nomos_elaborate.proofs.BuiltRange.{CodeFits, InRange, CodeFits-more, none_below, one_below, two_below, Made, TermMade, CodeMade, AllBelow-le, Made-then, Made-same, variable_made, amount_made, label_made, label_below, code_put}
-use Rattle.nomos_elaborate.proofs.ClaimLaws.{AllHold, first_holds, rest_hold, left_hold, right_hold}
+use Rattle.nomos_elaborate.proofs.NameClaimLaws.{AllHold, first_holds, rest_hold, left_hold, right_hold}
 use Rattle.nomos_elaborate.proofs.NumberLaws.{number_of-lt}
 use Rattle.nomos_elaborate.proofs.TypeRange.{term_made}
 use Rattle.nomos_elaborate.specs.Built.{Built, with_label, with_variable, label_id, variable_id, amount_of}
-use Rattle.nomos_elaborate.specs.Claim.{declared, new_among, new_on_way, bound_channel, bound_list, chan_claims}
+use Rattle.nomos_elaborate.specs.NameClaim.{declared, new_among, new_on_way, bound_channel, bound_list, chan_claims}
 use Rattle.nomos_elaborate.specs.CodeBuild.{chan_of, process_id, build_value, build_unless_list, build_argument, build_values, build_arguments, build_step, build_steps, build_code, build_last, build_arms}
 use Rattle.nomos_elaborate.specs.CodeClaims.{Place, value_claims, unless_list, argument_claims, arguments_claims, step_claims, scope_after, steps_claims, scope_behind, matched_list, code_claims, last_claims, arm_claims}
 use Rattle.nomos_elaborate.specs.ListArgument.{list_argument}

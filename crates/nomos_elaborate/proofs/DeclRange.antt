@@ -2,11 +2,11 @@
 use Rattle.std.proofs.Common.{ℕ, ◌<◌, ◌≤◌, true, false, List, [], ◌∷◌, ◌++◌, length, get_or, All, Option, Some, None, arith}
 use Rattle.std.proofs.lemmas.List.Elements.{All-nil, All-cons, All-push}
 use Rattle.nomos_elaborate.proofs.BuiltRange.{InRange, InRange-nothing, none_below, Made, Made-then, Made-same, aside_made, variable_made, amount_made, type_put}
-use Rattle.nomos_elaborate.proofs.ClaimLaws.{AllHold, rest_hold, left_hold, right_hold}
+use Rattle.nomos_elaborate.proofs.NameClaimLaws.{AllHold, rest_hold, left_hold, right_hold}
 use Rattle.nomos_elaborate.proofs.CodeRange.{code_made}
 use Rattle.nomos_elaborate.proofs.TypeRange.{type_made, term_made}
 use Rattle.nomos_elaborate.specs.Built.{Built, with_variable, variable_id, put_type}
-use Rattle.nomos_elaborate.specs.Claim.{new_among, new_on_way}
+use Rattle.nomos_elaborate.specs.NameClaim.{new_among, new_on_way}
 use Rattle.nomos_elaborate.specs.CodeBuild.{build_code}
 use Rattle.nomos_elaborate.specs.CodeClaims.{Place, code_claims}
 use Rattle.nomos_elaborate.specs.FileBuild.{Declared, nothing_declared, build_value_pars, build_process_pars, build_chan_pars, par_amount, declared_amount, with_payer, add_decl, add_decls}

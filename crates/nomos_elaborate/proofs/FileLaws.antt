@@ -5,7 +5,7 @@ use Rattle.nomos_elaborate.proofs.CodeLaws.{code_law}
 use Rattle.nomos_elaborate.proofs.TermLaws.{term_law}
 use Rattle.nomos_elaborate.proofs.TypeLaws.{type_law}
 use Rattle.nomos_elaborate.specs.Built.{kind_of}
-use Rattle.nomos_elaborate.specs.Claim.{new_among, new_on_way}
+use Rattle.nomos_elaborate.specs.NameClaim.{new_among, new_on_way}
 use Rattle.nomos_elaborate.specs.CodeBuild.{build_code}
 use Rattle.nomos_elaborate.specs.CodeClaims.{code_claims}
 use Rattle.nomos_elaborate.specs.CostModel.{model_of}

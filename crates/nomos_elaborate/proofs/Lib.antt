@@ -13,12 +13,13 @@ pub mod CheckedLaws
 pub mod TermLaws
 pub mod TypeLaws
 pub mod WorkLaws
-pub mod ClaimLaws
+pub mod NameClaimLaws
 pub mod StepLaws
 pub mod CodeLaws
 pub mod FileLaws
 pub mod AnswerLaws
 pub mod Examples
+pub mod ProgramExamples
 pub mod Making
 pub mod TreeMaking
 pub mod DeclMaking

@@ -2,7 +2,7 @@
 use Rattle.std.proofs.Common.{◌≡◌, ◌≢◌, ◌↔◌, ℕ, true, false, List, [], ◌∷◌, ◌++◌, map, All, Option, Some, None, IsSome, refl, sym, ap, subst, ◌∙◌}
 use Rattle.std.proofs.lemmas.List.{map-append}
 use Rattle.std.proofs.lemmas.List.Elements.{All-nil, All-push}
-use Rattle.nomos_elaborate.proofs.ClaimLaws.{AllHold, rest_hold, left_hold, right_hold}
+use Rattle.nomos_elaborate.proofs.NameClaimLaws.{AllHold, rest_hold, left_hold, right_hold}
 use Rattle.nomos_elaborate.proofs.CodeLabels.{code-keeps}
 use Rattle.nomos_elaborate.proofs.DistinctNames.{AllNamesDiffer, pairs_of, none_differ, no_names_differ, seen-new, seen-differ}
 use Rattle.nomos_elaborate.proofs.KeptLabels.{labelled, LabelsHold, KeepsLabels, keeps-none, keeps-then, keeps-same, keeps-put_type, amount-labelled, term-labelled}
@@ -10,7 +10,7 @@ use Rattle.nomos_elaborate.proofs.ParameterNames.{value_pars-differ, pars-differ
 use Rattle.nomos_elaborate.proofs.TypeLabels.{new_is_out, type-keeps}
 use Rattle.nomos_elaborate.specs.Answer.{ObeysNames}
 use Rattle.nomos_elaborate.specs.Built.{Built, nothing_built, with_variable, put_type}
-use Rattle.nomos_elaborate.specs.Claim.{Claim, new_among, new_on_way}
+use Rattle.nomos_elaborate.specs.NameClaim.{NameClaim, new_among, new_on_way}
 use Rattle.nomos_elaborate.specs.CodeClaims.{Place, code_claims}
 use Rattle.nomos_elaborate.specs.CostModel.{model_of}
 use Rattle.nomos_elaborate.specs.FileBuild.{Declared, nothing_declared, build_value_pars, par_amount, build_process_pars, build_chan_pars, declared_amount, mode_of, with_payer, add_decl, add_decls, program_of}
@@ -162,7 +162,7 @@ named-push name xs x names e out =
     map-append name xs (x ∷ []) ∙ ap (λ l. l ++ name x ∷ []) e ∙ sym (seen-new names (name x) out)
 
 -- the claims of a declaration behind that of its name
-abbrev claims_behind : Spaces → DeclTree → List Claim
+abbrev claims_behind : Spaces → DeclTree → List NameClaim
 claims_behind all (definition at m n body) = type_claims all.types body
 claims_behind all (function at n pars gives body) =
     value_pars_claims [] pars ++ term_claims all.functions false (value_pars_scope [] pars) body

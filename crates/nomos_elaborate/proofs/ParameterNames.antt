@@ -4,12 +4,12 @@ use Rattle.std.specs.Prelude.{if◌then◌else◌}
 use Rattle.std.specs.Str.{bytes_eq}
 use Rattle.std.proofs.lemmas.List.Elements.{All-nil, All-cons, All-append}
 use Rattle.std.proofs.lemmas.List.Kept.{AllPairs-cons}
-use Rattle.nomos_elaborate.proofs.ClaimLaws.{AllHold, first_holds, rest_hold, right_hold}
+use Rattle.nomos_elaborate.proofs.NameClaimLaws.{AllHold, first_holds, rest_hold, right_hold}
 use Rattle.nomos_elaborate.proofs.DistinctNames.{AreNew, new-differ, AllNamesDiffer, Numbered, none, Numbered-grows, Numbered-append, Numbered-seen, Numbered-differ}
 use Rattle.nomos_elaborate.proofs.NumberLaws.{Grows, Grows-same, Grows-then, Grows-seen}
 use Rattle.nomos_elaborate.proofs.TypeLabels.{amount-variables, type-variables}
 use Rattle.nomos_elaborate.specs.Built.{Built, with_variable}
-use Rattle.nomos_elaborate.specs.Claim.{Claim, new_on_way}
+use Rattle.nomos_elaborate.specs.NameClaim.{NameClaim, new_on_way}
 use Rattle.nomos_elaborate.specs.FileBuild.{build_value_pars, par_amount, build_process_pars, build_chan_pars, with_payer}
 use Rattle.nomos_elaborate.specs.FileClaims.{value_pars_claims, par_sort, process_pars_claims, process_pars_scope, chan_pars_claims, pars_claims}
 use Rattle.nomos_elaborate.specs.Names.{Names, is_among, seen, number_of}
@@ -61,7 +61,7 @@ bind-seen (b ∷ scope) n s = by (bytes_eq b.0 n.name) refl (bind-seen scope n s
     by false e ih = rw (e, ih) (behind (is_among (bound_names scope) n.name) (bound_names scope))
 
 -- a binder's name is new, and so are the names that are new once it is bound
-bound-new : (scope : Scope) (n : NameAt) (s : Sort) (more : List Claim) (names : Names)
+bound-new : (scope : Scope) (n : NameAt) (s : Sort) (more : List NameClaim) (names : Names)
     → AllHold (new_on_way scope n ∷ more) → AreNew (bound_names (bind scope n s)) names
     → AreNew (bound_names scope) (n.name ∷ names)
 bound-new scope n s more names h rest =

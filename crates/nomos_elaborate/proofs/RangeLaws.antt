@@ -1,10 +1,10 @@
 -- The ids of the program of a tree whose names obey the rules are in range.
 use Rattle.std.proofs.Common.{◌≡◌, ◌+◌, Bool, true, false, not, List, [], ◌∷◌, ◌++◌, length, get_or, refl, sym, subst, arith}
 use Rattle.nomos_elaborate.proofs.BuiltRange.{TypeFits, TermFits, CodeFits}
-use Rattle.nomos_elaborate.proofs.ClaimLaws.{AllHold, first_holds, left_hold, right_hold}
+use Rattle.nomos_elaborate.proofs.NameClaimLaws.{AllHold, first_holds, left_hold, right_hold}
 use Rattle.nomos_elaborate.proofs.DeclRange.{ProcFits, DeclaredInRange, DeclaredInRange-none, decls_made}
 use Rattle.nomos_elaborate.specs.Answer.{ObeysNames}
-use Rattle.nomos_elaborate.specs.Claim.{new_among}
+use Rattle.nomos_elaborate.specs.NameClaim.{new_among}
 use Rattle.nomos_elaborate.specs.CodeClaims.{code_claims}
 use Rattle.nomos_elaborate.specs.CostModel.{model_of}
 use Rattle.nomos_elaborate.specs.FileBuild.{Declared, nothing_declared, add_decl, add_decls, lists_of, program_of}

@@ -2,10 +2,10 @@
 use Rattle.std.proofs.Common.{◌≡◌, List, [], ◌∷◌, ◌++◌, map, Option, Some, None, refl}
 use Rattle.std.specs.List.{flat_map}
 use Rattle.nomos_elaborate.proofs.CheckedLaws.{demand-then, law-then, law-last, new-then, bind-then, Bounds, bounds-none, bounds-bind}
-use Rattle.nomos_elaborate.proofs.ClaimLaws.{AllHold, first_holds, right_hold}
+use Rattle.nomos_elaborate.proofs.NameClaimLaws.{AllHold, first_holds, right_hold}
 use Rattle.nomos_elaborate.proofs.TermLaws.{term_law}
 use Rattle.nomos_elaborate.specs.Built.{Built, variable_id}
-use Rattle.nomos_elaborate.specs.Claim.{declared, bound_channel, bound_list, new_on_way, chan_claims}
+use Rattle.nomos_elaborate.specs.NameClaim.{declared, bound_channel, bound_list, new_on_way, chan_claims}
 use Rattle.nomos_elaborate.specs.CodeBuild.{build_step, build_value, build_unless_list, build_argument, build_values, build_arguments, chan_of, process_id}
 use Rattle.nomos_elaborate.specs.CodeClaims.{Place, value_claims, unless_list, argument_claims, arguments_claims, step_claims, scope_after}
 use Rattle.nomos_elaborate.specs.ListArgument.{list_argument}

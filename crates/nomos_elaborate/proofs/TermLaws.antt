@@ -1,7 +1,7 @@
 -- What the code makes of a term, and where it ends early, is what the definitions say.
 use Rattle.std.proofs.Common.{◌≡◌, List, [], ◌∷◌, ◌++◌, refl, ◌∙◌}
 use Rattle.nomos_elaborate.proofs.CheckedLaws.{demand-then, law-then, law-last, grouped-law, bind-then, bounds-none, bounds-bind, bounds-kept, now_bound}
-use Rattle.nomos_elaborate.specs.Claim.{declared, bound_value, within, new_on_way}
+use Rattle.nomos_elaborate.specs.NameClaim.{declared, bound_value, within, new_on_way}
 use Rattle.nomos_elaborate.specs.Scope.{bind}
 use Rattle.nomos_elaborate.specs.TermBuild.{build_term, build_terms}
 use Rattle.nomos_elaborate.specs.TermClaims.{term_claims, terms_claims, matched_value}

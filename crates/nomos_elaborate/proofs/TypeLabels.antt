@@ -1,11 +1,11 @@
 -- The labels of each choice of a type differ.
 use Rattle.std.proofs.Common.{◌≡◌, Bool, true, false, not, List, [], ◌∷◌, ◌++◌, map, refl, sym, ◌∙◌}
-use Rattle.nomos_elaborate.proofs.ClaimLaws.{AllHold, first_holds, rest_hold, left_hold, right_hold}
+use Rattle.nomos_elaborate.proofs.NameClaimLaws.{AllHold, first_holds, rest_hold, left_hold, right_hold}
 use Rattle.nomos_elaborate.proofs.DistinctNames.{AreNew, new-differ, none_differ, Numbered, none, Numbered-seen, Numbered-differ}
 use Rattle.nomos_elaborate.proofs.KeptLabels.{KeepsLabels, keeps-none, keeps-then, keeps-same, keeps-label, keeps-put_type, amount-labelled}
 use Rattle.nomos_elaborate.proofs.NumberLaws.{Grows-then}
 use Rattle.nomos_elaborate.specs.Built.{Built, with_label, amount_of, kind_of, quantity_amount}
-use Rattle.nomos_elaborate.specs.Claim.{Claim, new_among}
+use Rattle.nomos_elaborate.specs.NameClaim.{NameClaim, new_among}
 use Rattle.nomos_elaborate.specs.Names.{Names, is_among, seen, number_of}
 use Rattle.nomos_elaborate.specs.TypeBuild.{choice_node, channel_node, value_node, paying_node, build_type, build_branches}
 use Rattle.nomos_elaborate.specs.TypeClaims.{type_claims, branch_claims}
@@ -24,7 +24,7 @@ use Rattle.nomos_surface.specs.declared.types.Sender.TheVariants as side
 use Rattle.nomos_surface.specs.Tree.{TypeTree, one, named, choice, channel, valued, paying, going_up, going_down, grouped, BranchTrees, no_branches, branch}
 
 -- a new name is not among those before
-pub new_is_out : (before : Names) (n : NameAt) (more : List Claim) → AllHold (new_among before n ∷ more)
+pub new_is_out : (before : Names) (n : NameAt) (more : List NameClaim) → AllHold (new_among before n ∷ more)
     → is_among before n.name ≡ false
 new_is_out before n more h = by (is_among before n.name) (first_holds (new_among before n) more h)
   where

@@ -2,7 +2,7 @@
 use Rattle.std.proofs.Common.{◌≡◌, List, [], ◌∷◌, refl}
 use Rattle.nomos_elaborate.proofs.CheckedLaws.{demand-then, law-then, law-last}
 use Rattle.nomos_elaborate.specs.Built.{amount_of}
-use Rattle.nomos_elaborate.specs.Claim.{Claim, declared, new_among}
+use Rattle.nomos_elaborate.specs.NameClaim.{NameClaim, declared, new_among}
 use Rattle.nomos_elaborate.specs.Names.{Names, seen}
 use Rattle.nomos_elaborate.specs.TypeBuild.{build_type, build_branches}
 use Rattle.nomos_elaborate.specs.TypeClaims.{type_claims, branch_claims}
@@ -29,7 +29,7 @@ branches_built v bs =
     ((record v.0 { built = b.0 }, labels_behind v.1 bs), b.1)
 
 -- a branch whose type gives what it is to give
-branch_law : (goes : Elaborator → Checked (Elaborator × TypeId)) (v : Labelled) (l : NameAt) (claims : List Claim)
+branch_law : (goes : Elaborator → Checked (Elaborator × TypeId)) (v : Labelled) (l : NameAt) (claims : List NameClaim)
     (b : Elaborator × TypeId)
     → goes (made v.0 (label_seen v.0.built l)).0 ≡ where_all_hold claims b
     → check_branch goes v l ≡ where_all_hold (new_among v.1 l ∷ claims)

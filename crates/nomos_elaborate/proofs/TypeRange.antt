@@ -2,10 +2,10 @@
 use Rattle.std.proofs.Common.{ℕ, ◌<◌, Bool, List, [], ◌∷◌, ◌++◌, length, map, arith}
 use Rattle.std.proofs.lemmas.List.Elements.{All-cons}
 use Rattle.nomos_elaborate.proofs.BuiltRange.{TypeFits, TermFits, InRange, none_below, one_below, two_below, three_below, Made, TypeMade, TermMade, Made-then, Made-same, variable_made, amount_made, label_made, label_below, type_put, term_put}
-use Rattle.nomos_elaborate.proofs.ClaimLaws.{AllHold, first_holds, rest_hold, left_hold, right_hold}
+use Rattle.nomos_elaborate.proofs.NameClaimLaws.{AllHold, first_holds, rest_hold, left_hold, right_hold}
 use Rattle.nomos_elaborate.proofs.NumberLaws.{number_of-lt}
 use Rattle.nomos_elaborate.specs.Built.{Built, with_label, with_variable, label_id, variable_id, amount_of, kind_of}
-use Rattle.nomos_elaborate.specs.Claim.{declared, new_among, new_on_way}
+use Rattle.nomos_elaborate.specs.NameClaim.{declared, new_among, new_on_way}
 use Rattle.nomos_elaborate.specs.Names.{Names, number_of, seen}
 use Rattle.nomos_elaborate.specs.Scope.{Scope, bind}
 use Rattle.nomos_elaborate.specs.TermBuild.{payer_id, operator_node, build_term, build_terms}

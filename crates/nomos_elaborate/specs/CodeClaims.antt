@@ -2,7 +2,7 @@
 -- called process is declared, each binder's name is new on the way, and the labels of one `case` differ.
 use Rattle.std.specs.Prelude.{Bool, List, [], ◌∷◌, ◌++◌, map, Option, Some, None}
 use Rattle.std.specs.List.{flat_map}
-use Rattle.nomos_elaborate.specs.Claim.{Claim, declared, new_among, bound_channel, bound_list, new_on_way, chan_claims}
+use Rattle.nomos_elaborate.specs.NameClaim.{NameClaim, declared, new_among, bound_channel, bound_list, new_on_way, chan_claims}
 use Rattle.nomos_elaborate.specs.ListArgument.{list_argument}
 use Rattle.nomos_elaborate.specs.Names.{Names, seen}
 use Rattle.nomos_elaborate.specs.Scope.{Scope, bind}
@@ -18,22 +18,22 @@ pub record Place : Type 0 where
   pub inside : Bool
 
 -- a term of a code
-abbrev pub value_claims : Place → Scope → TermTree → List Claim
+abbrev pub value_claims : Place → Scope → TermTree → List NameClaim
 value_claims place scope t = term_claims place.spaces.functions place.inside scope t
 
 -- an argument that is no channel: a list that is handed over, or a term
-abbrev pub unless_list : Option NameAt → List Claim → List Claim
+abbrev pub unless_list : Option NameAt → List NameClaim → List NameClaim
 unless_list None claims = claims
 unless_list (Some n) claims = []
 
-abbrev pub argument_claims : Place → Scope → TermTree → List Claim
+abbrev pub argument_claims : Place → Scope → TermTree → List NameClaim
 argument_claims place scope t = unless_list (list_argument scope t) (value_claims place scope t)
 
-abbrev pub arguments_claims : Place → Scope → ArgTrees → List Claim
+abbrev pub arguments_claims : Place → Scope → ArgTrees → List NameClaim
 arguments_claims place scope a =
     flat_map (argument_claims place scope) a.values ++ map (bound_channel scope) a.channels
 
-abbrev pub step_claims : Place → Scope → StepTree → List Claim
+abbrev pub step_claims : Place → Scope → StepTree → List NameClaim
 step_claims place scope (label x l) = chan_claims scope x
 step_claims place scope (send at x y) = chan_claims scope x ++ bound_channel scope y ∷ []
 step_claims place scope (recv at x y) = chan_claims scope x ++ new_on_way scope y ∷ []
@@ -76,7 +76,7 @@ scope_after scope (empty_list at v list_at q t) = bind scope v sort.List
 scope_after scope (longer_list at v e w) = bind scope v sort.List
 scope_after scope (emit at e) = scope
 
-abbrev pub steps_claims : Place → Scope → List StepTree → List Claim
+abbrev pub steps_claims : Place → Scope → List StepTree → List NameClaim
 steps_claims place scope [] = []
 steps_claims place scope (s ∷ steps) = step_claims place scope s ++ steps_claims place (scope_after scope s) steps
 
@@ -89,11 +89,11 @@ abbrev pub matched_list : Scope → NameAt → NameAt → Scope
 matched_list scope head tail = bind (bind scope head sort.Value) tail sort.List
 
 unfoldable mutual
-  pub code_claims : Place → Scope → CodeTree → List Claim
+  pub code_claims : Place → Scope → CodeTree → List NameClaim
   code_claims place scope (code steps last) =
       steps_claims place scope steps ++ last_claims place (scope_behind scope steps) last
 
-  pub last_claims : Place → Scope → LastTree → List Claim
+  pub last_claims : Place → Scope → LastTree → List NameClaim
   last_claims place scope (close at) = []
   last_claims place scope (fwd at x) = bound_channel scope x ∷ []
   last_claims place scope (calling at f arguments) =
@@ -109,7 +109,7 @@ unfoldable mutual
       ∷ code_claims place (matched_list scope head tail) more
 
   -- the labels before a branch come first
-  pub arm_claims : Place → Scope → Names → ArmTrees → List Claim
+  pub arm_claims : Place → Scope → Names → ArmTrees → List NameClaim
   arm_claims place scope before no_arms = []
   arm_claims place scope before (arm l goes arms) =
       new_among before l ∷ code_claims place scope goes ++ arm_claims place scope (seen before l.name) arms

@@ -1,6 +1,6 @@
 -- The claims of a text about its names, in order of text.
 use Rattle.std.specs.Prelude.{true, false, List, [], ◌∷◌, ◌++◌, Option, Some, None}
-use Rattle.nomos_elaborate.specs.Claim.{Claim, new_among, new_on_way}
+use Rattle.nomos_elaborate.specs.NameClaim.{NameClaim, new_among, new_on_way}
 use Rattle.nomos_elaborate.specs.CodeClaims.{code_claims}
 use Rattle.nomos_elaborate.specs.Names.{Names}
 use Rattle.nomos_elaborate.specs.Scope.{Scope, bind}
@@ -16,7 +16,7 @@ use Rattle.nomos_surface.specs.declared.declarations.ValuePar.{ValuePar}
 use Rattle.nomos_surface.specs.Tree.{ChanParTree, ParTrees, DeclTree, definition, function, process, transaction, FileTree}
 
 -- the parameters of a function have new names
-abbrev pub value_pars_claims : Scope → List ValuePar → List Claim
+abbrev pub value_pars_claims : Scope → List ValuePar → List NameClaim
 value_pars_claims scope [] = []
 value_pars_claims scope (p ∷ pars) = new_on_way scope p.name ∷ value_pars_claims (bind scope p.name sort.Value) pars
 
@@ -30,7 +30,7 @@ abbrev pub par_sort : Option ListPotential → Sort
 par_sort None = sort.Value
 par_sort (Some q) = sort.List
 
-abbrev pub process_pars_claims : Scope → List ProcessPar → List Claim
+abbrev pub process_pars_claims : Scope → List ProcessPar → List NameClaim
 process_pars_claims scope [] = []
 process_pars_claims scope (p ∷ pars) =
     new_on_way scope p.name ∷ process_pars_claims (bind scope p.name (par_sort p.list)) pars
@@ -40,7 +40,7 @@ process_pars_scope scope [] = scope
 process_pars_scope scope (p ∷ pars) = process_pars_scope (bind scope p.name (par_sort p.list)) pars
 
 -- channel parameters have new names, and the definitions in their types are declared
-abbrev pub chan_pars_claims : Names → Scope → List ChanParTree → List Claim
+abbrev pub chan_pars_claims : Names → Scope → List ChanParTree → List NameClaim
 chan_pars_claims types scope [] = []
 chan_pars_claims types scope (p ∷ pars) =
     new_on_way scope p.name
@@ -51,7 +51,7 @@ abbrev pub chan_pars_scope : Scope → List ChanParTree → Scope
 chan_pars_scope scope [] = scope
 chan_pars_scope scope (p ∷ pars) = chan_pars_scope (bind scope p.name sort.Channel) pars
 
-abbrev pub pars_claims : Names → ParTrees → List Claim
+abbrev pub pars_claims : Names → ParTrees → List NameClaim
 pars_claims types pars =
     process_pars_claims [] pars.values ++ chan_pars_claims types (process_pars_scope [] pars.values) pars.channels
 
@@ -59,7 +59,7 @@ abbrev pub pars_scope : ParTrees → Scope
 pars_scope pars = chan_pars_scope (process_pars_scope [] pars.values) pars.channels
 
 -- a declaration has a name that no earlier one of its space has, and its names hold
-abbrev pub decl_claims : Spaces → Spaces → DeclTree → List Claim
+abbrev pub decl_claims : Spaces → Spaces → DeclTree → List NameClaim
 decl_claims all before (definition at mode n body) = new_among before.types n ∷ type_claims all.types body
 decl_claims all before (function at n pars gives body) =
     new_among before.functions n
@@ -75,10 +75,10 @@ decl_claims all before (transaction at n pars potential body) =
     ∷ pars_claims all.types pars
     ++ code_claims (record { spaces = all; inside = true }) (pars_scope pars) body
 
-abbrev pub decls_claims : Spaces → Spaces → List DeclTree → List Claim
+abbrev pub decls_claims : Spaces → Spaces → List DeclTree → List NameClaim
 decls_claims all before [] = []
 decls_claims all before (d ∷ decls) = decl_claims all before d ++ decls_claims all (declaring before d) decls
 
 -- the claims of a text
-abbrev pub claims_of : FileTree → List Claim
+abbrev pub claims_of : FileTree → List NameClaim
 claims_of tree = decls_claims (declaring_all no_names tree.decls) no_names tree.decls

@@ -1,6 +1,6 @@
 pub mod Answer
 pub mod Built
-pub mod Claim
+pub mod NameClaim
 pub mod CodeBuild
 pub mod CodeClaims
 pub mod CostModel

@@ -1,7 +1,7 @@
 -- The claims of a term: each variable is bound as a value, each called function is declared, the names of a `match` are
 -- new on the way, and `me` stands inside a transaction.
 use Rattle.std.specs.Prelude.{Bool, List, [], ◌∷◌, ◌++◌}
-use Rattle.nomos_elaborate.specs.Claim.{Claim, declared, bound_value, new_on_way, within}
+use Rattle.nomos_elaborate.specs.NameClaim.{NameClaim, declared, bound_value, new_on_way, within}
 use Rattle.nomos_elaborate.specs.Names.{Names}
 use Rattle.nomos_elaborate.specs.Scope.{Scope, bind}
 use Rattle.nomos_elaborate.specs.declared.sort.Sort.TheVariants as sort
@@ -14,7 +14,7 @@ matched_value scope head tail = bind (bind scope head sort.Value) tail sort.Valu
 
 -- the declared functions, whether the term stands inside a transaction, and what is bound
 unfoldable mutual
-  pub term_claims : Names → Bool → Scope → TermTree → List Claim
+  pub term_claims : Names → Bool → Scope → TermTree → List NameClaim
   term_claims functions inside scope (number at value) = []
   term_claims functions inside scope (truth at value) = []
   term_claims functions inside scope (me at) = within inside at ∷ []
@@ -37,7 +37,7 @@ unfoldable mutual
       ∷ term_claims functions inside (matched_value scope head tail) more
   term_claims functions inside scope (parenthesized inner) = term_claims functions inside scope inner
 
-  pub terms_claims : Names → Bool → Scope → TermTrees → List Claim
+  pub terms_claims : Names → Bool → Scope → TermTrees → List NameClaim
   terms_claims functions inside scope no_terms = []
   terms_claims functions inside scope (term first rest) =
       term_claims functions inside scope first ++ terms_claims functions inside scope rest

@@ -1,5 +1,5 @@
 //! Claims about names.
-ghost use Rattle.nomos_elaborate.specs.Claim.{bound_channel, bound_list, bound_value, declared, new_among, new_on_way};
+ghost use Rattle.nomos_elaborate.specs.NameClaim.{bound_channel, bound_list, bound_value, declared, new_among, new_on_way};
 ghost use Rattle.nomos_elaborate.specs.mirror.Checked.{Gives, demand};
 
 use crate::elab_error::ElabError;

@@ -5,7 +5,7 @@ use Rattle.std.proofs.lemmas.List.Elements.{All-push}
 use Rattle.std.specs.Option.{MatchOption}
 use Rattle.nomos_types.specs.Acceptance.{Acceptance}
 use Rattle.nomos_config.specs.Run.{IsNextReady, IsQuiet, NoneReady}
-use Rattle.nomos_config.specs.Standing.{IsSound}
+use Rattle.nomos_config.specs.Keeping.{IsSound}
 use Rattle.nomos_config.specs.State.{State}
 use Rattle.nomos_config.specs.declared.object.Object.{Object}
 use Rattle.nomos_config.specs.declared.object.Object.TheVariants as object

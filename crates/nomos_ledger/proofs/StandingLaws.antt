@@ -9,7 +9,7 @@ use Rattle.nomos_ir.specs.declared.declaration.ProcDecl.{ProcDecl}
 use Rattle.nomos_types.specs.Acceptance.{Acceptance}
 use Rattle.nomos_types.specs.Amount.{dths}
 use Rattle.nomos_config.specs.Run.{IsQuiet, run}
-use Rattle.nomos_config.specs.Standing.{Fires, Keeps}
+use Rattle.nomos_config.specs.Keeping.{Fires, Keeps}
 use Rattle.nomos_config.specs.Start.{cleared, credited, opened, started}
 use Rattle.nomos_config.specs.State.{State, gas_of}
 use Rattle.nomos_config.specs.Step.{step}

@@ -3,7 +3,7 @@ use Rattle.std.specs.Prelude.{◌≡◌, ◌≢◌, ℕ, ◌<◌, Some}
 use Rattle.nomos_ir.specs.declared.mode.Mode.TheVariants as mode
 use Rattle.nomos_types.specs.Acceptance.{Acceptance}
 use Rattle.nomos_config.specs.Run.{IsQuiet, fault}
-use Rattle.nomos_config.specs.Standing.{process_at}
+use Rattle.nomos_config.specs.Keeping.{process_at}
 use Rattle.nomos_config.specs.State.{State}
 use Rattle.nomos_config.specs.declared.object.Process.{Process}
 use Rattle.nomos_ledger.specs.declared.journal.End.{End}

@@ -4,7 +4,7 @@ use Rattle.nomos_types.specs.Acceptance.{Acceptance}
 use Rattle.nomos_script.specs.declared.item.Batch.{Batch}
 use Rattle.nomos_config.specs.Objects.{number_of}
 use Rattle.nomos_config.specs.Run.{IsQuiet, run, fault}
-use Rattle.nomos_config.specs.Standing.{IsSound, HasLittleGas}
+use Rattle.nomos_config.specs.Keeping.{IsSound, HasLittleGas}
 use Rattle.nomos_config.specs.State.{State, gas_of}
 use Rattle.nomos_config.specs.Step.{step}
 use Rattle.nomos_config.specs.declared.fire.Fire.{Fire}

@@ -2,7 +2,7 @@
 ghost use Rattle.std.specs.Prelude.{◌≡◌, ◌+◌, ◌∷◌, ◌++◌, [], ◌<◌, ◌^◌, IfOk, OnOk, Some, length, slice_get};
 ghost use Rattle.nomos_ir.specs.declared.declaration.ProcDecl.{ProcDecl};
 ghost use Rattle.nomos_config.specs.Start.{started};
-ghost use Rattle.nomos_config.specs.Standing.{HasRoom, HasLittleGas};
+ghost use Rattle.nomos_config.specs.Keeping.{HasRoom, HasLittleGas};
 ghost use Rattle.nomos_ledger.specs.Gives.{MayStart, Lined, StartsLine, StartsAll};
 ghost use Rattle.nomos_ledger.specs.Ledger.{AreNamed};
 ghost use Rattle.nomos_ledger.specs.Standing.{IsClosed};

@@ -1,7 +1,7 @@
 //! States at rest, and transactions that are left in them.
 ghost use Rattle.std.specs.Prelude.{◌≡◌, ◌↔◌, IsTrue};
 ghost use Rattle.nomos_config.specs.Run.{IsQuiet};
-ghost use Rattle.nomos_config.specs.Standing.{IsSound};
+ghost use Rattle.nomos_config.specs.Keeping.{IsSound};
 ghost use Rattle.nomos_ledger.specs.Ending.{IsTransaction, HasTransaction};
 ghost use Rattle.nomos_ledger.specs.Gives.{IsLeft};
 

@@ -2,7 +2,7 @@
 ghost use Rattle.std.specs.Prelude.{◌≡◌, ℕ, ◌-◌, ◌++◌, ◌∷◌, [], IfOk, OnOk, OnErr, MatchOption, length, take};
 ghost use Rattle.nomos_types.specs.Acceptance.{Acceptance};
 ghost use Rattle.nomos_config.specs.Run.{IsReady, IsNextReady, NoneReady};
-ghost use Rattle.nomos_config.specs.Standing.{HasRoom};
+ghost use Rattle.nomos_config.specs.Keeping.{HasRoom};
 ghost use Rattle.nomos_ledger.specs.Ending.{EndsAs, GoesOn};
 ghost use Rattle.nomos_ledger.specs.Standing.{StandsFor, WorldStandsFor, FiresIn};
 ghost use Rattle.nomos_ledger.specs.World.{committed};

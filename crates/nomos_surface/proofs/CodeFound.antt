@@ -4,7 +4,8 @@ use Rattle.nomos_grammar.specs.declared.part.Nonterminal.TheVariants as the_prod
 use Rattle.nomos_ir.specs.declared.word.Word.TheVariants as word
 use Rattle.nomos_surface.proofs.Found.{Found, FindsAll, append_more, at_this, first_of_shown, name_found, parted_found, sign_ends_list}
 use Rattle.nomos_surface.proofs.StepFound.{AnyEnds, args_found, chan_found, one_part, step_found, two_parts, whole_found}
-use Rattle.nomos_surface.proofs.TermFound.{any_ends, five_of}
+use Rattle.nomos_surface.proofs.TermFound.{five_of}
+use Rattle.nomos_surface.proofs.TermFronts.{any_ends}
 use Rattle.nomos_surface.specs.CodeView.{Arm, arm_trees}
 use Rattle.nomos_surface.specs.declared.name_at.NameAt.{NameAt}
 use Rattle.nomos_surface.specs.declared.steps.ChanAt.{ChanAt}

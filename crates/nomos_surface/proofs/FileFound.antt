@@ -7,7 +7,7 @@ use Rattle.nomos_ir.specs.declared.word.Word.TheVariants as word
 use Rattle.nomos_surface.proofs.CodeFound.{code_found}
 use Rattle.nomos_surface.proofs.Found.{Found, AllBegin, Begins, FindsAll, append_more, at_this, first_of_shown, potential_found, until_found, value_type_found, with_this}
 use Rattle.nomos_surface.proofs.StepFound.{AnyEnds, whole_found}
-use Rattle.nomos_surface.proofs.TermFound.{any_ends}
+use Rattle.nomos_surface.proofs.TermFronts.{any_ends}
 use Rattle.nomos_surface.proofs.TypeFound.{EndsType, sign_ends_type, type_found}
 use Rattle.nomos_surface.specs.declared.declarations.ListPotential.{ListPotential}
 use Rattle.nomos_surface.specs.declared.declarations.OfferedMode.{OfferedMode}

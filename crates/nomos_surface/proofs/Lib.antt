@@ -13,8 +13,13 @@ pub mod PrintLaws
 pub mod RoomLemmas
 pub mod StepFound
 pub mod StepLemmas
+pub mod TermFronts
+pub mod TermReads
 pub mod TermFound
 pub mod TermsWalked
+pub mod TypesMade
+pub mod TermsMade
+pub mod CodesMade
 pub mod TreeLaws
 pub mod TypeFound
 pub mod TypesWalked

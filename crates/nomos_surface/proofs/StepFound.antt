@@ -4,7 +4,8 @@ use Rattle.nomos_grammar.specs.declared.part.Nonterminal.TheVariants as the_prod
 use Rattle.nomos_ir.specs.declared.word.Word.{Word}
 use Rattle.nomos_ir.specs.declared.word.Word.TheVariants as word
 use Rattle.nomos_surface.proofs.Found.{Found, AllBegin, Begins, FindsAll, at_this, first_of_shown, name_found, potential_found, until_found, value_type_found, with_this}
-use Rattle.nomos_surface.proofs.TermFound.{Ends, any_ends, no_term, term_begins, term_found, term_no_brace, term_no_list}
+use Rattle.nomos_surface.proofs.TermFound.{term_begins, term_found, term_no_brace, term_no_list}
+use Rattle.nomos_surface.proofs.TermFronts.{Ends, any_ends, no_term}
 use Rattle.nomos_surface.specs.declared.name_at.NameAt.{NameAt}
 use Rattle.nomos_surface.specs.declared.potential.Potential.{Potential}
 use Rattle.nomos_surface.specs.declared.steps.ChanAt.{ChanAt}

@@ -6,7 +6,7 @@ use Rattle.nomos_accept.proofs.AcceptLaws.{one-program}
 use Rattle.nomos_accept.proofs.CauseLaws.{one-cause}
 use Rattle.nomos_accept.proofs.RowListLaws.{ends-once}
 use Rattle.nomos_accept.proofs.StarLaws.{no_stars-stop}
-use Rattle.nomos_accept.specs.Acceptance.{IsTypedAs, IsAcceptedAs, IsRefused, EndsWith}
+use Rattle.nomos_accept.specs.AcceptedText.{IsTypedAs, IsAcceptedAs, IsRefused, EndsWith}
 use Rattle.nomos_accept.specs.declared.refusal.Why.{Why}
 use Rattle.nomos_base.specs.Sink.{with_end}
 use Rattle.nomos_ir.specs.declared.lists.ProgramLists.{ProgramLists}

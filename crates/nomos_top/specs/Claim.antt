@@ -1,6 +1,6 @@
 -- The whole claim about contract texts: what a call of `nomos` promises.
 use Rattle.std.specs.Prelude.{◌≡◌, ◌≢◌, ◌⊎◌, ℕ, false, List, Option, Some}
-use Rattle.nomos_accept.specs.Acceptance.{IsReadAs, IsTypedAs, IsAcceptedAs, IsCauseOf, IsRefused, EndsWith}
+use Rattle.nomos_accept.specs.AcceptedText.{IsReadAs, IsTypedAs, IsAcceptedAs, IsCauseOf, IsRefused, EndsWith}
 use Rattle.nomos_accept.specs.Causes.{SameCause}
 use Rattle.nomos_accept.specs.declared.refusal.Why.{Why}
 use Rattle.nomos_base.specs.Sink.{with_end}

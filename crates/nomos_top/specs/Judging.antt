@@ -1,7 +1,7 @@
 -- What the code of the top call finds and makes. Private clauses alone cite it.
 use Rattle.std.specs.Prelude.{◌≡◌, ℕ, ◌<◌, List, length, take, codes, Option, Some, None, Result, Ok, Err, Vec, true}
 use Rattle.std.specs.Global.{Global}
-use Rattle.nomos_accept.specs.Acceptance.{IsAcceptedAs, IsRefused}
+use Rattle.nomos_accept.specs.AcceptedText.{IsAcceptedAs, IsRefused}
 use Rattle.nomos_accept.specs.declared.refusal.AcceptError.{AcceptError}
 use Rattle.nomos_accept.specs.declared.refusal.AcceptError.TheVariants as error
 use Rattle.nomos_ir.specs.Amounts.{star_count}

@@ -1,6 +1,6 @@
 -- How a call ends.
 use Rattle.std.specs.Prelude.{◌≡◌, ℕ, ◌<◌, List, [], length, codes, decimal, ◌++◌, take, Option, Some, None, IsSome, true, false, ⊤, ◌⊎◌}
-use Rattle.nomos_accept.specs.Acceptance.{IsAcceptedAs, IsProgramWith, IsRefused, IsUnsolved}
+use Rattle.nomos_accept.specs.AcceptedText.{IsAcceptedAs, IsProgramWith, IsRefused, IsUnsolved}
 use Rattle.nomos_accept.specs.declared.refusal.Why.{Why}
 use Rattle.nomos_base.specs.Faults.{Rose}
 use Rattle.nomos_base.specs.Sink.{with_end, AppendsSome}

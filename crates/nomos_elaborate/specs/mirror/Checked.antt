@@ -1,6 +1,6 @@
 -- A mirror of how the code ends: with a value, or at the first name that breaks a rule. No promise stands on it.
 use Rattle.std.specs.Prelude.{◌≡◌, ℕ, Result, Ok, Err, if◌then◌else◌}
-use Rattle.nomos_elaborate.specs.Claim.{Claim}
+use Rattle.nomos_elaborate.specs.NameClaim.{NameClaim}
 use Rattle.nomos_elaborate.specs.declared.elab_error.ElabError.{ElabError}
 use Rattle.nomos_elaborate.specs.declared.elab_error.ElabError.TheVariants as stop
 
@@ -14,7 +14,7 @@ found x >>= f = f x
 broken at >>= f = broken at
 
 -- nothing, where the claim holds
-abbrev pub demand : Claim → Checked (Unit {0})
+abbrev pub demand : NameClaim → Checked (Unit {0})
 demand c = if c.holds then found tt else broken c.at
 
 -- why nothing was returned

@@ -1,7 +1,7 @@
 -- A mirror of how the code goes over a code. No promise stands on it.
 use Rattle.std.specs.Prelude.{List, [], ◌∷◌, length, Option, Some, None}
 use Rattle.nomos_elaborate.specs.Built.{variable_id, amount_of, kind_of}
-use Rattle.nomos_elaborate.specs.Claim.{declared, new_among, bound_channel, bound_list}
+use Rattle.nomos_elaborate.specs.NameClaim.{declared, new_among, bound_channel, bound_list}
 use Rattle.nomos_elaborate.specs.CodeBuild.{chan_offset}
 use Rattle.nomos_elaborate.specs.CostModel.{put_code}
 use Rattle.nomos_elaborate.specs.ListArgument.{list_argument}

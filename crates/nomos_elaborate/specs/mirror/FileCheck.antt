@@ -1,7 +1,7 @@
 -- A mirror of how the code goes over declarations. No promise stands on it.
 use Rattle.std.specs.Prelude.{ℕ, Bool, true, false, List, [], ◌∷◌, ◌++◌, Option, Some, None}
 use Rattle.nomos_elaborate.specs.Built.{Built, nothing_built, kind_of}
-use Rattle.nomos_elaborate.specs.Claim.{new_among}
+use Rattle.nomos_elaborate.specs.NameClaim.{new_among}
 use Rattle.nomos_elaborate.specs.CostModel.{model_of}
 use Rattle.nomos_elaborate.specs.FileBuild.{mode_of, par_amount, declared_amount}
 use Rattle.nomos_elaborate.specs.FileClaims.{par_sort}

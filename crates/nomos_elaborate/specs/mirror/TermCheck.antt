@@ -1,7 +1,7 @@
 -- A mirror of how the code goes over a term. No promise stands on it.
 use Rattle.std.specs.Prelude.{ℕ, List, [], ◌∷◌, length, take}
 use Rattle.nomos_elaborate.specs.Built.{variable_id, put_term, kind_of}
-use Rattle.nomos_elaborate.specs.Claim.{declared, bound_value, within}
+use Rattle.nomos_elaborate.specs.NameClaim.{declared, bound_value, within}
 use Rattle.nomos_elaborate.specs.Names.{number_of}
 use Rattle.nomos_elaborate.specs.TermBuild.{payer_id, operator_node}
 use Rattle.nomos_elaborate.specs.declared.elaborator.Elaborator.{Elaborator}

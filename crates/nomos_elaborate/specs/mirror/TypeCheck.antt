@@ -1,7 +1,7 @@
 -- A mirror of how the code goes over a type. No promise stands on it.
 use Rattle.std.specs.Prelude.{ℕ, List, [], ◌∷◌}
 use Rattle.nomos_elaborate.specs.Built.{put_type, amount_of, kind_of}
-use Rattle.nomos_elaborate.specs.Claim.{declared, new_among}
+use Rattle.nomos_elaborate.specs.NameClaim.{declared, new_among}
 use Rattle.nomos_elaborate.specs.Names.{Names, seen, number_of}
 use Rattle.nomos_elaborate.specs.TypeBuild.{choice_node, channel_node, value_node, paying_node}
 use Rattle.nomos_elaborate.specs.declared.elaborator.Elaborator.{Elaborator}

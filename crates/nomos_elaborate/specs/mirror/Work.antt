@@ -1,6 +1,6 @@
 -- A mirror of what the code does with names and nodes. No promise stands on it.
 use Rattle.nomos_elaborate.specs.Built.{Built, with_variable, variable_id, label_id, with_label}
-use Rattle.nomos_elaborate.specs.Claim.{new_on_way}
+use Rattle.nomos_elaborate.specs.NameClaim.{new_on_way}
 use Rattle.nomos_elaborate.specs.Scope.{bind}
 use Rattle.nomos_elaborate.specs.FileBuild.{with_payer}
 use Rattle.nomos_elaborate.specs.TermBuild.{payer_id}

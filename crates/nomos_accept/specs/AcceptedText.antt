@@ -5,7 +5,7 @@ use Rattle.nomos_accept.specs.declared.refusal.AcceptError.TheVariants as error
 use Rattle.nomos_accept.specs.declared.refusal.Why.{Why}
 use Rattle.nomos_accept.specs.declared.refusal.Why.TheVariants as why
 use Rattle.nomos_elaborate.specs.Answer.{ElaboratesTo, BreaksCosts}
-use Rattle.nomos_elaborate.specs.Claim.{first_broken}
+use Rattle.nomos_elaborate.specs.NameClaim.{first_broken}
 use Rattle.nomos_elaborate.specs.FileClaims.{claims_of}
 use Rattle.nomos_forms.specs.Refuting.{Refutes}
 use Rattle.nomos_forms.specs.declared.found.Found.{Found}

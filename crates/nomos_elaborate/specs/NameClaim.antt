@@ -6,42 +6,42 @@ use Rattle.nomos_surface.specs.declared.name_at.NameAt.{NameAt}
 use Rattle.nomos_surface.specs.declared.steps.ChanAt.{ChanAt}
 use Rattle.nomos_surface.specs.declared.steps.ChanAt.TheVariants as chan
 
-pub record Claim : Type 0 where
+pub record NameClaim : Type 0 where
   pub at : ℕ
   pub holds : Bool
 
 -- where the first claim stands that does not hold
-abbrev pub first_broken : List Claim → Option ℕ
+abbrev pub first_broken : List NameClaim → Option ℕ
 first_broken [] = None
 first_broken (c ∷ claims) = if c.holds then first_broken claims else Some c.at
 
 -- a used name is declared in its space
-abbrev pub declared : Names → NameAt → Claim
+abbrev pub declared : Names → NameAt → NameClaim
 declared names n = record { at = n.at; holds = is_among names n.name }
 
 -- a name is new among these
-abbrev pub new_among : Names → NameAt → Claim
+abbrev pub new_among : Names → NameAt → NameClaim
 new_among names n = record { at = n.at; holds = not (is_among names n.name) }
 
 -- a name is bound on the way as a value, as a channel, as a list
-abbrev pub bound_value : Scope → NameAt → Claim
+abbrev pub bound_value : Scope → NameAt → NameClaim
 bound_value scope n = record { at = n.at; holds = is_value (sort_of scope n.name) }
 
-abbrev pub bound_channel : Scope → NameAt → Claim
+abbrev pub bound_channel : Scope → NameAt → NameClaim
 bound_channel scope n = record { at = n.at; holds = is_channel (sort_of scope n.name) }
 
-abbrev pub bound_list : Scope → NameAt → Claim
+abbrev pub bound_list : Scope → NameAt → NameClaim
 bound_list scope n = record { at = n.at; holds = is_list (sort_of scope n.name) }
 
 -- a binder's name is new on the way
-abbrev pub new_on_way : Scope → NameAt → Claim
+abbrev pub new_on_way : Scope → NameAt → NameClaim
 new_on_way scope n = record { at = n.at; holds = is_unbound (sort_of scope n.name) }
 
 -- what stands at the offset stands inside a transaction
-abbrev pub within : Bool → ℕ → Claim
+abbrev pub within : Bool → ℕ → NameClaim
 within inside at = record { at = at; holds = inside }
 
 -- the channel at which an instruction works is its own, or bound
-abbrev pub chan_claims : Scope → ChanAt → List Claim
+abbrev pub chan_claims : Scope → ChanAt → List NameClaim
 chan_claims scope (chan.Own at) = []
 chan_claims scope (chan.Variable n) = bound_channel scope n ∷ []
