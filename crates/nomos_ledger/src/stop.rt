@@ -1,4 +1,4 @@
-// Why a line is not started.
+//! Why a line is not started.
 ghost use Rattle.std.specs.Prelude.{◌≡◌};
 ghost use Rattle.nomos_ledger.specs.declared.stop.Stop.TheVariants.{NoMemory};
 

@@ -1,3 +1,4 @@
+//! The empty ledger has no deposit, no account and no object.
 use crate::ledger::Ledger;
 use nomos_config::machine::Machine;
 

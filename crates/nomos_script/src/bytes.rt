@@ -1,4 +1,4 @@
-// The classes of bytes.
+//! The classes of bytes.
 ghost use Rattle.std.specs.Prelude.{◌≡◌};
 ghost use Rattle.nomos_script.specs.Scan.{is_blank};
 ghost use Rattle.nomos_script.specs.Lines.{is_line_byte};

@@ -1,4 +1,4 @@
-// What a line of a script stands for.
+//! What a line of a script stands for.
 ghost use Rattle.std.specs.Prelude.{◌≡◌, ◌∷◌, IfOk, IsErrOf, Some, codes};
 ghost use Rattle.nomos_script.specs.Form.{Form, TokensReadAs, HasForm};
 ghost use Rattle.nomos_script.specs.Name.{IsScriptName};

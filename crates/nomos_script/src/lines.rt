@@ -1,4 +1,4 @@
-// The lines of a text, one by one.
+//! The lines of a text, one by one.
 ghost use Rattle.std.specs.Prelude.{◌≡◌, ◌+◌, ◌<◌, ◌≤◌, ◌∷◌, length};
 ghost use Rattle.std.specs.List.{prefix_len};
 ghost use Rattle.nomos_script.specs.Lines.{is_line_byte, lines_of};

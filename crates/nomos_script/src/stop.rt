@@ -1,4 +1,4 @@
-// Why the reader of a line gives nothing.
+//! Why the reader of a line gives nothing.
 ghost use Rattle.std.specs.Prelude.{◌≡◌};
 ghost use Rattle.nomos_script.specs.declared.stop.Stop.TheVariants.{NoMemory};
 

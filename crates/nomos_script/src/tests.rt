@@ -1,4 +1,4 @@
-// Small scripts, scripts cut at every length, and the limits.
+//! Small scripts, scripts cut at every length, and the limits.
 use crate::item::ScriptItem;
 use crate::name::ScriptName;
 use crate::parsing::{ScriptError, TEXT_LIMIT, parse_script};

@@ -1,4 +1,4 @@
-// The tokens of a line that are left to read.
+//! The tokens of a line that are left to read.
 ghost use Rattle.std.specs.Prelude.{◌≡◌, ◌≢◌, ◌<◌, ◌≤◌, ℕ, MatchOption, IfSome, SomeIff, IfOk, OnOk, IsErrOf, false, List, [], ◌∷◌, length, drop, slice_index, codes};
 ghost use Rattle.std.specs.List.{prefix_len};
 ghost use Rattle.std.specs.Str.Parse.{IsNumeral};

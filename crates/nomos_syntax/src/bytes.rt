@@ -1,4 +1,4 @@
-// The classes of bytes.
+//! The classes of bytes.
 ghost use Rattle.std.specs.Prelude.{◌≡◌};
 ghost use Rattle.nomos_syntax.specs.Scan.{is_blank, is_comment_byte};
 

@@ -1,4 +1,4 @@
-// What begins at a place of a text: a token, a blank or a comment.
+//! What begins at a place of a text: a token, a blank or a comment.
 ghost use Rattle.std.specs.Prelude.{◌≡◌, ◌<◌, ◌≤◌, ◌+◌, ◌∷◌, length};
 ghost use Rattle.std.specs.List.{prefix_len};
 ghost use Rattle.nomos_ir.specs.Word.{reserved_word};

@@ -1,4 +1,4 @@
-// The symbols of a contract text.
+//! The symbols of a contract text.
 
 /// A symbol, of one byte or of two.
 #[derive(Clone, Copy, PartialEq, Eq, Debug)]

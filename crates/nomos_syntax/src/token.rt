@@ -1,4 +1,4 @@
-// A token and where it stands.
+//! A token and where it stands.
 
 use crate::symbol::Symbol;
 use nomos_ir::items::Items;
