@@ -20,7 +20,7 @@ use Rattle.nomos_types.proofs.AlikeLaws.{alike-same}
 use Rattle.nomos_types.proofs.DerivationLaws.{derives-next}
 use Rattle.nomos_types.proofs.JudgementLaws.{row-keeps_judgement}
 use Rattle.nomos_types.proofs.RowLaws.{row-at}
-use Rattle.nomos_types.proofs.UniqueRows.{row-unique}
+use Rattle.nomos_types.proofs.UniqueRowLaws.{row-unique}
 use Rattle.nomos_check.specs.Account.{Account, start_account, spends, worth_of, Affords}
 use Rattle.nomos_check.specs.Accounting.{accounts_after}
 use Rattle.nomos_check.specs.Asking.{AsksPair}

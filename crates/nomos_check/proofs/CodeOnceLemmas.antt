@@ -12,7 +12,7 @@ use Rattle.nomos_types.specs.Amount.{Annotations}
 use Rattle.nomos_types.specs.Judgement.{Judgement}
 use Rattle.nomos_types.specs.Row.{Row, StandsAtCode}
 use Rattle.nomos_types.proofs.FollowingLaws.{place, row-places}
-use Rattle.nomos_types.proofs.OccurrenceLemmas.{count-append, count-part, counted, one-part, one-place}
+use Rattle.nomos_types.proofs.OccurrenceLaws.{count-append, count-part, counted, one-part, one-place}
 use Rattle.nomos_types.proofs.RowLaws.{row-at}
 use Rattle.nomos_check.proofs.ListLemmas.{contains-map}
 

@@ -6,7 +6,7 @@ use Rattle.nomos_ir.specs.declared.lists.ProgramLists.{ProgramLists}
 use Rattle.nomos_ir.specs.Amounts.{star_count}
 use Rattle.nomos_ir.specs.Program.{IsProgram}
 use Rattle.nomos_types.proofs.RowLaws.{row-at}
-use Rattle.nomos_types.proofs.UniqueRows.{row-unique}
+use Rattle.nomos_types.proofs.UniqueRowLaws.{row-unique}
 use Rattle.nomos_types.specs.Equality.{no_amounts}
 use Rattle.nomos_types.specs.Judgement.{Judgement}
 use Rattle.nomos_types.specs.Row.{Row, StandsAtCode}

@@ -20,7 +20,7 @@ use Rattle.nomos_ir.specs.Bindings.{bound_to}
 use Rattle.nomos_ir.specs.TermKind.{HasKind}
 use Rattle.nomos_ir.specs.Unfold.{Unfolds}
 use Rattle.nomos_types.proofs.AlikeLaws.{alike_types-same, alike_types-back, alike_types-through, alike_types-unfolded, alike_channels-back, alike_channels-bound, alike_channels-free, alike_channels-empty}
-use Rattle.nomos_types.proofs.Covering.{Covers, passing-covers, value-passing-covers, values-passing-cover}
+use Rattle.nomos_types.proofs.CoveringLaws.{Covers, passing-covers, value-passing-covers, values-passing-cover}
 use Rattle.nomos_types.proofs.EqualityLaws.{equal-unfolded}
 use Rattle.nomos_types.proofs.ModeLaws.{mode-unique, parameter-has_mode}
 use Rattle.nomos_types.specs.Alike.{AlikeChannels, none, channel, AlikeTypes}

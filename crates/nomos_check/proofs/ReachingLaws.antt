@@ -13,7 +13,7 @@ use Rattle.nomos_types.specs.Row.{Row}
 use Rattle.nomos_types.specs.Typed.{IsWellFormed}
 use Rattle.nomos_types.proofs.RowLaws.{row-at}
 use Rattle.nomos_types.proofs.StartLaws.{start-is_judgement}
-use Rattle.nomos_types.proofs.UniqueRows.{row-unique}
+use Rattle.nomos_types.proofs.UniqueRowLaws.{row-unique}
 use Rattle.nomos_check.specs.Account.{Account, start_account}
 use Rattle.nomos_check.specs.Accounting.{accounts_after}
 use Rattle.nomos_check.specs.Reaching.{GetsTo}

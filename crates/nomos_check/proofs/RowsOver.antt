@@ -14,7 +14,7 @@ use Rattle.nomos_ir.specs.declared.type_node.TypeNode.{TypeNode}
 use Rattle.nomos_ir.specs.TermKind.{bool_kind}
 use Rattle.nomos_ir.specs.Unfold.{Unfolds}
 use Rattle.nomos_types.proofs.AlikeLaws.{alike_types-back, alike_types-through}
-use Rattle.nomos_types.proofs.Covering.{Covers, arguments-cover}
+use Rattle.nomos_types.proofs.CoveringLaws.{Covers, arguments-cover}
 use Rattle.nomos_types.proofs.ModeLaws.{mode-unique}
 use Rattle.nomos_types.proofs.RowLaws.{RowAt, row-at}
 use Rattle.nomos_types.specs.Alike.{AlikeChannels, channel, AlikeTypes}

@@ -3,7 +3,7 @@ use Rattle.std.proofs.Common.{◌≡◌, ◌<◌, inl, inr, List, [], ◌∷◌,
 use Rattle.nomos_ir.specs.declared.code_node.CodeNode.{CodeNode}
 use Rattle.nomos_ir.specs.declared.lists.ProgramLists.{ProgramLists}
 use Rattle.nomos_ir.specs.Amounts.{star_count}
-use Rattle.nomos_types.proofs.UniqueRows.{row-unique}
+use Rattle.nomos_types.proofs.UniqueRowLaws.{row-unique}
 use Rattle.nomos_types.specs.Equality.{no_amounts}
 use Rattle.nomos_types.specs.Row.{Row, StandsAtCode}
 use Rattle.nomos_types.specs.Typed.{IsWellFormed}

@@ -6,7 +6,7 @@ use Rattle.nomos_ir.specs.declared.declaration.ProcDecl.{ProcDecl}
 use Rattle.nomos_ir.specs.declared.lists.ProgramLists.{ProgramLists}
 use Rattle.nomos_ir.specs.CodeParts.{code_next}
 use Rattle.nomos_types.proofs.AlikeLaws.{alike-same}
-use Rattle.nomos_types.proofs.Covering.{Covers}
+use Rattle.nomos_types.proofs.CoveringLaws.{Covers}
 use Rattle.nomos_types.proofs.DerivationLaws.{derives-following}
 use Rattle.nomos_types.proofs.FollowingLaws.{place, row-places}
 use Rattle.nomos_types.proofs.JudgementLaws.{follows-is_judgement}

@@ -7,7 +7,7 @@ pub mod DistanceLemmas
 pub mod ProductiveLaws
 pub mod ReadingLemmas
 pub mod StandLemmas
-pub mod NumeralLemmas
+pub mod NumeralLaws
 pub mod OutcomeLemmas
 pub mod EndLemmas
 pub mod FirstLemmas

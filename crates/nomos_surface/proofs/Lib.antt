@@ -3,7 +3,7 @@ pub mod CodeFound
 pub mod CodesWalked
 pub mod CountedLaws
 pub mod Examples
-pub mod FileFound
+pub mod FoundLaws
 pub mod Fitting
 pub mod Found
 pub mod ListsWalked

@@ -4,14 +4,14 @@ use Rattle.std.proofs.lemmas.List.{get_or-map, length-map}
 use Rattle.std.proofs.lemmas.List.Elements.{All-cons, All-nil}
 use Rattle.std.proofs.lemmas.Bool.Decides.{leb_tells}
 use Rattle.std.proofs.lemmas.List.Quantifiers.{position-Some}
-use Rattle.nomos_grammar.proofs.NumeralLemmas.{numbers_are_numerals}
+use Rattle.nomos_grammar.proofs.NumeralLaws.{numbers_are_numerals}
 use Rattle.nomos_grammar.proofs.OffenceLaws.{passed_once}
 use Rattle.nomos_grammar.specs.declared.offence.GrammarError.{GrammarError}
 use Rattle.nomos_grammar.specs.declared.offence.GrammarError.TheVariants as grammar
 use Rattle.nomos_grammar.specs.Derivation.{IsFile}
 use Rattle.nomos_grammar.specs.mirror.Reading.{IsWritten}
 use Rattle.nomos_grammar.specs.Offence.{AllKeep, Answers, IsSmall}
-use Rattle.nomos_surface.proofs.FileFound.{printed-read, printed-unique}
+use Rattle.nomos_surface.proofs.FoundLaws.{printed-read, printed-unique}
 use Rattle.nomos_surface.proofs.PrintLaws.{printed-is-file}
 use Rattle.nomos_surface.proofs.TreeLaws.{file-has_tree}
 use Rattle.nomos_surface.specs.mirror.Files.{read_file}

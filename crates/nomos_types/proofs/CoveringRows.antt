@@ -18,7 +18,7 @@ use Rattle.nomos_ir.specs.declared.mode.Mode.TheVariants as mode
 use Rattle.nomos_ir.specs.Bindings.{bound_to, unbind}
 use Rattle.nomos_ir.specs.TermKind.{HasKind}
 use Rattle.nomos_types.proofs.AlikeLaws.{alike_types-same, alike_types-unfolded, alike_channels-bound}
-use Rattle.nomos_types.proofs.Covering.{Covers, CoversEach, single, pair, nothing, heads, goes_on-covers, at_code-covers, potential-covers, unbound-covers, list-unbound-covers, value-covers, list-covers, channel-covers, passing-covers, arguments-cover, arms-cover}
+use Rattle.nomos_types.proofs.CoveringLaws.{Covers, CoversEach, single, pair, nothing, heads, goes_on-covers, at_code-covers, potential-covers, unbound-covers, list-unbound-covers, value-covers, list-covers, channel-covers, passing-covers, arguments-cover, arms-cover}
 use Rattle.nomos_types.proofs.HeadLaws.{both-there, sent-branches, awaited-branches, sent-parts, received-parts, sent-value, received-value, paid-rest, got-rest, up-rest, down-rest}
 use Rattle.nomos_types.proofs.ModeLaws.{mode-unique, offered-has_mode}
 use Rattle.nomos_types.proofs.RowLaws.{RowAt}

@@ -17,9 +17,9 @@ use Rattle.nomos_ir.specs.declared.type_node.Branch.{Branch}
 use Rattle.nomos_ir.specs.CodeParts.{code_next}
 use Rattle.nomos_ir.specs.Order.{count_of}
 use Rattle.nomos_ir.specs.Program.{IsProgram}
-use Rattle.nomos_types.proofs.OccurrenceLemmas.{contains-map, contains-found, counted, count-append, count-part, one-part, one-place}
+use Rattle.nomos_types.proofs.OccurrenceLaws.{contains-map, contains-found, counted, count-append, count-part, one-part, one-place}
 use Rattle.nomos_types.proofs.RowLaws.{RowAt, row-at}
-use Rattle.nomos_types.proofs.UniqueRows.{row-unique}
+use Rattle.nomos_types.proofs.UniqueRowLaws.{row-unique}
 use Rattle.nomos_types.specs.Amount.{Annotations}
 use Rattle.nomos_types.specs.Derivation.{Follows}
 use Rattle.nomos_types.specs.Judgement.{Judgement, goes_on, binds_channel}

@@ -2,7 +2,7 @@ pub mod AlikeLaws
 pub mod ArgumentsExamples
 pub mod ArgumentsLaws
 pub mod BranchLemmas
-pub mod Covering
+pub mod CoveringLaws
 pub mod CoveringRows
 pub mod Declared
 pub mod DerivationLaws
@@ -18,11 +18,11 @@ pub mod ModeLaws
 pub mod ModeSettingLemmas
 pub mod ModeTableLaws
 pub mod Nodes
-pub mod OccurrenceLemmas
+pub mod OccurrenceLaws
 pub mod OffenceLaws
 pub mod OffenceLemmas
 pub mod RowExampleProgram
 pub mod RowExamples
 pub mod RowLaws
 pub mod StartLaws
-pub mod UniqueRows
+pub mod UniqueRowLaws

@@ -14,7 +14,7 @@ use Rattle.nomos_ir.specs.declared.type_node.TypeAt.{TypeAt}
 use Rattle.nomos_ir.specs.Program.{IsProgram}
 use Rattle.nomos_types.proofs.LeastLemmas.{least-of_two}
 use Rattle.nomos_types.proofs.ModeLaws.{mode-in_range}
-use Rattle.nomos_types.proofs.OccurrenceLemmas.{contains-found}
+use Rattle.nomos_types.proofs.OccurrenceLaws.{contains-found}
 use Rattle.nomos_types.specs.Forming.{OffendsAt, StandsAtOffset, IsFirstOffence}
 use Rattle.nomos_types.specs.Modes.{Allows, ObeysModes, forbidden, not_held, of_transactions, head_mode, may_hold, parameter_mode}
 use Rattle.nomos_types.specs.mirror.Least.{IsLeast, lesser}

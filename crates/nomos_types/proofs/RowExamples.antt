@@ -39,7 +39,7 @@ use Rattle.nomos_types.specs.Row as row
 use Rattle.nomos_types.proofs.EqualityLaws.{equal-from_unfolded, equal-unfolded}
 use Rattle.nomos_types.proofs.RowExampleProgram.{type_id, var_id, label_id, plus_branches, tried, units, empty_handed, holding, referring, knowing}
 use Rattle.nomos_types.proofs.ModeLaws.{part-number, node_parts}
-use Rattle.nomos_types.proofs.OccurrenceLemmas.{contains-part}
+use Rattle.nomos_types.proofs.OccurrenceLaws.{contains-part}
 use Rattle.nomos_types.proofs.RowLaws.{row-inverted}
 
 -- a line applies to the judgement; no line does

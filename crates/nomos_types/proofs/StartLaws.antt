@@ -26,7 +26,7 @@ use Rattle.nomos_types.specs.Modes.{HasMode, IsLinearMode, may_hold, as_paramete
 use Rattle.nomos_types.specs.Typed.{IsWellFormed}
 use Rattle.nomos_types.proofs.JudgementParts.{MayBeHeld}
 use Rattle.nomos_types.proofs.ModeLaws.{parameter-has_mode, offered-has_mode}
-use Rattle.nomos_types.proofs.OccurrenceLemmas.{one_at, count-here, count-elsewhere, count-append, differ-once}
+use Rattle.nomos_types.proofs.OccurrenceLaws.{one_at, count-here, count-elsewhere, count-append, differ-once}
 
 -- ---- the variables of pairs
 
