@@ -48,7 +48,7 @@ accepted-answer text lists rows found read are run is =
 
 -- a text that reads as a program whose rows are refuted is refused
 pub refuted-answer : (text : List ℕ) (lists : ProgramLists) (rows : RowList) (verdict : Verdict) → IsReadAs text lists →
-    HasRows lists rows → answer_to rows ≡ solved.None verdict → Refutes rows.stars rows.rows verdict →
+    HasRows lists rows → answer_to rows ≡ solved.Refuted verdict → Refutes rows.stars rows.rows verdict →
     NoneMeet rows.stars rows.rows → IsRefused text (why.NoPotential verdict)
 refuted-answer text lists rows verdict read has run refutes none = record {
   cause = (

@@ -21,7 +21,7 @@ use Rattle.nomos_simplex.specs.declared.turn.Turn.TheVariants.{Ends, Goes}
 -- the turn ends with an answer
 abbrev IsAnswered : Turn → Type 0
 IsAnswered (Ends (solved.Found found)) = Unit {0}
-IsAnswered (Ends (solved.None verdict)) = Unit {0}
+IsAnswered (Ends (solved.Refuted verdict)) = Unit {0}
 IsAnswered (Ends (solved.Unsolved stop)) = ⊥
 IsAnswered (Goes table) = ⊥
 
@@ -56,7 +56,7 @@ answered-from rows (Some i) none = answered-on rows i (slice_get (first_table ro
 ends-answered : (turn : Turn) (go_on : Table → Solved) (stop : Stop) → IsAnswered turn
     → ¬ (end_of turn go_on ≡ solved.Unsolved stop)
 ends-answered (Ends (solved.Found found)) go_on stop h = λ e. cc
-ends-answered (Ends (solved.None verdict)) go_on stop h = λ e. cc
+ends-answered (Ends (solved.Refuted verdict)) go_on stop h = λ e. cc
 ends-answered (Ends (solved.Unsolved s)) go_on stop h = absurd h
 ends-answered (Goes table) go_on stop h = absurd h
 

@@ -89,7 +89,7 @@ pub record IsOffence (text : List ℕ) (e : GrammarError) : Type 0 where
 -- pivot run ends.
 pub record IsRefuted (lists : ProgramLists) (verdict : Verdict) : Type 0 where
   pub skeletons : HasSkeletons lists
-  pub ends : EndsWith lists (solved.None verdict)
+  pub ends : EndsWith lists (solved.Refuted verdict)
   pub refutes : Refutes ends.rows.stars ends.rows.rows verdict
 
 -- Each part of the program has a skeleton, and the pivot run stops without an answer.

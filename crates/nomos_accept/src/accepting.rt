@@ -56,7 +56,7 @@ fn judge(alloc: Global, prepared: Prepared) -> Result<Accepted, AcceptError>
     let Prepared { program, rows } = prepared;
     match solve(alloc, &rows) {
         Ok(Solved::Found(found)) => Ok(accepted(program, &rows, found)),
-        Ok(Solved::None(verdict)) => Err(refuted(&rows, verdict)),
+        Ok(Solved::Refuted(verdict)) => Err(refuted(&rows, verdict)),
         Ok(Solved::Unsolved(stop)) => Err(AcceptError::Unsolved(stop)),
         Err(_) => Err(AcceptError::NoMemory),
     }

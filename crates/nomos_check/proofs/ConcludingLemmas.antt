@@ -20,7 +20,8 @@ use Rattle.nomos_check.proofs.SizeLaws.{point-is_form}
 use Rattle.nomos_check.proofs.StuckLaws.{rows-skeleton, rowless-stuck, stuck-rowless, stuck-no_skeleton}
 use Rattle.nomos_check.specs.Account.{Account, start_account, form_of}
 use Rattle.nomos_check.specs.Asking.{IsAsked}
-use Rattle.nomos_check.specs.Checking.{code_offset, IsFirstStuck, NeedsRows, NeedsChecked, NeedsBeside, AnswersProcess, AnswersBeside}
+use Rattle.nomos_check.specs.Checking.{IsFirstStuck, NeedsRows, NeedsChecked, NeedsBeside, AnswersProcess, AnswersBeside}
+use Rattle.nomos_ir.specs.Instruction.{code_offset}
 use Rattle.nomos_check.specs.Reaching.{GetsTo, IsPoint, IsFormOf}
 use Rattle.nomos_check.specs.declared.checking.Checked.{Checked}
 use Rattle.nomos_check.specs.declared.checking.ProcError.{ProcError}

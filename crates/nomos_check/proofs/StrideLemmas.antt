@@ -12,7 +12,7 @@ use Rattle.nomos_check.proofs.GoingLemmas.{going-next, goes-end, goes-along}
 use Rattle.nomos_check.proofs.LeavingLemmas.{reached-next}
 use Rattle.nomos_check.proofs.MemberLemmas.{contains-head}
 use Rattle.nomos_check.proofs.StuckLaws.{row-descends}
-use Rattle.nomos_check.specs.Checking.{code_offset, code_form}
+use Rattle.nomos_ir.specs.Instruction.{code_offset, code_form}
 use Rattle.nomos_check.specs.declared.asked.Asked.{Asked}
 use Rattle.nomos_check.specs.declared.standing.Forks.{Forks}
 use Rattle.nomos_check.specs.declared.standing.Standing.{Standing}

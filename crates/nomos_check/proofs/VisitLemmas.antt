@@ -8,7 +8,7 @@ use Rattle.nomos_forms.specs.declared.form.Form.{Form}
 use Rattle.nomos_types.specs.Row.{StandsAtCode}
 use Rattle.nomos_check.proofs.GatherLemmas.{first-keeps, first-here, first-some, first-one}
 use Rattle.nomos_check.specs.Account.{Account, spends}
-use Rattle.nomos_check.specs.Checking.{code_offset, code_form}
+use Rattle.nomos_ir.specs.Instruction.{code_offset, code_form}
 use Rattle.nomos_check.specs.Reaching.{IsFormOf, IsPoint}
 use Rattle.nomos_check.specs.declared.standing.Standing.{Standing}
 use Rattle.nomos_check.specs.declared.walk.Stuck.{Stuck}

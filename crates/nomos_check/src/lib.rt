@@ -15,7 +15,6 @@ mod comparing;
 mod ending;
 mod giving;
 mod going;
-mod instruction;
 mod lists;
 mod modes;
 mod operands;

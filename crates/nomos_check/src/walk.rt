@@ -2,7 +2,7 @@
 ghost use Rattle.std.specs.Prelude.{◌≡◌, ℕ, IfOk, OnOk};
 ghost use Rattle.nomos_types.specs.Typed.{IsWellFormed};
 ghost use Rattle.nomos_check.specs.Account.{Account, spends, form_of};
-ghost use Rattle.nomos_check.specs.Checking.{code_offset, code_form};
+ghost use Rattle.nomos_ir.specs.Instruction.{code_offset, code_form};
 ghost use Rattle.nomos_check.specs.mirror.Fresh.{IsFresh};
 ghost use Rattle.nomos_check.specs.Room.{HasRoom};
 ghost use Rattle.nomos_check.specs.mirror.Standing.{IsWithin};
@@ -10,7 +10,6 @@ ghost use Rattle.nomos_check.specs.mirror.Stops.{first_stuck};
 ghost use Rattle.nomos_check.specs.mirror.Walking.{Notes};
 
 use crate::asked::Asked;
-use crate::instruction::{code_form, code_offset};
 use crate::potential::Potential;
 use crate::standing::{Forks, Standing};
 use nomos_equality::equalities::Equalities;
@@ -112,8 +111,8 @@ impl<'p> Walk<'p> {
         } }
     {
         let found = Stuck {
-            at: code_offset(node),
-            form: code_form(node),
+            at: node.offset(),
+            form: node.form(),
         };
         self.stuck = first_stuck(self.stuck, found);
     }

@@ -3,7 +3,8 @@ use Rattle.std.proofs.Common.{◌≡◌, ℕ, ◌+◌, ◌<◌, ◌≤◌, Bool,
 use Rattle.std.specs.Prelude.{if◌then◌else◌}
 use Rattle.std.proofs.lemmas.List.Elements.{All-nil, All-cons, All-push}
 use Rattle.nomos_elaborate.specs.Built.{Built, nothing_built, with_label, with_variable, label_id, put_type, put_term, quantity_amount, amount_of}
-use Rattle.nomos_elaborate.specs.CostModel.{is_charged, code_offset, put_node, put_work, put_code}
+use Rattle.nomos_elaborate.specs.CostModel.{is_charged, put_node, put_work, put_code}
+use Rattle.nomos_ir.specs.Instruction.{code_offset}
 use Rattle.nomos_elaborate.specs.Names.{Names, is_among, seen}
 use Rattle.nomos_elaborate.specs.declared.spaces.Spaces.{Spaces}
 use Rattle.nomos_elaborate.proofs.NumberLaws.{number_of-lt, is_among-seen}

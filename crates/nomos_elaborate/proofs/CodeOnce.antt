@@ -7,7 +7,8 @@ use Rattle.nomos_elaborate.proofs.StandOnce.{Placed, placed_none, placed_same, p
 use Rattle.nomos_elaborate.specs.Built.{Built, with_label, with_variable, variable_id, put_type}
 use Rattle.nomos_elaborate.specs.CodeBuild.{build_value, build_arguments, build_step, build_steps, build_code, build_last, build_arms, chan_of, process_id}
 use Rattle.nomos_elaborate.specs.CodeClaims.{scope_after, matched_list}
-use Rattle.nomos_elaborate.specs.CostModel.{put_code, put_node, put_work, is_charged, code_offset, model_of}
+use Rattle.nomos_elaborate.specs.CostModel.{put_code, put_node, put_work, is_charged, model_of}
+use Rattle.nomos_ir.specs.Instruction.{code_offset}
 use Rattle.nomos_elaborate.specs.FileBuild.{Declared, nothing_declared, build_value_pars, build_process_pars, build_chan_pars, declared_amount, with_payer, add_decl, add_decls, program_of}
 use Rattle.nomos_elaborate.specs.FileClaims.{pars_scope}
 use Rattle.nomos_elaborate.specs.Scope.{Scope}

@@ -5,7 +5,8 @@ use Rattle.std.proofs.lemmas.List.Elements.{All-push}
 use Rattle.nomos_elaborate.proofs.DistinctNames.{AllNamesDiffer, none_differ, seen-differ}
 use Rattle.nomos_elaborate.proofs.NumberLaws.{Grows, Grows-same, Grows-then, Grows-seen}
 use Rattle.nomos_elaborate.specs.Built.{Built, with_label, with_variable, put_type, quantity_amount}
-use Rattle.nomos_elaborate.specs.CostModel.{is_charged, code_offset, put_node, put_work, put_code}
+use Rattle.nomos_elaborate.specs.CostModel.{is_charged, put_node, put_work, put_code}
+use Rattle.nomos_ir.specs.Instruction.{code_offset}
 use Rattle.nomos_elaborate.specs.Names.{Names}
 use Rattle.nomos_elaborate.specs.TermBuild.{build_term, build_terms}
 use Rattle.nomos_ir.specs.CodeParts.{code_labels}

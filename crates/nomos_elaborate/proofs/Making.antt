@@ -5,7 +5,8 @@ use Rattle.std.specs.Prelude.{if◌then◌else◌}
 use Rattle.std.proofs.lemmas.List.{length_push}
 use Rattle.std.proofs.lemmas.List.Elements.{All-nil, All-cons, All-push}
 use Rattle.nomos_elaborate.specs.Built.{Built, with_label, with_variable, put_type, put_term, quantity_amount, amount_of}
-use Rattle.nomos_elaborate.specs.CostModel.{put_code, put_node, put_work, is_charged, code_offset}
+use Rattle.nomos_elaborate.specs.CostModel.{put_code, put_node, put_work, is_charged}
+use Rattle.nomos_ir.specs.Instruction.{code_offset}
 use Rattle.nomos_elaborate.specs.Names.{Names, is_among, seen}
 use Rattle.nomos_grammar.specs.Offence.{star_limit}
 use Rattle.nomos_ir.specs.Amounts.{IsAmount}

@@ -4,7 +4,8 @@ use Rattle.std.specs.Prelude.{if◌then◌else◌}
 use Rattle.nomos_elaborate.specs.Built.{Built, with_label, with_variable, quantity_amount, amount_of}
 use Rattle.nomos_elaborate.specs.CodeBuild.{build_value, build_unless_list, build_argument, build_values, build_step, build_steps, build_code, build_last, build_arms}
 use Rattle.nomos_elaborate.specs.CodeClaims.{scope_after, matched_list}
-use Rattle.nomos_elaborate.specs.CostModel.{put_code, put_node, put_work, is_charged, code_offset}
+use Rattle.nomos_elaborate.specs.CostModel.{put_code, put_node, put_work, is_charged}
+use Rattle.nomos_ir.specs.Instruction.{code_offset}
 use Rattle.nomos_elaborate.specs.FileBuild.{build_value_pars, build_process_pars, build_chan_pars, par_amount, declared_amount}
 use Rattle.nomos_elaborate.specs.ListArgument.{list_argument}
 use Rattle.nomos_elaborate.specs.Names.{Names}

@@ -5,6 +5,7 @@ use Rattle.nomos_ir.specs.declared.amount.Amount.TheVariants as amount
 use Rattle.nomos_ir.specs.declared.code_node.CodeNode.{CodeNode}
 use Rattle.nomos_ir.specs.declared.code_node.CodeNode.TheVariants as node
 use Rattle.nomos_ir.specs.declared.ids.CodeId.{CodeId}
+use Rattle.nomos_ir.specs.Instruction.{code_offset}
 use Rattle.nomos_surface.specs.declared.surface.CostLine.{CostLine}
 use Rattle.nomos_surface.specs.declared.surface.CostModel.{CostModel}
 use Rattle.nomos_surface.specs.declared.surface.CostModel.TheVariants as cost
@@ -27,33 +28,6 @@ abbrev pub is_charged : CostModel → CodeNode → Bool
 is_charged cost.Ticks n = false
 is_charged cost.Sends n = is_sending n
 is_charged cost.All n = true
-
--- the offset of an instruction
-abbrev pub code_offset : CodeNode → ℕ
-code_offset (node.Label at x l next) = at
-code_offset (node.Case at x arms) = at
-code_offset (node.Send at x y next) = at
-code_offset (node.Recv at x y next) = at
-code_offset (node.Put at x e next) = at
-code_offset (node.Take at x v next) = at
-code_offset (node.Pay at x q next) = at
-code_offset (node.Get at x q next) = at
-code_offset (node.Work at q next) = at
-code_offset (node.Wait at x next) = at
-code_offset (node.Accept at next) = at
-code_offset (node.Detach at next) = at
-code_offset (node.Acquire at a x next) = at
-code_offset (node.Release at x a next) = at
-code_offset (node.Spawn at x f args next) = at
-code_offset (node.Let at v e next) = at
-code_offset (node.Emit at e next) = at
-code_offset (node.If at e holds fails) = at
-code_offset (node.Close at) = at
-code_offset (node.Fwd at x) = at
-code_offset (node.Call at f args) = at
-code_offset (node.Empty at v q kind next) = at
-code_offset (node.Add at v e w next) = at
-code_offset (node.Match at w empty head tail more) = at
 
 -- the code whose first node was put last
 abbrev pub put_node : Built → CodeNode → Built × CodeId

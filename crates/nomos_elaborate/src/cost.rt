@@ -1,6 +1,6 @@
 //! The `work` that a cost model puts in.
 ghost use Rattle.std.specs.Prelude.{◌≡◌, ◌+◌, ◌≤◌, IfOk};
-ghost use Rattle.nomos_elaborate.specs.CostModel.{code_offset, is_charged, put_code};
+ghost use Rattle.nomos_elaborate.specs.CostModel.{is_charged, put_code};
 ghost use Rattle.nomos_elaborate.specs.mirror.Checked.{Gives, found};
 ghost use Rattle.nomos_elaborate.specs.mirror.Entries.{entries, entry_limit};
 
@@ -10,38 +10,6 @@ use nomos_ir::amount::Amount;
 use nomos_ir::code_node::CodeNode;
 use nomos_ir::ids::CodeId;
 use nomos_surface::surface::CostModel;
-
-/// The offset of an instruction in the text, in bytes.
-fn code_offset(node: &CodeNode) -> u32
-    ensures { result ≡ code_offset node.now }
-{
-    match node {
-        CodeNode::Label(at, _, _, _)
-        | CodeNode::Case(at, _, _)
-        | CodeNode::Send(at, _, _, _)
-        | CodeNode::Recv(at, _, _, _)
-        | CodeNode::Put(at, _, _, _)
-        | CodeNode::Take(at, _, _, _)
-        | CodeNode::Pay(at, _, _, _)
-        | CodeNode::Get(at, _, _, _)
-        | CodeNode::Work(at, _, _)
-        | CodeNode::Wait(at, _, _)
-        | CodeNode::Accept(at, _)
-        | CodeNode::Detach(at, _)
-        | CodeNode::Acquire(at, _, _, _)
-        | CodeNode::Release(at, _, _, _)
-        | CodeNode::Spawn(at, _, _, _, _)
-        | CodeNode::Let(at, _, _, _)
-        | CodeNode::Emit(at, _, _)
-        | CodeNode::If(at, _, _, _)
-        | CodeNode::Close(at)
-        | CodeNode::Fwd(at, _)
-        | CodeNode::Call(at, _, _)
-        | CodeNode::Empty(at, _, _, _, _)
-        | CodeNode::Add(at, _, _, _, _)
-        | CodeNode::Match(at, _, _, _, _, _) => *at,
-    }
-}
 
 /// Whether the cost model puts `work {1}` before an instruction.
 fn is_charged(model: CostModel, node: &CodeNode) -> bool
@@ -67,7 +35,7 @@ impl Builder {
         ensures gives { Gives (λ c. (self.new, c)) result (found (put_code model self.old node)) }
         ensures grows { IfOk result (λ _. entries self.new ≤ entries self.old + 2) }
     {
-        let at = code_offset(&node);
+        let at = node.offset();
         let charged = is_charged(model, &node);
         let next = self.put_node(node)?;
         if charged {

@@ -48,9 +48,9 @@ impl From<AllocError> for GrammarError {
     }
 }
 
-/// Whether the tokens of a text are a text of the grammar within its limits, as docs/LANGUAGE.md, "Grammar of the whole
-/// language", has them, and if not, why: the first token that breaks a rule, and the first rule that it breaks, or that
-/// the text ends too early. Offsets count bytes from 0.
+/// Whether the tokens of a text are a text of the grammar within its limits, as docs/LANGUAGE.md, "Grammar", has them,
+/// and if not, why: the first token that breaks a rule, and the first rule that it breaks, or that the text ends too
+/// early. Offsets count bytes from 0.
 pub fn first_offence(alloc: Global, text: &[u8], tokens: &TokenList) -> Result<(), GrammarError>
     requires short { length text.now ≤ text_limit }
     requires tokens { StandFor text.now tokens.now (tokens_of text.now) }

@@ -5,6 +5,7 @@ pub mod CodeParts
 pub mod Evaluation
 pub mod Example
 pub mod Ids
+pub mod Instruction
 pub mod Kinds
 pub mod Name
 pub mod Naming

@@ -1,5 +1,6 @@
 //! The code of processes: the nodes of its trees.
 use crate::amount::Amount;
+use crate::code_form::CodeForm;
 use crate::ids::{CodeId, Label, ProcId, TermId, VarId};
 use crate::items::Items;
 use crate::kind::Kind;
@@ -76,6 +77,75 @@ pub enum CodeNode {
     /// The list, the code where it is empty, the names of its head and its tail, and the code where it
     /// has them.
     Match(u32, VarId, CodeId, VarId, VarId, CodeId),
+}
+
+impl CodeNode {
+    ghost use Rattle.std.specs.Prelude.{◌≡◌};
+    ghost use Rattle.nomos_ir.specs.Instruction.{code_offset, code_form};
+
+    /// The offset of the instruction in the text, in bytes.
+    pub fn offset(&self) -> u32
+        ensures { result ≡ code_offset self.now }
+    {
+        match self {
+            CodeNode::Label(at, _, _, _)
+            | CodeNode::Case(at, _, _)
+            | CodeNode::Send(at, _, _, _)
+            | CodeNode::Recv(at, _, _, _)
+            | CodeNode::Put(at, _, _, _)
+            | CodeNode::Take(at, _, _, _)
+            | CodeNode::Pay(at, _, _, _)
+            | CodeNode::Get(at, _, _, _)
+            | CodeNode::Work(at, _, _)
+            | CodeNode::Wait(at, _, _)
+            | CodeNode::Accept(at, _)
+            | CodeNode::Detach(at, _)
+            | CodeNode::Acquire(at, _, _, _)
+            | CodeNode::Release(at, _, _, _)
+            | CodeNode::Spawn(at, _, _, _, _)
+            | CodeNode::Let(at, _, _, _)
+            | CodeNode::Emit(at, _, _)
+            | CodeNode::If(at, _, _, _)
+            | CodeNode::Close(at)
+            | CodeNode::Fwd(at, _)
+            | CodeNode::Call(at, _, _)
+            | CodeNode::Empty(at, _, _, _, _)
+            | CodeNode::Add(at, _, _, _, _)
+            | CodeNode::Match(at, _, _, _, _, _) => *at,
+        }
+    }
+
+    /// The form of the instruction, by which a refusal calls it.
+    pub fn form(&self) -> CodeForm
+        ensures { result ≡ code_form self.now }
+    {
+        match self {
+            CodeNode::Label(..) => CodeForm::Label,
+            CodeNode::Case(..) => CodeForm::Case,
+            CodeNode::Send(..) => CodeForm::Send,
+            CodeNode::Recv(..) => CodeForm::Recv,
+            CodeNode::Put(..) => CodeForm::Put,
+            CodeNode::Take(..) => CodeForm::Take,
+            CodeNode::Pay(..) => CodeForm::Pay,
+            CodeNode::Get(..) => CodeForm::Get,
+            CodeNode::Work(..) => CodeForm::Work,
+            CodeNode::Wait(..) => CodeForm::Wait,
+            CodeNode::Accept(..) => CodeForm::Accept,
+            CodeNode::Detach(..) => CodeForm::Detach,
+            CodeNode::Acquire(..) => CodeForm::Acquire,
+            CodeNode::Release(..) => CodeForm::Release,
+            CodeNode::Spawn(..) => CodeForm::Spawn,
+            CodeNode::Let(..) => CodeForm::Let,
+            CodeNode::Emit(..) => CodeForm::Emit,
+            CodeNode::If(..) => CodeForm::If,
+            CodeNode::Close(..) => CodeForm::Close,
+            CodeNode::Fwd(..) => CodeForm::Fwd,
+            CodeNode::Call(..) => CodeForm::Call,
+            CodeNode::Empty(..) => CodeForm::Empty,
+            CodeNode::Add(..) => CodeForm::Add,
+            CodeNode::Match(..) => CodeForm::Match,
+        }
+    }
 }
 
 /// The code nodes of a program.

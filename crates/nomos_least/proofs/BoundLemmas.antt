@@ -87,7 +87,7 @@ bounded-answer text lists rows goal found proof read has same run is small meets
 -- ---- what is refuted, and where the run stops
 
 pub refuted-least : (text : List ℕ) (lists : ProgramLists) (rows : RowList) (goal : Form) (verdict : Verdict) →
-    IsReadAs text lists → HasRows lists rows → LeastRun rows goal (least.None verdict) →
+    IsReadAs text lists → HasRows lists rows → LeastRun rows goal (least.Refuted verdict) →
     Refutes rows.stars rows.rows verdict → NoneMeet rows.stars rows.rows → IsRefused text (why.NoPotential verdict)
 refuted-least text lists rows goal verdict read has run refutes none =
     refuted-answer text lists rows verdict read has (least-refuted rows goal verdict run) refutes none

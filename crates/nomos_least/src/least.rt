@@ -73,7 +73,7 @@ fn judge(alloc: Global, prepared: Prepared) -> Result<LeastBounds, AcceptError>
             goal,
             proof,
         }),
-        Ok(SolvedLeast::None(verdict)) => Err(refuted(&rows, verdict)),
+        Ok(SolvedLeast::Refuted(verdict)) => Err(refuted(&rows, verdict)),
         Ok(SolvedLeast::Unsolved(stop)) => Err(AcceptError::Unsolved(stop)),
         Err(_) => Err(AcceptError::NoMemory),
     }

@@ -55,10 +55,10 @@ fn is_total(weights: &[Weight], goal: &Form, unit: u32, proof: &Proof) -> bool
     is_same_product(unit, sum_of_least(weights), proof.scale, above)
 }
 
-/// Whether a proof shows that no amounts that meet the rows have a smaller goal than its total, in parts of which a unit
-/// has `unit`: scale and weights are over 0, and each weight is of one of the rows or of the bound of one of the stars.
-/// Added up, the weighted rows have `scale` times as much of each star as the goal, and are at least `scale` times what
-/// the total is above the goal's written part. It takes no memory.
+/// Whether a proof shows that no amounts that meet the rows have a smaller goal than its total, in parts of which a
+/// unit has `unit`: scale and weights are over 0, and each weight is of one of the rows or of the bound of one of the
+/// stars. Added up, the weighted rows have `scale` times as much of each star as the goal, and are at least `scale`
+/// times what the total is above the goal's written part. It takes no memory.
 pub fn shows_least(rows: &RowList, goal: &Form, unit: u32, proof: &Proof) -> bool
     requires goal { IsForm rows.now.stars goal.now }
     requires proof { IsProof proof.now }

@@ -40,7 +40,7 @@ use Rattle.nomos_simplex.proofs.VerdictLemmas.{least-of_variable, row-of_variabl
 -- ---- what an answer says is right
 abbrev pub IsRightFor : RowList → Solved → Type 0
 IsRightFor rows (solved.Found f) = MeetsRows f.stars f.unit rows.rows × IsFound rows.stars f
-IsRightFor rows (solved.None v) = Refutes rows.stars rows.rows v × IsVerdict v
+IsRightFor rows (solved.Refuted v) = Refutes rows.stars rows.rows v × IsVerdict v
 IsRightFor rows (solved.Unsolved s) = Unit {0}
 
 -- ---- amounts
@@ -276,5 +276,5 @@ verdict-is_verdict rows table i line t h =
     }
 
 pub verdict_exit : (rows : RowList) (table : Table) (i : ℕ) (line : Line) → IsTableOfRows rows table →
-    EndsAt rows table i line → IsRightFor rows (solved.None (verdict_of rows table line))
+    EndsAt rows table i line → IsRightFor rows (solved.Refuted (verdict_of rows table line))
 verdict_exit rows table i line t h = (verdict-refutes rows table i line t h, verdict-is_verdict rows table i line t h)

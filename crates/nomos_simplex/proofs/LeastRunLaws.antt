@@ -176,7 +176,7 @@ module _ (rows : RowList) (goal : Form) (table : Table) (line : Line) (f : IsFor
 abbrev pub IsRightLeast : RowList → Form → SolvedLeast → Type 0
 IsRightLeast rows goal (least.Found f p) =
     IsFound rows.stars f × MeetsRows f.stars f.unit rows.rows × IsProof p × ShowsLeast rows.rows goal f.unit p
-IsRightLeast rows goal (least.None v) = IsVerdict v × Refutes rows.stars rows.rows v
+IsRightLeast rows goal (least.Refuted v) = IsVerdict v × Refutes rows.stars rows.rows v
 IsRightLeast rows goal (least.Unsolved s) = Unit {0}
 
 found_is : (g f : Found) (s : Stop) (t : Bool) → cond t (solved.Found g) (solved.Unsolved s) ≡ solved.Found f → g ≡ f
@@ -211,7 +211,7 @@ end_right rows goal pivots table line (solved.Found f) form a low e =
           (proof-shows rows goal table line form a low (unsigned_abs value) (total_is value total
           ∙ ap (λ g. form_value g.stars g.unit goal) (sym is))),
     ))
-end_right rows goal pivots table line (solved.None v) form a low e =
+end_right rows goal pivots table line (solved.Refuted v) form a low e =
     let right = subst (IsRightFor rows) e (found_low pivots rows table a.of_rows a.none) in (right.1, right.0)
 end_right rows goal pivots table line (solved.Unsolved s) form a low e = tt
 
@@ -232,7 +232,7 @@ least-is_right rows goal answer form (LeastRun.large pivots table line i j left 
 
 abbrev HasTotal : Form → SolvedLeast → Type 0
 HasTotal goal (least.Found f p) = form_value f.stars f.unit goal ≡ pos p.total
-HasTotal goal (least.None v) = Unit {0}
+HasTotal goal (least.Refuted v) = Unit {0}
 HasTotal goal (least.Unsolved s) = Unit {0}
 
 total-where : (rows : RowList) (goal : Form) (table : Table) (line : Line) (pivots : ℕ) (f : Found) (t : Bool) →
@@ -246,7 +246,7 @@ end-total : (rows : RowList) (goal : Form) (pivots : ℕ) (table : Table) (line 
     HasTotal goal (least_or_large pivots rows goal table line s)
 end-total rows goal pivots table line (solved.Found f) =
     total-where rows goal table line pivots f (is_total (form_value f.stars f.unit goal)) refl
-end-total rows goal pivots table line (solved.None v) = tt
+end-total rows goal pivots table line (solved.Refuted v) = tt
 end-total rows goal pivots table line (solved.Unsolved s) = tt
 
 answer-total : (rows : RowList) (goal : Form) (answer : SolvedLeast) → LeastRun rows goal answer → HasTotal goal answer
@@ -265,7 +265,7 @@ least-total rows goal f proof run = answer-total rows goal (least.Found f proof)
 -- ---- a verdict is that of the pivot run
 
 abbrev IsPivots : RowList → SolvedLeast → Type 0
-IsPivots rows (least.None v) = answer_to rows ≡ solved.None v
+IsPivots rows (least.Refuted v) = answer_to rows ≡ solved.Refuted v
 IsPivots rows (least.Found f p) = Unit {0}
 IsPivots rows (least.Unsolved s) = Unit {0}
 
@@ -295,6 +295,6 @@ answer-pivots rows goal answer (LeastRun.ends pivots table line l e) =
 answer-pivots rows goal answer (LeastRun.pivots_made table line i j left l x) = tt
 answer-pivots rows goal answer (LeastRun.large pivots table line i j left l x most e) = tt
 
-pub least-refuted : (rows : RowList) (goal : Form) (verdict : Verdict) → LeastRun rows goal (least.None verdict) →
-    answer_to rows ≡ solved.None verdict
-least-refuted rows goal verdict run = answer-pivots rows goal (least.None verdict) run
+pub least-refuted : (rows : RowList) (goal : Form) (verdict : Verdict) → LeastRun rows goal (least.Refuted verdict) →
+    answer_to rows ≡ solved.Refuted verdict
+least-refuted rows goal verdict run = answer-pivots rows goal (least.Refuted verdict) run

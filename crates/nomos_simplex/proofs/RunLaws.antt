@@ -124,7 +124,7 @@ pub run-found : (budget pivots : ℕ) (rows : RowList) (table : Table) (f : Foun
 run-found budget pivots rows table f t e = subst (IsRightFor rows) e (run-is_right budget pivots rows table t)
 
 pub run-refutes : (budget pivots : ℕ) (rows : RowList) (table : Table) (v : Verdict) → IsTableOfRows rows table →
-    run budget pivots rows table ≡ solved.None v → Refutes rows.stars rows.rows v × IsVerdict v
+    run budget pivots rows table ≡ solved.Refuted v → Refutes rows.stars rows.rows v × IsVerdict v
 run-refutes budget pivots rows table v t e = subst (IsRightFor rows) e (run-is_right budget pivots rows table t)
 
 -- the answer to rows
@@ -132,6 +132,6 @@ pub answer-found : (rows : RowList) (f : Found) → answer_to rows ≡ solved.Fo
     MeetsRows f.stars f.unit rows.rows × IsFound rows.stars f
 answer-found rows f e = run-found 2000 0 rows (first_table rows) f (first-is_table rows) e
 
-pub answer-refutes : (rows : RowList) (v : Verdict) → answer_to rows ≡ solved.None v →
+pub answer-refutes : (rows : RowList) (v : Verdict) → answer_to rows ≡ solved.Refuted v →
     Refutes rows.stars rows.rows v × IsVerdict v
 answer-refutes rows v e = run-refutes 2000 0 rows (first_table rows) v (first-is_table rows) e

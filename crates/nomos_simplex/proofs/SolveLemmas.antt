@@ -85,7 +85,7 @@ not_found_to (suc budget) pivots i j line table answer e =
 not_found_at : (budget pivots i : ℕ) (rows : RowList) (table : Table) (line : Line) (o : Option ℕ) (answer : Solved) →
     turn_at budget pivots rows table i line o ≡ Ends answer → IsNotFound answer
 not_found_at budget pivots i rows table line None answer e =
-    let is : solved.None (verdict_of rows table line) ≡ answer = cc in subst IsNotFound is tt
+    let is : solved.Refuted (verdict_of rows table line) ≡ answer = cc in subst IsNotFound is tt
 not_found_at budget pivots i rows table line (Some j) answer e =
     not_found_to budget pivots i j line table answer e
 

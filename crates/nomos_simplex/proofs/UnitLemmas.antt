@@ -27,7 +27,7 @@ use Rattle.nomos_simplex.specs.declared.turn.Turn.{Turn}
 -- amounts that are answered have a unit that is not too large
 abbrev HasSmallUnit : Solved → Type 0
 HasSmallUnit (solved.Found f) = f.unit ≤ 2 ^ 31
-HasSmallUnit (solved.None v) = Unit {0}
+HasSmallUnit (solved.Refuted v) = Unit {0}
 HasSmallUnit (solved.Unsolved s) = Unit {0}
 
 abbrev EndsWithSmallUnit : Turn → Type 0
@@ -95,7 +95,7 @@ found-unit rows f e = subst HasSmallUnit e (run_small 2000 0 rows (first_table r
 
 abbrev HasSmallLeastUnit : SolvedLeast → Type 0
 HasSmallLeastUnit (least.Found f proof) = f.unit ≤ 2 ^ 31
-HasSmallLeastUnit (least.None v) = Unit {0}
+HasSmallLeastUnit (least.Refuted v) = Unit {0}
 HasSmallLeastUnit (least.Unsolved s) = Unit {0}
 
 total_small : (pivots : ℕ) (f : Found) (proof : Proof) (total : Bool) → f.unit ≤ 2 ^ 31 →
@@ -107,7 +107,7 @@ end_least_small : (pivots : ℕ) (rows : RowList) (goal : Form) (table : Table) 
     HasSmallUnit answer → HasSmallLeastUnit (least_or_large pivots rows goal table line answer)
 end_least_small pivots rows goal table line (solved.Found f) small =
     total_small pivots f _ (is_total (form_value f.stars f.unit goal)) small
-end_least_small pivots rows goal table line (solved.None v) small = tt
+end_least_small pivots rows goal table line (solved.Refuted v) small = tt
 end_least_small pivots rows goal table line (solved.Unsolved s) small = tt
 
 least_small : (rows : RowList) (goal : Form) (answer : SolvedLeast) → LeastRun rows goal answer →

@@ -83,13 +83,13 @@ least_or_large pivots rows goal table line (solved.Found f) =
     if is_total (form_value f.stars f.unit goal) then
     least.Found f (proof_of rows table line (unsigned_abs (form_value f.stars f.unit goal)))
     else least.Unsolved (stop.Large pivots)
-least_or_large pivots rows goal table line (solved.None verdict) = least.None verdict
+least_or_large pivots rows goal table line (solved.Refuted verdict) = least.Refuted verdict
 least_or_large pivots rows goal table line (solved.Unsolved s) = least.Unsolved s
 
 -- ---- the answer
 pub data LeastRun (rows : RowList) (goal : Form) : SolvedLeast → Type 0 where
   -- the pivot run's own answer, where that is no amounts
-  refuted : (verdict : Verdict) → answer_to rows ≡ solved.None verdict → LeastRun rows goal (least.None verdict)
+  refuted : (verdict : Verdict) → answer_to rows ≡ solved.Refuted verdict → LeastRun rows goal (least.Refuted verdict)
   stopped : (s : Stop) → answer_to rows ≡ solved.Unsolved s → LeastRun rows goal (least.Unsolved s)
   -- a number of the goal's line is too large
   large_goal : (pivots : ℕ) (table : Table) → EndsFound rows pivots table → goal_line table goal ≡ None →

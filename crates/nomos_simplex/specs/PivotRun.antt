@@ -23,7 +23,7 @@ turn_to zero pivots i line table j = Ends (solved.Unsolved stop.Pivots)
 turn_to (suc budget) pivots i line table j = small_or_large (pivots + 1) (exchanged i j line table)
 
 abbrev pub turn_at : ℕ → ℕ → RowList → Table → ℕ → Line → Option ℕ → Turn
-turn_at budget pivots rows table i line None = Ends (solved.None (verdict_of rows table line))
+turn_at budget pivots rows table i line None = Ends (solved.Refuted (verdict_of rows table line))
 turn_at budget pivots rows table i line (Some j) = turn_to budget pivots i line table j
 
 abbrev pub turn_on : ℕ → ℕ → RowList → Table → ℕ → Option Line → Turn

@@ -131,7 +131,7 @@ fn end_at(
             let proof = proof_at(alloc, rows, aimed, total)?;
             Ok(SolvedLeast::Found(found, proof))
         }
-        Solved::None(verdict) => Ok(SolvedLeast::None(verdict)),
+        Solved::Refuted(verdict) => Ok(SolvedLeast::Refuted(verdict)),
         Solved::Unsolved(stop) => Ok(SolvedLeast::Unsolved(stop)),
     }
 }
@@ -218,7 +218,7 @@ fn without_amounts(solved: Solved) -> SolvedLeast
     ensures { (rows : RowList) (goal : Form) → answer_to rows ≡ solved → LeastRun rows goal result }
 {
     match solved {
-        Solved::None(verdict) => SolvedLeast::None(verdict),
+        Solved::Refuted(verdict) => SolvedLeast::Refuted(verdict),
         Solved::Unsolved(stop) => SolvedLeast::Unsolved(stop),
         Solved::Found(_) => unreachable!(),
     }
@@ -239,7 +239,7 @@ fn run_on(
 {
     match found(alloc, rows, &table, pivots)? {
         Solved::Found(_) => lower_from(alloc, rows, goal, table, pivots),
-        Solved::None(verdict) => Ok(SolvedLeast::None(verdict)),
+        Solved::Refuted(verdict) => Ok(SolvedLeast::Refuted(verdict)),
         Solved::Unsolved(stop) => Ok(SolvedLeast::Unsolved(stop)),
     }
 }
@@ -270,7 +270,7 @@ pub fn solve_least(alloc: Global, rows: &RowList, goal: &Form) -> Result<SolvedL
         IsFound rows.now.stars found × MeetsRows found.stars found.unit rows.now.rows × IsProof proof ×
         ShowsLeast rows.now.rows goal.now found.unit proof }
     ensures unit { (found : Found) (proof : Proof) → result ≡ Ok (least.Found found proof) → found.unit ≤ 2 ^ 31 }
-    ensures refuted { (verdict : Verdict) → result ≡ Ok (least.None verdict) →
+    ensures refuted { (verdict : Verdict) → result ≡ Ok (least.Refuted verdict) →
         IsVerdict verdict × Refutes rows.now.stars rows.now.rows verdict }
 {
     run_both(alloc, rows, goal)

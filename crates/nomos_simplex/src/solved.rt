@@ -15,7 +15,7 @@ pub enum Stop {
 #[derive(Drop, Debug)]
 pub enum Solved {
     Found(Found),
-    None(Verdict),
+    Refuted(Verdict),
     Unsolved(Stop),
 }
 
@@ -34,6 +34,6 @@ pub struct Proof {
 #[derive(Drop, Debug)]
 pub enum SolvedLeast {
     Found(Found, Proof),
-    None(Verdict),
+    Refuted(Verdict),
     Unsolved(Stop),
 }

@@ -102,7 +102,7 @@ fn turn_at(
 {
     let line = &table.lines.as_slice()[place];
     let Some(column) = entering(&table, line) else {
-        return Ok(Turn::Ends(Solved::None(verdict(alloc, rows, &table, line)?)));
+        return Ok(Turn::Ends(Solved::Refuted(verdict(alloc, rows, &table, line)?)));
     };
     if pivots >= BUDGET {
         return Ok(Turn::Ends(Solved::Unsolved(Stop::Pivots)));
@@ -155,7 +155,7 @@ pub fn solve(alloc: Global, rows: &RowList) -> Result<Solved, AllocError>
     ensures found { (found : Found) → result ≡ Ok (solved.Found found) →
         IsFound rows.now.stars found × MeetsRows found.stars found.unit rows.now.rows }
     ensures unit { (found : Found) → result ≡ Ok (solved.Found found) → found.unit ≤ 2 ^ 31 }
-    ensures refuted { (verdict : Verdict) → result ≡ Ok (solved.None verdict) →
+    ensures refuted { (verdict : Verdict) → result ≡ Ok (solved.Refuted verdict) →
         IsVerdict verdict × Refutes rows.now.stars rows.now.rows verdict }
 {
     run_all(alloc, rows)

@@ -258,7 +258,7 @@ fn no_stars_and_no_rows(rt: HostRuntime) -> Result<(), Fail> {
     assert_eq!(rt; found.unit, 1);
     assert_eq!(rt; found.stars.len(), 64);
     let one = form(alloc, &[], -1)?;
-    let Solved::None(verdict) = solve(alloc, &system(alloc, vec![in alloc; one]?, 0)?)? else {
+    let Solved::Refuted(verdict) = solve(alloc, &system(alloc, vec![in alloc; one]?, 0)?)? else {
         panic!(&rt; "amounts");
     };
     assert_eq!(rt; verdict.gives, 1);

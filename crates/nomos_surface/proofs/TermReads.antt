@@ -21,7 +21,8 @@ use Rattle.nomos_surface.proofs.TermFronts.{number_kind}
 
 -- terms without operators
 
-pub number_read : (inner : Reader TermTree) (at value : ℕ) (x : Placed) (ts : List Placed) → Meets (number_at at value) x
+pub number_read : (inner : Reader TermTree) (at value : ℕ) (x : Placed) (ts : List Placed)
+    → Meets (number_at at value) x
     → read_primary inner (x ∷ ts) ≡ (number at value, ts)
 unfolding primary_from
 number_read inner at value x ts m =
@@ -49,7 +50,8 @@ unfolding primary_from named_from
 variable_read inner n x ts m quiet =
     at_this (λ y. read_primary inner (y ∷ ts) ≡ (variable n, ts)) n.at (name n.name) x m (rw quiet refl)
 
-pub call_read : (inner : Reader TermTree) (n : NameAt) (l : List TermTree) (x y : Placed) (ts us : List Placed) (z : Placed)
+pub call_read : (inner : Reader TermTree) (n : NameAt) (l : List TermTree) (x y : Placed) (ts us : List Placed)
+    (z : Placed)
     (vs : List Placed) → Meets (print_name n) x →
     Meets (sign sym.OpenParen) y → read_until inner (length ts) ts ≡ (l, us) → us ≡ z ∷ vs →
     read_primary inner (x ∷ y ∷ ts) ≡ (application n (term_trees l), vs)
@@ -176,7 +178,8 @@ pub last_sum_read : (sum : Reader TermTree) (m : ℕ) (heads : Heads) (t : TermT
 unfolding read_conses
 last_sum_read sum m heads t tokens rest e none = rw (e, none) refl
 
-pub next_sum_read : (sum : Reader TermTree) (m : ℕ) (heads : Heads) (at : ℕ) (t r : TermTree) (tokens rest : List Placed)
+pub next_sum_read : (sum : Reader TermTree) (m : ℕ) (heads : Heads) (at : ℕ) (t r : TermTree)
+    (tokens rest : List Placed)
     (x : Placed) (us ws : List Placed) →
     sum tokens ≡ (t, rest) → rest ≡ x ∷ us → is_cons (front_kind (x ∷ us)) ≡ true → x.at ≡ at →
     read_conses sum m (heads ++ (t, at) ∷ []) us ≡ (with_heads (heads ++ (t, at) ∷ []) r, ws) →

@@ -11,13 +11,14 @@ use Rattle.nomos_types.specs.Judgement.{start_of}
 use Rattle.nomos_types.specs.Modes.{ObeysModes}
 use Rattle.nomos_types.specs.Synchronizing.{IsSynchronizing}
 
--- No definition is a bare name, and the tables of modes are obeyed.
+-- The lists are those of a program, no definition is a bare name, and the tables of modes are obeyed.
 pub record IsWellFormed (lists : ProgramLists) : Type 0 where
   pub program : IsProgram lists
   pub contractive : IsContractive lists
   pub modes : ObeysModes lists
 
--- A program is typed under amounts.
+-- A program is typed under amounts: it is well formed, each shared type is synchronizing, each function has its kind,
+-- and each process has a derivation.
 pub record IsTypedProgram (lists : ProgramLists) (x : Annotations) : Type 0 where
   pub formed : IsWellFormed lists
   pub synchronizing : IsSynchronizing lists x

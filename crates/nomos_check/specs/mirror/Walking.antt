@@ -16,7 +16,7 @@ use Rattle.nomos_types.specs.Row.{Row, StandsAtCode}
 use Rattle.nomos_check.specs.Account.{Account, spends, form_of}
 use Rattle.nomos_check.specs.Accounting.{accounts_after}
 use Rattle.nomos_check.specs.Asking.{AsksPair, IsAsked}
-use Rattle.nomos_check.specs.Checking.{code_offset, code_form}
+use Rattle.nomos_ir.specs.Instruction.{code_offset, code_form}
 use Rattle.nomos_check.specs.Reaching.{GetsTo, IsFormOf}
 use Rattle.nomos_check.specs.declared.standing.Forks.{Forks}
 use Rattle.nomos_check.specs.declared.standing.Standing.{Standing}

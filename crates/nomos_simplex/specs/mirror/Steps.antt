@@ -52,7 +52,7 @@ pub record StandsAt (rows : RowList) (table : Table) (pivots : ℕ) : Type 0 whe
 -- an answer without amounts
 abbrev pub IsNotFound : Solved → Type 0
 IsNotFound (solved.Found found) = ⊥
-IsNotFound (solved.None verdict) = Unit {0}
+IsNotFound (solved.Refuted verdict) = Unit {0}
 IsNotFound (solved.Unsolved stop) = Unit {0}
 
 -- where the pivot run comes to

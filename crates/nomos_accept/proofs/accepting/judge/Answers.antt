@@ -18,14 +18,14 @@ returns-in-Ok-Found c = λ text read.
     (accepted-answer text prepared.program prepared.rows found read c.requires.rows.are_rows
     (sym c.in-Ok-Found.ensures.answer ∙ c.in-Ok-Found.field-0-is) accepted)
 
-pub returns-in-Ok-None : goal.returns-in-Ok-None
-returns-in-Ok-None c = λ text read.
+pub returns-in-Ok-Refuted : goal.returns-in-Ok-Refuted
+returns-in-Ok-Refuted c = λ text read.
     let prepared = c.args.prepared in
-    let verdict = c.in-Ok-None.verdict in
-    let both = c.in-Ok-None.ensures.refuted verdict (cc) in
+    let verdict = c.in-Ok-Refuted.verdict in
+    let both = c.in-Ok-Refuted.ensures.refuted verdict (cc) in
     subst (λ (e : AcceptError). Answers text (Err e)) (sym c.refuted.ensures.refused)
     (refuted-answer text prepared.program prepared.rows verdict read c.requires.rows
-    (sym c.in-Ok-None.ensures.answer ∙ c.in-Ok-None.field-0-is) both.1 c.refuted.ensures.none_meet)
+    (sym c.in-Ok-Refuted.ensures.answer ∙ c.in-Ok-Refuted.field-0-is) both.1 c.refuted.ensures.none_meet)
 
 pub returns-in-Ok-Unsolved : goal.returns-in-Ok-Unsolved
 returns-in-Ok-Unsolved c = λ text read.

@@ -31,14 +31,14 @@ returns-in-Ok-Found c = λ text read.
     (rw c.in-Ok-Found.field-0-is at c.in-Ok-Found.ensures.run) is.0 (c.in-Ok-Found.ensures.unit found proof (cc)) is.1
     is.3 c.bounded.ensures.none_smaller)
 
-pub returns-in-Ok-None : goal.returns-in-Ok-None
-returns-in-Ok-None c = λ text read.
+pub returns-in-Ok-Refuted : goal.returns-in-Ok-Refuted
+returns-in-Ok-Refuted c = λ text read.
     let p = c.args.prepared in
-    let verdict = c.in-Ok-None.verdict in
-    let is = c.in-Ok-None.ensures.refuted verdict (cc) in
+    let verdict = c.in-Ok-Refuted.verdict in
+    let is = c.in-Ok-Refuted.ensures.refuted verdict (cc) in
     subst (λ (e : AcceptError). AnswersLeast text (Err e)) (sym c.refuted.ensures.refused)
     (refuted-least text p.program p.rows c.in-Ok.goal verdict read c.requires.rows
-    (rw c.in-Ok-None.field-0-is at c.in-Ok-None.ensures.run)
+    (rw c.in-Ok-Refuted.field-0-is at c.in-Ok-Refuted.ensures.run)
     is.1 c.refuted.ensures.none_meet)
 
 pub returns-in-Ok-Unsolved : goal.returns-in-Ok-Unsolved

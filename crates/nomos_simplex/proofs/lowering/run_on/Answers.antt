@@ -21,9 +21,9 @@ lower_from-requires-clause-run c = record {
   answer = sym c.requires.stands.answer ∙ sym c.in_ok-found.ensures ∙ c.in-Found.is;
 }
 
-pub returns-in-None : goal.returns-in-None
-returns-in-None c = LeastRun.refuted c.in-None.verdict
-    (sym c.requires.stands.answer ∙ sym c.in_ok-found.ensures ∙ c.in-None.is)
+pub returns-in-Refuted : goal.returns-in-Refuted
+returns-in-Refuted c = LeastRun.refuted c.in-Refuted.verdict
+    (sym c.requires.stands.answer ∙ sym c.in_ok-found.ensures ∙ c.in-Refuted.is)
 
 pub returns-in-Unsolved : goal.returns-in-Unsolved
 returns-in-Unsolved c = LeastRun.stopped c.in-Unsolved.stop

@@ -17,5 +17,5 @@ returns-clause-unit c = λ found proof e.
 
 pub returns-clause-refuted : goal.returns-clause-refuted
 returns-clause-refuted c = λ verdict e.
-    least-is_right c.args.rows.now c.args.goal.now (least.None verdict) c.requires.goal
+    least-is_right c.args.rows.now c.args.goal.now (least.Refuted verdict) c.requires.goal
     (subst (λ r. IfOk r (LeastRun c.args.rows.now c.args.goal.now)) e c.run_both.ensures)

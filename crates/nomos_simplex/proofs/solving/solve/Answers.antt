@@ -20,7 +20,7 @@ returns-clause-unit c = λ found e.
 
 pub returns-clause-refuted : goal.returns-clause-refuted
 returns-clause-refuted c = λ verdict e.
-    let answer : solved.None verdict ≡ answer_to c.args.rows.now = subst (λ r. IfOk r (λ a. a ≡ answer_to
+    let answer : solved.Refuted verdict ≡ answer_to c.args.rows.now = subst (λ r. IfOk r (λ a. a ≡ answer_to
     c.args.rows.now)) e c.run_all.ensures in
     let both = answer-refutes c.args.rows.now verdict (sym answer) in
     (both.1, both.0)
