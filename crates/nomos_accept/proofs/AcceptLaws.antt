@@ -4,11 +4,11 @@ use Rattle.nomos_accept.specs.AcceptedText.{IsReadAs, IsTypedAs, IsNeverTyped, E
 use Rattle.nomos_accept.specs.declared.refusal.Why.{Why}
 use Rattle.nomos_elaborate.specs.FileBuild.{program_of}
 use Rattle.nomos_ir.specs.declared.lists.ProgramLists.{ProgramLists}
-use Rattle.nomos_rows.specs.Faults.{IsNeverTyped as IsNeverTypedProgram}
+use Rattle.nomos_rows.specs.PartFaults.{IsNeverTyped as IsNeverTypedProgram}
 use Rattle.nomos_simplex.specs.declared.solved.Solved.TheVariants as solved
 use Rattle.nomos_simplex.specs.declared.solved.Stop.{Stop}
 use Rattle.nomos_surface.proofs.FoundLaws.{printed-unique}
-use Rattle.nomos_surface.specs.Reading.{ReadsAs}
+use Rattle.nomos_surface.specs.TreeReading.{ReadsAs}
 use Rattle.nomos_surface.specs.Tree.{FileTree}
 use Rattle.nomos_syntax.specs.Scan.{tokens_of}
 use Rattle.nomos_types.specs.Amount.{Annotations}

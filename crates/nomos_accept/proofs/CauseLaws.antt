@@ -15,7 +15,7 @@ use Rattle.nomos_grammar.specs.declared.offence.GrammarError.{GrammarError}
 use Rattle.nomos_grammar.specs.declared.offence.GrammarError.TheVariants as grammar
 use Rattle.nomos_grammar.specs.declared.offence.Which.{Which}
 use Rattle.nomos_ir.specs.declared.lists.ProgramLists.{ProgramLists}
-use Rattle.nomos_rows.specs.Faults.{LeadsAstray, IsFaulty, IsFirstFault}
+use Rattle.nomos_rows.specs.PartFaults.{LeadsAstray, IsFaulty, IsFirstFault}
 use Rattle.nomos_surface.specs.Tree.{FileTree}
 use Rattle.nomos_syntax.specs.Scan.{tokens_of}
 use Rattle.nomos_syntax.specs.Spans.{IsFirstNotAscii}

@@ -4,7 +4,7 @@ use Rattle.nomos_accept.specs.declared.refusal.AcceptError.{AcceptError}
 use Rattle.nomos_accept.specs.declared.refusal.AcceptError.TheVariants as error
 use Rattle.nomos_accept.specs.declared.refusal.Why.{Why}
 use Rattle.nomos_accept.specs.declared.refusal.Why.TheVariants as why
-use Rattle.nomos_elaborate.specs.Answer.{ElaboratesTo, BreaksCosts}
+use Rattle.nomos_elaborate.specs.Elaborated.{ElaboratesTo, BreaksCosts}
 use Rattle.nomos_elaborate.specs.NameClaim.{first_broken}
 use Rattle.nomos_elaborate.specs.FileClaims.{claims_of}
 use Rattle.nomos_forms.specs.Refuting.{Refutes}
@@ -17,14 +17,14 @@ use Rattle.nomos_grammar.specs.declared.offence.GrammarError.TheVariants as gram
 use Rattle.nomos_ir.specs.Amounts.{star_count}
 use Rattle.nomos_ir.specs.Unfold.{IsContractive}
 use Rattle.nomos_ir.specs.declared.lists.ProgramLists.{ProgramLists}
-use Rattle.nomos_rows.specs.Faults.{IsCause}
+use Rattle.nomos_rows.specs.PartFaults.{IsCause}
 use Rattle.nomos_rows.specs.ProgramRows.{AreProgramRows}
 use Rattle.nomos_rows.specs.declared.program_rows.RowsError.TheVariants as rows_error
 use Rattle.nomos_simplex.specs.PivotRun.{answer_to}
 use Rattle.nomos_simplex.specs.declared.solved.Solved.{Solved}
 use Rattle.nomos_simplex.specs.declared.solved.Solved.TheVariants as solved
 use Rattle.nomos_simplex.specs.declared.solved.Stop.{Stop}
-use Rattle.nomos_surface.specs.Reading.{ReadsAs}
+use Rattle.nomos_surface.specs.TreeReading.{ReadsAs}
 use Rattle.nomos_surface.specs.Tree.{FileTree}
 use Rattle.nomos_syntax.specs.Limits.{text_limit}
 use Rattle.nomos_syntax.specs.Reading.{IsPlainText}

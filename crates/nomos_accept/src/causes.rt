@@ -2,11 +2,11 @@
 ghost use Rattle.std.specs.Prelude.{ℕ, List, Err};
 ghost use Rattle.nomos_accept.specs.AcceptedText.{IsReadAs};
 ghost use Rattle.nomos_accept.specs.Preparing.{AnswersRefusal};
-ghost use Rattle.nomos_elaborate.specs.Answer.{Answers as AnswersElaborate};
+ghost use Rattle.nomos_elaborate.specs.Elaborated.{Answers as AnswersElaborate};
 ghost use Rattle.nomos_ir.specs.declared.lists.ProgramLists.{ProgramLists};
-ghost use Rattle.nomos_rows.specs.Faults.{IsCause};
+ghost use Rattle.nomos_rows.specs.PartFaults.{IsCause};
 ghost use Rattle.nomos_surface.specs.Parsing.{AnswersParse};
-ghost use Rattle.nomos_surface.specs.Reading.{ReadsAs};
+ghost use Rattle.nomos_surface.specs.TreeReading.{ReadsAs};
 ghost use Rattle.nomos_surface.specs.Tree.{FileTree};
 ghost use Rattle.nomos_types.specs.Forming.{IsFormFault};
 ghost use Rattle.nomos_types.specs.Typed.{IsWellFormed};

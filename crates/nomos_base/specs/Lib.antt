@@ -1,6 +1,6 @@
 pub mod Faults
 pub mod Source
 pub mod Sink
-pub mod Reading
+pub mod WholeRead
 pub mod Memory
 pub mod Gas

@@ -3,7 +3,7 @@
 ghost use Rattle.std.specs.Prelude.{◌≡◌, ◌+◌, ◌-◌, ℕ, ◌≤◌, ◌<◌, length, IfOk, IsErrOf, vec_len};
 ghost use Rattle.nomos_base.specs.Faults.{Rose};
 ghost use Rattle.nomos_base.specs.Source.{TakesAll, TakesAtMost, TakesExactly};
-ghost use Rattle.nomos_base.specs.Reading.{TakesPiece};
+ghost use Rattle.nomos_base.specs.WholeRead.{TakesPiece};
 
 use crate::source::{Got, Source};
 use std::alloc::{AllocError, Global};

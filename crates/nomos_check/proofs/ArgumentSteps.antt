@@ -28,7 +28,7 @@ use Rattle.nomos_check.specs.Asking.{AsksPair, IsOfType}
 use Rattle.nomos_check.specs.declared.asked.Asked.{Asked}
 use Rattle.nomos_check.specs.declared.standing.Standing.{Standing}
 use Rattle.nomos_check.specs.mirror.Passing.{ValuesPassed, TellsChannels, TellsArguments, PairOfValues, PairOfChannels, carried_by_all}
-use Rattle.nomos_check.specs.mirror.Standing.{amount_of, each_bound, shape_of, Joins, NoRow}
+use Rattle.nomos_check.specs.mirror.StandingData.{amount_of, each_bound, shape_of, Joins, NoRow}
 use Rattle.nomos_check.proofs.AskingLaws.{ArgumentsAsk, asks-at, asked-at}
 use Rattle.nomos_check.proofs.GivingSteps.{values-same}
 use Rattle.nomos_check.proofs.PassingSteps.{channels-one}

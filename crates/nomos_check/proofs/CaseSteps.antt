@@ -24,7 +24,7 @@ use Rattle.nomos_check.specs.declared.standing.Standing.{Standing}
 use Rattle.nomos_check.specs.declared.standing.Way.{Way}
 use Rattle.nomos_check.specs.declared.standing.Way.TheVariants as way
 use Rattle.nomos_check.specs.mirror.Cases.{HasArm, AreWays, none, arm, HasOddArm}
-use Rattle.nomos_check.specs.mirror.Standing.{IsWayOf, LeadsAlong, NoRow, shape_of, way_account, way_shape}
+use Rattle.nomos_check.specs.mirror.StandingData.{IsWayOf, LeadsAlong, NoRow, shape_of, way_account, way_shape}
 use Rattle.nomos_check.proofs.ChannelLaws.{head-unique}
 use Rattle.nomos_check.proofs.LeadLemmas.{leads-along}
 use Rattle.nomos_check.proofs.StepRows.{case-stuck}

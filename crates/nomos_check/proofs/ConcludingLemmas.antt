@@ -29,9 +29,9 @@ use Rattle.nomos_check.specs.declared.checking.ProcError.TheVariants as error
 use Rattle.nomos_check.specs.declared.standing.Standing.{Standing}
 use Rattle.nomos_check.specs.declared.walk.Stuck.{Stuck}
 use Rattle.nomos_check.specs.declared.walk.Walk.{Walk}
-use Rattle.nomos_check.specs.mirror.Answers.{IsGathered, JoinsPairs}
+use Rattle.nomos_check.specs.mirror.ProcessAnswers.{IsGathered, JoinsPairs}
 use Rattle.nomos_check.specs.mirror.Fresh.{IsFresh}
-use Rattle.nomos_check.specs.mirror.Starting.{IsStartOf}
+use Rattle.nomos_check.specs.mirror.StartingWalk.{IsStartOf}
 use Rattle.nomos_check.specs.mirror.Walking.{LeadsFrom, IsPointAt, IsStuckBy, AtStanding, IsPending, IsReached, IsOpen, IsOnWay, IsWalk, Walking, Goes}
 
 -- a declaration is reached where it begins

@@ -18,7 +18,7 @@ use Rattle.nomos_types.specs.Row.{StandsAtCode}
 use Rattle.nomos_check.specs.declared.standing.Carried.{Carried}
 use Rattle.nomos_check.specs.declared.standing.Standing.{Standing}
 use Rattle.nomos_check.specs.mirror.Finding.{IsFound}
-use Rattle.nomos_check.specs.mirror.Standing.{shape_of, shape_of_list}
+use Rattle.nomos_check.specs.mirror.StandingData.{shape_of, shape_of_list}
 use Rattle.nomos_check.proofs.StandingLemmas.{each-bound}
 
 -- what was found has the property

@@ -30,7 +30,7 @@ use Rattle.nomos_check.specs.declared.asked.Asked.{Asked}
 use Rattle.nomos_check.specs.declared.standing.Carried.{Carried}
 use Rattle.nomos_check.specs.declared.standing.Standing.{Standing}
 use Rattle.nomos_check.specs.mirror.Passing.{TellsList, ValuePassed, TellsValue, ValuesPassed, PairOfValues, carried_by_all}
-use Rattle.nomos_check.specs.mirror.Standing.{amount_of, each_bound, shape_of, shape_of_list, HasPair, Joins}
+use Rattle.nomos_check.specs.mirror.StandingData.{amount_of, each_bound, shape_of, shape_of_list, HasPair, Joins}
 use Rattle.nomos_check.proofs.ListSteps.{list-bound}
 use Rattle.nomos_check.proofs.PairLemmas.{joins-none, joins-same}
 use Rattle.nomos_check.proofs.PassingSteps.{unbound-back}

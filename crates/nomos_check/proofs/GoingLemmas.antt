@@ -18,7 +18,7 @@ use Rattle.nomos_check.specs.Account.{Account}
 use Rattle.nomos_check.specs.declared.standing.Forks.{Forks}
 use Rattle.nomos_check.specs.declared.standing.Standing.{Standing}
 use Rattle.nomos_check.specs.declared.walk.Walk.{Walk}
-use Rattle.nomos_check.specs.mirror.Standing.{shape_of, HasAccount, LeadsTo, LeadsAlong}
+use Rattle.nomos_check.specs.mirror.StandingData.{shape_of, HasAccount, LeadsTo, LeadsAlong}
 use Rattle.nomos_check.specs.mirror.Walking.{IsReached, IsOpen, Visits, Going, Goes, Gathers, Grows, width}
 
 module _ (lists : ProgramLists) where

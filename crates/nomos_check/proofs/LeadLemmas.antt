@@ -13,8 +13,8 @@ use Rattle.nomos_check.specs.Accounting.{accounts_after}
 use Rattle.nomos_check.specs.declared.standing.Carried.{Carried}
 use Rattle.nomos_check.specs.declared.standing.Standing.{Standing}
 use Rattle.nomos_check.specs.declared.standing.Way.{Way}
-use Rattle.nomos_check.specs.mirror.Moves.{KeepsAmounts}
-use Rattle.nomos_check.specs.mirror.Standing.{shape_of, each_bound, amount_of, HasAccount, IsWayOf, LeadsAlong, LeadsTo, way_account, way_shape}
+use Rattle.nomos_check.specs.mirror.StepMoves.{KeepsAmounts}
+use Rattle.nomos_check.specs.mirror.StandingData.{shape_of, each_bound, amount_of, HasAccount, IsWayOf, LeadsAlong, LeadsTo, way_account, way_shape}
 
 -- a standing with the same lists and potential has the same accounts
 pub keeps-account : {n : ℕ} {s next : Standing} {a : Account} → KeepsAmounts s next → HasAccount n s a

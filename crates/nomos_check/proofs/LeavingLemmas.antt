@@ -19,7 +19,7 @@ use Rattle.nomos_check.specs.declared.standing.Forks.{Forks}
 use Rattle.nomos_check.specs.declared.standing.Standing.{Standing}
 use Rattle.nomos_check.specs.declared.standing.Way.{Way}
 use Rattle.nomos_check.specs.declared.walk.Walk.{Walk}
-use Rattle.nomos_check.specs.mirror.Standing.{shape_of, HasAccount, LeadsTo, LeadsAlong, way_shape, way_account}
+use Rattle.nomos_check.specs.mirror.StandingData.{shape_of, HasAccount, LeadsTo, LeadsAlong, way_shape, way_account}
 use Rattle.nomos_check.specs.mirror.Walking.{LeadsFrom, IsDone, AtStanding, IsPending, IsReached, IsOpen, Visits}
 
 -- the code leads from the one place to the other over a first instruction

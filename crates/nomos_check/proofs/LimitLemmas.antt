@@ -17,8 +17,8 @@ use Rattle.nomos_check.proofs.StarLaws.{program-star}
 use Rattle.nomos_check.specs.declared.standing.Carried.{Carried}
 use Rattle.nomos_check.specs.declared.standing.Standing.{Standing}
 use Rattle.nomos_check.specs.Room.{HasRoom}
-use Rattle.nomos_check.specs.mirror.Limits.{IsAmountOf}
-use Rattle.nomos_check.specs.mirror.Standing.{IsWithin}
+use Rattle.nomos_check.specs.mirror.FormLimits.{IsAmountOf}
+use Rattle.nomos_check.specs.mirror.StandingData.{IsWithin}
 
 -- an amount with a star up to n
 star-below : (n : ℕ) (r : Amount) → HasStarUpTo n r → star_of r ≤ n

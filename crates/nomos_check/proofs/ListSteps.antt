@@ -21,7 +21,7 @@ use Rattle.nomos_check.specs.declared.standing.Way.TheVariants as way
 use Rattle.nomos_check.specs.declared.standing.Carried.{Carried}
 use Rattle.nomos_check.specs.declared.standing.Standing.{Standing}
 use Rattle.nomos_check.specs.mirror.Finding.{FindsList}
-use Rattle.nomos_check.specs.mirror.Standing.{shape_of, shape_of_list, amount_of, each_bound, HasAccount, LeadsTo, LeadsAlong}
+use Rattle.nomos_check.specs.mirror.StandingData.{shape_of, shape_of_list, amount_of, each_bound, HasAccount, LeadsTo, LeadsAlong}
 use Rattle.nomos_check.proofs.LeadLemmas.{leads-with, leads-along, both-ways}
 use Rattle.nomos_check.proofs.StandingLemmas.{each-bind, each-bound, each-unbind}
 use Rattle.nomos_check.proofs.StepRows.{empty-steps, add-steps, match-steps}

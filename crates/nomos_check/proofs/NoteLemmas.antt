@@ -10,7 +10,7 @@ use Rattle.nomos_forms.specs.declared.form.Form.{Form}
 use Rattle.nomos_types.specs.Row.{StandsAtCode}
 use Rattle.nomos_check.specs.Account.{Account, spends, form_of}
 use Rattle.nomos_check.specs.declared.standing.Standing.{Standing}
-use Rattle.nomos_check.specs.mirror.Standing.{shape_of, HasAccount}
+use Rattle.nomos_check.specs.mirror.StandingData.{shape_of, HasAccount}
 use Rattle.nomos_check.specs.mirror.Walking.{IsPointAt}
 
 pushed : (old : List Form) (f g : Form) → f ≡ g → Contains (old ++ f ∷ []) g

@@ -21,7 +21,7 @@ use Rattle.nomos_check.specs.declared.asked.Asked.{Asked}
 use Rattle.nomos_check.specs.declared.standing.Standing.{Standing}
 use Rattle.nomos_check.specs.declared.standing.Step.{Step}
 use Rattle.nomos_check.specs.declared.standing.Step.TheVariants as step
-use Rattle.nomos_check.specs.mirror.Standing.{shape_of, Joins, StepAsks}
+use Rattle.nomos_check.specs.mirror.StandingData.{shape_of, Joins, StepAsks}
 use Rattle.nomos_check.proofs.AskingLaws.{AsksAt, asks-at, asked-at}
 use Rattle.nomos_check.proofs.ChannelLaws.{head-unique}
 use Rattle.nomos_check.proofs.SideLaws.{paid_amount-same, got_amount-same}

@@ -24,7 +24,7 @@ use Rattle.nomos_check.specs.Asking.{IsOfType}
 use Rattle.nomos_check.specs.declared.asked.Asked.{Asked}
 use Rattle.nomos_check.specs.declared.standing.Standing.{Standing}
 use Rattle.nomos_check.specs.mirror.Passing.{TellsAlike, TellsChannel, ChannelPassed, ChannelsPassed, PairOfChannels}
-use Rattle.nomos_check.specs.mirror.Standing.{shape_of, Joins, HasPair}
+use Rattle.nomos_check.specs.mirror.StandingData.{shape_of, Joins, HasPair}
 use Rattle.nomos_check.proofs.LeadLemmas.{keeps-through}
 
 -- ---- the type of a variable

@@ -17,7 +17,7 @@ use Rattle.nomos_types.specs.Amount.{dths}
 use Rattle.nomos_types.specs.Equality.{no_amounts}
 use Rattle.nomos_types.specs.Modes.{HasMode, IsLinearMode, may_hold}
 use Rattle.nomos_check.specs.declared.standing.Standing.{Standing}
-use Rattle.nomos_check.specs.mirror.Standing.{IsWithin, each_bound}
+use Rattle.nomos_check.specs.mirror.StandingData.{IsWithin, each_bound}
 
 module _ {X Y : Type 0} (f : X → Y) where
   abbrev change : VarId × X → VarId × Y

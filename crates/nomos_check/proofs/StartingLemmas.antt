@@ -24,9 +24,9 @@ use Rattle.nomos_check.proofs.StandingLemmas.{each-bind, dths-none}
 use Rattle.nomos_check.specs.Account.{Account, gains, form_of, carried_by, no_account}
 use Rattle.nomos_check.specs.declared.standing.Carried.{Carried}
 use Rattle.nomos_check.specs.Room.{HasRoom}
-use Rattle.nomos_check.specs.mirror.Limits.{IsAmountOf}
-use Rattle.nomos_check.specs.mirror.Standing.{each_bound, shape_of_list, amount_of}
-use Rattle.nomos_check.specs.mirror.Starting.{carried_par, kinds_of, lists_of, picks, IsStartOf}
+use Rattle.nomos_check.specs.mirror.FormLimits.{IsAmountOf}
+use Rattle.nomos_check.specs.mirror.StandingData.{each_bound, shape_of_list, amount_of}
+use Rattle.nomos_check.specs.mirror.StartingWalk.{carried_par, kinds_of, lists_of, picks, IsStartOf}
 
 -- channel parameters have the modes as which they are taken
 pub channels-have : (lists : ProgramLists) (p : ℕ) (d : ProcDecl) (cs : List (VarId × TypeId))

@@ -28,7 +28,7 @@ use Rattle.nomos_types.specs.Premises.{HasType, by_side, SendsLabel, AwaitsLabel
 use Rattle.nomos_types.specs.Row.{StandsAtCode, gives_up, without_list, takes_parts, Row}
 use Rattle.nomos_types.specs.Row as row
 use Rattle.nomos_types.proofs.RowLaws.{row-inverted}
-use Rattle.nomos_check.specs.mirror.Standing.{NoRow}
+use Rattle.nomos_check.specs.mirror.StandingData.{NoRow}
 
 -- ---- amounts are worth nothing
 

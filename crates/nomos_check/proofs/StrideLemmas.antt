@@ -20,7 +20,7 @@ use Rattle.nomos_check.specs.declared.standing.Step.{Step}
 use Rattle.nomos_check.specs.declared.standing.Step.TheVariants as step
 use Rattle.nomos_check.specs.declared.walk.Stuck.{Stuck}
 use Rattle.nomos_check.specs.declared.walk.Walk.{Walk}
-use Rattle.nomos_check.specs.mirror.Standing.{shape_of, HasAccount, NoRow, LeadsTo, LeadsAlong, StepTells, StepAsks, JoinsAsked}
+use Rattle.nomos_check.specs.mirror.StandingData.{shape_of, HasAccount, NoRow, LeadsTo, LeadsAlong, StepTells, StepAsks, JoinsAsked}
 use Rattle.nomos_check.specs.mirror.Stops.{first_stuck}
 use Rattle.nomos_check.specs.mirror.Walking.{HasRow, Notes, Visits, Going, Goes, IsOnWay}
 

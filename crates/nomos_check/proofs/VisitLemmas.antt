@@ -13,7 +13,7 @@ use Rattle.nomos_check.specs.Reaching.{IsFormOf, IsPoint}
 use Rattle.nomos_check.specs.declared.standing.Standing.{Standing}
 use Rattle.nomos_check.specs.declared.walk.Stuck.{Stuck}
 use Rattle.nomos_check.specs.declared.walk.Walk.{Walk}
-use Rattle.nomos_check.specs.mirror.Standing.{shape_of, HasAccount}
+use Rattle.nomos_check.specs.mirror.StandingData.{shape_of, HasAccount}
 use Rattle.nomos_check.specs.mirror.Walking.{IsPointAt, IsStuckBy, IsDone, Grows, Gathers, StuckOf, IsReached, IsFirstStop, Visits}
 
 -- what is stuck there

@@ -20,7 +20,7 @@ use Rattle.nomos_check.specs.declared.standing.Standing.{Standing}
 use Rattle.nomos_check.specs.declared.standing.Way.{Way}
 use Rattle.nomos_check.specs.declared.standing.Way.TheVariants as way
 use Rattle.nomos_check.specs.declared.walk.Walk.{Walk}
-use Rattle.nomos_check.specs.mirror.Standing.{shape_of, HasAccount, IsWithin, IsWayOf, way_shape, way_account}
+use Rattle.nomos_check.specs.mirror.StandingData.{shape_of, HasAccount, IsWithin, IsWayOf, way_shape, way_account}
 use Rattle.nomos_check.specs.mirror.Walking.{LeadsFrom, IsDone, Grows, Gathers, AtStanding, AlongWay, IsPending, IsReached, IsOpen, IsOnWay, IsWalk, WalksOn, Walking, Goes, way_next, weight, width, forks_work, work}
 use Rattle.nomos_check.specs.mirror.Ways.{HasWayRoom, GoesWay}
 

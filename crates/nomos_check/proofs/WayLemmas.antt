@@ -12,7 +12,7 @@ use Rattle.nomos_check.specs.declared.standing.Carried.{Carried}
 use Rattle.nomos_check.specs.declared.standing.Parts.{Parts}
 use Rattle.nomos_check.specs.declared.standing.Standing.{Standing}
 use Rattle.nomos_check.specs.declared.standing.Way.TheVariants as way
-use Rattle.nomos_check.specs.mirror.Standing.{shape_of, shape_of_list, amount_of, each_bound}
+use Rattle.nomos_check.specs.mirror.StandingData.{shape_of, shape_of_list, amount_of, each_bound}
 use Rattle.nomos_check.specs.mirror.Ways.{GoesWay}
 
 -- a list is taken apart

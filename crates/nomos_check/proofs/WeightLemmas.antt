@@ -20,7 +20,7 @@ use Rattle.nomos_check.proofs.StuckLaws.{row-descends}
 use Rattle.nomos_check.specs.declared.standing.Forks.{Forks}
 use Rattle.nomos_check.specs.declared.standing.Way.{Way}
 use Rattle.nomos_check.specs.declared.standing.Way.TheVariants as way
-use Rattle.nomos_check.specs.mirror.Standing.{shape_of, way_shape, LeadsAlong}
+use Rattle.nomos_check.specs.mirror.StandingData.{shape_of, way_shape, LeadsAlong}
 use Rattle.nomos_check.specs.mirror.Walking.{width, weight, way_next, forks_work, work}
 
 -- a weight times two and some more

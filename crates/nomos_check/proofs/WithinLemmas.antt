@@ -24,7 +24,7 @@ use Rattle.nomos_check.specs.Accounting.{accounts_after}
 use Rattle.nomos_check.specs.Reaching.{GetsTo, IsPoint}
 use Rattle.nomos_check.specs.declared.standing.Carried.{Carried}
 use Rattle.nomos_check.specs.declared.standing.Standing.{Standing}
-use Rattle.nomos_check.specs.mirror.Standing.{shape_of, each_bound, amount_of, HasAccount, IsWithin}
+use Rattle.nomos_check.specs.mirror.StandingData.{shape_of, each_bound, amount_of, HasAccount, IsWithin}
 use Rattle.nomos_check.specs.mirror.Walking.{IsOnWay}
 
 -- what holds of all that is mapped holds of what it is mapped from

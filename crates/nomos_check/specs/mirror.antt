@@ -1,14 +1,14 @@
 -- What private calls answer; no promise stands on these.
-pub mod Answers
+pub mod ProcessAnswers
 pub mod Cases
 pub mod Finding
 pub mod Fresh
-pub mod Limits
-pub mod Moves
+pub mod FormLimits
+pub mod StepMoves
 pub mod Passing
 pub mod Places
-pub mod Standing
-pub mod Starting
+pub mod StandingData
+pub mod StartingWalk
 pub mod Stops
 pub mod Walking
 pub mod Ways

@@ -6,7 +6,7 @@ ghost use Rattle.nomos_ir.specs.Ids.{AllBelow};
 ghost use Rattle.nomos_types.specs.Judgement.{IsJudgement};
 ghost use Rattle.nomos_types.specs.Typed.{IsWellFormed};
 ghost use Rattle.nomos_check.specs.mirror.Passing.{TellsArguments};
-ghost use Rattle.nomos_check.specs.mirror.Standing.{shape_of, IsReady};
+ghost use Rattle.nomos_check.specs.mirror.StandingData.{shape_of, IsReady};
 
 use crate::asked::Asked;
 use crate::giving::pass_values;

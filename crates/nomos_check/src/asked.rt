@@ -1,6 +1,6 @@
 //! Which pairs of amounts the instructions of a process need to be worth the same.
 ghost use Rattle.std.specs.Prelude.{◌≡◌, OnOk};
-ghost use Rattle.nomos_check.specs.mirror.Standing.{Joins};
+ghost use Rattle.nomos_check.specs.mirror.StandingData.{Joins};
 
 use nomos_equality::equalities::Equalities;
 use nomos_ir::amount::Amount;

@@ -1,7 +1,7 @@
 //! Where a way of an instruction begins.
 ghost use Rattle.std.specs.Prelude.{◌≡◌, ℕ, IfOk, OnOk};
 ghost use Rattle.nomos_check.specs.Account.{Account};
-ghost use Rattle.nomos_check.specs.mirror.Standing.{shape_of, HasAccount, way_shape, way_account};
+ghost use Rattle.nomos_check.specs.mirror.StandingData.{shape_of, HasAccount, way_shape, way_account};
 ghost use Rattle.nomos_check.specs.mirror.Ways.{HasWayRoom, GoesWay};
 ghost use Rattle.nomos_check.specs.declared.standing.Way.{Way};
 

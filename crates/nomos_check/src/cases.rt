@@ -6,7 +6,7 @@ ghost use Rattle.nomos_ir.specs.declared.ids.Label.{Label};
 ghost use Rattle.nomos_types.specs.Row.{StandsAtCode};
 ghost use Rattle.nomos_types.specs.Typed.{IsWellFormed};
 ghost use Rattle.nomos_check.specs.mirror.Cases.{AreWays, HasArm, HasOddArm};
-ghost use Rattle.nomos_check.specs.mirror.Standing.{shape_of, IsWithin, StepTells};
+ghost use Rattle.nomos_check.specs.mirror.StandingData.{shape_of, IsWithin, StepTells};
 
 use crate::chances::awaits_choice;
 use crate::standing::{Standing, Step, Way};

@@ -4,7 +4,7 @@ ghost use Rattle.nomos_ir.specs.declared.type_node.TypeNode.{TypeNode};
 ghost use Rattle.nomos_types.specs.Premises.{HasType, by_side};
 ghost use Rattle.nomos_types.specs.Typed.{IsWellFormed};
 ghost use Rattle.nomos_check.specs.mirror.Finding.{IsFound};
-ghost use Rattle.nomos_check.specs.mirror.Standing.{shape_of, IsWithin};
+ghost use Rattle.nomos_check.specs.mirror.StandingData.{shape_of, IsWithin};
 
 use crate::channels::channel_node;
 use crate::sides::{

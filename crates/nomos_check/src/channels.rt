@@ -6,8 +6,8 @@ ghost use Rattle.nomos_types.specs.Premises.{HasType};
 ghost use Rattle.nomos_types.specs.Row.{gives_up};
 ghost use Rattle.nomos_types.specs.Typed.{IsWellFormed};
 ghost use Rattle.nomos_check.specs.mirror.Finding.{IsFound};
-ghost use Rattle.nomos_check.specs.mirror.Moves.{KeepsAmounts};
-ghost use Rattle.nomos_check.specs.mirror.Standing.{shape_of, IsWithin};
+ghost use Rattle.nomos_check.specs.mirror.StepMoves.{KeepsAmounts};
+ghost use Rattle.nomos_check.specs.mirror.StandingData.{shape_of, IsWithin};
 
 use crate::standing::Standing;
 use nomos_ir::code_node::Chan;

@@ -7,9 +7,9 @@ ghost use Rattle.nomos_equality.specs.Comparing.{HasCompared};
 ghost use Rattle.nomos_types.specs.Typed.{IsWellFormed};
 ghost use Rattle.nomos_check.specs.Checker.{IsCheckerOf};
 ghost use Rattle.nomos_check.specs.Checking.{AnswersProcess, AnswersBeside};
-ghost use Rattle.nomos_check.specs.mirror.Answers.{GathersAll, JoinsPairs};
+ghost use Rattle.nomos_check.specs.mirror.ProcessAnswers.{GathersAll, JoinsPairs};
 ghost use Rattle.nomos_check.specs.mirror.Fresh.{IsFresh};
-ghost use Rattle.nomos_check.specs.mirror.Standing.{IsReady};
+ghost use Rattle.nomos_check.specs.mirror.StandingData.{IsReady};
 
 use crate::asked::Asked;
 use crate::checker::Checker;

@@ -2,7 +2,7 @@
 ghost use Rattle.std.specs.Prelude.{◌<◌, IfOk, length};
 ghost use Rattle.nomos_types.specs.Typed.{IsWellFormed};
 ghost use Rattle.nomos_check.specs.mirror.Passing.{TellsAlike};
-ghost use Rattle.nomos_check.specs.mirror.Standing.{IsReady};
+ghost use Rattle.nomos_check.specs.mirror.StandingData.{IsReady};
 
 use crate::asked::Asked;
 use crate::modes::{is_mode, mode_of};

@@ -5,7 +5,7 @@ ghost use Rattle.nomos_ir.specs.Bindings.{IsAscending};
 ghost use Rattle.nomos_ir.specs.CodeParts.{arg_terms};
 ghost use Rattle.nomos_ir.specs.Ids.{AllBelow};
 ghost use Rattle.nomos_check.specs.mirror.Passing.{TellsList, TellsValue, TellsValues};
-ghost use Rattle.nomos_check.specs.mirror.Standing.{shape_of, IsReady};
+ghost use Rattle.nomos_check.specs.mirror.StandingData.{shape_of, IsReady};
 
 use crate::asked::Asked;
 use crate::standing::Standing;

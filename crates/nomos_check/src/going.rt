@@ -2,7 +2,7 @@
 ghost use Rattle.std.specs.Prelude.{◌<◌, [], ◌∷◌, OnOk};
 ghost use Rattle.nomos_ir.specs.Amounts.{star_count};
 ghost use Rattle.nomos_types.specs.Typed.{IsWellFormed};
-ghost use Rattle.nomos_check.specs.mirror.Standing.{IsReady};
+ghost use Rattle.nomos_check.specs.mirror.StandingData.{IsReady};
 ghost use Rattle.nomos_check.specs.mirror.Walking.{IsOnWay, Goes, IsWalk, WalksOn, width, work};
 
 use crate::branch::along;

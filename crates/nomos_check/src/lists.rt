@@ -4,7 +4,7 @@ ghost use Rattle.nomos_ir.specs.declared.code_node.CodeNode.{CodeNode};
 ghost use Rattle.nomos_types.specs.Premises.{Adds, TakesApart};
 ghost use Rattle.nomos_types.specs.Row.{StandsAtCode};
 ghost use Rattle.nomos_check.specs.mirror.Finding.{FindsList};
-ghost use Rattle.nomos_check.specs.mirror.Standing.{shape_of, IsWithin, StepTells};
+ghost use Rattle.nomos_check.specs.mirror.StandingData.{shape_of, IsWithin, StepTells};
 
 use crate::operands::{Adding, Matching};
 use crate::standing::{Carried, Parts, Standing, Step, Way};

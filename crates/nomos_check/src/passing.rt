@@ -3,7 +3,7 @@ ghost use Rattle.std.specs.Prelude.{◌<◌, All, IfOk, length};
 ghost use Rattle.nomos_types.specs.Judgement.{IsJudgement};
 ghost use Rattle.nomos_types.specs.Typed.{IsWellFormed};
 ghost use Rattle.nomos_check.specs.mirror.Passing.{TellsChannel, TellsChannels};
-ghost use Rattle.nomos_check.specs.mirror.Standing.{shape_of, IsReady};
+ghost use Rattle.nomos_check.specs.mirror.StandingData.{shape_of, IsReady};
 
 use crate::asked::Asked;
 use crate::comparing::are_alike;

@@ -12,7 +12,7 @@ ghost use Rattle.nomos_types.specs.Premises.{Accepts, Acquires, Detaches, Releas
 ghost use Rattle.nomos_types.specs.Row.{StandsAtCode};
 ghost use Rattle.nomos_types.specs.Typed.{IsWellFormed};
 ghost use Rattle.nomos_check.specs.mirror.Finding.{IsFound};
-ghost use Rattle.nomos_check.specs.mirror.Standing.{shape_of, IsWithin, StepTells};
+ghost use Rattle.nomos_check.specs.mirror.StandingData.{shape_of, IsWithin, StepTells};
 
 use crate::chances::{accepts, detaches};
 use crate::channels::give_up;

@@ -3,7 +3,7 @@ ghost use Rattle.std.specs.Prelude.{◌≡◌, ℕ, IfOk};
 ghost use Rattle.nomos_ir.specs.declared.code_node.CodeNode.{CodeNode};
 ghost use Rattle.nomos_types.specs.Row.{StandsAtCode};
 ghost use Rattle.nomos_types.specs.Typed.{IsWellFormed};
-ghost use Rattle.nomos_check.specs.mirror.Standing.{shape_of, IsReady, IsWithin, StepAsks, StepTells};
+ghost use Rattle.nomos_check.specs.mirror.StandingData.{shape_of, IsReady, IsWithin, StepAsks, StepTells};
 
 use crate::arguments::pass_arguments;
 use crate::asked::Asked;

@@ -9,7 +9,7 @@ ghost use Rattle.nomos_types.specs.ModeTable.{AreModesOf};
 ghost use Rattle.nomos_types.specs.Modes.{HasMode, parameter_mode};
 ghost use Rattle.nomos_types.specs.Typed.{IsWellFormed};
 ghost use Rattle.nomos_check.specs.Checker.{IsCheckerOf};
-ghost use Rattle.nomos_check.specs.mirror.Starting.{bind_all, carried_par, kinds_of, lists_of, picks, one_if, IsStartOf};
+ghost use Rattle.nomos_check.specs.mirror.StartingWalk.{bind_all, carried_par, kinds_of, lists_of, picks, one_if, IsStartOf};
 
 use crate::bound::Bound;
 use crate::checker::Checker;

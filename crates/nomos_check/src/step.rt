@@ -1,7 +1,7 @@
 //! One step along the code of a process.
 ghost use Rattle.std.specs.Prelude.{IfOk};
 ghost use Rattle.nomos_types.specs.Typed.{IsWellFormed};
-ghost use Rattle.nomos_check.specs.mirror.Standing.{IsReady, IsWithin, StepAsks, StepTells};
+ghost use Rattle.nomos_check.specs.mirror.StandingData.{IsReady, IsWithin, StepAsks, StepTells};
 
 use crate::asked::Asked;
 use crate::cases::at_case;

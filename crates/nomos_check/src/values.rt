@@ -7,7 +7,7 @@ ghost use Rattle.nomos_types.specs.Premises.{ReceivesValue, SendsValue};
 ghost use Rattle.nomos_types.specs.Row.{StandsAtCode};
 ghost use Rattle.nomos_types.specs.Typed.{IsWellFormed};
 ghost use Rattle.nomos_check.specs.mirror.Finding.{IsFound};
-ghost use Rattle.nomos_check.specs.mirror.Standing.{shape_of, IsWithin, StepTells};
+ghost use Rattle.nomos_check.specs.mirror.StandingData.{shape_of, IsWithin, StepTells};
 
 use crate::chances::{receives_value, sends_value};
 use crate::channels::go_on;

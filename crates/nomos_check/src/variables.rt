@@ -3,8 +3,8 @@ ghost use Rattle.std.specs.Prelude.{◌≡◌, ◌<◌, ◌↔◌, IsTrue, IfOk,
 ghost use Rattle.nomos_ir.specs.TermKind.{HasKind};
 ghost use Rattle.nomos_types.specs.Judgement.{IsFree, at_code, binds_channel, binds_value};
 ghost use Rattle.nomos_check.specs.mirror.Finding.{IsFound};
-ghost use Rattle.nomos_check.specs.mirror.Moves.{KeepsAmounts};
-ghost use Rattle.nomos_check.specs.mirror.Standing.{shape_of};
+ghost use Rattle.nomos_check.specs.mirror.StepMoves.{KeepsAmounts};
+ghost use Rattle.nomos_check.specs.mirror.StandingData.{shape_of};
 
 use crate::standing::Standing;
 use nomos_ir::ids::{CodeId, TermId, TypeId, VarId};

@@ -5,7 +5,7 @@ ghost use Rattle.nomos_check.specs.Account.{Account, spends, form_of};
 ghost use Rattle.nomos_ir.specs.Instruction.{code_offset, code_form};
 ghost use Rattle.nomos_check.specs.mirror.Fresh.{IsFresh};
 ghost use Rattle.nomos_check.specs.Room.{HasRoom};
-ghost use Rattle.nomos_check.specs.mirror.Standing.{IsWithin};
+ghost use Rattle.nomos_check.specs.mirror.StandingData.{IsWithin};
 ghost use Rattle.nomos_check.specs.mirror.Stops.{first_stuck};
 ghost use Rattle.nomos_check.specs.mirror.Walking.{Notes};
 

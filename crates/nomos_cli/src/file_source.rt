@@ -2,7 +2,7 @@
 
 ghost use Rattle.std.specs.Prelude.{◌≡◌, ℕ, ◌<◌, ◌≤◌, length, None};
 ghost use Rattle.nomos_base.specs.Source.{Reads};
-ghost use Rattle.nomos_cli.specs.Counting.{count_after_read, GetsSome};
+ghost use Rattle.nomos_cli.specs.FaultCounting.{count_after_read, GetsSome};
 
 use nomos_base::{Got, Source};
 use std::fs::File;

@@ -2,7 +2,7 @@
 
 ghost use Rattle.std.specs.Prelude.{◌≡◌, ℕ, ◌<◌, ◌≤◌, length, None};
 ghost use Rattle.nomos_base.specs.Sink.{Writes};
-ghost use Rattle.nomos_cli.specs.Counting.{count_after_write, PutsSome};
+ghost use Rattle.nomos_cli.specs.FaultCounting.{count_after_write, PutsSome};
 
 use nomos_base::{Put, Sink};
 use std::io::{Stdout, Write};

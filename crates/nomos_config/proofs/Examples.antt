@@ -1,6 +1,6 @@
 -- The machine on two small contracts, state by state.
 use Rattle.std.proofs.Common.{◌≡◌, ◌∷◌, [], length, Some, None, option_map, refl}
-use Rattle.nomos_config.specs.Example.{bits, t, at_start, spawned_coin, sent_label, took_branch, closed_coin, waited_for, all_done, loops, go}
+use Rattle.nomos_config.specs.MachineExample.{bits, t, at_start, spawned_coin, sent_label, took_branch, closed_coin, waited_for, all_done, loops, go}
 use Rattle.nomos_config.specs.Run.{run}
 use Rattle.nomos_config.specs.Start.{opened, started}
 use Rattle.nomos_config.specs.State.{State, empty}

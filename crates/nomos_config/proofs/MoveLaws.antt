@@ -21,7 +21,7 @@ use Rattle.nomos_config.specs.Objects.{is_process, process_place, process_of, me
 use Rattle.nomos_config.specs.Keeping.{process_at}
 use Rattle.nomos_config.specs.State.{State}
 use Rattle.nomos_config.specs.Step.{tidied, moved, fired, step}
-use Rattle.nomos_config.specs.Types.{NameTypes}
+use Rattle.nomos_config.specs.TypeTable.{NameTypes}
 use Rattle.nomos_config.specs.declared.moves.Move.{Move}
 use Rattle.nomos_config.specs.declared.moves.Move.TheVariants as move
 use Rattle.nomos_config.specs.declared.object.Message.{Message}

@@ -1,7 +1,7 @@
 pub mod Channels
 pub mod Objects
 pub mod State
-pub mod Types
+pub mod TypeTable
 pub mod Moves
 pub mod Step
 pub mod Run
@@ -9,4 +9,4 @@ pub mod Start
 pub mod Keeping
 pub mod Views
 pub mod Parts
-pub mod Example
+pub mod MachineExample

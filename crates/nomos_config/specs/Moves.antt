@@ -16,7 +16,7 @@ use Rattle.nomos_types.specs.Acceptance.{Acceptance}
 use Rattle.nomos_types.specs.Amount.{dths}
 use Rattle.nomos_config.specs.Channels.{name_in}
 use Rattle.nomos_config.specs.Objects.{message_place, message_of}
-use Rattle.nomos_config.specs.Types.{NameTypes, type_of_name, after_label}
+use Rattle.nomos_config.specs.TypeTable.{NameTypes, type_of_name, after_label}
 use Rattle.nomos_config.specs.declared.moves.Move.{Move}
 use Rattle.nomos_config.specs.declared.moves.Move.TheVariants as move
 use Rattle.nomos_config.specs.declared.object.Message.{Message}

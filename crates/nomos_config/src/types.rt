@@ -2,7 +2,7 @@
 ghost use Rattle.std.specs.Prelude.{◌≡◌, ◌<◌, length, option_copied, option_and_then};
 ghost use Rattle.nomos_ir.specs.Unfold.{unfolded};
 ghost use Rattle.nomos_types.specs.Branches.{goes_by};
-ghost use Rattle.nomos_config.specs.Types.{branches_of, type_of_name, after_label};
+ghost use Rattle.nomos_config.specs.TypeTable.{branches_of, type_of_name, after_label};
 
 use nomos_ir::ids::{Label, TypeId};
 use nomos_ir::program::Program;

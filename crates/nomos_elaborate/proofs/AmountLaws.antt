@@ -9,7 +9,7 @@ use Rattle.nomos_ir.specs.Amounts.{IsAmount, AmountsAreSmall, proc_amounts}
 use Rattle.nomos_ir.specs.CodeParts.{code_amounts}
 use Rattle.nomos_ir.specs.TypeParts.{type_amounts}
 use Rattle.nomos_ir.specs.declared.type_node.TypeAt.{TypeAt}
-use Rattle.nomos_surface.specs.Bounds.{IsWithinLimits}
+use Rattle.nomos_surface.specs.TreeBounds.{IsWithinLimits}
 use Rattle.nomos_surface.specs.Tree.{FileTree}
 
 -- what holds of all that each item gives holds of all that the list gives

@@ -1,7 +1,7 @@
 -- What the code answers is what is to be answered.
 use Rattle.std.proofs.Common.{◌≡◌, ℕ, Option, Some, None, Ok, Err, refl, sym, ◌∙◌}
 use Rattle.nomos_elaborate.proofs.FileLaws.{lists_law}
-use Rattle.nomos_elaborate.specs.Answer.{Answers, ObeysNames}
+use Rattle.nomos_elaborate.specs.Elaborated.{Answers, ObeysNames}
 use Rattle.nomos_elaborate.specs.NameClaim.{first_broken}
 use Rattle.nomos_elaborate.specs.FileBuild.{program_of}
 use Rattle.nomos_elaborate.specs.FileClaims.{claims_of}

@@ -28,7 +28,7 @@ use Rattle.nomos_ir.specs.declared.kind.Kind.{Kind}
 use Rattle.nomos_ir.specs.declared.mode.Mode.TheVariants as mode
 use Rattle.nomos_ir.specs.declared.type_node.Def.{Def}
 use Rattle.nomos_ir.specs.declared.type_node.TypeNode.TheVariants as node
-use Rattle.nomos_surface.specs.Bounds.{IsWithinLimits, KeepsName, KeepsOptional, KeepsListPotential, KeepsValuePar, KeepsPar, KeepsChanPar, KeepsDecl}
+use Rattle.nomos_surface.specs.TreeBounds.{IsWithinLimits, KeepsName, KeepsOptional, KeepsListPotential, KeepsValuePar, KeepsPar, KeepsChanPar, KeepsDecl}
 use Rattle.nomos_surface.specs.Counts.{Count, in_each, in_optional, in_list_potential, in_value_par, in_par, in_chan_par, in_decl, in_file}
 use Rattle.nomos_surface.specs.Grammatical.{Each}
 use Rattle.nomos_surface.specs.declared.declarations.ListPotential.{ListPotential}

@@ -6,7 +6,7 @@ use Rattle.nomos_elaborate.specs.declared.spaces.Spaces.{Spaces}
 use Rattle.nomos_elaborate.specs.mirror.Checked.{found}
 use Rattle.nomos_elaborate.specs.mirror.Entries.{MayMake, how_many_names}
 use Rattle.nomos_elaborate.specs.mirror.FileCheck.{Progress, begun}
-use Rattle.nomos_surface.specs.Bounds.{IsWithinLimits}
+use Rattle.nomos_surface.specs.TreeBounds.{IsWithinLimits}
 use Rattle.nomos_surface.specs.Counts.{in_decl, in_each, in_type}
 use Rattle.nomos_surface.specs.declared.surface.CostModel.{CostModel}
 use Rattle.nomos_surface.specs.Tree.{TypeTree, one, named, choice, channel, valued, paying, going_up, going_down, grouped, DeclTree, definition, function, process, transaction, FileTree}

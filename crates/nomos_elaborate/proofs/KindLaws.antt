@@ -2,7 +2,7 @@
 use Rattle.nomos_elaborate.proofs.DeclMaking.{tree-keeps}
 use Rattle.nomos_elaborate.specs.FileBuild.{program_of}
 use Rattle.nomos_ir.specs.Kinds.{KindsAreShallow}
-use Rattle.nomos_surface.specs.Bounds.{IsWithinLimits}
+use Rattle.nomos_surface.specs.TreeBounds.{IsWithinLimits}
 use Rattle.nomos_surface.specs.Tree.{FileTree}
 
 pub kinds-shallow : (tree : FileTree) → IsWithinLimits tree → KindsAreShallow (program_of tree)

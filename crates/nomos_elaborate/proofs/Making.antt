@@ -22,7 +22,7 @@ use Rattle.nomos_ir.specs.declared.ids.CodeId.{CodeId}
 use Rattle.nomos_ir.specs.declared.term_node.TermNode.{TermNode}
 use Rattle.nomos_ir.specs.declared.type_node.TypeAt.{TypeAt}
 use Rattle.nomos_ir.specs.declared.type_node.TypeNode.{TypeNode}
-use Rattle.nomos_surface.specs.Bounds.{KeepsName, KeepsQuantity, KeepsPotential}
+use Rattle.nomos_surface.specs.TreeBounds.{KeepsName, KeepsQuantity, KeepsPotential}
 use Rattle.nomos_surface.specs.Counts.{Count, nothing, ◌⊕◌, in_quantity, in_potential}
 use Rattle.nomos_surface.specs.declared.name_at.NameAt.{NameAt}
 use Rattle.nomos_surface.specs.declared.potential.Potential.{Potential}

@@ -8,7 +8,7 @@ use Rattle.nomos_elaborate.proofs.DistinctNames.{AllNamesDiffer, pairs_of, none_
 use Rattle.nomos_elaborate.proofs.KeptLabels.{labelled, LabelsHold, KeepsLabels, keeps-none, keeps-then, keeps-same, keeps-put_type, amount-labelled, term-labelled}
 use Rattle.nomos_elaborate.proofs.ParameterNames.{value_pars-differ, pars-differ, payer-differs}
 use Rattle.nomos_elaborate.proofs.TypeLabels.{new_is_out, type-keeps}
-use Rattle.nomos_elaborate.specs.Answer.{ObeysNames}
+use Rattle.nomos_elaborate.specs.Elaborated.{ObeysNames}
 use Rattle.nomos_elaborate.specs.Built.{Built, nothing_built, with_variable, put_type}
 use Rattle.nomos_elaborate.specs.NameClaim.{NameClaim, new_among, new_on_way}
 use Rattle.nomos_elaborate.specs.CodeClaims.{Place, code_claims}
@@ -31,7 +31,7 @@ use Rattle.nomos_ir.specs.TypeParts.{type_labels}
 use Rattle.nomos_ir.specs.declared.declaration.ProcDecl.{ProcDecl}
 use Rattle.nomos_ir.specs.declared.mode.Mode.TheVariants as mode
 use Rattle.nomos_ir.specs.declared.type_node.TypeNode.TheVariants as node
-use Rattle.nomos_surface.specs.Bounds.{KeepsDecl, IsWithinLimits}
+use Rattle.nomos_surface.specs.TreeBounds.{KeepsDecl, IsWithinLimits}
 use Rattle.nomos_surface.specs.Grammatical.{Each}
 use Rattle.nomos_surface.specs.declared.declarations.ListPotential.{ListPotential}
 use Rattle.nomos_surface.specs.declared.declarations.OfferedMode.{OfferedMode}

@@ -21,7 +21,7 @@ use Rattle.nomos_elaborate.specs.declared.sort.Sort.TheVariants as sort
 use Rattle.nomos_ir.specs.Name.{IsShortName}
 use Rattle.nomos_ir.specs.Naming.{AllDiffer}
 use Rattle.nomos_ir.specs.declared.word.Word.TheVariants as word
-use Rattle.nomos_surface.specs.Bounds.{KeepsPar, KeepsChanPar, KeepsPars}
+use Rattle.nomos_surface.specs.TreeBounds.{KeepsPar, KeepsChanPar, KeepsPars}
 use Rattle.nomos_surface.specs.Grammatical.{Each}
 use Rattle.nomos_surface.specs.declared.declarations.ListPotential.{ListPotential}
 use Rattle.nomos_surface.specs.declared.declarations.ProcessPar.{ProcessPar}

@@ -8,10 +8,10 @@ use Rattle.nomos_elaborate.proofs.RangeLaws.{ids-in-range}
 use Rattle.nomos_elaborate.proofs.ShortLaws.{names-short}
 use Rattle.nomos_elaborate.proofs.SizeLaws.{small}
 use Rattle.nomos_elaborate.proofs.TypesOnce.{types-once}
-use Rattle.nomos_elaborate.specs.Answer.{ObeysNames}
+use Rattle.nomos_elaborate.specs.Elaborated.{ObeysNames}
 use Rattle.nomos_elaborate.specs.FileBuild.{program_of}
 use Rattle.nomos_ir.specs.Program.{IsProgram}
-use Rattle.nomos_surface.specs.Bounds.{IsWithinLimits}
+use Rattle.nomos_surface.specs.TreeBounds.{IsWithinLimits}
 use Rattle.nomos_surface.specs.Tree.{FileTree}
 
 pub is-program : (tree : FileTree) → IsWithinLimits tree → ObeysNames tree → IsProgram (program_of tree)

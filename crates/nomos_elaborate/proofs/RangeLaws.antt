@@ -3,7 +3,7 @@ use Rattle.std.proofs.Common.{◌≡◌, ◌+◌, Bool, true, false, not, List, 
 use Rattle.nomos_elaborate.proofs.BuiltRange.{TypeFits, TermFits, CodeFits}
 use Rattle.nomos_elaborate.proofs.NameClaimLaws.{AllHold, first_holds, left_hold, right_hold}
 use Rattle.nomos_elaborate.proofs.DeclRange.{ProcFits, DeclaredInRange, DeclaredInRange-none, decls_made}
-use Rattle.nomos_elaborate.specs.Answer.{ObeysNames}
+use Rattle.nomos_elaborate.specs.Elaborated.{ObeysNames}
 use Rattle.nomos_elaborate.specs.NameClaim.{new_among}
 use Rattle.nomos_elaborate.specs.CodeClaims.{code_claims}
 use Rattle.nomos_elaborate.specs.CostModel.{model_of}

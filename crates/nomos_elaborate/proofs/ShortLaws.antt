@@ -2,7 +2,7 @@
 use Rattle.nomos_elaborate.proofs.DeclMaking.{tree-keeps}
 use Rattle.nomos_elaborate.specs.FileBuild.{program_of}
 use Rattle.nomos_ir.specs.Naming.{NamesAreShort}
-use Rattle.nomos_surface.specs.Bounds.{IsWithinLimits}
+use Rattle.nomos_surface.specs.TreeBounds.{IsWithinLimits}
 use Rattle.nomos_surface.specs.Tree.{FileTree}
 
 pub names-short : (tree : FileTree) → IsWithinLimits tree → NamesAreShort (program_of tree)

@@ -23,7 +23,7 @@ use Rattle.nomos_ir.specs.declared.ids.TermId.{TermId}
 use Rattle.nomos_ir.specs.declared.ids.TypeId.{TypeId}
 use Rattle.nomos_ir.specs.declared.kind.Kind.{Kind}
 use Rattle.nomos_ir.specs.declared.type_node.Branch.{Branch}
-use Rattle.nomos_surface.specs.Bounds.{KeepsName, KeepsType, KeepsBranches, KeepsTerm, KeepsTerms, KeepsArgs, KeepsStep, KeepsCode, KeepsLast, KeepsArms}
+use Rattle.nomos_surface.specs.TreeBounds.{KeepsName, KeepsType, KeepsBranches, KeepsTerm, KeepsTerms, KeepsArgs, KeepsStep, KeepsCode, KeepsLast, KeepsArms}
 use Rattle.nomos_surface.specs.Counts.{Count, in_each, in_type, in_branches, in_term, in_terms, in_args, in_step, in_code, in_last, in_arms, ◌⊕◌}
 use Rattle.nomos_surface.specs.Grammatical.{Each}
 use Rattle.nomos_surface.specs.declared.name_at.NameAt.{NameAt}

@@ -1,4 +1,4 @@
-pub mod Answer
+pub mod Elaborated
 pub mod Built
 pub mod NameClaim
 pub mod CodeBuild

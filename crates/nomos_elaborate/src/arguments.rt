@@ -6,7 +6,7 @@ ghost use Rattle.nomos_elaborate.specs.mirror.Checked.{Gives};
 ghost use Rattle.nomos_elaborate.specs.mirror.CodeCheck.{check_argument, check_arguments, check_channel, check_passed};
 ghost use Rattle.nomos_elaborate.specs.mirror.Each.{each};
 ghost use Rattle.nomos_elaborate.specs.mirror.Entries.{MakesAtMost, MayMake, all_entries, entry_limit};
-ghost use Rattle.nomos_surface.specs.Bounds.{KeepsArgs, KeepsTerm};
+ghost use Rattle.nomos_surface.specs.TreeBounds.{KeepsArgs, KeepsTerm};
 ghost use Rattle.nomos_surface.specs.Counts.{in_args, in_each, in_term};
 ghost use Rattle.nomos_surface.specs.Grammatical.{Each};
 ghost use Rattle.nomos_surface.specs.StepView.{arg_trees};

@@ -5,7 +5,7 @@ ghost use Rattle.nomos_elaborate.specs.mirror.CodeCheck.{arms_alone, check_arm, 
 ghost use Rattle.nomos_elaborate.specs.mirror.Each.{each};
 ghost use Rattle.nomos_elaborate.specs.mirror.Entries.{MakesAtMost, MayMake, all_entries, entry_limit, most_of};
 ghost use Rattle.nomos_elaborate.specs.mirror.TermCheck.{kept};
-ghost use Rattle.nomos_surface.specs.Bounds.{KeepsArms, KeepsCode, KeepsLast, KeepsStep};
+ghost use Rattle.nomos_surface.specs.TreeBounds.{KeepsArms, KeepsCode, KeepsLast, KeepsStep};
 ghost use Rattle.nomos_surface.specs.CodeView.{arm_tree, arm_trees, code_tree, last_tree};
 ghost use Rattle.nomos_surface.specs.Counts.{in_arms, in_code, in_each, in_last, in_step};
 ghost use Rattle.nomos_surface.specs.Grammatical.{Each};

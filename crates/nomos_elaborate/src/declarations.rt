@@ -8,7 +8,7 @@ ghost use Rattle.nomos_elaborate.specs.mirror.Each.{each};
 ghost use Rattle.nomos_elaborate.specs.mirror.FileCheck.{at_head, check_chan_par, check_def, check_fn, check_pars, check_proc, check_process_par, check_transaction, check_value_par, head};
 ghost use Rattle.nomos_elaborate.specs.mirror.Entries.{MakesAtMost, MayMake, all_entries, entry_limit};
 ghost use Rattle.nomos_elaborate.specs.mirror.Work.{made};
-ghost use Rattle.nomos_surface.specs.Bounds.{KeepsChanPar, KeepsDecl, KeepsPar, KeepsPars, KeepsValuePar};
+ghost use Rattle.nomos_surface.specs.TreeBounds.{KeepsChanPar, KeepsDecl, KeepsPar, KeepsPars, KeepsValuePar};
 ghost use Rattle.nomos_surface.specs.CodeView.{code_tree};
 ghost use Rattle.nomos_surface.specs.Counts.{in_chan_par, in_decl, in_each, in_optional, in_par, in_pars, in_value_par};
 ghost use Rattle.nomos_surface.specs.FileView.{chan_par_tree, decl_tree, par_trees};

@@ -1,9 +1,9 @@
 //! From the tree of a text to its program.
 ghost use Rattle.std.specs.Prelude.{◌≤◌, length, IfOk};
-ghost use Rattle.nomos_elaborate.specs.Answer.{Answers};
+ghost use Rattle.nomos_elaborate.specs.Elaborated.{Answers};
 ghost use Rattle.nomos_elaborate.specs.mirror.Checked.{Gives, found};
 ghost use Rattle.nomos_elaborate.specs.mirror.FileCheck.{check_lists, lists_made};
-ghost use Rattle.nomos_surface.specs.Bounds.{IsWithinLimits};
+ghost use Rattle.nomos_surface.specs.TreeBounds.{IsWithinLimits};
 ghost use Rattle.nomos_surface.specs.FileView.{file_tree};
 ghost use Rattle.nomos_syntax.specs.Limits.{node_limit};
 

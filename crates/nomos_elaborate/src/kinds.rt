@@ -1,7 +1,7 @@
 //! The kinds of types of values.
 ghost use Rattle.std.specs.Prelude.{◌≡◌};
 ghost use Rattle.nomos_elaborate.specs.Built.{kind_of};
-ghost use Rattle.nomos_surface.specs.Bounds.{KeepsValueType};
+ghost use Rattle.nomos_surface.specs.TreeBounds.{KeepsValueType};
 
 use nomos_ir::kind::Kind;
 use nomos_surface::value_type::ValueType;

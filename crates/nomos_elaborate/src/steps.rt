@@ -4,7 +4,7 @@ ghost use Rattle.nomos_elaborate.specs.CodeBuild.{chan_offset};
 ghost use Rattle.nomos_elaborate.specs.mirror.Checked.{Gives};
 ghost use Rattle.nomos_elaborate.specs.mirror.CodeCheck.{check_chan, check_list, check_process, check_step};
 ghost use Rattle.nomos_elaborate.specs.mirror.Entries.{MayMake, all_entries, entry_limit, most_of};
-ghost use Rattle.nomos_surface.specs.Bounds.{KeepsStep};
+ghost use Rattle.nomos_surface.specs.TreeBounds.{KeepsStep};
 ghost use Rattle.nomos_surface.specs.Counts.{in_step};
 ghost use Rattle.nomos_surface.specs.StepView.{step_tree};
 

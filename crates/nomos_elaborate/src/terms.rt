@@ -4,7 +4,7 @@ ghost use Rattle.nomos_elaborate.specs.TermBuild.{operator_node};
 ghost use Rattle.nomos_elaborate.specs.mirror.Checked.{Gives};
 ghost use Rattle.nomos_elaborate.specs.mirror.Entries.{MakesAtMost, MayMake};
 ghost use Rattle.nomos_elaborate.specs.mirror.TermCheck.{check_term, check_terms};
-ghost use Rattle.nomos_surface.specs.Bounds.{KeepsTerm, KeepsTerms};
+ghost use Rattle.nomos_surface.specs.TreeBounds.{KeepsTerm, KeepsTerms};
 ghost use Rattle.nomos_surface.specs.Counts.{in_term, in_terms};
 ghost use Rattle.nomos_surface.specs.TermView.{term_tree, term_trees};
 

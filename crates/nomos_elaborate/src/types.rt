@@ -4,7 +4,7 @@ ghost use Rattle.nomos_elaborate.specs.TypeBuild.{channel_node, choice_node, pay
 ghost use Rattle.nomos_elaborate.specs.mirror.Checked.{Gives};
 ghost use Rattle.nomos_elaborate.specs.mirror.Entries.{MakesAtMost, MakesType, MayMake, MayMakeType, all_entries, entry_limit};
 ghost use Rattle.nomos_elaborate.specs.mirror.TypeCheck.{branches_alone, check_branch, check_branches, check_definition, check_type};
-ghost use Rattle.nomos_surface.specs.Bounds.{KeepsBranches, KeepsType};
+ghost use Rattle.nomos_surface.specs.TreeBounds.{KeepsBranches, KeepsType};
 ghost use Rattle.nomos_surface.specs.Counts.{in_branches, in_type};
 ghost use Rattle.nomos_surface.specs.TypeView.{branch_tree, branch_trees, type_tree};
 

@@ -4,7 +4,7 @@ ghost use Rattle.nomos_elaborate.specs.mirror.Checked.{Gives, found};
 ghost use Rattle.nomos_elaborate.specs.mirror.FileCheck.{check_body, check_decl, check_decls, begun};
 ghost use Rattle.nomos_elaborate.specs.Spaces.{declaring, declaring_all, no_names};
 ghost use Rattle.nomos_elaborate.specs.mirror.Entries.{MakesAtMost, MayMake};
-ghost use Rattle.nomos_surface.specs.Bounds.{KeepsDecl};
+ghost use Rattle.nomos_surface.specs.TreeBounds.{KeepsDecl};
 ghost use Rattle.nomos_surface.specs.Counts.{in_decl, in_each};
 ghost use Rattle.nomos_surface.specs.FileView.{decl_tree};
 ghost use Rattle.nomos_surface.specs.Grammatical.{Each};

@@ -23,7 +23,7 @@ use Rattle.nomos_equality.specs.Answer.{StandOnce}
 use Rattle.nomos_equality.specs.Differences.{SameForm, DifferAt}
 use Rattle.nomos_equality.specs.Paths.{PathLeads, ends, hops, choices_of, part_by, paid_by, StandAtEqualPaths}
 use Rattle.nomos_equality.specs.mirror.Search.{IsFront, Grows, IsMet, Meets, known, fresh, IsAt, HasNodes, GoesOn, PaysAt, GoesTo, stays, meets, notes, Follows, NotesPaid, IsCompared, DifferHere, Trail, begins, onward, AreInOrder, HasSearched}
-use Rattle.nomos_equality.specs.mirror.Tables.{PutsOnce}
+use Rattle.nomos_equality.specs.mirror.PairTables.{PutsOnce}
 use Rattle.nomos_equality.proofs.HeadLaws.{goes-label}
 use Rattle.nomos_equality.proofs.ListLemmas.{contains-unmap}
 use Rattle.nomos_equality.proofs.PathLaws.{node-behind}

@@ -12,7 +12,7 @@ use Rattle.indexmap.proofs.CallerLemmas.{Contains-list_any}
 use Rattle.nomos_ir.specs.declared.amount.Amount.{Amount}
 use Rattle.nomos_ir.specs.declared.amount.Amount.TheVariants as amount
 use Rattle.nomos_equality.proofs.ListLemmas.{contains-map, contains-unmap}
-use Rattle.nomos_equality.specs.mirror.Tables.{types_at, amount_key, pair_key, PutsOnce}
+use Rattle.nomos_equality.specs.mirror.PairTables.{types_at, amount_key, pair_key, PutsOnce}
 
 -- ---- sets
 

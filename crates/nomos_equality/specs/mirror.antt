@@ -1,3 +1,3 @@
 pub mod Heads
 pub mod Search
-pub mod Tables
+pub mod PairTables

@@ -1,6 +1,6 @@
 //! Pairs of amounts, each once.
 ghost use Rattle.std.specs.Prelude.{◌≡◌, [], length, take, IfOk, OnErr};
-ghost use Rattle.nomos_equality.specs.mirror.Tables.{PutsOnce, amount_key, pair_key};
+ghost use Rattle.nomos_equality.specs.mirror.PairTables.{PutsOnce, amount_key, pair_key};
 
 use indexmap::IndexMap;
 use nomos_ir::amount::Amount;
@@ -22,7 +22,7 @@ pub(crate) struct AmountTable {
 impl Model for AmountTable {
     ghost use Rattle.std.specs.Prelude.{List, map};
     ghost use Rattle.nomos_ir.specs.declared.amount.Amount.{Amount};
-    ghost use Rattle.nomos_equality.specs.mirror.Tables.{HasKeys};
+    ghost use Rattle.nomos_equality.specs.mirror.PairTables.{HasKeys};
 
     ghost Value = { List (Amount × Amount) };
 

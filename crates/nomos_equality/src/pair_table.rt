@@ -1,6 +1,6 @@
 //! Pairs of types, each once.
 ghost use Rattle.std.specs.Prelude.{◌≡◌, [], length, take, IfOk, OnErr};
-ghost use Rattle.nomos_equality.specs.mirror.Tables.{PutsOnce};
+ghost use Rattle.nomos_equality.specs.mirror.PairTables.{PutsOnce};
 
 use indexmap::IndexSet;
 use nomos_ir::ids::TypeId;
@@ -16,7 +16,7 @@ pub(crate) struct PairTable {
 impl Model for PairTable {
     ghost use Rattle.std.specs.Prelude.{List, map};
     ghost use Rattle.nomos_ir.specs.declared.ids.TypeId.{TypeId};
-    ghost use Rattle.nomos_equality.specs.mirror.Tables.{types_at};
+    ghost use Rattle.nomos_equality.specs.mirror.PairTables.{types_at};
 
     ghost Value = { List (TypeId × TypeId) };
 

@@ -18,7 +18,7 @@ use Rattle.nomos_eval.specs.declared.stop.Stop.TheVariants as stop
 use Rattle.nomos_eval.specs.mirror.Machine.{held, scopes_held, IsSound, IsDone, Stops, Operated, top_datum, below_top}
 use Rattle.nomos_eval.specs.mirror.Operation.{operation}
 use Rattle.nomos_eval.specs.mirror.Rest.{rest, top, below}
-use Rattle.nomos_eval.specs.mirror.Table.{datum_value, reach, capped}
+use Rattle.nomos_eval.specs.mirror.EvalTable.{datum_value, reach, capped}
 use Rattle.nomos_eval.proofs.MachineLemmas.{values-more, scopes-more, values-higher, scopes-higher, last-list}
 
 -- the topmost value, and those below it

@@ -13,7 +13,7 @@ use Rattle.nomos_eval.specs.declared.datum.Datum.{Datum}
 use Rattle.nomos_eval.specs.mirror.Begin.{AreHeld, IsBegun}
 use Rattle.nomos_eval.specs.mirror.Load.{IsLoaded}
 use Rattle.nomos_eval.specs.mirror.Machine.{held}
-use Rattle.nomos_eval.specs.mirror.Table.{datum_value}
+use Rattle.nomos_eval.specs.mirror.EvalTable.{datum_value}
 use Rattle.nomos_eval.proofs.MachineLemmas.{held-more, scopes-higher, at-scope}
 use Rattle.nomos_eval.proofs.OpenLemmas.{at-held, scopes-in}
 

@@ -18,7 +18,7 @@ use Rattle.nomos_eval.specs.declared.datum.Datum.TheVariants as datum
 use Rattle.nomos_eval.specs.declared.machine.Machine.{Machine}
 use Rattle.nomos_eval.specs.mirror.Machine.{held, scopes_held, values_found, IsSound, IsDoneFor, IsBinding, arguments_at, below_at, bound_on, with_parameter, top_datum, below_top}
 use Rattle.nomos_eval.specs.mirror.Rest.{rest, top, arguments_on, below_by, ScopeIn}
-use Rattle.nomos_eval.specs.mirror.Table.{datum_value}
+use Rattle.nomos_eval.specs.mirror.EvalTable.{datum_value}
 use Rattle.nomos_eval.proofs.ActLemmas.{top-found, below-found, top-in, below-in}
 use Rattle.nomos_eval.proofs.OpenLemmas.{at-held, todo-higher, scopes-in}
 use Rattle.nomos_eval.proofs.MachineLemmas.{at-scope}

@@ -9,7 +9,7 @@ use Rattle.nomos_eval.specs.declared.lists.Cell.{Cell}
 use Rattle.nomos_eval.specs.declared.lists.Cell.TheVariants as cell
 use Rattle.nomos_eval.specs.mirror.ListCell.{cell_list, lists_of, IsBefore, IsWeighed, AreLists}
 use Rattle.nomos_ir.specs.Weight.{weight, max_weight}
-use Rattle.nomos_eval.specs.mirror.Table.{table, datum_value, reach, capped}
+use Rattle.nomos_eval.specs.mirror.EvalTable.{table, datum_value, reach, capped}
 use Rattle.nomos_eval.proofs.TableLemmas.{table-push, length-table, table-at}
 
 -- a datum keeps its value where lists are added

@@ -6,7 +6,7 @@ use Rattle.nomos_ir.specs.Value.{Value, list, ValueList, no_values, value, value
 use Rattle.nomos_ir.specs.ValueNode.{value_of}
 use Rattle.nomos_eval.specs.declared.datum.Datum.{Datum}
 use Rattle.nomos_eval.specs.mirror.Load.{before_list}
-use Rattle.nomos_eval.specs.mirror.Table.{datum_value, reach}
+use Rattle.nomos_eval.specs.mirror.EvalTable.{datum_value, reach}
 
 before-push : (vs : List Value) (v : Value) (ws : ValueList)
     → before_list (vs ++ v ∷ []) ws ≡ before_list vs (value v ws)

@@ -20,7 +20,7 @@ use Rattle.nomos_eval.specs.declared.datum.Datum.TheVariants as datum
 use Rattle.nomos_eval.specs.declared.machine.Machine.{Machine}
 use Rattle.nomos_eval.specs.mirror.Machine.{held, scopes_held, values_found, left_with, IsSound, IsEntered}
 use Rattle.nomos_eval.specs.mirror.Rest.{rest, variables_at, work, ScopeIn, argument_acts}
-use Rattle.nomos_eval.specs.mirror.Table.{datum_value, reach}
+use Rattle.nomos_eval.specs.mirror.EvalTable.{datum_value, reach}
 use Rattle.nomos_eval.proofs.ListLemmas.{datum-more}
 use Rattle.nomos_eval.proofs.RestLemmas.{leaves-arguments}
 

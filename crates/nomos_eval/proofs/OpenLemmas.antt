@@ -17,7 +17,7 @@ use Rattle.nomos_eval.specs.declared.datum.Datum.TheVariants as datum
 use Rattle.nomos_eval.specs.declared.machine.Machine.{Machine}
 use Rattle.nomos_eval.specs.mirror.Machine.{held, scopes_held, IsSound, IsDone, top_datum, below_top}
 use Rattle.nomos_eval.specs.mirror.Rest.{rest, follow, variables_at, below, ScopeIn}
-use Rattle.nomos_eval.specs.mirror.Table.{datum_value, reach}
+use Rattle.nomos_eval.specs.mirror.EvalTable.{datum_value, reach}
 use Rattle.nomos_eval.proofs.ActLemmas.{top-found, below-found, top-in, below-in}
 use Rattle.nomos_eval.proofs.MachineLemmas.{at-scope}
 use Rattle.nomos_eval.proofs.RestLemmas.{go_on-next, rest-more}

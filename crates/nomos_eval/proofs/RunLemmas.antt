@@ -16,7 +16,7 @@ use Rattle.nomos_eval.specs.declared.stop.Stop.{Stop}
 use Rattle.nomos_eval.specs.declared.stop.Stop.TheVariants as stop
 use Rattle.nomos_eval.specs.mirror.Machine.{scopes_held, left_of, left_with, IsSound, IsEntered, IsDoneFor, Does, DoesFor, StopsFor}
 use Rattle.nomos_eval.specs.mirror.Rest.{variables_at}
-use Rattle.nomos_eval.specs.mirror.Run.{IsEnteredAt, IsStep, StepStops}
+use Rattle.nomos_eval.specs.mirror.EvalRun.{IsEnteredAt, IsStep, StepStops}
 
 -- what holds of every program holds of one
 pub for-one : (program : ProgramLists) (a : Act) (old new : Machine) (r : Result (Unit {0}) Stop) → Does a old new r

@@ -7,8 +7,8 @@ use Rattle.nomos_ir.specs.Bindings.{bound_to}
 use Rattle.nomos_eval.specs.declared.datum.Datum.{Datum}
 use Rattle.nomos_eval.specs.declared.scopes.Binding.{Binding}
 use Rattle.nomos_eval.specs.declared.scopes.Binding.TheVariants as binding
-use Rattle.nomos_eval.specs.mirror.Scope.{binding_list, scopes_of, IsBehind, AreScopes}
-use Rattle.nomos_eval.specs.mirror.Table.{table}
+use Rattle.nomos_eval.specs.mirror.EvalScope.{binding_list, scopes_of, IsBehind, AreScopes}
+use Rattle.nomos_eval.specs.mirror.EvalTable.{table}
 use Rattle.nomos_eval.proofs.TableLemmas.{table-push, length-table, table-at}
 
 -- a binding keeps its variables where others are added

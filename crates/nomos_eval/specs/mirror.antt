@@ -5,6 +5,6 @@ pub mod Load
 pub mod Machine
 pub mod Operation
 pub mod Rest
-pub mod Run
-pub mod Scope
-pub mod Table
+pub mod EvalRun
+pub mod EvalScope
+pub mod EvalTable

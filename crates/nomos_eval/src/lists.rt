@@ -1,7 +1,7 @@
 //! The lists of one evaluation. None of them is ever changed, so they share their parts.
 ghost use Rattle.std.specs.Prelude.{◌≡◌, ◌<◌, ◌≤◌, ◌++◌, ◌∷◌, [], length, IfOk, MatchOption, slice_index_or};
 ghost use Rattle.nomos_ir.specs.Value.{list, no_values, value};
-ghost use Rattle.nomos_eval.specs.mirror.Table.{datum_value, reach, capped};
+ghost use Rattle.nomos_eval.specs.mirror.EvalTable.{datum_value, reach, capped};
 
 use crate::datum::Datum;
 use std::alloc::{AllocError, Global};
@@ -27,7 +27,7 @@ impl Model for Lists {
     ghost use Rattle.std.specs.Prelude.{List};
     ghost use Rattle.std.specs.Coded.{coded_list};
     ghost use Rattle.nomos_ir.specs.Value.{ValueList};
-    ghost use Rattle.nomos_eval.specs.mirror.Table.{list_code};
+    ghost use Rattle.nomos_eval.specs.mirror.EvalTable.{list_code};
 
     ghost Value = { List ValueList };
 

@@ -2,7 +2,7 @@
 ghost use Rattle.std.specs.Prelude.{◌≡◌, ◌<◌, ◌≤◌, length, OnOk};
 ghost use Rattle.nomos_eval.specs.mirror.Machine.{IsSound, DoesFor};
 ghost use Rattle.nomos_eval.specs.mirror.Rest.{ScopeIn};
-ghost use Rattle.nomos_eval.specs.mirror.Run.{IsEnteredAt, IsOther, Steps, Ran};
+ghost use Rattle.nomos_eval.specs.mirror.EvalRun.{IsEnteredAt, IsOther, Steps, Ran};
 
 use crate::act::{Act, Scope};
 use crate::acts::{both, choose, either, numbers, put_before, take, truth, turn_round};

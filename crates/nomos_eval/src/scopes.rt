@@ -27,7 +27,7 @@ impl Model for Scopes {
 
     ghost Value = { List (List (VarId × Datum)) };
 
-    ghost use Rattle.nomos_eval.specs.mirror.Scope.{scopes_of, AreScopes};
+    ghost use Rattle.nomos_eval.specs.mirror.EvalScope.{scopes_of, AreScopes};
 
     ghost view = { λ s. scopes_of s.cells.items };
 

@@ -3,7 +3,7 @@ ghost use Rattle.std.specs.Prelude.{◌≡◌, ◌≤◌, length, map, IfOk};
 ghost use Rattle.nomos_ir.specs.Value.{list, value_list};
 ghost use Rattle.nomos_ir.specs.ValueNode.{value_of};
 ghost use Rattle.nomos_eval.specs.mirror.Load.{IsLoaded};
-ghost use Rattle.nomos_eval.specs.mirror.Table.{datum_value, reach};
+ghost use Rattle.nomos_eval.specs.mirror.EvalTable.{datum_value, reach};
 
 use crate::datum::Datum;
 use crate::lists::Lists;

@@ -28,9 +28,9 @@ use Rattle.nomos_grammar.specs.declared.part.Mark.{Mark}
 use Rattle.nomos_grammar.specs.declared.part.Part.{Part}
 use Rattle.nomos_grammar.specs.declared.part.Part.TheVariants as part
 use Rattle.nomos_grammar.specs.Counting.{Counts}
-use Rattle.nomos_grammar.specs.Derivation.{Event, token, mark, tokens_in, Derives, nothing, read, IsFile}
+use Rattle.nomos_grammar.specs.Deriving.{Event, token, mark, tokens_in, Derives, nothing, read, IsFile}
 use Rattle.nomos_grammar.specs.mirror.Stacks.{next_in}
-use Rattle.nomos_grammar.specs.mirror.Reading.{events_of, Leads, Settles, HasRead}
+use Rattle.nomos_grammar.specs.mirror.ReaderStates.{events_of, Leads, Settles, HasRead}
 use Rattle.nomos_grammar.proofs.ReadingLemmas.{tokens_joined, no_tokens_in_marks}
 use Rattle.nomos_grammar.proofs.StandLemmas.{same_behind}
 

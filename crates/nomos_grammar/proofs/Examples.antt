@@ -7,7 +7,7 @@ use Rattle.nomos_syntax.specs.declared.symbol.Symbol.TheVariants as sym
 use Rattle.nomos_syntax.specs.Lexeme.{Lexeme, name, reserved, number, symbol}
 use Rattle.nomos_grammar.specs.declared.part.Mark.TheVariants as mark
 use Rattle.nomos_grammar.specs.Counting.{depth, counts}
-use Rattle.nomos_grammar.specs.Derivation.{
+use Rattle.nomos_grammar.specs.Deriving.{
   Event,
   token,
   mark as marked,

@@ -33,7 +33,7 @@ use Rattle.nomos_grammar.specs.declared.offence.GrammarError.{GrammarError}
 use Rattle.nomos_grammar.specs.declared.offence.GrammarError.TheVariants.{Syntax, Limit, NoMemory}
 use Rattle.nomos_grammar.specs.declared.reader.Reader.{Reader}
 use Rattle.nomos_grammar.specs.Offence.{rules, KeepsAll, AllKeep, Offends, Answers}
-use Rattle.nomos_grammar.specs.mirror.Reading.{BreaksBy}
+use Rattle.nomos_grammar.specs.mirror.ReaderStates.{BreaksBy}
 use Rattle.nomos_grammar.specs.mirror.Readers.{ReadsAs}
 
 -- one token more keeps to all rules

@@ -4,7 +4,7 @@ use Rattle.nomos_syntax.specs.Lexeme.{Placed}
 use Rattle.nomos_syntax.specs.Limits.{nesting_limit, node_limit}
 use Rattle.nomos_grammar.specs.declared.part.Part.{Part}
 use Rattle.nomos_grammar.specs.Counting.{Counts, depth, counts}
-use Rattle.nomos_grammar.specs.Derivation.{
+use Rattle.nomos_grammar.specs.Deriving.{
   Event,
   token,
   mark,

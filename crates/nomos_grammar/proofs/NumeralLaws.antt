@@ -51,7 +51,7 @@ use Rattle.nomos_syntax.specs.Scan.{
   tokens_of,
 }
 use Rattle.nomos_syntax.proofs.NameLaws.{All-tokens_from}
-use Rattle.nomos_grammar.specs.mirror.Reading.{IsWritten}
+use Rattle.nomos_grammar.specs.mirror.ReaderStates.{IsWritten}
 
 digit_below_ten : (b : ℕ) → is_digit b ≡ true → digit_value b < 10
 digit_below_ten b digit =

@@ -38,7 +38,7 @@ use Rattle.nomos_grammar.specs.declared.part.Terminal.TheVariants as terminal
 use Rattle.nomos_grammar.specs.declared.part.Part.{Part}
 use Rattle.nomos_grammar.specs.declared.part.Part.TheVariants as part
 use Rattle.nomos_grammar.specs.Counting.{Counts, nothing_counted, depth, after_token}
-use Rattle.nomos_grammar.specs.Derivation.{terminal_of, Fits, file}
+use Rattle.nomos_grammar.specs.Deriving.{terminal_of, Fits, file}
 use Rattle.nomos_grammar.specs.Offence.{
   star_limit,
   MayBecome,
@@ -53,7 +53,7 @@ use Rattle.nomos_grammar.specs.Offence.{
 }
 use Rattle.nomos_grammar.specs.mirror.Table.{same}
 use Rattle.nomos_grammar.specs.mirror.Stacks.{distance}
-use Rattle.nomos_grammar.specs.mirror.Reading.{
+use Rattle.nomos_grammar.specs.mirror.ReaderStates.{
   HasRoom,
   IsReady,
   with_terminal,

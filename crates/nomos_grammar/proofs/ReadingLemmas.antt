@@ -15,10 +15,10 @@ use Rattle.nomos_grammar.specs.Counting.{
   after_token,
   counts_from,
 }
-use Rattle.nomos_grammar.specs.Derivation.{Event, token, mark as marked, tokens_in, Derives, counted, replaced}
+use Rattle.nomos_grammar.specs.Deriving.{Event, token, mark as marked, tokens_in, Derives, counted, replaced}
 use Rattle.nomos_grammar.specs.mirror.Table.{chosen}
 use Rattle.nomos_grammar.specs.mirror.Stacks.{next_in, rises, distance}
-use Rattle.nomos_grammar.specs.mirror.Reading.{events_of, HasRoom, IsReady, Leads}
+use Rattle.nomos_grammar.specs.mirror.ReaderStates.{events_of, HasRoom, IsReady, Leads}
 use Rattle.nomos_grammar.proofs.GrammarLaws.{chosen_among, chosen_derives, stack_replaced}
 use Rattle.nomos_grammar.proofs.DistanceLemmas.{distance_replaced, low_replaced}
 

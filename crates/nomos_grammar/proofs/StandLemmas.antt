@@ -6,7 +6,7 @@ use Rattle.nomos_grammar.specs.declared.part.Mark.{Mark}
 use Rattle.nomos_grammar.specs.declared.part.Part.{Part}
 use Rattle.nomos_grammar.specs.declared.part.Part.TheVariants as part
 use Rattle.nomos_grammar.specs.Counting.{Counts, nothing_counted, after_token, counts_from, counts}
-use Rattle.nomos_grammar.specs.Derivation.{
+use Rattle.nomos_grammar.specs.Deriving.{
   terminal_of,
   Fits,
   Event,
@@ -20,7 +20,7 @@ use Rattle.nomos_grammar.specs.Derivation.{
 }
 use Rattle.nomos_grammar.specs.Offence.{MayBecome, MayStand}
 use Rattle.nomos_grammar.specs.mirror.Stacks.{next_in}
-use Rattle.nomos_grammar.specs.mirror.Reading.{events_of, Leads, HasRead}
+use Rattle.nomos_grammar.specs.mirror.ReaderStates.{events_of, Leads, HasRead}
 use Rattle.nomos_grammar.proofs.ReadingLemmas.{counts_joined, tokens_joined, no_tokens_in_marks}
 use Rattle.nomos_grammar.proofs.ProductiveLaws.{productive}
 

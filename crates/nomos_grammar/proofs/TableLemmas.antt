@@ -21,7 +21,7 @@ use Rattle.nomos_grammar.specs.declared.part.Nonterminal.{Nonterminal}
 use Rattle.nomos_grammar.specs.declared.part.Nonterminal.TheVariants as n
 use Rattle.nomos_grammar.specs.declared.part.Part.{Part}
 use Rattle.nomos_grammar.specs.declared.part.Part.TheVariants as part
-use Rattle.nomos_grammar.specs.Derivation.{IsAmong, first, later}
+use Rattle.nomos_grammar.specs.Deriving.{IsAmong, first, later}
 use Rattle.nomos_grammar.specs.Grammar.{alternatives}
 use Rattle.nomos_grammar.specs.mirror.Table.{Row, rows}
 use Rattle.nomos_grammar.specs.mirror.Stacks.{firsts, starts, may_vanish, follow, rises, rank, distance}

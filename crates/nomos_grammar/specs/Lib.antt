@@ -1,5 +1,5 @@
 pub mod Grammar
-pub mod Derivation
+pub mod Deriving
 pub mod Counting
 pub mod Offence
 pub mod mirror

@@ -8,7 +8,7 @@ use Rattle.nomos_grammar.specs.declared.offence.GrammarError.TheVariants.{Syntax
 use Rattle.nomos_grammar.specs.declared.offence.Which.{Which}
 use Rattle.nomos_grammar.specs.declared.offence.Which.TheVariants as which
 use Rattle.nomos_grammar.specs.Counting.{Counts, depth, counts}
-use Rattle.nomos_grammar.specs.Derivation.{Event, token, tokens_in, Derives, file, IsFile}
+use Rattle.nomos_grammar.specs.Deriving.{Event, token, tokens_in, Derives, file, IsFile}
 
 -- the most stars of a text, and the largest number
 abbrev pub star_limit : ℕ

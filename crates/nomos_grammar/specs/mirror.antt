@@ -1,6 +1,6 @@
 pub mod Table
 pub mod Stacks
-pub mod Reading
+pub mod ReaderStates
 pub mod Tallies
 pub mod Sights
 pub mod Readers

@@ -1,6 +1,6 @@
 //! The reading of tokens one by one, by the table of the grammar.
 ghost use Rattle.std.specs.Prelude.{◌≡◌, OnOk, IfOk, IsTrue};
-ghost use Rattle.nomos_grammar.specs.mirror.Reading.{IsReady, is_asked};
+ghost use Rattle.nomos_grammar.specs.mirror.ReaderStates.{IsReady, is_asked};
 ghost use Rattle.nomos_grammar.specs.mirror.Tallies.{counts_of, IsKept, SettlesTo};
 ghost use Rattle.nomos_grammar.specs.mirror.Readers.{IsSteady, ReadsOn, EndsWell, HasBegun};
 

@@ -1,7 +1,7 @@
 //! What counts at a place between the tokens of a text.
 ghost use Rattle.std.specs.Prelude.{◌≡◌, OnOk};
 ghost use Rattle.nomos_grammar.specs.Counting.{nothing_counted, after_mark, after_token};
-ghost use Rattle.nomos_grammar.specs.mirror.Reading.{HasRoom, passed};
+ghost use Rattle.nomos_grammar.specs.mirror.ReaderStates.{HasRoom, passed};
 ghost use Rattle.nomos_grammar.specs.mirror.Tallies.{counts_of, IsKept};
 
 use crate::offence::Which;

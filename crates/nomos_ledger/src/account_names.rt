@@ -17,7 +17,7 @@ pub(crate) struct AccountNames {
 
 impl Model for AccountNames {
     ghost use Rattle.std.specs.Prelude.{List, ℕ, All, map, string_bytes};
-    ghost use Rattle.nomos_script.specs.Name.{IsScriptName};
+    ghost use Rattle.nomos_script.specs.ScriptNames.{IsScriptName};
 
     ghost Value = { List (List ℕ) };
 

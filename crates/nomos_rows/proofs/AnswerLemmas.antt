@@ -22,9 +22,9 @@ use Rattle.nomos_check.proofs.StuckLaws.{stuck-no_skeleton}
 use Rattle.nomos_rows.specs.declared.program_rows.RowsError.TheVariants as error
 use Rattle.nomos_rows.specs.declared.telling.Fault.{Fault}
 use Rattle.nomos_rows.specs.declared.telling.Fault.TheVariants as fault
-use Rattle.nomos_rows.specs.Faults.{LeadsAstray, HasOtherKind, GetsStuck, IsNeverTyped, IsCause}
+use Rattle.nomos_rows.specs.PartFaults.{LeadsAstray, HasOtherKind, GetsStuck, IsNeverTyped, IsCause}
 use Rattle.nomos_rows.specs.ProgramRows.{IsProgramPair, leads_back, asked}
-use Rattle.nomos_rows.specs.mirror.Answers.{error_of, HasRows}
+use Rattle.nomos_rows.specs.mirror.PartAnswers.{error_of, HasRows}
 use Rattle.nomos_rows.specs.mirror.Declarations.{IsFirstOfAll}
 use Rattle.nomos_rows.specs.mirror.Processes.{AsksFor, InRows}
 use Rattle.nomos_rows.specs.mirror.Telling.{SomeBelow, TellsBelow}

@@ -15,7 +15,7 @@ use Rattle.nomos_forms.specs.RowsOf.{AreRowsOf}
 use Rattle.nomos_rows.proofs.TellingLemmas.{le_from, lt_from}
 use Rattle.nomos_rows.specs.declared.telling.Fault.{Fault}
 use Rattle.nomos_rows.specs.declared.telling.Fault.TheVariants as fault
-use Rattle.nomos_rows.specs.Faults.{HasOtherKind, GetsStuck, IsFirstFault}
+use Rattle.nomos_rows.specs.PartFaults.{HasOtherKind, GetsStuck, IsFirstFault}
 use Rattle.nomos_rows.specs.mirror.Declarations.{FunctionFault, FunctionFine, ProcessFault, ProcessFine, IsFaultAt, DeclarationsFine, DeclarationsTell}
 use Rattle.nomos_rows.specs.mirror.Processes.{Gathers, InRows}
 use Rattle.nomos_rows.specs.mirror.Telling.{earliest, TellsBelow}

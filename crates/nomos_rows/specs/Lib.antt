@@ -1,3 +1,3 @@
-pub mod Faults
+pub mod PartFaults
 pub mod ProgramRows
 pub mod mirror

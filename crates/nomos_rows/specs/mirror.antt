@@ -1,4 +1,4 @@
-pub mod Answers
+pub mod PartAnswers
 pub mod Declarations
 pub mod Processes
 pub mod Telling

@@ -2,9 +2,9 @@
 ghost use Rattle.std.specs.Prelude.{◌≡◌, ◌<◌, ◌^◌, length, IfOk, IfErr};
 ghost use Rattle.nomos_ir.specs.Amounts.{star_count};
 ghost use Rattle.nomos_types.specs.Typed.{IsWellFormed, HasSkeletons};
-ghost use Rattle.nomos_rows.specs.Faults.{IsCause};
+ghost use Rattle.nomos_rows.specs.PartFaults.{IsCause};
 ghost use Rattle.nomos_rows.specs.ProgramRows.{AreProgramRows, IsTypedByRows};
-ghost use Rattle.nomos_rows.specs.mirror.Answers.{AnswersProgram, error_of};
+ghost use Rattle.nomos_rows.specs.mirror.PartAnswers.{AnswersProgram, error_of};
 
 use crate::declarations::declaration_rows;
 use crate::shared::first_astray;

@@ -4,7 +4,7 @@ use Rattle.nomos_script.specs.declared.item.ScriptItem.TheVariants as item
 use Rattle.nomos_script.specs.Form.{blank, deposit, exec, print_form}
 use Rattle.nomos_script.specs.Item.{exec_start, batch_of, items_of}
 use Rattle.nomos_script.specs.Lines.{lines_of}
-use Rattle.nomos_script.specs.Scan.{word, number, mark, piece_at, tokens_from, tokens_of}
+use Rattle.nomos_script.specs.ScriptScan.{word, number, mark, piece_at, tokens_from, tokens_of}
 
 -- a line feed ends a line; a carriage return before it is dropped, and one at the very end stays
 pub ends_of_lines : lines_of (codes "a" ++ 13 ∷ 10 ∷ 13 ∷ 13 ∷ 10 ∷ 10 ∷ codes "b" ++ 13 ∷ [])

@@ -3,8 +3,8 @@ use Rattle.std.proofs.Common.{◌≡◌, ℕ, List, [], ◌∷◌, Some, codes, 
 use Rattle.nomos_script.specs.declared.item.ScriptItem.TheVariants as item
 use Rattle.nomos_script.specs.Form.{Form, blank, deposit, exec, TokensReadAs, units_of}
 use Rattle.nomos_script.specs.Item.{exec_start, batch_of}
-use Rattle.nomos_script.specs.Name.{IsScriptName}
-use Rattle.nomos_script.specs.Scan.{Token, word, number, mark}
+use Rattle.nomos_script.specs.ScriptNames.{IsScriptName}
+use Rattle.nomos_script.specs.ScriptScan.{Token, word, number, mark}
 use Rattle.nomos_script.specs.Seen.{BeginsWithUnits, StandFor}
 
 -- a name, units and nothing else make a deposit

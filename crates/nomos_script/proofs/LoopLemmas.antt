@@ -8,8 +8,8 @@ use Rattle.nomos_script.specs.declared.item.ScriptItem.{ScriptItem}
 use Rattle.nomos_script.specs.Form.{Form, LineReadsAs, HasForm}
 use Rattle.nomos_script.specs.Item.{item_of, items_of}
 use Rattle.nomos_script.specs.Lines.{lines_of}
-use Rattle.nomos_script.specs.Reading.{text_limit, LinesReadAs, ReadsAs, IsFirstBad}
-use Rattle.nomos_script.specs.Scan.{tokens_of}
+use Rattle.nomos_script.specs.ScriptReading.{text_limit, LinesReadAs, ReadsAs, IsFirstBad}
+use Rattle.nomos_script.specs.ScriptScan.{tokens_of}
 use Rattle.nomos_script.specs.Seen.{StandFor}
 use Rattle.nomos_script.proofs.LineLemmas.{lines_of-nil}
 

@@ -7,7 +7,7 @@ use Rattle.std.proofs.lemmas.List.Elements.{All-weaker}
 use Rattle.std.proofs.lemmas.Str.{IsUtf8-from_ascii}
 use Rattle.std.proofs.lemmas.Str.Ascii.{IsAscii-from_all}
 use Rattle.nomos_ir.specs.Name.{is_word_byte}
-use Rattle.nomos_script.specs.Name.{IsScriptName}
+use Rattle.nomos_script.specs.ScriptNames.{IsScriptName}
 
 -- a byte of a word is ASCII
 word_byte_below : (b : ℕ) → is_word_byte b ≡ true → b < 128

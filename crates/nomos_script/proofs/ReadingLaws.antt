@@ -7,8 +7,8 @@ use Rattle.nomos_script.specs.declared.parsing.ScriptError.TheVariants as error
 use Rattle.nomos_script.specs.Form.{Form, blank, deposit, exec, print_form, HasForm}
 use Rattle.nomos_script.specs.Item.{items_of}
 use Rattle.nomos_script.specs.Lines.{lines_of}
-use Rattle.nomos_script.specs.Reading.{LinesReadAs, ReadsAs, IsFirstBad, IsSyntaxAt, IsNotYetAt, begins_unbuilt}
-use Rattle.nomos_script.specs.Scan.{tokens_of}
+use Rattle.nomos_script.specs.ScriptReading.{LinesReadAs, ReadsAs, IsFirstBad, IsSyntaxAt, IsNotYetAt, begins_unbuilt}
+use Rattle.nomos_script.specs.ScriptScan.{tokens_of}
 
 -- what is answered to the first line without a form says its cause
 pub syntax_found : (text line : List ℕ) (number k : ℕ) (answer : ScriptError) → IsFirstBad text number line

@@ -9,8 +9,8 @@ use Rattle.nomos_script.specs.declared.item.ScriptItem.{ScriptItem}
 use Rattle.nomos_script.specs.Form.{Form, blank, deposit, exec}
 use Rattle.nomos_script.specs.Item.{items_of}
 use Rattle.nomos_script.specs.Lines.{begins_with_feed, put_byte, lines_of}
-use Rattle.nomos_script.specs.Reading.{LinesReadAs, ReadsAs}
-use Rattle.nomos_script.specs.Scan.{Token, word, number, mark, Piece, is_blank, begins_comment, piece_at, tokens_from}
+use Rattle.nomos_script.specs.ScriptReading.{LinesReadAs, ReadsAs}
+use Rattle.nomos_script.specs.ScriptScan.{Token, word, number, mark, Piece, is_blank, begins_comment, piece_at, tokens_from}
 use Rattle.nomos_script.specs.Size.{entry_count, start_count, IsScriptSize}
 use Rattle.nomos_script.proofs.ScanLemmas.{piece_at-blank, piece_at-comment, piece_at-word, piece_at-number, piece_at-mark}
 

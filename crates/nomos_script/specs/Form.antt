@@ -1,8 +1,8 @@
 -- The forms of a line, how they are printed to tokens, and which of them are valid.
 use Rattle.std.specs.Prelude.{◌≡◌, ℕ, ◌^◌, ◌≤◌, List, [], ◌∷◌, codes}
 use Rattle.std.specs.Str.Parse.{digits_value}
-use Rattle.nomos_script.specs.Name.{IsScriptName}
-use Rattle.nomos_script.specs.Scan.{Token, word, number, mark, tokens_of}
+use Rattle.nomos_script.specs.ScriptNames.{IsScriptName}
+use Rattle.nomos_script.specs.ScriptScan.{Token, word, number, mark, tokens_of}
 
 -- line = [ "deposit" NAME N | "exec" NAME NAME "(" ";" ")" ]
 pub data Form : Type 0 where

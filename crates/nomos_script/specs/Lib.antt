@@ -1,8 +1,8 @@
-pub mod Name
-pub mod Scan
+pub mod ScriptNames
+pub mod ScriptScan
 pub mod Lines
 pub mod Form
 pub mod Item
 pub mod Size
-pub mod Reading
+pub mod ScriptReading
 pub mod Seen

@@ -6,8 +6,8 @@ use Rattle.nomos_script.specs.declared.tokens.Token.TheVariants as found
 use Rattle.nomos_script.specs.declared.item.ScriptItem.{ScriptItem}
 use Rattle.nomos_script.specs.Form.{Form, TokensReadAs, units_of, max_units}
 use Rattle.nomos_script.specs.Item.{item_of}
-use Rattle.nomos_script.specs.Name.{IsScriptName}
-use Rattle.nomos_script.specs.Scan.{Token, word, number, mark}
+use Rattle.nomos_script.specs.ScriptNames.{IsScriptName}
+use Rattle.nomos_script.specs.ScriptScan.{Token, word, number, mark}
 
 -- what a token says
 abbrev pub token_seen : Found → Token

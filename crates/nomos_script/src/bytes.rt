@@ -1,6 +1,6 @@
 //! The classes of bytes.
 ghost use Rattle.std.specs.Prelude.{◌≡◌};
-ghost use Rattle.nomos_script.specs.Scan.{is_blank};
+ghost use Rattle.nomos_script.specs.ScriptScan.{is_blank};
 ghost use Rattle.nomos_script.specs.Lines.{is_line_byte};
 
 /// Whether the byte may stand between the tokens of a line.

@@ -1,9 +1,9 @@
 //! What a line of a script stands for.
 ghost use Rattle.std.specs.Prelude.{◌≡◌, ◌∷◌, IfOk, IsErrOf, Some, codes};
 ghost use Rattle.nomos_script.specs.Form.{Form, TokensReadAs, HasForm};
-ghost use Rattle.nomos_script.specs.Name.{IsScriptName};
-ghost use Rattle.nomos_script.specs.Reading.{begins_unbuilt, is_unbuilt_word};
-ghost use Rattle.nomos_script.specs.Scan.{word, tokens_of};
+ghost use Rattle.nomos_script.specs.ScriptNames.{IsScriptName};
+ghost use Rattle.nomos_script.specs.ScriptReading.{begins_unbuilt, is_unbuilt_word};
+ghost use Rattle.nomos_script.specs.ScriptScan.{word, tokens_of};
 ghost use Rattle.nomos_script.specs.Seen.{StandFor};
 
 use crate::item::{Batch, ScriptItem, Start};

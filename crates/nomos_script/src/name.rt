@@ -1,6 +1,6 @@
 //! Names as they stand in a script.
 ghost use Rattle.std.specs.Prelude.{◌≡◌, ◌↔◌, IsTrue};
-ghost use Rattle.nomos_script.specs.Name.{IsScriptName};
+ghost use Rattle.nomos_script.specs.ScriptNames.{IsScriptName};
 
 use nomos_ir::items::Items;
 use nomos_ir::letters::{is_letter, is_word_byte};
@@ -18,7 +18,7 @@ pub struct ScriptName {
 
 impl Model for ScriptName {
     ghost use Rattle.std.specs.Prelude.{List, ℕ};
-    ghost use Rattle.nomos_script.specs.Name.{IsScriptName};
+    ghost use Rattle.nomos_script.specs.ScriptNames.{IsScriptName};
 
     ghost Value = { List ℕ };
 

@@ -2,8 +2,8 @@
 ghost use Rattle.std.specs.Prelude.{◌≡◌, ◌↔◌, ◌<◌, ◌≤◌, ℕ, List, ◌++◌, length, IfOk, OnOk, IsErrOf, IsOkUnless, if◌then◌else◌};
 ghost use Rattle.std.specs.Option.{option_to_list};
 ghost use Rattle.nomos_script.specs.declared.item.ScriptItem.{ScriptItem};
-ghost use Rattle.nomos_script.specs.Reading.{text_limit, ReadsAs, IsSyntaxAt, IsNotYetAt, IsRefusedAs, begins_unbuilt};
-ghost use Rattle.nomos_script.specs.Scan.{tokens_of};
+ghost use Rattle.nomos_script.specs.ScriptReading.{text_limit, ReadsAs, IsSyntaxAt, IsNotYetAt, IsRefusedAs, begins_unbuilt};
+ghost use Rattle.nomos_script.specs.ScriptScan.{tokens_of};
 
 use crate::item::{ScriptItem, ScriptItems};
 use crate::line::{begins_unbuilt, read_line};

@@ -3,8 +3,8 @@ ghost use Rattle.std.specs.Prelude.{◌≡◌, ◌≢◌, ◌<◌, ◌≤◌, �
 ghost use Rattle.std.specs.List.{prefix_len};
 ghost use Rattle.std.specs.Str.Parse.{IsNumeral};
 ghost use Rattle.nomos_script.specs.Form.{units_of, max_units};
-ghost use Rattle.nomos_script.specs.Name.{IsScriptName};
-ghost use Rattle.nomos_script.specs.Scan.{Token as Lexeme, word, mark, is_blank, begins_comment, tokens_of};
+ghost use Rattle.nomos_script.specs.ScriptNames.{IsScriptName};
+ghost use Rattle.nomos_script.specs.ScriptScan.{Token as Lexeme, word, mark, is_blank, begins_comment, tokens_of};
 ghost use Rattle.nomos_script.specs.Seen.{token_seen, HasDigits, BeginsWithName, BeginsWithUnits};
 
 use crate::bytes::is_blank;
@@ -32,7 +32,7 @@ pub(crate) struct Tokens<'a> {
 
 impl<'a> Model for Tokens<'a> {
     ghost use Rattle.std.specs.Prelude.{List};
-    ghost use Rattle.nomos_script.specs.Scan.{Token as Lexeme, tokens_of};
+    ghost use Rattle.nomos_script.specs.ScriptScan.{Token as Lexeme, tokens_of};
 
     ghost Value = { List Lexeme };
 

@@ -15,7 +15,7 @@ use Rattle.nomos_surface.specs.declared.surface.CostLine.{CostLine}
 use Rattle.nomos_surface.specs.declared.types.Sender.{Sender}
 use Rattle.nomos_surface.specs.declared.types.Sender.TheVariants as sender
 use Rattle.nomos_surface.specs.declared.value_type.ValueType.{ValueType}
-use Rattle.nomos_surface.specs.Bounds.{KeepsName, KeepsChan, KeepsQuantity, KeepsPotential, KeepsOptional, KeepsValueType, KeepsType, KeepsBranches, KeepsTerm, KeepsTerms, KeepsArgs, KeepsStep, KeepsCode, KeepsLast, KeepsArms, KeepsValuePar, KeepsListPotential, KeepsPar, KeepsChanPar, KeepsPars, KeepsDecl}
+use Rattle.nomos_surface.specs.TreeBounds.{KeepsName, KeepsChan, KeepsQuantity, KeepsPotential, KeepsOptional, KeepsValueType, KeepsType, KeepsBranches, KeepsTerm, KeepsTerms, KeepsArgs, KeepsStep, KeepsCode, KeepsLast, KeepsArms, KeepsValuePar, KeepsListPotential, KeepsPar, KeepsChanPar, KeepsPars, KeepsDecl}
 use Rattle.nomos_surface.specs.Grammatical.{Each}
 use Rattle.nomos_surface.specs.mirror.Kept.{IsKeptLexeme, IsKept, AllKept, none_kept, more_kept, Tells}
 use Rattle.nomos_surface.specs.mirror.Shallow.{ShallowName, ShallowValueType, ShallowType, ShallowBranches, ShallowTerm, ShallowTerms, ShallowArgs, ShallowStep, ShallowCode, ShallowLast, ShallowArms, ShallowValuePar, ShallowPar, ShallowChanPar, ShallowPars, ShallowDecl}
@@ -26,7 +26,7 @@ use Rattle.nomos_syntax.specs.declared.symbol.Symbol.{Symbol}
 use Rattle.nomos_syntax.specs.declared.symbol.Symbol.TheVariants as sym
 use Rattle.nomos_syntax.specs.Lexeme.{Lexeme, name, reserved, number as number_text, symbol, bad, Placed}
 use Rattle.nomos_syntax.specs.Limits.{IsShort}
-use Rattle.nomos_syntax.specs.Naming.{IsWellNamed}
+use Rattle.nomos_syntax.specs.NamedTokens.{IsWellNamed}
 
 -- from tokens that keep to the rules to what is printed
 

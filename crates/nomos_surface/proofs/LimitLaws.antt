@@ -4,11 +4,11 @@ use Rattle.nomos_surface.proofs.CountedLaws.{counted-within}
 use Rattle.nomos_surface.proofs.KeptLaws.{spelled-kept, file-kept}
 use Rattle.nomos_surface.specs.declared.parse.ParseError.{ParseError}
 use Rattle.nomos_surface.specs.declared.surface.Surface.{Surface}
-use Rattle.nomos_surface.specs.Bounds.{IsWithinLimits}
+use Rattle.nomos_surface.specs.TreeBounds.{IsWithinLimits}
 use Rattle.nomos_surface.specs.FileView.{file_tree}
 use Rattle.nomos_surface.specs.Parsing.{AnswersParse}
 use Rattle.nomos_surface.specs.Print.{print_file}
-use Rattle.nomos_surface.specs.Reading.{ReadsAs}
+use Rattle.nomos_surface.specs.TreeReading.{ReadsAs}
 use Rattle.nomos_surface.specs.Tree.{FileTree}
 use Rattle.nomos_syntax.proofs.NameLaws.{names_are_names}
 use Rattle.nomos_syntax.specs.Scan.{tokens_of}

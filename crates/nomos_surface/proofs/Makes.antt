@@ -5,7 +5,7 @@ use Rattle.nomos_grammar.specs.declared.part.Nonterminal.{Nonterminal}
 use Rattle.nomos_grammar.specs.declared.part.Part.{Part}
 use Rattle.nomos_grammar.specs.declared.part.Part.TheVariants as part
 use Rattle.nomos_grammar.specs.declared.part.Terminal.{Terminal}
-use Rattle.nomos_grammar.specs.Derivation.{Fits, Event, token, mark, tokens_in, IsAmong, Derives, nothing, read, counted, replaced}
+use Rattle.nomos_grammar.specs.Deriving.{Fits, Event, token, mark, tokens_in, IsAmong, Derives, nothing, read, counted, replaced}
 use Rattle.nomos_grammar.specs.Grammar.{alternatives}
 use Rattle.nomos_syntax.specs.Lexeme.{Placed}
 

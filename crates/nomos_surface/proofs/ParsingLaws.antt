@@ -8,8 +8,8 @@ use Rattle.nomos_grammar.proofs.NumeralLaws.{numbers_are_numerals}
 use Rattle.nomos_grammar.proofs.OffenceLaws.{passed_once}
 use Rattle.nomos_grammar.specs.declared.offence.GrammarError.{GrammarError}
 use Rattle.nomos_grammar.specs.declared.offence.GrammarError.TheVariants as grammar
-use Rattle.nomos_grammar.specs.Derivation.{IsFile}
-use Rattle.nomos_grammar.specs.mirror.Reading.{IsWritten}
+use Rattle.nomos_grammar.specs.Deriving.{IsFile}
+use Rattle.nomos_grammar.specs.mirror.ReaderStates.{IsWritten}
 use Rattle.nomos_grammar.specs.Offence.{AllKeep, Answers, IsSmall}
 use Rattle.nomos_surface.proofs.FoundLaws.{printed-read, printed-unique}
 use Rattle.nomos_surface.proofs.PrintLaws.{printed-is-file}
@@ -18,7 +18,7 @@ use Rattle.nomos_surface.specs.mirror.Files.{read_file}
 use Rattle.nomos_surface.specs.mirror.Numerals.{HasNumeral, AreLeft}
 use Rattle.nomos_surface.specs.mirror.Errors.{of_tokens, of_grammar}
 use Rattle.nomos_surface.specs.Parsing.{ReadsOnlyAs, ReadsAsNone, Offends, AnswersParse}
-use Rattle.nomos_surface.specs.Reading.{ReadsAs}
+use Rattle.nomos_surface.specs.TreeReading.{ReadsAs}
 use Rattle.nomos_surface.specs.Tree.{FileTree}
 use Rattle.nomos_syntax.specs.declared.scan.TokenError.{TokenError}
 use Rattle.nomos_syntax.specs.declared.scan.TokenError.TheVariants as scan

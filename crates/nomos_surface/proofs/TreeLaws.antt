@@ -2,7 +2,7 @@
 use Rattle.std.proofs.Common.{◌≡◌, List, [], ◌∷◌, map, Option, Some, None, refl, ap, sym, subst, arith}
 use Rattle.nomos_grammar.specs.declared.part.Nonterminal.TheVariants as the_production
 use Rattle.nomos_grammar.specs.declared.part.Terminal.TheVariants as terminal
-use Rattle.nomos_grammar.specs.Derivation.{Fits, first, later, IsFile, file, Event, tokens_in, Derives, nothing}
+use Rattle.nomos_grammar.specs.Deriving.{Fits, first, later, IsFile, file, Event, tokens_in, Derives, nothing}
 use Rattle.nomos_grammar.specs.Grammar.{the}
 use Rattle.nomos_ir.specs.declared.kind.Base.TheVariants as base
 use Rattle.nomos_ir.specs.declared.word.Word.TheVariants as word

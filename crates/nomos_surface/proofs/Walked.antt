@@ -2,7 +2,7 @@
 use Rattle.std.proofs.Common.{◌≡◌, ◌+◌, List, [], ◌∷◌, ◌++◌, refl, sym, ap, subst, ◌∙◌, arith}
 use Rattle.nomos_grammar.specs.declared.part.Part.{Part}
 use Rattle.nomos_grammar.specs.Counting.{Counts, nothing_counted, after_mark, after_token, counts_from}
-use Rattle.nomos_grammar.specs.Derivation.{Event, token, mark, tokens_in, Derives, file}
+use Rattle.nomos_grammar.specs.Deriving.{Event, token, mark, tokens_in, Derives, file}
 use Rattle.nomos_grammar.specs.Offence.{AllKeep}
 use Rattle.nomos_grammar.proofs.LimitLaws.{IsWithinLimits, kept_within}
 use Rattle.nomos_surface.proofs.PrintLaws.{StandsFor}

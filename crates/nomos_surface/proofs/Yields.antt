@@ -8,7 +8,7 @@ use Rattle.nomos_grammar.specs.declared.part.Part.{Part}
 use Rattle.nomos_grammar.specs.declared.part.Part.TheVariants as part
 use Rattle.nomos_grammar.specs.declared.part.Terminal.{Terminal}
 use Rattle.nomos_grammar.specs.declared.part.Terminal.TheVariants as terminal
-use Rattle.nomos_grammar.specs.Derivation.{Fits, terminal_of, Event, token, mark, tokens_in, IsAmong, Derives, nothing, read, counted, replaced}
+use Rattle.nomos_grammar.specs.Deriving.{Fits, terminal_of, Event, token, mark, tokens_in, IsAmong, Derives, nothing, read, counted, replaced}
 use Rattle.nomos_grammar.specs.Grammar.{alternatives}
 use Rattle.nomos_ir.specs.declared.word.Word.{Word}
 use Rattle.nomos_surface.specs.declared.name_at.NameAt.{NameAt}

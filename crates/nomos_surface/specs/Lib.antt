@@ -1,11 +1,11 @@
-pub mod Bounds
+pub mod TreeBounds
 pub mod CodeView
 pub mod Counts
 pub mod FileView
 pub mod Grammatical
 pub mod mirror
 pub mod Print
-pub mod Reading
+pub mod TreeReading
 pub mod Shown
 pub mod StepView
 pub mod TermView

@@ -9,7 +9,7 @@ use Rattle.nomos_surface.specs.declared.parse.ParseError.{ParseError}
 use Rattle.nomos_surface.specs.declared.parse.ParseError.TheVariants as error
 use Rattle.nomos_surface.specs.declared.surface.Surface.{Surface}
 use Rattle.nomos_surface.specs.FileView.{file_tree}
-use Rattle.nomos_surface.specs.Reading.{ReadsAs}
+use Rattle.nomos_surface.specs.TreeReading.{ReadsAs}
 use Rattle.nomos_surface.specs.Tree.{FileTree}
 use Rattle.nomos_syntax.specs.Limits.{text_limit}
 use Rattle.nomos_syntax.specs.Reading.{IsPlainText}

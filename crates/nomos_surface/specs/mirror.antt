@@ -5,7 +5,7 @@ pub mod Front
 pub mod Kept
 pub mod Numerals
 pub mod Shallow
-pub mod TermParts
+pub mod TermPieces
 pub mod Terms
 pub mod Types
 pub mod Errors

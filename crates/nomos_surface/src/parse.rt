@@ -1,6 +1,6 @@
 //! From the bytes of a contract text to its tree.
 ghost use Rattle.std.specs.Prelude.{IfOk, ◌≡◌};
-ghost use Rattle.nomos_surface.specs.Bounds.{IsWithinLimits};
+ghost use Rattle.nomos_surface.specs.TreeBounds.{IsWithinLimits};
 ghost use Rattle.nomos_surface.specs.FileView.{file_tree};
 ghost use Rattle.nomos_surface.specs.Parsing.{AnswersParse};
 ghost use Rattle.nomos_surface.specs.mirror.Errors.{of_tokens, of_grammar};

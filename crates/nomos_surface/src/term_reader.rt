@@ -2,7 +2,7 @@
 ghost use Rattle.std.specs.Prelude.{◌≡◌, IfOk, [], length, map};
 ghost use Rattle.nomos_surface.specs.mirror.Front.{front_kind, read_until};
 ghost use Rattle.nomos_surface.specs.mirror.Terms.{comparison_in, is_cons, is_not, operand_of, operator_in, read_chain, read_comparison, read_conses, read_if, read_list_term, read_match, read_named, read_negation, read_nil, read_nots, read_number, read_parenthesized, read_primary, read_term, term_of_tokens, with_heads, with_nots};
-ghost use Rattle.nomos_surface.specs.mirror.TermParts.{head_tree};
+ghost use Rattle.nomos_surface.specs.mirror.TermPieces.{head_tree};
 ghost use Rattle.nomos_surface.specs.TermView.{term_tree};
 ghost use Rattle.nomos_surface.specs.Tree.{binary, negation};
 

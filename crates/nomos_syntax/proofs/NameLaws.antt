@@ -8,7 +8,7 @@ use Rattle.nomos_ir.specs.Name.{is_letter, is_digit, is_word_byte, IsWordText}
 use Rattle.nomos_ir.specs.Word.{reserved_word}
 use Rattle.nomos_syntax.specs.declared.symbol.Symbol.{Symbol}
 use Rattle.nomos_syntax.specs.Lexeme.{Lexeme}
-use Rattle.nomos_syntax.specs.Naming.{IsWellNamed}
+use Rattle.nomos_syntax.specs.NamedTokens.{IsWellNamed}
 use Rattle.nomos_syntax.specs.Scan.{is_blank, begins_comment, word_lexeme, run_of, one_byte_piece, two_byte_piece, longest_symbol, single_symbol, piece_at, placed_at, tokens_from, tokens_of}
 use Rattle.nomos_syntax.proofs.PieceLemmas.{piece_at-blank, piece_at-comment, piece_at-word, piece_at-number, piece_at-symbol}
 use Rattle.nomos_syntax.proofs.WordLemmas.{not_reserved}

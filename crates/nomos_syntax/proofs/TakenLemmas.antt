@@ -14,7 +14,7 @@ use Rattle.nomos_syntax.specs.declared.symbol.Symbol.{Symbol}
 use Rattle.nomos_syntax.specs.declared.symbol.Symbol.TheVariants as sym
 use Rattle.nomos_syntax.specs.Lexeme.{Lexeme, name, reserved, number, symbol, bad}
 use Rattle.nomos_syntax.specs.Longest.{IsNumberText, IsToken, EndsWord, MayBegin, IsLongest, IsBadByte, BeginsComment, IsTaken}
-use Rattle.nomos_syntax.specs.Naming.{IsWellNamed}
+use Rattle.nomos_syntax.specs.NamedTokens.{IsWellNamed}
 use Rattle.nomos_syntax.specs.Scan.{is_blank, begins_comment, single_symbol, longest_symbol, word_lexeme, run_of, one_byte_piece, two_byte_piece, piece_at, placed_at, tokens_from}
 use Rattle.nomos_syntax.specs.Spelling.{symbol_text, spelling}
 use Rattle.nomos_syntax.proofs.BeginningLemmas.{symbol_of, symbol_read, shape, letter_alone, digit_alone, run_within, mark_alone, same_token, token_some, begins_plainly}

@@ -1,5 +1,5 @@
 pub mod Lexeme
-pub mod Naming
+pub mod NamedTokens
 pub mod Spelling
 pub mod Scan
 pub mod Limits

@@ -12,7 +12,7 @@ use Rattle.nomos_ledger.specs.Legal.{Leads}
 use Rattle.nomos_ledger.specs.Standing.{StandsFor}
 use Rattle.nomos_ledger.specs.declared.journal.Entry.{Entry}
 use Rattle.nomos_ledger.specs.declared.journal.Journal.{Journal}
-use Rattle.nomos_script.specs.Reading.{ReadsAs, IsSyntaxAt, IsNotYetAt, text_limit}
+use Rattle.nomos_script.specs.ScriptReading.{ReadsAs, IsSyntaxAt, IsNotYetAt, text_limit}
 use Rattle.nomos_script.specs.declared.item.ScriptItem.{ScriptItem}
 use Rattle.nomos_top.specs.Outcome.{Counts, HaveRisen, Input, Reading, IsTextOf, IsRun, HasStopped, HasLeastStopped, HasRun, IsDue, IsDueFor, IsPart, no_journal, steps}
 use Rattle.nomos_top.specs.Progress.{IsSoFar}

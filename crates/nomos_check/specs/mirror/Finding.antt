@@ -5,7 +5,7 @@ use Rattle.nomos_ir.specs.Bindings.{bound_to}
 use Rattle.nomos_types.specs.Judgement.{ListType}
 use Rattle.nomos_check.specs.declared.standing.Carried.{Carried}
 use Rattle.nomos_check.specs.declared.standing.Standing.{Standing}
-use Rattle.nomos_check.specs.mirror.Standing.{shape_of_list}
+use Rattle.nomos_check.specs.mirror.StandingData.{shape_of_list}
 
 -- What was found has the property, or nothing has it.
 abbrev pub IsFound : {X : Type 0} → (X → Type 0) → Option X → Type 0

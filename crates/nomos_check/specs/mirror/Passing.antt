@@ -21,8 +21,8 @@ use Rattle.nomos_check.specs.Asking.{IsOfType}
 use Rattle.nomos_check.specs.declared.asked.Asked.{Asked}
 use Rattle.nomos_check.specs.declared.standing.Carried.{Carried}
 use Rattle.nomos_check.specs.declared.standing.Standing.{Standing}
-use Rattle.nomos_check.specs.mirror.Moves.{KeepsAmounts}
-use Rattle.nomos_check.specs.mirror.Standing.{shape_of, amount_of, each_bound, Joins}
+use Rattle.nomos_check.specs.mirror.StepMoves.{KeepsAmounts}
+use Rattle.nomos_check.specs.mirror.StandingData.{shape_of, amount_of, each_bound, Joins}
 
 -- the types are alike, and the pairs at their equal paths join; or they are not
 abbrev pub TellsAlike : ProgramLists → TypeId → TypeId → Asked → Asked → Bool → Type 0

@@ -25,7 +25,7 @@ use Rattle.nomos_check.specs.declared.standing.Way.TheVariants as way
 use Rattle.nomos_check.specs.declared.walk.Stuck.{Stuck}
 use Rattle.nomos_check.specs.declared.walk.Walk.{Walk}
 use Rattle.nomos_check.specs.mirror.Stops.{first_stuck}
-use Rattle.nomos_check.specs.mirror.Standing.{shape_of, HasAccount, way_shape, way_account, IsWayOf, NoRow, HasPair, JoinsAsked}
+use Rattle.nomos_check.specs.mirror.StandingData.{shape_of, HasAccount, way_shape, way_account, IsWayOf, NoRow, HasPair, JoinsAsked}
 
 -- ---- places
 

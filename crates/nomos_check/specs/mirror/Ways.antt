@@ -5,7 +5,7 @@ use Rattle.nomos_check.specs.declared.standing.Standing.{Standing}
 use Rattle.nomos_check.specs.declared.standing.Way.{Way}
 use Rattle.nomos_check.specs.declared.standing.Way.TheVariants as way
 use Rattle.nomos_check.specs.Room.{HasRoom}
-use Rattle.nomos_check.specs.mirror.Standing.{shape_of, HasAccount, way_shape, way_account}
+use Rattle.nomos_check.specs.mirror.StandingData.{shape_of, HasAccount, way_shape, way_account}
 
 -- the potential has room for what the head of a list frees
 abbrev pub HasWayRoom : Standing → Way → Type 0

@@ -9,7 +9,7 @@ use Rattle.nomos_ir.specs.Value.{ValueList}
 use Rattle.nomos_eval.specs.declared.datum.Datum.{Datum}
 use Rattle.nomos_eval.specs.declared.machine.Machine.{Machine}
 use Rattle.nomos_eval.specs.mirror.Machine.{IsSound, held, left}
-use Rattle.nomos_eval.specs.mirror.Table.{reach}
+use Rattle.nomos_eval.specs.mirror.EvalTable.{reach}
 
 -- what is left leads to the evaluation of the term
 pub record IsBegun (t : TermId) (env : Environment) (m : Machine) : Type 0 where

@@ -3,7 +3,7 @@ use Rattle.std.specs.Prelude.{◌≡◌, ℕ, ◌<◌, ◌≤◌, List, [], Some
 use Rattle.nomos_ir.specs.Value.{list, ValueList, no_values, value}
 use Rattle.nomos_eval.specs.declared.lists.Cell.{Cell}
 use Rattle.nomos_eval.specs.declared.lists.Cell.TheVariants as cell
-use Rattle.nomos_eval.specs.mirror.Table.{table, datum_value, reach, capped}
+use Rattle.nomos_eval.specs.mirror.EvalTable.{table, datum_value, reach, capped}
 
 -- the list that a cell stands for
 abbrev pub cell_list : List ValueList → Cell → ValueList

@@ -21,7 +21,7 @@ use Rattle.nomos_eval.specs.declared.stop.Stop.{Stop}
 use Rattle.nomos_eval.specs.declared.stop.Stop.TheVariants as stop
 use Rattle.nomos_eval.specs.mirror.Operation.{operation}
 use Rattle.nomos_eval.specs.mirror.Rest.{rest, variables_at, act_work, work, ScopeIn}
-use Rattle.nomos_eval.specs.mirror.Table.{datum_value, reach}
+use Rattle.nomos_eval.specs.mirror.EvalTable.{datum_value, reach}
 
 -- variables with their values
 abbrev pub held : List ValueList → List (VarId × Datum) → Environment

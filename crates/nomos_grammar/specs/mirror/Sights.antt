@@ -2,8 +2,8 @@
 use Rattle.std.specs.Prelude.{◌≡◌}
 use Rattle.nomos_syntax.specs.Lexeme.{Placed}
 use Rattle.nomos_grammar.specs.declared.sight.Sight.{Sight}
-use Rattle.nomos_grammar.specs.Derivation.{terminal_of}
-use Rattle.nomos_grammar.specs.mirror.Reading.{PassesItself}
+use Rattle.nomos_grammar.specs.Deriving.{terminal_of}
+use Rattle.nomos_grammar.specs.mirror.ReaderStates.{PassesItself}
 
 -- this is seen of the token
 pub record IsSeen (x : Placed) (sight : Sight) : Type 0 where

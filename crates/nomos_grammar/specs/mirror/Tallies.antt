@@ -4,7 +4,7 @@ use Rattle.nomos_grammar.specs.declared.tally.Tally.{Tally}
 use Rattle.nomos_grammar.specs.declared.part.Terminal.{Terminal}
 use Rattle.nomos_grammar.specs.declared.part.Part.{Part}
 use Rattle.nomos_grammar.specs.Counting.{Counts, in_terms}
-use Rattle.nomos_grammar.specs.mirror.Reading.{Settles}
+use Rattle.nomos_grammar.specs.mirror.ReaderStates.{Settles}
 
 abbrev pub counts_of : Tally → Counts
 counts_of t = record { parts = t.parts; terms = t.terms; nodes = t.nodes; before = t.before; stars = t.stars }

@@ -7,7 +7,7 @@ use Rattle.nomos_ir.specs.declared.lists.ProgramLists.{ProgramLists}
 use Rattle.nomos_ir.specs.TermKind.{HasKind, FunctionsAreTyped}
 use Rattle.nomos_types.specs.Derivation.{HasSkeleton}
 use Rattle.nomos_check.specs.Checking.{IsStuckAt}
-use Rattle.nomos_rows.specs.Faults.{HasOtherKind, GetsStuck, IsFirstFault}
+use Rattle.nomos_rows.specs.PartFaults.{HasOtherKind, GetsStuck, IsFirstFault}
 use Rattle.nomos_rows.specs.declared.telling.Fault.{Fault}
 use Rattle.nomos_rows.specs.declared.telling.Fault.TheVariants as fault
 

@@ -1,7 +1,7 @@
 use Rattle.std.proofs.Common.{subst}
 use Rattle.nomos_accept.proofs.AcceptLaws.{never-typed}
 use Rattle.nomos_accept.proofs.causes.of_rows.Goals as goal
-use Rattle.nomos_rows.specs.Faults.{IsCause}
+use Rattle.nomos_rows.specs.PartFaults.{IsCause}
 
 pub returns-in-NotSync : goal.returns-in-NotSync
 returns-in-NotSync c = λ text lists read formed cause.

@@ -6,7 +6,7 @@ use Rattle.nomos_ir.specs.declared.ids.TypeId.{TypeId}
 use Rattle.nomos_ir.specs.declared.ids.VarId.{VarId}
 use Rattle.std.specs.Result.{IfOk}
 use Rattle.nomos_check.specs.mirror.Passing.{TellsChannels, TellsValues, ValuesPassed}
-use Rattle.nomos_check.specs.mirror.Standing.{shape_of}
+use Rattle.nomos_check.specs.mirror.StandingData.{shape_of}
 use Rattle.nomos_check.proofs.ArgumentSteps.{values-judgement, arguments-pass}
 use Rattle.nomos_check.proofs.arguments.pass_arguments.Goals as goal
 

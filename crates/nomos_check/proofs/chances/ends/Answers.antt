@@ -1,5 +1,5 @@
 use Rattle.nomos_ir.specs.declared.type_node.TypeNode.TheVariants as node
-use Rattle.nomos_check.specs.mirror.Standing.{shape_of}
+use Rattle.nomos_check.specs.mirror.StandingData.{shape_of}
 use Rattle.nomos_check.proofs.ChannelLaws.{test-found}
 use Rattle.nomos_check.proofs.chances.ends.Goals as goal
 

@@ -1,5 +1,5 @@
 use Rattle.std.proofs.Common.{sym}
-use Rattle.nomos_check.specs.mirror.Standing.{shape_of}
+use Rattle.nomos_check.specs.mirror.StandingData.{shape_of}
 use Rattle.nomos_check.proofs.ChannelLaws.{channel-in_range, channel-unfolds, no-channel}
 use Rattle.nomos_check.proofs.channels.channel_node.Goals as goal
 

@@ -2,7 +2,7 @@ use Rattle.std.proofs.Common.{◌∙◌, subst, refl}
 use Rattle.nomos_ir.specs.Amounts.{star_count}
 use Rattle.nomos_equality.specs.Comparing.{Compared}
 use Rattle.nomos_check.proofs.ConcludingLemmas.{answers-by}
-use Rattle.nomos_check.specs.mirror.Answers.{IsGathered}
+use Rattle.nomos_check.specs.mirror.ProcessAnswers.{IsGathered}
 use Rattle.nomos_check.proofs.checking.check_process_with.Goals as goal
 
 pub returns-in-Ok-clause-answers : goal.returns-in-Ok-clause-answers

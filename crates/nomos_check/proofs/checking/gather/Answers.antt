@@ -5,7 +5,7 @@ use Rattle.nomos_types.specs.Equality.{no_amounts}
 use Rattle.nomos_types.specs.Judgement.{start_of}
 use Rattle.nomos_check.proofs.ConcludingLemmas.{declared-there, start-on_way, start-walking, start-walk, all-gathered}
 use Rattle.nomos_check.specs.Account.{start_account}
-use Rattle.nomos_check.specs.mirror.Answers.{GathersAll}
+use Rattle.nomos_check.specs.mirror.ProcessAnswers.{GathersAll}
 use Rattle.nomos_check.specs.mirror.Walking.{WalksOn}
 use Rattle.nomos_check.proofs.checking.gather.Goals as goal
 

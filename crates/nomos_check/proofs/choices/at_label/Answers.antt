@@ -2,7 +2,7 @@ use Rattle.std.proofs.Common.{refl}
 use Rattle.nomos_ir.specs.declared.code_node.CodeNode.TheVariants as code
 use Rattle.nomos_types.specs.Judgement.{goes_on}
 use Rattle.nomos_types.specs.Row as row
-use Rattle.nomos_check.specs.mirror.Standing.{shape_of}
+use Rattle.nomos_check.specs.mirror.StandingData.{shape_of}
 use Rattle.nomos_check.proofs.LeadLemmas.{leads-on}
 use Rattle.nomos_check.proofs.StepRows.{label-stuck}
 use Rattle.nomos_check.proofs.choices.at_label.Goals as goal

@@ -1,6 +1,6 @@
 use Rattle.std.proofs.Common.{sym}
 use Rattle.nomos_types.specs.Premises.{SendsLabel}
-use Rattle.nomos_check.specs.mirror.Standing.{shape_of}
+use Rattle.nomos_check.specs.mirror.StandingData.{shape_of}
 use Rattle.nomos_check.proofs.ChannelLaws.{none-found}
 use Rattle.nomos_check.proofs.PremiseLemmas.{label-found}
 use Rattle.nomos_check.proofs.choices.label_goes.Goals as goal

@@ -4,7 +4,7 @@ use Rattle.std.specs.Result.{IfOk}
 use Rattle.nomos_ir.specs.declared.code_node.ValueArg.{ValueArg}
 use Rattle.nomos_ir.specs.TermKind.{HasKind}
 use Rattle.nomos_check.specs.mirror.Passing.{TellsList, TellsValue}
-use Rattle.nomos_check.specs.mirror.Standing.{shape_of}
+use Rattle.nomos_check.specs.mirror.StandingData.{shape_of}
 use Rattle.nomos_check.proofs.GivingSteps.{term-passes, list-passes}
 use Rattle.nomos_check.proofs.giving.pass_value.Goals as goal
 

@@ -3,7 +3,7 @@ use Rattle.std.proofs.lemmas.List.{drop_all}
 use Rattle.nomos_ir.specs.declared.code_node.ValueArg.{ValueArg}
 use Rattle.nomos_ir.specs.declared.declaration.Par.{Par}
 use Rattle.nomos_check.specs.mirror.Passing.{TellsValue, ValuesPassed}
-use Rattle.nomos_check.specs.mirror.Standing.{shape_of}
+use Rattle.nomos_check.specs.mirror.StandingData.{shape_of}
 use Rattle.nomos_check.proofs.GivingSteps.{terms-each, value-ascends, values-none, values-count, turn-whole, turn-rest, turn-stuck}
 use Rattle.nomos_check.proofs.giving.pass_values.Goals as goal
 

@@ -6,7 +6,7 @@ use Rattle.nomos_types.specs.Judgement.{Judgement}
 use Rattle.nomos_check.specs.declared.asked.Asked.{Asked}
 use Rattle.nomos_check.specs.declared.standing.Standing.{Standing}
 use Rattle.nomos_check.specs.mirror.Passing.{ValuesPassed}
-use Rattle.nomos_check.specs.mirror.Standing.{shape_of, IsReady}
+use Rattle.nomos_check.specs.mirror.StandingData.{shape_of, IsReady}
 use Rattle.nomos_check.proofs.giving.pass_values.Given as goal
 
 -- where the values from here on pass, all of them pass, and the other way round

@@ -1,5 +1,5 @@
 use Rattle.nomos_ir.specs.Amounts.{star_count}
-use Rattle.nomos_check.specs.mirror.Standing.{IsReady}
+use Rattle.nomos_check.specs.mirror.StandingData.{IsReady}
 use Rattle.nomos_check.specs.mirror.Walking.{IsWalk, WalksOn, width, work}
 use Rattle.nomos_check.proofs.going.go_all.Given as goal
 

@@ -6,7 +6,7 @@ use Rattle.nomos_check.proofs.WithinLemmas.{within-on_way}
 use Rattle.nomos_check.specs.declared.asked.Asked.{Asked}
 use Rattle.nomos_check.specs.declared.standing.Forks.{Forks}
 use Rattle.nomos_check.specs.declared.walk.Walk.{Walk}
-use Rattle.nomos_check.specs.mirror.Standing.{IsReady}
+use Rattle.nomos_check.specs.mirror.StandingData.{IsReady}
 use Rattle.nomos_check.specs.mirror.Walking.{Goes}
 use Rattle.nomos_check.proofs.going.go_along.Goals as goal
 

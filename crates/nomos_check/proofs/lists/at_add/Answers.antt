@@ -2,7 +2,7 @@ use Rattle.std.proofs.Common.{◌∙◌, ap, arith}
 use Rattle.nomos_ir.specs.Bindings.{bind}
 use Rattle.nomos_ir.specs.declared.code_node.CodeNode.TheVariants as code
 use Rattle.nomos_types.specs.Premises.{Adds}
-use Rattle.nomos_check.specs.mirror.Standing.{shape_of}
+use Rattle.nomos_check.specs.mirror.StandingData.{shape_of}
 use Rattle.nomos_check.proofs.FoundLemmas.{code-in_range}
 use Rattle.nomos_check.proofs.LimitLemmas.{room-at, list-amount}
 use Rattle.nomos_check.proofs.ListSteps.{add-leads, found-list, found-no_list}

@@ -1,7 +1,7 @@
 use Rattle.std.proofs.Common.{sym, subst, arith}
 use Rattle.nomos_ir.specs.TermKind.{HasKind}
 use Rattle.nomos_types.specs.Judgement.{ListType}
-use Rattle.nomos_check.specs.mirror.Standing.{shape_of}
+use Rattle.nomos_check.specs.mirror.StandingData.{shape_of}
 use Rattle.nomos_check.proofs.ListSteps.{list-unbound, list-bound, list-is}
 use Rattle.nomos_check.proofs.LeadLemmas.{not-true}
 use Rattle.nomos_check.proofs.lists.list_grows.Goals as goal

@@ -2,7 +2,7 @@ use Rattle.std.proofs.Common.{subst, sym}
 use Rattle.std.proofs.lemmas.Result.{IfOk-weaker}
 use Rattle.nomos_ir.specs.declared.code_node.Chan.TheVariants as chan
 use Rattle.nomos_check.specs.mirror.Passing.{TellsAlike}
-use Rattle.nomos_check.specs.mirror.Standing.{shape_of}
+use Rattle.nomos_check.specs.mirror.StandingData.{shape_of}
 use Rattle.nomos_check.proofs.ChannelLaws.{channel-in_range}
 use Rattle.nomos_check.proofs.PassingSteps.{reference-in_range, reference-passes, nothing-passes, channel-stays, channel-passes}
 use Rattle.nomos_check.proofs.passing.pass_channel.Goals as goal

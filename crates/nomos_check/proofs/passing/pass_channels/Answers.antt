@@ -5,7 +5,7 @@ use Rattle.nomos_ir.specs.declared.ids.TypeId.{TypeId}
 use Rattle.nomos_ir.specs.declared.ids.VarId.{VarId}
 use Rattle.nomos_types.proofs.ArgumentsLaws.{passes-channel_left}
 use Rattle.nomos_check.specs.mirror.Passing.{TellsChannel, ChannelsPassed}
-use Rattle.nomos_check.specs.mirror.Standing.{shape_of}
+use Rattle.nomos_check.specs.mirror.StandingData.{shape_of}
 use Rattle.nomos_check.proofs.PassingSteps.{channels-none, channels-count, turn-whole, turn-rest, turn-stuck}
 use Rattle.nomos_check.proofs.passing.pass_channels.Goals as goal
 

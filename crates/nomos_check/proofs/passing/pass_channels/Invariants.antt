@@ -5,7 +5,7 @@ use Rattle.nomos_types.specs.Judgement.{Judgement, IsJudgement}
 use Rattle.nomos_check.specs.declared.asked.Asked.{Asked}
 use Rattle.nomos_check.specs.declared.standing.Standing.{Standing}
 use Rattle.nomos_check.specs.mirror.Passing.{ChannelsPassed}
-use Rattle.nomos_check.specs.mirror.Standing.{shape_of, IsReady}
+use Rattle.nomos_check.specs.mirror.StandingData.{shape_of, IsReady}
 use Rattle.nomos_check.proofs.passing.pass_channels.Given as goal
 
 -- where the channels from here on pass, all of them pass, and the other way round

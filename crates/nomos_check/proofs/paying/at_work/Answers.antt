@@ -3,7 +3,7 @@ use Rattle.nomos_ir.specs.declared.code_node.CodeNode.TheVariants as code
 use Rattle.nomos_ir.specs.Amounts.{star_count}
 use Rattle.nomos_types.specs.Judgement.{at_code}
 use Rattle.nomos_check.specs.Account.{spends}
-use Rattle.nomos_check.specs.mirror.Standing.{shape_of}
+use Rattle.nomos_check.specs.mirror.StandingData.{shape_of}
 use Rattle.nomos_check.proofs.LeadLemmas.{leads-with}
 use Rattle.nomos_check.proofs.LimitLemmas.{room-at, code-amount}
 use Rattle.nomos_check.proofs.StepRows.{work-steps}

@@ -1,6 +1,6 @@
 use Rattle.nomos_types.specs.Premises.{ReceivesChannel}
 use Rattle.nomos_check.specs.declared.receiving.Received.{Received}
-use Rattle.nomos_check.specs.mirror.Standing.{shape_of}
+use Rattle.nomos_check.specs.mirror.StandingData.{shape_of}
 use Rattle.nomos_check.proofs.ChannelLaws.{none-found}
 use Rattle.nomos_check.proofs.LeadLemmas.{not-true}
 use Rattle.nomos_check.proofs.PremiseLemmas.{carried-in_range}

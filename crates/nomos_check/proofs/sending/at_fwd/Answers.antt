@@ -4,7 +4,7 @@ use Rattle.nomos_types.specs.Row as row
 use Rattle.nomos_types.proofs.ModeLaws.{mode-in_range}
 use Rattle.nomos_check.specs.Asking.{AsksPair}
 use Rattle.nomos_check.specs.mirror.Passing.{TellsAlike}
-use Rattle.nomos_check.specs.mirror.Standing.{shape_of}
+use Rattle.nomos_check.specs.mirror.StandingData.{shape_of}
 use Rattle.nomos_check.proofs.LeadLemmas.{not-true}
 use Rattle.nomos_check.proofs.PairLemmas.{joins-same}
 use Rattle.nomos_check.proofs.SendSteps.{forward-asks, forward-stays, only-in_range}

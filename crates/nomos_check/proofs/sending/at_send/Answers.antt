@@ -7,7 +7,7 @@ use Rattle.nomos_types.specs.Premises.{SendsChannel}
 use Rattle.nomos_types.specs.Row as row
 use Rattle.nomos_check.specs.Asking.{AsksPair}
 use Rattle.nomos_check.specs.mirror.Passing.{TellsChannel}
-use Rattle.nomos_check.specs.mirror.Standing.{shape_of}
+use Rattle.nomos_check.specs.mirror.StandingData.{shape_of}
 use Rattle.nomos_check.proofs.LeadLemmas.{leads-on, keeps-through, not-true}
 use Rattle.nomos_check.proofs.PairLemmas.{joins-same}
 use Rattle.nomos_check.proofs.PremiseLemmas.{sent-in_range}

@@ -1,4 +1,4 @@
-use Rattle.nomos_check.specs.mirror.Standing.{shape_of}
+use Rattle.nomos_check.specs.mirror.StandingData.{shape_of}
 use Rattle.nomos_check.proofs.LeadLemmas.{not-true}
 use Rattle.nomos_check.proofs.PremiseLemmas.{acquired-found}
 use Rattle.nomos_check.proofs.sharing.acquired.Goals as goal

@@ -3,7 +3,7 @@ use Rattle.nomos_ir.specs.declared.code_node.CodeNode.TheVariants as code
 use Rattle.nomos_ir.specs.declared.mode.Mode.TheVariants as mode
 use Rattle.nomos_types.specs.Judgement.{Judgement, at_code, binds_channel}
 use Rattle.nomos_types.specs.Row as row
-use Rattle.nomos_check.specs.mirror.Standing.{shape_of}
+use Rattle.nomos_check.specs.mirror.StandingData.{shape_of}
 use Rattle.nomos_check.proofs.LeadLemmas.{leads-on, keeps-through}
 use Rattle.nomos_check.proofs.StepRows.{acquire-stuck}
 use Rattle.nomos_check.proofs.sharing.at_acquire.Goals as goal

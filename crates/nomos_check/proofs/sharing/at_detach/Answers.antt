@@ -6,7 +6,7 @@ use Rattle.nomos_ir.specs.declared.mode.Mode.TheVariants as mode
 use Rattle.nomos_types.specs.Modes.{HasMode}
 use Rattle.nomos_types.specs.Row as row
 use Rattle.nomos_types.proofs.ModeLaws.{mode-in_range}
-use Rattle.nomos_check.specs.mirror.Standing.{shape_of}
+use Rattle.nomos_check.specs.mirror.StandingData.{shape_of}
 use Rattle.nomos_check.proofs.LeadLemmas.{leads-on, not-true}
 use Rattle.nomos_check.proofs.StepRows.{detach-stuck}
 use Rattle.nomos_check.proofs.sharing.at_detach.Goals as goal

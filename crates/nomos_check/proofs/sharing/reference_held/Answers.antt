@@ -3,7 +3,7 @@ use Rattle.nomos_ir.specs.declared.ids.TypeId.{TypeId}
 use Rattle.nomos_ir.specs.declared.type_node.TypeNode.TheVariants as node
 use Rattle.nomos_ir.specs.Bindings.{bound_to}
 use Rattle.nomos_ir.specs.Unfold.{Unfolds}
-use Rattle.nomos_check.specs.mirror.Standing.{shape_of}
+use Rattle.nomos_check.specs.mirror.StandingData.{shape_of}
 use Rattle.nomos_check.proofs.ChannelLaws.{none-found}
 use Rattle.nomos_check.proofs.PremiseLemmas.{reference-found}
 use Rattle.nomos_check.proofs.StandingLemmas.{shared-in_range}

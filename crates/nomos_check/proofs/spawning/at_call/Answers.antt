@@ -8,7 +8,7 @@ use Rattle.nomos_types.specs.Row as row
 use Rattle.nomos_types.proofs.ModeLaws.{mode-in_range}
 use Rattle.nomos_check.specs.Asking.{AsksPair}
 use Rattle.nomos_check.specs.mirror.Passing.{TellsAlike, TellsArguments, PairOfValues, PairOfChannels, carried_by_all}
-use Rattle.nomos_check.specs.mirror.Standing.{shape_of}
+use Rattle.nomos_check.specs.mirror.StandingData.{shape_of}
 use Rattle.nomos_check.proofs.ArgumentSteps.{arguments-ask, arguments-one, call-asks, call-stays, declared-in_range, joins-both}
 use Rattle.nomos_check.proofs.FoundLemmas.{code-in_range}
 use Rattle.nomos_check.proofs.LeadLemmas.{not-true}

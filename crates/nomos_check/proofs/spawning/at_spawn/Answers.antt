@@ -10,7 +10,7 @@ use Rattle.nomos_check.specs.Accounting.{spends_for, without_passed}
 use Rattle.nomos_check.specs.Asking.{AsksPair}
 use Rattle.nomos_check.specs.Room.{HasRoom}
 use Rattle.nomos_check.specs.mirror.Passing.{TellsArguments, PairOfValues, PairOfChannels, carried_by_all}
-use Rattle.nomos_check.specs.mirror.Standing.{amount_of, each_bound, shape_of}
+use Rattle.nomos_check.specs.mirror.StandingData.{amount_of, each_bound, shape_of}
 use Rattle.nomos_check.proofs.ArgumentSteps.{arguments-ask, declared-in_range, spawn-asks, spawn-stays}
 use Rattle.nomos_check.proofs.FoundLemmas.{code-in_range}
 use Rattle.nomos_check.proofs.LeadLemmas.{leads-with, keeps-through, not-true}

@@ -1,7 +1,7 @@
 use Rattle.std.proofs.Common.{◌≡◌, ◌≤◌, length, drop, filter}
 use Rattle.nomos_ir.specs.Bindings.{bindings_of}
 use Rattle.nomos_types.specs.Judgement.{is_shared}
-use Rattle.nomos_check.specs.mirror.Starting.{picks}
+use Rattle.nomos_check.specs.mirror.StartingWalk.{picks}
 use Rattle.nomos_check.proofs.start.channels_of.Given as goal
 
 -- the channels from here on are bound

@@ -1,7 +1,7 @@
 use Rattle.std.proofs.Common.{◌≡◌, ◌≤◌, length, drop}
 use Rattle.std.specs.List.{flat_map}
 use Rattle.nomos_ir.specs.Bindings.{bindings_of}
-use Rattle.nomos_check.specs.mirror.Starting.{carried_par}
+use Rattle.nomos_check.specs.mirror.StartingWalk.{carried_par}
 use Rattle.nomos_check.proofs.start.lists_of.Given as goal
 
 -- the parameters from here on are bound

@@ -9,7 +9,7 @@ use Rattle.nomos_check.proofs.LimitLemmas.{proc-amount}
 use Rattle.nomos_check.proofs.StartingLemmas.{channels-have, none-room, start-is}
 use Rattle.nomos_check.specs.Account.{form_of, no_account}
 use Rattle.nomos_check.specs.declared.standing.Standing.{Standing}
-use Rattle.nomos_check.specs.mirror.Starting.{picks, IsStartOf}
+use Rattle.nomos_check.specs.mirror.StartingWalk.{picks, IsStartOf}
 use Rattle.nomos_check.proofs.start.start.Goals as goal
 
 pub channels_of-requires-clause-have : goal.channels_of-requires-clause-have

@@ -2,7 +2,7 @@ use Rattle.std.proofs.Common.{◌∙◌, refl, ap}
 use Rattle.nomos_ir.specs.declared.code_node.CodeNode.TheVariants as code
 use Rattle.nomos_types.specs.Judgement.{Judgement, binds_value, goes_on}
 use Rattle.nomos_types.specs.Row as row
-use Rattle.nomos_check.specs.mirror.Standing.{shape_of}
+use Rattle.nomos_check.specs.mirror.StandingData.{shape_of}
 use Rattle.nomos_check.proofs.LeadLemmas.{leads-on, keeps-through}
 use Rattle.nomos_check.proofs.StepRows.{take-stuck}
 use Rattle.nomos_check.proofs.values.at_take.Goals as goal

@@ -1,4 +1,4 @@
-use Rattle.nomos_check.specs.mirror.Standing.{shape_of}
+use Rattle.nomos_check.specs.mirror.StandingData.{shape_of}
 use Rattle.nomos_check.proofs.PremiseLemmas.{value-received}
 use Rattle.nomos_check.proofs.values.value_comes.Goals as goal
 

@@ -1,4 +1,4 @@
-use Rattle.nomos_check.specs.mirror.Standing.{shape_of}
+use Rattle.nomos_check.specs.mirror.StandingData.{shape_of}
 use Rattle.nomos_check.proofs.LeadLemmas.{not-true}
 use Rattle.nomos_check.proofs.PremiseLemmas.{value-sent}
 use Rattle.nomos_check.proofs.values.value_goes.Goals as goal

@@ -2,7 +2,7 @@ use Rattle.std.proofs.Common.{map, sym, ap, subst}
 use Rattle.std.proofs.lemmas.Result.{err_from_is_err_and}
 use Rattle.nomos_elaborate.proofs.EntryLaws.{decls-may_be_made}
 use Rattle.nomos_elaborate.proofs.Walks.{lists_stop}
-use Rattle.nomos_surface.specs.Bounds.{KeepsDecl}
+use Rattle.nomos_surface.specs.TreeBounds.{KeepsDecl}
 use Rattle.nomos_surface.specs.FileView.{decl_tree, file_tree}
 use Rattle.nomos_surface.specs.Grammatical.{Each}
 use Rattle.nomos_surface.specs.Tree.{DeclTree}

@@ -1,6 +1,6 @@
 -- The first values are given out.
 use Rattle.std.proofs.Common.{sym, ap, ◌∙◌}
-use Rattle.nomos_eval.specs.mirror.Table.{datum_value}
+use Rattle.nomos_eval.specs.mirror.EvalTable.{datum_value}
 use Rattle.nomos_eval.proofs.LoadLemmas.{unload-step, unload-all}
 use Rattle.nomos_eval.proofs.values.+unload.Goals as goal
 

@@ -3,7 +3,7 @@ use Rattle.std.proofs.Common.{◌≡◌, ◌≤◌, ◌<◌, map, length, get_or
 use Rattle.nomos_ir.specs.Value.{no_values}
 use Rattle.nomos_ir.specs.ValueNode.{value_of}
 use Rattle.nomos_eval.specs.mirror.Load.{before_list}
-use Rattle.nomos_eval.specs.mirror.Table.{reach}
+use Rattle.nomos_eval.specs.mirror.EvalTable.{reach}
 use Rattle.nomos_eval.proofs.values.+unload.Given as goal
 
 abbrev pub decreases-unload : goal.decreases-unload

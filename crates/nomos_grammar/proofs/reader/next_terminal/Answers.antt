@@ -4,7 +4,7 @@ use Rattle.nomos_grammar.specs.declared.part.Part.{Part}
 use Rattle.nomos_grammar.specs.declared.part.Part.TheVariants as part
 use Rattle.nomos_grammar.specs.Counting.{Counts}
 use Rattle.nomos_grammar.specs.mirror.Table.{chosen}
-use Rattle.nomos_grammar.specs.mirror.Reading.{Leads}
+use Rattle.nomos_grammar.specs.mirror.ReaderStates.{Leads}
 use Rattle.nomos_grammar.specs.mirror.Tallies.{counts_of}
 use Rattle.nomos_grammar.proofs.GrammarLaws.{chosen_among}
 use Rattle.nomos_grammar.proofs.DistanceLemmas.{steps_left, fewer_replaced}

@@ -1,7 +1,7 @@
 -- Marks lead from the first parts and counts to those that are left.
 use Rattle.std.proofs.Common.{List}
 use Rattle.nomos_grammar.specs.declared.part.Mark.{Mark}
-use Rattle.nomos_grammar.specs.mirror.Reading.{Leads}
+use Rattle.nomos_grammar.specs.mirror.ReaderStates.{Leads}
 use Rattle.nomos_grammar.specs.mirror.Tallies.{counts_of, IsKept}
 use Rattle.nomos_grammar.proofs.DistanceLemmas.{steps_left}
 use Rattle.nomos_grammar.proofs.reader.next_terminal.Given as goal

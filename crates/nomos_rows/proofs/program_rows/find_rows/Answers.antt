@@ -7,7 +7,7 @@ use Rattle.nomos_rows.proofs.AnswerLemmas.{astray-cause, back-synchronizing, fau
 use Rattle.nomos_rows.proofs.DeclarationLemmas.{none-from}
 use Rattle.nomos_rows.proofs.program_rows.find_rows.Goals as goal
 use Rattle.nomos_rows.specs.declared.telling.Fault.{Fault}
-use Rattle.nomos_rows.specs.Faults.{IsCause}
+use Rattle.nomos_rows.specs.PartFaults.{IsCause}
 use Rattle.nomos_rows.specs.mirror.Processes.{AnswersDeclarations}
 use Rattle.nomos_rows.specs.mirror.Telling.{TellsBelow}
 use Rattle.nomos_rows.specs.mirror.Ups.{GoesAstray, GoesBack, IfNone, PairsBelow}

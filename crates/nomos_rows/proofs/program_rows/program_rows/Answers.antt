@@ -8,7 +8,7 @@ use Rattle.nomos_rows.proofs.MeetingLaws.{program-rows-law}
 use Rattle.nomos_rows.proofs.program_rows.program_rows.Goals as goal
 use Rattle.nomos_rows.specs.declared.program_rows.RowsError.{RowsError}
 use Rattle.nomos_rows.specs.ProgramRows.{IsTypedByRows}
-use Rattle.nomos_rows.specs.mirror.Answers.{AnswersProgram}
+use Rattle.nomos_rows.specs.mirror.PartAnswers.{AnswersProgram}
 
 -- the law of what is found
 law-found : (lists : ProgramLists) (found : Result RowList RowsError) → IsWellFormed lists

@@ -1,7 +1,7 @@
 -- Each line is read, or is the first one without a form.
 use Rattle.std.proofs.Common.{refl}
-use Rattle.nomos_script.specs.Reading.{IsFirstBad, begins_unbuilt}
-use Rattle.nomos_script.specs.Scan.{tokens_of}
+use Rattle.nomos_script.specs.ScriptReading.{IsFirstBad, begins_unbuilt}
+use Rattle.nomos_script.specs.ScriptScan.{tokens_of}
 use Rattle.nomos_script.proofs.LoopLemmas.{ReadSoFar-none, ReadSoFar-line, ReadSoFar-all, ReadSoFar-bad}
 use Rattle.nomos_script.proofs.ReadingLaws.{syntax_found, not_yet_found, reads_without_bad}
 use Rattle.nomos_script.proofs.parsing.read_items.Goals as goal

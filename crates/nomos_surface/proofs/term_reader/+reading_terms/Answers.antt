@@ -2,7 +2,7 @@ use Rattle.std.proofs.Common.{◌≡◌, ◌-◌, List, length, map, Some, None,
 use Rattle.nomos_surface.specs.declared.chain.Chain.TheVariants as chain
 use Rattle.nomos_surface.specs.declared.terms.SurfaceTerm.{SurfaceTerm}
 use Rattle.nomos_surface.specs.mirror.Front.{front_kind, is_comma, read_until}
-use Rattle.nomos_surface.specs.mirror.TermParts.{head_tree}
+use Rattle.nomos_surface.specs.mirror.TermPieces.{head_tree}
 use Rattle.nomos_surface.specs.mirror.Terms.{operand_of, operator_in, read_chain, read_list_term, read_primary, read_term, with_heads}
 use Rattle.nomos_surface.specs.Tree.{TermTree}
 use Rattle.nomos_surface.specs.TermView.{term_tree}

@@ -2,7 +2,7 @@ use Rattle.std.proofs.Common.{◌≡◌, ℕ, ◌+◌, ◌-◌, ◌*◌, length,
 use Rattle.nomos_surface.specs.declared.chain.Chain.{Chain}
 use Rattle.nomos_surface.specs.declared.chain.Chain.TheVariants as chain
 use Rattle.nomos_surface.specs.mirror.Front.{is_comma, read_parted, read_until}
-use Rattle.nomos_surface.specs.mirror.TermParts.{head_tree}
+use Rattle.nomos_surface.specs.mirror.TermPieces.{head_tree}
 use Rattle.nomos_surface.specs.mirror.Terms.{operand_of, read_chain, read_conses, read_list_term, read_more, read_primary, read_term}
 use Rattle.nomos_surface.specs.TermView.{term_tree}
 use Rattle.nomos_surface.proofs.term_reader.+reading_terms.Given as goal

@@ -1,5 +1,5 @@
 use Rattle.std.proofs.Common.{◌≡◌, map, vec_len}
-use Rattle.nomos_surface.specs.mirror.TermParts.{head_tree}
+use Rattle.nomos_surface.specs.mirror.TermPieces.{head_tree}
 use Rattle.nomos_surface.specs.mirror.Terms.{with_heads}
 use Rattle.nomos_surface.specs.TermView.{term_tree}
 use Rattle.nomos_surface.proofs.term_reader.with_heads.Given as goal

@@ -1,4 +1,4 @@
-use Rattle.nomos_script.specs.Reading.{text_limit}
+use Rattle.nomos_script.specs.ScriptReading.{text_limit}
 use Rattle.nomos_top.proofs.DueLemmas.{some_text, long_text}
 use Rattle.nomos_top.proofs.scripts.find_script.Goals as goal
 

@@ -9,7 +9,7 @@ use Rattle.nomos_forms.specs.declared.form.Form.{Form}
 use Rattle.nomos_types.specs.Row.{StandsAtCode}
 use Rattle.nomos_check.proofs.LimitLemmas.{room-at, proc-amount}
 use Rattle.nomos_check.proofs.NoteLemmas.{plain-notes, call-notes}
-use Rattle.nomos_check.specs.mirror.Standing.{shape_of}
+use Rattle.nomos_check.specs.mirror.StandingData.{shape_of}
 use Rattle.nomos_check.proofs.walk.Walk.note.Goals as goal
 
 pub proc-requires : goal.proc-requires

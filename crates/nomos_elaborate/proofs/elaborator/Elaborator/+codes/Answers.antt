@@ -11,7 +11,7 @@ use Rattle.nomos_elaborate.proofs.CodeSteps.{code_stops, whole_code}
 use Rattle.nomos_surface.specs.declared.codes.SurfaceLast.{the_lemmas}
 use Rattle.nomos_elaborate.proofs.CodeLoops.{arms_are_each}
 use Rattle.nomos_elaborate.specs.mirror.Entries.{most_of}
-use Rattle.nomos_surface.specs.Bounds.{KeepsArms}
+use Rattle.nomos_surface.specs.TreeBounds.{KeepsArms}
 use Rattle.nomos_surface.specs.Counts.{in_arms}
 use Rattle.nomos_elaborate.proofs.elaborator.Elaborator.+codes.Goals as goal
 

@@ -4,7 +4,7 @@ use Rattle.nomos_elaborate.specs.mirror.CodeCheck.{check_arm, check_code}
 use Rattle.nomos_elaborate.specs.mirror.Each.{each}
 use Rattle.nomos_surface.specs.CodeView.{arm_tree, arm_trees}
 use Rattle.nomos_elaborate.specs.mirror.Entries.{all_entries, most_of}
-use Rattle.nomos_surface.specs.Bounds.{KeepsArms}
+use Rattle.nomos_surface.specs.TreeBounds.{KeepsArms}
 use Rattle.nomos_surface.specs.Counts.{in_arms}
 use Rattle.nomos_elaborate.proofs.elaborator.Elaborator.+codes.Given as goal
 

@@ -7,7 +7,7 @@ use Rattle.nomos_surface.specs.TermView.{term_tree, term_trees}
 use Rattle.nomos_elaborate.proofs.Loops.{items-left, each-more, each-stops, each-all}
 use Rattle.nomos_elaborate.proofs.TermLoops.{terms_are_each}
 use Rattle.nomos_elaborate.specs.mirror.Entries.{most_of}
-use Rattle.nomos_surface.specs.Bounds.{KeepsTerms}
+use Rattle.nomos_surface.specs.TreeBounds.{KeepsTerms}
 use Rattle.nomos_surface.specs.Counts.{in_terms}
 use Rattle.nomos_surface.specs.declared.terms.SurfaceTerm.{the_lemmas}
 use Rattle.nomos_elaborate.proofs.elaborator.Elaborator.+terms.Goals as goal

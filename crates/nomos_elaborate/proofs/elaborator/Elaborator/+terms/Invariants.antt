@@ -4,7 +4,7 @@ use Rattle.nomos_elaborate.specs.mirror.Each.{each}
 use Rattle.nomos_elaborate.specs.mirror.TermCheck.{check_term}
 use Rattle.nomos_surface.specs.TermView.{term_tree, term_trees}
 use Rattle.nomos_elaborate.specs.mirror.Entries.{all_entries, most_of}
-use Rattle.nomos_surface.specs.Bounds.{KeepsTerms}
+use Rattle.nomos_surface.specs.TreeBounds.{KeepsTerms}
 use Rattle.nomos_surface.specs.Counts.{in_terms}
 use Rattle.nomos_elaborate.proofs.elaborator.Elaborator.+terms.Given as goal
 

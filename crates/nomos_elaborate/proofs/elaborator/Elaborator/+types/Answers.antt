@@ -8,7 +8,7 @@ use Rattle.nomos_elaborate.proofs.EntryLaws.{type_counts}
 use Rattle.nomos_elaborate.proofs.Loops.{items-left, each-more, each-stops, each-all, stops-then}
 use Rattle.nomos_elaborate.proofs.TypeLoops.{branches_are_each}
 use Rattle.nomos_elaborate.specs.mirror.Entries.{most_of}
-use Rattle.nomos_surface.specs.Bounds.{KeepsBranches}
+use Rattle.nomos_surface.specs.TreeBounds.{KeepsBranches}
 use Rattle.nomos_surface.specs.Counts.{in_branches}
 use Rattle.nomos_surface.specs.declared.types.SurfaceBranch.{the_lemmas}
 use Rattle.nomos_elaborate.proofs.elaborator.Elaborator.+types.Goals as goal

@@ -4,7 +4,7 @@ use Rattle.nomos_elaborate.specs.mirror.Each.{each}
 use Rattle.nomos_elaborate.specs.mirror.TypeCheck.{check_branch, check_type}
 use Rattle.nomos_surface.specs.TypeView.{branch_tree, branch_trees}
 use Rattle.nomos_elaborate.specs.mirror.Entries.{all_entries, most_of}
-use Rattle.nomos_surface.specs.Bounds.{KeepsBranches}
+use Rattle.nomos_surface.specs.TreeBounds.{KeepsBranches}
 use Rattle.nomos_surface.specs.Counts.{in_branches}
 use Rattle.nomos_elaborate.proofs.elaborator.Elaborator.+types.Given as goal
 

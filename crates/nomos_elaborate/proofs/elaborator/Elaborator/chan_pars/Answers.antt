@@ -6,7 +6,7 @@ use Rattle.nomos_elaborate.specs.mirror.Each.{each}
 use Rattle.nomos_surface.specs.FileView.{chan_par_tree}
 use Rattle.nomos_elaborate.proofs.Loops.{items-left, each-more, each-stops, each-all, each-map}
 use Rattle.nomos_elaborate.specs.mirror.Entries.{most_of}
-use Rattle.nomos_surface.specs.Bounds.{KeepsChanPar}
+use Rattle.nomos_surface.specs.TreeBounds.{KeepsChanPar}
 use Rattle.nomos_surface.specs.Counts.{in_chan_par, in_each}
 use Rattle.nomos_surface.specs.Grammatical.{Each}
 use Rattle.nomos_elaborate.proofs.elaborator.Elaborator.chan_pars.Goals as goal

@@ -7,7 +7,7 @@ use Rattle.nomos_elaborate.specs.mirror.Each.{each}
 use Rattle.nomos_surface.specs.StepView.{step_tree}
 use Rattle.nomos_elaborate.proofs.Loops.{items-left, each-more, each-stops, each-all, each-map}
 use Rattle.nomos_elaborate.specs.mirror.Entries.{most_of}
-use Rattle.nomos_surface.specs.Bounds.{KeepsStep}
+use Rattle.nomos_surface.specs.TreeBounds.{KeepsStep}
 use Rattle.nomos_surface.specs.Counts.{in_each, in_step}
 use Rattle.nomos_surface.specs.Grammatical.{Each}
 use Rattle.nomos_elaborate.proofs.elaborator.Elaborator.steps.Goals as goal

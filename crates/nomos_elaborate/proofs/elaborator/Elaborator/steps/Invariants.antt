@@ -4,7 +4,7 @@ use Rattle.nomos_elaborate.specs.mirror.CodeCheck.{check_step}
 use Rattle.nomos_elaborate.specs.mirror.Each.{each}
 use Rattle.nomos_surface.specs.StepView.{step_tree}
 use Rattle.nomos_elaborate.specs.mirror.Entries.{all_entries, most_of}
-use Rattle.nomos_surface.specs.Bounds.{KeepsStep}
+use Rattle.nomos_surface.specs.TreeBounds.{KeepsStep}
 use Rattle.nomos_surface.specs.Counts.{in_each, in_step}
 use Rattle.nomos_surface.specs.Grammatical.{Each}
 use Rattle.nomos_elaborate.proofs.elaborator.Elaborator.steps.Given as goal

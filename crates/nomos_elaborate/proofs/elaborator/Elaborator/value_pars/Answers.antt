@@ -5,7 +5,7 @@ use Rattle.nomos_elaborate.specs.mirror.FileCheck.{check_value_par}
 use Rattle.nomos_elaborate.specs.mirror.Each.{each}
 use Rattle.nomos_elaborate.proofs.Loops.{items-left, each-more, each-stops, each-all}
 use Rattle.nomos_elaborate.specs.mirror.Entries.{most_of}
-use Rattle.nomos_surface.specs.Bounds.{KeepsValuePar}
+use Rattle.nomos_surface.specs.TreeBounds.{KeepsValuePar}
 use Rattle.nomos_surface.specs.Counts.{in_each, in_value_par}
 use Rattle.nomos_surface.specs.Grammatical.{Each}
 use Rattle.nomos_elaborate.proofs.elaborator.Elaborator.value_pars.Goals as goal

@@ -3,7 +3,7 @@ use Rattle.nomos_elaborate.specs.mirror.Checked.{found}
 use Rattle.nomos_elaborate.specs.mirror.FileCheck.{check_value_par}
 use Rattle.nomos_elaborate.specs.mirror.Each.{each}
 use Rattle.nomos_elaborate.specs.mirror.Entries.{all_entries, most_of}
-use Rattle.nomos_surface.specs.Bounds.{KeepsValuePar}
+use Rattle.nomos_surface.specs.TreeBounds.{KeepsValuePar}
 use Rattle.nomos_surface.specs.Counts.{in_each, in_value_par}
 use Rattle.nomos_surface.specs.Grammatical.{Each}
 use Rattle.nomos_elaborate.proofs.elaborator.Elaborator.value_pars.Given as goal

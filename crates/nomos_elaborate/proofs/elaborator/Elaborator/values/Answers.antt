@@ -6,7 +6,7 @@ use Rattle.nomos_elaborate.specs.mirror.Each.{each}
 use Rattle.nomos_surface.specs.TermView.{term_tree}
 use Rattle.nomos_elaborate.proofs.Loops.{items-left, each-more, each-stops, each-all, each-map}
 use Rattle.nomos_elaborate.specs.mirror.Entries.{most_of}
-use Rattle.nomos_surface.specs.Bounds.{KeepsTerm}
+use Rattle.nomos_surface.specs.TreeBounds.{KeepsTerm}
 use Rattle.nomos_surface.specs.Counts.{in_each, in_term}
 use Rattle.nomos_surface.specs.Grammatical.{Each}
 use Rattle.nomos_elaborate.proofs.elaborator.Elaborator.values.Goals as goal

@@ -4,7 +4,7 @@ use Rattle.nomos_elaborate.specs.mirror.CodeCheck.{check_argument}
 use Rattle.nomos_elaborate.specs.mirror.Each.{each}
 use Rattle.nomos_surface.specs.TermView.{term_tree}
 use Rattle.nomos_elaborate.specs.mirror.Entries.{all_entries, most_of}
-use Rattle.nomos_surface.specs.Bounds.{KeepsTerm}
+use Rattle.nomos_surface.specs.TreeBounds.{KeepsTerm}
 use Rattle.nomos_surface.specs.Counts.{in_each, in_term}
 use Rattle.nomos_surface.specs.Grammatical.{Each}
 use Rattle.nomos_elaborate.proofs.elaborator.Elaborator.values.Given as goal

@@ -3,7 +3,7 @@ use Rattle.std.proofs.lemmas.Result.{err_from_is_err_and}
 use Rattle.nomos_elaborate.proofs.Loops.{items-left}
 use Rattle.nomos_elaborate.proofs.Walks.{decls_all, decls_next, decls_stop}
 use Rattle.nomos_elaborate.specs.mirror.Entries.{most_of}
-use Rattle.nomos_surface.specs.Bounds.{KeepsDecl}
+use Rattle.nomos_surface.specs.TreeBounds.{KeepsDecl}
 use Rattle.nomos_surface.specs.Counts.{in_decl, in_each}
 use Rattle.nomos_surface.specs.FileView.{decl_tree}
 use Rattle.nomos_surface.specs.Grammatical.{Each}

@@ -1,7 +1,7 @@
 use Rattle.std.proofs.Common.{◌≡◌, map, drop}
 use Rattle.nomos_elaborate.specs.mirror.FileCheck.{check_decls}
 use Rattle.nomos_elaborate.specs.mirror.Entries.{MayMake}
-use Rattle.nomos_surface.specs.Bounds.{KeepsDecl}
+use Rattle.nomos_surface.specs.TreeBounds.{KeepsDecl}
 use Rattle.nomos_surface.specs.Counts.{in_decl, in_each}
 use Rattle.nomos_surface.specs.FileView.{decl_tree}
 use Rattle.nomos_surface.specs.Grammatical.{Each}

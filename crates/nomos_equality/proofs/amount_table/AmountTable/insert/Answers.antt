@@ -4,7 +4,7 @@ use Rattle.std.proofs.lemmas.List.{map-append}
 use Rattle.std.proofs.lemmas.List.Elements.{All-push}
 use Rattle.indexmap.specs.IndexMap.{insert_entry}
 use Rattle.nomos_ir.specs.declared.amount.Amount.{Amount}
-use Rattle.nomos_equality.specs.mirror.Tables.{pair_key, HasKeys}
+use Rattle.nomos_equality.specs.mirror.PairTables.{pair_key, HasKeys}
 use Rattle.nomos_equality.proofs.TableLemmas.{keys_eq, keys-exact, keys-same, pairs-apart, found-item, absent-item, put-last}
 use Rattle.nomos_equality.proofs.amount_table.AmountTable.insert.Goals as goal
 

@@ -1,6 +1,6 @@
 use Rattle.std.proofs.Common.{List, map, subst}
 use Rattle.nomos_ir.specs.declared.ids.TypeId.{TypeId}
-use Rattle.nomos_equality.specs.mirror.Tables.{types_at, PutsOnce}
+use Rattle.nomos_equality.specs.mirror.PairTables.{types_at, PutsOnce}
 use Rattle.nomos_equality.proofs.TableLemmas.{numbers_eq, numbers-exact, numbers-same, types-apart, put-once}
 use Rattle.nomos_equality.proofs.pair_table.PairTable.insert.Goals as goal
 

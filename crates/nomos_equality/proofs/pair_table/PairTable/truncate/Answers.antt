@@ -1,7 +1,7 @@
 use Rattle.std.proofs.Common.{ap, sym, ◌∙◌, map, take, List}
 use Rattle.std.proofs.lemmas.List.{take-map}
 use Rattle.nomos_ir.specs.declared.ids.TypeId.{TypeId}
-use Rattle.nomos_equality.specs.mirror.Tables.{types_at}
+use Rattle.nomos_equality.specs.mirror.PairTables.{types_at}
 use Rattle.nomos_equality.proofs.pair_table.PairTable.truncate.Goals as goal
 
 pub returns : goal.returns

@@ -1,6 +1,6 @@
 use Rattle.std.proofs.Common.{Bool, refl, subst}
 use Rattle.nomos_equality.specs.mirror.Search.{fresh}
-use Rattle.nomos_equality.specs.mirror.Tables.{PutsOnce}
+use Rattle.nomos_equality.specs.mirror.PairTables.{PutsOnce}
 use Rattle.nomos_equality.proofs.search.Search.meet.Goals as goal
 
 pub returns-in_ok-push-clause-meets : goal.returns-in_ok-push-clause-meets

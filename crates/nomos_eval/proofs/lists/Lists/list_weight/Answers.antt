@@ -1,7 +1,7 @@
 -- A cell notes the weight of its list.
 use Rattle.std.proofs.Common.{sym, ap, arith}
 use Rattle.nomos_ir.specs.Value.{list}
-use Rattle.nomos_eval.specs.mirror.Table.{capped}
+use Rattle.nomos_eval.specs.mirror.EvalTable.{capped}
 use Rattle.nomos_eval.proofs.ListLemmas.{empty_at, weight_at, long}
 use Rattle.nomos_eval.proofs.lists.Lists.list_weight.Goals as goal
 

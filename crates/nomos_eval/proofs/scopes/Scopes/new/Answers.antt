@@ -1,6 +1,6 @@
 -- No cells are no lists.
 use Rattle.std.proofs.Common.{refl}
-use Rattle.nomos_eval.specs.mirror.Scope.{scopes_of}
+use Rattle.nomos_eval.specs.mirror.EvalScope.{scopes_of}
 use Rattle.nomos_eval.proofs.scopes.Scopes.new.Goals as goal
 
 pub returns : goal.returns

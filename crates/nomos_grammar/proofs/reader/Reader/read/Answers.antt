@@ -4,7 +4,7 @@ use Rattle.nomos_syntax.specs.Limits.{node_limit}
 use Rattle.nomos_grammar.specs.declared.offence.Which.{Which}
 use Rattle.nomos_grammar.specs.Counting.{Counts}
 use Rattle.nomos_grammar.specs.Offence.{nodes_before, Keeps}
-use Rattle.nomos_grammar.specs.mirror.Reading.{IsReady, HasRead, PassesItself}
+use Rattle.nomos_grammar.specs.mirror.ReaderStates.{IsReady, HasRead, PassesItself}
 use Rattle.nomos_grammar.specs.mirror.Tallies.{counts_of}
 use Rattle.nomos_grammar.proofs.OutcomeLemmas.{
   standing,

@@ -1,7 +1,7 @@
 use Rattle.std.proofs.Common.{◌∙◌, All, subst, sym}
 use Rattle.std.specs.String.{string_bytes}
 use Rattle.std.proofs.lemmas.List.Elements.{All-push}
-use Rattle.nomos_script.specs.Name.{IsScriptName}
+use Rattle.nomos_script.specs.ScriptNames.{IsScriptName}
 use Rattle.nomos_ledger.proofs.AccountLemmas.{put-account}
 use Rattle.nomos_ledger.proofs.account_names.AccountNames.add.Goals as goal
 

@@ -2,7 +2,7 @@ use Rattle.std.proofs.Common.{◌∙◌, ◌-◌, All, List, ℕ, ap, length, ma
 use Rattle.std.specs.String.{string_bytes}
 use Rattle.std.proofs.lemmas.List.{length-map, take-map}
 use Rattle.std.proofs.lemmas.List.Elements.{All-take}
-use Rattle.nomos_script.specs.Name.{IsScriptName}
+use Rattle.nomos_script.specs.ScriptNames.{IsScriptName}
 use Rattle.nomos_ledger.proofs.account_names.AccountNames.drop_last.Goals as goal
 
 pub returns : goal.returns

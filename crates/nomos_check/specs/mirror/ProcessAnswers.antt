@@ -18,7 +18,7 @@ use Rattle.nomos_check.specs.declared.checking.ProcError.{ProcError}
 use Rattle.nomos_check.specs.declared.checking.ProcError.TheVariants as error
 use Rattle.nomos_check.specs.declared.walk.Stuck.{Stuck}
 use Rattle.nomos_check.specs.declared.walk.Walk.{Walk}
-use Rattle.nomos_check.specs.mirror.Standing.{HasPair}
+use Rattle.nomos_check.specs.mirror.StandingData.{HasPair}
 use Rattle.nomos_check.specs.mirror.Walking.{IsDone, StuckOf}
 
 -- what the declaration asks for was gathered, beside what was compared before

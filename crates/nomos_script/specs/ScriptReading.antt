@@ -7,7 +7,7 @@ use Rattle.nomos_script.specs.declared.parsing.ScriptError.TheVariants as error
 use Rattle.nomos_script.specs.Form.{Form, LineReadsAs, HasForm}
 use Rattle.nomos_script.specs.Item.{items_of}
 use Rattle.nomos_script.specs.Lines.{lines_of}
-use Rattle.nomos_script.specs.Scan.{Token, word, number, mark, tokens_of}
+use Rattle.nomos_script.specs.ScriptScan.{Token, word, number, mark, tokens_of}
 
 -- the most bytes of a script
 abbrev pub text_limit : ℕ

@@ -10,7 +10,7 @@ use Rattle.nomos_rows.specs.declared.program_rows.RowsError.{RowsError}
 use Rattle.nomos_rows.specs.declared.program_rows.RowsError.TheVariants as error
 use Rattle.nomos_rows.specs.declared.telling.Fault.{Fault}
 use Rattle.nomos_rows.specs.declared.telling.Fault.TheVariants as fault
-use Rattle.nomos_rows.specs.Faults.{IsCause}
+use Rattle.nomos_rows.specs.PartFaults.{IsCause}
 use Rattle.nomos_rows.specs.ProgramRows.{AreProgramRows}
 
 -- the answer that names a fault

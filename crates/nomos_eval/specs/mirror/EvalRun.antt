@@ -15,7 +15,7 @@ use Rattle.nomos_eval.specs.declared.stop.Stop.{Stop}
 use Rattle.nomos_eval.specs.declared.stop.Stop.TheVariants as stop
 use Rattle.nomos_eval.specs.mirror.Machine.{IsSound, left, left_of, left_with, scopes_held}
 use Rattle.nomos_eval.specs.mirror.Rest.{variables_at, act_work, work}
-use Rattle.nomos_eval.specs.mirror.Table.{datum_value, reach}
+use Rattle.nomos_eval.specs.mirror.EvalTable.{datum_value, reach}
 
 -- something other than to enter a term
 abbrev pub IsOther : Act → Type 0

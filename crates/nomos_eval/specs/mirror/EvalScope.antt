@@ -4,7 +4,7 @@ use Rattle.nomos_ir.specs.declared.ids.VarId.{VarId}
 use Rattle.nomos_eval.specs.declared.datum.Datum.{Datum}
 use Rattle.nomos_eval.specs.declared.scopes.Binding.{Binding}
 use Rattle.nomos_eval.specs.declared.scopes.Binding.TheVariants as binding
-use Rattle.nomos_eval.specs.mirror.Table.{table}
+use Rattle.nomos_eval.specs.mirror.EvalTable.{table}
 
 -- the variables that a binding stands for
 abbrev pub binding_list : List (List (VarId × Datum)) → Binding → List (VarId × Datum)

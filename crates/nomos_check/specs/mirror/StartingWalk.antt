@@ -12,7 +12,7 @@ use Rattle.nomos_types.specs.Judgement.{payer_kinds, value_par, start_of}
 use Rattle.nomos_check.specs.Account.{start_account}
 use Rattle.nomos_check.specs.declared.standing.Carried.{Carried}
 use Rattle.nomos_check.specs.declared.standing.Standing.{Standing}
-use Rattle.nomos_check.specs.mirror.Standing.{shape_of, HasAccount}
+use Rattle.nomos_check.specs.mirror.StandingData.{shape_of, HasAccount}
 
 -- pairs are bound before those of a map, the last one first
 abbrev pub bind_all : {X : Type 0} → List (VarId × X) → List (VarId × X) → List (VarId × X)

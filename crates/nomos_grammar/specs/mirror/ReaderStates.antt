@@ -30,7 +30,7 @@ use Rattle.nomos_grammar.specs.declared.part.Mark.{Mark}
 use Rattle.nomos_grammar.specs.declared.part.Part.{Part}
 use Rattle.nomos_grammar.specs.declared.part.Part.TheVariants as part
 use Rattle.nomos_grammar.specs.Counting.{Counts, depth, counts, counts_from}
-use Rattle.nomos_grammar.specs.Derivation.{Event, mark, tokens_in, Derives, file}
+use Rattle.nomos_grammar.specs.Deriving.{Event, mark, tokens_in, Derives, file}
 use Rattle.nomos_grammar.specs.Offence.{star_limit, IsSmall, Rule, rules, Keeps, KeepsAll, error_of}
 use Rattle.nomos_grammar.specs.mirror.Table.{same}
 use Rattle.nomos_grammar.specs.mirror.Stacks.{next_in, distance, IsStack, IsLow}

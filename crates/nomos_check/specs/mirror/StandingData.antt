@@ -22,7 +22,7 @@ use Rattle.nomos_check.specs.declared.standing.Step.{Step}
 use Rattle.nomos_check.specs.declared.standing.Step.TheVariants as step
 use Rattle.nomos_check.specs.declared.standing.Way.{Way}
 use Rattle.nomos_check.specs.declared.standing.Way.TheVariants as way
-use Rattle.nomos_check.specs.mirror.Limits.{IsAmountOf}
+use Rattle.nomos_check.specs.mirror.FormLimits.{IsAmountOf}
 
 -- what is bound, each changed in the same way
 abbrev pub each_bound : {X Y : Type 0} → (X → Y) → List (VarId × X) → List (VarId × Y)
