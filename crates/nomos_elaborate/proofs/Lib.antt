@@ -44,3 +44,4 @@ pub mod CodeLabels
 pub mod ParameterNames
 pub mod NamingLaws
 pub mod ProgramLaws
+pub mod PrintedLemmas
