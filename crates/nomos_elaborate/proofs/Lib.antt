@@ -45,3 +45,4 @@ pub mod ParameterNames
 pub mod NamingLaws
 pub mod ProgramLaws
 pub mod PrintedLemmas
+pub mod InstructionLaws
