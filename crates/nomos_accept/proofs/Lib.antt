@@ -5,3 +5,5 @@ pub mod StepLemmas
 pub mod StarLaws
 pub mod CauseLaws
 pub mod RowListLaws
+pub mod RisingLemmas
+pub mod OneFormLaws
