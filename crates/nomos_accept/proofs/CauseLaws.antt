@@ -1,11 +1,13 @@
--- A text is refused by one step of the checker at most, and at one place.
-use Rattle.std.proofs.Common.{◌≡◌, ◌<◌, ◌≤◌, ℕ, zero, suc, List, Option, Some, None, length, slice_get, inl, inr, refl, sym, ap, subst, ◌∙◌, arith}
+-- A text is refused by one step of the checker at most, and at one place; a stuck instruction has one form.
+use Rattle.std.proofs.Common.{◌≡◌, ◌≢◌, ◌<◌, ◌≤◌, ℕ, zero, suc, List, Option, Some, None, length, slice_get, inl, inr, refl, sym, ap, subst, ◌∙◌, arith}
 use Rattle.nomos_accept.proofs.AcceptLaws.{one-tree, one-program}
+use Rattle.nomos_accept.proofs.OneFormLaws.{tells-once, kind-told, stuck-told}
 use Rattle.nomos_accept.proofs.StepLemmas.{one-step}
 use Rattle.nomos_accept.specs.AcceptedText.{IsReadAs, ReadsWith, IsOffence, IsCauseOf}
-use Rattle.nomos_accept.specs.Causes.{step_of, offset_of, limit_of, SameCause}
+use Rattle.nomos_accept.specs.Causes.{step_of, offset_of, limit_of, form_of, SameCause}
 use Rattle.nomos_accept.specs.declared.refusal.Why.{Why}
 use Rattle.nomos_accept.specs.declared.refusal.Why.TheVariants as why
+use Rattle.nomos_elaborate.proofs.InstructionLaws.{Tells}
 use Rattle.nomos_elaborate.specs.NameClaim.{first_broken}
 use Rattle.nomos_elaborate.specs.FileClaims.{claims_of}
 use Rattle.nomos_elaborate.specs.WrittenWork.{written_work}
@@ -144,11 +146,50 @@ finds-once (suc (suc (suc (suc (suc (suc (suc (suc zero)))))))) text o p l m (a,
     (placed-once IsFault fault-once text o p a b, f ∙ sym h)
 finds-once (suc (suc (suc (suc (suc (suc (suc (suc (suc k))))))))) text o p l m a b = (a.0 ∙ sym b.0, a.1 ∙ sym b.1)
 
--- all causes of refusal of a text are of one step, one offset and one limit
+-- What a step finds of a form: of a fault, what the tokens tell from its offset on; of all else nothing.
+data FindsForm (text : List ℕ) (v : Why) : Type 0 where
+  at_fault : (at : ℕ) → step_of v ≡ 8 → offset_of v ≡ Some at → Tells (tokens_of text) at (form_of v)
+      → FindsForm text v
+  at_none : step_of v ≢ 8 → form_of v ≡ None → FindsForm text v
+
+-- the form that the cause names is what its step finds
+finds-form : (text : List ℕ) (v : Why) → IsCauseOf text v → FindsForm text v
+finds-form text why.TooLong cause = at_none (λ e. omega (arith, e)) refl
+finds-form text (why.NotAscii at) cause = at_none (λ e. omega (arith, e)) refl
+finds-form text (why.Syntax at) cause = at_none (λ e. omega (arith, e)) refl
+finds-form text (why.Limit which at) cause = at_none (λ e. omega (arith, e)) refl
+finds-form text (why.Name at) cause = at_none (λ e. omega (arith, e)) refl
+finds-form text (why.Cost at) cause = at_none (λ e. omega (arith, e)) refl
+finds-form text (why.Contractive at) cause = at_none (λ e. omega (arith, e)) refl
+finds-form text (why.Mode at) cause = at_none (λ e. omega (arith, e)) refl
+finds-form text (why.NotSync at path) cause = at_none (λ e. omega (arith, e)) refl
+finds-form text (why.TermType at) (lists, read, both) =
+    let (back, other, first, never) = both.1 in
+    at_fault at refl refl (kind-told text lists at read other)
+finds-form text (why.ProcType at form) (lists, read, both) =
+    let (back, stuck, first, never) = both.1 in
+    at_fault at refl refl (stuck-told text lists at form read both.0 stuck)
+finds-form text (why.NoPotential verdict) cause = at_none (λ e. omega (arith, e)) refl
+
+-- a step finds one form at one place
+form-once : (text : List ℕ) (v w : Why) → step_of v ≡ step_of w → offset_of v ≡ offset_of w → FindsForm text v
+    → FindsForm text w → form_of v ≡ form_of w
+form-once text v w step offset (at_fault at eight here tells) (at_fault to also there told) =
+    let same : Some at ≡ Some to = sym here ∙ (offset ∙ there) in
+    let one : at ≡ to = cc in
+    tells-once text to (form_of v) (form_of w)
+    (subst (λ (o : ℕ). Tells (tokens_of text) o (form_of v)) one tells) told
+form-once text v w step offset (at_fault at eight here tells) (at_none other none) =
+    absurd (other (sym step ∙ eight))
+form-once text v w step offset (at_none other none) (at_fault to also there told) = absurd (other (step ∙ also))
+form-once text v w step offset (at_none other none) (at_none another no_form) = none ∙ sym no_form
+
+-- all causes of refusal of a text are of one step, one offset, one limit and one form
 pub one-cause : (text : List ℕ) (v w : Why) → IsCauseOf text v → IsCauseOf text w → SameCause v w
 one-cause text v w a b =
     let step = one-step text v w a b in
     let other = subst (λ (k : ℕ). Finds k text (offset_of w) (limit_of w)) (sym step) (finds text w b) in
     let both = finds-once (step_of v) text (offset_of v) (offset_of w) (limit_of v) (limit_of w) (finds text v a)
     other in
-    record { step = step; offset = both.0; limit = both.1 }
+    let form = form-once text v w step both.0 (finds-form text v a) (finds-form text w b) in
+    record { step = step; offset = both.0; limit = both.1; form = form }

@@ -3,6 +3,7 @@ use Rattle.std.specs.Prelude.{◌≡◌, ℕ, Option, Some, None}
 use Rattle.nomos_accept.specs.declared.refusal.Why.{Why}
 use Rattle.nomos_accept.specs.declared.refusal.Why.TheVariants as why
 use Rattle.nomos_grammar.specs.declared.offence.Which.{Which}
+use Rattle.nomos_ir.specs.declared.code_form.CodeForm.{CodeForm}
 
 -- The step of the checker that finds the cause. Steps are taken in this order; the bodies of functions and those of
 -- processes are one step, in order of text.
@@ -50,8 +51,25 @@ limit_of (why.TermType at) = None
 limit_of (why.ProcType at form) = None
 limit_of (why.NoPotential verdict) = None
 
--- One step finds both, at one offset, and where a limit is passed it is one limit.
+-- the form of the stuck instruction that it names
+abbrev pub form_of : Why → Option CodeForm
+form_of why.TooLong = None
+form_of (why.NotAscii at) = None
+form_of (why.Syntax at) = None
+form_of (why.Limit which at) = None
+form_of (why.Name at) = None
+form_of (why.Cost at) = None
+form_of (why.Contractive at) = None
+form_of (why.Mode at) = None
+form_of (why.NotSync at path) = None
+form_of (why.TermType at) = None
+form_of (why.ProcType at form) = Some form
+form_of (why.NoPotential verdict) = None
+
+-- One step finds both, at one offset. Where a limit is passed it is one limit, and where an instruction is stuck it has
+-- one form.
 pub record SameCause (v w : Why) : Type 0 where
   pub step : step_of v ≡ step_of w
   pub offset : offset_of v ≡ offset_of w
   pub limit : limit_of v ≡ limit_of w
+  pub form : form_of v ≡ form_of w
