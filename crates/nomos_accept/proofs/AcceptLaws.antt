@@ -1,6 +1,6 @@
 -- A text reads as one program at most, and a text that is typed is refused for no cause.
 use Rattle.std.proofs.Common.{◌≡◌, ℕ, List, ap, sym, subst, ◌∙◌}
-use Rattle.nomos_accept.specs.AcceptedText.{IsReadAs, IsTypedAs, IsNeverTyped, EndsWith, IsProgramWith, IsRefused, IsUnsolved}
+use Rattle.nomos_accept.specs.AcceptedText.{IsReadAs, IsTypedAs, IsNeverTyped, PivotRunEndsWith, IsProgramWith, IsRefused, IsUnsolved}
 use Rattle.nomos_accept.specs.declared.refusal.Why.{Why}
 use Rattle.nomos_elaborate.specs.FileBuild.{program_of}
 use Rattle.nomos_ir.specs.declared.lists.ProgramLists.{ProgramLists}
@@ -39,8 +39,8 @@ typed-not_refused text lists x typed why refused = refused.never lists x typed
 
 -- where the run on the rows of its program does not stop without an answer, it is answered that it is typed
 pub typed-solved : (text : List ℕ) (lists : ProgramLists) (x : Annotations) → IsTypedAs text lists x
-    → ((stop : Stop) → ¬ (EndsWith lists (solved.Unsolved stop))) → (stop : Stop)
+    → ((stop : Stop) → ¬ (PivotRunEndsWith lists (solved.Unsolved stop))) → (stop : Stop)
     → ¬ (IsProgramWith text (λ l. IsUnsolved l stop))
 typed-solved text lists x typed solves stop (other, read, unsolved) =
-    solves stop (subst (λ (l : ProgramLists). EndsWith l (solved.Unsolved stop))
+    solves stop (subst (λ (l : ProgramLists). PivotRunEndsWith l (solved.Unsolved stop))
     (one-program text other lists read typed.read) unsolved.ends)

@@ -27,7 +27,7 @@ use Rattle.nomos_types.specs.Row.{StandsAtCode, Row}
 use Rattle.nomos_types.specs.Row as row
 use Rattle.nomos_types.specs.Typed.{IsWellFormed}
 
--- ---- one form at an offset
+-- one form at an offset
 
 -- The tokens from an offset of a text on tell one form.
 pub tells-once : (text : List ℕ) (at : ℕ) (f g : Option CodeForm) → Tells (tokens_of text) at f
@@ -37,7 +37,7 @@ tells-once text at f g a b =
     (a.offset ∙ sym b.offset) in
     sym a.form ∙ (ap form_at same ∙ b.form)
 
--- ---- what is stuck stands in the text
+-- what is stuck stands in the text
 
 -- where amounts are ignored, each is worth nothing
 worth-nothing : (r : Amount) → dths no_amounts r ≡ 0

@@ -7,7 +7,7 @@ use Rattle.std.proofs.Math.Nat.{ℕ_set}
 use Rattle.std.specs.List.{AllByRecursion, flat_map}
 use Rattle.std.specs.List.Sorted.{IsStrictlySortedBy}
 use Rattle.std.specs.declared.cmp.Ordering.TheVariants.{Less, Equal}
-use Rattle.nomos_accept.specs.AcceptedText.{AreRowsFor, EndsWith}
+use Rattle.nomos_accept.specs.AcceptedText.{AreRowsFor, PivotRunEndsWith}
 use Rattle.nomos_forms.specs.Bounds.{IsRow}
 use Rattle.nomos_forms.specs.declared.row.Row.{Row}
 use Rattle.nomos_forms.specs.declared.row_list.RowList.{RowList}
@@ -176,7 +176,7 @@ program_rows-once lists n xs ys a b =
     (λ f is. (a.are_forms f).1 ((b.are_forms f).0 is)) (λ p is. (a.are_pairs p).1 ((b.are_pairs p).0 is))
     ((b.are_rows.same row).0 there)))
 
--- ---- two lists of rows with the same rows over the same stars
+-- two lists of rows with the same rows over the same stars
 
 -- what is said of the size of a row is said in one way
 row-prop : (n : ℕ) (row : Row) → IsProp (IsRow n row)
@@ -215,6 +215,6 @@ rows_for-once lists a b is other =
     (program_rows-once lists (star_count lists) a.rows b.rows is.of_program other.of_program)
 
 -- the pivot run on the rows of a program has one end
-pub ends-once : (lists : ProgramLists) (a b : Solved) → EndsWith lists a → EndsWith lists b → a ≡ b
+pub ends-once : (lists : ProgramLists) (a b : Solved) → PivotRunEndsWith lists a → PivotRunEndsWith lists b → a ≡ b
 ends-once lists a b ends other =
     sym ends.run ∙ ap answer_to (rows_for-once lists ends.rows other.rows ends.are_rows other.are_rows) ∙ other.run

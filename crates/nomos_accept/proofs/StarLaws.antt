@@ -2,7 +2,7 @@
 use Rattle.std.proofs.Common.{◌≡◌, ℕ, List, [], length, map, pos, Option, Some, None, slice_get, ap, sym, subst, ◌∙◌}
 use Rattle.std.specs.Prelude.{int_lt, slice_index, slice_index_or}
 use Rattle.std.specs.List.{range_with_len}
-use Rattle.nomos_accept.specs.AcceptedText.{EndsWith}
+use Rattle.nomos_accept.specs.AcceptedText.{PivotRunEndsWith}
 use Rattle.nomos_forms.specs.declared.row_list.RowList.{RowList}
 use Rattle.nomos_ir.specs.Amounts.{star_count}
 use Rattle.nomos_ir.specs.declared.lists.ProgramLists.{ProgramLists}
@@ -67,5 +67,5 @@ answered-rows rows stop none =
     (answered-from rows (leaving rows (first_table rows)) none)
 
 pub no_stars-stop : (lists : ProgramLists) (stop : Stop) → star_count lists ≡ 0
-    → ¬ (EndsWith lists (solved.Unsolved stop))
+    → ¬ (PivotRunEndsWith lists (solved.Unsolved stop))
 no_stars-stop lists stop none = λ ends. answered-rows ends.rows stop (ends.are_rows.stars ∙ none) ends.run

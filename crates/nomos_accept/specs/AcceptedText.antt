@@ -58,7 +58,7 @@ pub record AreRowsFor (lists : ProgramLists) (rows : RowList) : Type 0 where
   pub of_program : AreProgramRows lists (star_count lists) rows.rows
 
 -- the pivot run on the rows of the program ends with this answer
-pub record EndsWith (lists : ProgramLists) (answer : Solved) : Type 0 where
+pub record PivotRunEndsWith (lists : ProgramLists) (answer : Solved) : Type 0 where
   pub rows : RowList
   pub are_rows : AreRowsFor lists rows
   pub run : answer_to rows ≡ answer
@@ -70,7 +70,7 @@ found_amounts x = record { stars = x.stars; unit = x.unit }
 -- The text is typed under the amounts that the pivot run finds.
 pub record IsAcceptedAs (text : List ℕ) (a : Acceptance) : Type 0 where
   pub typed : IsTypedAs text a.program a.annotations
-  pub run : EndsWith a.program (solved.Found (found_amounts a.annotations))
+  pub run : PivotRunEndsWith a.program (solved.Found (found_amounts a.annotations))
 
 -- the text reads as a tree of which this holds
 abbrev pub ReadsWith : List ℕ → (FileTree → Type 0) → Type 0
@@ -89,13 +89,13 @@ pub record IsOffence (text : List ℕ) (e : GrammarError) : Type 0 where
 -- pivot run ends.
 pub record IsRefuted (lists : ProgramLists) (verdict : Verdict) : Type 0 where
   pub skeletons : HasSkeletons lists
-  pub ends : EndsWith lists (solved.Refuted verdict)
+  pub ends : PivotRunEndsWith lists (solved.Refuted verdict)
   pub refutes : Refutes ends.rows.stars ends.rows.rows verdict
 
 -- Each part of the program has a skeleton, and the pivot run stops without an answer.
 pub record IsUnsolved (lists : ProgramLists) (stop : Stop) : Type 0 where
   pub skeletons : HasSkeletons lists
-  pub ends : EndsWith lists (solved.Unsolved stop)
+  pub ends : PivotRunEndsWith lists (solved.Unsolved stop)
 
 -- What the cause of a refusal says of the text.
 abbrev pub IsCauseOf : List ℕ → Why → Type 0

@@ -27,7 +27,7 @@ use Rattle.nomos_simplex.specs.declared.solved.Stop.{Stop}
 use Rattle.nomos_types.specs.Acceptance.{acceptance, IsAccepted}
 use Rattle.nomos_types.specs.Amount.{Annotations}
 
--- ---- what is found
+-- what is found
 
 pos-once : (a b : ℕ) → pos a ≡ pos b → a ≡ b
 pos-once a b e = omega (arith, ints, e)
@@ -84,7 +84,7 @@ bounded-answer text lists rows goal found proof read has same run is small meets
           (subst (λ (g : Form). NoneSmaller rows.rows g found.unit proof.total) same none);
     }
 
--- ---- what is refuted, and where the run stops
+-- what is refuted, and where the run stops
 
 pub refuted-least : (text : List ℕ) (lists : ProgramLists) (rows : RowList) (goal : Form) (verdict : Verdict) →
     IsReadAs text lists → HasRows lists rows → LeastRun rows goal (least.Refuted verdict) →

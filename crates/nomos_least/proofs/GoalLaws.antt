@@ -27,7 +27,7 @@ use Rattle.nomos_ir.specs.declared.lists.ProgramLists.{ProgramLists}
 use Rattle.nomos_least.specs.Goal.{is_transaction, declared_in, all_declared, gains_declared, gains_all, goal_of}
 use Rattle.nomos_types.specs.Amount.{Annotations, dths}
 
--- ---- one declaration after the other
+-- one declaration after the other
 
 gains-suc : (ds : List ProcDecl) (d : ProcDecl) (k : ℕ) (a : Account) → slice_get ds k ≡ Some d
     → gains_all (take (suc k) ds) a ≡ gains_declared d (gains_all (take k ds) a)
@@ -41,7 +41,7 @@ gains-next ds d k a there =
     let one_more : k + 1 ≡ suc k = omega arith in
     sym (ap (λ (n : ℕ). gains_all (take n ds) a) one_more ∙ gains-suc ds d k a there)
 
--- ---- its amounts
+-- its amounts
 
 -- the amount is one of the program's
 abbrev Declares : ProgramLists → ProcDecl → Type 0
@@ -97,7 +97,7 @@ spent-none : (ds : List ProcDecl) (a : Account) → a.spent ≡ [] → (gains_al
 spent-none [] a none = none
 spent-none (d ∷ ds) a none = spent-none ds (gains_declared d a) (spent-one (is_transaction d.mode) d a none)
 
--- ---- its numbers
+-- its numbers
 
 -- after some declarations the form has small numbers
 pub gained-is_form : (lists : ProgramLists) (k n : ℕ) → IsProgram lists
@@ -164,7 +164,7 @@ goal-coefs lists =
     (λ star among. not_below a.gained a.spent (spent-none lists.procs no_account refl) star) stars
     (All-contains_itself stars))
 
--- ---- its value
+-- its value
 
 worth-one : (x : Annotations) (t : Bool) (d : ProcDecl) (a : Account)
     → worth_of x (if t then gains d.amount a else a).gained

@@ -12,7 +12,7 @@ use Rattle.nomos_forms.proofs.WholeLaws.{times_sum, times_neg, times_swap, count
 use Rattle.nomos_simplex.specs.ShowsLeast.{goal_coef, ShowsLeast, NoneSmaller}
 use Rattle.nomos_simplex.specs.declared.solved.Proof.{Proof}
 
--- ---- the weights come to scale times the goal's coefficients
+-- the weights come to scale times the goal's coefficients
 spread_scaled : (t : ℤ) (f g : ℕ → ℤ) (s : ℕ) (xs : List ℕ) →
     ((k : ℕ) → s ≤ k → k < s + length xs → f k ≡ t *ℤ g k) → spread f s xs ≡ t *ℤ spread g s xs
 spread_scaled t f g s [] h = sym (*ℤ-zero t)
@@ -22,7 +22,7 @@ spread_scaled t f g s (x ∷ xs) h =
     let rest = spread_scaled t f g (suc s) xs (λ k i j. h k (omega arith) (omega arith)) in
     (λ p. one p +ℤ rest p) ∙ sym (times_sum t (pos x *ℤ g s) (spread g (suc s) xs))
 
--- ---- the certificate
+-- the certificate
 above_zero : (a b c d e : ℤ) → a ≡ c -ℤ d → a ≤ℤ b → e ≡ b +ℤ d → c ≤ℤ e
 above_zero a b c d e h i j = omega (arith, ints)
 

@@ -35,7 +35,7 @@ pub sum_size : (high carry low : ℤ) → unsigned_abs high ≤ 2 ^ 116 → unsi
     unsigned_abs carry * 4294967296 ≤ unsigned_abs low → unsigned_abs (high +ℤ carry) < 2 ^ 127
 sum_size high carry low h i j = omega (arith, ints)
 
--- ---- in the code's width
+-- in the code's width
 pub back_product : (f x a : ℤ) → f ≡ a → unsigned_abs a < 2 ^ 127 → unsigned_abs x < 2 ^ 127 →
     unsigned_abs (a *ℤ x) < 2 ^ 127 → to_z w128 (of_z w128 (to_z w128 (of_z w128 f) *ℤ to_z w128 (of_z w128 x)))
     ≡ a *ℤ x
@@ -43,7 +43,7 @@ back_product f x a e ha hx h =
     (λ p. to_z w128 (of_z w128 (to_z w128 (of_z w128 (e p)) *ℤ wide_back x hx p)))
     ∙ (λ p. to_z w128 (of_z w128 (wide_back a ha p *ℤ x))) ∙ wide_back (a *ℤ x) h
 
--- ---- whether two products of split numbers are the same
+-- whether two products of split numbers are the same
 pub same_from_parts : (ax other a1 a2 b1 b2 high low carry rest : ℤ) → ax ≡ a1 *ℤ pos 4294967296 +ℤ a2 →
     other ≡ b1 *ℤ pos 4294967296 +ℤ b2 → high ≡ a1 -ℤ b1 → low ≡ a2 -ℤ b2 → carry *ℤ pos 4294967296 +ℤ rest ≡ low →
     rest ≡ pos 0 → high +ℤ carry ≡ pos 0 → ax ≡ other

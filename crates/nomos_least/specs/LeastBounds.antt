@@ -17,7 +17,7 @@ use Rattle.nomos_types.specs.Amount.{Annotations}
 use Rattle.nomos_types.specs.Typed.{HasSkeletons}
 
 -- the least run on the rows of the program and its goal ends with this answer
-pub record EndsLeastWith (lists : ProgramLists) (answer : SolvedLeast) : Type 0 where
+pub record LeastRunEndsWith (lists : ProgramLists) (answer : SolvedLeast) : Type 0 where
   pub rows : RowList
   pub are_rows : AreRowsFor lists rows
   pub run : LeastRun rows (goal_of lists) answer
@@ -44,7 +44,7 @@ pub record IsLeastAs (text : List ℕ) (b : LeastBounds) : Type 0 where
 -- Each part of the program has a skeleton, and the least run stops without an answer.
 pub record IsLeastUnsolved (lists : ProgramLists) (stop : Stop) : Type 0 where
   pub skeletons : HasSkeletons lists
-  pub ends : EndsLeastWith lists (least.Unsolved stop)
+  pub ends : LeastRunEndsWith lists (least.Unsolved stop)
 
 -- What is answered of a text whose least bounds are sought. Where it is refused, it is typed under no amounts at all.
 abbrev pub AnswersLeast : List ℕ → Result LeastBounds AcceptError → Type 0

@@ -6,11 +6,11 @@ use Rattle.nomos_accept.proofs.AcceptLaws.{one-program}
 use Rattle.nomos_accept.proofs.CauseLaws.{one-cause}
 use Rattle.nomos_accept.proofs.RowListLaws.{ends-once}
 use Rattle.nomos_accept.proofs.StarLaws.{no_stars-stop}
-use Rattle.nomos_accept.specs.AcceptedText.{IsTypedAs, IsAcceptedAs, IsRefused, EndsWith}
+use Rattle.nomos_accept.specs.AcceptedText.{IsTypedAs, IsAcceptedAs, IsRefused, PivotRunEndsWith}
 use Rattle.nomos_accept.specs.declared.refusal.Why.{Why}
 use Rattle.nomos_base.specs.Sink.{with_end}
 use Rattle.nomos_ir.specs.declared.lists.ProgramLists.{ProgramLists}
-use Rattle.nomos_least.specs.LeastBounds.{IsLeastAs, EndsLeastWith}
+use Rattle.nomos_least.specs.LeastBounds.{IsLeastAs, LeastRunEndsWith}
 use Rattle.nomos_least.specs.declared.least.LeastBounds.{LeastBounds}
 use Rattle.nomos_ledger.specs.declared.journal.Entry.{Entry}
 use Rattle.nomos_ledger.specs.declared.journal.Journal.{Journal}
@@ -19,7 +19,7 @@ use Rattle.nomos_simplex.specs.declared.solved.SolvedLeast.TheVariants as least
 use Rattle.nomos_simplex.specs.declared.solved.Stop.{Stop}
 use Rattle.nomos_top.proofs.DueLemmas.{some_text}
 use Rattle.nomos_top.specs.Block.{accepted_block}
-use Rattle.nomos_top.specs.Claim.{Call, HasWritten, IsGivenFor, IsSound, IsGiven, IsShown, IsBounded, IsComplete, IsRefusedTruly, HasStoppedFor, IsStoppedTruly, Claim, Claims}
+use Rattle.nomos_top.specs.Claim.{Call, HasWritten, IsGivenFor, IsSound, IsGiven, IsShown, ShowsLeastBounds, IsComplete, IsRefusedTruly, HasStoppedFor, IsStoppedTruly, Claim, Claims}
 use Rattle.nomos_top.specs.LeastBlock.{least_block}
 use Rattle.nomos_top.specs.Outcome.{Counts, Input, Reading, input_of, IsCheck, IsRun, IsLeast, AsksPivots, HasStopped, HasLeastStopped, IsDue, usage, read_fault, refused, unsolved, least_unsolved, bounded, accepted, not_yet, script_fault, script_too_long, script_syntax, script_not_yet, ran, IsPart, nothing, accepted_part, run_part, IsWritten, whole, write_fault, EndsFor, written, no_memory}
 use Rattle.nomos_top.specs.Refusal.{refusal, unsolved_line, not_yet_line}
@@ -39,8 +39,8 @@ record DueAnswers (words : List (List ℕ)) (status : ℕ) (lists : ProgramLists
 abbrev DueComplete : List (List ℕ) → List ℕ → ℕ → Type 0
 DueComplete words text status =
     (lists : ProgramLists) (x : Annotations) → IsTypedAs text lists x
-    → ((stop : Stop) → ¬ (EndsWith lists (solved.Unsolved stop)))
-    → (IsLeast words → (stop : Stop) → ¬ (EndsLeastWith lists (least.Unsolved stop))) → DueAnswers words status lists
+    → ((stop : Stop) → ¬ (PivotRunEndsWith lists (solved.Unsolved stop)))
+    → (IsLeast words → (stop : Stop) → ¬ (LeastRunEndsWith lists (least.Unsolved stop))) → DueAnswers words status lists
 
 -- why a status is 1, and what is written then
 abbrev DueRefusal : List (List ℕ) → List ℕ → List ℕ → Option Acceptance → Type 0
@@ -101,17 +101,17 @@ none-given status well script run (inr (inr e)) = run e
 
 -- the pivot run stops on the one program of a text
 stops : (text : List ℕ) (lists : ProgramLists) (x : Annotations) (stop : Stop) → IsTypedAs text lists x
-    → HasStopped text stop → EndsWith lists (solved.Unsolved stop)
+    → HasStopped text stop → PivotRunEndsWith lists (solved.Unsolved stop)
 stops text lists x stop typed stopped =
-    subst (λ (p : ProgramLists). EndsWith p (solved.Unsolved stop))
+    subst (λ (p : ProgramLists). PivotRunEndsWith p (solved.Unsolved stop))
     (one-program text stopped.0 lists stopped.1 typed.read)
     stopped.2.ends
 
 -- so does the least run
 least-stops : (text : List ℕ) (lists : ProgramLists) (x : Annotations) (stop : Stop) → IsTypedAs text lists x
-    → HasLeastStopped text stop → EndsLeastWith lists (least.Unsolved stop)
+    → HasLeastStopped text stop → LeastRunEndsWith lists (least.Unsolved stop)
 least-stops text lists x stop typed stopped =
-    subst (λ (p : ProgramLists). EndsLeastWith p (least.Unsolved stop))
+    subst (λ (p : ProgramLists). LeastRunEndsWith p (least.Unsolved stop))
     (one-program text stopped.0 lists stopped.1 typed.read)
     stopped.2.ends
 
@@ -257,7 +257,7 @@ due-keeps words contract script status bytes given journal (ran a items kept on 
     of-run words contract.text (run_status kept.entries) bytes a on.runs on.accepted p.0 p.1
 
 -- what holds of every text
-claim-of : (c : Call) → IsSound c → IsGiven c → IsShown c → IsBounded c → IsComplete c → IsRefusedTruly c
+claim-of : (c : Call) → IsSound c → IsGiven c → IsShown c → ShowsLeastBounds c → IsComplete c → IsRefusedTruly c
     → IsStoppedTruly c → Claim c
 claim-of c sound given shown bounds complete truly stopped = record {
   sound = sound;
@@ -270,7 +270,7 @@ claim-of c sound given shown bounds complete truly stopped = record {
   reads_once = one-program c.text;
   one_cause = one-cause c.text;
   one_end = λ lists a b read ends other. ends-once lists a b ends other;
-  solved_bare = λ lists stop read none. no_stars-stop lists stop none;
+  solved_without_stars = λ lists stop read none. no_stars-stop lists stop none;
 }
 
 -- a call that failed to write, or ran out of memory

@@ -1,12 +1,12 @@
 -- The whole claim about contract texts: what a call of `nomos` promises.
 use Rattle.std.specs.Prelude.{◌≡◌, ◌≢◌, ◌⊎◌, ℕ, false, List, Option, Some}
-use Rattle.nomos_accept.specs.AcceptedText.{IsReadAs, IsTypedAs, IsAcceptedAs, IsCauseOf, IsRefused, EndsWith}
+use Rattle.nomos_accept.specs.AcceptedText.{IsReadAs, IsTypedAs, IsAcceptedAs, IsCauseOf, IsRefused, PivotRunEndsWith}
 use Rattle.nomos_accept.specs.Causes.{SameCause}
 use Rattle.nomos_accept.specs.declared.refusal.Why.{Why}
 use Rattle.nomos_base.specs.Sink.{with_end}
 use Rattle.nomos_ir.specs.Amounts.{star_count}
 use Rattle.nomos_ir.specs.declared.lists.ProgramLists.{ProgramLists}
-use Rattle.nomos_least.specs.LeastBounds.{IsLeastAs, EndsLeastWith}
+use Rattle.nomos_least.specs.LeastBounds.{IsLeastAs, LeastRunEndsWith}
 use Rattle.nomos_least.specs.declared.least.LeastBounds.{LeastBounds}
 use Rattle.nomos_simplex.specs.declared.solved.Solved.{Solved}
 use Rattle.nomos_simplex.specs.declared.solved.Solved.TheVariants as solved
@@ -56,8 +56,8 @@ IsShown c =
     IsCheck c.words → c.status ≡ 0 → (a : Acceptance) × (c.accepted ≡ Some a) × HasWritten c (accepted_block a)
 
 -- A search for least bounds with the status 0 has written the least bounds, whose accepted program is given.
-abbrev pub IsBounded : Call → Type 0
-IsBounded c =
+abbrev pub ShowsLeastBounds : Call → Type 0
+ShowsLeastBounds c =
     IsLeast c.words → c.status ≡ 0 →
     (b : LeastBounds) × (c.accepted ≡ Some b.accepted) × IsLeastAs c.text b × HasWritten c (least_block b)
 
@@ -74,8 +74,8 @@ pub record IsAnswered (c : Call) (lists : ProgramLists) : Type 0 where
 abbrev pub IsComplete : Call → Type 0
 IsComplete c =
     (lists : ProgramLists) (x : Annotations) → IsTypedAs c.text lists x
-    → ((stop : Stop) → ¬ (EndsWith lists (solved.Unsolved stop)))
-    → (IsLeast c.words → (stop : Stop) → ¬ (EndsLeastWith lists (least.Unsolved stop)))
+    → ((stop : Stop) → ¬ (PivotRunEndsWith lists (solved.Unsolved stop)))
+    → (IsLeast c.words → (stop : Stop) → ¬ (LeastRunEndsWith lists (least.Unsolved stop)))
     → IsAnswered c lists
 
 -- A refusal is true. Where the status is 1, the text is refused for a cause that is true of it, which is written, and
@@ -109,27 +109,28 @@ HasOneCause text = (v w : Why) → IsCauseOf text v → IsCauseOf text w → Sam
 -- potential, and a stop are fixed by the text.
 abbrev pub HasOneEnd : List ℕ → Type 0
 HasOneEnd text =
-    (lists : ProgramLists) (a b : Solved) → IsReadAs text lists → EndsWith lists a → EndsWith lists b → a ≡ b
+    (lists : ProgramLists) (a b : Solved) → IsReadAs text lists → PivotRunEndsWith lists a → PivotRunEndsWith lists b
+    → a ≡ b
 
 -- Without a star the pivot run does not stop.
-abbrev pub IsSolvedBare : List ℕ → Type 0
-IsSolvedBare text =
+abbrev pub IsSolvedWithoutStars : List ℕ → Type 0
+IsSolvedWithoutStars text =
     (lists : ProgramLists) (stop : Stop) → IsReadAs text lists → star_count lists ≡ 0
-    → ¬ (EndsWith lists (solved.Unsolved stop))
+    → ¬ (PivotRunEndsWith lists (solved.Unsolved stop))
 
 -- All of it.
 pub record Claim (c : Call) : Type 0 where
   pub sound : IsSound c
   pub given : IsGiven c
   pub shown : IsShown c
-  pub bounded : IsBounded c
+  pub bounded : ShowsLeastBounds c
   pub complete : IsComplete c
   pub refused : IsRefusedTruly c
   pub stopped : IsStoppedTruly c
   pub reads_once : ReadsOnce c.text
   pub one_cause : HasOneCause c.text
   pub one_end : HasOneEnd c.text
-  pub solved_bare : IsSolvedBare c.text
+  pub solved_without_stars : IsSolvedWithoutStars c.text
 
 -- The claim of a call, of the text that its source tells, or of some text where it does not tell.
 abbrev pub Claims : List (List ℕ) → Option (List ℕ) → Option (List ℕ) → Option (List ℕ) → ℕ → Option Acceptance → Type 0
