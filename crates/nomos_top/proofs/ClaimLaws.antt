@@ -18,6 +18,7 @@ use Rattle.nomos_simplex.specs.declared.solved.Solved.TheVariants as solved
 use Rattle.nomos_simplex.specs.declared.solved.SolvedLeast.TheVariants as least
 use Rattle.nomos_simplex.specs.declared.solved.Stop.{Stop}
 use Rattle.nomos_top.proofs.DueLemmas.{some_text}
+use Rattle.nomos_top.proofs.RefusalLaws.{one-refusal}
 use Rattle.nomos_top.specs.Block.{accepted_block}
 use Rattle.nomos_top.specs.Claim.{Call, HasWritten, IsGivenFor, IsSound, IsGiven, IsShown, ShowsLeastBounds, IsComplete, IsRefusedTruly, HasStoppedFor, IsStoppedTruly, Claim, Claims}
 use Rattle.nomos_top.specs.LeastBlock.{least_block}
@@ -269,6 +270,7 @@ claim-of c sound given shown bounds complete truly stopped = record {
   stopped = stopped;
   reads_once = one-program c.text;
   one_cause = one-cause c.text;
+  one_refusal = one-refusal c.text;
   one_end = λ lists a b read ends other. ends-once lists a b ends other;
   solved_without_stars = λ lists stop read none. no_stars-stop lists stop none;
 }

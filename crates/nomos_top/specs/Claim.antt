@@ -1,4 +1,5 @@
--- The whole claim about contract texts: what a call of `nomos` promises.
+-- The whole claim about contract texts: what a call of `nomos` promises. It does not say of an accepted contract that
+-- its processes get on, that none meets a message that it does not expect, or that each channel has one owner in a run.
 use Rattle.std.specs.Prelude.{◌≡◌, ◌≢◌, ◌⊎◌, ℕ, false, List, Option, Some}
 use Rattle.nomos_accept.specs.AcceptedText.{IsReadAs, IsTypedAs, IsAcceptedAs, IsCauseOf, IsRefused, PivotRunEndsWith}
 use Rattle.nomos_accept.specs.Causes.{SameCause}
@@ -101,9 +102,13 @@ IsStoppedTruly c = c.status ≡ 8 → (stop : Stop) × HasStoppedFor c.words c.t
 abbrev pub ReadsOnce : List ℕ → Type 0
 ReadsOnce text = (a b : ProgramLists) → IsReadAs text a → IsReadAs text b → a ≡ b
 
--- A text is refused by one step of the checker at most, and at one place.
+-- A text is refused by one step of the checker at most, and at one place; a stuck instruction has one form.
 abbrev pub HasOneCause : List ℕ → Type 0
 HasOneCause text = (v w : Why) → IsCauseOf text v → IsCauseOf text w → SameCause v w
+
+-- What is written of a refusal is fixed by the text.
+abbrev pub HasOneRefusal : List ℕ → Type 0
+HasOneRefusal text = (v w : Why) → IsCauseOf text v → IsCauseOf text w → refusal v ≡ refusal w
 
 -- The pivot run on the rows of a program has one end: so the amounts of a check, the weights of a refusal without
 -- potential, and a stop are fixed by the text.
@@ -129,6 +134,7 @@ pub record Claim (c : Call) : Type 0 where
   pub stopped : IsStoppedTruly c
   pub reads_once : ReadsOnce c.text
   pub one_cause : HasOneCause c.text
+  pub one_refusal : HasOneRefusal c.text
   pub one_end : HasOneEnd c.text
   pub solved_without_stars : IsSolvedWithoutStars c.text
 
