@@ -92,7 +92,11 @@ impl Sink for SureSink {
 
     ghost faults = { λ _. 0 };
 
-    fn write(&mut self, from: &[u8]) -> Put {
+    fn write(&mut self, from: &[u8]) -> Put
+        requires { 0 < length from.now }
+        ensures exact { result ≡ Put.Wrote (length from.now) }
+        ensures answer { Writes result from.now None None 0 0 }
+    {
         Put::Wrote(from.len())
     }
 }
