@@ -91,6 +91,11 @@ pub record IsPartAs (part : Part) (given : Option Acceptance) (kept : Journal) :
   pub accepted : part.accepted ≡ given
   pub journal : part.journal ≡ kept
 
+-- the program that is given with what is due, or with what was done before memory ran out
+abbrev pub given_of : Result Due Part → Option Acceptance
+given_of (Ok due) = due.accepted
+given_of (Err part) = part.accepted
+
 -- what is due of a contract that is not accepted
 abbrev pub IsDueOut : Unaccepted → Due → Type 0
 IsDueOut (unaccepted.Refused why) due = IsDueAs due 1 (refusal why) None no_journal

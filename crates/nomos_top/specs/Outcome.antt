@@ -83,6 +83,16 @@ pub record IsRunOn (words : List (List ℕ)) (text : List ℕ) (a : Acceptance) 
   pub accepted : IsAcceptedAs text a
   pub runnable : is_runnable a.program ≡ true
 
+-- a program is given that `run` takes
+abbrev pub HasRunnable : Option Acceptance → Type 0
+HasRunnable None = ⊥
+HasRunnable (Some a) = is_runnable a.program ≡ true
+
+-- A run is asked for, and a program is given that `run` takes. Where that is not so, the script is not read: its source
+-- stays as it was.
+abbrev pub ReadsScript : List (List ℕ) → Option Acceptance → Type 0
+ReadsScript words given = IsRun words × HasRunnable given
+
 -- What is due for these words where contract and script have these texts: a status, what is to be written, what is
 -- accepted, and the journal.
 pub data IsDue (words : List (List ℕ)) (contract script : Input)
@@ -125,6 +135,10 @@ pub record Reading : Type 0 where
   pub left : Option (List ℕ)
   pub counts : Counts
 
+-- a source that has this left, and these counts of faults before the call and after it
+abbrev pub reading_of : Option (List ℕ) → ℕ → ℕ → Reading
+reading_of left before after = record { left = left; counts = record { before = before; after = after } }
+
 abbrev pub input_of : Reading → List ℕ → Input
 input_of source text = record { text = text; counts = source.counts }
 
@@ -137,8 +151,9 @@ pub record IsDueFor (words : List (List ℕ)) (contract script : Reading) (statu
   pub script_told : IsTextOf script.left script_text
   pub due : IsDue words (input_of contract text) (input_of script script_text) status bytes accepted journal
 
--- What is known where memory ran out: nothing is accepted; or a run was asked for and the contract accepted, and
--- nothing was run yet; or the journal is that of a run of the first items of the script.
+-- What is known where memory ran out: nothing is given; or a run was asked for, the contract is accepted and given, and
+-- no entry is; or the journal is that of a run of some first items of the script. Where nothing is given, the script
+-- was not read: that is what `nomos` says by `ReadsScript`.
 pub data IsPart (words : List (List ℕ)) (contract script : Reading) : Option Acceptance → Journal → Type 0 where
   nothing : IsPart words contract script None no_journal
   accepted_part : (a : Acceptance) (text : List ℕ) → IsRun words → IsTextOf contract.left text → IsAcceptedAs text a

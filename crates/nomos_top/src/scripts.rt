@@ -4,7 +4,7 @@ ghost use Rattle.std.specs.Prelude.{◌≡◌, ◌++◌, Some, IfOk, IfErr, code
 ghost use Rattle.std.specs.List.{list_all};
 ghost use Rattle.nomos_top.specs.Block.{accepted_block};
 ghost use Rattle.nomos_top.specs.Outcome.{no_journal};
-ghost use Rattle.nomos_top.specs.Judging.{HasEachStar, Finds, FindsText, IsDueAs, IsPartAs, IsDueOf, IsPartOf, HasRunAs, HasRunPart, journal_of};
+ghost use Rattle.nomos_top.specs.Judging.{HasEachStar, Finds, FindsText, IsDueAs, IsPartAs, IsDueOf, IsPartOf, HasRunAs, HasRunPart, given_of, journal_of};
 ghost use Rattle.nomos_top.specs.Report.{run_status, is_well};
 ghost use Rattle.nomos_top.specs.Runnable.{is_runnable};
 
@@ -68,6 +68,7 @@ pub(crate) fn script_due<S: Source>(
         (record { before = S.faults script.old; after = S.faults script.new })
         due.status due.text.items due.accepted due.journal) }
     ensures err { IfErr result (λ part. IsPartOf accepted (S.left script.old) part.accepted part.journal) }
+    ensures given { given_of result ≡ Some accepted }
 {
     match find_script(alloc, script) {
         Found::NoMemory => Err(bare_part(alloc, Some(accepted))),

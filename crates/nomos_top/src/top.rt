@@ -4,8 +4,8 @@ ghost use Rattle.std.specs.Prelude.{◌≡◌, ℕ, List, Some, None, IfOk, IfEr
 ghost use Rattle.nomos_top.specs.Block.{accepted_block};
 ghost use Rattle.nomos_top.specs.Claim.{Claims};
 ghost use Rattle.nomos_top.specs.LeastBlock.{least_block};
-ghost use Rattle.nomos_top.specs.Outcome.{IsCheck, IsRun, IsLeast, IsDueFor, EndsFor, IsWritten, IsPart, no_journal};
-ghost use Rattle.nomos_top.specs.Judging.{HasEachStar, IsDueAs, IsPartAs, IsDueOut, IsDueWhere, IsPartWhere, IsDueOf, IsPartOf};
+ghost use Rattle.nomos_top.specs.Outcome.{IsCheck, IsRun, IsLeast, HasRunnable, ReadsScript, reading_of, IsDueFor, EndsFor, IsWritten, IsPart, no_journal};
+ghost use Rattle.nomos_top.specs.Judging.{HasEachStar, IsDueAs, IsPartAs, IsDueOut, IsDueWhere, IsPartWhere, IsDueOf, IsPartOf, given_of};
 ghost use Rattle.nomos_top.specs.Jobs.{task};
 ghost use Rattle.nomos_top.specs.Refusal.{refusal, unsolved_line};
 ghost use Rattle.nomos_top.specs.Words.{task_of};
@@ -32,10 +32,11 @@ pub struct Ended {
     /// The exit status, as docs/TEXTS.md has it.
     pub status: u8,
     /// What was accepted: for a check, and for a search for least bounds, given with status 0, and with 6 where the
-    /// contract was accepted before; for a run, given wherever the contract was accepted.
+    /// contract was accepted before; for a run, given wherever the contract was accepted; with 7, at least where the
+    /// script was read.
     pub accepted: Option<Accepted>,
     /// What became of the script: an entry for each deposit and each batch with status 0 and 3, and with 6 where the
-    /// report was made; with 7 those that were kept before memory ran out; otherwise none.
+    /// report was made; with 7 those of some of its first items, or none; otherwise none.
     pub journal: Journal,
 }
 
@@ -43,8 +44,9 @@ pub struct Ended {
 const USAGE: &[u8] = b"usage: nomos check FILE | run FILE SCRIPT | least FILE\n";
 
 /// Does all that the program does: reads the words (those after the program's own name), reads the contract and judges
-/// it, reads the script and runs it, and writes what is due. Nothing is written before the last memory is taken. Status
-/// 7, want of memory, is the one answer for which no reason is given.
+/// it, reads the script and runs it, and writes what is due. The contract is read only where the words have a form, and
+/// the script only where a run is asked for and `run` takes the program that is given. Nothing is written before the
+/// last memory is taken. Status 7, want of memory, is the one answer for which no reason is given.
 pub fn nomos<S: Source, K: Sink>(
     alloc: Global,
     words: &[String],
@@ -53,18 +55,16 @@ pub fn nomos<S: Source, K: Sink>(
     out: &mut K,
 ) -> Ended
     ensures ends { EndsFor (map string_bytes words.now)
-        (record {
-          left = S.left contract.old;
-          counts = record { before = S.faults contract.old; after = S.faults contract.new };
-        })
-        (record {
-          left = S.left script.old;
-          counts = record { before = S.faults script.old; after = S.faults script.new };
-        })
+        (reading_of (S.left contract.old) (S.faults contract.old) (S.faults contract.new))
+        (reading_of (S.left script.old) (S.faults script.old) (S.faults script.new))
         (record { before = K.faults out.old; after = K.faults out.new }) (K.written out.old) (K.written out.new)
         result.status result.accepted result.journal }
     ensures claim { Claims (map string_bytes words.now) (S.left contract.old) (K.written out.old) (K.written out.new)
         result.status result.accepted }
+
+    // What is not due to be read stays as it was.
+    ensures no_task { task_of (map string_bytes words.now) ≡ None → contract.new ≡ contract.old }
+    ensures unread { ¬ ReadsScript (map string_bytes words.now) result.accepted → script.new ≡ script.old }
 {
     match job_due(alloc, words, contract, script) {
         Ok(due) => write_due(due, out),
@@ -112,25 +112,15 @@ fn job_due<S: Source>(
     script: &mut S,
 ) -> Result<Due, Part>
     ensures ok { IfOk result (λ due. IsDueFor (map string_bytes words.now)
-        (record {
-          left = S.left contract.old;
-          counts = record { before = S.faults contract.old; after = S.faults contract.new };
-        })
-        (record {
-          left = S.left script.old;
-          counts = record { before = S.faults script.old; after = S.faults script.new };
-        })
+        (reading_of (S.left contract.old) (S.faults contract.old) (S.faults contract.new))
+        (reading_of (S.left script.old) (S.faults script.old) (S.faults script.new))
         due.status due.text.items due.accepted due.journal) }
     ensures err { IfErr result (λ part. IsPart (map string_bytes words.now)
-        (record {
-          left = S.left contract.old;
-          counts = record { before = S.faults contract.old; after = S.faults contract.new };
-        })
-        (record {
-          left = S.left script.old;
-          counts = record { before = S.faults script.old; after = S.faults script.new };
-        })
+        (reading_of (S.left contract.old) (S.faults contract.old) (S.faults contract.new))
+        (reading_of (S.left script.old) (S.faults script.old) (S.faults script.new))
         part.accepted part.journal) }
+    ensures no_task { task_of (map string_bytes words.now) ≡ None → contract.new ≡ contract.old }
+    ensures unread { ¬ ReadsScript (map string_bytes words.now) (given_of result) → script.new ≡ script.old }
 {
     match job::words(words) {
         None => line_due(alloc, 4, USAGE, None),
@@ -146,25 +136,15 @@ fn work_due<S: Source>(
     script: &mut S,
 ) -> Result<Due, Part>
     ensures ok { (words : List (List ℕ)) → Some (task job.entry) ≡ task_of words → IfOk result (λ due. IsDueFor words
-        (record {
-          left = S.left contract.old;
-          counts = record { before = S.faults contract.old; after = S.faults contract.new };
-        })
-        (record {
-          left = S.left script.old;
-          counts = record { before = S.faults script.old; after = S.faults script.new };
-        })
+        (reading_of (S.left contract.old) (S.faults contract.old) (S.faults contract.new))
+        (reading_of (S.left script.old) (S.faults script.old) (S.faults script.new))
         due.status due.text.items due.accepted due.journal) }
     ensures err { (words : List (List ℕ)) → Some (task job.entry) ≡ task_of words → IfErr result (λ part. IsPart words
-        (record {
-          left = S.left contract.old;
-          counts = record { before = S.faults contract.old; after = S.faults contract.new };
-        })
-        (record {
-          left = S.left script.old;
-          counts = record { before = S.faults script.old; after = S.faults script.new };
-        })
+        (reading_of (S.left contract.old) (S.faults contract.old) (S.faults contract.new))
+        (reading_of (S.left script.old) (S.faults script.old) (S.faults script.new))
         part.accepted part.journal) }
+    ensures unread { (words : List (List ℕ)) → Some (task job.entry) ≡ task_of words
+        → ¬ ReadsScript words (given_of result) → script.new ≡ script.old }
 {
     match job {
         Job::Check { file: _ } => check_due(alloc, contract),
@@ -175,14 +155,10 @@ fn work_due<S: Source>(
 
 // What is due for a check.
 fn check_due<S: Source>(alloc: Global, contract: &mut S) -> Result<Due, Part>
-    ensures ok { IfOk result (IsDueWhere IsCheck (record {
-      left = S.left contract.old;
-      counts = record { before = S.faults contract.old; after = S.faults contract.new };
-    })) }
-    ensures err { IfErr result (IsPartWhere IsCheck (record {
-      left = S.left contract.old;
-      counts = record { before = S.faults contract.old; after = S.faults contract.new };
-    })) }
+    ensures ok { IfOk result (IsDueWhere IsCheck
+        (reading_of (S.left contract.old) (S.faults contract.old) (S.faults contract.new))) }
+    ensures err { IfErr result (IsPartWhere IsCheck
+        (reading_of (S.left contract.old) (S.faults contract.old) (S.faults contract.new))) }
 {
     match judge(alloc, contract) {
         Ok(accepted) => accepted_due(alloc, accepted),
@@ -192,14 +168,10 @@ fn check_due<S: Source>(alloc: Global, contract: &mut S) -> Result<Due, Part>
 
 // What is due for a search for least bounds.
 fn least_due<S: Source>(alloc: Global, contract: &mut S) -> Result<Due, Part>
-    ensures ok { IfOk result (IsDueWhere IsLeast (record {
-      left = S.left contract.old;
-      counts = record { before = S.faults contract.old; after = S.faults contract.new };
-    })) }
-    ensures err { IfErr result (IsPartWhere IsLeast (record {
-      left = S.left contract.old;
-      counts = record { before = S.faults contract.old; after = S.faults contract.new };
-    })) }
+    ensures ok { IfOk result (IsDueWhere IsLeast
+        (reading_of (S.left contract.old) (S.faults contract.old) (S.faults contract.new))) }
+    ensures err { IfErr result (IsPartWhere IsLeast
+        (reading_of (S.left contract.old) (S.faults contract.old) (S.faults contract.new))) }
 {
     match judge_least(alloc, contract) {
         Ok(bounds) => bounds_due(alloc, bounds),
@@ -210,25 +182,14 @@ fn least_due<S: Source>(alloc: Global, contract: &mut S) -> Result<Due, Part>
 // What is due for a run.
 fn run_due<S: Source>(alloc: Global, contract: &mut S, script: &mut S) -> Result<Due, Part>
     ensures ok { (words : List (List ℕ)) → IsRun words → IfOk result (λ due. IsDueFor words
-        (record {
-          left = S.left contract.old;
-          counts = record { before = S.faults contract.old; after = S.faults contract.new };
-        })
-        (record {
-          left = S.left script.old;
-          counts = record { before = S.faults script.old; after = S.faults script.new };
-        })
+        (reading_of (S.left contract.old) (S.faults contract.old) (S.faults contract.new))
+        (reading_of (S.left script.old) (S.faults script.old) (S.faults script.new))
         due.status due.text.items due.accepted due.journal) }
     ensures err { (words : List (List ℕ)) → IsRun words → IfErr result (λ part. IsPart words
-        (record {
-          left = S.left contract.old;
-          counts = record { before = S.faults contract.old; after = S.faults contract.new };
-        })
-        (record {
-          left = S.left script.old;
-          counts = record { before = S.faults script.old; after = S.faults script.new };
-        })
+        (reading_of (S.left contract.old) (S.faults contract.old) (S.faults contract.new))
+        (reading_of (S.left script.old) (S.faults script.old) (S.faults script.new))
         part.accepted part.journal) }
+    ensures unread { ¬ HasRunnable (given_of result) → script.new ≡ script.old }
 {
     match judge(alloc, contract) {
         Ok(accepted) => accepted_run_due(alloc, accepted, script),
@@ -306,6 +267,7 @@ fn accepted_run_due<S: Source>(
         (record { before = S.faults script.old; after = S.faults script.new })
         due.status due.text.items due.accepted due.journal) }
     ensures err { IfErr result (λ part. IsPartOf accepted (S.left script.old) part.accepted part.journal) }
+    ensures unread { ¬ HasRunnable (given_of result) → script.new ≡ script.old }
 {
     if is_runnable(accepted.program()) {
         script_due(alloc, accepted, script)
