@@ -1,2 +1,3 @@
 pub mod FaultCounting
+pub mod Files
 pub mod Call

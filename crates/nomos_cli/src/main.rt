@@ -1,9 +1,11 @@
 //! The program: it hands its words, the files that they name and its standard output to `nomos`.
 #![tactic(auto)]
 
-ghost use Rattle.std.specs.Prelude.{map, string_bytes, IsSome};
+ghost use Rattle.std.specs.Prelude.{◌≡◌, map, string_bytes};
+ghost use Rattle.std.specs.Option.{option_map};
 ghost use Rattle.nomos_top.specs.Words.{task_of};
 ghost use Rattle.nomos_cli.specs.Call.{EndsSilently};
+ghost use Rattle.nomos_cli.specs.Files.{contract_word, script_word};
 
 mod file_source;
 mod stdout_sink;
@@ -12,7 +14,6 @@ use file_source::FileSource;
 use nomos_top::{Job, nomos};
 use std::alloc::{AllocError, AllocGlobal};
 use std::env::Env;
-use std::fs::{File, Files};
 use std::io::ErrorKind;
 use std::process::ExitCode;
 use stdout_sink::StdoutSink;
@@ -21,8 +22,8 @@ fn main(rt: HostRuntime) -> ExitCode {
     let Ok(words) = own_words(&rt) else {
         return ExitCode::from(7);
     };
-    let mut contract = FileSource::new(contract_file(&rt, &words));
-    let mut script = FileSource::new(script_file(&rt, &words));
+    let mut contract = FileSource::open(&rt, contract_word(&words));
+    let mut script = FileSource::open(&rt, script_word(&words));
     let mut out = StdoutSink::new(rt.stdout());
     let status = status_of(&rt, &words, &mut contract, &mut script, &mut out);
     ExitCode::from(status)
@@ -38,40 +39,39 @@ fn own_words<R: Env + AllocGlobal>(rt: &R) -> Result<Vec<String>, AllocError> {
     }
 }
 
-// Does what the words say, and gives the status that the program ends with.
-fn status_of<R: AllocGlobal>(
+// Does what the words say, over the files that they name, and gives the status that the program ends with.
+fn status_of<'a, R: AllocGlobal>(
     rt: &R,
     words: &[String],
-    contract: &mut FileSource,
-    script: &mut FileSource,
+    contract: &mut FileSource<'a>,
+    script: &mut FileSource<'a>,
     out: &mut StdoutSink,
 ) -> u8
+    requires contract { contract.old.word ≡ contract_word (task_of (map string_bytes words.now)) }
+    requires script { script.old.word ≡ script_word (task_of (map string_bytes words.now)) }
     ensures { EndsSilently (map string_bytes words.now)
-        (record { before = contract.old; after = contract.new })
-        (record { before = script.old; after = script.new })
+        (record { before = contract.old.faults; after = contract.new.faults })
+        (record { before = script.old.faults; after = script.new.faults })
         (record { before = out.old; after = out.new }) result }
 {
     nomos(rt.alloc(), words, contract, script, out).status
 }
 
-// The file of the contract, opened for reading. None, where the words name none or it cannot be opened.
-fn contract_file<R: Files<File = File>>(rt: &R, words: &[String]) -> Option<File>
-    ensures { IsSome result → IsSome (task_of (map string_bytes words.now)) }
+// The word that names the file of the contract, if the words have a form.
+fn contract_word(words: &[String]) -> Option<&str>
+    ensures { option_map (λ word. word.now) result ≡ contract_word (task_of (map string_bytes words.now)) }
 {
-    match nomos_top::words(words) {
-        Some(Job::Check { file } | Job::Run { file, script: _ } | Job::Least { file }) => {
-            File::open(rt, file).ok()
-        }
-        None => None,
+    match nomos_top::words(words)? {
+        Job::Check { file } | Job::Run { file, script: _ } | Job::Least { file } => Some(file),
     }
 }
 
-// The file of the script, opened for reading. None, where the words name none or it cannot be opened.
-fn script_file<R: Files<File = File>>(rt: &R, words: &[String]) -> Option<File>
-    ensures { IsSome result → IsSome (task_of (map string_bytes words.now)) }
+// The word that names the file of the script, if a run is asked for.
+fn script_word(words: &[String]) -> Option<&str>
+    ensures { option_map (λ word. word.now) result ≡ script_word (task_of (map string_bytes words.now)) }
 {
     match nomos_top::words(words) {
-        Some(Job::Run { file: _, script }) => File::open(rt, script).ok(),
+        Some(Job::Run { file: _, script }) => Some(script),
         _ => None,
     }
 }

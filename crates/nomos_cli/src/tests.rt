@@ -3,7 +3,6 @@
 use crate::file_source::FileSource;
 use crate::stdout_sink::StdoutSink;
 use nomos_base::{Got, Put, Sink, Source};
-use std::fs::File;
 use std::{env, fs, io};
 
 // How many bytes a read got, 0 at the end, or none where it failed.
@@ -27,18 +26,18 @@ fn bytes_put(put: Put) -> Option<usize> {
 #[test]
 fn reads_a_file(rt: HostRuntime) -> io::Result<()> {
     let mut into = [0u8; 8];
-    let mut absent = FileSource::new(None);
+    let mut absent = FileSource::open(&rt, None);
     for reads in 1u64..3 {
         assert_eq!(rt; bytes_got(absent.read(&mut into)), None);
         assert_eq!(rt; absent.faults(), reads);
     }
     let folder = env::temp_dir(&rt)?;
-    let mut source = FileSource::new(Some(File::open(&rt, folder.as_path())?));
+    let mut source = FileSource::open(&rt, Some(folder.as_str()));
     assert_eq!(rt; bytes_got(source.read(&mut into)), None);
     assert_eq!(rt; source.faults(), 1);
     let path = folder.join(rt.alloc(), "nomos_cli_reads_a_file")?;
     fs::write(&rt, path.as_path(), "type")?;
-    let mut source = FileSource::new(Some(File::open(&rt, path.as_path())?));
+    let mut source = FileSource::open(&rt, Some(path.as_str()));
     fs::remove_file(&rt, path.as_path())?;
     assert_eq!(rt; bytes_got(source.read(&mut into)), Some(4));
     assert_eq!(rt; &into[..4], b"type".as_slice());
