@@ -1,3 +1,3 @@
 pub mod FaultCounting
-pub mod Files
+pub mod FileWords
 pub mod Call

@@ -21,7 +21,7 @@ pub struct FileSource<'a> {
 
 impl<'a> Model for FileSource<'a> {
     ghost use Rattle.std.specs.Option.{option_map};
-    ghost use Rattle.nomos_cli.specs.Files.{NamedFile};
+    ghost use Rattle.nomos_cli.specs.FileWords.{NamedFile};
 
     ghost Value = { NamedFile };
 

@@ -5,7 +5,7 @@ ghost use Rattle.std.specs.Prelude.{◌≡◌, map, string_bytes};
 ghost use Rattle.std.specs.Option.{option_map};
 ghost use Rattle.nomos_top.specs.Words.{task_of};
 ghost use Rattle.nomos_cli.specs.Call.{EndsSilently};
-ghost use Rattle.nomos_cli.specs.Files.{contract_word, script_word};
+ghost use Rattle.nomos_cli.specs.FileWords.{contract_word, script_word};
 
 mod file_source;
 mod stdout_sink;

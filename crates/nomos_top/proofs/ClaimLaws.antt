@@ -22,7 +22,7 @@ use Rattle.nomos_top.proofs.RefusalLaws.{one-refusal}
 use Rattle.nomos_top.specs.Block.{accepted_block}
 use Rattle.nomos_top.specs.Claim.{Call, HasWritten, IsGivenFor, IsSound, IsGiven, IsShown, ShowsLeastBounds, IsComplete, IsRefusedTruly, HasStoppedFor, IsStoppedTruly, Claim, Claims}
 use Rattle.nomos_top.specs.LeastBlock.{least_block}
-use Rattle.nomos_top.specs.Outcome.{Counts, Input, Reading, input_of, IsCheck, IsRun, IsLeast, AsksPivots, HasStopped, HasLeastStopped, IsDue, usage, read_fault, refused, unsolved, least_unsolved, bounded, accepted, not_yet, script_fault, script_too_long, script_syntax, script_not_yet, ran, IsPart, nothing, accepted_part, run_part, IsWritten, whole, write_fault, EndsFor, written, no_memory}
+use Rattle.nomos_top.specs.Outcome.{FaultCounts, Input, SourceState, input_of, IsCheck, IsRun, IsLeast, AsksPivots, HasStopped, HasLeastStopped, IsDue, usage, read_fault, refused, unsolved, least_unsolved, bounded, accepted, not_yet, script_fault, script_too_long, script_syntax, script_not_yet, ran, IsPart, nothing, accepted_part, run_part, IsWritten, whole, write_fault, EndsFor, written, no_memory}
 use Rattle.nomos_top.specs.Refusal.{refusal, unsolved_line, not_yet_line}
 use Rattle.nomos_top.specs.Report.{run_status, is_well}
 use Rattle.nomos_top.specs.Runnable.{is_runnable}
@@ -32,7 +32,7 @@ use Rattle.nomos_types.specs.Amount.{Annotations}
 
 -- what a typed text says of a status that is due
 record DueAnswers (words : List (List ℕ)) (status : ℕ) (lists : ProgramLists) : Type 0 where
-  solved : status ≢ 8
+  not_stopped : status ≢ 8
   not_refused : status ≡ 1 → IsRun words × (is_runnable lists ≡ false)
   checked : IsCheck words ⊎ IsLeast words → (status ≡ 0) ⊎ (status ≡ 5)
 
@@ -140,7 +140,7 @@ of-run words text status bytes a runs h one eight = record {
   shown = λ checks e. absurd (check-runs words checks runs);
   is_bounded = λ seeks e. absurd (run-least words runs seeks);
   complete = λ lists x typed goes_on seeks. record {
-    solved = eight;
+    not_stopped = eight;
     not_refused = λ e. absurd (one e);
     checked = λ asks. absurd (run-alone words runs asks);
   };
@@ -171,7 +171,7 @@ due-keeps : (words : List (List ℕ)) (contract script : Input) (status : ℕ) (
 due-keeps words contract script status bytes given journal (usage none) =
     of-none words contract.text 4 bytes (λ e. omega (arith, e)) (λ e. omega (arith, e)) (λ e. omega (arith, e))
     (λ lists x typed goes_on seeks. record {
-      solved = λ e. omega (arith, e);
+      not_stopped = λ e. omega (arith, e);
       not_refused = λ e. absurd (omega (arith, e));
       checked = λ asks. absurd (none-asks words none asks);
     })
@@ -180,7 +180,7 @@ due-keeps words contract script status bytes given journal (usage none) =
 due-keeps words contract script status bytes given journal (read_fault some rose) =
     of-none words contract.text 5 bytes (λ e. omega (arith, e)) (λ e. omega (arith, e)) (λ e. omega (arith, e))
     (λ lists x typed goes_on seeks. record {
-      solved = λ e. omega (arith, e);
+      not_stopped = λ e. omega (arith, e);
       not_refused = λ e. absurd (omega (arith, e));
       checked = λ asks. inr refl;
     })
@@ -207,7 +207,7 @@ due-keeps words contract script status bytes given journal (bounded b asks h) = 
   shown = λ checks e. absurd (check-least words checks asks);
   is_bounded = λ c e. (b, refl, h, refl);
   complete = λ lists x typed goes_on seeks. record {
-    solved = λ e. omega (arith, e);
+    not_stopped = λ e. omega (arith, e);
     not_refused = λ e. absurd (omega (arith, e));
     checked = λ c. inl refl;
   };
@@ -220,7 +220,7 @@ due-keeps words contract script status bytes given journal (accepted a checks h)
   shown = λ c e. (a, refl, refl);
   is_bounded = λ seeks e. absurd (check-least words checks seeks);
   complete = λ lists x typed goes_on seeks. record {
-    solved = λ e. omega (arith, e);
+    not_stopped = λ e. omega (arith, e);
     not_refused = λ e. absurd (omega (arith, e));
     checked = λ c. inl refl;
   };
@@ -233,7 +233,7 @@ due-keeps words contract script status bytes given journal (not_yet a runs h oth
   shown = λ checks e. absurd (check-runs words checks runs);
   is_bounded = λ seeks e. absurd (run-least words runs seeks);
   complete = λ lists x typed goes_on seeks. record {
-    solved = λ e. omega (arith, e);
+    not_stopped = λ e. omega (arith, e);
     not_refused = λ e. (
       runs,
       subst (λ (p : ProgramLists). is_runnable p ≡ false)
@@ -264,7 +264,7 @@ claim-of c sound given shown bounds complete truly stopped = record {
   sound = sound;
   given = given;
   shown = shown;
-  bounded = bounds;
+  least_bounds = bounds;
   complete = complete;
   refused = truly;
   stopped = stopped;
@@ -285,7 +285,7 @@ failed c fails well one script run eight sound =
     (λ checks e. absurd (well e))
     (λ seeks e. absurd (well e))
     (λ lists x typed goes_on seeks. record {
-      solved = eight;
+      not_stopped = eight;
       not_refused = λ e. absurd (one e);
       checked = λ asks. inr (inr fails);
     })
@@ -350,7 +350,7 @@ whole-keeps words text before after status bytes given due e =
     (λ seeks s. let h = due.is_bounded seeks s in
     (h.0, h.1, h.2, wrote before after bytes (least_block h.0) e h.3))
     (λ lists x typed goes_on seeks. let answers = due.complete lists x typed goes_on seeks in record {
-      solved = answers.solved;
+      not_stopped = answers.not_stopped;
       not_refused = answers.not_refused;
       checked = λ checks. checks-more status (answers.checked checks);
     })
@@ -359,7 +359,7 @@ whole-keeps words text before after status bytes given due e =
 
 -- what was written, whole or in part
 written-keeps : (words : List (List ℕ)) (text : List ℕ) (before after : Option (List ℕ)) (status ended : ℕ)
-    (bytes : List ℕ) (out : Counts) (given : Option Acceptance)
+    (bytes : List ℕ) (out : FaultCounts) (given : Option Acceptance)
     → DueClaim words text status bytes given → IsWritten status bytes out before after ended
     → Claim (call_of words text before after ended given)
 written-keeps words text before after status ended bytes out given due (whole e) =
@@ -368,7 +368,7 @@ written-keeps words text before after status ended bytes out given due (write_fa
     unwritten words text before after given due.sound
 
 -- what was done before memory ran out
-part-keeps : (words : List (List ℕ)) (contract script : Reading) (before after : Option (List ℕ))
+part-keeps : (words : List (List ℕ)) (contract script : SourceState) (before after : Option (List ℕ))
     (given : Option Acceptance) (journal : Journal)
     → IsPart words contract script given journal → Claims words contract.left before after 7 given
 part-keeps words contract script before after given journal nothing =
@@ -384,7 +384,8 @@ part-keeps words contract script before after given journal
     )
 
 -- how a call ends keeps the claim
-pub ends-claims : (words : List (List ℕ)) (contract script : Reading) (out : Counts) (before after : Option (List ℕ))
+pub ends-claims : (words : List (List ℕ)) (contract script : SourceState) (out : FaultCounts)
+    (before after : Option (List ℕ))
     (ended : ℕ) (given : Option Acceptance) (journal : Journal)
     → EndsFor words contract script out before after ended given journal
     → Claims words contract.left before after ended given

@@ -17,7 +17,7 @@ use Rattle.nomos_simplex.specs.declared.solved.Stop.{Stop}
 use Rattle.nomos_syntax.specs.Limits.{text_limit}
 use Rattle.nomos_top.specs.Block.{accepted_block, read_fault_line, usage_line}
 use Rattle.nomos_top.specs.Judging.{IsUnaccepted, IsDueOut, FindsText, FindsOrFails, IsDueAs, IsPartAs, IsDueOf, IsPartOf, not_run, run_so_far, HasRunAs, HasRunPart, journal_of}
-use Rattle.nomos_top.specs.Outcome.{Counts, HaveRisen, Input, Reading, input_of, IsTextOf, IsCheck, IsRun, IsLeast, AsksPivots, IsRunOn, HasStopped, HasLeastStopped, IsDue, usage, read_fault, refused, unsolved, least_unsolved, bounded, accepted, not_yet, ran, IsDueFor, IsPart, nothing, accepted_part, run_part, no_journal, steps}
+use Rattle.nomos_top.specs.Outcome.{FaultCounts, HaveRisen, Input, SourceState, input_of, IsTextOf, IsCheck, IsRun, IsLeast, AsksPivots, IsRunOn, HasStopped, HasLeastStopped, IsDue, usage, read_fault, refused, unsolved, least_unsolved, bounded, accepted, not_yet, ran, IsDueFor, IsPart, nothing, accepted_part, run_part, no_journal, steps}
 use Rattle.nomos_top.specs.LeastBlock.{least_block}
 use Rattle.nomos_top.specs.Progress.{HasCome}
 use Rattle.nomos_top.specs.Refusal.{refusal, unsolved_line, not_yet_line}
@@ -76,7 +76,7 @@ has-task words t e =
     let here : IsSome (Some t) = refl in subst (λ (o : Option Task). IsSome o) e here
 
 -- what is due consists of what is due
-pub due-as : (words : List (List ℕ)) (contract script : Reading) (due : Due) (code : ℕ) (bytes : List ℕ)
+pub due-as : (words : List (List ℕ)) (contract script : SourceState) (due : Due) (code : ℕ) (bytes : List ℕ)
     (given : Option Acceptance) (kept : Journal) → IsDueFor words contract script code bytes given kept
     → IsDueAs due code bytes given kept
     → IsDueFor words contract script due.status due.text.items due.accepted due.journal
@@ -84,7 +84,7 @@ due-as words contract script due code bytes given kept is_due parts =
     rw (parts.status, parts.text, parts.accepted, parts.journal) is_due
 
 -- words without a form
-pub due-usage : (words : List (List ℕ)) (contract script : Reading) → task_of words ≡ None
+pub due-usage : (words : List (List ℕ)) (contract script : SourceState) → task_of words ≡ None
     → IsDueFor words contract script 4 usage_line None no_journal
 due-usage words contract script none =
     let t = some_text contract.left in
@@ -92,7 +92,8 @@ due-usage words contract script none =
     record { text = t.0; script_text = s.0; told = t.1; script_told = s.1; due = usage none }
 
 -- a contract that could not be read
-pub due-fault : (words : List (List ℕ)) (contract script : Reading) → IsSome (task_of words) → HaveRisen contract.counts
+pub due-fault : (words : List (List ℕ)) (contract script : SourceState) → IsSome (task_of words)
+    → HaveRisen contract.counts
     → IsDueFor words contract script 5 (read_fault_line (codes "contract")) None no_journal
 due-fault words contract script some rose =
     let t = some_text contract.left in
@@ -100,7 +101,7 @@ due-fault words contract script some rose =
     record { text = t.0; script_text = s.0; told = t.1; script_told = s.1; due = read_fault some rose }
 
 -- a contract that is refused
-pub due-refused : (words : List (List ℕ)) (contract script : Reading) (text : List ℕ) (why : Why)
+pub due-refused : (words : List (List ℕ)) (contract script : SourceState) (text : List ℕ) (why : Why)
     → IsSome (task_of words) → IsTextOf contract.left text → IsRefused text why
     → IsDueFor words contract script 1 (refusal why) None no_journal
 due-refused words contract script text why some told is_refused =
@@ -108,7 +109,7 @@ due-refused words contract script text why some told is_refused =
     record { text = text; script_text = s.0; told = told; script_told = s.1; due = refused why some is_refused }
 
 -- what is due of a contract that is not accepted, where the solver may have stopped so
-pub due-out : (words : List (List ℕ)) (contract script : Reading) (text : List ℕ) (Stops : Stop → Type 0)
+pub due-out : (words : List (List ℕ)) (contract script : SourceState) (text : List ℕ) (Stops : Stop → Type 0)
     (u : Unaccepted) (due : Due) → IsSome (task_of words) → IsTextOf contract.left text
     → ((stop : Stop) → Stops stop
     → IsDue words (input_of contract text) (input_of script (some_text script.left).0) 8 (unsolved_line stop) None
@@ -128,7 +129,8 @@ due-out words contract script text Stops unaccepted.ReadFault due some told stop
 due-out words contract script text Stops unaccepted.NoMemory due some told stops free parts = absurd parts
 
 -- the same of a check and of a run, where it is the pivot run that stopped
-pub due-pivots_out : (words : List (List ℕ)) (contract script : Reading) (text : List ℕ) (u : Unaccepted) (due : Due)
+pub due-pivots_out : (words : List (List ℕ)) (contract script : SourceState) (text : List ℕ) (u : Unaccepted)
+    (due : Due)
     → AsksPivots words → IsSome (task_of words) → IsTextOf contract.left text
     → IsUnaccepted (HasStopped text) text contract.counts u → IsDueOut u due
     → IsDueFor words contract script due.status due.text.items due.accepted due.journal
@@ -136,7 +138,7 @@ due-pivots_out words contract script text u due asks some told out parts =
     due-out words contract script text (HasStopped text) u due some told (λ stop h. unsolved stop asks h) out parts
 
 -- and of a search for least bounds
-pub due-least_out : (words : List (List ℕ)) (contract script : Reading) (text : List ℕ) (u : Unaccepted) (due : Due)
+pub due-least_out : (words : List (List ℕ)) (contract script : SourceState) (text : List ℕ) (u : Unaccepted) (due : Due)
     → IsLeast words → IsTextOf contract.left text → IsUnaccepted (HasLeastStopped text) text contract.counts u
     → IsDueOut u due → IsDueFor words contract script due.status due.text.items due.accepted due.journal
 due-least_out words contract script text u due asks told out parts =
@@ -144,7 +146,8 @@ due-least_out words contract script text u due asks told out parts =
     (λ stop h. least_unsolved stop asks h) out parts
 
 -- least bounds that are found
-pub due-bounded : (words : List (List ℕ)) (contract script : Reading) (text : List ℕ) (b : LeastBounds) → IsLeast words
+pub due-bounded : (words : List (List ℕ)) (contract script : SourceState) (text : List ℕ) (b : LeastBounds)
+    → IsLeast words
     → IsTextOf contract.left text → IsLeastAs text b
     → IsDueFor words contract script 0 (least_block b) (Some b.accepted) no_journal
 due-bounded words contract script text b asks told is_least =
@@ -152,7 +155,8 @@ due-bounded words contract script text b asks told is_least =
     record { text = text; script_text = s.0; told = told; script_told = s.1; due = bounded b asks is_least }
 
 -- a contract that is checked and accepted
-pub due-accepted : (words : List (List ℕ)) (contract script : Reading) (text : List ℕ) (a : Acceptance) → IsCheck words
+pub due-accepted : (words : List (List ℕ)) (contract script : SourceState) (text : List ℕ) (a : Acceptance)
+    → IsCheck words
     → IsTextOf contract.left text → IsAcceptedAs text a
     → IsDueFor words contract script 0 (accepted_block a) (Some a) no_journal
 due-accepted words contract script text a checks told is_accepted =
@@ -160,7 +164,7 @@ due-accepted words contract script text a checks told is_accepted =
     record { text = text; script_text = s.0; told = told; script_told = s.1; due = accepted a checks is_accepted }
 
 -- a run that is asked for on an accepted contract
-pub due-of : (words : List (List ℕ)) (contract script : Reading) (text : List ℕ) (a : Acceptance) (code : ℕ)
+pub due-of : (words : List (List ℕ)) (contract script : SourceState) (text : List ℕ) (a : Acceptance) (code : ℕ)
     (bytes : List ℕ) (given : Option Acceptance) (kept : Journal) → IsRun words → IsTextOf contract.left text
     → IsAcceptedAs text a → IsDueOf a script.left script.counts code bytes given kept
     → IsDueFor words contract script code bytes given kept
@@ -173,12 +177,12 @@ due-of words contract script text a code bytes given kept runs told is_accepted 
 }
 
 -- nothing was done
-pub part-nothing : (words : List (List ℕ)) (contract script : Reading) (part : Part) → IsPartAs part None no_journal
+pub part-nothing : (words : List (List ℕ)) (contract script : SourceState) (part : Part) → IsPartAs part None no_journal
     → IsPart words contract script part.accepted part.journal
 part-nothing words contract script part parts = rw (parts.accepted, parts.journal) nothing
 
 -- what was done of a run
-pub part-of : (words : List (List ℕ)) (contract script : Reading) (text : List ℕ) (a : Acceptance)
+pub part-of : (words : List (List ℕ)) (contract script : SourceState) (text : List ℕ) (a : Acceptance)
     (given : Option Acceptance) (kept : Journal) → IsRun words → IsTextOf contract.left text → IsAcceptedAs text a
     → IsPartOf a script.left given kept → IsPart words contract script given kept
 part-of words contract script text a given kept runs told is_accepted not_run =
@@ -189,7 +193,7 @@ part-of words contract script text a given kept runs told is_accepted
     run_part a text script_text items count journal told run_on script_told reads run
 
 -- what is found of a script's text is found of the script
-pub finds-text : (text : List ℕ) (counts : Counts) (f : Found) → FindsText text f → FindsOrFails text counts f
+pub finds-text : (text : List ℕ) (counts : FaultCounts) (f : Found) → FindsText text f → FindsOrFails text counts f
 finds-text text counts (found.Script items) h = h
 finds-text text counts found.TooLong h = h
 finds-text text counts (found.Syntax k) h = h
@@ -198,7 +202,7 @@ finds-text text counts found.ReadFault h = absurd h
 finds-text text counts found.NoMemory h = tt
 
 -- what is due where the contract is none that `run` takes
-pub due_of-not_yet : (a : Acceptance) (left : Option (List ℕ)) (counts : Counts) (due : Due)
+pub due_of-not_yet : (a : Acceptance) (left : Option (List ℕ)) (counts : FaultCounts) (due : Due)
     → is_runnable a.program ≡ false → IsDueAs due 1 not_yet_line (Some a) no_journal
     → IsDueOf a left counts due.status due.text.items due.accepted due.journal
 due_of-not_yet a left counts due not_runnable parts =
@@ -210,7 +214,8 @@ due_of-not_yet a left counts due not_runnable parts =
     )
 
 -- what is due where the script can not be run, from its parts
-pub due_of-line : (a : Acceptance) (left : Option (List ℕ)) (counts : Counts) (text : List ℕ) (due : Due) (code : ℕ)
+pub due_of-line : (a : Acceptance) (left : Option (List ℕ)) (counts : FaultCounts) (text : List ℕ) (due : Due)
+    (code : ℕ)
     (bytes : List ℕ) → is_runnable a.program ≡ true → IsTextOf left text
     → ((words : List (List ℕ)) (contract : Input) → IsRunOn words contract.text a
     → IsDue words contract (record { text = text; counts = counts }) code bytes (Some a) no_journal)
@@ -226,7 +231,8 @@ due_of-line a left counts text due code bytes runnable told is_due parts = (
 )
 
 -- a run of a script, from its parts
-pub due_of-run : (a : Acceptance) (left : Option (List ℕ)) (counts : Counts) (text : List ℕ) (items : List ScriptItem)
+pub due_of-run : (a : Acceptance) (left : Option (List ℕ)) (counts : FaultCounts) (text : List ℕ)
+    (items : List ScriptItem)
     (code : ℕ) (bytes : List ℕ) (given : Option Acceptance) (kept : Journal) → is_runnable a.program ≡ true
     → IsTextOf left text → ReadsAs text items → HasRunAs a items code bytes given kept
     → IsDueOf a left counts code bytes given kept

@@ -67,7 +67,7 @@ ShowsLeastBounds c =
 -- 1 only where a run is asked for of a program that `run` does not take; and that of a check, or of a search for least
 -- bounds, is 0, unless reading, writing or memory fails (5, 6, 7).
 pub record IsAnswered (c : Call) (lists : ProgramLists) : Type 0 where
-  pub solved : c.status ≢ 8
+  pub not_stopped : c.status ≢ 8
   pub not_refused : c.status ≡ 1 → IsRun c.words × (is_runnable lists ≡ false)
   pub checked : IsCheck c.words ⊎ IsLeast c.words
       → (c.status ≡ 0) ⊎ ((c.status ≡ 5) ⊎ ((c.status ≡ 6) ⊎ (c.status ≡ 7)))
@@ -128,7 +128,7 @@ pub record Claim (c : Call) : Type 0 where
   pub sound : IsSound c
   pub given : IsGiven c
   pub shown : IsShown c
-  pub bounded : ShowsLeastBounds c
+  pub least_bounds : ShowsLeastBounds c
   pub complete : IsComplete c
   pub refused : IsRefusedTruly c
   pub stopped : IsStoppedTruly c

@@ -14,7 +14,7 @@ use Rattle.nomos_ledger.specs.declared.journal.Entry.{Entry}
 use Rattle.nomos_ledger.specs.declared.journal.Journal.{Journal}
 use Rattle.nomos_script.specs.ScriptReading.{ReadsAs, IsSyntaxAt, IsNotYetAt, text_limit}
 use Rattle.nomos_script.specs.declared.item.ScriptItem.{ScriptItem}
-use Rattle.nomos_top.specs.Outcome.{Counts, HaveRisen, Input, Reading, IsTextOf, IsRun, HasStopped, HasLeastStopped, HasRun, IsDue, IsDueFor, IsPart, no_journal, steps}
+use Rattle.nomos_top.specs.Outcome.{FaultCounts, HaveRisen, Input, SourceState, IsTextOf, IsRun, HasStopped, HasLeastStopped, HasRun, IsDue, IsDueFor, IsPart, no_journal, steps}
 use Rattle.nomos_top.specs.Progress.{IsSoFar}
 use Rattle.nomos_top.specs.Block.{read_fault_line}
 use Rattle.nomos_top.specs.Refusal.{refusal, unsolved_line}
@@ -34,14 +34,14 @@ abbrev pub HasEachStar : Acceptance → Type 0
 HasEachStar a = length a.annotations.stars ≡ star_count a.program
 
 -- what stands against the acceptance of a text, where the solver may have stopped so
-abbrev pub IsUnaccepted : (Stop → Type 0) → List ℕ → Counts → Unaccepted → Type 0
+abbrev pub IsUnaccepted : (Stop → Type 0) → List ℕ → FaultCounts → Unaccepted → Type 0
 IsUnaccepted Stops text counts (unaccepted.Refused why) = IsRefused text why
 IsUnaccepted Stops text counts (unaccepted.Unsolved stop) = Stops stop
 IsUnaccepted Stops text counts unaccepted.ReadFault = HaveRisen counts
 IsUnaccepted Stops text counts unaccepted.NoMemory = Unit {0}
 
 -- the text of a contract, or why there is none
-abbrev pub ReadsContract : Option (List ℕ) → Counts → Result (Vec ℕ Global) Unaccepted → Type 0
+abbrev pub ReadsContract : Option (List ℕ) → FaultCounts → Result (Vec ℕ Global) Unaccepted → Type 0
 ReadsContract left counts (Ok bytes) = IsTextOf left bytes.items
 ReadsContract left counts (Err u) = (text : List ℕ) × IsTextOf left text × IsUnaccepted (λ stop. ⊥) text counts u
 
@@ -52,12 +52,12 @@ unaccepted_of (error.Unsolved stop) = unaccepted.Unsolved stop
 unaccepted_of error.NoMemory = unaccepted.NoMemory
 
 -- a text that the source has, where it tells that, and what is found of it
-abbrev pub Judges : Option (List ℕ) → Counts → Result Acceptance Unaccepted → Type 0
+abbrev pub Judges : Option (List ℕ) → FaultCounts → Result Acceptance Unaccepted → Type 0
 Judges left counts (Ok a) = (text : List ℕ) × IsTextOf left text × IsAcceptedAs text a
 Judges left counts (Err u) = (text : List ℕ) × IsTextOf left text × IsUnaccepted (HasStopped text) text counts u
 
 -- the same, where its least bounds are sought
-abbrev pub JudgesLeast : Option (List ℕ) → Counts → Result LeastBounds Unaccepted → Type 0
+abbrev pub JudgesLeast : Option (List ℕ) → FaultCounts → Result LeastBounds Unaccepted → Type 0
 JudgesLeast left counts (Ok b) = (text : List ℕ) × IsTextOf left text × IsLeastAs text b
 JudgesLeast left counts (Err u) =
     (text : List ℕ) × IsTextOf left text × IsUnaccepted (HasLeastStopped text) text counts u
@@ -72,11 +72,11 @@ FindsText text found.ReadFault = ⊥
 FindsText text found.NoMemory = Unit {0}
 
 -- what is found of a script, where its source may have failed
-abbrev pub FindsOrFails : List ℕ → Counts → Found → Type 0
+abbrev pub FindsOrFails : List ℕ → FaultCounts → Found → Type 0
 FindsOrFails text counts found.ReadFault = HaveRisen counts
 FindsOrFails text counts f = FindsText text f
 
-abbrev pub Finds : Option (List ℕ) → Counts → Found → Type 0
+abbrev pub Finds : Option (List ℕ) → FaultCounts → Found → Type 0
 Finds left counts f = (text : List ℕ) × IsTextOf left text × FindsOrFails text counts f
 
 -- what is due consists of these parts
@@ -104,15 +104,16 @@ IsDueOut unaccepted.ReadFault due = IsDueAs due 5 (read_fault_line (codes "contr
 IsDueOut unaccepted.NoMemory due = ⊥
 
 -- this is due, for words of this kind, whatever the script is
-abbrev pub IsDueWhere : (List (List ℕ) → Type 0) → Reading → Due → Type 0
+abbrev pub IsDueWhere : (List (List ℕ) → Type 0) → SourceState → Due → Type 0
 IsDueWhere Asks contract due =
-    (words : List (List ℕ)) (script : Reading) → Asks words
+    (words : List (List ℕ)) (script : SourceState) → Asks words
     → IsDueFor words contract script due.status due.text.items due.accepted due.journal
 
 -- this was done before memory ran out
-abbrev pub IsPartWhere : (List (List ℕ) → Type 0) → Reading → Part → Type 0
+abbrev pub IsPartWhere : (List (List ℕ) → Type 0) → SourceState → Part → Type 0
 IsPartWhere Asks contract part =
-    (words : List (List ℕ)) (script : Reading) → Asks words → IsPart words contract script part.accepted part.journal
+    (words : List (List ℕ)) (script : SourceState) → Asks words
+    → IsPart words contract script part.accepted part.journal
 
 -- the journal of these entries
 abbrev pub journal_of : List Entry → Journal
@@ -138,7 +139,7 @@ pub record HasRunPart (a : Acceptance) (items : List ScriptItem)
   pub given : accepted ≡ Some a
 
 -- what is due where a run is asked for on a contract that is accepted
-abbrev pub IsDueOf : Acceptance → Option (List ℕ) → Counts → ℕ → List ℕ → Option Acceptance → Journal → Type 0
+abbrev pub IsDueOf : Acceptance → Option (List ℕ) → FaultCounts → ℕ → List ℕ → Option Acceptance → Journal → Type 0
 IsDueOf a left counts status bytes accepted journal =
     (text : List ℕ) × IsTextOf left text ×
     ((words : List (List ℕ)) (contract : Input) → IsRun words → IsAcceptedAs contract.text a →

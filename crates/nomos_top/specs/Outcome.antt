@@ -22,17 +22,17 @@ use Rattle.nomos_top.specs.Words.{check, run, least, task_of}
 use Rattle.nomos_types.specs.Acceptance.{Acceptance}
 
 -- the counts of faults of a source or a sink before a call and after it
-pub record Counts : Type 0 where
+pub record FaultCounts : Type 0 where
   pub before : ℕ
   pub after : ℕ
 
-abbrev pub HaveRisen : Counts → Type 0
+abbrev pub HaveRisen : FaultCounts → Type 0
 HaveRisen c = Rose c.before c.after
 
 -- a text that is read, and the counts of its source
 pub record Input : Type 0 where
   pub text : List ℕ
-  pub counts : Counts
+  pub counts : FaultCounts
 
 -- the most firings of one batch
 abbrev pub steps : ℕ
@@ -131,19 +131,19 @@ IsTextOf None text = ⊤
 IsTextOf (Some left) text = text ≡ left
 
 -- what a source has left at the begin of a call, where it tells that, and its counts
-pub record Reading : Type 0 where
+pub record SourceState : Type 0 where
   pub left : Option (List ℕ)
-  pub counts : Counts
+  pub counts : FaultCounts
 
 -- a source that has this left, and these counts of faults before the call and after it
-abbrev pub reading_of : Option (List ℕ) → ℕ → ℕ → Reading
-reading_of left before after = record { left = left; counts = record { before = before; after = after } }
+abbrev pub source_state : Option (List ℕ) → ℕ → ℕ → SourceState
+source_state left before after = record { left = left; counts = record { before = before; after = after } }
 
-abbrev pub input_of : Reading → List ℕ → Input
+abbrev pub input_of : SourceState → List ℕ → Input
 input_of source text = record { text = text; counts = source.counts }
 
 -- it is due for the texts that the sources have left, or for some texts where they do not tell
-pub record IsDueFor (words : List (List ℕ)) (contract script : Reading) (status : ℕ) (bytes : List ℕ)
+pub record IsDueFor (words : List (List ℕ)) (contract script : SourceState) (status : ℕ) (bytes : List ℕ)
     (accepted : Option Acceptance) (journal : Journal) : Type 0 where
   pub text : List ℕ
   pub script_text : List ℕ
@@ -154,7 +154,7 @@ pub record IsDueFor (words : List (List ℕ)) (contract script : Reading) (statu
 -- What is known where memory ran out: nothing is given; or a run was asked for, the contract is accepted and given, and
 -- no entry is; or the journal is that of a run of some first items of the script. Where nothing is given, the script
 -- was not read: that is what `nomos` says by `ReadsScript`.
-pub data IsPart (words : List (List ℕ)) (contract script : Reading) : Option Acceptance → Journal → Type 0 where
+pub data IsPart (words : List (List ℕ)) (contract script : SourceState) : Option Acceptance → Journal → Type 0 where
   nothing : IsPart words contract script None no_journal
   accepted_part : (a : Acceptance) (text : List ℕ) → IsRun words → IsTextOf contract.left text → IsAcceptedAs text a
       → IsPart words contract script (Some a) no_journal
@@ -164,12 +164,13 @@ pub data IsPart (words : List (List ℕ)) (contract script : Reading) : Option A
       → IsPart words contract script (Some a) journal
 
 -- All that is due was written, or the sink failed and a part of it was.
-pub data IsWritten (status : ℕ) (bytes : List ℕ) (out : Counts) (before after : Option (List ℕ)) : ℕ → Type 0 where
+pub data IsWritten (status : ℕ) (bytes : List ℕ) (out : FaultCounts) (before after : Option (List ℕ)) : ℕ → Type 0 where
   whole : after ≡ with_end before bytes → IsWritten status bytes out before after status
   write_fault : HaveRisen out → AppendsSome bytes before after → IsWritten status bytes out before after 6
 
 -- How the call ends: what is due was written, or memory ran out and nothing was.
-pub data EndsFor (words : List (List ℕ)) (contract script : Reading) (out : Counts) (before after : Option (List ℕ)) : ℕ
+pub data EndsFor (words : List (List ℕ)) (contract script : SourceState) (out : FaultCounts)
+    (before after : Option (List ℕ)) : ℕ
     → Option Acceptance → Journal → Type 0 where
   written : {ended : ℕ} {accepted : Option Acceptance} {journal : Journal} (status : ℕ) (bytes : List ℕ)
       → IsDueFor words contract script status bytes accepted journal → IsWritten status bytes out before after ended

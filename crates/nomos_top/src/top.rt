@@ -4,7 +4,7 @@ ghost use Rattle.std.specs.Prelude.{◌≡◌, ℕ, List, Some, None, IfOk, IfEr
 ghost use Rattle.nomos_top.specs.Block.{accepted_block};
 ghost use Rattle.nomos_top.specs.Claim.{Claims};
 ghost use Rattle.nomos_top.specs.LeastBlock.{least_block};
-ghost use Rattle.nomos_top.specs.Outcome.{IsCheck, IsRun, IsLeast, HasRunnable, ReadsScript, reading_of, IsDueFor, EndsFor, IsWritten, IsPart, no_journal};
+ghost use Rattle.nomos_top.specs.Outcome.{IsCheck, IsRun, IsLeast, HasRunnable, ReadsScript, source_state, IsDueFor, EndsFor, IsWritten, IsPart, no_journal};
 ghost use Rattle.nomos_top.specs.Judging.{HasEachStar, IsDueAs, IsPartAs, IsDueOut, IsDueWhere, IsPartWhere, IsDueOf, IsPartOf, given_of};
 ghost use Rattle.nomos_top.specs.Jobs.{task};
 ghost use Rattle.nomos_top.specs.Refusal.{refusal, unsolved_line};
@@ -55,8 +55,8 @@ pub fn nomos<S: Source, K: Sink>(
     out: &mut K,
 ) -> Ended
     ensures ends { EndsFor (map string_bytes words.now)
-        (reading_of (S.left contract.old) (S.faults contract.old) (S.faults contract.new))
-        (reading_of (S.left script.old) (S.faults script.old) (S.faults script.new))
+        (source_state (S.left contract.old) (S.faults contract.old) (S.faults contract.new))
+        (source_state (S.left script.old) (S.faults script.old) (S.faults script.new))
         (record { before = K.faults out.old; after = K.faults out.new }) (K.written out.old) (K.written out.new)
         result.status result.accepted result.journal }
     ensures claim { Claims (map string_bytes words.now) (S.left contract.old) (K.written out.old) (K.written out.new)
@@ -112,12 +112,12 @@ fn job_due<S: Source>(
     script: &mut S,
 ) -> Result<Due, Part>
     ensures ok { IfOk result (λ due. IsDueFor (map string_bytes words.now)
-        (reading_of (S.left contract.old) (S.faults contract.old) (S.faults contract.new))
-        (reading_of (S.left script.old) (S.faults script.old) (S.faults script.new))
+        (source_state (S.left contract.old) (S.faults contract.old) (S.faults contract.new))
+        (source_state (S.left script.old) (S.faults script.old) (S.faults script.new))
         due.status due.text.items due.accepted due.journal) }
     ensures err { IfErr result (λ part. IsPart (map string_bytes words.now)
-        (reading_of (S.left contract.old) (S.faults contract.old) (S.faults contract.new))
-        (reading_of (S.left script.old) (S.faults script.old) (S.faults script.new))
+        (source_state (S.left contract.old) (S.faults contract.old) (S.faults contract.new))
+        (source_state (S.left script.old) (S.faults script.old) (S.faults script.new))
         part.accepted part.journal) }
     ensures no_task { task_of (map string_bytes words.now) ≡ None → contract.new ≡ contract.old }
     ensures unread { ¬ ReadsScript (map string_bytes words.now) (given_of result) → script.new ≡ script.old }
@@ -136,12 +136,12 @@ fn work_due<S: Source>(
     script: &mut S,
 ) -> Result<Due, Part>
     ensures ok { (words : List (List ℕ)) → Some (task job.entry) ≡ task_of words → IfOk result (λ due. IsDueFor words
-        (reading_of (S.left contract.old) (S.faults contract.old) (S.faults contract.new))
-        (reading_of (S.left script.old) (S.faults script.old) (S.faults script.new))
+        (source_state (S.left contract.old) (S.faults contract.old) (S.faults contract.new))
+        (source_state (S.left script.old) (S.faults script.old) (S.faults script.new))
         due.status due.text.items due.accepted due.journal) }
     ensures err { (words : List (List ℕ)) → Some (task job.entry) ≡ task_of words → IfErr result (λ part. IsPart words
-        (reading_of (S.left contract.old) (S.faults contract.old) (S.faults contract.new))
-        (reading_of (S.left script.old) (S.faults script.old) (S.faults script.new))
+        (source_state (S.left contract.old) (S.faults contract.old) (S.faults contract.new))
+        (source_state (S.left script.old) (S.faults script.old) (S.faults script.new))
         part.accepted part.journal) }
     ensures unread { (words : List (List ℕ)) → Some (task job.entry) ≡ task_of words
         → ¬ ReadsScript words (given_of result) → script.new ≡ script.old }
@@ -156,9 +156,9 @@ fn work_due<S: Source>(
 // What is due for a check.
 fn check_due<S: Source>(alloc: Global, contract: &mut S) -> Result<Due, Part>
     ensures ok { IfOk result (IsDueWhere IsCheck
-        (reading_of (S.left contract.old) (S.faults contract.old) (S.faults contract.new))) }
+        (source_state (S.left contract.old) (S.faults contract.old) (S.faults contract.new))) }
     ensures err { IfErr result (IsPartWhere IsCheck
-        (reading_of (S.left contract.old) (S.faults contract.old) (S.faults contract.new))) }
+        (source_state (S.left contract.old) (S.faults contract.old) (S.faults contract.new))) }
 {
     match judge(alloc, contract) {
         Ok(accepted) => accepted_due(alloc, accepted),
@@ -169,9 +169,9 @@ fn check_due<S: Source>(alloc: Global, contract: &mut S) -> Result<Due, Part>
 // What is due for a search for least bounds.
 fn least_due<S: Source>(alloc: Global, contract: &mut S) -> Result<Due, Part>
     ensures ok { IfOk result (IsDueWhere IsLeast
-        (reading_of (S.left contract.old) (S.faults contract.old) (S.faults contract.new))) }
+        (source_state (S.left contract.old) (S.faults contract.old) (S.faults contract.new))) }
     ensures err { IfErr result (IsPartWhere IsLeast
-        (reading_of (S.left contract.old) (S.faults contract.old) (S.faults contract.new))) }
+        (source_state (S.left contract.old) (S.faults contract.old) (S.faults contract.new))) }
 {
     match judge_least(alloc, contract) {
         Ok(bounds) => bounds_due(alloc, bounds),
@@ -182,12 +182,12 @@ fn least_due<S: Source>(alloc: Global, contract: &mut S) -> Result<Due, Part>
 // What is due for a run.
 fn run_due<S: Source>(alloc: Global, contract: &mut S, script: &mut S) -> Result<Due, Part>
     ensures ok { (words : List (List ℕ)) → IsRun words → IfOk result (λ due. IsDueFor words
-        (reading_of (S.left contract.old) (S.faults contract.old) (S.faults contract.new))
-        (reading_of (S.left script.old) (S.faults script.old) (S.faults script.new))
+        (source_state (S.left contract.old) (S.faults contract.old) (S.faults contract.new))
+        (source_state (S.left script.old) (S.faults script.old) (S.faults script.new))
         due.status due.text.items due.accepted due.journal) }
     ensures err { (words : List (List ℕ)) → IsRun words → IfErr result (λ part. IsPart words
-        (reading_of (S.left contract.old) (S.faults contract.old) (S.faults contract.new))
-        (reading_of (S.left script.old) (S.faults script.old) (S.faults script.new))
+        (source_state (S.left contract.old) (S.faults contract.old) (S.faults contract.new))
+        (source_state (S.left script.old) (S.faults script.old) (S.faults script.new))
         part.accepted part.journal) }
     ensures unread { ¬ HasRunnable (given_of result) → script.new ≡ script.old }
 {

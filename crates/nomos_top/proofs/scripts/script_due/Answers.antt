@@ -1,5 +1,5 @@
 use Rattle.nomos_top.proofs.DueLemmas.{if_ok-map, if_err-map, due_of-line, due_of-run, part_of-line, part_of-run}
-use Rattle.nomos_top.specs.Outcome.{Counts, script_fault, script_too_long, script_syntax, script_not_yet}
+use Rattle.nomos_top.specs.Outcome.{FaultCounts, script_fault, script_too_long, script_syntax, script_not_yet}
 use Rattle.nomos_top.proofs.scripts.script_due.Goals as goal
 
 pub returns-in-NoMemory-clause-err : goal.returns-in-NoMemory-clause-err
@@ -11,7 +11,7 @@ pub returns-in-ReadFault-clause-ok : goal.returns-in-ReadFault-clause-ok
 returns-in-ReadFault-clause-ok g c =
     let a = c.args.accepted in
     let left = g.S.Source.left c.args.script.now in
-    let counts : Counts = record {
+    let counts : FaultCounts = record {
       before = g.S.Source.faults c.args.script.now;
       after = g.S.Source.faults c.find_script.new.script;
     } in
@@ -30,7 +30,7 @@ pub returns-in-TooLong-clause-ok : goal.returns-in-TooLong-clause-ok
 returns-in-TooLong-clause-ok g c =
     let a = c.args.accepted in
     let left = g.S.Source.left c.args.script.now in
-    let counts : Counts = record {
+    let counts : FaultCounts = record {
       before = g.S.Source.faults c.args.script.now;
       after = g.S.Source.faults c.find_script.new.script;
     } in
@@ -50,7 +50,7 @@ pub returns-in-Syntax-clause-ok : goal.returns-in-Syntax-clause-ok
 returns-in-Syntax-clause-ok g c =
     let a = c.args.accepted in
     let left = g.S.Source.left c.args.script.now in
-    let counts : Counts = record {
+    let counts : FaultCounts = record {
       before = g.S.Source.faults c.args.script.now;
       after = g.S.Source.faults c.find_script.new.script;
     } in
@@ -70,7 +70,7 @@ pub returns-in-NotYet-clause-ok : goal.returns-in-NotYet-clause-ok
 returns-in-NotYet-clause-ok g c =
     let a = c.args.accepted in
     let left = g.S.Source.left c.args.script.now in
-    let counts : Counts = record {
+    let counts : FaultCounts = record {
       before = g.S.Source.faults c.args.script.now;
       after = g.S.Source.faults c.find_script.new.script;
     } in
@@ -90,7 +90,7 @@ pub returns-in-Script-clause-ok : goal.returns-in-Script-clause-ok
 returns-in-Script-clause-ok g c =
     let a = c.args.accepted in
     let left = g.S.Source.left c.args.script.now in
-    let counts : Counts = record {
+    let counts : FaultCounts = record {
       before = g.S.Source.faults c.args.script.now;
       after = g.S.Source.faults c.find_script.new.script;
     } in

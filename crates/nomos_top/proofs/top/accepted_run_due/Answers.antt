@@ -1,10 +1,10 @@
 use Rattle.nomos_top.proofs.DueLemmas.{if_ok-map, if_err-map, due_of-not_yet, part_of-line}
-use Rattle.nomos_top.specs.Outcome.{Counts}
+use Rattle.nomos_top.specs.Outcome.{FaultCounts}
 use Rattle.nomos_top.proofs.top.accepted_run_due.Goals as goal
 
 pub returns-else-is_runnable-clause-ok : goal.returns-else-is_runnable-clause-ok
 returns-else-is_runnable-clause-ok g c =
-    let counts : Counts = record {
+    let counts : FaultCounts = record {
       before = g.S.Source.faults c.args.script.now;
       after = g.S.Source.faults c.args.script.now;
     } in

@@ -1,13 +1,13 @@
 use Rattle.std.proofs.Common.{inr, sym}
 use Rattle.nomos_top.proofs.DueLemmas.{if_ok-map, if_err-map, has-task, due-pivots_out, due-of, part-nothing, part-of}
-use Rattle.nomos_top.specs.Outcome.{reading_of}
+use Rattle.nomos_top.specs.Outcome.{source_state}
 use Rattle.nomos_top.proofs.top.run_due.Goals as goal
 
 pub returns-in-Ok-clause-ok : goal.returns-in-Ok-clause-ok
 returns-in-Ok-clause-ok g c = λ words asks.
-    let contract = reading_of (g.S.Source.left c.args.contract.now) (g.S.Source.faults c.args.contract.now)
+    let contract = source_state (g.S.Source.left c.args.contract.now) (g.S.Source.faults c.args.contract.now)
     (g.S.Source.faults c.judge.new.contract) in
-    let script = reading_of (g.S.Source.left c.args.script.now) (g.S.Source.faults c.args.script.now)
+    let script = source_state (g.S.Source.left c.args.script.now) (g.S.Source.faults c.args.script.now)
     (g.S.Source.faults c.accepted_run_due.new.script) in
     let f = c.in-Ok.ensures in
     if_ok-map c.accepted_run_due.result _ _
@@ -17,9 +17,9 @@ returns-in-Ok-clause-ok g c = λ words asks.
 
 pub returns-in-Ok-clause-err : goal.returns-in-Ok-clause-err
 returns-in-Ok-clause-err g c = λ words asks.
-    let contract = reading_of (g.S.Source.left c.args.contract.now) (g.S.Source.faults c.args.contract.now)
+    let contract = source_state (g.S.Source.left c.args.contract.now) (g.S.Source.faults c.args.contract.now)
     (g.S.Source.faults c.judge.new.contract) in
-    let script = reading_of (g.S.Source.left c.args.script.now) (g.S.Source.faults c.args.script.now)
+    let script = source_state (g.S.Source.left c.args.script.now) (g.S.Source.faults c.args.script.now)
     (g.S.Source.faults c.accepted_run_due.new.script) in
     let f = c.in-Ok.ensures in
     if_err-map c.accepted_run_due.result _ _
@@ -28,9 +28,9 @@ returns-in-Ok-clause-err g c = λ words asks.
 
 pub returns-in-Err-clause-ok : goal.returns-in-Err-clause-ok
 returns-in-Err-clause-ok g c = λ words asks.
-    let contract = reading_of (g.S.Source.left c.args.contract.now) (g.S.Source.faults c.args.contract.now)
+    let contract = source_state (g.S.Source.left c.args.contract.now) (g.S.Source.faults c.args.contract.now)
     (g.S.Source.faults c.judge.new.contract) in
-    let script = reading_of (g.S.Source.left c.args.script.now) (g.S.Source.faults c.args.script.now)
+    let script = source_state (g.S.Source.left c.args.script.now) (g.S.Source.faults c.args.script.now)
     (g.S.Source.faults c.args.script.now) in
     let f = c.in-Err.ensures in
     if_ok-map c.unaccepted_due.result _ _
@@ -40,9 +40,9 @@ returns-in-Err-clause-ok g c = λ words asks.
 
 pub returns-in-Err-clause-err : goal.returns-in-Err-clause-err
 returns-in-Err-clause-err g c = λ words asks.
-    let contract = reading_of (g.S.Source.left c.args.contract.now) (g.S.Source.faults c.args.contract.now)
+    let contract = source_state (g.S.Source.left c.args.contract.now) (g.S.Source.faults c.args.contract.now)
     (g.S.Source.faults c.judge.new.contract) in
-    let script = reading_of (g.S.Source.left c.args.script.now) (g.S.Source.faults c.args.script.now)
+    let script = source_state (g.S.Source.left c.args.script.now) (g.S.Source.faults c.args.script.now)
     (g.S.Source.faults c.args.script.now) in
     if_err-map c.unaccepted_due.result _ _ (λ part parts. part-nothing words contract script part parts)
     c.unaccepted_due.ensures.err
