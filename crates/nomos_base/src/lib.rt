@@ -23,6 +23,3 @@ pub use sink::{Put, Sink};
 pub use source::{Got, Source};
 pub use sure::{SureSink, SureSource};
 pub use writing::{WriteError, write_all};
-
-#[cfg(test)]
-mod tests;

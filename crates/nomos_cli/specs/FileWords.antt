@@ -15,8 +15,3 @@ script_word None = None
 script_word (Some (check file)) = None
 script_word (Some (run file script)) = Some script
 script_word (Some (least file)) = None
-
--- what a contract sees of a file: the word that names it, if there is one, and how often a read failed
-pub record NamedFile : Type 0 where
-  pub word : Option (List ℕ)
-  pub faults : ℕ

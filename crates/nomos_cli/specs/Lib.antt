@@ -1,3 +1,2 @@
-pub mod FaultCounting
 pub mod FileWords
 pub mod Call

@@ -7,16 +7,12 @@ ghost use Rattle.nomos_top.specs.Words.{task_of};
 ghost use Rattle.nomos_cli.specs.Call.{EndsSilently};
 ghost use Rattle.nomos_cli.specs.FileWords.{contract_word, script_word};
 
-mod file_source;
-mod stdout_sink;
-
-use file_source::FileSource;
+use nomos_files::{FileSource, StdoutSink};
 use nomos_top::{Job, nomos};
 use std::alloc::{AllocError, AllocGlobal};
 use std::env::Env;
 use std::io::ErrorKind;
 use std::process::ExitCode;
-use stdout_sink::StdoutSink;
 
 fn main(rt: HostRuntime) -> ExitCode {
     let Ok(words) = own_words(&rt) else {
@@ -75,6 +71,3 @@ fn script_word(words: &[String]) -> Option<&str>
         _ => None,
     }
 }
-
-#[cfg(test)]
-mod tests;

@@ -12,7 +12,5 @@ mod moving;
 pub mod object;
 mod parts;
 pub mod plain;
-#[cfg(test)]
-mod tests;
 mod types;
 pub mod view;

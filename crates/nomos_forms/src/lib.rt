@@ -9,6 +9,4 @@ pub mod product;
 pub mod refuting;
 pub mod row;
 pub mod row_list;
-#[cfg(test)]
-mod tests;
 pub mod verdict;

@@ -7,5 +7,3 @@ mod reader;
 mod sight;
 mod table;
 mod tally;
-#[cfg(test)]
-mod tests;

@@ -2,7 +2,7 @@ pub mod AgreeLemmas
 pub mod BindingLaws
 pub mod EvaluationLaws
 pub mod EvaluationLemmas
-pub mod ExampleLemmas
+pub mod ExampleLaws
 pub mod NameLemmas
 pub mod NodeLaws
 pub mod OccurrenceLaws

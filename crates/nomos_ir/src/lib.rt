@@ -19,8 +19,6 @@ pub mod program;
 pub mod stack;
 mod stars;
 pub mod term_node;
-#[cfg(test)]
-mod tests;
 pub mod type_node;
 pub mod value;
 pub mod value_node;

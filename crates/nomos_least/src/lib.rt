@@ -6,5 +6,3 @@ pub mod goal;
 pub mod least;
 mod products;
 pub mod showing;
-#[cfg(test)]
-mod tests;

@@ -14,6 +14,4 @@ pub mod resolved;
 mod resolving;
 mod rest;
 mod stop;
-#[cfg(test)]
-mod tests;
 pub mod world;

@@ -9,6 +9,4 @@ pub mod name;
 pub mod parsing;
 pub mod script;
 mod stop;
-#[cfg(test)]
-mod tests;
 mod tokens;

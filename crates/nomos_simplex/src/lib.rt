@@ -14,6 +14,4 @@ mod refusing;
 pub mod solved;
 pub mod solving;
 pub mod table;
-#[cfg(test)]
-mod tests;
 pub mod turn;

@@ -5,6 +5,4 @@ mod bytes;
 mod pieces;
 pub mod scan;
 pub mod symbol;
-#[cfg(test)]
-mod tests;
 pub mod token;

@@ -14,7 +14,5 @@ mod scripts;
 mod top;
 
 pub use job::{Job, words};
+pub use running::{Running, run_items};
 pub use top::{Ended, nomos};
-
-#[cfg(test)]
-mod tests;

@@ -36,11 +36,11 @@ const FIRINGS: u32 = 20_000_000;
 /// What a run has come to: the ledger, the entries of the journal, the lines of the report, and how many firings were
 /// made in all batches.
 #[derive(Drop)]
-pub(crate) struct Running {
-    pub(crate) ledger: Ledger,
-    pub(crate) entries: Vec<Entry>,
-    pub(crate) text: Vec<u8>,
-    pub(crate) made: u32,
+pub struct Running {
+    pub ledger: Ledger,
+    pub entries: Vec<Entry>,
+    pub text: Vec<u8>,
+    pub made: u32,
 }
 
 // Fires the lowest ready process again and again, up to the limit, for as long as one is ready.
@@ -317,7 +317,7 @@ fn keep(
 
 /// Runs the items of a script from the empty ledger, where one batch may make so many firings. Where memory runs out,
 /// the entries that were kept before.
-pub(crate) fn run_items(
+pub fn run_items(
     alloc: Global,
     accepted: &Accepted,
     limit: u32,

@@ -1,0 +1,2 @@
+pub mod FaultCounting
+pub mod NamedFile

@@ -1,0 +1,9 @@
+//! Tests of scripts, of the states of the machine and of ledgers, as far as they need no accepted contract.
+#![tactic(auto)]
+
+#[cfg(test)]
+mod ledger_tests;
+#[cfg(test)]
+mod script_tests;
+#[cfg(test)]
+mod state_tests;

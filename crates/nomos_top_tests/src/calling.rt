@@ -1,0 +1,134 @@
+//! How the top call is made in the tests, and the texts that several of them use.
+use nomos_base::{MemorySink, MemorySource};
+use nomos_top::nomos;
+use std::alloc::{AllocError, Global};
+use std::test::Fail;
+
+// The words of a line, each behind one space.
+pub(crate) fn words_of(alloc: Global, line: &str) -> Result<Vec<String>, AllocError> {
+    let mut words = Vec::new(alloc);
+    for text in line.split(' ') {
+        words.push(String::from_str(alloc, text)?)?;
+    }
+    Ok(words)
+}
+
+// The numbers of the calls that fail: of the contract, of the script, and of the output.
+pub(crate) type Faults = (u64, u64, u64);
+
+// The number of a call that is never made.
+pub(crate) const NEVER: u64 = 1_000_000;
+
+pub(crate) const NO_FAULTS: Faults = (NEVER, NEVER, NEVER);
+
+const EVERYTHING: usize = 4_194_304;
+
+// A source over a text, of which one read fails.
+fn source(alloc: Global, text: &[u8], piece: u16, fault: u64) -> Result<MemorySource, AllocError> {
+    let bytes = Vec::from_slice(alloc, text)?;
+    let failing = vec![in alloc; fault]?;
+    Ok(MemorySource::new(bytes, usize::from(piece) + 1, failing))
+}
+
+// A sink of which one write fails.
+fn sink(alloc: Global, piece: u16, fault: u64) -> Result<MemorySink, AllocError> {
+    let failing = vec![in alloc; fault]?;
+    MemorySink::new(alloc, EVERYTHING, usize::from(piece) + 1, failing)
+}
+
+// What a call works on.
+#[derive(Drop)]
+struct Outside {
+    contract: MemorySource,
+    script: MemorySource,
+    out: MemorySink,
+}
+
+// A contract and a script, where each read and write moves at most one byte more than the piece.
+fn outside_of(
+    alloc: Global,
+    texts: (&[u8], &[u8]),
+    piece: u16,
+    faults: Faults,
+) -> Result<Outside, AllocError> {
+    Ok(Outside {
+        contract: source(alloc, texts.0, piece, faults.0)?,
+        script: source(alloc, texts.1, piece, faults.1)?,
+        out: sink(alloc, piece, faults.2)?,
+    })
+}
+
+// How a call ended: the status, whether the contract was accepted, and the entries of the journal.
+fn end_of(alloc: Global, words: &[String], outside: &mut Outside) -> Result<String, AllocError> {
+    let (contract, script) = (&mut outside.contract, &mut outside.script);
+    let ended = nomos(alloc, words, contract, script, &mut outside.out);
+    let accepted = ended.accepted.is_some();
+    let entries = ended.journal.entries.len();
+    format!(in alloc; "{} {accepted} {entries}", ended.status)
+}
+
+// How many reads and writes failed, and what was written.
+fn outside_text(alloc: Global, outside: &Outside) -> Result<String, Fail> {
+    let contract = outside.contract.faults();
+    let script = outside.script.faults();
+    let out = outside.out.faults();
+    let written = str::from_utf8(outside.out.written())?;
+    Ok(format!(in alloc; "({contract}, {script}, {out})\n{written}")?)
+}
+
+// What is answered to the words of a line.
+pub(crate) fn answer_in_pieces(
+    alloc: Global,
+    line: &str,
+    texts: (&[u8], &[u8]),
+    piece: u16,
+    faults: Faults,
+) -> Result<String, Fail> {
+    let words = words_of(alloc, line)?;
+    let mut outside = outside_of(alloc, texts, piece, faults)?;
+    let end = end_of(alloc, &words, &mut outside)?;
+    let outside = outside_text(alloc, &outside)?;
+    Ok(format!(in alloc; "{end} {outside}")?)
+}
+
+// What is answered where no read and no write fails.
+pub(crate) fn answer(
+    alloc: Global,
+    line: &str,
+    contract: &[u8],
+    script: &[u8],
+) -> Result<String, Fail> {
+    answer_in_pieces(alloc, line, (contract, script), 8191, NO_FAULTS)
+}
+
+// A text with a piece that is repeated.
+pub(crate) fn repeated(alloc: Global, piece: &str, times: usize) -> Result<String, AllocError> {
+    let mut text = String::new(alloc);
+    for _ in 0..times {
+        text.push_str(piece)?;
+    }
+    Ok(text)
+}
+
+pub(crate) const ACCEPTED: &str = "0 true 0 (0, 0, 0)\naccepted\nunit 1\nbound t = 0\n";
+
+pub(crate) const EMPTY_ACCEPTED: &str = "0 true 0 (0, 0, 0)\naccepted\nunit 1\n";
+
+pub(crate) const CUT_SHORT: &str = "1 false 0 (0, 0, 0)\nrefused Syntax 4\n";
+
+pub(crate) const FLIP: &str = "type R flip = +{ heads : 1 | tails : 1 };
+proc R toss(;) : flip = self.heads; close;
+proc T t(;) = spawn c = toss(;); case c { tails => wait c; close | heads => wait c; close };
+";
+
+// A process needs a unit of two sources that are of one type, so that each gives a half.
+pub(crate) const HALVES: &str = "type R src = |{*}> 1;
+proc R both(; a : src, b : src) : 1 = get a {*}; get b {*}; work {1}; wait a; wait b; close;
+proc R half(;) {*} : src = pay self {*}; close;
+proc T t(;) {1} = spawn a = half(;); spawn b = half(;); spawn c = both(; a, b); wait c; close;
+";
+
+pub(crate) const BIT: &str = "type R bit = +{ one : 1 };
+proc R mk(;) : bit = self.one; close;
+proc T t(;) = spawn x = mk(;); case x { one => wait x; close };
+";
