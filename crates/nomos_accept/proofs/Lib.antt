@@ -7,3 +7,4 @@ pub mod CauseLaws
 pub mod RowListLaws
 pub mod RisingLemmas
 pub mod OneFormLaws
+pub mod ReadLaws

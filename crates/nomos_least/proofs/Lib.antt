@@ -2,3 +2,4 @@ pub mod BoundLemmas
 pub mod GoalLaws
 pub mod LeastLaws
 pub mod ProductLemmas
+pub mod OneLeastLaws

@@ -15,7 +15,9 @@ pub mod GoalLineLemmas
 pub mod LeastRunLaws
 pub mod LineLemmas
 pub mod LoweringLemmas
+pub mod NoStarLaws
 pub mod NumberLemmas
+pub mod OneEndLaws
 pub mod OppositeLemmas
 pub mod PlaceLemmas
 pub mod RatioLemmas

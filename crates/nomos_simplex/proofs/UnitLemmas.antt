@@ -9,7 +9,7 @@ use Rattle.nomos_forms.specs.declared.found.Found.{Found}
 use Rattle.nomos_forms.specs.declared.row_list.RowList.{RowList}
 use Rattle.nomos_simplex.specs.Exchange.{exchanged, is_large_table}
 use Rattle.nomos_simplex.specs.Exits.{common_denominator, amounts_over, fractions, found_or_large}
-use Rattle.nomos_simplex.specs.LeastRun.{LeastRun, proof_of, is_total, least_or_large}
+use Rattle.nomos_simplex.specs.LeastRun.{LeastRun, is_total, least_or_large}
 use Rattle.nomos_simplex.specs.Lowest.{leaving, entering}
 use Rattle.nomos_simplex.specs.PivotRun.{turn_to, turn_at, turn_on, turn_from, turn, end_of, run, answer_to}
 use Rattle.nomos_simplex.specs.Tables.{first_table}

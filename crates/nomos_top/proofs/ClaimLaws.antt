@@ -10,6 +10,7 @@ use Rattle.nomos_accept.specs.AcceptedText.{IsTypedAs, IsAcceptedAs, IsRefused, 
 use Rattle.nomos_accept.specs.declared.refusal.Why.{Why}
 use Rattle.nomos_base.specs.Sink.{with_end}
 use Rattle.nomos_ir.specs.declared.lists.ProgramLists.{ProgramLists}
+use Rattle.nomos_least.proofs.OneLeastLaws.{least_ends-once, no_stars-least_stop}
 use Rattle.nomos_least.specs.LeastBounds.{IsLeastAs, LeastRunEndsWith}
 use Rattle.nomos_least.specs.declared.least.LeastBounds.{LeastBounds}
 use Rattle.nomos_ledger.specs.declared.journal.Entry.{Entry}
@@ -272,7 +273,11 @@ claim-of c sound given shown bounds complete truly stopped = record {
   one_cause = one-cause c.text;
   one_refusal = one-refusal c.text;
   one_end = λ lists a b read ends other. ends-once lists a b ends other;
-  solved_without_stars = λ lists stop read none. no_stars-stop lists stop none;
+  one_least_end = λ lists a b read ends other. least_ends-once lists a b ends other;
+  solved_without_stars = λ lists stop read none. (
+    no_stars-stop lists stop none,
+    no_stars-least_stop c.text lists stop read none,
+  );
 }
 
 -- a call that failed to write, or ran out of memory

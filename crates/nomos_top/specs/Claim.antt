@@ -11,6 +11,7 @@ use Rattle.nomos_least.specs.LeastBounds.{IsLeastAs, LeastRunEndsWith}
 use Rattle.nomos_least.specs.declared.least.LeastBounds.{LeastBounds}
 use Rattle.nomos_simplex.specs.declared.solved.Solved.{Solved}
 use Rattle.nomos_simplex.specs.declared.solved.Solved.TheVariants as solved
+use Rattle.nomos_simplex.specs.declared.solved.SolvedLeast.{SolvedLeast}
 use Rattle.nomos_simplex.specs.declared.solved.SolvedLeast.TheVariants as least
 use Rattle.nomos_simplex.specs.declared.solved.Stop.{Stop}
 use Rattle.nomos_top.specs.Block.{accepted_block}
@@ -117,11 +118,18 @@ HasOneEnd text =
     (lists : ProgramLists) (a b : Solved) → IsReadAs text lists → PivotRunEndsWith lists a → PivotRunEndsWith lists b
     → a ≡ b
 
--- Without a star the pivot run does not stop.
+-- The least run on the rows of a program and what its transactions declare has one end: so least bounds, with the
+-- weights that show them, are fixed by the text.
+abbrev pub HasOneLeastEnd : List ℕ → Type 0
+HasOneLeastEnd text =
+    (lists : ProgramLists) (a b : SolvedLeast) → IsReadAs text lists → LeastRunEndsWith lists a
+    → LeastRunEndsWith lists b → a ≡ b
+
+-- Without a star neither run stops.
 abbrev pub IsSolvedWithoutStars : List ℕ → Type 0
 IsSolvedWithoutStars text =
     (lists : ProgramLists) (stop : Stop) → IsReadAs text lists → star_count lists ≡ 0
-    → ¬ (PivotRunEndsWith lists (solved.Unsolved stop))
+    → ¬ (PivotRunEndsWith lists (solved.Unsolved stop)) × ¬ (LeastRunEndsWith lists (least.Unsolved stop))
 
 -- All of it.
 pub record Claim (c : Call) : Type 0 where
@@ -136,6 +144,7 @@ pub record Claim (c : Call) : Type 0 where
   pub one_cause : HasOneCause c.text
   pub one_refusal : HasOneRefusal c.text
   pub one_end : HasOneEnd c.text
+  pub one_least_end : HasOneLeastEnd c.text
   pub solved_without_stars : IsSolvedWithoutStars c.text
 
 -- The claim of a call, of the text that its source tells, or of some text where it does not tell.
