@@ -10,7 +10,7 @@ use Rattle.nomos_surface.specs.mirror.Front.{Reader, front_kind, is_list, is_lis
 use Rattle.nomos_surface.specs.mirror.Terms.{comparison_in, is_cons, is_not, operand_of, operator_in, read_chain, term_from}
 use Rattle.nomos_surface.specs.Print.{print_term, truth_word}
 use Rattle.nomos_surface.specs.Shown.{Shown, anywhere, at_offset, HasValue, Spells}
-use Rattle.nomos_surface.specs.Tree.{TermTree, number, truth, me, variable, application, no_items, binary, negation, choosing, matching, parenthesized, term}
+use Rattle.nomos_surface.specs.Tree.{TermTree, number, truth, me, variable, application, no_items, binary, negation, choosing, matching, parenthesized}
 use Rattle.nomos_syntax.specs.declared.symbol.Symbol.TheVariants as sym
 use Rattle.nomos_syntax.specs.declared.token.TokenKind.{TokenKind}
 use Rattle.nomos_syntax.specs.declared.token.TokenKind.TheVariants as kind

@@ -19,7 +19,7 @@ use Rattle.nomos_syntax.specs.Lexeme.{Placed}
 use Rattle.nomos_surface.specs.Shown.{Printer, Spells, sign, keyword, print_name, print_more, print_parted}
 use Rattle.nomos_surface.specs.Print.{print_optional, print_value_type, print_type, print_term, print_value_par, print_list_potential, print_par, print_chan_par, print_pars, mode_word, print_body, print_decl, print_decls, cost_word, print_cost, print_file}
 use Rattle.nomos_surface.specs.Grammatical.{Each, IsChanPar, ArePars, IsDecl, IsGrammatical}
-use Rattle.nomos_surface.specs.Tree.{one, ChanParTree, ParTrees, DeclTree, definition, function, process, transaction, FileTree}
+use Rattle.nomos_surface.specs.Tree.{ChanParTree, ParTrees, DeclTree, definition, function, process, transaction, FileTree}
 use Rattle.nomos_surface.proofs.Fitting.{meets_sign, meets_keyword, meets_keyword_at, name_of, meets_name}
 use Rattle.nomos_surface.proofs.Makes.{Makes, made_token, made_mark, made, MakesAll, made_none, made_more, front_of, rules_in}
 use Rattle.nomos_surface.proofs.TypesMade.{Printed, Any, potential_made, optional_made, value_type_made, type_made}
