@@ -7,7 +7,7 @@ use Rattle.nomos_ir.specs.declared.lists.ProgramLists.{ProgramLists}
 use Rattle.nomos_rows.specs.PartFaults.{IsNeverTyped as IsNeverTypedProgram}
 use Rattle.nomos_simplex.specs.declared.solved.Solved.TheVariants as solved
 use Rattle.nomos_simplex.specs.declared.solved.Stop.{Stop}
-use Rattle.nomos_surface.proofs.FoundLaws.{printed-unique}
+use Rattle.nomos_reader.proofs.FoundLaws.{printed-unique}
 use Rattle.nomos_surface.specs.TreeReading.{ReadsAs}
 use Rattle.nomos_surface.specs.Tree.{FileTree}
 use Rattle.nomos_syntax.specs.Scan.{tokens_of}

@@ -10,7 +10,7 @@ use Rattle.nomos_accept.specs.declared.refusal.Why.TheVariants as why
 use Rattle.nomos_elaborate.proofs.InstructionLaws.{Tells}
 use Rattle.nomos_elaborate.specs.NameClaim.{first_broken}
 use Rattle.nomos_elaborate.specs.FileClaims.{claims_of}
-use Rattle.nomos_elaborate.specs.WrittenWork.{written_work}
+use Rattle.nomos_program.specs.WrittenWork.{written_work}
 use Rattle.nomos_equality.specs.declared.hop.Hop.{Hop}
 use Rattle.nomos_grammar.proofs.OffenceLaws.{error_once}
 use Rattle.nomos_grammar.specs.declared.offence.GrammarError.{GrammarError}

@@ -4,7 +4,7 @@ use Rattle.nomos_accept.specs.declared.refusal.AcceptError.{AcceptError}
 use Rattle.nomos_accept.specs.declared.refusal.AcceptError.TheVariants as error
 use Rattle.nomos_accept.specs.declared.refusal.Why.{Why}
 use Rattle.nomos_accept.specs.declared.refusal.Why.TheVariants as why
-use Rattle.nomos_elaborate.specs.Elaborated.{ElaboratesTo, BreaksCosts}
+use Rattle.nomos_program.specs.Elaborated.{ElaboratesTo, BreaksCosts}
 use Rattle.nomos_elaborate.specs.NameClaim.{first_broken}
 use Rattle.nomos_elaborate.specs.FileClaims.{claims_of}
 use Rattle.nomos_forms.specs.Refuting.{Refutes}

@@ -2,10 +2,10 @@
 ghost use Rattle.std.specs.Prelude.{ℕ, List, Err};
 ghost use Rattle.nomos_accept.specs.AcceptedText.{IsReadAs};
 ghost use Rattle.nomos_accept.specs.Preparing.{AnswersRefusal};
-ghost use Rattle.nomos_elaborate.specs.Elaborated.{Answers as AnswersElaborate};
+ghost use Rattle.nomos_program.specs.Elaborated.{Answers as AnswersElaborate};
 ghost use Rattle.nomos_ir.specs.declared.lists.ProgramLists.{ProgramLists};
 ghost use Rattle.nomos_rows.specs.PartFaults.{IsCause};
-ghost use Rattle.nomos_surface.specs.Parsing.{AnswersParse};
+ghost use Rattle.nomos_parse.specs.Parsing.{AnswersParse};
 ghost use Rattle.nomos_surface.specs.TreeReading.{ReadsAs};
 ghost use Rattle.nomos_surface.specs.Tree.{FileTree};
 ghost use Rattle.nomos_types.specs.Forming.{IsFormFault};
@@ -13,8 +13,8 @@ ghost use Rattle.nomos_types.specs.Typed.{IsWellFormed};
 
 use crate::refusal::{AcceptError, Why};
 use nomos_elaborate::elab_error::ElabError;
+use nomos_parse::parse::ParseError;
 use nomos_rows::program_rows::RowsError;
-use nomos_surface::parse::ParseError;
 use nomos_types::forming::FormError;
 
 /// Why a text without a tree is not accepted.

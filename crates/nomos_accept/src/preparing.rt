@@ -1,17 +1,18 @@
 //! Programs of which each part has a skeleton, with their rows.
-ghost use Rattle.std.specs.Prelude.{◌≤◌, ℕ, List, length, IfOk};
+ghost use Rattle.std.specs.Prelude.{◌≤◌, ℕ, List, length, IfErr, IfOk};
 ghost use Rattle.nomos_accept.specs.AcceptedText.{IsReadAs};
-ghost use Rattle.nomos_accept.specs.Preparing.{AnswersPrepared};
+ghost use Rattle.nomos_accept.specs.Preparing.{AnswersPrepared, AnswersRefusal, HasRows};
 ghost use Rattle.nomos_accept.specs.mirror.Read.{AnswersRead};
+ghost use Rattle.nomos_ir.specs.Program.{IsProgram};
 ghost use Rattle.nomos_syntax.specs.Limits.{node_limit};
 
 use crate::causes::{of_form, of_names, of_parse, of_rows};
 use crate::refusal::AcceptError;
-use nomos_elaborate::elaborate::elaborate;
 use nomos_forms::row_list::RowList;
 use nomos_ir::program::Program;
+use nomos_parse::parse::parse;
+use nomos_program::elaborate::elaborate;
 use nomos_rows::program_rows::program_rows;
-use nomos_surface::parse::parse;
 use nomos_types::forming::well_formed;
 use std::alloc::Global;
 
@@ -37,18 +38,34 @@ fn read(alloc: Global, text: &[u8]) -> Result<Program, AcceptError>
     }
 }
 
+/// The rows of a program, or why it has none.
+fn rows_of(alloc: Global, program: &Program) -> Result<RowList, AcceptError>
+    requires program { IsProgram program.now }
+    requires few { length program.now.types ≤ node_limit }
+    ensures rows { IfOk result (HasRows program.now) }
+    ensures refused { (text : List ℕ) → IsReadAs text program.now → IfErr result (AnswersRefusal text) }
+{
+    match well_formed(alloc, program) {
+        Ok(()) => {}
+        Err(error) => return Err(of_form(error)),
+    }
+    match program_rows(alloc, program) {
+        Ok(rows) => Ok(rows),
+        Err(error) => Err(of_rows(error)),
+    }
+}
+
 /// A program with its rows, or why it has none.
 fn with_rows(alloc: Global, program: Program) -> Result<Prepared, AcceptError>
     requires few { length program.types ≤ node_limit }
     ensures { (text : List ℕ) → IsReadAs text program → AnswersPrepared text result }
 {
-    match well_formed(alloc, &program) {
-        Ok(()) => {}
-        Err(error) => return Err(of_form(error)),
-    }
-    match program_rows(alloc, &program) {
+    match rows_of(alloc, &program) {
         Ok(rows) => Ok(Prepared { program, rows }),
-        Err(error) => Err(of_rows(error)),
+        Err(error) => {
+            drop(program);
+            Err(error)
+        }
     }
 }
 

@@ -3,10 +3,10 @@ ghost use Rattle.std.specs.Prelude.{◌<◌, length};
 ghost use Rattle.nomos_types.specs.Typed.{IsWellFormed};
 
 use nomos_check::checking::{Checked, check_process};
-use nomos_elaborate::elaborate::elaborate;
 use nomos_ir::ids::ProcId;
 use nomos_ir::program::Program;
-use nomos_surface::parse::parse;
+use nomos_parse::parse::parse;
+use nomos_program::elaborate::elaborate;
 use nomos_types::forming::well_formed;
 use std::alloc::{AllocError, Global};
 use std::fmt::Write;

@@ -18,7 +18,7 @@ stops-found (stop.Name at) x y h = cc
 stops-found (stop.Cost at) x y h = absurd h
 stops-found stop.NoMemory x y h = tt
 
-found_same : {A : Type 0} {x y : A} → found x ≡ found y → x ≡ y
+pub found_same : {A : Type 0} {x y : A} → found x ≡ found y → x ≡ y
 found_same e = cc
 
 module _ {X : Type 0} (tree : X → DeclTree) (xs : List X) (i : ℕ) where

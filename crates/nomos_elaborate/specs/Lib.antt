@@ -1,4 +1,3 @@
-pub mod Elaborated
 pub mod Built
 pub mod NameClaim
 pub mod CodeBuild
@@ -14,5 +13,4 @@ pub mod TermBuild
 pub mod TermClaims
 pub mod TypeBuild
 pub mod TypeClaims
-pub mod WrittenWork
 pub mod mirror

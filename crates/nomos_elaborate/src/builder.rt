@@ -22,7 +22,7 @@ use std::marker::Model;
 
 /// The nodes that are made so far, the labels and variables that were seen, and the number of stars.
 #[derive(Drop)]
-pub(crate) struct Builder {
+pub struct Builder {
     alloc: Global,
     types: Vec<TypeAt>,
     terms: Vec<TermNode>,
@@ -49,7 +49,7 @@ impl Model for Builder {
 
 impl Builder {
     /// Nothing made.
-    pub(crate) fn new(alloc: Global) -> Builder
+    pub fn new(alloc: Global) -> Builder
         ensures { result ≡ nothing_built }
     {
         Builder {
@@ -163,7 +163,7 @@ impl Builder {
     }
 
     /// The types, the terms, the code and the labels.
-    pub(crate) fn into_parts(self) -> (Vec<TypeAt>, Vec<TermNode>, Vec<CodeNode>, NameTable)
+    pub fn into_parts(self) -> (Vec<TypeAt>, Vec<TermNode>, Vec<CodeNode>, NameTable)
         ensures types { result.0.items ≡ self.types }
         ensures terms { result.1.items ≡ self.terms }
         ensures code { result.2.items ≡ self.code }

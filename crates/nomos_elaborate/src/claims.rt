@@ -27,7 +27,7 @@ pub(crate) fn declared(names: &NameTable, name: &NameAt) -> Result<(), ElabError
 }
 
 /// Nothing, where the name is not among the names.
-pub(crate) fn new_among(names: &NameTable, name: &NameAt) -> Result<(), ElabError>
+pub fn new_among(names: &NameTable, name: &NameAt) -> Result<(), ElabError>
     ensures { Gives (λ _. tt) result (demand (new_among names.now name.now)) }
 {
     demand(!names.has(name.name.as_bytes()), name.at)

@@ -187,7 +187,7 @@ impl Elaborator {
 
     /// A definition.
     #[tactic(auto, unfolding(crate::specs::mirror::FileCheck::check_def))]
-    pub(crate) fn definition_of(&mut self, tree: &SurfaceDefinition) -> Result<Def, ElabError>
+    pub fn definition_of(&mut self, tree: &SurfaceDefinition) -> Result<Def, ElabError>
         requires keeps { KeepsDecl (decl_tree (decl.Definition tree.now)) }
         requires room { MayMake self.old (in_decl (decl_tree (decl.Definition tree.now))) }
         ensures gives { Gives (λ d. (self.new, d)) result
@@ -203,7 +203,7 @@ impl Elaborator {
 
     /// A function.
     #[tactic(auto, unfolding(crate::specs::mirror::FileCheck::check_fn))]
-    pub(crate) fn function_of(&mut self, tree: &SurfaceFunction) -> Result<FnDecl, ElabError>
+    pub fn function_of(&mut self, tree: &SurfaceFunction) -> Result<FnDecl, ElabError>
         requires keeps { KeepsDecl (decl_tree (decl.Function tree.now)) }
         requires room { MayMake self.old (in_decl (decl_tree (decl.Function tree.now))) }
         ensures gives { Gives (λ f. (self.new, f)) result
@@ -228,7 +228,7 @@ impl Elaborator {
 
     /// A process that offers a type.
     #[tactic(auto, unfolding(crate::specs::mirror::FileCheck::check_proc))]
-    pub(crate) fn process_of(&mut self, tree: &SurfaceProcess) -> Result<ProcDecl, ElabError>
+    pub fn process_of(&mut self, tree: &SurfaceProcess) -> Result<ProcDecl, ElabError>
         requires keeps { KeepsDecl (decl_tree (decl.Process tree.now)) }
         requires room { MayMake self.old (in_decl (decl_tree (decl.Process tree.now))) }
         ensures gives { Gives (λ p. (self.new, p)) result
@@ -257,10 +257,7 @@ impl Elaborator {
 
     /// A transaction.
     #[tactic(auto, unfolding(crate::specs::mirror::FileCheck::check_transaction))]
-    pub(crate) fn transaction_of(
-        &mut self,
-        tree: &SurfaceTransaction,
-    ) -> Result<ProcDecl, ElabError>
+    pub fn transaction_of(&mut self, tree: &SurfaceTransaction) -> Result<ProcDecl, ElabError>
         requires keeps { KeepsDecl (decl_tree (decl.Transaction tree.now)) }
         requires room { MayMake self.old (in_decl (decl_tree (decl.Transaction tree.now))) }
         ensures gives { Gives (λ p. (self.new, p)) result

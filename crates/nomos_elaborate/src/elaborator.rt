@@ -17,12 +17,12 @@ use nomos_surface::surface::CostModel;
 /// The declared names of the whole text, the cost model, whether the walk is inside a transaction, the names that are
 /// bound, and what is made so far.
 #[derive(Drop)]
-pub(crate) struct Elaborator {
-    pub(crate) spaces: Spaces,
-    pub(crate) model: CostModel,
-    pub(crate) inside: bool,
-    pub(crate) scope: Scope,
-    pub(crate) built: Builder,
+pub struct Elaborator {
+    pub spaces: Spaces,
+    pub model: CostModel,
+    pub inside: bool,
+    pub scope: Scope,
+    pub built: Builder,
 }
 
 impl Elaborator {

@@ -1,24 +1,21 @@
-//! From the tree of a contract text to its program: the rules of names, the numbering of nodes, and the `work` that a
-//! cost model puts in.
+//! From the tree of a declaration to its nodes: the rules of names, the numbering of nodes, and the `work` that a cost
+//! model puts in.
 #![tactic(auto)]
 
 mod arguments;
-mod builder;
-mod claims;
+pub mod builder;
+pub mod claims;
 mod codes;
 mod cost;
-mod declarations;
+pub mod declarations;
 pub mod elab_error;
-pub mod elaborate;
-mod elaborator;
+pub mod elaborator;
 mod following;
 mod kinds;
-mod name_table;
-mod scope;
+pub mod name_table;
+pub mod scope;
 mod sort;
-mod spaces;
+pub mod spaces;
 mod steps;
 mod terms;
 mod types;
-mod walk;
-mod works;

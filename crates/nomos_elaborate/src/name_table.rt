@@ -12,7 +12,7 @@ use std::marker::Model;
 
 /// Names that differ, in the order in which they were put, each found by its text in one step.
 #[derive(Drop)]
-pub(crate) struct NameTable {
+pub struct NameTable {
     alloc: Global,
     texts: IndexSet<Vec<u8>>,
 }
@@ -63,7 +63,7 @@ impl NameTable {
     }
 
     /// The names, in their order.
-    pub(crate) fn into_names(self) -> Result<Vec<Name>, ElabError>
+    pub fn into_names(self) -> Result<Vec<Name>, ElabError>
         ensures { Gives (λ names. names.items) result (found self) }
     {
         let NameTable { alloc, texts } = self;

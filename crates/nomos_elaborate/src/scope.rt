@@ -12,7 +12,7 @@ use std::marker::Model;
 
 /// The names that are bound, each with its sort, in the order in which they were bound.
 #[derive(Drop)]
-pub(crate) struct Scope {
+pub struct Scope {
     alloc: Global,
     bound: IndexMap<Vec<u8>, Sort>,
 }
@@ -28,7 +28,7 @@ impl Model for Scope {
 
 impl Scope {
     /// Nothing bound.
-    pub(crate) fn new(alloc: Global) -> Scope
+    pub fn new(alloc: Global) -> Scope
         ensures { result ≡ [] }
     {
         Scope {

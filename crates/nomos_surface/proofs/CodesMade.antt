@@ -1,5 +1,5 @@
 -- What productions of steps and codes make of tokens is what their trees print.
-use Rattle.std.proofs.Common.{List, [], ◌∷◌, map, sym}
+use Rattle.std.proofs.Common.{List, [], ◌∷◌, map}
 use Rattle.nomos_grammar.specs.declared.part.Nonterminal.TheVariants as the_production
 use Rattle.nomos_grammar.specs.declared.part.Terminal.TheVariants as terminal
 use Rattle.nomos_grammar.specs.Deriving.{Fits, first, later}

@@ -1,5 +1,5 @@
 -- What productions of terms make of tokens is what their trees print.
-use Rattle.std.proofs.Common.{◌≡◌, true, false, List, [], ◌∷◌, map, refl, ap, sym}
+use Rattle.std.proofs.Common.{◌≡◌, true, false, List, [], ◌∷◌, map, refl, ap}
 use Rattle.nomos_grammar.specs.declared.part.Nonterminal.{Nonterminal}
 use Rattle.nomos_grammar.specs.declared.part.Nonterminal.TheVariants as the_production
 use Rattle.nomos_grammar.specs.declared.part.Terminal.TheVariants as terminal

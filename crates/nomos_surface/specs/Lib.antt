@@ -11,4 +11,3 @@ pub mod StepView
 pub mod TermView
 pub mod Tree
 pub mod TypeView
-pub mod Parsing

@@ -1,11 +1,3 @@
 -- Mirrors of the code, on which no promise stands.
-pub mod Codes
-pub mod Files
-pub mod Front
 pub mod Kept
-pub mod Numerals
 pub mod Shallow
-pub mod TermPieces
-pub mod Terms
-pub mod Types
-pub mod Errors

@@ -1,0 +1,2 @@
+pub mod ParsingLaws
+pub mod LimitLaws

@@ -1,0 +1,6 @@
+pub mod AnswerLaws
+pub mod NamingLaws
+pub mod ProgramExamples
+pub mod ProgramLaws
+pub mod RangeLaws
+pub mod WorkLaws

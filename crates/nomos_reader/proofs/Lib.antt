@@ -1,0 +1,12 @@
+pub mod ChainLemmas
+pub mod CodeFound
+pub mod FoundLaws
+pub mod Found
+pub mod PartedLemmas
+pub mod RoomLemmas
+pub mod StepFound
+pub mod StepLemmas
+pub mod TermFronts
+pub mod TermReads
+pub mod TermFound
+pub mod TypeFound

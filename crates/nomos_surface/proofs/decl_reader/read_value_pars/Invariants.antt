@@ -1,9 +1,0 @@
-use Rattle.std.proofs.Common.{◌≡◌, ◌-◌}
-use Rattle.nomos_surface.specs.mirror.Files.{read_value_par, read_value_pars}
-use Rattle.nomos_surface.specs.mirror.Front.{is_comma, read_parted}
-use Rattle.nomos_surface.proofs.decl_reader.read_value_pars.Given as goal
-
--- the parameters that are left, behind those that were read, are all of them
-abbrev pub invariant-loop : goal.invariant-loop
-invariant-loop l =
-    read_parted read_value_par is_comma (l.end - l.counter) l.pars.items l.tokens ≡ read_value_pars l.fn.tokens
