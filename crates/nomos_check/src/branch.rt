@@ -9,25 +9,35 @@ use crate::channels::go_on;
 use crate::standing::{Parts, Standing, Way};
 use std::alloc::{AllocError, Global};
 
+/// What is bound is bound there too.
+fn copy_bindings(now: &Standing, made: &mut Standing) -> Result<(), AllocError>
+    ensures { OnOk result (made.new ≡ record made.old {
+      kinds = now.now.kinds;
+      lists = now.now.lists;
+      shared = now.now.shared;
+      linear = now.now.linear;
+    }) }
+{
+    made.kinds = now.kinds.copy()?;
+    made.lists = now.lists.copy()?;
+    made.shared = now.shared.copy()?;
+    made.linear = now.linear.copy()?;
+    Ok(())
+}
+
 /// The same once more.
 fn copy_of(alloc: Global, now: &Standing) -> Result<Standing, AllocError>
     ensures { IfOk result (λ s. s ≡ now.now) }
 {
-    let kinds = now.kinds.copy()?;
-    let lists = now.lists.copy()?;
-    let shared = now.shared.copy()?;
-    let linear = now.linear.copy()?;
     let potential = now.potential.copy(alloc)?;
-    Ok(Standing {
-        mode: now.mode,
-        kinds,
-        lists,
-        shared,
-        linear,
-        potential,
-        code: now.code,
-        offers: now.offers,
-    })
+    let mut made = Standing::unbound(alloc, now.mode, potential, now.code, now.offers);
+    match copy_bindings(now, &mut made) {
+        Ok(()) => Ok(made),
+        Err(error) => {
+            drop(made);
+            Err(error)
+        }
+    }
 }
 
 /// The list is taken apart.

@@ -1,4 +1,6 @@
 //! Where a process stands while its code is checked, and where an instruction leads from there.
+ghost use Rattle.std.specs.Prelude.{◌≡◌, []};
+
 use crate::bound::Bound;
 use crate::potential::Potential;
 use nomos_ir::amount::Amount;
@@ -6,6 +8,7 @@ use nomos_ir::code_node::Chan;
 use nomos_ir::ids::{CodeId, TypeId, VarId};
 use nomos_ir::kind::Kind;
 use nomos_ir::mode::Mode;
+use std::alloc::Global;
 
 /// A list that carries potential: the kind of its elements, and the amount that each of them carries.
 #[derive(Clone, Copy)]
@@ -25,6 +28,39 @@ pub(crate) struct Standing {
     pub(crate) potential: Potential,
     pub(crate) code: CodeId,
     pub(crate) offers: TypeId,
+}
+
+impl Standing {
+    /// Nothing is bound. It takes no memory.
+    pub(crate) fn unbound(
+        alloc: Global,
+        mode: Mode,
+        potential: Potential,
+        code: CodeId,
+        offers: TypeId,
+    ) -> Standing
+        ensures { result ≡ record {
+          mode = mode;
+          kinds = [];
+          lists = [];
+          shared = [];
+          linear = [];
+          potential = potential;
+          code = code;
+          offers = offers;
+        } }
+    {
+        Standing {
+            mode,
+            kinds: Bound::new(alloc),
+            lists: Bound::new(alloc),
+            shared: Bound::new(alloc),
+            linear: Bound::new(alloc),
+            potential,
+            code,
+            offers,
+        }
+    }
 }
 
 /// A list that is taken apart: its head and its tail, what it carries, and the code with which it goes on.

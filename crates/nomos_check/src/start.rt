@@ -1,5 +1,5 @@
 //! Where a declaration begins.
-ghost use Rattle.std.specs.Prelude.{◌≡◌, ◌<◌, IfOk, OnOk, All, Some, length, slice_get, filter};
+ghost use Rattle.std.specs.Prelude.{◌≡◌, ◌<◌, IfOk, OnOk, All, Some, length, slice_get, filter, true, false};
 ghost use Rattle.std.specs.List.{flat_map};
 ghost use Rattle.nomos_ir.specs.declared.declaration.ProcDecl.{ProcDecl};
 ghost use Rattle.nomos_ir.specs.Amounts.{star_count};
@@ -132,6 +132,29 @@ fn channels_of(
     Ok(made)
 }
 
+/// Binds what a declaration has in hand where it begins.
+fn bind_parameters(
+    program: &Program,
+    checker: &Checker,
+    d: &ProcDecl,
+    begun: &mut Standing,
+) -> Result<(), AllocError>
+    requires modes { AreModesOf program.now checker.now.modes }
+    requires have { All (λ par. HasMode program.now par.1 (parameter_mode program.now par.1)) d.now.channels }
+    ensures { OnOk result (begun.new ≡ record begun.old {
+      kinds = kinds_of d.now;
+      lists = lists_of d.now;
+      shared = bindings_of (filter (λ par. picks true (is_shared program.now par)) d.now.channels);
+      linear = bindings_of (filter (λ par. picks false (is_shared program.now par)) d.now.channels);
+    }) }
+{
+    begun.kinds = kinds_of(checker.alloc, d)?;
+    begun.lists = lists_of(checker.alloc, d)?;
+    begun.shared = channels_of(program, checker, d.channels.as_slice(), true)?;
+    begun.linear = channels_of(program, checker, d.channels.as_slice(), false)?;
+    Ok(())
+}
+
 /// What a process has in hand where the declaration begins.
 pub(crate) fn start(program: &Program, checker: &Checker, p: ProcId) -> Result<Standing, AllocError>
     requires formed { IsWellFormed program.now }
@@ -140,22 +163,15 @@ pub(crate) fn start(program: &Program, checker: &Checker, p: ProcId) -> Result<S
     ensures { IfOk result (λ s. (d : ProcDecl) → slice_get program.now.procs p.0 ≡ Some d →
         IsStartOf program.now (star_count program.now) d s) }
 {
-    let alloc = checker.alloc;
     let d = program.proc(p);
-    let kinds = kinds_of(alloc, d)?;
-    let lists = lists_of(alloc, d)?;
-    let shared = channels_of(program, checker, d.channels.as_slice(), true)?;
-    let linear = channels_of(program, checker, d.channels.as_slice(), false)?;
-    let mut potential = Potential::none(alloc, checker.stars)?;
+    let mut potential = Potential::none(checker.alloc, checker.stars)?;
     potential.gain(d.amount);
-    Ok(Standing {
-        mode: d.mode,
-        kinds,
-        lists,
-        shared,
-        linear,
-        potential,
-        code: d.first,
-        offers: d.offers,
-    })
+    let mut begun = Standing::unbound(checker.alloc, d.mode, potential, d.first, d.offers);
+    match bind_parameters(program, checker, d, &mut begun) {
+        Ok(()) => Ok(begun),
+        Err(error) => {
+            drop(begun);
+            Err(error)
+        }
+    }
 }

@@ -1,5 +1,5 @@
 //! The rows of forms and of pairs of amounts that have to be equal.
-ghost use Rattle.std.specs.Prelude.{◌≡◌, ◌≤◌, ◌++◌, pos, ◌<◌, ◌^◌, ◌-ℤ◌, ◌↔◌, unsigned_abs, length, map, All, Contains, IfOk};
+ghost use Rattle.std.specs.Prelude.{◌≡◌, ◌≤◌, ◌++◌, ◌∷◌, [], pos, ◌<◌, ◌^◌, ◌-ℤ◌, ◌↔◌, unsigned_abs, length, map, All, Contains, IfOk};
 ghost use Rattle.std.specs.List.{range_with_len, flat_map};
 ghost use Rattle.nomos_forms.specs.Bounds.{IsForm, IsRow};
 ghost use Rattle.std.specs.List.Sorted.{IsStrictlySortedBy};
@@ -85,6 +85,18 @@ fn difference(alloc: Global, more: &Amount, less: &Amount, stars: u16) -> Result
     })
 }
 
+/// Adds the row of a form.
+fn add_row(alloc: Global, rows: &mut Vec<Row>, form: &Form, stars: u16) -> Result<(), AllocError>
+    requires rows { All (IsRow stars) rows.old.items }
+    requires form { IsForm stars form.now }
+    ensures rows { IfOk result (λ _. rows.new.items ≡ rows.old.items ++ form_row form.now ∷ []) }
+    ensures small { IfOk result (λ _. All (IsRow stars) rows.new.items) }
+{
+    let row = row_of(alloc, form)?;
+    rows.push(row)?;
+    Ok(())
+}
+
 /// The rows of forms.
 fn form_rows(alloc: Global, forms: &[Form], stars: u16) -> Result<Vec<Row>, AllocError>
     requires { All (IsForm stars) forms.now }
@@ -93,8 +105,7 @@ fn form_rows(alloc: Global, forms: &[Form], stars: u16) -> Result<Vec<Row>, Allo
 {
     let mut rows = Vec::new(alloc);
     for form in forms {
-        let row = row_of(alloc, form)?;
-        rows.push(row)?;
+        add_row(alloc, &mut rows, form, stars)?;
     }
     Ok(rows)
 }

@@ -1,9 +1,10 @@
 //! Least bounds of contract texts.
-ghost use Rattle.std.specs.Prelude.{◌≡◌, ◌≤◌, ◌^◌, ℕ, List};
+ghost use Rattle.std.specs.Prelude.{◌≡◌, ◌≤◌, ◌^◌, ℕ, List, All, pos, ◌≤ℤ◌};
 ghost use Rattle.nomos_accept.specs.AcceptedText.{IsReadAs};
 ghost use Rattle.nomos_accept.specs.Preparing.{HasRows};
 ghost use Rattle.nomos_forms.specs.Bounds.{IsForm, IsFound};
 ghost use Rattle.nomos_forms.specs.Meeting.{MeetsRows};
+ghost use Rattle.nomos_least.specs.Goal.{goal_of};
 ghost use Rattle.nomos_least.specs.LeastBounds.{AnswersLeast};
 ghost use Rattle.nomos_simplex.specs.ShowsLeast.{ShowsLeast, IsProof, NoneSmaller};
 ghost use Rattle.nomos_types.specs.Acceptance.{acceptance};
@@ -56,26 +57,54 @@ fn bounded(program: Program, rows: &RowList, goal: &Form, found: Found, proof: &
     accepted(program, rows, found)
 }
 
+/// The least bounds of a program of this goal, or why there are none.
+fn judge_by(alloc: Global, prepared: Prepared, goal: Form) -> Result<LeastBounds, AcceptError>
+    requires rows { HasRows prepared.program prepared.rows }
+    requires goal { goal ≡ goal_of prepared.program }
+    requires form { IsForm prepared.rows.stars goal }
+    requires coefs { All (λ c. pos 0 ≤ℤ c) goal.coefs }
+    ensures { (text : List ℕ) → IsReadAs text prepared.program → AnswersLeast text result }
+{
+    match solve_least(alloc, &prepared.rows, &goal) {
+        Ok(SolvedLeast::Found(found, proof)) => {
+            let Prepared { program, rows } = prepared;
+            Ok(LeastBounds {
+                accepted: bounded(program, &rows, &goal, found, &proof),
+                rows,
+                goal,
+                proof,
+            })
+        }
+        Ok(SolvedLeast::Refuted(verdict)) => {
+            let refusal = refuted(&prepared.rows, verdict);
+            drop(prepared);
+            drop(goal);
+            Err(refusal)
+        }
+        Ok(SolvedLeast::Unsolved(stop)) => {
+            drop(prepared);
+            drop(goal);
+            Err(AcceptError::Unsolved(stop))
+        }
+        Err(_) => {
+            drop(prepared);
+            drop(goal);
+            Err(AcceptError::NoMemory)
+        }
+    }
+}
+
 /// The least bounds of a program, or why there are none.
 fn judge(alloc: Global, prepared: Prepared) -> Result<LeastBounds, AcceptError>
     requires rows { HasRows prepared.program prepared.rows }
     ensures { (text : List ℕ) → IsReadAs text prepared.program → AnswersLeast text result }
 {
-    let Prepared { program, rows } = prepared;
-    let goal = match goal_of(alloc, &program) {
-        Ok(goal) => goal,
-        Err(_) => return Err(AcceptError::NoMemory),
-    };
-    match solve_least(alloc, &rows, &goal) {
-        Ok(SolvedLeast::Found(found, proof)) => Ok(LeastBounds {
-            accepted: bounded(program, &rows, &goal, found, &proof),
-            rows,
-            goal,
-            proof,
-        }),
-        Ok(SolvedLeast::Refuted(verdict)) => Err(refuted(&rows, verdict)),
-        Ok(SolvedLeast::Unsolved(stop)) => Err(AcceptError::Unsolved(stop)),
-        Err(_) => Err(AcceptError::NoMemory),
+    match goal_of(alloc, &prepared.program) {
+        Ok(goal) => judge_by(alloc, prepared, goal),
+        Err(_) => {
+            drop(prepared);
+            Err(AcceptError::NoMemory)
+        }
     }
 }
 

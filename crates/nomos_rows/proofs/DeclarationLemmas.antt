@@ -1,5 +1,5 @@
 -- What is found of the functions and of the processes of a program is found of both.
-use Rattle.std.proofs.Common.{◌≡◌, ◌≤◌, ◌<◌, inl, inr, ℕ, Bool, true, false, cond, nat_le, List, [], ◌∷◌, ◌++◌, All, get_or, Option, Some, None, length, refl, sym, subst, ◌∙◌, arith}
+use Rattle.std.proofs.Common.{◌≡◌, ◌≤◌, ◌<◌, inl, inr, ℕ, Bool, true, false, cond, nat_le, List, [], ◌∷◌, ◌++◌, All, get_or, Option, Some, None, length, refl, sym, subst, arith}
 use Rattle.std.proofs.lemmas.List.Elements.{All-head, All-tail, Contains-append_left, Contains-append_right, Contains-append_cases}
 use Rattle.std.proofs.lemmas.Option.{slice_get-get_or, slice_get_within}
 use Rattle.nomos_ir.specs.declared.amount.Amount.{Amount}
@@ -31,11 +31,6 @@ few-stars (amount.Star star ∷ rest) small =
     let others = few-stars rest (All-tail IsAmount (amount.Star star) rest small) in
     let first = All-head IsAmount (amount.Star star) rest small in
     omega (arith, first.1)
-
--- of nothing that is there nothing is there
-pub none-from : {X : Type 0} (o : Option X) → ((x : X) → o ≡ Some x → ⊥) → o ≡ None
-none-from None never = refl
-none-from (Some x) never = absurd (never x refl)
 
 -- where neither has a fault the first of both is none, and the other way round
 earliest-none : {X : Type 0} (a b : Option (ℕ × X)) → earliest a b ≡ None → b ≡ None
@@ -154,20 +149,14 @@ module _ (lists : ProgramLists) where
         )
     declarations-told (Some a) (Some b) functions processes = both-told a b (nat_le a.0 b.0) refl functions processes
 
-  -- where nothing is found the forms and pairs are gathered
-  pub gathered-all : (P : Type 0) (functions processes found : Option (ℕ × Fault))
-      → found ≡ earliest functions processes → ((x : ℕ × Fault) → found ≡ Some x → ⊥) → IfNone P processes → P
-  gathered-all P functions processes found is never gathers =
-      let none : found ≡ None = none-from found never in
-      let processes_none : processes ≡ None = earliest-none functions processes (sym is ∙ none) in
-      subst (IfNone P) processes_none gathers
-
-  -- no fault is found
-  pub fine-all : (functions processes found : Option (ℕ × Fault)) → found ≡ earliest functions processes → ((x : ℕ
-      × Fault) → found ≡ Some x → ⊥) → DeclarationsTell lists (earliest functions processes) → DeclarationsFine lists
-  fine-all functions processes found is never tells =
-      let none : found ≡ None = none-from found never in
-      subst (DeclarationsTell lists) (sym is ∙ none) tells
+  -- where nothing is found of both the forms and pairs are gathered
+  pub gathered-first : (P : Type 0) (functions processes : Option (ℕ × Fault)) → IfNone P processes
+      → IfNone P (earliest functions processes)
+  gathered-first P functions processes gathers = from-none (earliest functions processes) refl
+    where
+      from-none : (found : Option (ℕ × Fault)) → earliest functions processes ≡ found → IfNone P found
+      from-none None none = subst (IfNone P) (earliest-none functions processes none) gathers
+      from-none (Some a) some = tt
 
   -- what was gathered stands in rows
   pub gathered-in_rows : (known new : Compared) (forms : List Form) (pairs : List (Amount

@@ -48,12 +48,19 @@ fn find_rows(alloc: Global, program: &Program) -> Result<Result<RowList, RowsErr
     ensures { IfOk result (AnswersProgram program.now) }
 {
     let mut equalities = Equalities::new(alloc);
-    if let Some((at, path)) = first_astray(alloc, &mut equalities, program)? {
-        return Ok(Err(RowsError::NotSync(at, path)));
-    }
-    match declaration_rows(alloc, equalities, program)? {
-        Ok(rows) => Ok(Ok(rows)),
-        Err((at, fault)) => Ok(Err(error_of(at, fault))),
+    match first_astray(alloc, &mut equalities, program) {
+        Ok(None) => match declaration_rows(alloc, equalities, program)? {
+            Ok(rows) => Ok(Ok(rows)),
+            Err((at, fault)) => Ok(Err(error_of(at, fault))),
+        },
+        Ok(Some((at, path))) => {
+            drop(equalities);
+            Ok(Err(RowsError::NotSync(at, path)))
+        }
+        Err(error) => {
+            drop(equalities);
+            Err(error)
+        }
     }
 }
 

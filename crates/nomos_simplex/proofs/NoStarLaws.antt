@@ -1,5 +1,6 @@
 -- Without a star neither the pivot run nor the least run stops.
 use Rattle.std.proofs.Common.{◌≡◌, ◌-◌, ℕ, Bool, true, false, List, [], length, map, pos, Option, Some, None, slice_get, cond, refl, ap, sym, subst, ◌∙◌}
+use Rattle.std.proofs.lemmas.Option.{none-some}
 use Rattle.std.specs.Prelude.{int_lt, slice_index, slice_index_or}
 use Rattle.std.specs.List.{range_with_len}
 use Rattle.nomos_forms.specs.Linear.{form_value}
@@ -7,8 +8,8 @@ use Rattle.nomos_forms.specs.declared.form.Form.{Form}
 use Rattle.nomos_forms.specs.declared.found.Found.{Found}
 use Rattle.nomos_forms.specs.declared.row_list.RowList.{RowList}
 use Rattle.nomos_simplex.specs.Exits.{fractions, fraction_of, found_or_large}
-use Rattle.nomos_simplex.specs.GoalLine.{goal_line, goal_from, no_goal}
-use Rattle.nomos_simplex.specs.LeastRun.{Reaches, Exchanges, Lowers, LeastRun, is_total, least_or_large}
+use Rattle.nomos_simplex.specs.GoalLine.{goal_from, no_goal}
+use Rattle.nomos_simplex.specs.LeastRun.{Reaches, Lowers, LeastRun, is_total, least_or_large}
 use Rattle.nomos_simplex.specs.Lowest.{leaving, entering, lowest_place}
 use Rattle.nomos_simplex.specs.Nearest.{lowering}
 use Rattle.nomos_simplex.specs.PivotRun.{turn, turn_at, turn_on, turn_from, end_of, run, answer_to}
@@ -97,7 +98,7 @@ no-lowering rows line none =
 none-lowers : (rows : RowList) (t : Table) (l : Line) (j : ℕ) → rows.stars ≡ 0 → t ≡ first_table rows →
     lowering t l ≡ Some j → ⊥
 none-lowers rows t l j none first column =
-    let is : None ≡ Some j = sym (no-lowering rows l none) ∙ ap (λ x. lowering x l) (sym first) ∙ column in absurd cc
+    none-some j (sym (no-lowering rows l none) ∙ ap (λ x. lowering x l) (sym first) ∙ column)
 
 lowered-first : (rows : RowList) (goal : Form) (n : ℕ) (t : Table) (l : Line) → rows.stars ≡ 0
     → Lowers rows goal n t l → t ≡ first_table rows
@@ -129,7 +130,7 @@ answered-least : (rows : RowList) (goal : Form) (a : SolvedLeast) → rows.stars
 answered-least rows goal a none empty total (LeastRun.refuted verdict e) = tt
 answered-least rows goal a none empty total (LeastRun.stopped s e) = no_stars-answer rows s none e
 answered-least rows goal a none empty total (LeastRun.large_goal n t ends lacks) =
-    let is : None ≡ Some (no_goal t) = sym lacks ∙ ap (λ cs. goal_from t 1 cs (no_goal t)) empty in absurd cc
+    none-some (no_goal t) (sym lacks ∙ ap (λ cs. goal_from t 1 cs (no_goal t)) empty)
 answered-least rows goal a none empty total (LeastRun.ends n t l d lowest) =
     totalled n rows goal t l (fractions rows t) (no-fractions rows t none) total
 answered-least rows goal a none empty total (LeastRun.pivots_made t l i j left d x) =

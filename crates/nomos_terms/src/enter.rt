@@ -1,8 +1,10 @@
 //! How the kind of a term is searched for: the tasks to which each form of term leads.
-ghost use Rattle.std.specs.Prelude.{◌≡◌, ◌∷◌, [], ◌++◌, ◌≤◌, length, OnOk, IsErrOf, option_copied, slice_get};
+ghost use Rattle.std.specs.Prelude.{◌≡◌, ◌∷◌, [], ◌++◌, ◌≤◌, length, OnOk, IsErrOf, option_copied, slice_get, Some, None};
 ghost use Rattle.nomos_ir.specs.Bindings.{bound_to};
 ghost use Rattle.nomos_ir.specs.Program.{IsProgram};
 ghost use Rattle.nomos_ir.specs.TermKind.{list_kind};
+ghost use Rattle.nomos_ir.specs.declared.declaration.FnDecl.{FnDecl};
+ghost use Rattle.nomos_ir.specs.declared.kind.Kind.{Kind};
 ghost use Rattle.nomos_terms.specs.declared.search.Task.TheVariants as task;
 ghost use Rattle.nomos_terms.specs.declared.stop.Stop.TheVariants.{NoKind};
 ghost use Rattle.nomos_terms.specs.mirror.Left.{IsDone, IsVain, IsCalled, argument_tasks};
@@ -42,6 +44,22 @@ fn list_of(kind: Kind) -> Kind
     }
 }
 
+/// Puts a kind that is found on the top.
+fn put_kind(kinds: &mut Stack<Kind>, kind: Kind) -> Result<(), Stop>
+    ensures found { OnOk result (kinds.new ≡ kind ∷ kinds.old) }
+    ensures memory { ¬ IsErrOf result NoKind }
+{
+    Ok(kinds.push(kind)?)
+}
+
+/// Plans the tasks to which a term leads.
+fn lead_to(todo: &mut Stack<Task>, tasks: &[Task]) -> Result<(), Stop>
+    ensures planned { OnOk result (todo.new ≡ tasks.now ++ todo.old) }
+    ensures memory { ¬ IsErrOf result NoKind }
+{
+    Ok(plan(todo, tasks)?)
+}
+
 /// Both sides of an operator are to have one kind, and then it has another.
 fn operate(
     todo: &mut Stack<Task>,
@@ -49,9 +67,10 @@ fn operate(
     b: TermId,
     takes: Kind,
     gives: Kind,
-) -> Result<(), AllocError>
-    ensures { OnOk result
+) -> Result<(), Stop>
+    ensures planned { OnOk result
         (todo.new ≡ task.Term a ∷ task.Expect takes ∷ task.Term b ∷ task.Expect takes ∷ task.Give gives ∷ todo.old) }
+    ensures memory { ¬ IsErrOf result NoKind }
 {
     let tasks = [
         Task::Term(a),
@@ -60,7 +79,7 @@ fn operate(
         Task::Expect(takes),
         Task::Give(gives),
     ];
-    plan(todo, &tasks)
+    lead_to(todo, &tasks)
 }
 
 /// The kind of a variable.
@@ -102,6 +121,37 @@ fn called(program: &Program, f: FnId, count: usize) -> Option<&FnDecl>
     Some(function)
 }
 
+/// The kind of a variable is found.
+fn enter_variable(outer: &[(VarId, Kind)], search: &mut Search, v: VarId) -> Result<(), Stop>
+    ensures found { OnOk result ((kind : Kind) × (bound_to v.0 (search.old.bound ++ outer.now) ≡ Some kind) ×
+        (search.new ≡ record search.old { kinds = kind ∷ search.old.kinds })) }
+    ensures vain { IsErrOf result NoKind → bound_to v.0 (search.old.bound ++ outer.now) ≡ None }
+{
+    let Some(kind) = kind_of(outer, &search.bound, v) else {
+        return Err(Stop::NoKind);
+    };
+    Ok(search.kinds.push(kind)?)
+}
+
+/// The arguments of a call are to have the kinds of the parameters, and then it has that of the function.
+fn enter_call(
+    program: &Program,
+    todo: &mut Stack<Task>,
+    f: FnId,
+    values: &[TermId],
+) -> Result<(), Stop>
+    ensures done { OnOk result ((function : FnDecl) × (slice_get program.now.fns f.0 ≡ Some function) ×
+        (length values.now ≡ length function.pars) ×
+        (todo.new ≡ argument_tasks values.now function.pars ++ task.Give function.gives ∷ todo.old)) }
+    ensures vain { IsErrOf result NoKind → IsCalled program.now f (length values.now) None }
+{
+    let Some(function) = called(program, f, values.len()) else {
+        return Err(Stop::NoKind);
+    };
+    todo.push(Task::Give(function.gives))?;
+    Ok(arguments(todo, values, function.pars.as_slice())?)
+}
+
 /// Does the task to find the kind of a term: finds it, or plans what leads to it.
 pub(crate) fn enter(
     program: &Program,
@@ -132,55 +182,35 @@ fn enter_node(
     ensures vain { IsErrOf result NoKind → IsVain program.now outer.now (task.Term t) search.old }
 {
     match node {
-        TermNode::Number(_, _) => Ok(search.kinds.push(INT)?),
-        TermNode::Truth(_, _) => Ok(search.kinds.push(BOOL)?),
-        TermNode::Var(_, v) => {
-            let Some(kind) = kind_of(outer, &search.bound, *v) else {
-                return Err(Stop::NoKind);
-            };
-            Ok(search.kinds.push(kind)?)
-        }
-        TermNode::Call(_, f, values) => {
-            let Some(function) = called(program, *f, values.len()) else {
-                return Err(Stop::NoKind);
-            };
-            search.todo.push(Task::Give(function.gives))?;
-            Ok(arguments(
-                &mut search.todo,
-                values.as_slice(),
-                function.pars.as_slice(),
-            )?)
-        }
-        TermNode::Nil(_, kind) => Ok(search.kinds.push(list_of(*kind))?),
+        TermNode::Number(_, _) => put_kind(&mut search.kinds, INT),
+        TermNode::Truth(_, _) => put_kind(&mut search.kinds, BOOL),
+        TermNode::Var(_, v) => enter_variable(outer, search, *v),
+        TermNode::Call(_, f, values) => enter_call(
+            program,
+            &mut search.todo,
+            *f,
+            values.as_slice(),
+        ),
+        TermNode::Nil(_, kind) => put_kind(&mut search.kinds, list_of(*kind)),
         TermNode::Add(_, a, b)
         | TermNode::Sub(_, a, b)
         | TermNode::Mul(_, a, b)
         | TermNode::Div(_, a, b)
-        | TermNode::Rem(_, a, b) => Ok(operate(&mut search.todo, *a, *b, INT, INT)?),
-        TermNode::Less(_, a, b) | TermNode::Equal(_, a, b) => Ok(operate(
-            &mut search.todo,
-            *a,
-            *b,
-            INT,
-            BOOL,
-        )?),
-        TermNode::And(_, a, b) | TermNode::Or(_, a, b) => Ok(operate(
-            &mut search.todo,
-            *a,
-            *b,
-            BOOL,
-            BOOL,
-        )?),
-        TermNode::Cons(_, a, b) => Ok(plan(
+        | TermNode::Rem(_, a, b) => operate(&mut search.todo, *a, *b, INT, INT),
+        TermNode::Less(_, a, b) | TermNode::Equal(_, a, b) => {
+            operate(&mut search.todo, *a, *b, INT, BOOL)
+        }
+        TermNode::And(_, a, b) | TermNode::Or(_, a, b) => {
+            operate(&mut search.todo, *a, *b, BOOL, BOOL)
+        }
+        TermNode::Cons(_, a, b) => lead_to(
             &mut search.todo,
             &[Task::Term(*a), Task::Term(*b), Task::Cons],
-        )?),
-        TermNode::Not(_, a) => {
-            Ok(plan(
-                &mut search.todo,
-                &[Task::Term(*a), Task::Expect(BOOL), Task::Give(BOOL)],
-            )?)
-        }
+        ),
+        TermNode::Not(_, a) => lead_to(
+            &mut search.todo,
+            &[Task::Term(*a), Task::Expect(BOOL), Task::Give(BOOL)],
+        ),
         TermNode::If(_, test, a, b) => {
             let tasks = [
                 Task::Term(*test),
@@ -189,13 +219,11 @@ fn enter_node(
                 Task::Term(*b),
                 Task::Same,
             ];
-            Ok(plan(&mut search.todo, &tasks)?)
+            lead_to(&mut search.todo, &tasks)
         }
-        TermNode::Match(_, list, empty, head, tail, full) => {
-            Ok(plan(
-                &mut search.todo,
-                &[Task::Term(*list), Task::Part(*empty, *head, *tail, *full)],
-            )?)
-        }
+        TermNode::Match(_, list, empty, head, tail, full) => lead_to(
+            &mut search.todo,
+            &[Task::Term(*list), Task::Part(*empty, *head, *tail, *full)],
+        ),
     }
 }

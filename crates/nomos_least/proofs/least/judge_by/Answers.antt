@@ -1,7 +1,7 @@
 use Rattle.std.proofs.Common.{Err, sym, subst}
 use Rattle.nomos_accept.specs.declared.refusal.AcceptError.{AcceptError}
 use Rattle.nomos_least.proofs.BoundLemmas.{bounded-answer, refuted-least, unsolved-least}
-use Rattle.nomos_least.proofs.least.judge.Goals as goal
+use Rattle.nomos_least.proofs.least.judge_by.Goals as goal
 use Rattle.nomos_least.specs.LeastBounds.{IsLeastAs, AnswersLeast}
 use Rattle.nomos_least.specs.declared.least.LeastBounds.{LeastBounds}
 use Rattle.nomos_types.specs.Acceptance.{Acceptance}
@@ -24,10 +24,10 @@ returns-in-Ok-Found c = λ text read.
     let proof = c.in-Ok-Found.proof in
     let is = c.in-Ok-Found.ensures.found found proof (cc) in
     let bounds : Acceptance → LeastBounds =
-    λ a. record { accepted = a; rows = p.rows; goal = c.in-Ok.goal; proof = proof }
+    λ a. record { accepted = a; rows = p.rows; goal = c.args.goal; proof = proof }
     in
     subst (λ (a : Acceptance). IsLeastAs text (bounds a)) (sym c.bounded.ensures.accepted)
-    (bounded-answer text p.program p.rows c.in-Ok.goal found proof read c.requires.rows c.in-Ok.ensures.goal
+    (bounded-answer text p.program p.rows c.args.goal found proof read c.requires.rows c.requires.goal
     (rw c.in-Ok-Found.field-0-is at c.in-Ok-Found.ensures.run) is.0 (c.in-Ok-Found.ensures.unit found proof (cc)) is.1
     is.3 c.bounded.ensures.none_smaller)
 
@@ -36,13 +36,13 @@ returns-in-Ok-Refuted c = λ text read.
     let p = c.args.prepared in
     let verdict = c.in-Ok-Refuted.verdict in
     let is = c.in-Ok-Refuted.ensures.refuted verdict (cc) in
-    subst (λ (e : AcceptError). AnswersLeast text (Err e)) (sym c.refuted.ensures.refused)
-    (refuted-least text p.program p.rows c.in-Ok.goal verdict read c.requires.rows
+    subst (λ (e : AcceptError). AnswersLeast text (Err e)) (sym c.refuted-refusal.ensures.refused)
+    (refuted-least text p.program p.rows c.args.goal verdict read c.requires.rows
     (rw c.in-Ok-Refuted.field-0-is at c.in-Ok-Refuted.ensures.run)
-    is.1 c.refuted.ensures.none_meet)
+    is.1 c.refuted-refusal.ensures.none_meet)
 
 pub returns-in-Ok-Unsolved : goal.returns-in-Ok-Unsolved
 returns-in-Ok-Unsolved c = λ text read.
     let p = c.args.prepared in
-    unsolved-least text p.program p.rows c.in-Ok.goal c.in-Ok-Unsolved.stop read c.requires.rows c.in-Ok.ensures.goal
+    unsolved-least text p.program p.rows c.args.goal c.in-Ok-Unsolved.stop read c.requires.rows c.requires.goal
     (rw c.in-Ok-Unsolved.field-0-is at c.in-Ok-Unsolved.ensures.run)
