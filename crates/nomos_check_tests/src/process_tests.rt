@@ -10,14 +10,19 @@ use nomos_program::elaborate::elaborate;
 use nomos_types::forming::well_formed;
 use std::alloc::{AllocError, Global};
 use std::fmt::Write;
+use std::process::Abort;
 use std::test::Fail;
 
 // The program of a text, if it has one.
 pub(crate) fn program_of(alloc: Global, text: &str) -> Option<Program> {
-    let Ok(surface) = parse(alloc, text.as_bytes()) else {
-        return None;
-    };
-    elaborate(alloc, &surface).ok()
+    match parse(alloc, text.as_bytes()) {
+        Ok(surface) => {
+            let program = elaborate(alloc, &surface).ok();
+            drop(surface);
+            program
+        }
+        Err(_) => None,
+    }
 }
 
 // Writes what a process asks for: each form, as the coefficients of the stars with the whole units behind them, and
@@ -40,20 +45,32 @@ fn write_process(
     requires p { p.0 < length program.now.procs }
 {
     match check_process(alloc, program, p) {
-        Ok(checked) => write_checked(&checked, written),
+        Ok(checked) => {
+            let done = write_checked(&checked, written);
+            drop(checked);
+            done
+        }
         Err(error) => writeln!(written, "{error}"),
     }
 }
 
-// What each process asks for, on a line for each.
+// Writes what each process asks for, on a line for each.
+fn write_processes(alloc: Global, program: &Program, written: &mut String) -> Result<(), AllocError>
+    requires formed { IsWellFormed program.now }
+{
+    let count = program.lists().procs.len() as u32;
+    for p in 0..count {
+        write_process(alloc, program, ProcId(p), written)?;
+    }
+    Ok(())
+}
+
+// What each process asks for.
 fn processes(alloc: Global, program: &Program) -> Result<String, AllocError>
     requires formed { IsWellFormed program.now }
 {
     let mut written = String::new(alloc);
-    let count = program.lists().procs.len() as u32;
-    for p in 0..count {
-        write_process(alloc, program, ProcId(p), &mut written)?;
-    }
+    write_processes(alloc, program, &mut written)?;
     Ok(written)
 }
 
@@ -69,7 +86,11 @@ fn asked(alloc: Global, program: &Program) -> Result<String, AllocError> {
 // The same of the program of a text.
 fn shown(alloc: Global, text: &str) -> Result<String, AllocError> {
     match program_of(alloc, text) {
-        Some(program) => asked(alloc, &program),
+        Some(program) => {
+            let asked = asked(alloc, &program);
+            drop(program);
+            asked
+        }
         None => Ok(String::new(alloc)),
     }
 }
@@ -176,11 +197,14 @@ const HALVES_ASKS: &str = "\
 [0, 0, 0, 0, 0]+3 [0, -1, 0, 0, 0]+3 [0, -2, 0, 0, 0]+3 [0, -2, 0, 0, 0]+3 [0, -2, 0, 0, 0]+3 [(Star(1), Star(1))]
 ";
 
+// Fails unless this text was wanted.
+pub(crate) fn expect(rt: &impl Abort, found: String, wanted: &str) {
+    assert_eq!(rt; found.as_str(), wanted);
+}
+
 #[test]
 fn gives_the_forms_and_pairs_of_processes(rt: HostRuntime) -> Result<(), Fail> {
-    for (text, wanted) in [(AUCTION, AUCTION_ASKS), (HALVES, HALVES_ASKS)] {
-        let found = shown(rt.alloc(), text)?;
-        assert_eq!(rt; found.as_str(), wanted);
-    }
+    expect(&rt, shown(rt.alloc(), AUCTION)?, AUCTION_ASKS);
+    expect(&rt, shown(rt.alloc(), HALVES)?, HALVES_ASKS);
     Ok(())
 }

@@ -1,6 +1,7 @@
 //! Tests: the program as which a text reads, written out.
 
-use crate::process_tests::{AUCTION, program_of};
+use crate::process_tests::{AUCTION, expect, program_of};
+use nomos_ir::declaration::ProcDecl;
 use nomos_ir::lists::ProgramLists;
 use nomos_ir::program::Program;
 use std::alloc::{AllocError, Global};
@@ -40,16 +41,26 @@ fn write_definitions(lists: &ProgramLists, written: &mut String) -> Result<(), A
     Ok(())
 }
 
+// Writes what a process is: its name, its mode, its own channel and its values.
+fn write_head(d: &ProcDecl, written: &mut String) -> Result<(), AllocError> {
+    let name = str::from_utf8(d.name.as_bytes()).unwrap_or("");
+    write!(written, "{name} {:?} {:?} {:?} ", d.mode, d.me, d.values)
+}
+
+// Writes what it uses, what it starts with, what it offers, and its code.
+fn write_tail(d: &ProcDecl, written: &mut String) -> Result<(), AllocError> {
+    writeln!(
+        written,
+        "{:?} {:?} {:?} {:?}",
+        d.channels, d.amount, d.offers, d.first
+    )
+}
+
 // Writes the declarations of processes.
 fn write_processes(lists: &ProgramLists, written: &mut String) -> Result<(), AllocError> {
     for d in lists.procs.as_slice() {
-        let name = str::from_utf8(d.name.as_bytes()).unwrap_or("");
-        write!(written, "{name} {:?} {:?} {:?} ", d.mode, d.me, d.values)?;
-        writeln!(
-            written,
-            "{:?} {:?} {:?} {:?}",
-            d.channels, d.amount, d.offers, d.first
-        )?;
+        write_head(d, written)?;
+        write_tail(d, written)?;
     }
     Ok(())
 }
@@ -63,23 +74,31 @@ fn write_labels(lists: &ProgramLists, written: &mut String) -> Result<(), AllocE
     Ok(())
 }
 
+// Writes the lists of a program.
+fn write_lists(lists: &ProgramLists, written: &mut String) -> Result<(), AllocError> {
+    write_types(lists, written)?;
+    write_terms(lists, written)?;
+    write_code(lists, written)?;
+    write_definitions(lists, written)?;
+    write_processes(lists, written)?;
+    write_labels(lists, written)
+}
+
 // The lists of a program.
 fn shown(alloc: Global, program: &Program) -> Result<String, AllocError> {
-    let lists = program.lists();
     let mut written = String::new(alloc);
-    write_types(lists, &mut written)?;
-    write_terms(lists, &mut written)?;
-    write_code(lists, &mut written)?;
-    write_definitions(lists, &mut written)?;
-    write_processes(lists, &mut written)?;
-    write_labels(lists, &mut written)?;
+    write_lists(program.lists(), &mut written)?;
     Ok(written)
 }
 
 // The lists of the program of a text, or nothing where it has none.
 fn read(alloc: Global, text: &str) -> Result<String, AllocError> {
     match program_of(alloc, text) {
-        Some(program) => shown(alloc, &program),
+        Some(program) => {
+            let shown = shown(alloc, &program);
+            drop(program);
+            shown
+        }
         None => Ok(String::new(alloc)),
     }
 }
@@ -241,6 +260,6 @@ high
 #[test]
 fn reads_the_auction_as_its_program(rt: HostRuntime) -> Result<(), Fail> {
     let found = read(rt.alloc(), AUCTION)?;
-    assert_eq!(rt; found.as_str(), AUCTION_LISTS);
+    expect(&rt, found, AUCTION_LISTS);
     Ok(())
 }

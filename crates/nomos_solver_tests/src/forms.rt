@@ -1,5 +1,5 @@
 //! Forms and rows from small tables.
-ghost use Rattle.std.specs.Prelude.{◌≡◌, ◌≤◌, IfOk};
+ghost use Rattle.std.specs.Prelude.{◌≡◌, ◌≤◌, All, IfOk};
 ghost use Rattle.nomos_forms.specs.Bounds.{IsForm};
 
 use nomos_forms::collecting::rows;
@@ -8,6 +8,7 @@ use nomos_forms::row_list::RowList;
 use nomos_ir::amount::Amount;
 use nomos_ir::items::Items;
 use std::alloc::{AllocError, Global};
+use std::process::Abort;
 
 /// The coefficients of the first stars of a form, and its number of units. The other coefficients are 0.
 pub(crate) type Sketch<'a> = (&'a [i32], i32);
@@ -31,6 +32,18 @@ pub(crate) fn form(alloc: Global, sketch: Sketch<'_>, stars: u16) -> Result<Form
     })
 }
 
+// The forms of sketches.
+fn forms(alloc: Global, sketches: &[Sketch<'_>], stars: u16) -> Result<Vec<Form>, AllocError>
+    ensures { IfOk result (λ made. All (IsForm stars) made.items) }
+{
+    let mut forms = Vec::new(alloc);
+    for sketch in sketches {
+        let next = form(alloc, *sketch, stars)?;
+        forms.push(next)?;
+    }
+    Ok(forms)
+}
+
 /// The rows that say that these forms are 0 or more, and that the amounts of each pair are equal.
 pub(crate) fn system(
     alloc: Global,
@@ -41,11 +54,36 @@ pub(crate) fn system(
     requires { stars ≤ 64 }
     ensures { IfOk result (λ made. made.stars ≡ stars) }
 {
-    let mut forms = Vec::new(alloc);
-    for sketch in sketches {
-        let next = form(alloc, *sketch, stars)?;
-        forms.push(next)?;
-    }
+    let forms = Items::of_vec(forms(alloc, sketches, stars)?);
     let pairs = Items::of_vec(Vec::from_slice(alloc, pairs)?);
-    rows(alloc, &Items::of_vec(forms), &pairs, stars)
+    rows(alloc, &forms, &pairs, stars)
+}
+
+// The sketch whose coefficients stand before its number of units.
+fn sketch_of(numbers: &[i32]) -> Sketch<'_> {
+    match numbers {
+        [coefs @ .., plus] => (coefs, *plus),
+        [] => (numbers, 0),
+    }
+}
+
+/// The rows that say that forms are 0 or more. Of each form there are the coefficients of all stars, and then the
+/// number of units.
+pub(crate) fn table_system(
+    alloc: Global,
+    numbers: &[i32],
+    stars: u16,
+) -> Result<RowList, AllocError>
+    requires { stars ≤ 64 }
+{
+    let mut sketches = Vec::new(alloc);
+    for line in numbers.chunks(usize::from(stars) + 1) {
+        sketches.push(sketch_of(line))?;
+    }
+    system(alloc, &sketches, &[], stars)
+}
+
+/// Fails unless this text was wanted.
+pub(crate) fn expect(rt: &impl Abort, found: String, wanted: &str) {
+    assert_eq!(rt; found.as_str(), wanted);
 }

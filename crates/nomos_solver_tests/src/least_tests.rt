@@ -2,7 +2,7 @@
 ghost use Rattle.std.specs.Prelude.{◌≡◌, ◌≤◌, pos, ◌≤ℤ◌, All, IfOk};
 ghost use Rattle.nomos_forms.specs.Bounds.{IsForm};
 
-use crate::forms::{Sketch, system};
+use crate::forms::{Sketch, expect, system};
 use crate::solve_tests::chain;
 use nomos_forms::form::Form;
 use nomos_forms::row_list::RowList;
@@ -38,9 +38,7 @@ fn answer(alloc: Global, list: &RowList, numbers: &[u16]) -> Result<String, Allo
 
 /// The rows of a transaction that starts two jobs and pays for one of them. Star 1 is what the type of a job gets, 2
 /// what a job has, 3 what it gets, 4 what the transaction has, and 5 what it pays. A job that is paid works 3 units.
-fn two_jobs(alloc: Global) -> Result<RowList, AllocError>
-    ensures { IfOk result (λ made. made.stars ≡ 5) }
-{
+fn two_jobs(alloc: Global) -> Result<RowList, AllocError> {
     let has = [0, 1];
     let gets = [0, 1, 1];
     let starts = [0, 0, 0, 1];
@@ -73,8 +71,9 @@ fn two_jobs_text(alloc: Global) -> Result<String, AllocError> {
 #[test]
 fn two_jobs_at_least(rt: HostRuntime) -> Result<(), Fail> {
     let found = two_jobs_text(rt.alloc())?;
-    assert_eq!(rt;
-        found.as_str(),
+    expect(
+        &rt,
+        found,
         "Found(Found { stars: Items { items: [0, 3, 0, 6, 0] }, unit: 1 })\n\
         Found(Found { stars: Items { items: [3, 0, 3, 3, 3] }, unit: 1 }, \
         Proof { scale: 1, weights: Items { items: [\
@@ -83,7 +82,7 @@ fn two_jobs_at_least(rt: HostRuntime) -> Result<(), Fail> {
         Weight { times: 1, of: Row(Row { coefs: Items { items: [0, -2, 0, 1, -1] }, least: 0 }) }, \
         Weight { times: 1, of: Row(Row { coefs: Items { items: [0, 1, 1, 0, 0] }, least: 3 }) }, \
         Weight { times: 1, of: Row(Row { coefs: Items { items: [1, 0, -1, 0, 0] }, least: 0 }) }\
-        ] }, total: 3 })"
+        ] }, total: 3 })",
     );
     Ok(())
 }
@@ -106,11 +105,13 @@ fn chain_text(alloc: Global, stars: u16) -> Result<String, AllocError>
 #[test]
 fn least_of_nothing_and_of_a_chain(rt: HostRuntime) -> Result<(), Fail> {
     let found = nothing_text(rt.alloc())?;
-    assert_eq!(rt;
-        found.as_str(),
-        "Found(Found { stars: Items { items: [] }, unit: 1 }, Proof { scale: 1, weights: Items { items: [] }, total: 0 })"
+    expect(
+        &rt,
+        found,
+        "Found(Found { stars: Items { items: [] }, unit: 1 }, \
+        Proof { scale: 1, weights: Items { items: [] }, total: 0 })",
     );
     let found = chain_text(rt.alloc(), 20)?;
-    assert_eq!(rt; found.as_str(), "Unsolved(Large(19))");
+    expect(&rt, found, "Unsolved(Large(19))");
     Ok(())
 }

@@ -2,7 +2,7 @@
 ghost use Rattle.std.specs.Prelude.{◌<◌, ◌^◌, IfOk};
 ghost use Rattle.nomos_forms.specs.Bounds.{IsVerdict};
 
-use crate::forms::system;
+use crate::forms::{expect, system};
 use nomos_forms::found::Found;
 use nomos_forms::meeting::put_back;
 use nomos_forms::refuting::refutes;
@@ -31,9 +31,10 @@ fn rows_text(alloc: Global) -> Result<String, AllocError> {
 #[test]
 fn rows_stand_in_order(rt: HostRuntime) -> Result<(), Fail> {
     let found = rows_text(rt.alloc())?;
-    assert_eq!(rt;
-        found.as_str(),
-        "[-1, 1] >= 0; [0, -1] >= -3; [0, 1] >= 0; [0, 1] >= 3; [1, -1] >= 0; [1, -1] >= 1; "
+    expect(
+        &rt,
+        found,
+        "[-1, 1] >= 0; [0, -1] >= -3; [0, 1] >= 0; [0, 1] >= 3; [1, -1] >= 0; [1, -1] >= 1; ",
     );
     Ok(())
 }

@@ -1,13 +1,9 @@
 //! Tests: the answers of the pivot run to small systems of rows, and to large ones at its limits.
-ghost use Rattle.std.specs.Prelude.{◌≡◌, ◌≤◌, All, IfOk};
-ghost use Rattle.nomos_forms.specs.Bounds.{IsForm};
+ghost use Rattle.std.specs.Prelude.{◌≤◌};
 
-use crate::forms::{Sketch, form, system};
-use nomos_forms::collecting::rows;
-use nomos_forms::form::Form;
+use crate::forms::{Sketch, expect, system, table_system};
 use nomos_forms::row_list::RowList;
 use nomos_ir::amount::Amount;
-use nomos_ir::items::Items;
 use nomos_simplex::solving::solve;
 use std::alloc::{AllocError, Global};
 use std::test::Fail;
@@ -36,9 +32,10 @@ fn answer_to(
 fn two_halves(rt: HostRuntime) -> Result<(), Fail> {
     let sketches: [Sketch<'_>; 4] = [(&[1, 1], -1), (&[-2, 0], 1), (&[1, -1], 0), (&[-1, 1], 0)];
     let found = answer_to(rt.alloc(), &sketches, &[], 2)?;
-    assert_eq!(rt;
-        found.as_str(),
-        "Found(Found { stars: Items { items: [1, 1] }, unit: 2 })"
+    expect(
+        &rt,
+        found,
+        "Found(Found { stars: Items { items: [1, 1] }, unit: 2 })",
     );
     Ok(())
 }
@@ -58,9 +55,10 @@ fn two_sources(rt: HostRuntime) -> Result<(), Fail> {
     ];
     let sketches: [Sketch<'_>; 3] = [(&works, -1), (&pays, 0), (&spawns, 1)];
     let found = answer_to(rt.alloc(), &sketches, &pairs, 5)?;
-    assert_eq!(rt;
-        found.as_str(),
-        "Found(Found { stars: Items { items: [1, 1, 1, 1, 1] }, unit: 2 })"
+    expect(
+        &rt,
+        found,
+        "Found(Found { stars: Items { items: [1, 1, 1, 1, 1] }, unit: 2 })",
     );
     Ok(())
 }
@@ -69,15 +67,17 @@ fn two_sources(rt: HostRuntime) -> Result<(), Fail> {
 #[test]
 fn no_stars_and_no_rows(rt: HostRuntime) -> Result<(), Fail> {
     let found = answer_to(rt.alloc(), &[], &[], 3)?;
-    assert_eq!(rt;
-        found.as_str(),
-        "Found(Found { stars: Items { items: [0, 0, 0] }, unit: 1 })"
+    expect(
+        &rt,
+        found,
+        "Found(Found { stars: Items { items: [0, 0, 0] }, unit: 1 })",
     );
     let found = answer_to(rt.alloc(), &[(&[], -1)], &[], 0)?;
-    assert_eq!(rt;
-        found.as_str(),
+    expect(
+        &rt,
+        found,
         "Refuted(Verdict { weights: Items { items: [Weight { times: 1, of: Row(Row { \
-        coefs: Items { items: [] }, least: 1 }) }] }, gives: 1 })"
+        coefs: Items { items: [] }, least: 1 }) }] }, gives: 1 })",
     );
     Ok(())
 }
@@ -102,30 +102,30 @@ fn link(star: u16, of: u16) -> i32 {
     }
 }
 
-// The form of one process of the chain.
-fn link_form(alloc: Global, star: u16, stars: u16) -> Result<Form, AllocError>
-    ensures { IfOk result (IsForm stars) }
-{
-    let mut numbers = Vec::new(alloc);
+// Adds the numbers of one process of the chain: the coefficients of the stars, and then the units.
+fn add_link(numbers: &mut Vec<i32>, star: u16, stars: u16) -> Result<(), AllocError> {
     for of in 0..stars {
         numbers.push(link(star, of))?;
     }
-    let plus = if star == 0 { -1 } else { 0 };
-    form(alloc, (numbers.as_slice(), plus), stars)
+    numbers.push(if star == 0 { -1 } else { 0 })?;
+    Ok(())
+}
+
+// The numbers of all of them.
+fn links(alloc: Global, stars: u16) -> Result<Vec<i32>, AllocError> {
+    let mut numbers = Vec::new(alloc);
+    for star in 0..stars {
+        add_link(&mut numbers, star, stars)?;
+    }
+    Ok(numbers)
 }
 
 /// Star 1 is at least 1, and each other star at least ten times the one before it.
 pub(crate) fn chain(alloc: Global, stars: u16) -> Result<RowList, AllocError>
     requires { stars ≤ 64 }
-    ensures { IfOk result (λ made. made.stars ≡ stars) }
 {
-    let mut forms = Vec::new(alloc);
-    for star in 0..stars {
-        let next = link_form(alloc, star, stars)?;
-        forms.push(next)?;
-    }
-    let pairs = Items::of_vec(Vec::new(alloc));
-    rows(alloc, &Items::of_vec(forms), &pairs, stars)
+    let numbers = links(alloc, stars)?;
+    table_system(alloc, &numbers, stars)
 }
 
 // What the pivot run answers to the chain.
@@ -143,7 +143,7 @@ fn chains(rt: HostRuntime) -> Result<(), Fail> {
     assert!(rt; found.starts_with("Found(Found { stars: Items { items: [1, 10, 100, 1000, "));
     assert!(rt; found.ends_with(", 100000000000000000, 1000000000000000000] }, unit: 1 })"));
     let found = chain_answer(rt.alloc(), 20)?;
-    assert_eq!(rt; found.as_str(), "Unsolved(Large(19))");
+    expect(&rt, found, "Unsolved(Large(19))");
     Ok(())
 }
 
@@ -161,33 +161,35 @@ fn sparse(seed: &mut u32) -> i32 {
     ((next(seed) % 7) as i32).wrapping_sub(3)
 }
 
-// A form that is 0 or 1 where each star is the square of its place.
-fn tight(alloc: Global, seed: &mut u32, stars: u16) -> Result<Form, AllocError>
-    ensures { IfOk result (IsForm stars) }
-{
+// Adds the numbers of a form that is 0 or 1 where each star is the square of its place.
+fn add_tight(numbers: &mut Vec<i32>, seed: &mut u32, stars: u16) -> Result<(), AllocError> {
     let mut plus = (next(seed) % 2) as i32;
-    let mut numbers = Vec::new(alloc);
     for of in 0..stars {
         let number = sparse(seed);
         let place = i32::from(of);
         plus = plus.wrapping_sub(number.wrapping_mul(place.wrapping_mul(place)));
         numbers.push(number)?;
     }
-    form(alloc, (numbers.as_slice(), plus), stars)
+    numbers.push(plus)?;
+    Ok(())
 }
 
-// 200 such forms.
+// The numbers of 200 such forms.
+fn tight_numbers(alloc: Global, stars: u16) -> Result<Vec<i32>, AllocError> {
+    let mut seed = 6;
+    let mut numbers = Vec::new(alloc);
+    for _i in 0..200 {
+        add_tight(&mut numbers, &mut seed, stars)?;
+    }
+    Ok(numbers)
+}
+
+// Their rows.
 fn tight_system(alloc: Global, stars: u16) -> Result<RowList, AllocError>
     requires { stars ≤ 64 }
 {
-    let mut seed = 6;
-    let mut forms = Vec::new(alloc);
-    for _i in 0..200 {
-        let next = tight(alloc, &mut seed, stars)?;
-        forms.push(next)?;
-    }
-    let pairs = Items::of_vec(Vec::new(alloc));
-    rows(alloc, &Items::of_vec(forms), &pairs, stars)
+    let numbers = tight_numbers(alloc, stars)?;
+    table_system(alloc, &numbers, stars)
 }
 
 // What the pivot run answers to them.
@@ -202,6 +204,6 @@ fn tight_answer(alloc: Global, stars: u16) -> Result<String, AllocError>
 #[test]
 fn too_many_pivots(rt: HostRuntime) -> Result<(), Fail> {
     let found = tight_answer(rt.alloc(), 32)?;
-    assert_eq!(rt; found.as_str(), "Unsolved(Pivots)");
+    expect(&rt, found, "Unsolved(Pivots)");
     Ok(())
 }

@@ -2,6 +2,7 @@
 use nomos_base::{MemorySink, MemorySource};
 use nomos_top::nomos;
 use std::alloc::{AllocError, Global};
+use std::process::Abort;
 use std::test::Fail;
 
 // The words of a line, each behind one space.
@@ -20,6 +21,9 @@ pub(crate) type Faults = (u64, u64, u64);
 pub(crate) const NEVER: u64 = 1_000_000;
 
 pub(crate) const NO_FAULTS: Faults = (NEVER, NEVER, NEVER);
+
+// How bytes move: each read and write moves at most one byte more than this number, and some fail.
+pub(crate) type Moves = (u16, Faults);
 
 const EVERYTHING: usize = 4_194_304;
 
@@ -44,36 +48,76 @@ struct Outside {
     out: MemorySink,
 }
 
-// A contract and a script, where each read and write moves at most one byte more than the piece.
-fn outside_of(
+// A source over a script, and a sink.
+fn script_and_out(
     alloc: Global,
-    texts: (&[u8], &[u8]),
+    script: &[u8],
     piece: u16,
-    faults: Faults,
-) -> Result<Outside, AllocError> {
-    Ok(Outside {
-        contract: source(alloc, texts.0, piece, faults.0)?,
-        script: source(alloc, texts.1, piece, faults.1)?,
-        out: sink(alloc, piece, faults.2)?,
-    })
+    faults: (u64, u64),
+) -> Result<(MemorySource, MemorySink), AllocError> {
+    let script = source(alloc, script, piece, faults.0)?;
+    match sink(alloc, piece, faults.1) {
+        Ok(out) => Ok((script, out)),
+        Err(error) => {
+            drop(script);
+            Err(error)
+        }
+    }
+}
+
+// A contract and a script, whose bytes move so.
+fn outside_of(alloc: Global, texts: (&[u8], &[u8]), moves: Moves) -> Result<Outside, AllocError> {
+    let (piece, faults) = moves;
+    let contract = source(alloc, texts.0, piece, faults.0)?;
+    match script_and_out(alloc, texts.1, piece, (faults.1, faults.2)) {
+        Ok((script, out)) => Ok(Outside {
+            contract,
+            script,
+            out,
+        }),
+        Err(error) => {
+            drop(contract);
+            Err(error)
+        }
+    }
 }
 
 // How a call ended: the status, whether the contract was accepted, and the entries of the journal.
-fn end_of(alloc: Global, words: &[String], outside: &mut Outside) -> Result<String, AllocError> {
+type End = (u8, bool, usize);
+
+// How the call with these words ends.
+fn end_of(alloc: Global, words: &[String], outside: &mut Outside) -> End {
     let (contract, script) = (&mut outside.contract, &mut outside.script);
     let ended = nomos(alloc, words, contract, script, &mut outside.out);
-    let accepted = ended.accepted.is_some();
-    let entries = ended.journal.entries.len();
-    format!(in alloc; "{} {accepted} {entries}", ended.status)
+    let end = (
+        ended.status,
+        ended.accepted.is_some(),
+        ended.journal.entries.len(),
+    );
+    drop(ended);
+    end
 }
 
-// How many reads and writes failed, and what was written.
-fn outside_text(alloc: Global, outside: &Outside) -> Result<String, Fail> {
+// How the call with the words of a line ends.
+fn end_of_line(alloc: Global, line: &str, outside: &mut Outside) -> Result<End, AllocError> {
+    let words = words_of(alloc, line)?;
+    Ok(end_of(alloc, &words, outside))
+}
+
+// How a call ended, how many reads and writes failed, and what was written.
+fn whole_text(alloc: Global, end: End, outside: &Outside) -> Result<String, Fail> {
+    let (status, accepted, entries) = end;
     let contract = outside.contract.faults();
     let script = outside.script.faults();
     let out = outside.out.faults();
     let written = str::from_utf8(outside.out.written())?;
-    Ok(format!(in alloc; "({contract}, {script}, {out})\n{written}")?)
+    Ok(format!(in alloc; "{status} {accepted} {entries} ({contract}, {script}, {out})\n{written}")?)
+}
+
+// What the call with the words of a line comes to.
+fn course_of_line(alloc: Global, line: &str, outside: &mut Outside) -> Result<String, Fail> {
+    let end = end_of_line(alloc, line, outside)?;
+    whole_text(alloc, end, outside)
 }
 
 // What is answered to the words of a line.
@@ -81,24 +125,41 @@ pub(crate) fn answer_in_pieces(
     alloc: Global,
     line: &str,
     texts: (&[u8], &[u8]),
-    piece: u16,
-    faults: Faults,
+    moves: Moves,
 ) -> Result<String, Fail> {
-    let words = words_of(alloc, line)?;
-    let mut outside = outside_of(alloc, texts, piece, faults)?;
-    let end = end_of(alloc, &words, &mut outside)?;
-    let outside = outside_text(alloc, &outside)?;
-    Ok(format!(in alloc; "{end} {outside}")?)
+    let mut outside = outside_of(alloc, texts, moves)?;
+    let answered = course_of_line(alloc, line, &mut outside);
+    drop(outside);
+    answered
 }
 
-// What is answered where no read and no write fails.
-pub(crate) fn answer(
-    alloc: Global,
+// Fails unless this text was wanted.
+pub(crate) fn expect_text(rt: &impl Abort, found: String, wanted: &str) {
+    assert_eq!(rt; found.as_str(), wanted);
+}
+
+// Fails unless this is answered to the words of a line.
+pub(crate) fn expect_in_pieces(
+    rt: &(impl Abort + AllocGlobal),
     line: &str,
-    contract: &[u8],
-    script: &[u8],
-) -> Result<String, Fail> {
-    answer_in_pieces(alloc, line, (contract, script), 8191, NO_FAULTS)
+    texts: (&[u8], &[u8]),
+    moves: Moves,
+    wanted: &str,
+) -> Result<(), Fail> {
+    let found = answer_in_pieces(rt.alloc(), line, texts, moves)?;
+    expect_text(rt, found, wanted);
+    Ok(())
+}
+
+// The same where no read and no write fails.
+pub(crate) fn expect(
+    rt: &(impl Abort + AllocGlobal),
+    line: &str,
+    texts: (&str, &str),
+    wanted: &str,
+) -> Result<(), Fail> {
+    let texts = (texts.0.as_bytes(), texts.1.as_bytes());
+    expect_in_pieces(rt, line, texts, (8191, NO_FAULTS), wanted)
 }
 
 // A text with a piece that is repeated.

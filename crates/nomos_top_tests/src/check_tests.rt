@@ -1,10 +1,11 @@
 //! Tests: what is answered to words, to contracts that are checked, and to searches for least bounds.
 use crate::calling::{
-    ACCEPTED, CUT_SHORT, EMPTY_ACCEPTED, FLIP, HALVES, answer, repeated, words_of,
+    ACCEPTED, CUT_SHORT, EMPTY_ACCEPTED, FLIP, HALVES, expect, expect_text, repeated, words_of,
 };
 use nomos_syntax::scan::TEXT_LIMIT;
 use nomos_top::words;
 use std::alloc::{AllocError, Global};
+use std::process::Abort;
 use std::test::Fail;
 
 #[test]
@@ -27,8 +28,7 @@ fn answers_what_is_checked(rt: HostRuntime) -> Result<(), Fail> {
         ),
     ];
     for (text, wanted) in table {
-        let found = answer(rt.alloc(), "check it.nomos", text.as_bytes(), b"")?;
-        assert_eq!(rt; found.as_str(), wanted);
+        expect(&rt, "check it.nomos", (text, ""), wanted)?;
     }
     Ok(())
 }
@@ -58,24 +58,29 @@ fn finds_least_bounds(rt: HostRuntime) -> Result<(), Fail> {
         ),
     ];
     for (text, wanted) in table {
-        let found = answer(rt.alloc(), "least it.nomos", text.as_bytes(), b"")?;
-        assert_eq!(rt; found.as_str(), wanted);
+        expect(&rt, "least it.nomos", (text, ""), wanted)?;
     }
     Ok(())
 }
 
+// Fails unless this is answered to a contract of so many blanks.
+fn expect_of_blanks(
+    rt: &(impl Abort + AllocGlobal),
+    times: usize,
+    wanted: &str,
+) -> Result<(), Fail> {
+    let text = repeated(rt.alloc(), " ", times)?;
+    expect(rt, "check it.nomos", (text.as_str(), ""), wanted)
+}
+
 #[test]
 fn contracts_have_a_limit(rt: HostRuntime) -> Result<(), Fail> {
-    let table = [
-        (TEXT_LIMIT, EMPTY_ACCEPTED),
-        (TEXT_LIMIT + 1, "1 false 0 (0, 0, 0)\nrefused TooLong\n"),
-    ];
-    for (times, wanted) in table {
-        let text = repeated(rt.alloc(), " ", times)?;
-        let found = answer(rt.alloc(), "check it.nomos", text.as_bytes(), b"")?;
-        assert_eq!(rt; found.as_str(), wanted);
-    }
-    Ok(())
+    expect_of_blanks(&rt, TEXT_LIMIT, EMPTY_ACCEPTED)?;
+    expect_of_blanks(
+        &rt,
+        TEXT_LIMIT + 1,
+        "1 false 0 (0, 0, 0)\nrefused TooLong\n",
+    )
 }
 
 const USAGE: &str = "4 false 0 (0, 0, 0)\nusage: nomos check FILE | run FILE SCRIPT | least FILE\n";
@@ -86,40 +91,55 @@ fn job_text(alloc: Global, line: &str) -> Result<String, AllocError> {
     format!(in alloc; "{:?}", words(&given))
 }
 
+// Fails unless the words of a line name this job, and this is answered to them under a contract that is cut short.
+fn expect_job(
+    rt: &(impl Abort + AllocGlobal),
+    line: &str,
+    job: &str,
+    wanted: &str,
+) -> Result<(), Fail> {
+    expect_text(rt, job_text(rt.alloc(), line)?, job);
+    expect(rt, line, ("type", ""), wanted)
+}
+
 #[test]
-fn words_have_one_form(rt: HostRuntime) -> Result<(), Fail> {
-    let table = [
-        (
-            "check a-file",
-            "Some(Check { file: \"a-file\" })",
-            CUT_SHORT,
-        ),
-        (
-            "run a b",
-            "Some(Run { file: \"a\", script: \"b\" })",
-            CUT_SHORT,
-        ),
-        ("least a", "Some(Least { file: \"a\" })", CUT_SHORT),
-        ("", "None", USAGE),
-        ("least", "None", USAGE),
-        ("least -a", "None", USAGE),
-        ("least a b", "None", USAGE),
-        ("check", "None", USAGE),
-        ("check ", "None", USAGE),
-        ("check -v", "None", USAGE),
-        ("check a b", "None", USAGE),
-        ("run a", "None", USAGE),
-        ("run a -b", "None", USAGE),
-        ("Check a", "None", USAGE),
-        ("check -", "None", USAGE),
-    ];
-    let alloc = rt.alloc();
+fn words_name_a_job(rt: HostRuntime) -> Result<(), Fail> {
+    expect_job(
+        &rt,
+        "check a-file",
+        "Some(Check { file: \"a-file\" })",
+        CUT_SHORT,
+    )?;
+    expect_job(
+        &rt,
+        "run a b",
+        "Some(Run { file: \"a\", script: \"b\" })",
+        CUT_SHORT,
+    )?;
+    expect_job(&rt, "least a", "Some(Least { file: \"a\" })", CUT_SHORT)
+}
+
+// Lines whose words name no job.
+const NO_JOBS: [&str; 12] = [
+    "",
+    "least",
+    "least -a",
+    "least a b",
+    "check",
+    "check ",
+    "check -v",
+    "check a b",
+    "run a",
+    "run a -b",
+    "Check a",
+    "check -",
+];
+
+#[test]
+fn other_words_name_no_job(rt: HostRuntime) -> Result<(), Fail> {
     assert!(rt; words(&[]).is_none());
-    for (line, job, wanted) in table {
-        let found = job_text(alloc, line)?;
-        assert_eq!(rt; found.as_str(), job);
-        let found = answer(alloc, line, b"type", b"")?;
-        assert_eq!(rt; found.as_str(), wanted);
+    for line in NO_JOBS {
+        expect_job(&rt, line, "None", USAGE)?;
     }
     Ok(())
 }

@@ -1,22 +1,26 @@
 //! Tests: calls of which a read or a write fails.
-use crate::calling::{BIT, FLIP, Faults, NEVER, NO_FAULTS, answer_in_pieces};
-use std::alloc::Global;
+use crate::calling::{BIT, FLIP, Faults, NEVER, NO_FAULTS, answer_in_pieces, expect_in_pieces};
+use std::process::Abort;
 use std::test::Fail;
 
-// A run of which one call fails, where each moves four bytes at most.
-fn faulty(alloc: Global, faults: Faults) -> Result<String, Fail> {
-    let texts = (BIT.as_bytes(), "deposit u 0\nexec u t(;)\n".as_bytes());
-    answer_in_pieces(alloc, "run a b", texts, 3, faults)
+// The script of a run.
+const SCRIPT: &str = "deposit u 0\nexec u t(;)\n";
+
+// Fails unless this is answered to a run of which one call fails, where each moves four bytes at most.
+fn expect_faulty(
+    rt: &(impl Abort + AllocGlobal),
+    faults: Faults,
+    wanted: &str,
+) -> Result<(), Fail> {
+    let texts = (BIT.as_bytes(), SCRIPT.as_bytes());
+    expect_in_pieces(rt, "run a b", texts, (3, faults), wanted)
 }
 
 #[test]
 fn each_read_of_a_contract_may_fail(rt: HostRuntime) -> Result<(), Fail> {
     for call in 1..34u64 {
-        let found = faulty(rt.alloc(), (call, NEVER, NEVER))?;
-        assert_eq!(rt;
-            found.as_str(),
-            "5 false 0 (1, 0, 0)\nread fault contract\n"
-        );
+        let wanted = "5 false 0 (1, 0, 0)\nread fault contract\n";
+        expect_faulty(&rt, (call, NEVER, NEVER), wanted)?;
     }
     Ok(())
 }
@@ -24,9 +28,23 @@ fn each_read_of_a_contract_may_fail(rt: HostRuntime) -> Result<(), Fail> {
 #[test]
 fn each_read_of_a_script_may_fail(rt: HostRuntime) -> Result<(), Fail> {
     for call in 1..8u64 {
-        let found = faulty(rt.alloc(), (NEVER, call, NEVER))?;
-        assert_eq!(rt; found.as_str(), "5 true 0 (0, 1, 0)\nread fault script\n");
+        let wanted = "5 true 0 (0, 1, 0)\nread fault script\n";
+        expect_faulty(&rt, (NEVER, call, NEVER), wanted)?;
     }
+    Ok(())
+}
+
+// Fails unless such a run, of which the write of this number fails, is answered by so many first bytes of a text.
+fn expect_start(
+    rt: &(impl Abort + AllocGlobal),
+    write: u64,
+    whole: &str,
+    length: u64,
+) -> Result<(), Fail> {
+    let texts = (BIT.as_bytes(), SCRIPT.as_bytes());
+    let found = answer_in_pieces(rt.alloc(), "run a b", texts, (3, (NEVER, NEVER, write)))?;
+    assert!(rt; whole.starts_with(found.as_str()));
+    assert_eq!(rt; found.len() as u64, length);
     Ok(())
 }
 
@@ -35,21 +53,18 @@ fn each_write_may_fail(rt: HostRuntime) -> Result<(), Fail> {
     let whole =
         "6 true 2 (0, 0, 1)\naccepted\nunit 1\nbound t = 0\nline 1 deposited\nline 2 committed firings 6 spent 0\n";
     for done in 0..20u64 {
-        let found = faulty(rt.alloc(), (NEVER, NEVER, done + 1))?;
-        assert!(rt; whole.starts_with(found.as_str()));
-        assert_eq!(rt; found.len() as u64, 19 + 4 * done);
+        expect_start(&rt, done + 1, whole, 19 + 4 * done)?;
     }
     Ok(())
 }
 
 #[test]
 fn no_call_of_a_run_fails(rt: HostRuntime) -> Result<(), Fail> {
-    let found = faulty(rt.alloc(), NO_FAULTS)?;
-    assert_eq!(rt;
-        found.as_str(),
-        "0 true 2 (0, 0, 0)\naccepted\nunit 1\nbound t = 0\nline 1 deposited\nline 2 committed firings 6 spent 0\n"
-    );
-    Ok(())
+    expect_faulty(
+        &rt,
+        NO_FAULTS,
+        "0 true 2 (0, 0, 0)\naccepted\nunit 1\nbound t = 0\nline 1 deposited\nline 2 committed firings 6 spent 0\n",
+    )
 }
 
 // A check whose third read fails, one whose second write fails, and a run whose first read of the script fails.
@@ -76,8 +91,7 @@ fn a_call_that_fails_is_told(rt: HostRuntime) -> Result<(), Fail> {
         ),
     ];
     for (line, piece, faults, wanted) in table {
-        let found = answer_in_pieces(rt.alloc(), line, (FLIP.as_bytes(), b""), piece, faults)?;
-        assert_eq!(rt; found.as_str(), wanted);
+        expect_in_pieces(&rt, line, (FLIP.as_bytes(), b""), (piece, faults), wanted)?;
     }
     Ok(())
 }

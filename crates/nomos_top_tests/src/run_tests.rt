@@ -1,5 +1,7 @@
 //! Tests: what is answered to runs of scripts, and what becomes of a batch at its limit.
-use crate::calling::{ACCEPTED, BIT, CUT_SHORT, HALVES, NEVER, answer, answer_in_pieces, repeated};
+use crate::calling::{
+    ACCEPTED, BIT, CUT_SHORT, HALVES, NEVER, expect, expect_in_pieces, expect_text, repeated,
+};
 use nomos_accept::accepting::accept;
 use nomos_config::machine::Machine;
 use nomos_script::parsing::{TEXT_LIMIT, parse_script};
@@ -7,15 +9,15 @@ use nomos_script::script::Script;
 use nomos_top::{Running, run_items};
 use nomos_types::accepted::Accepted;
 use std::alloc::Global;
+use std::process::Abort;
 use std::test::Fail;
 
 // A run takes no contract with potential yet, and then reads no script.
 #[test]
 fn leaves_to_later_what_is_not_built(rt: HostRuntime) -> Result<(), Fail> {
     let texts = (HALVES.as_bytes(), "deposit u 1\n".as_bytes());
-    let found = answer_in_pieces(rt.alloc(), "run a b", texts, 0, (NEVER, 1, NEVER))?;
-    assert_eq!(rt; found.as_str(), "1 true 0 (0, 0, 0)\nrefused NotYet\n");
-    Ok(())
+    let wanted = "1 true 0 (0, 0, 0)\nrefused NotYet\n";
+    expect_in_pieces(&rt, "run a b", texts, (0, (NEVER, 1, NEVER)), wanted)
 }
 
 #[test]
@@ -63,47 +65,42 @@ fn runs_scripts(rt: HostRuntime) -> Result<(), Fail> {
         ),
     ];
     for (script, wanted) in table {
-        let found = answer(rt.alloc(), "run a b", BIT.as_bytes(), script.as_bytes())?;
-        assert_eq!(rt; found.as_str(), wanted);
+        expect(&rt, "run a b", (BIT, script), wanted)?;
     }
     Ok(())
 }
 
-// What a run of this many times a line answers.
-fn lines_answer(alloc: Global, line: &str, times: usize) -> Result<String, Fail> {
-    let script = repeated(alloc, line, times)?;
-    answer(alloc, "run a b", BIT.as_bytes(), script.as_bytes())
+// Fails unless this is answered to a run of so many times a line.
+fn expect_of_lines(
+    rt: &(impl Abort + AllocGlobal),
+    line: &str,
+    times: usize,
+    wanted: &str,
+) -> Result<(), Fail> {
+    let script = repeated(rt.alloc(), line, times)?;
+    expect(rt, "run a b", (BIT, script.as_str()), wanted)
 }
 
 #[test]
 fn scripts_have_a_limit(rt: HostRuntime) -> Result<(), Fail> {
-    let found = lines_answer(rt.alloc(), " ", TEXT_LIMIT + 1)?;
-    assert_eq!(rt;
-        found.as_str(),
-        "2 true 0 (0, 0, 0)\nscript refused TooLong\n"
-    );
-    Ok(())
+    let wanted = "2 true 0 (0, 0, 0)\nscript refused TooLong\n";
+    expect_of_lines(&rt, " ", TEXT_LIMIT + 1, wanted)
 }
 
 #[test]
 fn a_contract_is_refused_before_its_script(rt: HostRuntime) -> Result<(), Fail> {
-    let found = answer(rt.alloc(), "run a b", b"type", b"begin")?;
-    assert_eq!(rt; found.as_str(), CUT_SHORT);
-    Ok(())
+    expect(&rt, "run a b", ("type", "begin"), CUT_SHORT)
 }
 
 // The largest deposit, on nineteen lines.
 #[test]
 fn refuses_the_nineteenth_deposit(rt: HostRuntime) -> Result<(), Fail> {
-    let found = lines_answer(rt.alloc(), "deposit u 1000000000000000000\n", 19)?;
-    assert_eq!(rt;
-        found.as_str(),
+    let wanted =
         "3 true 19 (0, 0, 0)\naccepted\nunit 1\nbound t = 0\nline 1 deposited\nline 2 deposited\nline 3 deposited\n\
         line 4 deposited\nline 5 deposited\nline 6 deposited\nline 7 deposited\nline 8 deposited\nline 9 deposited\n\
         line 10 deposited\nline 11 deposited\nline 12 deposited\nline 13 deposited\nline 14 deposited\n\
-        line 15 deposited\nline 16 deposited\nline 17 deposited\nline 18 deposited\nline 19 refused at 19 TooMuchGas\n"
-    );
-    Ok(())
+        line 15 deposited\nline 16 deposited\nline 17 deposited\nline 18 deposited\nline 19 refused at 19 TooMuchGas\n";
+    expect_of_lines(&rt, "deposit u 1000000000000000000\n", 19, wanted)
 }
 
 const ENDLESS: &str = "proc R p(;) : 1 = spawn x = p(;); wait x; close;
@@ -121,16 +118,43 @@ fn running_text(alloc: Global, running: &Running) -> Result<String, Fail> {
 // What a run of the script comes to where a batch may make so many firings, or nothing where memory is wanting.
 fn ran(alloc: Global, accepted: &Accepted, script: &Script, limit: u32) -> Result<String, Fail> {
     match run_items(alloc, accepted, limit, script.items().as_slice()) {
-        Ok(running) => running_text(alloc, &running),
-        Err(_) => Ok(String::new(alloc)),
+        Ok(running) => {
+            let text = running_text(alloc, &running);
+            drop(running);
+            text
+        }
+        Err(part) => {
+            drop(part);
+            Ok(String::new(alloc))
+        }
     }
 }
 
 // What becomes of a deposit and a batch of one transaction where a batch may make so many firings.
-fn course(alloc: Global, contract: &str, limit: u32) -> Result<String, Fail> {
+fn course_of(alloc: Global, accepted: &Accepted, limit: u32) -> Result<String, Fail> {
     let script = parse_script(alloc, b"deposit u 0\nexec u t(;)\n")?;
+    let course = ran(alloc, accepted, &script, limit);
+    drop(script);
+    course
+}
+
+// The same under a contract.
+fn course(alloc: Global, contract: &str, limit: u32) -> Result<String, Fail> {
     let accepted = accept(alloc, contract.as_bytes())?;
-    ran(alloc, &accepted, &script, limit)
+    let course = course_of(alloc, &accepted, limit);
+    drop(accepted);
+    course
+}
+
+// Fails unless this becomes of them.
+fn expect_course(
+    rt: &(impl Abort + AllocGlobal),
+    contract: &str,
+    limit: u32,
+    wanted: &str,
+) -> Result<(), Fail> {
+    expect_text(rt, course(rt.alloc(), contract, limit)?, wanted);
+    Ok(())
 }
 
 // A run that commits, and processes that spawn one another without end, where a batch may make so many firings.
@@ -167,8 +191,7 @@ fn ends_a_batch_at_its_limit(rt: HostRuntime) -> Result<(), Fail> {
         ),
     ];
     for (contract, limit, wanted) in table {
-        let found = course(rt.alloc(), contract, limit)?;
-        assert_eq!(rt; found.as_str(), wanted);
+        expect_course(&rt, contract, limit, wanted)?;
     }
     Ok(())
 }

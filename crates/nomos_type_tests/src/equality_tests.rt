@@ -3,6 +3,7 @@ use crate::sketch::{is_contractive, program_of};
 use nomos_equality::equality::{Equality, equal};
 use nomos_ir::program::Program;
 use std::alloc::{AllocError, Global};
+use std::process::Abort;
 use std::test::Fail;
 
 // Whether the first two definitions are equal, if there are two, and no definition is a bare name.
@@ -18,7 +19,11 @@ fn first_two(alloc: Global, program: &Program) -> Result<Option<Equality>, Alloc
 // The same of a sketch.
 fn answer(alloc: Global, sketch: &str) -> Result<Option<Equality>, AllocError> {
     match program_of(alloc, sketch)? {
-        Some(program) => first_two(alloc, &program),
+        Some(program) => {
+            let found = first_two(alloc, &program);
+            drop(program);
+            found
+        }
         None => Ok(None),
     }
 }
@@ -27,6 +32,13 @@ fn answer(alloc: Global, sketch: &str) -> Result<Option<Equality>, AllocError> {
 fn shown(alloc: Global, sketch: &str) -> Result<String, AllocError> {
     let found = answer(alloc, sketch)?;
     format!(in alloc; "{found:?}")
+}
+
+// Fails unless this is shown of a sketch.
+fn expect(rt: &(impl Abort + AllocGlobal), sketch: &str, wanted: &str) -> Result<(), Fail> {
+    let found = shown(rt.alloc(), sketch)?;
+    assert_eq!(rt; found.as_str(), wanted, "{sketch}");
+    Ok(())
 }
 
 const NO_PAIRS: &str = "Some(Yes(Items { items: [] }))";
@@ -61,8 +73,7 @@ fn tells_equal_types_with_the_amounts_at_equal_paths(rt: HostRuntime) -> Result<
         ("a ?I 1 !b * = b ?I 1 !b * =", NO_PAIRS),
     ];
     for (sketch, wanted) in cases {
-        let found = shown(rt.alloc(), sketch)?;
-        assert_eq!(rt; found.as_str(), wanted, "{sketch}");
+        expect(&rt, sketch, wanted)?;
     }
     Ok(())
 }
@@ -91,8 +102,7 @@ fn tells_other_types_with_a_path(rt: HostRuntime) -> Result<(), Fail> {
         ("1 !i = 1 !I =", AT_ONCE),
     ];
     for (sketch, wanted) in cases {
-        let found = shown(rt.alloc(), sketch)?;
-        assert_eq!(rt; found.as_str(), wanted, "{sketch}");
+        expect(&rt, sketch, wanted)?;
     }
     Ok(())
 }

@@ -145,6 +145,25 @@ impl Sketch {
         }
     }
 
+    /// The program of what was read, or none where it makes none.
+    fn program(self) -> Result<Option<Program>, AllocError> {
+        let Sketch {
+            alloc,
+            defs,
+            types,
+            open,
+        } = self;
+        drop(open);
+        match labels(alloc) {
+            Ok(labels) => program_of_types(alloc, defs, types, labels),
+            Err(error) => {
+                drop(defs);
+                drop(types);
+                Err(error)
+            }
+        }
+    }
+
     /// Takes all words of a text.
     fn read(&mut self, text: &str) -> Result<(), AllocError> {
         for word in text.split(' ') {
@@ -184,14 +203,13 @@ pub(crate) fn program_of(alloc: Global, text: &str) -> Result<Option<Program>, A
         types: Vec::new(alloc),
         open: Vec::new(alloc),
     };
-    sketch.read(text)?;
-    let Sketch {
-        alloc: _,
-        defs,
-        types,
-        open: _,
-    } = sketch;
-    program_of_types(alloc, defs, types, labels(alloc)?)
+    match sketch.read(text) {
+        Ok(()) => sketch.program(),
+        Err(error) => {
+            drop(sketch);
+            Err(error)
+        }
+    }
 }
 
 /// Whether memory was found to see that no definition is a bare name.

@@ -6,6 +6,7 @@ use nomos_ir::program::Program;
 use nomos_ir::type_node::TypeNode;
 use nomos_sync::synchronizing::{Synced, synchronizing};
 use std::alloc::{AllocError, Global};
+use std::process::Abort;
 use std::test::Fail;
 
 // Whether a type is synchronizing, if it is shared.
@@ -19,15 +20,23 @@ fn shared(alloc: Global, program: &Program, t: TypeId) -> Result<Option<Synced>,
     }
 }
 
-// The same of the first definition of a sketch.
-fn answer(alloc: Global, sketch: &str) -> Result<Option<Synced>, AllocError> {
-    let program = match program_of(alloc, sketch)? {
-        Some(program) => program,
-        None => return Ok(None),
-    };
+// The same of the first definition.
+fn first(alloc: Global, program: &Program) -> Result<Option<Synced>, AllocError> {
     match program.lists().defs.as_slice() {
-        [first, ..] => shared(alloc, &program, first.body),
+        [first, ..] => shared(alloc, program, first.body),
         [] => Ok(None),
+    }
+}
+
+// The same of a sketch.
+fn answer(alloc: Global, sketch: &str) -> Result<Option<Synced>, AllocError> {
+    match program_of(alloc, sketch)? {
+        Some(program) => {
+            let found = first(alloc, &program);
+            drop(program);
+            found
+        }
+        None => Ok(None),
     }
 }
 
@@ -35,6 +44,13 @@ fn answer(alloc: Global, sketch: &str) -> Result<Option<Synced>, AllocError> {
 fn shown(alloc: Global, sketch: &str) -> Result<String, AllocError> {
     let found = answer(alloc, sketch)?;
     format!(in alloc; "{found:?}")
+}
+
+// Fails unless this is shown of a sketch.
+fn expect(rt: &(impl Abort + AllocGlobal), sketch: &str, wanted: &str) -> Result<(), Fail> {
+    let found = shown(rt.alloc(), sketch)?;
+    assert_eq!(rt; found.as_str(), wanted, "{sketch}");
+    Ok(())
 }
 
 const NO_PAIRS: &str = "Some(Yes(Items { items: [] }))";
@@ -67,8 +83,7 @@ fn tells_which_shared_types_lead_back(rt: HostRuntime) -> Result<(), Fail> {
         ("1 =", "None"),
     ];
     for (sketch, wanted) in cases {
-        let found = shown(rt.alloc(), sketch)?;
-        assert_eq!(rt; found.as_str(), wanted, "{sketch}");
+        expect(&rt, sketch, wanted)?;
     }
     Ok(())
 }

@@ -170,8 +170,15 @@ pub(crate) fn program_of_types(
         procs: Items::of_vec(Vec::new(alloc)),
         labels: Items::of_vec(labels),
     };
-    match fits(alloc, &lists)? {
-        true => Ok(Some(Program::of_lists(lists))),
-        false => Ok(None),
+    match fits(alloc, &lists) {
+        Ok(true) => Ok(Some(Program::of_lists(lists))),
+        Ok(false) => {
+            drop(lists);
+            Ok(None)
+        }
+        Err(error) => {
+            drop(lists);
+            Err(error)
+        }
     }
 }

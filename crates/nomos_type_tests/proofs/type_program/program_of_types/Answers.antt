@@ -4,7 +4,7 @@ use Rattle.nomos_type_tests.proofs.type_program.program_of_types.Goals as goal
 
 pub of_lists-requires : goal.of_lists-requires
 of_lists-requires c =
-    let fit = c.in_ok-fits.ensures c.in-true.is in
+    let fit = c.in-Ok-true.ensures c.in-Ok-true.field-0-test in
     rw (
       c.of_vec-3.ensures,
       c.new.ensures.items,
