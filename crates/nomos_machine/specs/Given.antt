@@ -1,0 +1,92 @@
+-- What terms come to; what a declaration is given; a process at its start.
+use Rattle.std.specs.Prelude.{ℕ, ◌+◌, pos, List, [], ◌∷◌, ◌++◌, Option, Some, None, option_and_then, Result, Ok, Err}
+use Rattle.nomos_ir.specs.Bindings.{bound_to, bindings_of}
+use Rattle.nomos_ir.specs.Evaluation.{Environment, Evaluation, ends, faults, term_evaluation}
+use Rattle.nomos_ir.specs.Value.{Value, int}
+use Rattle.nomos_ir.specs.declared.code_node.Args.{Args}
+use Rattle.nomos_ir.specs.declared.code_node.ValueArg.{ValueArg}
+use Rattle.nomos_ir.specs.declared.code_node.ValueArg.TheVariants as arg
+use Rattle.nomos_ir.specs.declared.declaration.Par.{Par}
+use Rattle.nomos_ir.specs.declared.declaration.ProcDecl.{ProcDecl}
+use Rattle.nomos_ir.specs.declared.fault.Fault.{Fault}
+use Rattle.nomos_ir.specs.declared.ids.TypeId.{TypeId}
+use Rattle.nomos_ir.specs.declared.ids.VarId.{VarId}
+use Rattle.nomos_ir.specs.declared.lists.ProgramLists.{ProgramLists}
+use Rattle.nomos_machine.specs.Objects.{potential_of}
+use Rattle.nomos_machine.specs.Sight.{◌>>=◌}
+use Rattle.nomos_machine.specs.declared.object.Carried.{Carried}
+use Rattle.nomos_machine.specs.declared.object.Process.{Process}
+
+-- What an instruction's terms come to: their values in order, or the fault of the first that has one.
+abbrev pub Terms : Type 0
+Terms = Result (List Value) Fault
+
+abbrev pub before_others : Evaluation → Terms → Terms
+before_others (ends v n) (Ok vs) = Ok (v ∷ vs)
+before_others (ends v n) (Err f) = Err f
+before_others (faults f) others = Err f
+
+abbrev pub terms_of : ProgramLists → Environment → List ℕ → Terms
+terms_of lists env [] = Ok []
+terms_of lists env (t ∷ ts) = before_others (term_evaluation lists env (record { 0 = t })) (terms_of lists env ts)
+
+-- What a declaration is given: for each of its parameters a value, a list, or the name of a channel, each in the order
+-- of the parameters.
+pub record Given : Type 0 where
+  pub values : List (VarId × Value)
+  pub lists : List (VarId × Carried)
+  pub channels : List (VarId × ℕ)
+
+-- ---- from the arguments of a `spawn` or a `call`, where its terms have these values
+
+-- a value for each parameter whose argument is a term, and a list of the process for each of the others
+abbrev pub give_values : Process → List Value → List ValueArg → List Par
+    → Option (List (VarId × Value) × List (VarId × Carried))
+give_values p [] [] [] = Some ([], [])
+give_values p (x ∷ vs) (arg.Term e ∷ args) (par ∷ pars) = do
+  others ← give_values p vs args pars
+  Some ((par.var, x) ∷ others.0, others.1)
+give_values p vs (arg.List w ∷ args) (par ∷ pars) = do
+  list ← bound_to w.0 p.lists
+  others ← give_values p vs args pars
+  Some (others.0, (par.var, list) ∷ others.1)
+give_values p _ _ _ = None
+
+-- the present name of a channel for each parameter that is one
+abbrev pub give_names : Process → List VarId → List (VarId × TypeId) → Option (List (VarId × ℕ))
+give_names p [] [] = Some []
+give_names p (v ∷ vs) (par ∷ pars) = do
+  name ← bound_to v.0 p.channels
+  others ← give_names p vs pars
+  Some ((par.0, name) ∷ others)
+give_names p _ _ = None
+
+abbrev pub given : Process → List Value → Args → ProcDecl → Option Given
+given p vs args d = do
+  values ← give_values p vs args.values d.values
+  channels ← give_names p args.channels d.channels
+  Some (record { values = values.0; lists = values.1; channels = channels })
+
+-- ---- a process at the start of a declaration
+
+-- `me` stands for the number of the account that pays
+abbrev pub me_value : Option VarId → ℕ → List (VarId × Value)
+me_value (Some v) account = (v, int (pos account)) ∷ []
+me_value None account = []
+
+-- It has what it is given, offers a name, and has as purse this potential with that of its lists.
+abbrev pub begins : ProcDecl → Given → ℕ → ℕ → ℕ → ℕ → Process
+begins d g pid offers potential payer =
+    let bare : Process = record {
+      pid = pid;
+      mode = d.mode;
+      code = d.first;
+      values = bindings_of (me_value d.me payer ++ g.values);
+      lists = bindings_of g.lists;
+      channels = bindings_of g.channels;
+      offers = offers;
+      base = None;
+      purse = 0;
+      payer = payer;
+    } in
+    record bare { purse = potential + potential_of bare }

@@ -1,0 +1,17 @@
+pub mod Objects
+pub mod State
+pub mod Change
+pub mod Sight
+pub mod Given
+pub mod Revised
+pub mod Deeds
+pub mod Step
+pub mod Run
+pub mod Policies
+pub mod Starting
+pub mod Outside
+pub mod Paired
+pub mod Matching
+pub mod TypedMessage
+pub mod TypedState
+pub mod Wrong
