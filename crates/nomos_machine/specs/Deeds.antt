@@ -1,6 +1,6 @@
 -- What a process does where it stands: some kinds of change, and one equation for each instruction.
-use Rattle.std.specs.Prelude.{ℕ, ◌+◌, nat_le, not, Bool, true, false, List, [], ◌∷◌, ◌++◌, map, find, length, Option, Some, None, option_and_then, slice_get, if◌then◌else◌, ◌==◌}
-use Rattle.std.specs.Option.{option_map}
+use Rattle.std.specs.Prelude.{ℕ, ◌+◌, nat_le, not, Bool, true, false, List, [], ◌∷◌, ◌++◌, map, find, Option, Some, None, slice_get, if◌then◌else◌, ◌==◌}
+use Rattle.std.specs.Option.{option_map, option_to_list}
 use Rattle.nomos_ir.specs.Bindings.{bound_to}
 use Rattle.nomos_ir.specs.Value.{Value, int, truth, list, value_list}
 use Rattle.nomos_ir.specs.Weight.{list_weight, max_weight}
@@ -22,23 +22,24 @@ use Rattle.nomos_ir.specs.declared.mode.Mode.{Mode}
 use Rattle.nomos_ir.specs.declared.mode.Mode.TheVariants as mode
 use Rattle.nomos_types.specs.Acceptance.{Acceptance}
 use Rattle.nomos_types.specs.Amount.{dths}
-use Rattle.nomos_machine.specs.Change.{Change, nothing}
+use Rattle.nomos_machine.specs.Optional.{◌>>=◌}
+use Rattle.nomos_machine.specs.Change.{Change, no_change}
 use Rattle.nomos_machine.specs.Given.{Given, given, begins}
-use Rattle.nomos_machine.specs.Objects.{list_of, number_of, potential_of}
-use Rattle.nomos_machine.specs.Revised.{standing_at, under_name, with_channel, without_channel, with_value, with_list, without_list, richer, poorer, renamed, uses_instead}
-use Rattle.nomos_machine.specs.Sight.{◌>>=◌, is_shared_name, is_own, present, head_on, message_on, offering, user_of, after_label, after_channel, after_value, after_potential, after_acquire, accept_next, detach_next}
+use Rattle.nomos_machine.specs.Objects.{object_number, potential_of}
+use Rattle.nomos_machine.specs.Revised.{standing_at, under_name, with_channel, without_channel, with_value, with_list, list_used_up, richer, poorer, renamed, uses_instead}
+use Rattle.nomos_machine.specs.Sight.{is_shared_name, is_own, present_name, head_on, message_on, offering, user_of, after_label, after_channel, after_value, after_potential, after_acquire, accept_next, detach_next}
 use Rattle.nomos_machine.specs.State.{State, node_of}
-use Rattle.nomos_machine.specs.declared.object.Carried.{Carried}
+use Rattle.nomos_machine.specs.declared.object.PotentialList.{PotentialList}
 use Rattle.nomos_machine.specs.declared.object.Message.{Message}
 use Rattle.nomos_machine.specs.declared.object.Object.TheVariants as object
 use Rattle.nomos_machine.specs.declared.object.Payload.{Payload}
 use Rattle.nomos_machine.specs.declared.object.Payload.TheVariants as payload
 use Rattle.nomos_machine.specs.declared.object.Process.{Process}
 
--- What a process does that can fire: it changes the state, or its instruction has a fault.
+-- What a process does that is ready: it changes the state, or its instruction has a fault.
 pub data Deed : Type 0 where
   changes : Change → Deed
-  faults : Fault → Deed
+  has_fault : Fault → Deed
 
 -- ---- what a message brings
 
@@ -73,37 +74,38 @@ abbrev pub one_of : List Value → Option Value
 one_of (x ∷ []) = Some x
 one_of _ = None
 
+-- what a test says; of values of other kinds, which none has, nothing is asked
 abbrev pub truth_in : Value → Bool
 truth_in (truth b) = b
 truth_in (int z) = false
 truth_in (list vs) = false
 
-abbrev pub empty_list : ℕ → Carried
+abbrev pub empty_list : ℕ → PotentialList
 empty_list amount = record { amount = amount; items = [] }
 
 -- a list with one more element in front
-abbrev pub longer : Value → Carried → Carried
-longer x l = record l { items = x ∷ l.items }
+abbrev pub lengthened : Value → PotentialList → PotentialList
+lengthened x l = record l { items = x ∷ l.items }
 
-abbrev pub is_light : Carried → Bool
+abbrev pub is_light : PotentialList → Bool
 is_light l = nat_le (list_weight (value_list l.items)) max_weight
 
--- The change, where the process can pay so much: its purse is at least that and the potential of its lists.
+-- The change, where the free purse has so much: the purse is at least that and the potential of the lists together.
 abbrev pub where_it_has : ℕ → Process → Option Change → Option Change
 where_it_has gas p change = if nat_le (gas + potential_of p) p.purse then change else None
 
 -- ---- the kinds of change, of a process p in a state s
 
 module _ (a : Acceptance) (s : State) (p : Process) where
-  -- the process goes on as another, and nothing else changes
+  -- the process goes on as another, and no_change else changes
   abbrev pub alone : Process → Change
-  alone q = record (nothing s) { places = (p.pid, Some (object.Process q)) ∷ [] }
+  alone q = record (no_change s) { places = (p.pid, Some (object.Process q)) ∷ [] }
 
   -- It sends, and goes on from q: the message is read on the channel's present name, and the channel goes on under the
   -- next name, which has this type.
   abbrev pub sends : Chan → Payload → ℕ → Process → Option TypeId → CodeId → Option Change
   sends c brought gas q goes next = do
-    from ← present p c
+    from ← present_name p c
     t ← goes
     Some (record (alone (standing_at next (under_name c s.next_name q))) {
       comes = Some (object.Message (record {
@@ -114,19 +116,19 @@ module _ (a : Acceptance) (s : State) (p : Process) where
         payload = brought;
         purse = gas;
       }));
-      names = Some t;
+      next_type = Some t;
     })
 
   -- the message leaves, and the process goes on as q with the message's purse
   abbrev pub takes : Message → Process → Change
-  takes m q = record (nothing s) {
+  takes m q = record (no_change s) {
     places = (p.pid, Some (object.Process (richer m.purse q))) ∷ (m.number, None) ∷ [];
   }
 
   -- It receives: the channel goes on under the message's next name, and what is brought is taken as `reads` says.
   abbrev pub receives : Chan → (Payload → Process → Option Process) → Option Change
   receives c reads = do
-    from ← present p c
+    from ← present_name p c
     m ← message_on s.objects (not (is_own c)) from
     name ← m.next
     q ← reads m.payload (under_name c name p)
@@ -141,7 +143,7 @@ module _ (a : Acceptance) (s : State) (p : Process) where
 
   -- it leaves, and its purse goes to its payer's account
   abbrev pub leaves : Change
-  leaves = record (nothing s) { places = (p.pid, None) ∷ []; gets = Some (p.payer, p.purse) }
+  leaves = record (no_change s) { places = (p.pid, None) ∷ []; gets = Some (p.payer, p.purse) }
 
   -- it ends; at mode R its client is told
   abbrev pub closes : Mode → Change
@@ -162,14 +164,14 @@ module _ (a : Acceptance) (s : State) (p : Process) where
   abbrev pub forwards : ℕ → Change
   forwards name = record leaves {
     places =
-        map (λ o. (number_of o, Some (uses_instead p.offers name o))) (list_of (user_of s.objects p.offers)) ++
+        map (λ o. (object_number o, Some (uses_instead p.offers name o))) (option_to_list (user_of s.objects p.offers)) ++
         (p.pid, None) ∷ [];
     outside = map (renamed p.offers name) s.outside;
   }
 
   -- it goes on as q, and beside it another process goes on
   abbrev pub with_other : Process → Process → Change
-  with_other q other = record (nothing s) {
+  with_other q other = record (no_change s) {
     places = (p.pid, Some (object.Process q)) ∷ (other.pid, Some (object.Process other)) ∷ [];
   }
 
@@ -187,7 +189,7 @@ module _ (a : Acceptance) (s : State) (p : Process) where
       code = onward;
       offers = s.next_name;
       base = Some shared;
-    })) { names = Some t })
+    })) { next_type = Some t })
 
   -- It releases v, whose provider stands at `detach`: that process goes on at mode S under its base, to which r refers.
   abbrev pub releases : VarId → VarId → CodeId → Option Change
@@ -222,7 +224,7 @@ module _ (a : Acceptance) (s : State) (p : Process) where
   abbrev pub hands_over_lists : List ValueArg → Process → Process
   hands_over_lists [] q = q
   hands_over_lists (arg.Term e ∷ args) q = hands_over_lists args q
-  hands_over_lists (arg.List w ∷ args) q = hands_over_lists args (without_list w q)
+  hands_over_lists (arg.List w ∷ args) q = hands_over_lists args (list_used_up w q)
 
   -- It spawns a process of the declaration, which offers the next name. What that has in its purse it has from its
   -- parent: the declared potential, and that of the lists that are handed over.
@@ -232,30 +234,33 @@ module _ (a : Acceptance) (s : State) (p : Process) where
       let rest : Process = hands_over_all args.channels (hands_over_lists args.values p) in
       record (alone (standing_at next (with_channel v s.next_name (poorer child.purse rest)))) {
         comes = Some (object.Process child);
-        names = Some d.offers;
+        next_type = Some d.offers;
       }
 
-  -- It goes on at the start of the declaration, with what that is given alone, and with its own name and purse.
+  -- It goes on at the start of the declaration, with the parameters alone, `me` among them, and with its own name and
+  -- purse.
   abbrev pub calls : ProcDecl → Given → Change
   calls d g =
       let fresh : Process = begins d g p.pid p.offers 0 p.payer in
       alone (record p { code = d.first; values = fresh.values; lists = fresh.lists; channels = fresh.channels })
 
-  -- a list with one more element, which the process pays for; one that would be too heavy is a fault
+  -- ---- lists that carry potential
+
+  -- a list with one more element, for which the process pays; one that would be too heavy is a fault
   abbrev pub adds : VarId → VarId → CodeId → Value → Option Deed
   adds v w next x = do
     l ← bound_to w.0 p.lists
-    if is_light (longer x l) then
+    if is_light (lengthened x l) then
         option_map changes (where_it_has l.amount p (Some (alone
-        (standing_at next (with_list v (longer x l) (without_list w p)))))) else
-        Some (faults fault.ListLength)
+        (standing_at next (with_list v (lengthened x l) (list_used_up w p)))))) else
+        Some (has_fault fault.ListLength)
 
   -- the list is used up: the first code where it is empty, and otherwise the second, with its head and its rest
-  abbrev pub takes_apart : VarId → CodeId → VarId → VarId → CodeId → Carried → List Value → Change
-  takes_apart w empty_next head tail full_next l [] = alone (standing_at empty_next (without_list w p))
+  abbrev pub takes_apart : VarId → CodeId → VarId → VarId → CodeId → PotentialList → List Value → Change
+  takes_apart w empty_next head tail full_next l [] = alone (standing_at empty_next (list_used_up w p))
   takes_apart w empty_next head tail full_next l (x ∷ xs) =
       alone (standing_at full_next
-      (with_value head x (with_list tail (record l { items = xs }) (without_list w p))))
+      (with_value head x (with_list tail (record l { items = xs }) (list_used_up w p))))
 
   -- ---- the table
 
@@ -263,50 +268,50 @@ module _ (a : Acceptance) (s : State) (p : Process) where
   does change = option_map changes change
 
   -- What an instruction comes to whose terms have these values.
-  abbrev pub row : List Value → CodeNode → Option Deed
-  row vs (code.Label _ c l next) =
+  abbrev pub deed_at : List Value → CodeNode → Option Deed
+  deed_at vs (code.Label _ c l next) =
       does (sends c (payload.Label l) 0 p (head_on a.program s.types p c >>= after_label l) next)
-  row vs (code.Case _ c arms) =
+  deed_at vs (code.Case _ c arms) =
       does (receives c (λ brought q. label_in brought >>= arm_for arms >>= λ next. Some (standing_at next q)))
-  row vs (code.Send _ c y next) = does (bound_to y.0 p.channels >>= λ name.
+  deed_at vs (code.Send _ c y next) = does (bound_to y.0 p.channels >>= λ name.
       sends c (payload.Channel name) 0 (hands_over y p) (head_on a.program s.types p c >>= after_channel) next)
-  row vs (code.Recv _ c y next) =
+  deed_at vs (code.Recv _ c y next) =
       does (receives c (λ brought q. channel_in brought >>= λ name. Some (standing_at next (with_channel y name q))))
-  row vs (code.Put _ c e next) = does (one_of vs >>= λ x.
+  deed_at vs (code.Put _ c e next) = does (one_of vs >>= λ x.
       sends c (payload.Value x) 0 p (head_on a.program s.types p c >>= after_value) next)
-  row vs (code.Take _ c v next) =
+  deed_at vs (code.Take _ c v next) =
       does (receives c (λ brought q. value_in brought >>= λ x. Some (standing_at next (with_value v x q))))
-  row vs (code.Pay _ c r next) =
+  deed_at vs (code.Pay _ c r next) =
       let gas : ℕ = dths a.annotations r in
       does (where_it_has gas p
       (sends c payload.Pay gas (poorer gas p) (head_on a.program s.types p c >>= after_potential) next))
-  row vs (code.Get _ c r next) =
+  deed_at vs (code.Get _ c r next) =
       does (receives c (λ brought q. potential_in brought >>= λ _. Some (standing_at next q)))
-  row vs (code.Work _ r next) =
+  deed_at vs (code.Work _ r next) =
       let gas : ℕ = dths a.annotations r in
       does (where_it_has gas p (Some (record (alone (standing_at next (poorer gas p))) { burnt = gas })))
-  row vs (code.Wait _ v next) = does (hears_end v next)
-  row vs (code.Accept _ next) = None
-  row vs (code.Detach _ next) = None
-  row vs (code.Acquire _ r v next) = does (acquires r v next)
-  row vs (code.Release _ v r next) = does (releases v r next)
-  row vs (code.Spawn _ v f args next) = do
+  deed_at vs (code.Wait _ v next) = does (hears_end v next)
+  deed_at vs (code.Accept _ next) = None
+  deed_at vs (code.Detach _ next) = None
+  deed_at vs (code.Acquire _ r v next) = does (acquires r v next)
+  deed_at vs (code.Release _ v r next) = does (releases v r next)
+  deed_at vs (code.Spawn _ v f args next) = do
     d ← slice_get a.program.procs f.0
     g ← given p vs args d
     does (where_it_has (dths a.annotations d.amount) p (Some (spawns v d args g next)))
-  row vs (code.Let _ v e next) = does (one_of vs >>= λ x. Some (alone (standing_at next (with_value v x p))))
-  row vs (code.Emit _ e next) =
+  deed_at vs (code.Let _ v e next) = does (one_of vs >>= λ x. Some (alone (standing_at next (with_value v x p))))
+  deed_at vs (code.Emit _ e next) =
       does (one_of vs >>= λ x. Some (record (alone (standing_at next p)) { emitted = (p.pid, x) ∷ [] }))
-  row vs (code.If _ e then_next else_next) =
+  deed_at vs (code.If _ e then_next else_next) =
       does (one_of vs >>= λ x. Some (alone (standing_at (if truth_in x then then_next else else_next) p)))
-  row vs (code.Close _) = Some (changes (closes p.mode))
-  row vs (code.Fwd _ v) = does (bound_to v.0 p.channels >>= λ name. Some (forwards name))
-  row vs (code.Call _ f args) = do
+  deed_at vs (code.Close _) = Some (changes (closes p.mode))
+  deed_at vs (code.Fwd _ v) = does (bound_to v.0 p.channels >>= λ name. Some (forwards name))
+  deed_at vs (code.Call _ f args) = do
     d ← slice_get a.program.procs f.0
     g ← given p vs args d
     does (where_it_has (dths a.annotations d.amount) p (Some (calls d g)))
-  row vs (code.Empty _ v r kind next) =
+  deed_at vs (code.Empty _ v r kind next) =
       Some (changes (alone (standing_at next (with_list v (empty_list (dths a.annotations r)) p))))
-  row vs (code.Add _ v e w next) = one_of vs >>= adds v w next
-  row vs (code.Match _ w empty_next head tail full_next) = does (bound_to w.0 p.lists >>= λ l.
+  deed_at vs (code.Add _ v e w next) = one_of vs >>= adds v w next
+  deed_at vs (code.Match _ w empty_next head tail full_next) = does (bound_to w.0 p.lists >>= λ l.
       Some (takes_apart w empty_next head tail full_next l l.items))

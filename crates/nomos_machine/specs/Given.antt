@@ -1,5 +1,5 @@
 -- What terms come to; what a declaration is given; a process at its start.
-use Rattle.std.specs.Prelude.{ℕ, ◌+◌, pos, List, [], ◌∷◌, ◌++◌, Option, Some, None, option_and_then, Result, Ok, Err}
+use Rattle.std.specs.Prelude.{ℕ, ◌+◌, pos, List, [], ◌∷◌, ◌++◌, Option, Some, None, Result, Ok, Err}
 use Rattle.nomos_ir.specs.Bindings.{bound_to, bindings_of}
 use Rattle.nomos_ir.specs.Evaluation.{Environment, Evaluation, ends, faults, term_evaluation}
 use Rattle.nomos_ir.specs.Value.{Value, int}
@@ -12,36 +12,36 @@ use Rattle.nomos_ir.specs.declared.fault.Fault.{Fault}
 use Rattle.nomos_ir.specs.declared.ids.TypeId.{TypeId}
 use Rattle.nomos_ir.specs.declared.ids.VarId.{VarId}
 use Rattle.nomos_ir.specs.declared.lists.ProgramLists.{ProgramLists}
+use Rattle.nomos_machine.specs.Optional.{◌>>=◌}
 use Rattle.nomos_machine.specs.Objects.{potential_of}
-use Rattle.nomos_machine.specs.Sight.{◌>>=◌}
-use Rattle.nomos_machine.specs.declared.object.Carried.{Carried}
+use Rattle.nomos_machine.specs.declared.object.PotentialList.{PotentialList}
 use Rattle.nomos_machine.specs.declared.object.Process.{Process}
 
 -- What an instruction's terms come to: their values in order, or the fault of the first that has one.
-abbrev pub Terms : Type 0
-Terms = Result (List Value) Fault
+abbrev pub TermValues : Type 0
+TermValues = Result (List Value) Fault
 
-abbrev pub before_others : Evaluation → Terms → Terms
-before_others (ends v n) (Ok vs) = Ok (v ∷ vs)
-before_others (ends v n) (Err f) = Err f
-before_others (faults f) others = Err f
+abbrev pub with_others : Evaluation → TermValues → TermValues
+with_others (ends v n) (Ok vs) = Ok (v ∷ vs)
+with_others (ends v n) (Err f) = Err f
+with_others (faults f) others = Err f
 
-abbrev pub terms_of : ProgramLists → Environment → List ℕ → Terms
-terms_of lists env [] = Ok []
-terms_of lists env (t ∷ ts) = before_others (term_evaluation lists env (record { 0 = t })) (terms_of lists env ts)
+abbrev pub values_of_terms : ProgramLists → Environment → List ℕ → TermValues
+values_of_terms lists env [] = Ok []
+values_of_terms lists env (t ∷ ts) = with_others (term_evaluation lists env (record { 0 = t })) (values_of_terms lists env ts)
 
 -- What a declaration is given: for each of its parameters a value, a list, or the name of a channel, each in the order
 -- of the parameters.
 pub record Given : Type 0 where
   pub values : List (VarId × Value)
-  pub lists : List (VarId × Carried)
+  pub lists : List (VarId × PotentialList)
   pub channels : List (VarId × ℕ)
 
 -- ---- from the arguments of a `spawn` or a `call`, where its terms have these values
 
 -- a value for each parameter whose argument is a term, and a list of the process for each of the others
 abbrev pub give_values : Process → List Value → List ValueArg → List Par
-    → Option (List (VarId × Value) × List (VarId × Carried))
+    → Option (List (VarId × Value) × List (VarId × PotentialList))
 give_values p [] [] [] = Some ([], [])
 give_values p (x ∷ vs) (arg.Term e ∷ args) (par ∷ pars) = do
   others ← give_values p vs args pars

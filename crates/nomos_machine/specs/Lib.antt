@@ -1,3 +1,4 @@
+pub mod Optional
 pub mod Objects
 pub mod State
 pub mod Change
@@ -9,9 +10,9 @@ pub mod Step
 pub mod Run
 pub mod Policies
 pub mod Starting
-pub mod Outside
 pub mod Paired
 pub mod Matching
 pub mod TypedMessage
+pub mod Outside
 pub mod TypedState
 pub mod Wrong

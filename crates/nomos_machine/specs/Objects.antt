@@ -1,5 +1,6 @@
 -- Objects, and what they do with names.
-use Rattle.std.specs.Prelude.{ℕ, ◌==◌, ◌+◌, ◌*◌, ◌-◌, Bool, List, [], ◌∷◌, ◌++◌, map, find, length, Option, Some, None, if◌then◌else◌, sum_by}
+use Rattle.std.specs.Prelude.{ℕ, ◌==◌, ◌*◌, ◌-◌, List, [], ◌∷◌, ◌++◌, map, find, length, Option, Some, None, if◌then◌else◌, sum_by}
+use Rattle.std.specs.Option.{option_to_list}
 use Rattle.nomos_ir.specs.Order.{count_of}
 use Rattle.nomos_ir.specs.declared.mode.Mode.{Mode}
 use Rattle.nomos_ir.specs.declared.mode.Mode.TheVariants as mode
@@ -11,20 +12,20 @@ use Rattle.nomos_machine.specs.declared.object.Payload.TheVariants as payload
 use Rattle.nomos_machine.specs.declared.object.Process.{Process}
 
 -- the number of an object
-abbrev pub number_of : Object → ℕ
-number_of (object.Process p) = p.pid
-number_of (object.Message m) = m.number
+abbrev pub object_number : Object → ℕ
+object_number (object.Process p) = p.pid
+object_number (object.Message m) = m.number
 
 -- what it carries, in Dths
 abbrev pub purse_of : Object → ℕ
 purse_of (object.Process p) = p.purse
 purse_of (object.Message m) = m.purse
 
--- what a process's lists carry: of each list, its amount for each of its elements
+-- the potential of a process's lists: of each its amount, for each of its elements
 abbrev pub potential_of : Process → ℕ
 potential_of p = sum_by (λ e. e.1.amount * length e.1.items) p.lists
 
--- what is left of its purse beside that
+-- what is left of its purse beside that; it is said only of processes whose purse covers their lists
 abbrev pub free_purse : Process → ℕ
 free_purse p = p.purse - potential_of p
 
@@ -36,48 +37,44 @@ abbrev pub message_of : Object → Option Message
 message_of (object.Process p) = None
 message_of (object.Message m) = Some m
 
--- what is there, as a list
-abbrev pub list_of : {X : Type 0} → Option X → List X
-list_of (Some x) = x ∷ []
-list_of None = []
-
 -- The name that an object provides. A process provides what it offers; a message to the client provides the name on
 -- which it is read, one to the provider the name under which the talk goes on.
 abbrev pub provided : Object → List ℕ
 provided (object.Process p) = p.offers ∷ []
-provided (object.Message m) = if m.to_client then m.from ∷ [] else list_of m.next
+provided (object.Message m) = if m.to_client then m.from ∷ [] else option_to_list m.next
 
 -- the other end of its talk, which a message uses
 abbrev pub talk_end : Message → List ℕ
-talk_end m = if m.to_client then list_of m.next else m.from ∷ []
+talk_end m = if m.to_client then option_to_list m.next else m.from ∷ []
 
 -- the channel that a message brings
 abbrev pub carried : Payload → List ℕ
 carried (payload.Channel name) = name ∷ []
 carried _ = []
 
--- the names that an object uses, each as often as it does: its channels, references among them
+-- The names that an object uses, each as often as it does: a process its channels, references among them; a message the
+-- other end of its talk and the channel that it brings.
 abbrev pub used : Object → List ℕ
 used (object.Process p) = map (λ e. e.1) p.channels
 used (object.Message m) = talk_end m ++ carried m.payload
 
 -- the name that it has as base
 abbrev pub based : Object → List ℕ
-based (object.Process p) = list_of p.base
+based (object.Process p) = option_to_list p.base
 based (object.Message m) = []
 
--- The shared name for which a process of this mode stands: what it offers at mode S, and its base at mode L, when it
--- was acquired.
+-- The shared name for which a process of this mode stands: what it offers at mode S, and at mode L, while it is acquired,
+-- its base.
 abbrev pub shared_of : Mode → ℕ → Option ℕ → List ℕ
 shared_of mode.S offers base = offers ∷ []
-shared_of mode.L offers base = list_of base
+shared_of mode.L offers base = option_to_list base
 shared_of _ offers base = []
 
-abbrev pub stands_for : Object → List ℕ
-stands_for (object.Process p) = shared_of p.mode p.offers p.base
-stands_for (object.Message m) = []
+abbrev pub shared_names : Object → List ℕ
+shared_names (object.Process p) = shared_of p.mode p.offers p.base
+shared_names (object.Message m) = []
 
--- all names that it has to do with
+-- all names that it provides, uses or has as base
 abbrev pub mentioned : Object → List ℕ
 mentioned o = provided o ++ used o ++ based o
 
@@ -87,4 +84,4 @@ times does objects name = sum_by (λ o. count_of name (does o)) objects
 
 -- the object of a number
 abbrev pub object_at : List Object → ℕ → Option Object
-object_at objects n = find (λ o. number_of o == n) objects
+object_at objects n = find (λ o. object_number o == n) objects

@@ -7,7 +7,7 @@ use Rattle.nomos_ir.specs.declared.code_node.Chan.{Chan}
 use Rattle.nomos_ir.specs.declared.code_node.Chan.TheVariants as chan
 use Rattle.nomos_ir.specs.declared.ids.CodeId.{CodeId}
 use Rattle.nomos_ir.specs.declared.ids.VarId.{VarId}
-use Rattle.nomos_machine.specs.declared.object.Carried.{Carried}
+use Rattle.nomos_machine.specs.declared.object.PotentialList.{PotentialList}
 use Rattle.nomos_machine.specs.declared.object.Object.{Object}
 use Rattle.nomos_machine.specs.declared.object.Object.TheVariants as object
 use Rattle.nomos_machine.specs.declared.object.Payload.{Payload}
@@ -35,11 +35,11 @@ abbrev pub with_value : VarId → Value → Process → Process
 with_value v x p = record p { values = bind v x p.values }
 
 -- a list is bound, and one is used up
-abbrev pub with_list : VarId → Carried → Process → Process
+abbrev pub with_list : VarId → PotentialList → Process → Process
 with_list v l p = record p { lists = bind v l p.lists }
 
-abbrev pub without_list : VarId → Process → Process
-without_list w p = record p { lists = unbind w.0 p.lists }
+abbrev pub list_used_up : VarId → Process → Process
+list_used_up w p = record p { lists = unbind w.0 p.lists }
 
 -- its purse has so many Dths more, or less
 abbrev pub richer : ℕ → Process → Process

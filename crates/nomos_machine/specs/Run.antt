@@ -1,7 +1,7 @@
 -- Runs, and which process is the next one that is ready.
 use Rattle.std.specs.Prelude.{ℕ, ◌<◌, List, [], ◌∷◌, Option, Some}
 use Rattle.nomos_types.specs.Acceptance.{Acceptance}
-use Rattle.nomos_machine.specs.Sight.{◌>>=◌}
+use Rattle.nomos_machine.specs.Optional.{◌>>=◌}
 use Rattle.nomos_machine.specs.State.{State}
 use Rattle.nomos_machine.specs.Step.{step, IsReady}
 

@@ -1,5 +1,5 @@
 -- What a firing finds, by scanning the objects.
-use Rattle.std.specs.Prelude.{ℕ, ◌==◌, ◌&&◌, not, Bool, true, false, List, [], ◌∷◌, find, Option, Some, None, option_and_then}
+use Rattle.std.specs.Prelude.{ℕ, ◌==◌, ◌&&◌, not, Bool, true, false, List, find, Option, Some, None}
 use Rattle.std.specs.Option.{option_map}
 use Rattle.std.specs.List.{list_any}
 use Rattle.nomos_ir.specs.Bindings.{bound_to}
@@ -16,17 +16,13 @@ use Rattle.nomos_ir.specs.declared.type_node.TypeNode.TheVariants as node
 use Rattle.nomos_types.specs.Branches.{goes_by}
 use Rattle.nomos_types.specs.Judgement.{is_shared_mode}
 use Rattle.nomos_types.specs.Modes.{parameter_mode}
-use Rattle.nomos_machine.specs.Objects.{number_of, process_of, message_of, used}
+use Rattle.nomos_machine.specs.Objects.{object_number, process_of, message_of, used}
+use Rattle.nomos_machine.specs.Optional.{◌>>=◌}
 use Rattle.nomos_machine.specs.State.{State, NameTypes, type_of, node_of}
 use Rattle.nomos_machine.specs.declared.object.Message.{Message}
 use Rattle.nomos_machine.specs.declared.object.Object.{Object}
 use Rattle.nomos_machine.specs.declared.object.Object.TheVariants as object
 use Rattle.nomos_machine.specs.declared.object.Process.{Process}
-
--- with what is there, if it is there
-infixl 10 ◌>>=◌
-abbrev pub ◌>>=◌ : {A B : Type 0} → Option A → (A → Option B) → Option B
-found >>= next = option_and_then next found
 
 -- whether the process provides the channel, so that what it sends there goes to the client
 abbrev pub is_own : Chan → Bool
@@ -34,9 +30,9 @@ is_own chan.Own = true
 is_own (chan.Var v) = false
 
 -- the present name of a channel of the process
-abbrev pub present : Process → Chan → Option ℕ
-present p chan.Own = Some p.offers
-present p (chan.Var v) = bound_to v.0 p.channels
+abbrev pub present_name : Process → Chan → Option ℕ
+present_name p chan.Own = Some p.offers
+present_name p (chan.Var v) = bound_to v.0 p.channels
 
 -- whether two ways are one
 abbrev pub same_way : Bool → Bool → Bool
@@ -66,11 +62,11 @@ user_of objects name = find (λ o. list_any (λ n. n == name) (used o)) objects
 
 -- The owner of a name: the number of the object that uses it.
 abbrev pub owner : State → ℕ → Option ℕ
-owner s name = option_map number_of (user_of s.objects name)
+owner s name = option_map object_number (user_of s.objects name)
 
 -- the node to which the type of a channel's present name unfolds
 abbrev pub head_on : ProgramLists → NameTypes → Process → Chan → Option TypeNode
-head_on lists types p c = present p c >>= node_of lists types
+head_on lists types p c = present_name p c >>= node_of lists types
 
 -- Whether a name is a shared one: the head of its type shows it.
 abbrev pub shows_shared : ProgramLists → Option TypeId → Bool

@@ -14,23 +14,23 @@ use Rattle.nomos_ir.specs.declared.type_node.TypeNode.TheVariants as node
 use Rattle.nomos_types.specs.Acceptance.{Acceptance}
 use Rattle.nomos_types.specs.Amount.{Annotations, dths}
 use Rattle.nomos_types.specs.Branches.{goes_by}
-use Rattle.nomos_machine.specs.Matching.{IsOfType}
+use Rattle.nomos_machine.specs.Matching.{NameHasType}
 use Rattle.nomos_machine.specs.State.{NameTypes, type_of}
 use Rattle.nomos_machine.specs.declared.object.Message.{Message}
 use Rattle.nomos_machine.specs.declared.object.Payload.{Payload}
 use Rattle.nomos_machine.specs.declared.object.Payload.TheVariants as payload
 
--- What may be read on a channel whose type unfolds to this node: to the client, where that is true, or to the provider;
--- what is brought; with how much gas; and the type with which the talk goes on, if it does.
+-- What a message may bring on a channel whose type unfolds to this node: whether it goes to the client, what it brings, with
+-- how much gas, and the type with which the talk goes on, if it does.
 pub data Brings (lists : ProgramLists) (x : Annotations) (types : NameTypes)
     : Bool → TypeNode → Payload → ℕ → Option TypeId → Type 0 where
   own_label : (branches : List Branch) (l : Label) (t : TypeId) → goes_by branches l ≡ Some t
       → Brings lists x types true (node.Plus branches) (payload.Label l) 0 (Some t)
   other_label : (branches : List Branch) (l : Label) (t : TypeId) → goes_by branches l ≡ Some t
       → Brings lists x types false (node.With branches) (payload.Label l) 0 (Some t)
-  own_channel : (sent t : TypeId) (name : ℕ) → IsOfType lists x types name sent
+  own_channel : (sent t : TypeId) (name : ℕ) → NameHasType lists x types name sent
       → Brings lists x types true (node.Tensor sent t) (payload.Channel name) 0 (Some t)
-  other_channel : (sent t : TypeId) (name : ℕ) → IsOfType lists x types name sent
+  other_channel : (sent t : TypeId) (name : ℕ) → NameHasType lists x types name sent
       → Brings lists x types false (node.Lolli sent t) (payload.Channel name) 0 (Some t)
   own_value : (kind : Kind) (t : TypeId) (v : Value) → ValueHasKind v kind
       → Brings lists x types true (node.ValueOut kind t) (payload.Value v) 0 (Some t)
@@ -44,7 +44,7 @@ pub data Brings (lists : ProgramLists) (x : Annotations) (types : NameTypes)
 
 -- the next name has a type that is alike to this one, or there is neither
 abbrev pub GoesOnAt : ProgramLists → Annotations → NameTypes → Option ℕ → Option TypeId → Type 0
-GoesOnAt lists x types (Some name) (Some t) = IsOfType lists x types name t
+GoesOnAt lists x types (Some name) (Some t) = NameHasType lists x types name t
 GoesOnAt lists x types None None = Unit {0}
 GoesOnAt lists x types _ _ = ⊥
 

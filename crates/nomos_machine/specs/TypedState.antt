@@ -5,7 +5,6 @@ use Rattle.std.specs.List.Sorted.{IsStrictlySortedBy}
 use Rattle.nomos_ir.specs.Bindings.{IsAscending, bound_to}
 use Rattle.nomos_ir.specs.Order.{count_of}
 use Rattle.nomos_ir.specs.declared.ids.TypeId.{TypeId}
-use Rattle.nomos_ir.specs.declared.lists.ProgramLists.{ProgramLists}
 use Rattle.nomos_ir.specs.declared.mode.Mode.{Mode}
 use Rattle.nomos_ir.specs.declared.mode.Mode.TheVariants as mode
 use Rattle.nomos_types.specs.Acceptance.{Acceptance}
@@ -13,7 +12,7 @@ use Rattle.nomos_types.specs.Judgement.{count_one}
 use Rattle.nomos_types.specs.Modes.{HasMode}
 use Rattle.nomos_types.specs.Synchronizing.{IsSynchronizingAt}
 use Rattle.nomos_machine.specs.Matching.{ProcessTyped}
-use Rattle.nomos_machine.specs.Objects.{number_of, provided, used, stands_for, mentioned, talk_end, times}
+use Rattle.nomos_machine.specs.Objects.{object_number, provided, used, shared_names, mentioned, talk_end, times}
 use Rattle.nomos_machine.specs.State.{State, NameTypes, type_of}
 use Rattle.nomos_machine.specs.TypedMessage.{MessageTyped}
 use Rattle.nomos_machine.specs.declared.object.Message.{Message}
@@ -37,11 +36,11 @@ HasVariables (object.Message m) = Unit {0}
 
 pub record Numbered (s : State) : Type 0 where
   -- objects stand in order of number, each number once, all from 1 to below the next one
-  pub ascending : IsStrictlySortedBy nat_cmp (map number_of s.objects)
-  pub over : All (λ o. 0 < number_of o) s.objects
-  pub below : All (λ o. number_of o < s.next_object) s.objects
+  pub ascending : IsStrictlySortedBy nat_cmp (map object_number s.objects)
+  pub over : All (λ o. 0 < object_number o) s.objects
+  pub below : All (λ o. object_number o < s.next_object) s.objects
   pub next : 0 < s.next_object
-  -- so do the names in the table of types
+  -- the names in the table of types ascend, each once, all below the next one
   pub table : IsStrictlySortedBy nat_cmp (map (λ t. t.0) s.types)
   pub names : All (λ t. t.0 < s.next_name) s.types
   -- exactly the names that objects mention have a type
@@ -59,40 +58,31 @@ IsOwned mode.L s name =
     (times provided s.objects name ≡ 1) × (times used s.objects name ≡ 1) × (count_of name s.outside ≡ 0)
 IsOwned mode.T s name =
     (times provided s.objects name ≡ 1) × (times used s.objects name ≡ 0) × (count_of name s.outside ≡ 0)
-IsOwned mode.S s name = (times stands_for s.objects name ≡ 1) × (count_of name s.outside ≡ 0)
-
--- a process offers a name of its own mode, and has a base, which is a shared name, exactly at mode L
-pub record HasBase (lists : ProgramLists) (types : NameTypes) (p : Process) : Type 0 where
-  pub own_mode : (t : TypeId) → type_of types p.offers ≡ Some t → HasMode lists t p.mode
-  pub base : IsSome p.base ↔ (p.mode ≡ mode.L)
-  pub shared : (b : ℕ) → p.base ≡ Some b → (t : TypeId) × (type_of types b ≡ Some t) × HasMode lists t mode.S
+IsOwned mode.S s name = (times shared_names s.objects name ≡ 1) × (count_of name s.outside ≡ 0)
 
 -- ---- each object by itself
 
-pub record ProcessStands (a : Acceptance) (types : NameTypes) (accounts : ℕ) (p : Process) : Type 0 where
-  pub typed : ProcessTyped a types accounts p
-  pub base : HasBase a.program types p
-
 -- where names have these types, and there are so many accounts
 abbrev pub ObjectTyped : Acceptance → NameTypes → ℕ → Object → Type 0
-ObjectTyped a types accounts (object.Process p) = ProcessStands a types accounts p
+ObjectTyped a types accounts (object.Process p) = ProcessTyped a types accounts p
 ObjectTyped a types accounts (object.Message m) = MessageTyped a types m
 
 -- ---- critical sections
 
 -- From the name one comes to a process of mode L with this base: the provider of the name is that process, or it is a
 -- message, and one goes on from the end of its talk that it uses.
-pub data Leads (objects : List Object) (base : ℕ) : ℕ → Type 0 where
-  ends : (p : Process) → Contains objects (object.Process p) → p.mode ≡ mode.L → p.base ≡ Some base
-      → Leads objects base p.offers
+pub data LeadsToBase (objects : List Object) (base : ℕ) : ℕ → Type 0 where
+  at_base : (p : Process) → Contains objects (object.Process p) → p.mode ≡ mode.L → p.base ≡ Some base
+      → LeadsToBase objects base p.offers
   further : (m : Message) (name onward : ℕ) → Contains objects (object.Message m)
-      → Contains (provided (object.Message m)) name → Contains (talk_end m) onward → Leads objects base onward
-      → Leads objects base name
+      → Contains (provided (object.Message m)) name → Contains (talk_end m) onward → LeadsToBase objects base onward
+      → LeadsToBase objects base name
 
--- the talk on a name of mode L comes from an acquired contract, and ends as that was acquired
+-- The talk on a name of mode L comes from an acquired contract, and each `down` that it can reach goes back to the type of
+-- that contract.
 pub record InSection (a : Acceptance) (s : State) (name : ℕ) (t : TypeId) : Type 0 where
   pub base : ℕ
-  pub leads : Leads s.objects base name
+  pub leads : LeadsToBase s.objects base name
   pub shared : TypeId
   pub found : type_of s.types base ≡ Some shared
   pub synchronizing : IsSynchronizingAt a.program a.annotations t shared
@@ -109,8 +99,7 @@ pub record IsTyped (a : Acceptance) (s : State) : Type 0 where
   pub sections : (name : ℕ) (t : TypeId) → type_of s.types name ≡ Some t → HasMode a.program t mode.L
       → InSection a s name t
 
--- A name that a contract may have: one whose type has mode S. The machine knows of no contracts, and takes no such name
--- away.
+-- a name that a contract may have: one whose type has mode S; the machine knows of no contracts
 pub record IsContractName (a : Acceptance) (s : State) (name : ℕ) : Type 0 where
   pub own : TypeId
   pub found : type_of s.types name ≡ Some own

@@ -10,13 +10,13 @@ pub type VarValues = Items<(VarId, Value)>;
 
 /// A list that carries potential: its elements, and what each of them carries, in Dths.
 #[derive(Drop, Debug)]
-pub struct Carried {
+pub struct PotentialList {
     pub amount: u64,
     pub items: Values,
 }
 
 /// Variables with their lists that carry potential.
-pub type VarLists = Items<(VarId, Carried)>;
+pub type VarLists = Items<(VarId, PotentialList)>;
 
 /// Variables with the present names of their channels.
 pub type VarNames = Items<(VarId, u32)>;

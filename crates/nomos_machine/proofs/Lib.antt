@@ -1,0 +1,6 @@
+pub mod PlaceLaws
+pub mod ChangeLaws
+pub mod NameLaws
+pub mod GasLaws
+pub mod ObjectLaws
+pub mod FitLaws
