@@ -3,13 +3,15 @@ pub mod ArgumentsExamples
 pub mod ArgumentsLaws
 pub mod BranchLemmas
 pub mod CoveringLaws
-pub mod CoveringRows
+pub mod CoveringRowLaws
 pub mod Declared
 pub mod DerivationLaws
 pub mod EqualityExamples
 pub mod EqualityLaws
 pub mod FollowingLaws
 pub mod HeadLaws
+pub mod HeadsOverLaws
+pub mod InversionLaws
 pub mod JudgementLaws
 pub mod JudgementParts
 pub mod LeastLemmas
@@ -21,8 +23,10 @@ pub mod Nodes
 pub mod OccurrenceLaws
 pub mod OffenceLaws
 pub mod OffenceLemmas
+pub mod PremisesOverLaws
 pub mod RowExampleProgram
 pub mod RowExamples
 pub mod RowLaws
+pub mod RowsOverLaws
 pub mod StartLaws
 pub mod UniqueRowLaws
