@@ -23,6 +23,7 @@ pub mod Nodes
 pub mod OccurrenceLaws
 pub mod OffenceLaws
 pub mod OffenceLemmas
+pub mod PlaceLaws
 pub mod PremisesOverLaws
 pub mod RowExampleProgram
 pub mod RowExamples
