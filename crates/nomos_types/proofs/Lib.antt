@@ -1,6 +1,7 @@
 pub mod AlikeLaws
 pub mod ArgumentsExamples
 pub mod ArgumentsLaws
+pub mod AsideLaws
 pub mod BranchLemmas
 pub mod CoveringLaws
 pub mod CoveringRowLaws
