@@ -2,7 +2,7 @@ pub mod AlikeLaws
 pub mod ArgumentsExamples
 pub mod ArgumentsLaws
 pub mod AsideLaws
-pub mod BranchLemmas
+pub mod BranchLaws
 pub mod CoveringLaws
 pub mod CoveringRowLaws
 pub mod Declared
@@ -31,4 +31,5 @@ pub mod RowExamples
 pub mod RowLaws
 pub mod RowsOverLaws
 pub mod StartLaws
+pub mod SynchronizingLaws
 pub mod UniqueRowLaws
