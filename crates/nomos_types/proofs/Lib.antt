@@ -32,4 +32,5 @@ pub mod RowLaws
 pub mod RowsOverLaws
 pub mod StartLaws
 pub mod SynchronizingLaws
+pub mod ToldModeLaws
 pub mod UniqueRowLaws
