@@ -24,6 +24,7 @@ pub mod Nodes
 pub mod OccurrenceLaws
 pub mod OffenceLaws
 pub mod OffenceLemmas
+pub mod PassedLaws
 pub mod PlaceLaws
 pub mod PremisesOverLaws
 pub mod RowExampleProgram
