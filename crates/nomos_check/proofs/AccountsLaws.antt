@@ -10,6 +10,7 @@ use Rattle.nomos_types.specs.Equality.{no_amounts}
 use Rattle.nomos_types.specs.Judgement.{Judgement, IsJudgement, start_of}
 use Rattle.nomos_types.specs.Typed.{IsWellFormed}
 use Rattle.nomos_types.proofs.DerivationLaws.{derives-next}
+use Rattle.nomos_types.proofs.InversionLaws.{derives-row}
 use Rattle.nomos_types.proofs.StartLaws.{start-is_judgement}
 use Rattle.nomos_check.specs.Account.{Account, start_account, spends, Affords}
 use Rattle.nomos_check.specs.Accounting.{accounts_after}
@@ -20,7 +21,6 @@ use Rattle.nomos_check.proofs.AskedLaws.{asked-worth, call-affords}
 use Rattle.nomos_check.proofs.Beside.{Beside, at-place}
 use Rattle.nomos_check.proofs.Carrying.{Provides, each-beside, no-dths, no-affords, start-beside, next-is_judgement, derivation-carried}
 use Rattle.nomos_check.proofs.ListLemmas.{paired-first}
-use Rattle.nomos_check.proofs.StuckLaws.{derives-row}
 
 -- The law of rows over accounts.
 abbrev pub DerivesByAccounts : ProgramLists → ProcDecl → Annotations → Type 0

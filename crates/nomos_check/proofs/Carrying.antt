@@ -18,6 +18,7 @@ use Rattle.nomos_types.specs.Row.{Row, StandsAtCode}
 use Rattle.nomos_types.specs.Typed.{IsWellFormed}
 use Rattle.nomos_types.proofs.AlikeLaws.{alike-same}
 use Rattle.nomos_types.proofs.DerivationLaws.{derives-next}
+use Rattle.nomos_types.proofs.InversionLaws.{derives-row, row-descends}
 use Rattle.nomos_types.proofs.JudgementLaws.{row-keeps_judgement}
 use Rattle.nomos_types.proofs.RowLaws.{row-at}
 use Rattle.nomos_types.proofs.UniqueRowLaws.{row-unique}
@@ -28,7 +29,6 @@ use Rattle.nomos_check.proofs.Beside.{Beside, EachBeside, behind, stands}
 use Rattle.nomos_check.proofs.BesideRows.{MeetsNeeds, row-carried}
 use Rattle.nomos_check.proofs.ListAmounts.{start-both}
 use Rattle.nomos_check.proofs.RowMaking.{row-made}
-use Rattle.nomos_check.proofs.StuckLaws.{derives-row, row-descends}
 
 -- ---- amounts that are all 0
 

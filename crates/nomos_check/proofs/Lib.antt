@@ -18,7 +18,6 @@ pub mod GatherLemmas
 pub mod GivingSteps
 pub mod GoingLemmas
 pub mod HalvesExample
-pub mod HeadsOver
 pub mod LeadLemmas
 pub mod LeavingLemmas
 pub mod LimitLemmas
@@ -33,11 +32,9 @@ pub mod PassingSteps
 pub mod PlaceLemmas
 pub mod PlacesLemmas
 pub mod PremiseLemmas
-pub mod PremisesOver
 pub mod ReachingLaws
 pub mod RowMaking
 pub mod RowsLaws
-pub mod RowsOver
 pub mod SendSteps
 pub mod SideLaws
 pub mod SizeLaws

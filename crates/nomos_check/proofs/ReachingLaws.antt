@@ -11,6 +11,7 @@ use Rattle.nomos_types.specs.Equality.{no_amounts}
 use Rattle.nomos_types.specs.Judgement.{Judgement, IsJudgement, start_of}
 use Rattle.nomos_types.specs.Row.{Row}
 use Rattle.nomos_types.specs.Typed.{IsWellFormed}
+use Rattle.nomos_types.proofs.InversionLaws.{row-descends}
 use Rattle.nomos_types.proofs.RowLaws.{row-at}
 use Rattle.nomos_types.proofs.StartLaws.{start-is_judgement}
 use Rattle.nomos_types.proofs.UniqueRowLaws.{row-unique}
@@ -23,7 +24,6 @@ use Rattle.nomos_check.proofs.Carrying.{each-beside, next-is_judgement, start-be
 use Rattle.nomos_check.proofs.CodeOnceLemmas.{one-behind, one-at_place}
 use Rattle.nomos_check.proofs.ListAmounts.{keys-both}
 use Rattle.nomos_check.proofs.ListLemmas.{paired-first}
-use Rattle.nomos_check.proofs.StuckLaws.{row-descends}
 
 -- the parts of pairs that are the same
 pair-parts : (j k : Judgement) (a b : Account) → ◌≡◌ {A = Judgement × Account} (j, a) (k, b) → (j ≡ k) × (a ≡ b)

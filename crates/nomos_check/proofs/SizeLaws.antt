@@ -22,6 +22,7 @@ use Rattle.nomos_ir.specs.Program.{IsProgram}
 use Rattle.nomos_ir.proofs.NodeLaws.{All-at}
 use Rattle.nomos_forms.specs.Bounds.{IsSmall, IsForm}
 use Rattle.nomos_forms.specs.RowsOf.{share_of, units_in}
+use Rattle.nomos_types.proofs.InversionLaws.{row-descends}
 use Rattle.nomos_types.specs.Judgement.{Judgement}
 use Rattle.nomos_types.specs.Typed.{IsWellFormed}
 use Rattle.nomos_check.specs.Account.{Account, shares, form_of}
@@ -30,7 +31,6 @@ use Rattle.nomos_check.specs.Reaching.{GetsTo, IsPoint}
 use Rattle.nomos_check.specs.Reaching as reaching
 use Rattle.nomos_check.proofs.AmountLaws.{HasAmountsOf, point-amounts}
 use Rattle.nomos_check.proofs.ListLemmas.{paired-first, paired-second}
-use Rattle.nomos_check.proofs.StuckLaws.{row-descends}
 
 -- how many amounts were gained and spent
 abbrev pub amount_count : Account → ℕ

@@ -1,73 +1,17 @@
 -- A declaration has a skeleton exactly where no instruction of it is stuck.
-use Rattle.std.proofs.Common.{◌≡◌, ◌<◌, ℕ, zero, suc, List, map, length, Contains, Some, slice_get, subst, ap, ◌∙◌, arith}
-use Rattle.std.proofs.lemmas.List.Elements.{All-contains}
-use Rattle.std.proofs.lemmas.List.{get_or-map, length-map}
+use Rattle.std.proofs.Common.{◌≡◌, ◌<◌, ℕ, zero, suc, Some, slice_get, arith}
 use Rattle.nomos_ir.specs.declared.declaration.ProcDecl.{ProcDecl}
 use Rattle.nomos_ir.specs.declared.lists.ProgramLists.{ProgramLists}
-use Rattle.nomos_ir.specs.CodeParts.{code_next}
 use Rattle.nomos_types.proofs.AlikeLaws.{alike-same}
-use Rattle.nomos_types.proofs.CoveringLaws.{Covers}
 use Rattle.nomos_types.proofs.DerivationLaws.{derives-following}
-use Rattle.nomos_types.proofs.FollowingLaws.{place, row-places}
+use Rattle.nomos_types.proofs.FollowingLaws.{place}
+use Rattle.nomos_types.proofs.InversionLaws.{alike-covers, derives-row, row-descends}
 use Rattle.nomos_types.proofs.JudgementLaws.{follows-is_judgement}
-use Rattle.nomos_types.proofs.RowLaws.{row-at}
-use Rattle.nomos_types.specs.Alike.{Alike}
-use Rattle.nomos_types.specs.Amount.{Annotations}
+use Rattle.nomos_types.proofs.RowsOverLaws.{HasRow, row-covers}
 use Rattle.nomos_types.specs.Derivation.{Derives, by_row, Follows, HasSkeleton, IsStuck}
 use Rattle.nomos_types.specs.Equality.{no_amounts}
-use Rattle.nomos_types.specs.Judgement.{Judgement, start_of, with_potential}
-use Rattle.nomos_types.specs.Row.{Row}
+use Rattle.nomos_types.specs.Judgement.{Judgement, start_of}
 use Rattle.nomos_types.specs.Typed.{IsWellFormed}
-use Rattle.nomos_check.proofs.RowsOver.{HasRow, row-covers}
-
-module _ {lists : ProgramLists} {x : Annotations} where
-  -- judgements that are alike cover one another
-  pub alike-covers : {j k : Judgement} → Alike lists x j k → Covers lists x j k
-  alike-covers alike =
-      record {
-        mode = alike.mode;
-        kinds = alike.kinds;
-        same_lists = alike.same_lists;
-        shared = alike.shared;
-        linear =
-            alike.linear;
-        q = omega (arith, alike.q);
-        code = alike.code;
-        offers = alike.offers;
-      }
-
-  -- a row applies to a judgement that has a derivation
-  pub derives-row : {j : Judgement} → IsWellFormed lists → Derives lists x j → HasRow lists x j
-  derives-row {j} formed (by_row k q after alike enough row each) =
-      let covers : Covers lists x j (with_potential k q) = record {
-        mode = alike.mode;
-        kinds = alike.kinds;
-        same_lists
-            = alike.same_lists;
-        shared = alike.shared;
-        linear = alike.linear;
-        q = omega
-            (arith, alike.q);
-        code = alike.code;
-        offers = alike.offers;
-      } in
-      row-covers formed covers row
-
--- what an element is mapped to is among the mapped
-contains-mapped : {X Y : Type 0} (f : X → Y) (xs : List X) (x : X) → Contains xs x → Contains (map f xs) (f x)
-contains-mapped f xs x there =
-    let inside : there.0 < length (map f xs) = rw length-map there.1 in
-    (there.0, inside, get_or-map f xs there.0 x (f x) there.1 ∙ ap f there.2)
-
--- a row leads to an instruction with a lower number
-pub row-descends : {lists : ProgramLists} {x : Annotations} {j k : Judgement} {after : List Judgement}
-    → IsWellFormed lists → Row lists x j after → Contains after k → place k < place j
-row-descends {lists} {x} {j} {k} {after} formed row among =
-    let (n, there, says) = row-at row in
-    let to : Contains (map place after) (place k) = contains-mapped place after k among in
-    let next : Contains (code_next n) (place k) = subst (λ (ns : List ℕ). Contains ns (place k))
-    (row-places lists x j after n says) to in
-    All-contains (λ (m : ℕ). m < place j) (code_next n) (place k) (formed.program.parts.code (place j) n there) next
 
 module _ {lists : ProgramLists} {d : ProcDecl} (p : ℕ) (formed : IsWellFormed lists)
     (declared : slice_get lists.procs p ≡ Some d) where

@@ -11,6 +11,7 @@ use Rattle.nomos_ir.specs.Amounts.{star_count, amounts_of}
 use Rattle.nomos_ir.specs.Ids.{ProcInRange}
 use Rattle.nomos_forms.specs.declared.form.Form.{Form}
 use Rattle.nomos_forms.specs.Bounds.{IsForm}
+use Rattle.nomos_types.proofs.InversionLaws.{row-descends}
 use Rattle.nomos_types.specs.Judgement.{Judgement}
 use Rattle.nomos_types.specs.Typed.{IsWellFormed}
 use Rattle.nomos_check.proofs.AmountLaws.{reached-amounts}
@@ -18,7 +19,6 @@ use Rattle.nomos_check.proofs.LimitLemmas.{is-amount}
 use Rattle.nomos_check.proofs.ListLemmas.{paired-first}
 use Rattle.nomos_check.proofs.ReachingLaws.{stands-reached}
 use Rattle.nomos_check.proofs.SizeLaws.{point-is_form}
-use Rattle.nomos_check.proofs.StuckLaws.{row-descends}
 use Rattle.nomos_check.specs.Account.{Account}
 use Rattle.nomos_check.specs.Accounting.{accounts_after}
 use Rattle.nomos_check.specs.Reaching.{GetsTo, IsPoint}

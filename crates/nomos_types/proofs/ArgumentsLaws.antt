@@ -60,7 +60,7 @@ passes-channels_left h (channel first others) =
     left-through after (passes-channels_left after.judgement others)
 
 -- a value or a list passes
-passes-value_left : {lists : ProgramLists} {x : Annotations} {j : Judgement} {a : ValueArg} {par : Par} {k : Judgement}
+pub passes-value_left : {lists : ProgramLists} {x : Annotations} {j : Judgement} {a : ValueArg} {par : Par} {k : Judgement}
     → IsJudgement lists j → PassesValue lists x j a par k → LeavesJudgement lists j k
 passes-value_left h (term no_list kind) = left-whole h
 passes-value_left {j = j} h (list {w = w} amount its_amount found) =
@@ -72,7 +72,7 @@ passes-value_left {j = j} h (list {w = w} amount its_amount found) =
     }
 
 -- values and lists pass
-passes-values_left : {lists : ProgramLists} {x : Annotations} {j k : Judgement} {args : List ValueArg} {pars : List Par}
+pub passes-values_left : {lists : ProgramLists} {x : Annotations} {j k : Judgement} {args : List ValueArg} {pars : List Par}
     → IsJudgement lists j → PassesValues lists x j args pars k → LeavesJudgement lists j k
 passes-values_left h none = left-whole h
 passes-values_left h (value first others) =

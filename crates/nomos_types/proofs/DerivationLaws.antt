@@ -5,7 +5,7 @@ use Rattle.nomos_ir.specs.declared.code_node.CodeNode.{CodeNode}
 use Rattle.nomos_ir.specs.declared.lists.ProgramLists.{ProgramLists}
 use Rattle.nomos_types.proofs.AlikeLaws.{alike-through}
 use Rattle.nomos_types.proofs.CoveringLaws.{Covers, CoversEach, none, more}
-use Rattle.nomos_types.proofs.CoveringRows.{rows-cover}
+use Rattle.nomos_types.proofs.CoveringRowLaws.{rows-cover}
 use Rattle.nomos_types.proofs.RowLaws.{row-at, row-inverted}
 use Rattle.nomos_types.specs.Alike.{Alike}
 use Rattle.nomos_types.specs.Amount.{Annotations}

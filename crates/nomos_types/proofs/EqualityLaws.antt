@@ -19,7 +19,7 @@ use Rattle.nomos_ir.proofs.UnfoldLaws.{Unfolds-unique}
 use Rattle.nomos_types.specs.Amount.{Annotations, dths}
 use Rattle.nomos_types.specs.Branches.{goes_by}
 use Rattle.nomos_types.specs.Equality.{BothOrNeither, both, neither, SameBranches, SameHead, one, plus, with, tensor, lolli, value_out, value_in, pot_out, pot_in, up, down, SameUnfolding, Agree, EqualTypes, EqualShapes, no_amounts}
-use Rattle.nomos_types.proofs.BranchLemmas.{goes-all}
+use Rattle.nomos_types.proofs.BranchLaws.{goes-all}
 use Rattle.nomos_types.proofs.Nodes.{type_node-in_range, named-below, element-there, type_node-there, named-unfolds}
 
 -- ---- both or neither

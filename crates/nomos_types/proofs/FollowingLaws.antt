@@ -1,5 +1,5 @@
 -- At a place one judgement follows from a start.
-use Rattle.std.proofs.Common.{◌≡◌, ◌≤◌, ℕ, List, [], ◌∷◌, ◌++◌, map, Contains, Some, slice_get, refl, subst, sym, ap, ◌∙◌, arith}
+use Rattle.std.proofs.Common.{◌≡◌, ◌≤◌, ◌+◌, ℕ, List, [], ◌∷◌, map, Contains, Some, slice_get, refl, subst, sym, ap, ◌∙◌, arith}
 use Rattle.std.specs.List.{flat_map}
 use Rattle.nomos_ir.specs.declared.code_node.Arm.{Arm}
 use Rattle.nomos_ir.specs.declared.code_node.Chan.{Chan}
@@ -22,9 +22,10 @@ use Rattle.nomos_types.proofs.RowLaws.{RowAt, row-at}
 use Rattle.nomos_types.proofs.UniqueRowLaws.{row-unique}
 use Rattle.nomos_types.specs.Amount.{Annotations}
 use Rattle.nomos_types.specs.Derivation.{Follows}
-use Rattle.nomos_types.specs.Judgement.{Judgement, goes_on, binds_channel}
+use Rattle.nomos_types.specs.Judgement.{Judgement, goes_on, binds_channel, start_of}
+use Rattle.nomos_types.specs.Places.{IsCodeOf, IsPlace}
 use Rattle.nomos_types.specs.Premises.{ArmsGoOn}
-use Rattle.nomos_types.specs.Row.{Row, StandsAtCode}
+use Rattle.nomos_types.specs.Row.{Row}
 
 -- the number of the instruction at which a judgement stands
 abbrev pub place : Judgement → ℕ
@@ -92,14 +93,14 @@ nexts lists = flat_map code_next lists.code
 abbrev firsts : ProgramLists → List ℕ
 firsts lists = map (λ d. d.first.0) lists.procs
 
--- the node with which a row goes on to a judgement
-record LedBy (lists : ProgramLists) (j k : Judgement) : Type 0 where
+-- the node with which one instruction goes on to another
+record LedBy (lists : ProgramLists) (at next : ℕ) : Type 0 where
   node : CodeNode
-  there : StandsAtCode lists j node
-  among : Contains (code_next node) (place k)
+  there : slice_get lists.code at ≡ Some node
+  among : Contains (code_next node) next
 
 led-by : {lists : ProgramLists} {x : Annotations} {j k : Judgement} (after : List Judgement) → Row lists x j after
-    → Contains after k → LedBy lists j k
+    → Contains after k → LedBy lists (place j) (place k)
 led-by {lists} {x} {j} {k} after row among =
     let (n, there, says) = row-at row in
     let to : Contains (map place after) (place k) = contains-map place after k (place k) among refl in
@@ -109,36 +110,50 @@ led-by {lists} {x} {j} {k} after row among =
       among = subst (λ (ns : List ℕ). Contains ns (place k)) (row-places lists x j after n says) to;
     }
 
--- what a row goes on to stands after a code node
-led-counted : {lists : ProgramLists} {j k : Judgement} → LedBy lists j k → 1 ≤ count_of (place k) (nexts lists)
-led-counted {lists} {j} {k} led =
-    let here = counted (place k) (code_next led.node) led.among in
-    omega (arith, count-part code_next (place k) lists.code (place j) led.node led.there)
+-- so it stands after a code node
+led-counted : {lists : ProgramLists} {at next : ℕ} → LedBy lists at next → 1 ≤ count_of next (nexts lists)
+led-counted {lists} {at} {next} led =
+    let here = counted next (code_next led.node) led.among in
+    omega (arith, count-part code_next next lists.code at led.node led.there)
 
 module _ {lists : ProgramLists} (is_program : IsProgram lists) where
-  -- no row goes on to where a declaration begins
-  not-first : {j k : Judgement} (p : ℕ) (d : ProcDecl) → slice_get lists.procs p ≡ Some d → LedBy lists j k
-      → place k ≡ d.first.0 → ⊥
-  not-first {j} {k} p d declared led same =
-      let first : Contains (firsts lists) (place k) = contains-map (λ (e : ProcDecl). e.first.0) lists.procs d (place k)
-      (contains-found lists.procs p d declared) (sym same) in
-      let at_first : 1 ≤ count_of (place k) (firsts lists) = counted (place k) (firsts lists) first in
-      let after_node : 1 ≤ count_of (place k) (nexts lists) = led-counted led in
-      let once : count_of (place k) (nexts lists ++ firsts lists) ≤ 1 = is_program.code (place k) in
-      omega (arith, count-append (place k) (nexts lists) (firsts lists))
+  -- an instruction stands after one node at most, or begins one declaration
+  once-placed : (at : ℕ) → count_of at (nexts lists) + count_of at (firsts lists) ≤ 1
+  once-placed at = omega (arith, is_program.code at, count-append at (nexts lists) (firsts lists))
 
-  -- rows that go on to one place stand at one place
-  same-place : {i j k l : Judgement} → LedBy lists i k → LedBy lists j l → place k ≡ place l → i.code ≡ j.code
-  same-place {i} {j} {k} {l} led led_too same =
-      let once : count_of (place k) (nexts lists ++ firsts lists) ≤ 1 = is_program.code (place k) in
-      let among_there : Contains (code_next led_too.node) (place k) =
+  -- no instruction goes on to where a declaration begins
+  not-first : {at next : ℕ} (p : ℕ) (d : ProcDecl) → slice_get lists.procs p ≡ Some d → LedBy lists at next
+      → next ≡ d.first.0 → ⊥
+  not-first {at} {next} p d declared led same =
+      let first : Contains (firsts lists) next = contains-map (λ (e : ProcDecl). e.first.0) lists.procs d next
+      (contains-found lists.procs p d declared) (sym same) in
+      omega (arith, once-placed next, counted next (firsts lists) first, led-counted led)
+
+  -- instructions that go on to one are one
+  same-place : {at other next later : ℕ} → LedBy lists at next → LedBy lists other later → next ≡ later → at ≡ other
+  same-place {at} {other} {next} {later} led led_too same =
+      let among_there : Contains (code_next led_too.node) next =
       subst (λ (c : ℕ). Contains (code_next led_too.node) c) (sym same) led_too.among in
-      let few : count_of (place k) (nexts lists)
-      ≤ 1 = omega (arith, count-append (place k) (nexts lists) (firsts lists)) in
-      let places : place i ≡ place j = one-part code_next (place k) lists.code (place i) (place j) led.node led_too.node
-      few led.there led_too.there (counted (place k) (code_next led.node) led.among)
-      (counted (place k) (code_next led_too.node) among_there) in
-      ap (λ (c : ℕ). let id : CodeId = record { 0 = c } in id) places
+      let few : count_of next (nexts lists) ≤ 1 = omega (arith, once-placed next) in
+      one-part code_next next lists.code at other led.node led_too.node few led.there led_too.there
+      (counted next (code_next led.node) led.among) (counted next (code_next led_too.node) among_there)
+
+  -- an instruction is one of one declaration's
+  pub one-code : (p q : ℕ) (d e : ProcDecl) {at other : ℕ} → slice_get lists.procs p ≡ Some d
+      → slice_get lists.procs q ≡ Some e → IsCodeOf lists d at → IsCodeOf lists e other → at ≡ other → d ≡ e
+  one-code p q d e declared declared_too IsCodeOf.begins IsCodeOf.begins same =
+      let few : count_of d.first.0 (firsts lists) ≤ 1 = omega (arith, once-placed d.first.0) in
+      one-place (λ (f : ProcDecl). f.first.0) d.first.0 lists.procs d e refl (sym same) few
+      (contains-found lists.procs p d declared) (contains-found lists.procs q e declared_too)
+  one-code p q d e declared declared_too IsCodeOf.begins (IsCodeOf.leads n before there among) same =
+      absurd (not-first p d declared (record { node = n; there = there; among = among }) (sym same))
+  one-code p q d e declared declared_too (IsCodeOf.leads n before there among) IsCodeOf.begins same =
+      absurd (not-first q e declared_too (record { node = n; there = there; among = among }) same)
+  one-code p q d e {at} {other} declared declared_too (IsCodeOf.leads {at = i} n before there among)
+      (IsCodeOf.leads {at = j} m before_too there_too among_too) same =
+      let led : LedBy lists i at = record { node = n; there = there; among = among } in
+      let led_too : LedBy lists j other = record { node = m; there = there_too; among = among_too } in
+      one-code p q d e declared declared_too before before_too (same-place led led_too same)
 
 module _ {lists : ProgramLists} {x : Annotations} (is_program : IsProgram lists) where
   -- a row goes on to one judgement at a place
@@ -147,12 +162,11 @@ module _ {lists : ProgramLists} {x : Annotations} (is_program : IsProgram lists)
   same-next {j} {k} {l} after row among among_too same =
       let (n, there, says) = row-at row in
       let places = row-places lists x j after n says in
-      let once : count_of (place k) (nexts lists ++ firsts lists) ≤ 1 = is_program.code (place k) in
       let part : count_of (place k) (code_next n)
       ≤ count_of (place k) (nexts lists) = count-part code_next (place k) lists.code (place j) n there in
       let few : count_of (place k) (map place after)
       ≤ 1 = subst (λ (ns : List ℕ). count_of (place k) ns ≤ 1) (sym places)
-      (omega (arith, count-append (place k) (nexts lists) (firsts lists))) in
+      (omega (arith, once-placed is_program (place k))) in
       one-place place (place k) after k l refl (sym same) few among among_too
 
   -- at a place one judgement follows from the start of the declaration
@@ -166,9 +180,40 @@ module _ {lists : ProgramLists} {x : Annotations} (is_program : IsProgram lists)
   follows-unique {first} {j} {k} p d declared begins (Follows.next {j = i} after follows row among)
       (Follows.next {j = l} after_too follows_too row_too among_too) same =
       let places : place j ≡ place k = ap (λ c. c.0) same in
+      let at_one : place i ≡ place l =
+      same-place is_program (led-by after row among) (led-by after_too row_too among_too) places
+      in
       let before : i ≡ l = follows-unique p d declared begins follows follows_too
-      (same-place is_program (led-by after row among) (led-by after_too row_too among_too) places) in
+      (ap (λ (c : ℕ). let id : CodeId = record { 0 = c } in id) at_one) in
       let row_there : Row lists x i after_too = subst (λ (s : Judgement). Row lists x s after_too) (sym before)
       row_too in
       let lists_same : after_too ≡ after = row-unique x is_program row_there row in
       same-next after row among (subst (λ (s : List Judgement). Contains s k) lists_same among_too) places
+
+  -- the place of a judgement that follows from the start of a declaration is one of its instructions
+  pub follows-code : {d : ProcDecl} {j : Judgement} → Follows lists x (start_of lists x d) j → IsCodeOf lists d (place j)
+  follows-code Follows.first = IsCodeOf.begins
+  follows-code (Follows.next after before row among) =
+      let led = led-by after row among in
+      IsCodeOf.leads led.node (follows-code before) led.there led.among
+
+  -- judgements at one place follow from the start of one declaration
+  pub one-declaration : {j k : Judgement} (p q : ℕ) (d e : ProcDecl) → slice_get lists.procs p ≡ Some d
+      → slice_get lists.procs q ≡ Some e → Follows lists x (start_of lists x d) j
+      → Follows lists x (start_of lists x e) k → j.code ≡ k.code → d ≡ e
+  one-declaration p q d e declared declared_too follows follows_too same =
+      one-code is_program p q d e declared declared_too (follows-code follows) (follows-code follows_too)
+      (ap (λ (c : CodeId). c.0) same)
+
+  -- at a place of the program one judgement stands
+  pub one-judgement : {j k : Judgement} → IsPlace lists x j → IsPlace lists x k → j.code ≡ k.code → j ≡ k
+  one-judgement {j} {k} left right same =
+      let d = left.declaration in
+      let e = right.declaration in
+      let one : e ≡ d =
+      one-declaration right.number left.number e d right.declared left.declared right.follows left.follows (sym same)
+      in
+      let too : Follows lists x (start_of lists x d) k =
+      subst (λ (f : ProcDecl). Follows lists x (start_of lists x f) k) one right.follows
+      in
+      follows-unique left.number d left.declared refl left.follows too same

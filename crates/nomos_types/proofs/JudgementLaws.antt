@@ -124,8 +124,8 @@ module _ {lists : ProgramLists} (formed : IsWellFormed lists) where
   -- ---- rows
 
   -- one judgement that is one
-  one-judgement : (j : Judgement) → IsJudgement lists j → All (IsJudgement lists) (j ∷ [])
-  one-judgement j h = All-cons (IsJudgement lists) j [] h (All-nil (IsJudgement lists))
+  single-judgement : (j : Judgement) → IsJudgement lists j → All (IsJudgement lists) (j ∷ [])
+  single-judgement j h = All-cons (IsJudgement lists) j [] h (All-nil (IsJudgement lists))
 
   -- the arms go on at judgements
   arms-keep : {j : Judgement} → (c : Chan) (branches : List Branch) → IsJudgement lists j
@@ -152,14 +152,14 @@ module _ {lists : ProgramLists} (formed : IsWellFormed lists) where
       let bs = says.branches in
       let among = λ (m : Mode). branch-among m bs l t says.goes in
       let may = may-go_on h c (node.Plus bs) (node.With bs) t says.channel among among in
-      one-judgement (goes_on j c t next) (gone-on h c t next may)
+      single-judgement (goes_on j c t next) (gone-on h c t next may)
   row-keeps_judgement h (case {c = c} stands after says) = arms-keep c says.branches h says.channel says.each_arm
   row-keeps_judgement h (send {c = c} {next = next} stands left t says) =
       let own = node.Tensor says.carried t in
       let client = node.Lolli says.carried t in
       let may = may-go_on h c own client t says.channel (λ m. (1, omega arith, refl)) (λ m. (1, omega arith, refl)) in
       let after = passes-channel_left h says.passes in
-      one-judgement (goes_on left c t next) (gone-on after.judgement c t next (left-goes_on after c t may))
+      single-judgement (goes_on left c t next) (gone-on after.judgement c t next (left-goes_on after c t may))
   row-keeps_judgement {j = j} h (recv {c = c} {y = y} {next = next} stands m carried t says) =
       let own = node.Lolli carried t in
       let client = node.Tensor carried t in
@@ -171,45 +171,45 @@ module _ {lists : ProgramLists} (formed : IsWellFormed lists) where
       let after = goes_on j c t next in
       let free = free-gone_on h c says.channel.0 t next y says.channel.1 says.free in
       let comes = carried-comes after.mode m carried_at in
-      one-judgement (binds_channel after y m carried)
+      single-judgement (binds_channel after y m carried)
       (channel-bound (gone-on h c t next may) y m carried free says.mode comes)
   row-keeps_judgement {j = j} h (put {c = c} {next = next} stands t says) =
       let own = node.ValueOut says.kind t in
       let client = node.ValueIn says.kind t in
       let may = may-go_on h c own client t says.channel (λ m. (0, omega arith, refl)) (λ m. (0, omega arith, refl)) in
-      one-judgement (goes_on j c t next) (gone-on h c t next may)
+      single-judgement (goes_on j c t next) (gone-on h c t next may)
   row-keeps_judgement {j = j} h (take {c = c} {v = v} {next = next} stands kind t says) =
       let own = node.ValueIn kind t in
       let client = node.ValueOut kind t in
       let may = may-go_on h c own client t says.channel (λ m. (0, omega arith, refl)) (λ m. (0, omega arith, refl)) in
       let free = free-gone_on h c says.channel.0 t next v says.channel.1 says.free in
-      one-judgement (binds_value (goes_on j c t next) v kind) (value-bound (gone-on h c t next may) v kind free)
+      single-judgement (binds_value (goes_on j c t next) v kind) (value-bound (gone-on h c t next may) v kind free)
   row-keeps_judgement {x = x} {j = j} h (pay {c = c} {r = r} {next = next} stands t says) =
       let own = node.PotOut says.amount t in
       let client = node.PotIn says.amount t in
       let may = may-go_on h c own client t says.channel (λ m. (0, omega arith, refl)) (λ m. (0, omega arith, refl)) in
       let after = goes_on j c t next in
       let q = j.q - dths x r in
-      one-judgement (with_potential after q) (placed-elsewhere (gone-on h c t next may) q after.code)
+      single-judgement (with_potential after q) (placed-elsewhere (gone-on h c t next may) q after.code)
   row-keeps_judgement {x = x} {j = j} h (get {c = c} {r = r} {next = next} stands t says) =
       let own = node.PotIn says.amount t in
       let client = node.PotOut says.amount t in
       let may = may-go_on h c own client t says.channel (λ m. (0, omega arith, refl)) (λ m. (0, omega arith, refl)) in
       let after = goes_on j c t next in
       let q = j.q + dths x r in
-      one-judgement (with_potential after q) (placed-elsewhere (gone-on h c t next may) q after.code)
+      single-judgement (with_potential after q) (placed-elsewhere (gone-on h c t next may) q after.code)
   row-keeps_judgement {x = x} {j = j} h (work {r = r} {next = next} stands enough) =
       let q = j.q - dths x r in
-      one-judgement (with_potential (at_code j next) q) (placed-elsewhere h q next)
+      single-judgement (with_potential (at_code j next) q) (placed-elsewhere h q next)
   row-keeps_judgement {j = j} h (wait {v = v} {next = next} stands channel) =
-      one-judgement (at_code (gives_up j v) next) (placed-elsewhere (linear-unbound h v.0) j.q next)
+      single-judgement (at_code (gives_up j v) next) (placed-elsewhere (linear-unbound h v.0) j.q next)
   row-keeps_judgement {j = j} h (accept {next = next} stands t says) =
       let (s, found, unfolds) = says.channel in
       let its_mode = part-mode mode.L (offers-mode h found) unfolds (0, omega arith, refl) in
       let held : All (λ b. MayBeHeld lists mode.L b.1) j.linear =
       λ k d inside. let (m, there, linear, may) = h.linear_modes k d inside in (m, there, linear, l-holds m linear)
       in
-      one-judgement (record j { mode = mode.L; offers = t; code = next })
+      single-judgement (record j { mode = mode.L; offers = t; code = next })
       (placed-elsewhere (taken-over h mode.L t its_mode held) j.q next)
   row-keeps_judgement {j = j} h (detach {next = next} stands t says) =
       let (s, found, unfolds) = says.channel in
@@ -217,7 +217,7 @@ module _ {lists : ProgramLists} (formed : IsWellFormed lists) where
       let held : All (λ b. MayBeHeld lists mode.S b.1) j.linear =
       λ k d inside. (mode.R, says.nothing_held k d inside, inl refl, refl)
       in
-      one-judgement (record j { mode = mode.S; offers = t; code = next })
+      single-judgement (record j { mode = mode.S; offers = t; code = next })
       (placed-elsewhere (taken-over h mode.S t its_mode held) j.q next)
   row-keeps_judgement {j = j} h (acquire {a = a} {v = v} {next = next} stands t says) =
       let AtS : TypeId → Type 0 = λ s. HasMode lists s mode.S in
@@ -225,7 +225,7 @@ module _ {lists : ProgramLists} (formed : IsWellFormed lists) where
       let its_mode = part-mode mode.L shared says.unfolds (0, omega arith, refl) in
       let comes = acquired-comes j.mode says.mode in
       let bound = channel-bound (placed-elsewhere h j.q next) v mode.L t says.free its_mode comes in
-      one-judgement (binds_channel (at_code j next) v mode.L t) bound
+      single-judgement (binds_channel (at_code j next) v mode.L t) bound
   row-keeps_judgement {j = j} h (release {v = v} {a = a} {next = next} stands t says) =
       let (s, found, unfolds) = says.channel in
       let held = (channel-held h v s found).1 in
@@ -233,7 +233,7 @@ module _ {lists : ProgramLists} (formed : IsWellFormed lists) where
       let after = at_code (gives_up j v) next in
       let free : IsFree after a = omega (arith, count-unbind a.0 v.0 j.linear h.linear, says.free) in
       let there : IsJudgement lists after = placed-elsewhere (linear-unbound h v.0) j.q next in
-      one-judgement (binds_channel after a mode.S t) (channel-bound there a mode.S t free its_mode tt)
+      single-judgement (binds_channel after a mode.S t) (channel-bound there a mode.S t free its_mode tt)
   row-keeps_judgement {x = x} {j = j} h (spawn {v = v} {f = f} {next = next} stands d left says) =
       let rest = arguments-left h says.arguments in
       let q = j.q - dths x d.amount in
@@ -244,26 +244,26 @@ module _ {lists : ProgramLists} (formed : IsWellFormed lists) where
       let its_mode = offered-has_mode lists f.0 d says.declared in
       let comes = spawned-comes left.mode d.mode may in
       let there : IsJudgement lists after = placed-elsewhere rest.judgement q next in
-      one-judgement (binds_channel after v d.mode d.offers) (channel-bound there v d.mode d.offers free its_mode comes)
+      single-judgement (binds_channel after v d.mode d.offers) (channel-bound there v d.mode d.offers free its_mode comes)
   row-keeps_judgement {j = j} h («let» {v = v} {next = next} stands kind says free) =
-      one-judgement (binds_value (at_code j next) v kind) (value-bound (placed-elsewhere h j.q next) v kind free)
+      single-judgement (binds_value (at_code j next) v kind) (value-bound (placed-elsewhere h j.q next) v kind free)
   row-keeps_judgement {j = j} h (emit {next = next} stands kind says) =
-      one-judgement (at_code j next) (placed-elsewhere h j.q next)
+      single-judgement (at_code j next) (placed-elsewhere h j.q next)
   row-keeps_judgement {j = j} h (choose {then_next = then_next} {else_next = else_next} stands says) =
       All-cons (IsJudgement lists) (at_code j then_next) (at_code j else_next ∷ []) (placed-elsewhere h j.q then_next)
-      (one-judgement (at_code j else_next) (placed-elsewhere h j.q else_next))
+      (single-judgement (at_code j else_next) (placed-elsewhere h j.q else_next))
   row-keeps_judgement h (close stands says) = All-nil (IsJudgement lists)
   row-keeps_judgement h (fwd stands says) = All-nil (IsJudgement lists)
   row-keeps_judgement h (call stands says) = All-nil (IsJudgement lists)
   row-keeps_judgement {x = x} {j = j} h (empty {v = v} {r = r} {kind = kind} {next = next} stands free) =
       let list : ListType = record { kind = kind; amount = dths x r } in
-      one-judgement (binds_list (at_code j next) v list) (list-bound (placed-elsewhere h j.q next) v list free)
+      single-judgement (binds_list (at_code j next) v list) (list-bound (placed-elsewhere h j.q next) v list free)
   row-keeps_judgement {j = j} h (add {v = v} {w = w} {next = next} stands list says) =
       let after : Judgement = record (at_code j next) { lists = unbind w.0 j.lists } in
       let there : IsJudgement lists after = placed-elsewhere (list-unbound h w.0) j.q next in
       let free : IsFree after v = omega (arith, count-unbind v.0 w.0 j.lists h.lists_ascend, says.free) in
       let q = j.q - list.amount in
-      one-judgement (with_potential (binds_list after v list) q)
+      single-judgement (with_potential (binds_list after v list) q)
       (placed-elsewhere (list-bound there v list free) q next)
   row-keeps_judgement {j = j} h (match {w = w} {head = head} {tail = tail} {empty_next = empty_next}
       {full_next = full_next} stands list says) =
@@ -282,7 +282,7 @@ module _ {lists : ProgramLists} (formed : IsWellFormed lists) where
       let full_there : IsJudgement lists full = placed-elsewhere (value-bound with_tail head list.kind head_free) q
       full_next in
       All-cons (IsJudgement lists) ended (full ∷ []) (placed-elsewhere (list-unbound h w.0) j.q empty_next)
-      (one-judgement full full_there)
+      (single-judgement full full_there)
 
   -- each judgement that follows from one is one
   follows-from_judgement : {x : Annotations} {i j : Judgement} → IsJudgement lists i → Follows lists x i j

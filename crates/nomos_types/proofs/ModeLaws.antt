@@ -25,7 +25,7 @@ use Rattle.nomos_ir.specs.TypeParts.{type_parts}
 use Rattle.nomos_ir.specs.Unfold.{IsContractive, Unfolds, constructor, name}
 use Rattle.nomos_types.specs.Branches.{goes_by}
 use Rattle.nomos_types.specs.Modes.{HasMode, whole, part, ObeysModes, part_modes, whole_modes, parameter_mode}
-use Rattle.nomos_types.proofs.BranchLemmas.{goes-all}
+use Rattle.nomos_types.proofs.BranchLaws.{goes-all}
 use Rattle.nomos_types.proofs.Nodes.{type_node-in_range}
 use Rattle.nomos_types.proofs.OccurrenceLaws.{all-flat, contains-found, contains-part, contains-map, contains-unmap, count-append, counted, contained, one-place, one-part, count-part, part-with}
 

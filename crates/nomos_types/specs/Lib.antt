@@ -9,6 +9,7 @@ pub mod Forming
 pub mod Judgement
 pub mod ModeTable
 pub mod Modes
+pub mod Places
 pub mod Premises
 pub mod Row
 pub mod Synchronizing

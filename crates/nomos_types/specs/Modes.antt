@@ -110,6 +110,10 @@ pub record ObeysModes (lists : ProgramLists) : Type 0 where
   -- no definition has the mode of transactions
   pub definitions : All (λ d. d.mode ≢ mode.T) lists.defs
 
+-- A declaration of transactions offers the type.
+abbrev pub IsOfTransactions : ProgramLists → TypeId → Type 0
+IsOfTransactions lists t = (d : ProcDecl) × Contains lists.procs d × (d.mode ≡ mode.T) × (d.offers ≡ t)
+
 -- A type node stands where the tables of modes forbid it.
 pub data Offends (lists : ProgramLists) : TypeId → Type 0 where
   forbidden : {t : TypeId} → (m : Mode) (node : TypeNode) → HasMode lists t m → type_node lists t.0 ≡ Some node

@@ -24,8 +24,8 @@ use Rattle.nomos_types.specs.Judgement.{Judgement}
 use Rattle.nomos_types.specs.Modes.{HasMode, may_spawn}
 use Rattle.nomos_types.specs.Row.{StandsAtCode, Row, label, case, send, recv, put, take, pay, get, work, wait, accept, detach, acquire, release, spawn, «let», emit, choose, close, fwd, call, empty, add, match}
 use Rattle.nomos_types.specs.Typed.{IsWellFormed}
-use Rattle.nomos_check.proofs.HeadsOver.{both-over, both-under, sent-choice, awaited-choice, sent-channel, received-channel, sent-of_kind, received-of_kind, paid-amount, got-amount, closed-node, shared-node, ended-node}
-use Rattle.nomos_check.proofs.PremisesOver.{type-as, reference-over, unfolds-over, node-over, free-over, kind-over, list-over, none-over, modes-over, passing-over, arguments-over, arms-over}
+use Rattle.nomos_types.proofs.HeadsOverLaws.{both-over, both-under, sent-choice, awaited-choice, sent-channel, received-channel, sent-of_kind, received-of_kind, paid-amount, got-amount, closed-node, shared-node, ended-node}
+use Rattle.nomos_types.proofs.PremisesOverLaws.{type-as, reference-over, unfolds-over, node-over, free-over, kind-over, list-over, none-over, modes-over, passing-over, arguments-over, arms-over}
 
 -- a mode that is the same is one of the two
 held : {m n a b : Mode} → m ≡ n → (n ≡ a) ⊎ (n ≡ b) → (m ≡ a) ⊎ (m ≡ b)

@@ -31,10 +31,10 @@ use Rattle.nomos_types.specs.Judgement.{Judgement, ListType, IsFree, count_one, 
 use Rattle.nomos_types.specs.Modes.{HasMode, parameter_mode}
 use Rattle.nomos_types.specs.Premises.{HasType, ArmsGoOn}
 use Rattle.nomos_types.specs.Typed.{IsWellFormed}
-use Rattle.nomos_check.proofs.HeadsOver.{both-over}
+use Rattle.nomos_types.proofs.HeadsOverLaws.{both-over}
 
 -- how many things are there, where one is there exactly where the other is
-count-same : {X Y : Type 0} (o : Option X) (p : Option Y) → (o ≡ None → p ≡ None) → (p ≡ None → o ≡ None)
+pub count-same : {X Y : Type 0} (o : Option X) (p : Option Y) → (o ≡ None → p ≡ None) → (p ≡ None → o ≡ None)
     → count_one o ≡ count_one p
 count-same None None to back = refl
 count-same None (Some y) to back = absurd (let no = to refl in cc)
