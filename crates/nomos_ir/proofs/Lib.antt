@@ -3,10 +3,13 @@ pub mod BindingLaws
 pub mod EvaluationLaws
 pub mod EvaluationLemmas
 pub mod ExampleLaws
+pub mod MappedLaws
 pub mod NameLemmas
 pub mod NodeLaws
 pub mod OccurrenceLaws
+pub mod PairedLaws
 pub mod StarLemmas
+pub mod SumLaws
 pub mod TermExamples
 pub mod TermKindLaws
 pub mod TypedLaws

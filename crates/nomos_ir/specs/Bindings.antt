@@ -1,5 +1,5 @@
 -- Finite maps from variables: pairs of a variable and what it is bound to, in ascending order, each variable once.
-use Rattle.std.specs.Prelude.{ℕ, ◌==◌, List, [], ◌∷◌, Option}
+use Rattle.std.specs.Prelude.{ℕ, ◌==◌, List, [], ◌∷◌, map, Option, sum_by}
 use Rattle.std.specs.declared.cmp.Ordering.{Ordering}
 use Rattle.std.specs.Ordering.{nat_cmp}
 use Rattle.std.specs.List.Sorted.{IsStrictlySortedBy}
@@ -31,3 +31,25 @@ bindings_of (b ∷ others) = bind b.0 b.1 (bindings_of others)
 -- the variables are in ascending order, each once
 abbrev pub IsAscending : {X : Type 0} → List (VarId × X) → Type 0
 IsAscending bindings = IsStrictlySortedBy by_number (keys_of bindings)
+
+-- these pairs are bound, one after the other
+abbrev pub bind_all : {X : Type 0} → List (VarId × X) → List (VarId × X) → List (VarId × X)
+bind_all [] bindings = bindings
+bind_all (p ∷ ps) bindings = bind_all ps (bind p.0 p.1 bindings)
+
+-- these variables are bound no more
+abbrev pub unbind_all : {X : Type 0} → List VarId → List (VarId × X) → List (VarId × X)
+unbind_all [] bindings = bindings
+unbind_all (v ∷ vs) bindings = unbind_all vs (unbind v.0 bindings)
+
+-- all that is bound, changed alike
+abbrev pub each_bound : {X Y : Type 0} → (X → Y) → List (VarId × X) → List (VarId × Y)
+each_bound f bindings = map (λ e. (e.0, f e.1)) bindings
+
+-- the variables of pairs, in their order
+abbrev pub variables_of : {X : Type 0} → List (VarId × X) → List ℕ
+variables_of bindings = map (λ e. e.0.0) bindings
+
+-- the sum of a number that each thing bound has
+abbrev pub sum_bound : {X : Type 0} → (X → ℕ) → List (VarId × X) → ℕ
+sum_bound f bindings = sum_by (λ e. f e.1) bindings

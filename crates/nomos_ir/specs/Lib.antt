@@ -12,6 +12,7 @@ pub mod Naming
 pub mod Nodes
 pub mod Occurrence
 pub mod Order
+pub mod Paired
 pub mod Parameters
 pub mod Program
 pub mod TermExample
