@@ -7,7 +7,7 @@ use Rattle.nomos_machine.specs.Change.{Change, put_at, put_all, made}
 use Rattle.nomos_machine.specs.Objects.{object_number, object_at}
 use Rattle.nomos_machine.specs.State.{State}
 use Rattle.nomos_machine.specs.declared.object.Object.{Object}
-use Rattle.nomos_machine.proofs.PlaceLaws.{InOrder, HasNumber, put-weight, put-all, put-kept, put-order, object_at-found}
+use Rattle.nomos_machine.proofs.PutLaws.{InOrder, HasNumber, put-weight, put-all, put-kept, put-order, object_at-found}
 
 -- The places name objects that are there, one after another: those that stood there are the last list. What comes there
 -- has the same number.

@@ -15,7 +15,7 @@ use Rattle.nomos_machine.proofs.ChangeLaws.{Replaces, news, made-all, replaced-o
 use Rattle.nomos_machine.proofs.GasLaws.{paid_out-length, paid_in-length}
 use Rattle.nomos_machine.proofs.NameLaws.{mentioned-told, times-contains, contains-times, type_of-kept, type_of-filtered, type_of-gone}
 use Rattle.nomos_machine.proofs.ObjectLaws.{object-kept, object-typed, mentions-base}
-use Rattle.nomos_machine.proofs.PlaceLaws.{InOrder, push-order}
+use Rattle.nomos_machine.proofs.PutLaws.{InOrder, push-order}
 use Rattle.nomos_machine.specs.Change.{Change, put_all, paid_out, is_mentioned, made, changed}
 use Rattle.nomos_machine.specs.Objects.{object_number, mentioned, times}
 use Rattle.nomos_machine.specs.State.{State, NameTypes, type_of}

@@ -1,4 +1,4 @@
-pub mod PlaceLaws
+pub mod PutLaws
 pub mod ChangeLaws
 pub mod NameLaws
 pub mod GasLaws

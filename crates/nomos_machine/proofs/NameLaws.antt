@@ -8,7 +8,7 @@ use Rattle.std.specs.Option.{option_map}
 use Rattle.nomos_ir.specs.Order.{count_of}
 use Rattle.nomos_ir.specs.declared.ids.TypeId.{TypeId}
 use Rattle.nomos_types.proofs.OccurrenceLaws.{count-append, counted, contained}
-use Rattle.nomos_machine.proofs.PlaceLaws.{contains-one}
+use Rattle.nomos_machine.proofs.PutLaws.{contains-one}
 use Rattle.nomos_machine.specs.Change.{is_mentioned}
 use Rattle.nomos_machine.specs.Objects.{provided, used, based, mentioned, times}
 use Rattle.nomos_machine.specs.State.{NameTypes, type_of}

@@ -15,11 +15,11 @@ use Rattle.nomos_types.specs.Amount.{Annotations}
 use Rattle.nomos_types.specs.Judgement.{Judgement}
 use Rattle.nomos_machine.specs.Matching.{NameHasType, Matches, FitsMode, ProcessTyped}
 use Rattle.nomos_machine.specs.Objects.{mentioned, carried}
-use Rattle.nomos_machine.specs.Paired.{Paired, both, neither}
+use Rattle.nomos_ir.specs.Paired.{Paired, both, neither}
 use Rattle.nomos_machine.specs.State.{NameTypes, type_of}
 use Rattle.nomos_machine.specs.TypedMessage.{Brings, GoesOnAt, MessageTyped, own_label, other_label, own_channel, other_channel, own_value, other_value, own_potential, other_potential, end}
 use Rattle.nomos_machine.specs.TypedState.{ObjectTyped, HasVariables}
-use Rattle.nomos_machine.proofs.PlaceLaws.{contains-one}
+use Rattle.nomos_machine.proofs.PutLaws.{contains-one}
 use Rattle.nomos_machine.specs.declared.object.Message.{Message}
 use Rattle.nomos_machine.specs.declared.object.Object.{Object}
 use Rattle.nomos_machine.specs.declared.object.Object.TheVariants as object
@@ -33,7 +33,7 @@ Keep names types others = (name : ℕ) (t : TypeId) → names name → type_of t
 -- where both are there, they are related in another way
 pub paired-weaker : {X Y : Type 0} (R S : X → Y → Type 0) (o : Option X) (r : Option Y) → Paired R o r
     → ((x : X) (y : Y) → o ≡ Some x → R x y → S x y) → Paired S o r
-paired-weaker R S _ _ (both x y related) weaker = both x y (weaker x y refl related)
+paired-weaker R S _ _ (both {x = x} {y = y} related) weaker = both (weaker x y refl related)
 paired-weaker R S _ _ neither weaker = neither
 
 module _ (lists : ProgramLists) (x : Annotations) (types others : NameTypes) where
@@ -172,10 +172,8 @@ module _ (a : Acceptance) (types others : NameTypes) where
   pub process-kept : (accounts : ℕ) (p : Process) → KeepsTypes (object.Process p) → ProcessTyped a types accounts p
       → ProcessTyped a others accounts p
   process-kept accounts p kept typed = record {
-    declared = typed.declared;
-    among = typed.among;
     place = typed.place;
-    follows = typed.follows;
+    is_place = typed.is_place;
     matches = matches-kept p typed.place kept typed.matches;
     covered = typed.covered;
     derives = typed.derives;
@@ -298,7 +296,7 @@ bound-somewhere (e ∷ b) name ascending there =
 
 paired-first : {X Y : Type 0} (R : X → Y → Type 0) (o : Option X) (r : Option Y) (x : X) → Paired R o r → o ≡ Some x
     → (y : Y) × R x y
-paired-first R _ _ x (both w y related) is =
+paired-first R _ _ x (both {x = w} {y = y} related) is =
     let same : w ≡ x = cc in
     (y, subst (λ (u : _). R u y) same related)
 paired-first R _ _ x neither is = absurd cc

@@ -10,7 +10,6 @@ pub mod Step
 pub mod Run
 pub mod Policies
 pub mod Starting
-pub mod Paired
 pub mod Matching
 pub mod TypedMessage
 pub mod Outside

@@ -1,20 +1,20 @@
 -- Typed processes: a process has what the typing rules say at its place.
-use Rattle.std.specs.Prelude.{◌≡◌, ◌≤◌, ◌<◌, ◌↔◌, ℕ, All, Contains, Some, IsSome}
+use Rattle.std.specs.Prelude.{◌≡◌, ◌≤◌, ◌<◌, ◌↔◌, ℕ, All, Some, IsSome}
 use Rattle.std.specs.Option.{option_or}
 use Rattle.nomos_ir.specs.Bindings.{bound_to}
 use Rattle.nomos_ir.specs.ValueKind.{ValueHasKind}
-use Rattle.nomos_ir.specs.declared.declaration.ProcDecl.{ProcDecl}
 use Rattle.nomos_ir.specs.declared.ids.TypeId.{TypeId}
 use Rattle.nomos_ir.specs.declared.lists.ProgramLists.{ProgramLists}
 use Rattle.nomos_ir.specs.declared.mode.Mode.TheVariants as mode
 use Rattle.nomos_types.specs.Acceptance.{Acceptance}
 use Rattle.nomos_types.specs.Alike.{AlikeTypes}
 use Rattle.nomos_types.specs.Amount.{Annotations}
-use Rattle.nomos_types.specs.Derivation.{Derives, Follows}
-use Rattle.nomos_types.specs.Judgement.{Judgement, ListType, start_of, with_potential}
+use Rattle.nomos_types.specs.Derivation.{Derives}
+use Rattle.nomos_types.specs.Judgement.{Judgement, ListType, with_potential}
 use Rattle.nomos_types.specs.Modes.{HasMode}
+use Rattle.nomos_types.specs.Places.{IsPlace}
 use Rattle.nomos_machine.specs.Objects.{potential_of, free_purse}
-use Rattle.nomos_machine.specs.Paired.{Paired}
+use Rattle.nomos_ir.specs.Paired.{Paired}
 use Rattle.nomos_machine.specs.State.{NameTypes, type_of}
 use Rattle.nomos_machine.specs.declared.object.PotentialList.{PotentialList}
 use Rattle.nomos_machine.specs.declared.object.Process.{Process}
@@ -48,13 +48,11 @@ pub record FitsMode (lists : ProgramLists) (types : NameTypes) (p : Process) : T
   pub base : IsSome p.base ↔ (p.mode ≡ mode.L)
   pub shared : (b : ℕ) → p.base ≡ Some b → (t : TypeId) × (type_of types b ≡ Some t) × HasMode lists t mode.S
 
--- A process is typed: it has what some judgement says that follows from the start of a declaration; its purse covers its
--- lists, and with what is left of it the judgement has a derivation; its payer is an account; and it fits its mode.
+-- A process is typed: it has what some judgement says that stands at its place in the program; its purse covers its lists,
+-- and with what is left of it the judgement has a derivation; its payer is an account; and it fits its mode.
 pub record ProcessTyped (a : Acceptance) (types : NameTypes) (accounts : ℕ) (p : Process) : Type 0 where
-  pub declared : ProcDecl
-  pub among : Contains a.program.procs declared
   pub place : Judgement
-  pub follows : Follows a.program a.annotations (start_of a.program a.annotations declared) place
+  pub is_place : IsPlace a.program a.annotations place
   pub matches : Matches a.program a.annotations types p place
   pub covered : potential_of p ≤ p.purse
   pub derives : Derives a.program a.annotations (with_potential place (free_purse p))

@@ -19,9 +19,9 @@ use Rattle.nomos_ir.specs.declared.kind.Kind.{Kind}
 use Rattle.nomos_ir.specs.declared.mode.Mode.{Mode}
 use Rattle.nomos_types.specs.Acceptance.{Acceptance}
 use Rattle.nomos_types.specs.Amount.{dths}
-use Rattle.nomos_types.specs.Derivation.{Follows}
-use Rattle.nomos_types.specs.Judgement.{Judgement, start_of}
+use Rattle.nomos_types.specs.Judgement.{Judgement}
 use Rattle.nomos_types.specs.Modes.{HasMode, IsLinearMode}
+use Rattle.nomos_types.specs.Places.{IsPlace}
 use Rattle.nomos_machine.specs.Objects.{provided, used, times, potential_of}
 use Rattle.nomos_machine.specs.Sight.{is_own, present_name}
 use Rattle.nomos_machine.specs.State.{State, type_of}
@@ -52,10 +52,8 @@ turns_to _ = []
 
 -- a variable has this kind where a process goes on, by the rules from the start of a declaration
 pub record HasKindAt (a : Acceptance) (next : CodeId) (v : VarId) (kind : Kind) : Type 0 where
-  pub declared : ProcDecl
-  pub among : Contains a.program.procs declared
   pub place : Judgement
-  pub follows : Follows a.program a.annotations (start_of a.program a.annotations declared) place
+  pub is_place : IsPlace a.program a.annotations place
   pub here : place.code ≡ next
   pub bound : bound_to v.0 place.kinds ≡ Some kind
 
