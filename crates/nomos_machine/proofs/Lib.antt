@@ -4,3 +4,4 @@ pub mod NameLaws
 pub mod GasLaws
 pub mod ObjectLaws
 pub mod FitLaws
+pub mod ProcessLaws

@@ -12,8 +12,9 @@ use Rattle.nomos_ir.specs.declared.lists.ProgramLists.{ProgramLists}
 use Rattle.nomos_ir.specs.declared.type_node.TypeNode.{TypeNode}
 use Rattle.nomos_types.specs.Acceptance.{Acceptance}
 use Rattle.nomos_types.specs.Amount.{Annotations}
+use Rattle.nomos_types.specs.Modes.{HasMode}
 use Rattle.nomos_types.specs.Judgement.{Judgement}
-use Rattle.nomos_machine.specs.Matching.{NameHasType, Matches, FitsMode, ProcessTyped}
+use Rattle.nomos_machine.specs.Matching.{NameHasType, Matches, HasBase, ProcessTyped}
 use Rattle.nomos_machine.specs.Objects.{mentioned, carried}
 use Rattle.nomos_ir.specs.Paired.{Paired, both, neither}
 use Rattle.nomos_machine.specs.State.{NameTypes, type_of}
@@ -155,19 +156,22 @@ module _ (a : Acceptance) (types others : NameTypes) where
         (λ u found. kept name u (mentions-channel p v name bound) found) is);
   }
 
-  -- the name that a process offers has a type, and it is the same in both tables
-  base-kept : (p : Process) (own : TypeId) → type_of types p.offers ≡ Some own → KeepsTypes (object.Process p)
-      → FitsMode a.program types p → FitsMode a.program others p
-  base-kept p own typed kept base = record {
-    offered = λ t found.
-        let here : type_of others p.offers ≡ Some own = kept p.offers own (mentions-offer p) typed in
-        let same : own ≡ t = cc in
-        base.offered t (typed ∙ ap Some same);
-    base = base.base;
+  base-kept : (p : Process) → KeepsTypes (object.Process p) → HasBase a.program types p → HasBase a.program others p
+  base-kept p kept has = record {
+    base = has.base;
     shared = λ b is.
-        let (t, found, mode) = base.shared b is in
+        let (t, found, mode) = has.shared b is in
         (t, kept b t (mentions-base p b is) found, mode);
   }
+
+  -- the name that a process offers has a type, and it is the same in both tables
+  offered-kept : (p : Process) (own : TypeId) → type_of types p.offers ≡ Some own → KeepsTypes (object.Process p)
+      → ((t : TypeId) → type_of types p.offers ≡ Some t → HasMode a.program t p.mode)
+      → (t : TypeId) → type_of others p.offers ≡ Some t → HasMode a.program t p.mode
+  offered-kept p own typed kept offered t found =
+      let here : type_of others p.offers ≡ Some own = kept p.offers own (mentions-offer p) typed in
+      let same : own ≡ t = cc in
+      offered t (typed ∙ ap Some same)
 
   pub process-kept : (accounts : ℕ) (p : Process) → KeepsTypes (object.Process p) → ProcessTyped a types accounts p
       → ProcessTyped a others accounts p
@@ -178,7 +182,8 @@ module _ (a : Acceptance) (types others : NameTypes) where
     covered = typed.covered;
     derives = typed.derives;
     payer = typed.payer;
-    fits = base-kept p typed.matches.offers.own typed.matches.offers.found kept typed.fits;
+    offered = offered-kept p typed.matches.offers.own typed.matches.offers.found kept typed.offered;
+    has_base = base-kept p kept typed.has_base;
   }
 
   message-kept : (m : Message) → KeepsTypes (object.Message m) → MessageTyped a types m → MessageTyped a others m
@@ -324,7 +329,7 @@ object-typed a types accounts (object.Process p) name variables typed there =
   where
     based-typed : (o : Option ℕ) → p.base ≡ o → Contains (option_to_list o) name → HasType types name
     based-typed (Some b) is last =
-        let (t, found, mode) = typed.fits.shared b is in
+        let (t, found, mode) = typed.has_base.shared b is in
         subst (HasType types) (contains-one b name last) (t, found)
     based-typed None is last = absurd (omega (arith, last.1))
 object-typed a types accounts (object.Message m) name variables typed there =

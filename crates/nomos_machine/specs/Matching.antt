@@ -42,14 +42,14 @@ pub record Matches (lists : ProgramLists) (x : Annotations) (types : NameTypes) 
   pub channels : (v : ℕ) → Paired (NameHasType lists x types) (bound_to v p.channels)
       (option_or (bound_to v j.shared) (bound_to v j.linear))
 
--- The process offers a name of its own mode, and has a base, which is a shared name, exactly at mode L.
-pub record FitsMode (lists : ProgramLists) (types : NameTypes) (p : Process) : Type 0 where
-  pub offered : (t : TypeId) → type_of types p.offers ≡ Some t → HasMode lists t p.mode
+-- A process has a base, which is a shared name, exactly at mode L.
+pub record HasBase (lists : ProgramLists) (types : NameTypes) (p : Process) : Type 0 where
   pub base : IsSome p.base ↔ (p.mode ≡ mode.L)
   pub shared : (b : ℕ) → p.base ≡ Some b → (t : TypeId) × (type_of types b ≡ Some t) × HasMode lists t mode.S
 
 -- A process is typed: it has what some judgement says that stands at its place in the program; its purse covers its lists,
--- and with what is left of it the judgement has a derivation; its payer is an account; and it fits its mode.
+-- and with what is left of it the judgement has a derivation; its payer is an account; it offers a name of its own mode; and
+-- it has a base where it has to.
 pub record ProcessTyped (a : Acceptance) (types : NameTypes) (accounts : ℕ) (p : Process) : Type 0 where
   pub place : Judgement
   pub is_place : IsPlace a.program a.annotations place
@@ -57,4 +57,5 @@ pub record ProcessTyped (a : Acceptance) (types : NameTypes) (accounts : ℕ) (p
   pub covered : potential_of p ≤ p.purse
   pub derives : Derives a.program a.annotations (with_potential place (free_purse p))
   pub payer : p.payer < accounts
-  pub fits : FitsMode a.program types p
+  pub offered : (t : TypeId) → type_of types p.offers ≡ Some t → HasMode a.program t p.mode
+  pub has_base : HasBase a.program types p
