@@ -5,3 +5,6 @@ pub mod GasLaws
 pub mod ObjectLaws
 pub mod FitLaws
 pub mod ProcessLaws
+pub mod MatchLaws
+pub mod OwnedLaws
+pub mod AloneLaws

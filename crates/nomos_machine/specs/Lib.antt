@@ -7,6 +7,7 @@ pub mod Given
 pub mod Revised
 pub mod Deeds
 pub mod Step
+pub mod Readiness
 pub mod Run
 pub mod Policies
 pub mod Starting
