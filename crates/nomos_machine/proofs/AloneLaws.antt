@@ -47,7 +47,7 @@ module _ {a : Acceptance} {s : State} {p : Process} (typed : IsTyped a s) (there
   found-there : object_at s.objects p.pid ≡ Some (object.Process p)
   found-there = object_at-own (object.Process p) s.objects typed.numbered.ascending there
 
-  alone-replaces : Replaces goes_alone.places s.objects (object.Process p ∷ [])
+  pub alone-replaces : Replaces goes_alone.places s.objects (object.Process p ∷ [])
   alone-replaces =
       let HasIt : Object → Type 0 = λ o. object_number o ≡ p.pid in
       then (object.Process p) (Some (object.Process q)) [] s.objects [] found-there

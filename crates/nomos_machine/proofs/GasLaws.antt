@@ -50,15 +50,21 @@ IsEven c olds =
     c.burnt + amount_of c.gets + sum_by purse_of (news c.places) + sum_by purse_of (option_to_list c.comes)
     ≡ amount_of c.gives + sum_by purse_of olds
 
--- a change that is even keeps all gas
-pub gas-changed : (s : State) (c : Change) (olds : List Object) → Replaces c.places s.objects olds
-    → CanGive c.gives s.balances → CanGet c.gets s.balances → IsEven c olds
+-- the accounts are there, the one that gives has what it gives, and the change is even
+pub record KeepsGas (s : State) (c : Change) (olds : List Object) : Type 0 where
+  pub gives : CanGive c.gives s.balances
+  pub gets : CanGet c.gets s.balances
+  pub even : IsEven c olds
+
+-- such a change keeps all gas
+pub gas-changed : (s : State) (c : Change) (olds : List Object) → Replaces c.places s.objects olds → KeepsGas s c olds
     → gas_of (changed s c) ≡ gas_of s
-gas-changed s c olds replaces giving getting even =
-    let out = paid_out-sum c.gives s.balances giving in
+gas-changed s c olds replaces keeps =
+    let out = paid_out-sum c.gives s.balances keeps.gives in
     let into = paid_in-sum c.gets (paid_out c.gives s.balances)
-    (can-get c.gets s.balances (paid_out c.gives s.balances) (paid_out-length c.gives s.balances) getting)
+    (can-get c.gets s.balances (paid_out c.gives s.balances) (paid_out-length c.gives s.balances) keeps.gets)
     in
+    let even = keeps.even in
     let purses = made-weight purse_of s c olds replaces in
     omega arith
 

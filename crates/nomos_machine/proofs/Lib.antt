@@ -8,3 +8,5 @@ pub mod ProcessLaws
 pub mod MatchLaws
 pub mod OwnedLaws
 pub mod AloneLaws
+pub mod GoesLaws
+pub mod AloneDeeds
