@@ -14,11 +14,12 @@ use Rattle.nomos_types.specs.Amount.{Annotations, dths}
 use Rattle.nomos_types.specs.Derivation.{Derives, by_row}
 use Rattle.nomos_types.specs.Equality.{no_amounts}
 use Rattle.nomos_types.specs.Judgement.{Judgement, IsJudgement, start_of}
+use Rattle.nomos_types.specs.Modes.{HasMode}
 use Rattle.nomos_types.specs.Row.{Row, StandsAtCode}
 use Rattle.nomos_types.specs.Typed.{IsWellFormed}
 use Rattle.nomos_types.proofs.AlikeLaws.{alike-same}
 use Rattle.nomos_types.proofs.DerivationLaws.{derives-next}
-use Rattle.nomos_types.proofs.InversionLaws.{derives-row, row-descends}
+use Rattle.nomos_types.proofs.InversionLaws.{derives-offers_mode, derives-row, row-descends}
 use Rattle.nomos_types.proofs.JudgementLaws.{row-keeps_judgement}
 use Rattle.nomos_types.proofs.RowLaws.{row-at}
 use Rattle.nomos_types.proofs.UniqueRowLaws.{row-unique}
@@ -129,7 +130,10 @@ module _ {lists : ProgramLists} (formed : IsWellFormed lists) (x y : Annotations
       let (n, there, says) = row-at row in
       let carried = row-carried n own beside there says (needs-met j a n after good there row) in
       let row_there : Row lists y k carried.later = row-made n (stands beside lists n there) carried.row in
-      by_row k k.q carried.later (alike-same y formed.program formed.contractive other) (omega arith) row_there
+      let (mode, offers) = derives-offers_mode derivation in
+      let its_mode = subst (λ (l : Judgement). HasMode lists l.offers mode) (sym beside.same) offers in
+      let alike = alike-same y formed.program formed.contractive other its_mode in
+      by_row k k.q carried.later alike (omega arith) row_there
       (λ next among.
       let b = behind next carried.each among in
       derivation-carried m b.judgement next b.account (omega (arith, low, row-descends formed row b.among))

@@ -2,7 +2,9 @@
 use Rattle.std.proofs.Common.{◌≡◌, ◌<◌, ◌↔◌, All, length, Bool, IsTrue, Option, Some, None, sym, subst}
 use Rattle.nomos_ir.specs.declared.code_node.Chan.{Chan}
 use Rattle.nomos_ir.specs.declared.code_node.Chan.TheVariants as chan
+use Rattle.nomos_ir.specs.Bindings.{bound_to}
 use Rattle.nomos_ir.specs.declared.ids.TypeId.{TypeId}
+use Rattle.nomos_ir.specs.declared.ids.VarId.{VarId}
 use Rattle.nomos_ir.specs.declared.lists.ProgramLists.{ProgramLists}
 use Rattle.nomos_ir.specs.declared.type_node.TypeNode.{TypeNode}
 use Rattle.nomos_ir.specs.Nodes.{type_node}
@@ -10,25 +12,30 @@ use Rattle.nomos_ir.specs.Program.{IsProgram}
 use Rattle.nomos_ir.specs.Unfold.{Unfolds}
 use Rattle.nomos_ir.proofs.BindingLaws.{all-bound}
 use Rattle.nomos_ir.proofs.UnfoldLaws.{Unfolds-unique}
-use Rattle.nomos_types.specs.Judgement.{Judgement, IsJudgement, channel_type}
+use Rattle.nomos_types.specs.Judgement.{Judgement, IsJudgement, SuitsMode, channel_type}
 use Rattle.nomos_types.specs.Premises.{HasType}
 use Rattle.nomos_types.specs.Unfolding.{IsUnfolding}
 use Rattle.nomos_types.proofs.ModeLaws.{mode-in_range}
 use Rattle.nomos_check.specs.mirror.Finding.{IsFound}
 
 module _ (lists : ProgramLists) (j : Judgement) where
-  -- the type of a channel has its place
-  pub channel-in_range : (c : Chan) (t : TypeId) → IsProgram lists → IsJudgement lists j → channel_type j c ≡ Some t
-      → t.0 < length lists.types
-  channel-in_range chan.Own t is_program h found =
-      let same : j.offers ≡ t = cc in
-      subst (λ (s : TypeId). s.0 < length lists.types) same (mode-in_range is_program h.offers)
-  channel-in_range (chan.Var v) t is_program h found =
+  -- the type of a channel that is used exactly once has its place
+  pub linear-has_place : (v : VarId) (t : TypeId) → IsProgram lists → IsJudgement lists j
+      → bound_to v.0 j.linear ≡ Some t → t.0 < length lists.types
+  linear-has_place v t is_program h found =
       let Inside : TypeId → Type 0 = λ s. s.0 < length lists.types in
       let inside : All (λ b. Inside b.1) j.linear =
       λ k d within. mode-in_range is_program (h.linear_modes k d within).1
       in
       all-bound Inside v.0 t j.linear inside found
+
+  -- so has that of every channel, where what is offered has a mode
+  pub channel-in_range : (c : Chan) (t : TypeId) → IsProgram lists → IsJudgement lists j → SuitsMode lists j
+      → channel_type j c ≡ Some t → t.0 < length lists.types
+  channel-in_range chan.Own t is_program h suits found =
+      let same : j.offers ≡ t = cc in
+      subst (λ (s : TypeId). s.0 < length lists.types) same (mode-in_range is_program suits.offers)
+  channel-in_range (chan.Var v) t is_program h suits found = linear-has_place v t is_program h found
 
   -- the node at the unfolding of a channel's type is what the type unfolds to
   pub channel-unfolds : (c : Chan) (t : TypeId) (u : TypeId) (n : TypeNode) → channel_type j c ≡ Some t

@@ -22,9 +22,9 @@ use Rattle.nomos_types.specs.Branches.{goes_by}
 use Rattle.nomos_ir.specs.declared.mode.Mode.{Mode}
 use Rattle.nomos_ir.proofs.BindingLaws.{all-bound}
 use Rattle.nomos_types.proofs.ModeLaws.{mode-in_range, part-has_mode}
-use Rattle.nomos_types.specs.Modes.{HasMode, IsLinearMode, carried_mode, may_hold, part_modes}
+use Rattle.nomos_types.specs.Modes.{HasMode, carried_mode, may_hold, part_modes}
 use Rattle.nomos_types.specs.Typed.{IsWellFormed}
-use Rattle.nomos_types.specs.Judgement.{Judgement, IsFree, IsJudgement, channel_type}
+use Rattle.nomos_types.specs.Judgement.{Judgement, IsFree, SuitsMode, channel_type}
 use Rattle.nomos_types.specs.Premises.{HasType, by_side, SendsLabel, SendsValue, ReceivesValue, Acquires, Releases}
 use Rattle.nomos_check.specs.mirror.Finding.{IsFound}
 use Rattle.nomos_check.proofs.ChannelLaws.{head-unique}
@@ -93,18 +93,18 @@ module _ (lists : ProgramLists) (j : Judgement) where
       none t (same ∙ node_is)
 
   -- the mode of a channel's type
-  pub channel-mode : (c : Chan) (t : TypeId) → IsJudgement lists j → channel_type j c ≡ Some t
+  pub channel-mode : (c : Chan) (t : TypeId) → SuitsMode lists j → channel_type j c ≡ Some t
       → (m : Mode) × HasMode lists t m
   channel-mode chan.Own t h found =
       let same : j.offers ≡ t = cc in
       (j.mode, subst (λ (s : TypeId). HasMode lists s j.mode) same h.offers)
   channel-mode (chan.Var v) t h found =
-      let P : TypeId → Type 0 = λ s. (m : Mode) × HasMode lists s m × IsLinearMode m × IsTrue (may_hold j.mode m) in
-      let (m, has, linear, may) = all-bound P v.0 t j.linear h.linear_modes found in
+      let P : TypeId → Type 0 = λ s. (m : Mode) × HasMode lists s m × IsTrue (may_hold j.mode m) in
+      let (m, has, may) = all-bound P v.0 t j.linear h.held found in
       (m, has)
 
   -- a part of the node to which a channel's type unfolds has its place
-  pub part-in_range : (c : Chan) (n : TypeNode) (u : TypeId) → IsWellFormed lists → IsJudgement lists j
+  pub part-in_range : (c : Chan) (n : TypeNode) (u : TypeId) → IsWellFormed lists → SuitsMode lists j
       → HasType lists j c n → ((m : Mode) → (k : Mode) × Contains (part_modes lists m n) (u, k))
       → u.0 < length lists.types
   part-in_range c n u formed h (t, found, unfolds) among =
@@ -113,7 +113,7 @@ module _ (lists : ProgramLists) (j : Judgement) where
       mode-in_range formed.program (part-has_mode formed.program formed.contractive formed.modes has unfolds inside)
 
   -- a channel that is received has a type in its place
-  pub carried-in_range : (c : Chan) (a t : TypeId) → IsWellFormed lists → IsJudgement lists j
+  pub carried-in_range : (c : Chan) (a t : TypeId) → IsWellFormed lists → SuitsMode lists j
       → HasType lists j c (by_side c (node.Lolli a t) (node.Tensor a t)) → a.0 < length lists.types
   carried-in_range chan.Own a t formed h typed =
       part-in_range chan.Own (node.Lolli a t) a formed h typed (λ m. (carried_mode lists m a, (0, omega arith, refl)))
@@ -124,7 +124,7 @@ module _ (lists : ProgramLists) (j : Judgement) where
       ))
 
   -- and so has one that is sent
-  pub sent-in_range : (c : Chan) (a t : TypeId) → IsWellFormed lists → IsJudgement lists j
+  pub sent-in_range : (c : Chan) (a t : TypeId) → IsWellFormed lists → SuitsMode lists j
       → HasType lists j c (by_side c (node.Tensor a t) (node.Lolli a t)) → a.0 < length lists.types
   sent-in_range chan.Own a t formed h typed =
       part-in_range chan.Own (node.Tensor a t) a formed h typed (λ m. (carried_mode lists m a, (0, omega arith, refl)))

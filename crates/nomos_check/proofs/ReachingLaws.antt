@@ -1,5 +1,6 @@
 -- Each judgement that follows from the start of a declaration is reached, with one account, which has its lists.
 use Rattle.std.proofs.Common.{◌≡◌, ◌≤◌, ℕ, List, Contains, Some, slice_get, zip, refl, ap, sym, subst, arith}
+use Rattle.std.proofs.lemmas.List.Elements.{All-contains}
 use Rattle.std.specs.Map.{keys_of}
 use Rattle.nomos_ir.specs.declared.code_node.CodeNode.{CodeNode}
 use Rattle.nomos_ir.specs.declared.declaration.ProcDecl.{ProcDecl}
@@ -8,12 +9,13 @@ use Rattle.nomos_ir.specs.declared.lists.ProgramLists.{ProgramLists}
 use Rattle.nomos_types.specs.Derivation.{Follows}
 use Rattle.nomos_types.specs.Derivation as following
 use Rattle.nomos_types.specs.Equality.{no_amounts}
-use Rattle.nomos_types.specs.Judgement.{Judgement, IsJudgement, start_of}
+use Rattle.nomos_types.specs.Judgement.{Judgement, IsJudgement, SuitsMode, start_of}
 use Rattle.nomos_types.specs.Row.{Row}
 use Rattle.nomos_types.specs.Typed.{IsWellFormed}
 use Rattle.nomos_types.proofs.InversionLaws.{row-descends}
 use Rattle.nomos_types.proofs.RowLaws.{row-at}
-use Rattle.nomos_types.proofs.StartLaws.{start-is_judgement}
+use Rattle.nomos_types.proofs.StartLaws.{start-is_judgement, start-suits_mode}
+use Rattle.nomos_types.proofs.SuitsModeLaws.{row-keeps_mode}
 use Rattle.nomos_types.proofs.UniqueRowLaws.{row-unique}
 use Rattle.nomos_check.specs.Account.{Account, start_account}
 use Rattle.nomos_check.specs.Accounting.{accounts_after}
@@ -33,6 +35,7 @@ pair-parts j k a b same =
 -- A judgement that is reached stands beside itself, with its account.
 pub record StandsReached (lists : ProgramLists) (j : Judgement) (a : Account) : Type 0 where
   pub judgement : IsJudgement lists j
+  pub suits : SuitsMode lists j
   pub beside : Beside no_amounts no_amounts j j a
 
 module _ {lists : ProgramLists} {d : ProcDecl} (p : ℕ) (formed : IsWellFormed lists)
@@ -42,13 +45,16 @@ module _ {lists : ProgramLists} {d : ProcDecl} (p : ℕ) (formed : IsWellFormed 
   stands-reached _ _ reaching.start =
       record {
         judgement = start-is_judgement no_amounts p formed declared;
+        suits = start-suits_mode no_amounts p formed declared;
         beside = start-beside lists no_amounts no_amounts d;
       }
   stands-reached k b (reaching.next {j} {a = a} n after before there row among) =
       let s = stands-reached j a before in
       let at = at-place k b (each-beside formed s.judgement s.beside row there row) among in
+      let inside = paired-first after (accounts_after lists n a) k b among in
       record {
-        judgement = next-is_judgement formed s.judgement row (paired-first after (accounts_after lists n a) k b among);
+        judgement = next-is_judgement formed s.judgement row inside;
+        suits = All-contains (SuitsMode lists) after k (row-keeps_mode formed s.judgement s.suits row) inside;
         beside = second-beside at.beside;
       }
 

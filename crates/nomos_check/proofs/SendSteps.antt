@@ -21,7 +21,7 @@ use Rattle.nomos_types.specs.Row.{StandsAtCode}
 use Rattle.nomos_check.specs.Account.{Account}
 use Rattle.nomos_check.specs.Asking.{AsksPair, IsOfType}
 use Rattle.nomos_check.proofs.AskingLaws.{asks-at, asked-at}
-use Rattle.nomos_check.proofs.ChannelLaws.{channel-in_range, head-unique}
+use Rattle.nomos_check.proofs.ChannelLaws.{linear-has_place, head-unique}
 use Rattle.nomos_check.proofs.PassingSteps.{of-type_unique}
 use Rattle.nomos_check.proofs.SideLaws.{sent_channel-same}
 
@@ -74,7 +74,7 @@ only-bound v own = ap (λ t. cond t (Some own) None) (eq-eqb v.0 v.0 refl)
 pub only-in_range : (lists : ProgramLists) (j : Judgement) (v : VarId) (own : TypeId) → IsProgram lists
     → IsJudgement lists j → j.linear ≡ (v, own) ∷ [] → own.0 < length lists.types
 only-in_range lists j v own is_program h only =
-    channel-in_range lists j (chan.Var v) own is_program h (ap (bound_to v.0) only ∙ only-bound v own)
+    linear-has_place lists j v own is_program h (ap (bound_to v.0) only ∙ only-bound v own)
 
 -- where the types are not alike the process does not hand its place on
 pub forward-stays : (lists : ProgramLists) (j : Judgement) (v : VarId) (own : TypeId) → j.linear ≡ (v, own) ∷ []

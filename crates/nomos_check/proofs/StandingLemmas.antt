@@ -15,7 +15,7 @@ use Rattle.nomos_ir.specs.Program.{IsProgram}
 use Rattle.nomos_types.proofs.ModeLaws.{mode-in_range}
 use Rattle.nomos_types.specs.Amount.{dths}
 use Rattle.nomos_types.specs.Equality.{no_amounts}
-use Rattle.nomos_types.specs.Modes.{HasMode, IsLinearMode, may_hold}
+use Rattle.nomos_types.specs.Modes.{HasMode, IsLinearMode}
 use Rattle.nomos_check.specs.declared.standing.Standing.{Standing}
 use Rattle.nomos_check.specs.mirror.StandingData.{IsWithin, each_bound}
 
@@ -70,8 +70,8 @@ module _ {lists : ProgramLists} {s : Standing} (is_program : IsProgram lists) (w
   -- the types of channels are types of the program
   pub linear-in_range : (v : ℕ) (t : TypeId) → bound_to v s.linear ≡ Some t → t.0 < length lists.types
   linear-in_range v t found =
-      let Held : TypeId → Type 0 = λ u. (m : Mode) × HasMode lists u m × IsLinearMode m × (may_hold s.mode m ≡ true) in
-      let (m, has, linear, may) = all-bound Held v t s.linear within.judgement.linear_modes found in
+      let Held : TypeId → Type 0 = λ u. (m : Mode) × HasMode lists u m × IsLinearMode m in
+      let (m, has, linear) = all-bound Held v t s.linear within.judgement.linear_modes found in
       mode-in_range is_program has
 
   pub shared-in_range : (v : ℕ) (t : TypeId) → bound_to v s.shared ≡ Some t → t.0 < length lists.types
@@ -80,4 +80,4 @@ module _ {lists : ProgramLists} {s : Standing} (is_program : IsProgram lists) (w
       mode-in_range is_program (all-bound AtS v t s.shared within.judgement.shared_modes found)
 
   pub offers-in_range : s.offers.0 < length lists.types
-  offers-in_range = mode-in_range is_program within.judgement.offers
+  offers-in_range = mode-in_range is_program within.suits.offers

@@ -8,6 +8,7 @@ use Rattle.nomos_types.proofs.FollowingLaws.{place}
 use Rattle.nomos_types.proofs.InversionLaws.{alike-covers, derives-row, row-descends}
 use Rattle.nomos_types.proofs.JudgementLaws.{follows-is_judgement}
 use Rattle.nomos_types.proofs.RowsOverLaws.{HasRow, row-covers}
+use Rattle.nomos_types.proofs.SuitsModeLaws.{follows-suits_mode}
 use Rattle.nomos_types.specs.Derivation.{Derives, by_row, Follows, HasSkeleton, IsStuck}
 use Rattle.nomos_types.specs.Equality.{no_amounts}
 use Rattle.nomos_types.specs.Judgement.{Judgement, start_of}
@@ -25,7 +26,8 @@ module _ {lists : ProgramLists} {d : ProcDecl} (p : ℕ) (formed : IsWellFormed 
   pub stuck-rowless : {j : Judgement} → IsStuck lists d j → ¬ (HasRow lists no_amounts j)
   stuck-rowless {j} stuck (after, row) =
       let is_judgement = follows-is_judgement no_amounts p formed declared stuck.follows in
-      stuck.no_row j after (alike-same no_amounts formed.program formed.contractive is_judgement) row
+      let offers = (follows-suits_mode no_amounts p formed declared stuck.follows).offers in
+      stuck.no_row j after (alike-same no_amounts formed.program formed.contractive is_judgement offers) row
 
   -- where an instruction is stuck there is no skeleton
   pub stuck-no_skeleton : {j : Judgement} → IsStuck lists d j → ¬ (HasSkeleton lists d)
@@ -39,8 +41,9 @@ module _ {lists : ProgramLists} {d : ProcDecl} (p : ℕ) (formed : IsWellFormed 
   rows-derive zero rows j below follows = absurd (omega arith)
   rows-derive (suc m) rows j below follows =
       let is_judgement = follows-is_judgement no_amounts p formed declared follows in
+      let offers = (follows-suits_mode no_amounts p formed declared follows).offers in
       let (after, row) = rows j follows in
-      by_row j j.q after (alike-same no_amounts formed.program formed.contractive is_judgement) (omega arith) row
+      by_row j j.q after (alike-same no_amounts formed.program formed.contractive is_judgement offers) (omega arith) row
       (λ next among. rows-derive m rows next (omega (arith, row-descends formed row among))
       (Follows.next after follows row among))
 

@@ -54,6 +54,7 @@ module _ {lists : ProgramLists} {d : ProcDecl} (p : ℕ) (formed : IsWellFormed 
       record {
         code = reached-code (shape_of s) a reached;
         judgement = (stands-reached p formed declared (shape_of s) a reached).judgement;
+        suits = (stands-reached p formed declared (shape_of s) a reached).suits;
         amounts =
             λ k e inside.
             is-amount formed.program (get_or s.lists k e).1.amount

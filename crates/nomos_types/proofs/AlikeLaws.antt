@@ -153,10 +153,10 @@ alike_channels-empty none = refl
 
 -- ---- judgements
 
--- a judgement is like itself
-pub alike-same : {lists : ProgramLists} {j : Judgement} → (x : Annotations) → IsProgram lists → IsContractive lists
-    → IsJudgement lists j → Alike lists x j j
-alike-same {lists = lists} {j = j} x is_program contractive is_judgement =
+-- a judgement is like itself, where what it offers has a mode
+pub alike-same : {lists : ProgramLists} {j : Judgement} {m : Mode} → (x : Annotations) → IsProgram lists
+    → IsContractive lists → IsJudgement lists j → HasMode lists j.offers m → Alike lists x j j
+alike-same {lists = lists} {j = j} x is_program contractive is_judgement its_mode =
     record {
       mode = refl;
       kinds = refl;
@@ -167,7 +167,7 @@ alike-same {lists = lists} {j = j} x is_program contractive is_judgement =
           (λ k d inside. let there = is_judgement.linear_modes k d inside in (there.0, there.1));
       q = refl;
       code = refl;
-      offers = alike_types-same x is_program contractive is_judgement.offers;
+      offers = alike_types-same x is_program contractive its_mode;
     }
 
 -- likeness of judgements goes back

@@ -1,6 +1,6 @@
 -- Judgements that are alike but for their potential go on so, each beside the other; and what is like a judgement is
 -- one.
-use Rattle.std.proofs.Common.{◌≡◌, ◌≤◌, ◌+◌, ℕ, zero, suc, List, [], ◌∷◌, All, Contains, slice_get, refl, sym, subst, ap, ◌∙◌, arith}
+use Rattle.std.proofs.Common.{◌≡◌, ◌≤◌, ◌+◌, ℕ, zero, suc, IsTrue, List, [], ◌∷◌, All, Contains, slice_get, refl, sym, subst, ap, ◌∙◌, arith}
 use Rattle.std.proofs.lemmas.List.Elements.{All-head, All-tail, All-cons}
 use Rattle.std.specs.List.Sorted.{IsStrictlySortedBy}
 use Rattle.std.specs.Map.{keys_of}
@@ -16,7 +16,6 @@ use Rattle.nomos_types.proofs.CoveringLaws.{Covers, CoversEach, none, more}
 use Rattle.nomos_types.proofs.CoveringRowLaws.{rows-cover}
 use Rattle.nomos_types.proofs.DerivationLaws.{derives-following}
 use Rattle.nomos_types.proofs.InversionLaws.{derives-row}
-use Rattle.nomos_types.proofs.JudgementParts.{MayBeHeld}
 use Rattle.nomos_types.proofs.ModeLaws.{mode-unique}
 use Rattle.nomos_types.proofs.PremisesOverLaws.{count-same, modes-over}
 use Rattle.nomos_types.proofs.RowLaws.{row-at, row-inverted}
@@ -25,8 +24,8 @@ use Rattle.nomos_types.specs.Alike.{Alike, AlikeChannels}
 use Rattle.nomos_types.specs.Alike as alikes
 use Rattle.nomos_types.specs.Amount.{Annotations}
 use Rattle.nomos_types.specs.Derivation.{Derives, Follows}
-use Rattle.nomos_types.specs.Judgement.{Judgement, ListType, IsJudgement, count_one, parts_with, with_potential}
-use Rattle.nomos_types.specs.Modes.{HasMode}
+use Rattle.nomos_types.specs.Judgement.{Judgement, ListType, IsJudgement, SuitsMode, count_one, parts_with, with_potential}
+use Rattle.nomos_types.specs.Modes.{HasMode, IsLinearMode, may_hold}
 use Rattle.nomos_types.specs.Row.{Row, StandsAtCode}
 use Rattle.nomos_types.specs.Typed.{IsWellFormed}
 
@@ -60,16 +59,16 @@ alike_channels-keys (alikes.channel v a b cs ds types rest) =
 module _ {lists : ProgramLists} {x : Annotations} (formed : IsWellFormed lists) where
   -- ---- what is like a judgement
 
-  -- channels may be held where those that are like them may
-  held-over : (m : Mode) (cs ds : List (VarId × TypeId)) → AlikeChannels lists x cs ds
-      → All (λ b. MayBeHeld lists m b.1) ds → All (λ b. MayBeHeld lists m b.1) cs
-  held-over m [] [] alikes.none held = held
-  held-over m _ _ (alikes.channel v a b cs ds types rest) held =
-      let Held : VarId × TypeId → Type 0 = λ e. MayBeHeld lists m e.1 in
-      let (n, at_n, linear, may) = All-head Held (v, b) ds held in
+  -- what holds of the modes of channels holds of those of channels that are like them
+  modes-alike : (P : Mode → Type 0) (cs ds : List (VarId × TypeId)) → AlikeChannels lists x cs ds
+      → All (λ b. (m : Mode) × HasMode lists b.1 m × P m) ds → All (λ b. (m : Mode) × HasMode lists b.1 m × P m) cs
+  modes-alike P [] [] alikes.none all = all
+  modes-alike P _ _ (alikes.channel v a b cs ds types rest) all =
+      let Holds : VarId × TypeId → Type 0 = λ e. (m : Mode) × HasMode lists e.1 m × P m in
+      let (n, at_n, holds) = All-head Holds (v, b) ds all in
       let same : types.mode ≡ n = mode-unique formed.program types.right_mode at_n in
       let at : HasMode lists a n = subst (λ (k : Mode). HasMode lists a k) same types.left_mode in
-      All-cons Held (v, a) cs (n, at, linear, may) (held-over m cs ds rest (All-tail Held (v, b) ds held))
+      All-cons Holds (v, a) cs (n, at, holds) (modes-alike P cs ds rest (All-tail Holds (v, b) ds all))
 
   -- a variable is bound in as many parts of judgements that are alike
   parts-alike : {j k : Judgement} → Alike lists x j k → (v : ℕ) → parts_with j v ≡ parts_with k v
@@ -86,8 +85,6 @@ module _ {lists : ProgramLists} {x : Annotations} (formed : IsWellFormed lists) 
   pub alike-is_judgement : {j k : Judgement} → Alike lists x j k → IsJudgement lists k → IsJudgement lists j
   alike-is_judgement {j} {k} alike h =
       let Sorted : List VarId → Type 0 = λ vs. IsStrictlySortedBy by_number vs in
-      let at_one : alike.offers.mode ≡ k.mode = mode-unique formed.program alike.offers.right_mode h.offers in
-      let held = held-over k.mode j.linear k.linear alike.linear h.linear_modes in
       record {
         kinds = subst (λ (b : List (VarId × Kind)). IsAscending b) (sym alike.kinds) h.kinds;
         lists_ascend = subst (λ (b : List (VarId × ListType)). IsAscending b) (sym alike.same_lists) h.lists_ascend;
@@ -95,7 +92,18 @@ module _ {lists : ProgramLists} {x : Annotations} (formed : IsWellFormed lists) 
         linear = subst Sorted (sym (alike_channels-keys alike.linear)) h.linear;
         apart = λ v. omega (arith, parts-alike alike v, h.apart v);
         shared_modes = modes-over formed mode.S j.shared k.shared alike.shared h.shared_modes;
-        linear_modes = subst (λ (m : Mode). All (λ b. MayBeHeld lists m b.1) j.linear) (sym alike.mode) held;
+        linear_modes = modes-alike IsLinearMode j.linear k.linear alike.linear h.linear_modes;
+      }
+
+  -- and suits its mode where that does
+  pub alike-suits_mode : {j k : Judgement} → Alike lists x j k → SuitsMode lists k → SuitsMode lists j
+  alike-suits_mode {j} {k} alike s =
+      let at_one : alike.offers.mode ≡ k.mode = mode-unique formed.program alike.offers.right_mode s.offers in
+      let May : Mode → Mode → Type 0 = λ holder m. IsTrue (may_hold holder m) in
+      let Held : Mode → Type 0 = λ holder. All (λ b. (m : Mode) × HasMode lists b.1 m × May holder m) j.linear in
+      let held : Held k.mode = modes-alike (May k.mode) j.linear k.linear alike.linear s.held in
+      record {
+        held = subst Held (sym alike.mode) held;
         offers = subst (λ (m : Mode). HasMode lists j.offers m) (at_one ∙ sym alike.mode) alike.offers.left_mode;
       }
 
@@ -136,9 +144,10 @@ module _ {lists : ProgramLists} {x : Annotations} (formed : IsWellFormed lists) 
       }
 
   -- whatever its potential, a judgement is like itself but for that
-  pub aside-itself : {j : Judgement} (q : ℕ) → IsJudgement lists j → AlikeAside lists x (with_potential j q) j
-  aside-itself q is_judgement =
-      let self = alike-same x formed.program formed.contractive is_judgement in
+  pub aside-itself : {j : Judgement} {m : Mode} (q : ℕ) → IsJudgement lists j → HasMode lists j.offers m
+      → AlikeAside lists x (with_potential j q) j
+  aside-itself q is_judgement its_mode =
+      let self = alike-same x formed.program formed.contractive is_judgement its_mode in
       record {
         mode = refl;
         kinds = refl;
@@ -156,7 +165,7 @@ module _ {lists : ProgramLists} {x : Annotations} (formed : IsWellFormed lists) 
   next-aside {j} {k} {after} {later} is_judgement aside own other =
       let m = j.q + k.q in
       let covers_own : Covers lists x (with_potential j m) j =
-      aside-covers j j m (aside-itself j.q is_judgement) (omega arith)
+      aside-covers j j m (aside-itself j.q is_judgement aside.offers.left_mode) (omega arith)
       in
       let covers_other : Covers lists x (with_potential j m) k = aside-covers j k m aside (omega arith) in
       let (middle, row) = row-covers formed covers_other other in

@@ -1,5 +1,5 @@
--- What holds of all branches of a choice holds of the one after a label; and where labels differ, a choice goes on after
--- the label of a branch as the branch says.
+-- What holds of all branches of a choice holds of the one after a label; and where labels differ, a choice goes on
+-- after the label of a branch as the branch says.
 use Rattle.std.proofs.Common.{◌≡◌, ◌≢◌, ◌<◌, ◌==◌, ℕ, zero, suc, Bool, true, false, cond, List, [], ◌∷◌, map, length, get_or, All, Contains, find, Option, Some, option_map, refl, sym, ap, subst, ◌∙◌, eq-eqb, ne_eqb, arith}
 use Rattle.std.proofs.lemmas.List.{get_or-map, length-map}
 use Rattle.std.proofs.lemmas.List.Elements.{All-head, All-tail}

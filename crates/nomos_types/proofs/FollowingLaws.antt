@@ -191,7 +191,8 @@ module _ {lists : ProgramLists} {x : Annotations} (is_program : IsProgram lists)
       same-next after row among (subst (λ (s : List Judgement). Contains s k) lists_same among_too) places
 
   -- the place of a judgement that follows from the start of a declaration is one of its instructions
-  pub follows-code : {d : ProcDecl} {j : Judgement} → Follows lists x (start_of lists x d) j → IsCodeOf lists d (place j)
+  pub follows-code : {d : ProcDecl} {j : Judgement} → Follows lists x (start_of lists x d) j
+      → IsCodeOf lists d (place j)
   follows-code Follows.first = IsCodeOf.begins
   follows-code (Follows.next after before row among) =
       let led = led-by after row among in

@@ -4,6 +4,7 @@ use Rattle.std.proofs.Common.{◌<◌, ◌↔◌, ℕ, List, map, Contains, refl
 use Rattle.std.proofs.lemmas.List.Elements.{All-contains}
 use Rattle.nomos_ir.specs.CodeParts.{code_next}
 use Rattle.nomos_ir.specs.declared.lists.ProgramLists.{ProgramLists}
+use Rattle.nomos_ir.specs.declared.mode.Mode.{Mode}
 use Rattle.nomos_types.proofs.AlikeLaws.{alike-same}
 use Rattle.nomos_types.proofs.CoveringLaws.{Covers}
 use Rattle.nomos_types.proofs.DerivationLaws.{derives-next}
@@ -15,6 +16,7 @@ use Rattle.nomos_types.specs.Alike.{Alike}
 use Rattle.nomos_types.specs.Amount.{Annotations}
 use Rattle.nomos_types.specs.Derivation.{Derives, by_row}
 use Rattle.nomos_types.specs.Judgement.{Judgement, IsJudgement, with_potential}
+use Rattle.nomos_types.specs.Modes.{HasMode}
 use Rattle.nomos_types.specs.Row.{Row}
 use Rattle.nomos_types.specs.Typed.{IsWellFormed}
 
@@ -42,6 +44,11 @@ row-descends {lists} {x} {j} {k} {after} formed row among =
     (row-places lists x j after n says) to in
     All-contains (λ (m : ℕ). m < place j) (code_next n) (place k) (formed.program.parts.code (place j) n there) next
 
+-- what a judgement offers that has a derivation has a mode
+pub derives-offers_mode : {lists : ProgramLists} {x : Annotations} {j : Judgement} → Derives lists x j
+    → (m : Mode) × HasMode lists j.offers m
+derives-offers_mode (by_row k q after alike enough row each) = (alike.offers.mode, alike.offers.left_mode)
+
 module _ {lists : ProgramLists} {x : Annotations} {j : Judgement} (formed : IsWellFormed lists) where
   -- a row applies to a judgement that has a derivation
   pub derives-row : Derives lists x j → HasRow lists x j
@@ -59,14 +66,14 @@ module _ {lists : ProgramLists} {x : Annotations} {j : Judgement} (formed : IsWe
       row-covers formed covers row
 
   -- what has a derivation begins with a row of its own, and what a row of its own begins has one
-  pub derives-exact : IsJudgement lists j
+  pub derives-exact : {m : Mode} → IsJudgement lists j → HasMode lists j.offers m
       → Derives lists x j
       ↔ ((after : List Judgement) × Row lists x j after × ((k : Judgement) → Contains after k → Derives lists x k))
-  derives-exact is_judgement = (
+  derives-exact is_judgement its_mode = (
     λ derivation.
         let (after, row) = derives-row derivation in
         (after, row, λ k among. derives-next formed derivation row among),
     λ begun.
-        let self = alike-same x formed.program formed.contractive is_judgement in
+        let self = alike-same x formed.program formed.contractive is_judgement its_mode in
         by_row j j.q begun.0 self (omega arith) begun.1 begun.2,
   )

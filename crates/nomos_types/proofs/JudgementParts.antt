@@ -1,6 +1,6 @@
--- What keeps a judgement a judgement: another instruction or potential, another type offered, a variable bound or
--- unbound in one of its maps.
-use Rattle.std.proofs.Common.{◌≡◌, ◌≢◌, ◌≤◌, inl, inr, ℕ, ◌+◌, IsTrue, List, All, Option, Some, None, subst, ap, sym, arith}
+-- What keeps a judgement a judgement, and suited to its mode: another instruction or potential, another type offered, a
+-- variable bound or unbound in one of its maps.
+use Rattle.std.proofs.Common.{◌≡◌, ◌≢◌, ◌≤◌, inl, inr, ℕ, ◌+◌, IsTrue, List, Option, Some, None, subst, ap, sym, arith}
 use Rattle.std.proofs.lemmas.Bool.{cases_eq}
 use Rattle.nomos_ir.specs.declared.code_node.Chan.{Chan}
 use Rattle.nomos_ir.specs.declared.code_node.Chan.TheVariants as chan
@@ -12,8 +12,8 @@ use Rattle.nomos_ir.specs.declared.lists.ProgramLists.{ProgramLists}
 use Rattle.nomos_ir.specs.declared.mode.Mode.{Mode}
 use Rattle.nomos_ir.specs.declared.mode.Mode.TheVariants as mode
 use Rattle.nomos_ir.specs.Bindings.{bound_to, bind, unbind, IsAscending}
-use Rattle.nomos_ir.proofs.BindingLaws.{bound-after_bind, bound-after_bind_other, bound-after_unbind, bound-after_unbind_other, bind-ascending, unbind-ascending, all-after_bind, all-after_unbind}
-use Rattle.nomos_types.specs.Judgement.{Judgement, ListType, count_one, parts_with, IsFree, IsJudgement, channel_type, goes_on, binds_value, binds_list, binds_channel}
+use Rattle.nomos_ir.proofs.BindingLaws.{bound-after_bind, bound-after_bind_other, bound-after_unbind, bound-after_unbind_other, bind-ascending, unbind-ascending, all-bound, all-after_bind, all-after_unbind}
+use Rattle.nomos_types.specs.Judgement.{Judgement, ListType, count_one, parts_with, IsFree, IsJudgement, SuitsMode, channel_type, goes_on, binds_value, binds_list, binds_channel}
 use Rattle.nomos_types.specs.Modes.{HasMode, IsLinearMode, may_hold}
 
 -- ---- in how many maps a variable is bound
@@ -46,16 +46,25 @@ by-variable : (P : ℕ → Type 0) (v : ℕ) → P v → ((w : ℕ) → w ≢ v 
 by-variable P v here others w =
     elim (cases_eq w v) [ inl same ↦ subst P (sym same) here | inr other ↦ others w other ]
 
--- ---- what a process may hold
+-- ---- modes of channels
 
--- the type of a channel that is used exactly once, in the hands of a process of this mode
+-- the type of a channel that is used exactly once
+abbrev pub IsLinearType : ProgramLists → TypeId → Type 0
+IsLinearType lists t = (m : Mode) × HasMode lists t m × IsLinearMode m
+
+-- a channel of this mode is a reference, or used exactly once
+abbrev pub MayCome : Mode → Type 0
+MayCome mode.S = Unit {0}
+MayCome m = IsLinearMode m
+
+-- a process of this mode may hold a channel of the type
 abbrev pub MayBeHeld : ProgramLists → Mode → TypeId → Type 0
-MayBeHeld lists holder t = (m : Mode) × HasMode lists t m × IsLinearMode m × IsTrue (may_hold holder m)
+MayBeHeld lists holder t = (m : Mode) × HasMode lists t m × IsTrue (may_hold holder m)
 
--- a channel of this mode may come into the hands of a process
-abbrev pub MayCome : Mode → Mode → Type 0
-MayCome holder mode.S = Unit {0}
-MayCome holder m = IsLinearMode m × IsTrue (may_hold holder m)
+-- a channel of this mode is a reference, or may be held by a process
+abbrev pub MayBeTaken : Mode → Mode → Type 0
+MayBeTaken holder mode.S = Unit {0}
+MayBeTaken holder m = IsTrue (may_hold holder m)
 
 module _ {lists : ProgramLists} {j : Judgement} (h : IsJudgement lists j) where
   -- ---- another place, another type offered
@@ -71,13 +80,11 @@ module _ {lists : ProgramLists} {j : Judgement} (h : IsJudgement lists j) where
         apart = h.apart;
         shared_modes = h.shared_modes;
         linear_modes = h.linear_modes;
-        offers = h.offers;
       }
 
-  -- at another mode, with a type of that mode, where what it holds may be held at that mode
-  pub taken-over : (m : Mode) (t : TypeId) → HasMode lists t m → All (λ b. MayBeHeld lists m b.1) j.linear
-      → IsJudgement lists (record j { mode = m; offers = t })
-  taken-over m t its_mode held =
+  -- at another mode, with another type
+  pub taken-over : (m : Mode) (t : TypeId) → IsJudgement lists (record j { mode = m; offers = t })
+  taken-over m t =
       record {
         kinds = h.kinds;
         lists_ascend = h.lists_ascend;
@@ -85,16 +92,15 @@ module _ {lists : ProgramLists} {j : Judgement} (h : IsJudgement lists j) where
         linear = h.linear;
         apart = h.apart;
         shared_modes = h.shared_modes;
-        linear_modes = held;
-        offers = its_mode;
+        linear_modes = h.linear_modes;
       }
 
   -- ---- a variable bound
 
   -- a channel that is used exactly once, at a variable that is in no other map
-  pub linear-bound : (v : VarId) (t : TypeId) → others_with j v.0 ≡ 0 → MayBeHeld lists j.mode t
+  pub linear-bound : (v : VarId) (t : TypeId) → others_with j v.0 ≡ 0 → IsLinearType lists t
       → IsJudgement lists (record j { linear = bind v t j.linear })
-  linear-bound v t free held =
+  linear-bound v t free is_linear =
       let after : Judgement = record j { linear = bind v t j.linear } in
       let here : parts_with after v.0 ≤ 1 = omega (arith, count-bound v t j.linear) in
       let others : (w : ℕ) → w ≢ v.0 → parts_with after w ≤ 1 =
@@ -107,8 +113,7 @@ module _ {lists : ProgramLists} {j : Judgement} (h : IsJudgement lists j) where
         linear = bind-ascending v t j.linear h.linear;
         apart = by-variable (λ w. parts_with after w ≤ 1) v.0 here others;
         shared_modes = h.shared_modes;
-        linear_modes = all-after_bind (MayBeHeld lists j.mode) v t j.linear h.linear_modes held;
-        offers = h.offers;
+        linear_modes = all-after_bind (IsLinearType lists) v t j.linear h.linear_modes is_linear;
       }
 
   -- a reference, at a free variable
@@ -128,7 +133,6 @@ module _ {lists : ProgramLists} {j : Judgement} (h : IsJudgement lists j) where
         apart = by-variable (λ w. parts_with after w ≤ 1) v.0 here others;
         shared_modes = all-after_bind (λ (s : TypeId). HasMode lists s mode.S) v t j.shared h.shared_modes its_mode;
         linear_modes = h.linear_modes;
-        offers = h.offers;
       }
 
   -- a value, at a free variable
@@ -147,7 +151,6 @@ module _ {lists : ProgramLists} {j : Judgement} (h : IsJudgement lists j) where
         apart = by-variable (λ w. parts_with after w ≤ 1) v.0 here others;
         shared_modes = h.shared_modes;
         linear_modes = h.linear_modes;
-        offers = h.offers;
       }
 
   -- a list, at a free variable
@@ -166,16 +169,15 @@ module _ {lists : ProgramLists} {j : Judgement} (h : IsJudgement lists j) where
         apart = by-variable (λ w. parts_with after w ≤ 1) v.0 here others;
         shared_modes = h.shared_modes;
         linear_modes = h.linear_modes;
-        offers = h.offers;
       }
 
-  -- a channel of any mode that may come, at a free variable
-  pub channel-bound : (v : VarId) (m : Mode) (t : TypeId) → IsFree j v → HasMode lists t m → MayCome j.mode m
+  -- a channel of any such mode, at a free variable
+  pub channel-bound : (v : VarId) (m : Mode) (t : TypeId) → IsFree j v → HasMode lists t m → MayCome m
       → IsJudgement lists (binds_channel j v m t)
   channel-bound v mode.S t free its_mode may = shared-bound v t free its_mode
-  channel-bound v mode.R t free its_mode may = linear-bound v t (omega arith) (mode.R, its_mode, may.0, may.1)
-  channel-bound v mode.L t free its_mode may = linear-bound v t (omega arith) (mode.L, its_mode, may.0, may.1)
-  channel-bound v mode.T t free its_mode may = linear-bound v t (omega arith) (mode.T, its_mode, may.0, may.1)
+  channel-bound v mode.R t free its_mode may = linear-bound v t (omega arith) (mode.R, its_mode, may)
+  channel-bound v mode.L t free its_mode may = linear-bound v t (omega arith) (mode.L, its_mode, may)
+  channel-bound v mode.T t free its_mode may = linear-bound v t (omega arith) (mode.T, its_mode, may)
 
   -- ---- a variable unbound
 
@@ -189,8 +191,7 @@ module _ {lists : ProgramLists} {j : Judgement} (h : IsJudgement lists j) where
         linear = unbind-ascending v j.linear h.linear;
         apart = λ w. omega (arith, count-unbind w v j.linear h.linear, h.apart w);
         shared_modes = h.shared_modes;
-        linear_modes = all-after_unbind (MayBeHeld lists j.mode) v j.linear h.linear_modes;
-        offers = h.offers;
+        linear_modes = all-after_unbind (IsLinearType lists) v j.linear h.linear_modes;
       }
 
   -- a list that is used up
@@ -204,20 +205,19 @@ module _ {lists : ProgramLists} {j : Judgement} (h : IsJudgement lists j) where
         apart = λ w. omega (arith, count-unbind w v j.lists h.lists_ascend, h.apart w);
         shared_modes = h.shared_modes;
         linear_modes = h.linear_modes;
-        offers = h.offers;
       }
 
 -- ---- a channel that goes on
 
 -- the channel may go on at a type
 abbrev pub MayGoOn : ProgramLists → Judgement → Chan → TypeId → Type 0
-MayGoOn lists j chan.Own t = HasMode lists t j.mode
-MayGoOn lists j (chan.Var v) t = (others_with j v.0 ≡ 0) × MayBeHeld lists j.mode t
+MayGoOn lists j chan.Own t = Unit {0}
+MayGoOn lists j (chan.Var v) t = (others_with j v.0 ≡ 0) × IsLinearType lists t
 
 -- it goes on
 pub gone-on : {lists : ProgramLists} {j : Judgement} → IsJudgement lists j → (c : Chan) (t : TypeId) (next : CodeId)
     → MayGoOn lists j c t → IsJudgement lists (goes_on j c t next)
-gone-on {j = j} h chan.Own t next may = placed-elsewhere (taken-over h j.mode t may h.linear_modes) j.q next
+gone-on {j = j} h chan.Own t next may = placed-elsewhere (taken-over h j.mode t) j.q next
 gone-on {j = j} h (chan.Var v) t next may = placed-elsewhere (linear-bound h v t may.0 may.1) j.q next
 
 -- a variable that is free stays free when a channel goes on
@@ -229,3 +229,47 @@ free-gone_on {j = j} h (chan.Var v) s t next y found free =
     let here : count_one (bound_to v.0 j.linear) ≡ 1 = ap (λ (o : Option TypeId). count_one o) found in
     let other : y.0 ≢ v.0 = λ same. let there = subst (λ (w : ℕ). parts_with j w ≡ 0) same free in omega arith in
     omega (arith, count-other y.0 v t j.linear other)
+
+-- ---- what suits a mode
+
+-- a channel of a process of this mode may go on at a type
+abbrev pub MayGoAt : ProgramLists → Mode → Chan → TypeId → Type 0
+MayGoAt lists m chan.Own t = HasMode lists t m
+MayGoAt lists m (chan.Var v) t = MayBeHeld lists m t
+
+module _ {lists : ProgramLists} {j : Judgement} (h : SuitsMode lists j) where
+  -- with another channel that it may hold
+  suits-bound : (v : VarId) (t : TypeId) → MayBeHeld lists j.mode t
+      → SuitsMode lists (record j { linear = bind v t j.linear })
+  suits-bound v t may =
+      record { held = all-after_bind (MayBeHeld lists j.mode) v t j.linear h.held may; offers = h.offers }
+
+  -- with another channel, at a variable
+  pub suits-channel : (v : VarId) (m : Mode) (t : TypeId) → HasMode lists t m → MayBeTaken j.mode m
+      → SuitsMode lists (binds_channel j v m t)
+  suits-channel v mode.S t its_mode may = record { held = h.held; offers = h.offers }
+  suits-channel v mode.R t its_mode may = suits-bound v t (mode.R, its_mode, may)
+  suits-channel v mode.L t its_mode may = suits-bound v t (mode.L, its_mode, may)
+  suits-channel v mode.T t its_mode may = suits-bound v t (mode.T, its_mode, may)
+
+  -- without a channel that is used up
+  pub suits-unbound : (v : ℕ) → SuitsMode lists (record j { linear = unbind v j.linear })
+  suits-unbound v =
+      record { held = all-after_unbind (MayBeHeld lists j.mode) v j.linear h.held; offers = h.offers }
+
+  -- where a channel goes on at a type
+  pub suits-gone_on : (c : Chan) (t : TypeId) (next : CodeId) → MayGoAt lists j.mode c t
+      → SuitsMode lists (goes_on j c t next)
+  suits-gone_on chan.Own t next may = record { held = h.held; offers = may }
+  suits-gone_on (chan.Var v) t next may =
+      record { held = all-after_bind (MayBeHeld lists j.mode) v t j.linear h.held may; offers = h.offers }
+
+  -- it may do so at one that has the modes of the channel's type
+  pub may-go_at : (c : Chan) (s t : TypeId) → channel_type j c ≡ Some s
+      → ((m : Mode) → HasMode lists s m → HasMode lists t m) → MayGoAt lists j.mode c t
+  may-go_at chan.Own s t found onward =
+      let same : j.offers ≡ s = cc in
+      onward j.mode (subst (λ (r : TypeId). HasMode lists r j.mode) same h.offers)
+  may-go_at (chan.Var v) s t found onward =
+      let (m, its_mode, may) = all-bound (MayBeHeld lists j.mode) v.0 s j.linear h.held found in
+      (m, onward m its_mode, may)

@@ -32,6 +32,7 @@ pub mod RowExamples
 pub mod RowLaws
 pub mod RowsOverLaws
 pub mod StartLaws
+pub mod SuitsModeLaws
 pub mod SynchronizingLaws
 pub mod ToldModeLaws
 pub mod UniqueRowLaws

@@ -1,4 +1,4 @@
--- The start of a declaration is a judgement.
+-- The start of a declaration is a judgement, and suits its mode.
 use Rattle.std.proofs.Common.{◌≡◌, ◌≤◌, ℕ, ◌+◌, ◌==◌, Bool, true, false, cond, not, inl, inr, IsTrue, List, [], ◌∷◌, ◌++◌, map, filter, get_or, All, Option, Some, None, slice_get, subst, ap, refl, arith, eqb-true}
 use Rattle.std.proofs.lemmas.List.{map-append}
 use Rattle.std.proofs.lemmas.List.Elements.{All-filter, filter_passes, Contains-get_or}
@@ -21,10 +21,10 @@ use Rattle.nomos_ir.specs.Parameters.{me_parameter, proc_parameters}
 use Rattle.nomos_ir.proofs.BindingLaws.{bindings_of-ascending, bound-in_bindings_of, all-in_bindings_of}
 use Rattle.nomos_ir.proofs.NodeLaws.{All-at}
 use Rattle.nomos_types.specs.Amount.{Annotations}
-use Rattle.nomos_types.specs.Judgement.{ListType, count_one, parts_with, IsJudgement, payer_kinds, value_par, list_par, is_shared_mode, is_shared, start_of}
+use Rattle.nomos_types.specs.Judgement.{ListType, count_one, parts_with, IsJudgement, SuitsMode, payer_kinds, value_par, list_par, is_shared_mode, is_shared, start_of}
 use Rattle.nomos_types.specs.Modes.{HasMode, IsLinearMode, may_hold, as_parameter, head_mode, parameter_mode}
 use Rattle.nomos_types.specs.Typed.{IsWellFormed}
-use Rattle.nomos_types.proofs.JudgementParts.{MayBeHeld}
+use Rattle.nomos_types.proofs.JudgementParts.{IsLinearType, MayBeHeld}
 use Rattle.nomos_types.proofs.ModeLaws.{parameter-has_mode, offered-has_mode}
 use Rattle.nomos_types.proofs.OccurrenceLaws.{one_at, count-here, count-elsewhere, count-append, differ-once}
 
@@ -148,7 +148,6 @@ start-is_judgement {lists = lists} {d = d} x p formed found =
     let is_reference = is_shared lists in
     let is_used_once : VarId × TypeId → Bool = λ par. not (is_shared lists par) in
     let HasItsMode : VarId × TypeId → Type 0 = λ par. HasMode lists par.1 (parameter_mode lists par.1) in
-    let IsHeld : VarId × TypeId → Type 0 = λ par. IsTrue (may_hold d.mode (parameter_mode lists par.1)) in
     let Differ : ProcDecl → Type 0 = λ e. AllDiffer (proc_parameters e) in
     let differ = All-at Differ lists.procs p d formed.program.parameters.procs found in
     let have_modes : All HasItsMode d.channels =
@@ -156,13 +155,9 @@ start-is_judgement {lists = lists} {d = d} x p formed found =
     let par = get_or d.channels k e in
     parameter-has_mode lists p d par.0 par.1 found (Contains-get_or d.channels k e inside)
     in
-    let MayHold : ProcDecl → Type 0 = λ e.
-    All (λ par. IsTrue (may_hold e.mode (parameter_mode lists par.1))) e.channels in
-    let held : All IsHeld d.channels = All-at MayHold lists.procs p d formed.modes.held found in
     let references_have = All-filter is_reference HasItsMode d.channels have_modes in
     let references_are = filter_passes is_reference d.channels in
     let used_have = All-filter is_used_once HasItsMode d.channels have_modes in
-    let used_held = All-filter is_used_once IsHeld d.channels held in
     let used_are = filter_passes is_used_once d.channels in
     let references_at_s : All (λ par. HasMode lists par.1 mode.S) (filter is_reference d.channels) =
     λ k e inside.
@@ -170,11 +165,11 @@ start-is_judgement {lists = lists} {d = d} x p formed found =
     let at_s = reference-at_s (parameter_mode lists par.1) (references_are k e inside) in
     subst (λ (m : Mode). HasMode lists par.1 m) at_s (references_have k e inside)
     in
-    let used_may : All (λ par. MayBeHeld lists d.mode par.1) (filter is_used_once d.channels) =
+    let used_linear : All (λ par. IsLinearType lists par.1) (filter is_used_once d.channels) =
     λ k e inside.
     let par = get_or (filter is_used_once d.channels) k e in
     let linear = parameter-linear (head_mode lists (type_node lists par.1.0)) (used_are k e inside) in
-    (parameter_mode lists par.1, used_have k e inside, linear, used_held k e inside)
+    (parameter_mode lists par.1, used_have k e inside, linear)
     in
     let AtS : TypeId → Type 0 = λ t. HasMode lists t mode.S in
     let values = flat_map (λ (par : Par). value_par par.var par.kind par.amount) d.values in
@@ -185,6 +180,28 @@ start-is_judgement {lists = lists} {d = d} x p formed found =
       linear = bindings_of-ascending (filter is_used_once d.channels);
       apart = λ v. start-apart lists x d v differ;
       shared_modes = all-in_bindings_of AtS (filter is_reference d.channels) references_at_s;
-      linear_modes = all-in_bindings_of (MayBeHeld lists d.mode) (filter is_used_once d.channels) used_may;
+      linear_modes = all-in_bindings_of (IsLinearType lists) (filter is_used_once d.channels) used_linear;
+    }
+
+-- it suits the mode of the declaration
+pub start-suits_mode : {lists : ProgramLists} {d : ProcDecl} → (x : Annotations) (p : ℕ) → IsWellFormed lists
+    → slice_get lists.procs p ≡ Some d → SuitsMode lists (start_of lists x d)
+start-suits_mode {lists = lists} {d = d} x p formed found =
+    let is_used_once : VarId × TypeId → Bool = λ par. not (is_shared lists par) in
+    let IsHeld : VarId × TypeId → Type 0 = λ par. MayBeHeld lists d.mode par.1 in
+    let MayHold : ProcDecl → Type 0 = λ e.
+    All (λ par. IsTrue (may_hold e.mode (parameter_mode lists par.1))) e.channels in
+    let may : All (λ par. IsTrue (may_hold d.mode (parameter_mode lists par.1))) d.channels =
+    All-at MayHold lists.procs p d formed.modes.held found
+    in
+    let held : All IsHeld d.channels =
+    λ k e inside.
+    let par = get_or d.channels k e in
+    let its_mode = parameter-has_mode lists p d par.0 par.1 found (Contains-get_or d.channels k e inside) in
+    (parameter_mode lists par.1, its_mode, may k e inside)
+    in
+    let used_held = All-filter is_used_once IsHeld d.channels held in
+    record {
+      held = all-in_bindings_of (MayBeHeld lists d.mode) (filter is_used_once d.channels) used_held;
       offers = offered-has_mode lists p d found;
     }

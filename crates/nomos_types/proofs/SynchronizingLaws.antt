@@ -66,43 +66,43 @@ goes-among : (bs : List Branch) (l : Label) (u : TypeId) → goes_by bs l ≡ So
 goes-among bs l u goes =
     let Among : TypeId → Type 0 = λ t. Contains (map (λ (b : Branch). b.goes) bs) t in
     let each : All (λ b. Among b.goes) bs =
-    All-weaker (Contains bs) (λ b. Among b.goes) (λ b among. contains-map (λ (c : Branch). c.goes) bs b b.goes among refl)
-    bs (All-contains_itself bs)
+    All-weaker (Contains bs) (λ b. Among b.goes)
+    (λ b among. contains-map (λ (c : Branch). c.goes) bs b b.goes among refl) bs (All-contains_itself bs)
     in
     goes-all Among bs l u each goes
 
 -- the one continuation has the other one beside it
-one-onward : (R : TypeId → TypeId → Type 0) (a b u : TypeId) → R a b → Contains (a ∷ []) u
+one-beside : (R : TypeId → TypeId → Type 0) (a b u : TypeId) → R a b → Contains (a ∷ []) u
     → (r : TypeId) × Contains (b ∷ []) r × R u r
-one-onward R a b u related (zero, inside, is) =
+one-beside R a b u related (zero, inside, is) =
     (b, (0, omega arith, refl), subst (λ (t : TypeId). R t b) is related)
-one-onward R a b u related (suc k, inside, is) = absurd (omega arith)
+one-beside R a b u related (suc k, inside, is) = absurd (omega arith)
 
 module _ {R : TypeId → TypeId → Type 0} where
   -- each branch has one beside it
-  branches-onward : (bs cs : List Branch) (u : TypeId) → AllDiffer (map (λ b. b.label.0) bs)
+  branches-beside : (bs cs : List Branch) (u : TypeId) → AllDiffer (map (λ b. b.label.0) bs)
       → ((l : Label) → BothOrNeither R (goes_by bs l) (goes_by cs l))
       → Contains (map (λ b. b.goes) bs) u → (r : TypeId) × Contains (map (λ b. b.goes) cs) r × R u r
-  branches-onward bs cs u differ same among =
+  branches-beside bs cs u differ same among =
       let (b, inside, is) = contains-unmap (λ (c : Branch). c.goes) bs u among in
       let goes : goes_by bs b.label ≡ Some u = goes-own bs differ b inside ∙ ap (λ (t : TypeId). Some t) is in
       let (r, found, related) = both-under u (same b.label) goes in
       (r, goes-among cs b.label r found, related)
 
   -- a continuation of the one of two heads has one of the other beside it
-  onward : {x : Annotations} {p q : TypeNode} → (u : TypeId) → AllDiffer (type_labels p) → SameHead x R p q
+  continues-beside : {x : Annotations} {p q : TypeNode} → (u : TypeId) → AllDiffer (type_labels p) → SameHead x R p q
       → Contains (continuations p) u → (r : TypeId) × Contains (continuations q) r × R u r
-  onward u differ one among = absurd (omega (arith, among.1))
-  onward u differ (plus bs cs same) among = branches-onward bs cs u differ same among
-  onward u differ (with bs cs same) among = branches-onward bs cs u differ same among
-  onward u differ (tensor a b c d h k) among = one-onward R b d u k among
-  onward u differ (lolli a b c d h k) among = one-onward R b d u k among
-  onward u differ (value_out kind a b h) among = one-onward R a b u h among
-  onward u differ (value_in kind a b h) among = one-onward R a b u h among
-  onward u differ (pot_out q r a b e h) among = one-onward R a b u h among
-  onward u differ (pot_in q r a b e h) among = one-onward R a b u h among
-  onward u differ (up a b h) among = absurd (omega (arith, among.1))
-  onward u differ (down a b h) among = absurd (omega (arith, among.1))
+  continues-beside u differ one among = absurd (omega (arith, among.1))
+  continues-beside u differ (plus bs cs same) among = branches-beside bs cs u differ same among
+  continues-beside u differ (with bs cs same) among = branches-beside bs cs u differ same among
+  continues-beside u differ (tensor a b c d h k) among = one-beside R b d u k among
+  continues-beside u differ (lolli a b c d h k) among = one-beside R b d u k among
+  continues-beside u differ (value_out kind a b h) among = one-beside R a b u h among
+  continues-beside u differ (value_in kind a b h) among = one-beside R a b u h among
+  continues-beside u differ (pot_out q r a b e h) among = one-beside R a b u h among
+  continues-beside u differ (pot_in q r a b e h) among = one-beside R a b u h among
+  continues-beside u differ (up a b h) among = absurd (omega (arith, among.1))
+  continues-beside u differ (down a b h) among = absurd (omega (arith, among.1))
 
 -- what one of two equal types reaches is equal to something that the other reaches
 pub reaches-equal : {lists : ProgramLists} {t u v : TypeId} → (x : Annotations) → IsProgram lists
@@ -111,7 +111,7 @@ reaches-equal {u = u} x is_program equal here = (u, here, equal)
 reaches-equal {lists} {t} {u} {v} x is_program equal (further {t = s} n reached unfolds among) =
     let (w, there, same) = reaches-equal {v = s} x is_program equal reached in
     let (q, unfolds_too, head) = equal-unfolded lists x s w n same unfolds in
-    let (r, inside, related) = onward v (unfolded-differ lists s.0 n is_program unfolds) head among in
+    let (r, inside, related) = continues-beside v (unfolded-differ lists s.0 n is_program unfolds) head among in
     (r, further q there unfolds_too inside, related)
 
 -- what has the head of a `down` is one, and what stands behind is equal

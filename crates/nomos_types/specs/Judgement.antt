@@ -56,8 +56,8 @@ parts_with j v =
 abbrev pub IsFree : Judgement → VarId → Type 0
 IsFree j v = parts_with j v.0 ≡ 0
 
--- Each part is a map, and no variable stands in two. References have mode S; channels that are used exactly once
--- have a mode of such channels that the process may hold; `self` has the mode of the process.
+-- Each part is a map, and no variable stands in two. References have mode S, and channels that are used exactly once a
+-- mode of such channels.
 pub record IsJudgement (lists : ProgramLists) (j : Judgement) : Type 0 where
   pub kinds : IsAscending j.kinds
   pub lists_ascend : IsAscending j.lists
@@ -65,7 +65,11 @@ pub record IsJudgement (lists : ProgramLists) (j : Judgement) : Type 0 where
   pub linear : IsAscending j.linear
   pub apart : (v : ℕ) → parts_with j v ≤ 1
   pub shared_modes : All (λ b. HasMode lists b.1 mode.S) j.shared
-  pub linear_modes : All (λ b. (m : Mode) × HasMode lists b.1 m × IsLinearMode m × IsTrue (may_hold j.mode m)) j.linear
+  pub linear_modes : All (λ b. (m : Mode) × HasMode lists b.1 m × IsLinearMode m) j.linear
+
+-- What the process has suits its mode: it may hold each channel that is used exactly once, and `self` has its mode.
+pub record SuitsMode (lists : ProgramLists) (j : Judgement) : Type 0 where
+  pub held : All (λ b. (m : Mode) × HasMode lists b.1 m × IsTrue (may_hold j.mode m)) j.linear
   pub offers : HasMode lists j.offers j.mode
 
 -- the type of `self`, or of a linear channel

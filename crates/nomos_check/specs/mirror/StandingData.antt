@@ -8,7 +8,7 @@ use Rattle.nomos_ir.specs.Amounts.{star_count}
 use Rattle.nomos_ir.specs.Bindings.{bound_to, bind, unbind}
 use Rattle.nomos_forms.specs.Bounds.{IsForm}
 use Rattle.nomos_types.specs.Equality.{no_amounts}
-use Rattle.nomos_types.specs.Judgement.{Judgement, ListType, IsJudgement, at_code, goes_on, with_potential}
+use Rattle.nomos_types.specs.Judgement.{Judgement, ListType, IsJudgement, SuitsMode, at_code, goes_on, with_potential}
 use Rattle.nomos_types.specs.ModeTable.{AreModesOf}
 use Rattle.nomos_types.specs.Row.{Row, StandsAtCode, without_list, takes_parts}
 use Rattle.nomos_equality.specs.Comparing.{HasCompared}
@@ -57,6 +57,7 @@ pub record HasAccount (n : ℕ) (s : Standing) (a : Account) : Type 0 where
 pub record IsWithin (lists : ProgramLists) (s : Standing) : Type 0 where
   pub code : s.code.0 < length lists.code
   pub judgement : IsJudgement lists (shape_of s)
+  pub suits : SuitsMode lists (shape_of s)
   pub amounts : All (λ e. IsAmountOf lists e.1.amount) s.lists
   pub potential : IsForm (star_count lists) s.potential
 

@@ -6,7 +6,7 @@ use Rattle.nomos_check.proofs.channels.channel_node.Goals as goal
 pub unfold-requires-clause-in_range : goal.unfold-requires-clause-in_range
 unfold-requires-clause-in_range c =
     channel-in_range c.args.program.now (shape_of c.args.now.now) c.args.c c.in-Some.t c.requires.formed.program
-    c.requires.within.judgement (sym c.in-Some.ensures)
+    c.requires.within.judgement c.requires.within.suits (sym c.in-Some.ensures)
 
 pub returns-in-Some : goal.returns-in-Some
 returns-in-Some c =

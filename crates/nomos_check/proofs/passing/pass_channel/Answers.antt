@@ -3,7 +3,7 @@ use Rattle.std.proofs.lemmas.Result.{IfOk-weaker}
 use Rattle.nomos_ir.specs.declared.code_node.Chan.TheVariants as chan
 use Rattle.nomos_check.specs.mirror.Passing.{TellsAlike}
 use Rattle.nomos_check.specs.mirror.StandingData.{shape_of}
-use Rattle.nomos_check.proofs.ChannelLaws.{channel-in_range}
+use Rattle.nomos_check.proofs.ChannelLaws.{linear-has_place}
 use Rattle.nomos_check.proofs.PassingSteps.{reference-in_range, reference-passes, nothing-passes, channel-stays, channel-passes}
 use Rattle.nomos_check.proofs.passing.pass_channel.Goals as goal
 
@@ -29,7 +29,7 @@ returns-in-None-clause-tells c =
 
 pub are_alike-requires-2-clause-own : goal.are_alike-requires-2-clause-own
 are_alike-requires-2-clause-own c =
-    channel-in_range c.args.program.now (shape_of c.args.now.now) (chan.Var c.args.v) c.in-Some-get.own
+    linear-has_place c.args.program.now (shape_of c.args.now.now) c.args.v c.in-Some-get.own
     c.requires.formed.program c.requires.judgement (sym c.in-Some-get.ensures)
 
 pub returns-then-not-branch-clause-tells : goal.returns-then-not-branch-clause-tells

@@ -18,7 +18,7 @@ returns-in_err-carried c =
 pub mode_of-requires-clause-in_range : goal.mode_of-requires-clause-in_range
 mode_of-requires-clause-in_range c =
     carried-in_range c.args.program.now (shape_of c.args.now.now) c.args.c c.in_ok-carried.carried c.in_ok-carried.goes
-    c.requires.formed c.requires.within.judgement c.in_ok-carried.ensures
+    c.requires.formed c.requires.within.suits c.in_ok-carried.ensures
 
 pub returns : goal.returns
 returns c = record {

@@ -19,7 +19,7 @@ pub returns-in-None-clause-tells : goal.returns-in-None-clause-tells
 returns-in-None-clause-tells c = fwd-stuck c.requires.stands.1 (λ says. c.in-None.ensures says.own says.only)
 
 pub are_alike-requires-clause-own : goal.are_alike-requires-clause-own
-are_alike-requires-clause-own c = mode-in_range c.requires.formed.program c.requires.within.judgement.offers
+are_alike-requires-clause-own c = mode-in_range c.requires.formed.program c.requires.within.suits.offers
 
 pub are_alike-requires-clause-other : goal.are_alike-requires-clause-other
 are_alike-requires-clause-other c =

@@ -27,7 +27,7 @@ pub pass_channel-requires-clause-in_range : goal.pass_channel-requires-clause-in
 pass_channel-requires-clause-in_range c =
     let found = c.in-Some.found in
     sent-in_range c.args.program.now (shape_of c.args.now.now) c.args.over.channel found.0 found.1 c.requires.formed
-    c.requires.within.judgement c.in-Some.ensures
+    c.requires.within.suits c.in-Some.ensures
 
 pub returns-then-not-branch-clause-tells : goal.returns-then-not-branch-clause-tells
 returns-then-not-branch-clause-tells c =

@@ -36,7 +36,7 @@ returns-then-not-is_mode-clause-tells c =
     (c.is_mode.ensures.1 (subst (λ (p : ProcDecl). p.mode ≡ c.args.now.now.mode) same its)))
 
 pub are_alike-requires-clause-own : goal.are_alike-requires-clause-own
-are_alike-requires-clause-own c = mode-in_range c.requires.formed.program c.requires.within.judgement.offers
+are_alike-requires-clause-own c = mode-in_range c.requires.formed.program c.requires.within.suits.offers
 
 pub are_alike-requires-clause-other : goal.are_alike-requires-clause-other
 are_alike-requires-clause-other c =
