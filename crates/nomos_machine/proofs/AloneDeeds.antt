@@ -1,9 +1,13 @@
 -- The instructions at which a process goes on alone: `let`, `emit`, `if`, `work`, `empty`, `add` and `match`.
-use Rattle.std.proofs.Common.{◌≡◌, ◌≢◌, ◌∙◌, ◌≤◌, ◌<◌, ◌⊎◌, inl, inr, ℕ, ◌+◌, ◌-◌, Bool, true, false, cond, List, [], ◌∷◌, ◌++◌, length, All, Contains, Option, Some, None, slice_get, sum_by, Ok, Err, refl, sym, subst, ap, arith}
-use Rattle.nomos_ir.specs.Bindings.{bound_to, bind}
+use Rattle.std.proofs.Common.{if◌then◌else◌, map, IsSome, ◌≡◌, ◌∙◌, ◌≤◌, ℕ, ◌+◌, ◌*◌, ◌-◌, Bool, true, false, List, [], ◌∷◌, length, Contains, Option, Some, None, slice_get, Ok, refl, sym, subst, ap, arith}
+use Rattle.nomos_ir.specs.Bindings.{bound_to, IsAscending}
 use Rattle.nomos_ir.specs.CodeParts.{code_terms}
 use Rattle.nomos_ir.specs.Evaluation.{Evaluation, ends, faults, term_evaluation}
+use Rattle.nomos_ir.specs.Order.{count_of}
 use Rattle.nomos_ir.specs.Value.{Value}
+use Rattle.nomos_ir.specs.ValueKind.{ValueHasKind}
+use Rattle.nomos_ir.specs.declared.kind.Kind.{Kind}
+use Rattle.std.proofs.lemmas.List.Elements.{All-nil}
 use Rattle.nomos_ir.specs.declared.amount.Amount.{Amount}
 use Rattle.nomos_ir.specs.declared.code_node.CodeNode.{CodeNode}
 use Rattle.nomos_ir.specs.declared.code_node.CodeNode.TheVariants as code
@@ -11,25 +15,28 @@ use Rattle.nomos_ir.specs.declared.ids.CodeId.{CodeId}
 use Rattle.nomos_ir.specs.declared.ids.TermId.{TermId}
 use Rattle.nomos_ir.specs.declared.ids.VarId.{VarId}
 use Rattle.nomos_ir.proofs.BindingLaws.{bind-ascending}
-use Rattle.nomos_ir.proofs.PairedLaws.{paired-bind}
+use Rattle.nomos_ir.proofs.PairedLaws.{paired-bind, none-left}
+use Rattle.nomos_ir.proofs.SumLaws.{sum-after_new}
+use Rattle.nomos_machine.specs.declared.object.PotentialList.{PotentialList}
 use Rattle.nomos_types.specs.Acceptance.{Acceptance, IsAccepted}
 use Rattle.nomos_types.specs.Amount.{dths}
-use Rattle.nomos_types.specs.Judgement.{Judgement, at_code, binds_value, with_potential}
+use Rattle.nomos_types.specs.Judgement.{Judgement, ListType, IsFree, count_one, at_code, binds_value, binds_list, with_potential}
+use Rattle.nomos_types.specs.Row.{Row}
 use Rattle.nomos_types.proofs.RowLaws.{row-inverted}
-use Rattle.nomos_machine.specs.Deeds.{Deed, changes, alone}
-use Rattle.nomos_machine.specs.Given.{TermValues, values_of_terms, with_others}
-use Rattle.nomos_machine.specs.Matching.{Matches, ProcessTyped}
-use Rattle.nomos_machine.specs.Objects.{potential_of, free_purse, purse_of}
+use Rattle.nomos_machine.specs.Deeds.{changes, alone, does, where_it_has, truth_in, empty_list}
+use Rattle.nomos_machine.specs.Change.{Change}
+use Rattle.nomos_machine.specs.Given.{values_of_terms, with_others}
+use Rattle.nomos_machine.specs.Matching.{Matches, IsListOf, HasBase, ProcessTyped}
+use Rattle.nomos_machine.specs.Objects.{potential_of, free_purse}
 use Rattle.nomos_machine.specs.Readiness.{is_met_at}
-use Rattle.nomos_machine.specs.Revised.{standing_at, with_value, poorer}
+use Rattle.nomos_machine.specs.Revised.{standing_at, with_value, with_list, poorer}
 use Rattle.nomos_machine.specs.State.{State}
 use Rattle.nomos_machine.specs.Step.{deed_by}
 use Rattle.nomos_machine.specs.TypedState.{VariablesDiffer, IsTyped}
 use Rattle.nomos_machine.specs.declared.object.Object.TheVariants as object
 use Rattle.nomos_machine.specs.declared.object.Process.{Process}
 use Rattle.nomos_machine.proofs.AloneLaws.{SameNames, alone-replaces, alone-fits}
-use Rattle.nomos_machine.proofs.GasLaws.{KeepsGas}
-use Rattle.nomos_machine.proofs.GoesLaws.{Goes, acts, faulty, process-typed, process-variables, own-judgement, own-is_judgement, own-row, own-stands, next-is_judgement, value-has_kind, affords}
+use Rattle.nomos_machine.proofs.GoesLaws.{Goes, acts, faulty, process-typed, process-variables, own-row, own-stands, next-is_judgement, value-has_kind, affords}
 use Rattle.nomos_machine.proofs.MatchLaws.{matches-differ}
 use Rattle.nomos_machine.proofs.ProcessLaws.{own_judgement, process-next}
 
@@ -55,45 +62,191 @@ module _ {a : Acceptance} (accepted : IsAccepted a) {s : State} (typed : IsTyped
       (alone-replaces typed there q burnt emitted same) (alone-fits typed there q burnt emitted same goes_on differ)
       (record { gives = tt; gets = tt; even = omega arith })
 
-  -- the process with a value bound, at another instruction
+  -- its channels stay as they are, and what else it has is what the rule goes on with
+  goes-by_row : (q : Process) (burnt : ℕ) (emitted : List (ℕ × Value)) (after : List Judgement) (k : Judgement)
+      → Row a.program a.annotations own after → Contains after k → Matches a.program a.annotations s.types q k
+      → q.pid ≡ p.pid → q.offers ≡ p.offers → q.channels ≡ p.channels → q.base ≡ p.base → q.payer ≡ p.payer
+      → q.mode ≡ p.mode → IsAscending q.values → IsAscending q.lists → potential_of q ≤ q.purse → free_purse q ≡ k.q
+      → burnt + q.purse ≡ p.purse
+      → Goes a s true (Some (changes (record (alone a s p q) { burnt = burnt; emitted = emitted })))
+  goes-by_row q burnt emitted after k row among matches pid offers channels base payer same_mode values lists covered exact
+      pays =
+      let t = process-typed typed there in
+      let variables = process-variables typed there in
+      let ascending : IsAscending q.channels = subst IsAscending (sym channels) variables.channels in
+      let has_base : HasBase a.program s.types q = record {
+        base = (
+          λ some. same_mode ∙ t.has_base.base.0 (subst IsSome base some),
+          λ at_l. subst IsSome (sym base) (t.has_base.base.1 (sym same_mode ∙ at_l)),
+        );
+        shared = λ b is. t.has_base.shared b (sym base ∙ is);
+      } in
+      alone-goes q burnt emitted
+      (record {
+        pid = pid;
+        same_mode = same_mode;
+        offers = offers;
+        base = base;
+        uses = λ name u m found mode other. ap (λ (b : List (VarId × ℕ)). count_of name (map (λ e. e.1) b)) channels;
+      })
+      (process-next accepted t after k row among matches covered exact payer has_base)
+      (matches-differ (next-is_judgement typed there accepted k row among) matches values lists ascending)
+      pays
+
+  -- a free variable is no list
+  free-list : (v : VarId) → IsFree own v → bound_to v.0 own.lists ≡ None
+  free-list v free = uncounted (bound_to v.0 own.lists) (omega (arith, free))
+    where
+      uncounted : {X : Type 0} (o : Option X) → count_one o ≡ 0 → o ≡ None
+      uncounted (Some x) none = absurd (omega arith)
+      uncounted None none = refl
+
+  -- what it has still is what its judgement says, at another instruction
+  matches-on : (next : CodeId) → Matches a.program a.annotations s.types (standing_at next p) (at_code own next)
+  matches-on next =
+      let t = process-typed typed there in
+      record {
+        mode = t.matches.mode;
+        code = refl;
+        offers = t.matches.offers;
+        values = t.matches.values;
+        held_lists = t.matches.held_lists;
+        channels = t.matches.channels;
+      }
+
   let-goes : (at : ℕ) (v : VarId) (e : TermId) (next : CodeId) → At (code.Let at v e next) → GoesAt (code.Let at v e next)
   let-goes at v e next stands = come (term_evaluation a.program p.values e) refl
     where
-    n : CodeNode
-    n = code.Let at v e next
+      n : CodeNode
+      n = code.Let at v e next
 
-    come : (r : Evaluation) → term_evaluation a.program p.values e ≡ r
-        → Goes a s true (deed_by a s p n (with_others r (Ok [])))
-    come (faults f) is = faulty f
-    come (ends x m) is =
-        let (after, row) = own-row typed there accepted in
-        let (kind, of_kind, free, goes_on) = row-inverted n (own-stands typed there n stands) row in
-        let k : Judgement = binds_value (at_code own next) v kind in
-        let among : Contains after k = subst (λ (js : List Judgement). Contains js k) (sym goes_on) (0, omega arith, refl) in
-        let t = process-typed typed there in
-        let has = value-has_kind typed there accepted e kind x m of_kind is in
-        let q : Process = standing_at next (with_value v x p) in
-        let matches : Matches a.program a.annotations s.types q k = record {
-          mode = t.matches.mode;
-          code = refl;
-          offers = t.matches.offers;
-          values = paired-bind v x kind p.values t.place.kinds has t.matches.values;
-          held_lists = t.matches.held_lists;
-          channels = t.matches.channels;
-        } in
-        let typed_next : ProcessTyped a s.types (length s.balances) q =
-        process-next accepted t after k row among matches t.covered refl refl
-        (record { base = t.has_base.base; shared = t.has_base.shared })
-        in
-        let variables = process-variables typed there in
-        let same : SameNames a s p q = record {
-          pid = refl;
-          same_mode = refl;
-          offers = refl;
-          base = refl;
-          uses = λ name u m found mode other. refl;
-        } in
-        alone-goes q 0 [] same typed_next
-        (matches-differ (next-is_judgement typed there accepted k row among) matches
-        (bind-ascending v x p.values variables.values) variables.lists variables.channels)
-        (omega arith)
+      come : (r : Evaluation) → term_evaluation a.program p.values e ≡ r
+          → Goes a s true (deed_by a s p n (with_others r (Ok [])))
+      come (faults f) is = faulty f
+      come (ends x m) is =
+          let (after, row) = own-row typed there accepted in
+          let (kind, of_kind, free, goes_on) = row-inverted n (own-stands typed there n stands) row in
+          let k : Judgement = binds_value (at_code own next) v kind in
+          let among : Contains after k = subst (λ (js : List Judgement). Contains js k) (sym goes_on) (0, omega arith, refl) in
+          let t = process-typed typed there in
+          let variables = process-variables typed there in
+          let has = value-has_kind typed there accepted e kind x m of_kind is in
+          let q : Process = standing_at next (with_value v x p) in
+          let on = matches-on next in
+          let matches : Matches a.program a.annotations s.types q k = record {
+            mode = on.mode;
+            code = refl;
+            offers = on.offers;
+            values = paired-bind v x kind p.values t.place.kinds has on.values;
+            held_lists = on.held_lists;
+            channels = on.channels;
+          } in
+          goes-by_row q 0 [] after k row among matches refl refl refl refl refl refl
+          (bind-ascending v x p.values variables.values) variables.lists t.covered refl (omega arith)
+
+  emit-goes : (at : ℕ) (e : TermId) (next : CodeId) → At (code.Emit at e next) → GoesAt (code.Emit at e next)
+  emit-goes at e next stands = come (term_evaluation a.program p.values e) refl
+    where
+      n : CodeNode
+      n = code.Emit at e next
+
+      come : (r : Evaluation) → term_evaluation a.program p.values e ≡ r
+          → Goes a s true (deed_by a s p n (with_others r (Ok [])))
+      come (faults f) is = faulty f
+      come (ends x m) is =
+          let (after, row) = own-row typed there accepted in
+          let (kind, of_kind, goes_on) = row-inverted n (own-stands typed there n stands) row in
+          let k : Judgement = at_code own next in
+          let among : Contains after k = subst (λ (js : List Judgement). Contains js k) (sym goes_on) (0, omega arith, refl) in
+          let t = process-typed typed there in
+          let variables = process-variables typed there in
+          goes-by_row (standing_at next p) 0 ((p.pid, x) ∷ []) after k row among (matches-on next) refl refl refl refl refl refl
+          variables.values variables.lists t.covered refl (omega arith)
+
+  if-goes : (at : ℕ) (e : TermId) (then_next else_next : CodeId) → At (code.If at e then_next else_next)
+      → GoesAt (code.If at e then_next else_next)
+  if-goes at e then_next else_next stands = come (term_evaluation a.program p.values e) refl
+    where
+      n : CodeNode
+      n = code.If at e then_next else_next
+
+      chosen : (b : Bool) (after : List Judgement) → after ≡ at_code own then_next ∷ at_code own else_next ∷ []
+          → Contains after (at_code own (if b then then_next else else_next))
+      chosen true after goes_on =
+          subst (λ (js : List Judgement). Contains js (at_code own then_next)) (sym goes_on) (0, omega arith, refl)
+      chosen false after goes_on =
+          subst (λ (js : List Judgement). Contains js (at_code own else_next)) (sym goes_on) (1, omega arith, refl)
+
+      come : (r : Evaluation) → term_evaluation a.program p.values e ≡ r
+          → Goes a s true (deed_by a s p n (with_others r (Ok [])))
+      come (faults f) is = faulty f
+      come (ends x m) is =
+          let (after, row) = own-row typed there accepted in
+          let (of_kind, goes_on) = row-inverted n (own-stands typed there n stands) row in
+          let next : CodeId = if truth_in x then then_next else else_next in
+          let t = process-typed typed there in
+          let variables = process-variables typed there in
+          goes-by_row (standing_at next p) 0 [] after (at_code own next) row (chosen (truth_in x) after goes_on)
+          (matches-on next) refl refl refl refl refl refl variables.values variables.lists t.covered refl (omega arith)
+
+  work-goes : (at : ℕ) (r : Amount) (next : CodeId) → At (code.Work at r next) → GoesAt (code.Work at r next)
+  work-goes at r next stands =
+      let n : CodeNode = code.Work at r next in
+      let (after, row) = own-row typed there accepted in
+      let (enough, goes_on) = row-inverted n (own-stands typed there n stands) row in
+      let gas : ℕ = dths a.annotations r in
+      let k : Judgement = with_potential (at_code own next) (own.q - gas) in
+      let among : Contains after k = subst (λ (js : List Judgement). Contains js k) (sym goes_on) (0, omega arith, refl) in
+      let t = process-typed typed there in
+      let variables = process-variables typed there in
+      let q : Process = standing_at next (poorer gas p) in
+      let covered : potential_of p ≤ p.purse = t.covered in
+      let has : gas ≤ free_purse p = enough in
+      let on = matches-on next in
+      let matches : Matches a.program a.annotations s.types q k = record {
+        mode = on.mode;
+        code = refl;
+        offers = on.offers;
+        values = on.values;
+        held_lists = on.held_lists;
+        channels = on.channels;
+      } in
+      let change : Option Change = Some (record (alone a s p q) { burnt = gas }) in
+      let paid : where_it_has gas p change ≡ change = affords gas p change covered has in
+      subst (λ (o : Option Change). Goes a s true (does a s p o)) (sym paid)
+      (goes-by_row q gas [] after k row among matches refl refl refl refl refl refl variables.values variables.lists
+      (omega arith) (omega arith) (omega arith))
+
+  empty-goes : (at : ℕ) (v : VarId) (r : Amount) (kind : Kind) (next : CodeId) → At (code.Empty at v r kind next)
+      → GoesAt (code.Empty at v r kind next)
+  empty-goes at v r kind next stands =
+      let n : CodeNode = code.Empty at v r kind next in
+      let (after, row) = own-row typed there accepted in
+      let (free, goes_on) = row-inverted n (own-stands typed there n stands) row in
+      let amount : ℕ = dths a.annotations r in
+      let list : ListType = record { kind = kind; amount = amount } in
+      let k : Judgement = binds_list (at_code own next) v list in
+      let among : Contains after k = subst (λ (js : List Judgement). Contains js k) (sym goes_on) (0, omega arith, refl) in
+      let t = process-typed typed there in
+      let variables = process-variables typed there in
+      let q : Process = standing_at next (with_list v (empty_list amount) p) in
+      let on = matches-on next in
+      let fits : IsListOf (empty_list amount) list = record { amount = refl; items = All-nil (λ x. ValueHasKind x kind) } in
+      let matches : Matches a.program a.annotations s.types q k = record {
+        mode = on.mode;
+        code = refl;
+        offers = on.offers;
+        values = on.values;
+        held_lists = paired-bind v (empty_list amount) list p.lists t.place.lists fits on.held_lists;
+        channels = on.channels;
+      } in
+      let none : bound_to v.0 p.lists ≡ None =
+      none-left (t.matches.held_lists v.0) (free-list v free)
+      in
+      let more : potential_of q ≡ potential_of p + amount * 0 =
+      sum-after_new (λ (l : PotentialList). l.amount * length l.items) v (empty_list amount) p.lists variables.lists none
+      in
+      let same : potential_of q ≡ potential_of p = omega (arith, more) in
+      let covered : potential_of p ≤ p.purse = t.covered in
+      goes-by_row q 0 [] after k row among matches refl refl refl refl refl refl variables.values
+      (bind-ascending v (empty_list amount) p.lists variables.lists) (omega arith) (omega arith) (omega arith)

@@ -1,16 +1,15 @@
 -- What a process has still fits a judgement when both are changed alike.
-use Rattle.std.proofs.Common.{◌≡◌, ◌≢◌, ◌∙◌, ◌≤◌, ◌<◌, ◌⊎◌, inl, inr, ℕ, ◌+◌, List, Option, Some, None, refl, sym, subst, ap, arith}
+use Rattle.std.proofs.Common.{◌≡◌, ◌∙◌, ◌≤◌, inl, inr, ℕ, ◌+◌, List, Option, Some, None, refl, sym, subst, ap, arith}
 use Rattle.std.proofs.lemmas.Bool.{cases_eq}
 use Rattle.std.specs.Option.{option_or}
 use Rattle.nomos_ir.specs.Bindings.{bound_to, bind, unbind, IsAscending}
 use Rattle.nomos_ir.specs.Paired.{Paired, both, neither}
-use Rattle.nomos_ir.specs.declared.ids.TypeId.{TypeId}
 use Rattle.nomos_ir.specs.declared.ids.VarId.{VarId}
 use Rattle.nomos_ir.proofs.BindingLaws.{bound-after_bind, bound-after_bind_other, bound-after_unbind, bound-after_unbind_other}
-use Rattle.nomos_ir.proofs.PairedLaws.{paired-as, none-left, none-right}
+use Rattle.nomos_ir.proofs.PairedLaws.{paired-as}
 use Rattle.nomos_types.specs.Acceptance.{Acceptance}
-use Rattle.nomos_types.specs.Judgement.{Judgement, IsJudgement, count_one, parts_with}
-use Rattle.nomos_machine.specs.Matching.{NameHasType, Matches}
+use Rattle.nomos_types.specs.Judgement.{Judgement, IsJudgement, count_one}
+use Rattle.nomos_machine.specs.Matching.{Matches}
 use Rattle.nomos_machine.specs.State.{NameTypes}
 use Rattle.nomos_machine.specs.TypedState.{VariablesDiffer}
 use Rattle.nomos_machine.specs.declared.object.Process.{Process}
@@ -28,17 +27,17 @@ module _ {X Y : Type 0} {R : X → Y → Type 0} (channels : List (VarId × X)) 
   holds-linear v x y none related holds w =
       elim (cases_eq w v.0) [
         | inl same ↦
-              let At : ℕ → Type 0 = λ u.
-              Paired R (bound_to u (bind v x channels)) (option_or (bound_to u shared) (bound_to u (bind v y linear)))
-              in
-              let right : option_or (bound_to v.0 shared) (bound_to v.0 (bind v y linear)) ≡ Some y =
-              ap (λ (o : Option Y). option_or o (bound_to v.0 (bind v y linear))) none ∙ bound-after_bind v y linear
-              in
-              let here : At v.0 = paired-as (bound-after_bind v x channels) right (both related) in
-              subst At (sym same) here
+            let At : ℕ → Type 0 = λ u.
+            Paired R (bound_to u (bind v x channels)) (option_or (bound_to u shared) (bound_to u (bind v y linear)))
+            in
+            let right : option_or (bound_to v.0 shared) (bound_to v.0 (bind v y linear)) ≡ Some y =
+            ap (λ (o : Option Y). option_or o (bound_to v.0 (bind v y linear))) none ∙ bound-after_bind v y linear
+            in
+            let here : At v.0 = paired-as (bound-after_bind v x channels) right (both related) in
+            subst At (sym same) here
         | inr other ↦
-              paired-as (bound-after_bind_other w v x channels other)
-              (ap (option_or (bound_to w shared)) (bound-after_bind_other w v y linear other)) (holds w)
+            paired-as (bound-after_bind_other w v x channels other)
+            (ap (option_or (bound_to w shared)) (bound-after_bind_other w v y linear other)) (holds w)
       ]
 
   -- a reference is bound
@@ -47,17 +46,17 @@ module _ {X Y : Type 0} {R : X → Y → Type 0} (channels : List (VarId × X)) 
   holds-shared v x y related holds w =
       elim (cases_eq w v.0) [
         | inl same ↦
-              let At : ℕ → Type 0 = λ u.
-              Paired R (bound_to u (bind v x channels)) (option_or (bound_to u (bind v y shared)) (bound_to u linear))
-              in
-              let right : option_or (bound_to v.0 (bind v y shared)) (bound_to v.0 linear) ≡ Some y =
-              ap (λ (o : Option Y). option_or o (bound_to v.0 linear)) (bound-after_bind v y shared)
-              in
-              let here : At v.0 = paired-as (bound-after_bind v x channels) right (both related) in
-              subst At (sym same) here
+            let At : ℕ → Type 0 = λ u.
+            Paired R (bound_to u (bind v x channels)) (option_or (bound_to u (bind v y shared)) (bound_to u linear))
+            in
+            let right : option_or (bound_to v.0 (bind v y shared)) (bound_to v.0 linear) ≡ Some y =
+            ap (λ (o : Option Y). option_or o (bound_to v.0 linear)) (bound-after_bind v y shared)
+            in
+            let here : At v.0 = paired-as (bound-after_bind v x channels) right (both related) in
+            subst At (sym same) here
         | inr other ↦
-              paired-as (bound-after_bind_other w v x channels other)
-              (ap (λ (o : Option Y). option_or o (bound_to w linear)) (bound-after_bind_other w v y shared other)) (holds w)
+            paired-as (bound-after_bind_other w v x channels other)
+            (ap (λ (o : Option Y). option_or o (bound_to w linear)) (bound-after_bind_other w v y shared other)) (holds w)
       ]
 
   -- a channel that is used exactly once is gone
@@ -66,18 +65,18 @@ module _ {X Y : Type 0} {R : X → Y → Type 0} (channels : List (VarId × X)) 
   holds-fewer v none ascending ascends holds w =
       elim (cases_eq w v.0) [
         | inl same ↦
-              let At : ℕ → Type 0 = λ u.
-              Paired R (bound_to u (unbind v.0 channels)) (option_or (bound_to u shared) (bound_to u (unbind v.0 linear)))
-              in
-              let right : option_or (bound_to v.0 shared) (bound_to v.0 (unbind v.0 linear)) ≡ None =
-              ap (λ (o : Option Y). option_or o (bound_to v.0 (unbind v.0 linear))) none
-              ∙ bound-after_unbind v.0 linear ascends
-              in
-              let here : At v.0 = paired-as (bound-after_unbind v.0 channels ascending) right neither in
-              subst At (sym same) here
+            let At : ℕ → Type 0 = λ u.
+            Paired R (bound_to u (unbind v.0 channels)) (option_or (bound_to u shared) (bound_to u (unbind v.0 linear)))
+            in
+            let right : option_or (bound_to v.0 shared) (bound_to v.0 (unbind v.0 linear)) ≡ None =
+            ap (λ (o : Option Y). option_or o (bound_to v.0 (unbind v.0 linear))) none
+            ∙ bound-after_unbind v.0 linear ascends
+            in
+            let here : At v.0 = paired-as (bound-after_unbind v.0 channels ascending) right neither in
+            subst At (sym same) here
         | inr other ↦
-              paired-as (bound-after_unbind_other w v.0 channels other)
-              (ap (option_or (bound_to w shared)) (bound-after_unbind_other w v.0 linear other)) (holds w)
+            paired-as (bound-after_unbind_other w v.0 channels other)
+            (ap (option_or (bound_to w shared)) (bound-after_unbind_other w v.0 linear other)) (holds w)
       ]
 
 -- ---- no variable stands twice

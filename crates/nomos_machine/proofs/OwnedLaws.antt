@@ -1,5 +1,5 @@
 -- Who provides and who uses the names of a state after a change.
-use Rattle.std.proofs.Common.{◌≡◌, ◌≢◌, ◌∙◌, ◌≤◌, ◌<◌, ◌⊎◌, inl, inr, ℕ, ◌+◌, List, [], ◌∷◌, ◌++◌, map, Contains, Option, Some, None, IsSome, sum_by, refl, sym, subst, ap, arith}
+use Rattle.std.proofs.Common.{◌≡◌, ◌≢◌, ◌∙◌, inl, inr, ℕ, ◌+◌, List, Contains, Option, Some, None, IsSome, refl, arith}
 use Rattle.std.specs.Option.{option_to_list}
 use Rattle.std.proofs.lemmas.Bool.{cases_eq}
 use Rattle.nomos_ir.specs.Order.{count_of}
@@ -7,7 +7,6 @@ use Rattle.nomos_ir.specs.declared.ids.TypeId.{TypeId}
 use Rattle.nomos_ir.specs.declared.mode.Mode.{Mode}
 use Rattle.nomos_ir.specs.declared.mode.Mode.TheVariants as mode
 use Rattle.nomos_types.specs.Acceptance.{Acceptance}
-use Rattle.nomos_types.specs.Modes.{HasMode}
 use Rattle.nomos_machine.specs.Change.{Change, made}
 use Rattle.nomos_machine.specs.Objects.{provided, used, based, shared_names, mentioned, times, talk_end}
 use Rattle.nomos_machine.specs.State.{State, type_of}
@@ -65,18 +64,18 @@ module _ {a : Acceptance} {s : State} (typed : IsTyped a s) where
         | inr some ↦ absurd (typed-below (type_of s.types s.next_name) refl ((typed.numbered.typed s.next_name).1 (omega arith)))
       ]
     where
-    typed-below : (o : Option TypeId) → type_of s.types s.next_name ≡ o → IsSome o → ⊥
-    typed-below (Some t) found some =
-        omega (arith, type_of-below s.types s.next_name s.next_name t typed.numbered.names found)
-    typed-below None found some = cc
+      typed-below : (o : Option TypeId) → type_of s.types s.next_name ≡ o → IsSome o → ⊥
+      typed-below (Some t) found some =
+          omega (arith, type_of-below s.types s.next_name s.next_name t typed.numbered.names found)
+      typed-below None found some = cc
 
   pub next-not_outside : count_of s.next_name s.outside ≡ 0
   next-not_outside =
       elim (cases_eq (count_of s.next_name s.outside) 0) [
         | inl none ↦ none
         | inr some ↦
-              let (t, found, at_r) = typed.outside s.next_name (omega arith) in
-              absurd (omega (arith, type_of-below s.types s.next_name s.next_name t typed.numbered.names found))
+            let (t, found, at_r) = typed.outside s.next_name (omega arith) in
+            absurd (omega (arith, type_of-below s.types s.next_name s.next_name t typed.numbered.names found))
       ]
 
 -- ---- where names of mode L lead

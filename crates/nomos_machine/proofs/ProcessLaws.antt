@@ -1,22 +1,19 @@
 -- A process that goes on by a rule of typing stays typed.
-use Rattle.std.proofs.Common.{◌≡◌, ◌≢◌, ◌∙◌, ◌≤◌, ◌<◌, ◌⊎◌, inl, inr, ℕ, ◌+◌, List, Contains, Option, Some, None, slice_get, refl, sym, subst, ap, arith}
-use Rattle.std.proofs.lemmas.Bool.{cases_eq}
+use Rattle.std.proofs.Common.{◌≡◌, ◌∙◌, ◌≤◌, ◌<◌, ℕ, List, Contains, Option, Some, None, refl, sym, subst}
 use Rattle.std.specs.Option.{option_or}
-use Rattle.nomos_ir.specs.Bindings.{bound_to, bind, unbind, IsAscending}
+use Rattle.nomos_ir.specs.Bindings.{bound_to}
 use Rattle.nomos_ir.specs.Paired.{Paired, both, neither}
 use Rattle.nomos_ir.specs.ValueKind.{ValueHasKind}
 use Rattle.nomos_ir.specs.declared.ids.TypeId.{TypeId}
 use Rattle.nomos_ir.specs.declared.ids.VarId.{VarId}
 use Rattle.nomos_ir.specs.declared.kind.Kind.{Kind}
 use Rattle.nomos_ir.specs.declared.lists.ProgramLists.{ProgramLists}
-use Rattle.nomos_ir.proofs.BindingLaws.{bound-after_bind, bound-after_bind_other, bound-after_unbind, bound-after_unbind_other}
 use Rattle.nomos_ir.proofs.NodeLaws.{All-at}
-use Rattle.nomos_ir.proofs.PairedLaws.{paired-as}
 use Rattle.nomos_types.specs.Acceptance.{Acceptance, IsAccepted}
-use Rattle.nomos_types.specs.Alike.{Alike, AlikeChannels, AlikeTypes}
+use Rattle.nomos_types.specs.Alike.{Alike, AlikeTypes}
 use Rattle.nomos_types.specs.Amount.{Annotations}
-use Rattle.nomos_types.specs.Derivation.{Derives, Follows}
-use Rattle.nomos_types.specs.Judgement.{Judgement, ListType, IsJudgement, count_one, start_of, with_potential}
+use Rattle.nomos_types.specs.Derivation.{Derives}
+use Rattle.nomos_types.specs.Judgement.{Judgement, ListType, IsJudgement, SuitsMode, start_of, with_potential}
 use Rattle.nomos_types.specs.Modes.{HasMode}
 use Rattle.nomos_types.specs.Places.{IsPlace}
 use Rattle.nomos_types.specs.Row.{Row}
@@ -26,10 +23,10 @@ use Rattle.nomos_types.proofs.AsideLaws.{AlikeAside, aside-itself, follow-beside
 use Rattle.nomos_types.proofs.DerivationLaws.{derives-alike, derives-next}
 use Rattle.nomos_types.proofs.JudgementLaws.{follows-is_judgement}
 use Rattle.nomos_types.proofs.ModeLaws.{mode-unique}
+use Rattle.nomos_types.proofs.SuitsModeLaws.{follows-suits_mode}
 use Rattle.nomos_machine.specs.Matching.{NameHasType, IsListOf, Matches, HasBase, ProcessTyped}
 use Rattle.nomos_machine.specs.Objects.{potential_of, free_purse}
 use Rattle.nomos_machine.specs.State.{NameTypes, type_of}
-use Rattle.nomos_machine.specs.TypedState.{VariablesDiffer}
 use Rattle.nomos_machine.specs.declared.object.Process.{Process}
 
 -- ---- what a process has is what any judgement says that is like the one of its place
@@ -88,6 +85,9 @@ module _ {a : Acceptance} (accepted : IsAccepted a) where
   place-is_judgement h =
       follows-is_judgement a.annotations h.number accepted.typed.formed h.declared h.follows
 
+  pub place-suits_mode : {j : Judgement} → IsPlace a.program a.annotations j → SuitsMode a.program j
+  place-suits_mode h = follows-suits_mode a.annotations h.number accepted.typed.formed h.declared h.follows
+
   -- with another potential it is a judgement as well
   pub potential-is_judgement : {j : Judgement} (q : ℕ) → IsJudgement a.program j
       → IsJudgement a.program (with_potential j q)
@@ -99,11 +99,10 @@ module _ {a : Acceptance} (accepted : IsAccepted a) where
     apart = h.apart;
     shared_modes = h.shared_modes;
     linear_modes = h.linear_modes;
-    offers = h.offers;
   }
 
   -- the type that a process offers has its mode
-  pub offers-own_mode : {types : NameTypes} {p : Process} {j : Judgement} → IsJudgement a.program j
+  pub offers-own_mode : {types : NameTypes} {p : Process} {j : Judgement} → SuitsMode a.program j
       → Matches a.program a.annotations types p j → (t : TypeId) → type_of types p.offers ≡ Some t
       → HasMode a.program t p.mode
   offers-own_mode {types} {p} {j} h m t found =
@@ -115,7 +114,7 @@ module _ {a : Acceptance} (accepted : IsAccepted a) where
       in
       subst (λ (u : TypeId). HasMode a.program u p.mode) same here
 
--- ---- going on
+  -- ---- going on
 
   -- A process that goes on by a rule of its judgement stays typed, where it has what that rule goes on with.
   pub process-next : {types later : NameTypes} {accounts : ℕ} {p q : Process}
@@ -132,7 +131,7 @@ module _ {a : Acceptance} (accepted : IsAccepted a) where
       let h = place-is_judgement t.is_place in
       let own = potential-is_judgement (free_purse p) h in
       let (next, follows, alike) = follow-beside accepted.typed.formed begins t.is_place.follows own
-      (aside-itself accepted.typed.formed (free_purse p) h) row among
+      (aside-itself accepted.typed.formed (free_purse p) h (place-suits_mode t.is_place).offers) row among
       in
       let onward : Derives a.program a.annotations k = derives-next accepted.typed.formed t.derives row among in
       let back : Alike a.program a.annotations (with_potential next k.q) k = record {
@@ -162,6 +161,6 @@ module _ {a : Acceptance} (accepted : IsAccepted a) where
         covered = covered;
         derives = subst (λ (n : ℕ). Derives a.program a.annotations (with_potential next n)) (sym exact) derived;
         payer = subst (λ (n : ℕ). n < accounts) (sym payer) t.payer;
-        offered = offers-own_mode (place-is_judgement place) fits;
+        offered = offers-own_mode (place-suits_mode place) fits;
         has_base = base;
       }

@@ -1,6 +1,5 @@
 -- Typed processes: a process has what the typing rules say at its place.
 use Rattle.std.specs.Prelude.{◌≡◌, ◌≤◌, ◌<◌, ◌↔◌, ℕ, All, Some, IsSome}
-use Rattle.std.specs.Option.{option_or}
 use Rattle.nomos_ir.specs.Bindings.{bound_to}
 use Rattle.nomos_ir.specs.ValueKind.{ValueHasKind}
 use Rattle.nomos_ir.specs.declared.ids.TypeId.{TypeId}
@@ -10,7 +9,7 @@ use Rattle.nomos_types.specs.Acceptance.{Acceptance}
 use Rattle.nomos_types.specs.Alike.{AlikeTypes}
 use Rattle.nomos_types.specs.Amount.{Annotations}
 use Rattle.nomos_types.specs.Derivation.{Derives}
-use Rattle.nomos_types.specs.Judgement.{Judgement, ListType, with_potential}
+use Rattle.nomos_types.specs.Judgement.{Judgement, ListType, type_held, with_potential}
 use Rattle.nomos_types.specs.Modes.{HasMode}
 use Rattle.nomos_types.specs.Places.{IsPlace}
 use Rattle.nomos_machine.specs.Objects.{potential_of, free_purse}
@@ -40,7 +39,7 @@ pub record Matches (lists : ProgramLists) (x : Annotations) (types : NameTypes) 
   pub values : (v : ℕ) → Paired ValueHasKind (bound_to v p.values) (bound_to v j.kinds)
   pub held_lists : (v : ℕ) → Paired IsListOf (bound_to v p.lists) (bound_to v j.lists)
   pub channels : (v : ℕ) → Paired (NameHasType lists x types) (bound_to v p.channels)
-      (option_or (bound_to v j.shared) (bound_to v j.linear))
+      (type_held j v)
 
 -- A process has a base, which is a shared name, exactly at mode L.
 pub record HasBase (lists : ProgramLists) (types : NameTypes) (p : Process) : Type 0 where

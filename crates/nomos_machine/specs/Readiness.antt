@@ -1,5 +1,5 @@
 -- Readiness by one look, which needs neither evaluation nor memory.
-use Rattle.std.specs.Prelude.{Bool, true, false, not, Option, Some, None, option_and_then, slice_get}
+use Rattle.std.specs.Prelude.{Bool, true, false, not, Option, Some, None, slice_get}
 use Rattle.std.specs.Option.{is_some}
 use Rattle.nomos_ir.specs.Bindings.{bound_to}
 use Rattle.nomos_ir.specs.declared.code_node.CodeNode.{CodeNode}

@@ -2,6 +2,7 @@
 -- a term of the kind, for each list its own type. With such channels its start is like its own one.
 use Rattle.std.proofs.Common.{◌≡◌, inl, inr, ℕ, Bool, true, false, not, cond, List, [], ◌∷◌, filter, Option, Some, None, refl, sym, ap, subst, ◌∙◌}
 use Rattle.std.proofs.lemmas.Bool.{cases_eq}
+use Rattle.std.specs.Option.{option_or}
 use Rattle.nomos_ir.proofs.BindingLaws.{bound-after_unbind, bound-after_unbind_other}
 use Rattle.nomos_ir.specs.Bindings.{bound_to, unbind, bindings_of, IsAscending}
 use Rattle.nomos_ir.specs.TermKind.{HasKind}
@@ -24,7 +25,7 @@ use Rattle.nomos_types.specs.Alike as alikes
 use Rattle.nomos_types.specs.Amount.{Annotations, dths}
 use Rattle.nomos_types.specs.Arguments.{PassesChannel, shared, linear, PassesChannels, PassesValue, PassesValues, ArgumentsFit}
 use Rattle.nomos_types.specs.Arguments as passes
-use Rattle.nomos_types.specs.Judgement.{Judgement, ListType, IsJudgement, there_or, type_held, is_shared, start_of}
+use Rattle.nomos_types.specs.Judgement.{Judgement, ListType, IsJudgement, type_held, is_shared, start_of}
 use Rattle.nomos_types.specs.Typed.{IsWellFormed}
 
 -- The channels of the variables stand for the parameters: each type is the one that the judgement has for the variable,
@@ -62,16 +63,16 @@ unbound-before {X} w v x b ascending found =
     ]
 
 -- the second of two is looked at only where the first is not there
-second-there : {X : Type 0} (o p q : Option X) (x : X) → (p ≡ Some x → q ≡ Some x) → there_or o p ≡ Some x
-    → there_or o q ≡ Some x
+second-there : {X : Type 0} (o p q : Option X) (x : X) → (p ≡ Some x → q ≡ Some x) → option_or o p ≡ Some x
+    → option_or o q ≡ Some x
 second-there (Some y) p q x onward found = found
 second-there None p q x onward found = onward found
 
-first-there : {X : Type 0} (o p : Option X) (x : X) → o ≡ Some x → there_or o p ≡ Some x
-first-there {X} o p x found = ap (λ (f : Option X). there_or f p) found
+first-there : {X : Type 0} (o p : Option X) (x : X) → o ≡ Some x → option_or o p ≡ Some x
+first-there {X} o p x found = ap (λ (f : Option X). option_or f p) found
 
-only-second_there : {X : Type 0} (o p : Option X) (x : X) → o ≡ None → p ≡ Some x → there_or o p ≡ Some x
-only-second_there {X} o p x nothing found = ap (λ (f : Option X). there_or f p) nothing ∙ found
+only-second_there : {X : Type 0} (o p : Option X) (x : X) → o ≡ None → p ≡ Some x → option_or o p ≡ Some x
+only-second_there {X} o p x nothing found = ap (λ (f : Option X). option_or f p) nothing ∙ found
 
 module _ {lists : ProgramLists} {x : Annotations} where
   -- ---- channels

@@ -1,6 +1,7 @@
 -- What a process has in hand where it stands at an instruction.
 use Rattle.std.specs.Prelude.{◌≡◌, ◌≤◌, ◌+◌, ℕ, Bool, true, false, not, IsTrue, List, [], ◌∷◌, ◌++◌, filter, All, Option, Some, None}
 use Rattle.std.specs.List.{flat_map}
+use Rattle.std.specs.Option.{option_or}
 use Rattle.nomos_ir.specs.declared.amount.Amount.{Amount}
 use Rattle.nomos_ir.specs.declared.code_node.Chan.{Chan}
 use Rattle.nomos_ir.specs.declared.code_node.Chan.TheVariants as chan
@@ -77,14 +78,9 @@ abbrev pub channel_type : Judgement → Chan → Option TypeId
 channel_type j chan.Own = Some j.offers
 channel_type j (chan.Var v) = bound_to v.0 j.linear
 
--- the first of the two that is there
-abbrev pub there_or : {X : Type 0} → Option X → Option X → Option X
-there_or (Some x) other = Some x
-there_or None other = other
-
 -- the type that the judgement has for a variable: that of a reference, or else of a channel that is used exactly once
 abbrev pub type_held : Judgement → ℕ → Option TypeId
-type_held j v = there_or (bound_to v j.shared) (bound_to v j.linear)
+type_held j v = option_or (bound_to v j.shared) (bound_to v j.linear)
 
 -- the process goes on at an instruction
 abbrev pub at_code : Judgement → CodeId → Judgement
