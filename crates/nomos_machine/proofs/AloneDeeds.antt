@@ -287,8 +287,8 @@ module _ {a : Acceptance} (accepted : IsAccepted a) {s : State} (typed : IsTyped
   unbound-list v w none =
       elim (cases_eq v.0 w.0) [
         | inl same ↦
-              subst (λ (n : ℕ). bound_to n (unbind w.0 p.lists) ≡ None) (sym same)
-              (bound-after_unbind w.0 p.lists (process-variables typed there).lists)
+            subst (λ (n : ℕ). bound_to n (unbind w.0 p.lists) ≡ None) (sym same)
+            (bound-after_unbind w.0 p.lists (process-variables typed there).lists)
         | inr other ↦ bound-after_unbind_other v.0 w.0 p.lists other ∙ none
       ]
 
@@ -301,75 +301,75 @@ module _ {a : Acceptance} (accepted : IsAccepted a) {s : State} (typed : IsTyped
       → GoesAt (code.Add at v e w next)
   add-goes at v e w next stands = come (term_evaluation a.program p.values e) refl
     where
-    n : CodeNode
-    n = code.Add at v e w next
+      n : CodeNode
+      n = code.Add at v e w next
 
-    weighed : (x : Value) (l : PotentialList) (list : ListType) (after : List Judgement)
-        → (row : Row a.program a.annotations own after) → Adds a.program own v e w list
-        → after ≡ with_potential (binds_list (record (at_code own next) { lists = unbind w.0 own.lists }) v list)
-        (own.q - list.amount) ∷ []
-        → bound_to w.0 p.lists ≡ Some l → IsListOf l list → ValueHasKind x list.kind → (b : Bool)
-        → Goes a s true
-        (if b then
-        option_map changes (where_it_has l.amount p (Some (alone a s p
-        (standing_at next (with_list v (lengthened x l) (list_used_up w p)))))) else
-        Some (has_fault fault.ListLength))
-    weighed x l list after row adds goes_on there_l fits has false = faulty fault.ListLength
-    weighed x l list after row adds goes_on there_l fits has true =
-        let t = process-typed typed there in
-        let variables = process-variables typed there in
-        let q : Process = standing_at next (with_list v (lengthened x l) (list_used_up w p)) in
-        let k : Judgement =
-        with_potential (binds_list (record (at_code own next) { lists = unbind w.0 own.lists }) v list) (own.q - list.amount)
-        in
-        let among : Contains after k = subst (λ (js : List Judgement). Contains js k) (sym goes_on) (0, omega arith, refl) in
-        let h = own-is_judgement typed there accepted in
-        let longer_fits : IsListOf (lengthened x l) list = record {
-          amount = fits.amount;
-          items = All-cons (λ y. ValueHasKind y list.kind) x l.items has fits.items;
-        } in
-        let on = matches-on next in
-        let matches : Matches a.program a.annotations s.types q k = record {
-          mode = on.mode;
-          code = refl;
-          offers = on.offers;
-          values = on.values;
-          held_lists = paired-bind v (lengthened x l) list (unbind w.0 p.lists) (unbind w.0 own.lists) longer_fits
-              (paired-unbind w.0 p.lists own.lists variables.lists h.lists_ascend on.held_lists);
-          channels = on.channels;
-        } in
-        let none = unbound-list v w (none-left (t.matches.held_lists v.0) (free-list v adds.free)) in
-        let exchanged : potential_of q + list_potential l ≡ potential_of p + list_potential (lengthened x l) =
-        list-exchanged v w l (lengthened x l) there_l none
-        in
-        let longer_has : list_potential (lengthened x l) ≡ list_potential l + l.amount =
-        mul-suc l.amount (length l.items)
-        in
-        let covered : potential_of p ≤ p.purse = t.covered in
-        let amount : l.amount ≡ list.amount = fits.amount in
-        let can : list.amount ≤ free_purse p = adds.enough in
-        let enough : l.amount ≤ free_purse p = omega arith in
-        let change : Option Change = Some (alone a s p q) in
-        let paid : where_it_has l.amount p change ≡ change = affords l.amount p change covered enough in
-        subst (λ (o : Option Change). Goes a s true (option_map changes o)) (sym paid)
-        (goes-by_row q 0 [] after k row among matches refl refl refl refl refl refl variables.values
-        (bind-ascending v (lengthened x l) (unbind w.0 p.lists) (unbind-ascending w.0 p.lists variables.lists))
-        (omega arith) (omega arith) (omega arith))
+      weighed : (x : Value) (l : PotentialList) (list : ListType) (after : List Judgement)
+          → (row : Row a.program a.annotations own after) → Adds a.program own v e w list
+          → after ≡ with_potential (binds_list (record (at_code own next) { lists = unbind w.0 own.lists }) v list)
+          (own.q - list.amount) ∷ []
+          → bound_to w.0 p.lists ≡ Some l → IsListOf l list → ValueHasKind x list.kind → (b : Bool)
+          → Goes a s true
+          (if b then
+          option_map changes (where_it_has l.amount p (Some (alone a s p
+          (standing_at next (with_list v (lengthened x l) (list_used_up w p)))))) else
+          Some (has_fault fault.ListLength))
+      weighed x l list after row adds goes_on there_l fits has false = faulty fault.ListLength
+      weighed x l list after row adds goes_on there_l fits has true =
+          let t = process-typed typed there in
+          let variables = process-variables typed there in
+          let q : Process = standing_at next (with_list v (lengthened x l) (list_used_up w p)) in
+          let k : Judgement =
+          with_potential (binds_list (record (at_code own next) { lists = unbind w.0 own.lists }) v list) (own.q - list.amount)
+          in
+          let among : Contains after k = subst (λ (js : List Judgement). Contains js k) (sym goes_on) (0, omega arith, refl) in
+          let h = own-is_judgement typed there accepted in
+          let longer_fits : IsListOf (lengthened x l) list = record {
+            amount = fits.amount;
+            items = All-cons (λ y. ValueHasKind y list.kind) x l.items has fits.items;
+          } in
+          let on = matches-on next in
+          let matches : Matches a.program a.annotations s.types q k = record {
+            mode = on.mode;
+            code = refl;
+            offers = on.offers;
+            values = on.values;
+            held_lists = paired-bind v (lengthened x l) list (unbind w.0 p.lists) (unbind w.0 own.lists) longer_fits
+                (paired-unbind w.0 p.lists own.lists variables.lists h.lists_ascend on.held_lists);
+            channels = on.channels;
+          } in
+          let none = unbound-list v w (none-left (t.matches.held_lists v.0) (free-list v adds.free)) in
+          let exchanged : potential_of q + list_potential l ≡ potential_of p + list_potential (lengthened x l) =
+          list-exchanged v w l (lengthened x l) there_l none
+          in
+          let longer_has : list_potential (lengthened x l) ≡ list_potential l + l.amount =
+          mul-suc l.amount (length l.items)
+          in
+          let covered : potential_of p ≤ p.purse = t.covered in
+          let amount : l.amount ≡ list.amount = fits.amount in
+          let can : list.amount ≤ free_purse p = adds.enough in
+          let enough : l.amount ≤ free_purse p = omega arith in
+          let change : Option Change = Some (alone a s p q) in
+          let paid : where_it_has l.amount p change ≡ change = affords l.amount p change covered enough in
+          subst (λ (o : Option Change). Goes a s true (option_map changes o)) (sym paid)
+          (goes-by_row q 0 [] after k row among matches refl refl refl refl refl refl variables.values
+          (bind-ascending v (lengthened x l) (unbind w.0 p.lists) (unbind-ascending w.0 p.lists variables.lists))
+          (omega arith) (omega arith) (omega arith))
 
-    come : (r : Evaluation) → term_evaluation a.program p.values e ≡ r
-        → Goes a s true (deed_by a s p n (with_others r (Ok [])))
-    come (faults f) is = faulty f
-    come (ends x m) is =
-        let (after, row) = own-row typed there accepted in
-        let (list, adds, goes_on) = row-inverted n (own-stands typed there n stands) row in
-        let (l, there_l, fits) = own-list w list adds.there in
-        let has = value-has_kind typed there accepted e list.kind x m adds.element is in
-        subst (λ (o : Option PotentialList). Goes a s true (option_and_then (λ (l : PotentialList).
-        if is_light (lengthened x l) then
-        option_map changes (where_it_has l.amount p (Some (alone a s p
-        (standing_at next (with_list v (lengthened x l) (list_used_up w p)))))) else
-        Some (has_fault fault.ListLength)) o)) (sym there_l)
-        (weighed x l list after row adds goes_on there_l fits has (is_light (lengthened x l)))
+      come : (r : Evaluation) → term_evaluation a.program p.values e ≡ r
+          → Goes a s true (deed_by a s p n (with_others r (Ok [])))
+      come (faults f) is = faulty f
+      come (ends x m) is =
+          let (after, row) = own-row typed there accepted in
+          let (list, adds, goes_on) = row-inverted n (own-stands typed there n stands) row in
+          let (l, there_l, fits) = own-list w list adds.there in
+          let has = value-has_kind typed there accepted e list.kind x m adds.element is in
+          subst (λ (o : Option PotentialList). Goes a s true (option_and_then (λ (l : PotentialList).
+          if is_light (lengthened x l) then
+          option_map changes (where_it_has l.amount p (Some (alone a s p
+          (standing_at next (with_list v (lengthened x l) (list_used_up w p)))))) else
+          Some (has_fault fault.ListLength)) o)) (sym there_l)
+          (weighed x l list after row adds goes_on there_l fits has (is_light (lengthened x l)))
 
   match-goes : (at : ℕ) (w : VarId) (empty_next : CodeId) (head tail : VarId) (full_next : CodeId)
       → At (code.Match at w empty_next head tail full_next) → GoesAt (code.Match at w empty_next head tail full_next)
@@ -381,71 +381,71 @@ module _ {a : Acceptance} (accepted : IsAccepted a) {s : State} (typed : IsTyped
       Some (takes_apart a s p w empty_next head tail full_next l l.items)) o))) (sym there_l)
       (parts l list after row apart goes_on there_l fits l.items refl)
     where
-    n : CodeNode
-    n = code.Match at w empty_next head tail full_next
+      n : CodeNode
+      n = code.Match at w empty_next head tail full_next
 
-    parts : (l : PotentialList) (list : ListType) (after : List Judgement) → Row a.program a.annotations own after
-        → TakesApart own w head tail list
-        → after ≡ record (at_code own empty_next) { lists = unbind w.0 own.lists } ∷
-        with_potential (binds_value (binds_list (record (at_code own full_next) { lists = unbind w.0 own.lists }) tail list)
-        head list.kind) (own.q + list.amount) ∷ []
-        → bound_to w.0 p.lists ≡ Some l → IsListOf l list → (items : List Value) → l.items ≡ items
-        → Goes a s true (Some (changes (takes_apart a s p w empty_next head tail full_next l items)))
-    parts l list after row apart goes_on there_l fits [] is =
-        let t = process-typed typed there in
-        let variables = process-variables typed there in
-        let q : Process = standing_at empty_next (list_used_up w p) in
-        let k : Judgement = record (at_code own empty_next) { lists = unbind w.0 own.lists } in
-        let among : Contains after k = subst (λ (js : List Judgement). Contains js k) (sym goes_on) (0, omega arith, refl) in
-        let h = own-is_judgement typed there accepted in
-        let on = matches-on empty_next in
-        let matches : Matches a.program a.annotations s.types q k = record {
-          mode = on.mode;
-          code = refl;
-          offers = on.offers;
-          values = on.values;
-          held_lists = paired-unbind w.0 p.lists own.lists variables.lists h.lists_ascend on.held_lists;
-          channels = on.channels;
-        } in
-        let out : potential_of q + list_potential l ≡ potential_of p = list-gone w l there_l in
-        let nothing_in : list_potential l ≡ 0 = ap (λ (xs : List Value). l.amount * length xs) is ∙ (omega arith) in
-        let covered : potential_of p ≤ p.purse = t.covered in
-        goes-by_row q 0 [] after k row among matches refl refl refl refl refl refl variables.values
-        (unbind-ascending w.0 p.lists variables.lists) (omega arith) (omega arith) (omega arith)
-    parts l list after row apart goes_on there_l fits (x ∷ xs) is =
-        let t = process-typed typed there in
-        let variables = process-variables typed there in
-        let rest : PotentialList = record l { items = xs } in
-        let q : Process = standing_at full_next (with_value head x (with_list tail rest (list_used_up w p))) in
-        let k : Judgement =
-        with_potential (binds_value (binds_list (record (at_code own full_next) { lists = unbind w.0 own.lists }) tail list)
-        head list.kind) (own.q + list.amount)
-        in
-        let among : Contains after k = subst (λ (js : List Judgement). Contains js k) (sym goes_on) (1, omega arith, refl) in
-        let h = own-is_judgement typed there accepted in
-        let Of : Value → Type 0 = λ y. ValueHasKind y list.kind in
-        let all : All Of (x ∷ xs) = subst (All Of) is fits.items in
-        let rest_fits : IsListOf rest list = record { amount = fits.amount; items = All-tail Of x xs all } in
-        let on = matches-on full_next in
-        let matches : Matches a.program a.annotations s.types q k = record {
-          mode = on.mode;
-          code = refl;
-          offers = on.offers;
-          values = paired-bind head x list.kind p.values t.place.kinds (All-head Of x xs all) on.values;
-          held_lists = paired-bind tail rest list (unbind w.0 p.lists) (unbind w.0 own.lists) rest_fits
-              (paired-unbind w.0 p.lists own.lists variables.lists h.lists_ascend on.held_lists);
-          channels = on.channels;
-        } in
-        let none = unbound-list tail w (none-left (t.matches.held_lists tail.0) (free-list tail apart.tail_free)) in
-        let exchanged : potential_of q + list_potential l ≡ potential_of p + list_potential rest =
-        list-exchanged tail w l rest there_l none
-        in
-        let was : list_potential l ≡ list_potential rest + l.amount =
-        ap (λ (ys : List Value). l.amount * length ys) is ∙ mul-suc l.amount (length xs)
-        in
-        let amount : l.amount ≡ list.amount = fits.amount in
-        let covered : potential_of p ≤ p.purse = t.covered in
-        goes-by_row q 0 [] after k row among matches refl refl refl refl refl refl
-        (bind-ascending head x p.values variables.values)
-        (bind-ascending tail rest (unbind w.0 p.lists) (unbind-ascending w.0 p.lists variables.lists))
-        (omega arith) (omega arith) (omega arith)
+      parts : (l : PotentialList) (list : ListType) (after : List Judgement) → Row a.program a.annotations own after
+          → TakesApart own w head tail list
+          → after ≡ record (at_code own empty_next) { lists = unbind w.0 own.lists } ∷
+          with_potential (binds_value (binds_list (record (at_code own full_next) { lists = unbind w.0 own.lists }) tail list)
+          head list.kind) (own.q + list.amount) ∷ []
+          → bound_to w.0 p.lists ≡ Some l → IsListOf l list → (items : List Value) → l.items ≡ items
+          → Goes a s true (Some (changes (takes_apart a s p w empty_next head tail full_next l items)))
+      parts l list after row apart goes_on there_l fits [] is =
+          let t = process-typed typed there in
+          let variables = process-variables typed there in
+          let q : Process = standing_at empty_next (list_used_up w p) in
+          let k : Judgement = record (at_code own empty_next) { lists = unbind w.0 own.lists } in
+          let among : Contains after k = subst (λ (js : List Judgement). Contains js k) (sym goes_on) (0, omega arith, refl) in
+          let h = own-is_judgement typed there accepted in
+          let on = matches-on empty_next in
+          let matches : Matches a.program a.annotations s.types q k = record {
+            mode = on.mode;
+            code = refl;
+            offers = on.offers;
+            values = on.values;
+            held_lists = paired-unbind w.0 p.lists own.lists variables.lists h.lists_ascend on.held_lists;
+            channels = on.channels;
+          } in
+          let out : potential_of q + list_potential l ≡ potential_of p = list-gone w l there_l in
+          let nothing_in : list_potential l ≡ 0 = ap (λ (xs : List Value). l.amount * length xs) is ∙ (omega arith) in
+          let covered : potential_of p ≤ p.purse = t.covered in
+          goes-by_row q 0 [] after k row among matches refl refl refl refl refl refl variables.values
+          (unbind-ascending w.0 p.lists variables.lists) (omega arith) (omega arith) (omega arith)
+      parts l list after row apart goes_on there_l fits (x ∷ xs) is =
+          let t = process-typed typed there in
+          let variables = process-variables typed there in
+          let rest : PotentialList = record l { items = xs } in
+          let q : Process = standing_at full_next (with_value head x (with_list tail rest (list_used_up w p))) in
+          let k : Judgement =
+          with_potential (binds_value (binds_list (record (at_code own full_next) { lists = unbind w.0 own.lists }) tail list)
+          head list.kind) (own.q + list.amount)
+          in
+          let among : Contains after k = subst (λ (js : List Judgement). Contains js k) (sym goes_on) (1, omega arith, refl) in
+          let h = own-is_judgement typed there accepted in
+          let Of : Value → Type 0 = λ y. ValueHasKind y list.kind in
+          let all : All Of (x ∷ xs) = subst (All Of) is fits.items in
+          let rest_fits : IsListOf rest list = record { amount = fits.amount; items = All-tail Of x xs all } in
+          let on = matches-on full_next in
+          let matches : Matches a.program a.annotations s.types q k = record {
+            mode = on.mode;
+            code = refl;
+            offers = on.offers;
+            values = paired-bind head x list.kind p.values t.place.kinds (All-head Of x xs all) on.values;
+            held_lists = paired-bind tail rest list (unbind w.0 p.lists) (unbind w.0 own.lists) rest_fits
+                (paired-unbind w.0 p.lists own.lists variables.lists h.lists_ascend on.held_lists);
+            channels = on.channels;
+          } in
+          let none = unbound-list tail w (none-left (t.matches.held_lists tail.0) (free-list tail apart.tail_free)) in
+          let exchanged : potential_of q + list_potential l ≡ potential_of p + list_potential rest =
+          list-exchanged tail w l rest there_l none
+          in
+          let was : list_potential l ≡ list_potential rest + l.amount =
+          ap (λ (ys : List Value). l.amount * length ys) is ∙ mul-suc l.amount (length xs)
+          in
+          let amount : l.amount ≡ list.amount = fits.amount in
+          let covered : potential_of p ≤ p.purse = t.covered in
+          goes-by_row q 0 [] after k row among matches refl refl refl refl refl refl
+          (bind-ascending head x p.values variables.values)
+          (bind-ascending tail rest (unbind w.0 p.lists) (unbind-ascending w.0 p.lists variables.lists))
+          (omega arith) (omega arith) (omega arith)

@@ -10,3 +10,5 @@ pub mod OwnedLaws
 pub mod AloneLaws
 pub mod GoesLaws
 pub mod AloneDeeds
+pub mod HeldLaws
+pub mod CloseLaws
