@@ -99,13 +99,19 @@ one-told : (t : Bool) → (t ≡ true → 1 ≤ cond {A = ℕ} t 1 0) × (t ≡ 
 one-told true = (λ yes. omega arith, λ no. absurd cc)
 one-told false = (λ yes. absurd cc, λ no. refl)
 
+-- whether a name is among others is told by how often it is
+pub names-told : (names : List ℕ) (name : ℕ)
+    → (list_any (λ n. n == name) names ≡ true → 1 ≤ count_of name names)
+    × (list_any (λ n. n == name) names ≡ false → count_of name names ≡ 0)
+names-told names name = any-told (λ n. n == name) (λ n. cond (n == name) 1 0) names (λ n. one-told (n == name))
+
 -- whether a name is mentioned is told by how often it is
 pub mentioned-told : (objects : List Object) (name : ℕ)
     → (is_mentioned objects name ≡ true → 1 ≤ times mentioned objects name)
     × (is_mentioned objects name ≡ false → times mentioned objects name ≡ 0)
 mentioned-told objects name =
     any-told (λ o. list_any (λ n. n == name) (mentioned o)) (λ o. count_of name (mentioned o)) objects
-    (λ o. any-told (λ n. n == name) (λ n. cond (n == name) 1 0) (mentioned o) (λ n. one-told (n == name)))
+    (λ o. names-told (mentioned o) name)
 
 -- ---- the table of types
 

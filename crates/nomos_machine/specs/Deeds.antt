@@ -159,8 +159,7 @@ module _ (a : Acceptance) (s : State) (p : Process) where
   }
   closes _ = leaves
 
-  -- It leaves, and whoever used its name uses this one instead, an outside party too. The user is placed first, since
-  -- the process may use its own name.
+  -- it leaves, and whoever used its name uses this one instead, an outside party too
   abbrev pub forwards : ℕ → Change
   forwards name = record leaves {
     places =
