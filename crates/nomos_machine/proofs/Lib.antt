@@ -11,3 +11,5 @@ pub mod AloneLaws
 pub mod GoesLaws
 pub mod AloneDeeds
 pub mod TalkLaws
+pub mod ApartLaws
+pub mod ChannelLaws
