@@ -13,3 +13,5 @@ pub mod AloneDeeds
 pub mod TalkLaws
 pub mod ApartLaws
 pub mod ChannelLaws
+pub mod SendLaws
+pub mod SendDeeds
