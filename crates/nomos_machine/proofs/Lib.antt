@@ -13,5 +13,6 @@ pub mod AloneDeeds
 pub mod TalkLaws
 pub mod ApartLaws
 pub mod ChannelLaws
+pub mod LinearLaws
 pub mod SendLaws
 pub mod SendDeeds

@@ -52,6 +52,7 @@ use Rattle.nomos_machine.proofs.ChannelLaws.{SameRest, under-keeps, IsUnshared, 
 use Rattle.nomos_machine.proofs.FitLaws.{Fits}
 use Rattle.nomos_machine.proofs.GasLaws.{KeepsGas}
 use Rattle.nomos_machine.proofs.GoesLaws.{Goes, acts, process-typed, process-variables, next-is_judgement}
+use Rattle.nomos_machine.proofs.LinearLaws.{count-other, owned-once, IsLinearAt, under-shared, linear-at, base-again}
 use Rattle.nomos_machine.proofs.MatchLaws.{matches-differ}
 use Rattle.nomos_machine.proofs.NameLaws.{mentioned-sum, times-one, type_of-below, type_of-kept, type_of-added, type_of-other}
 use Rattle.nomos_machine.proofs.ObjectLaws.{brings-kept, matches-kept}
@@ -132,64 +133,6 @@ sends-on {a} accepted {s} {c = c} {brought = brought} {gas = gas} h =
       brings = subst (λ (o : Option TypeId). Brings a.program a.annotations s.types (is_own c) head brought gas o) is_u brings;
       alike = alike_types-back alike;
     }
-
--- ---- ownership
-
--- a name of other objects is not this one
-count-other : (n k : ℕ) → n ≢ k → count_of n (k ∷ []) ≡ 0
-count-other n k other = count-elsewhere n k [] (ne_eqb k n (λ same. other (sym same)))
-
--- a name that is provided once and used once, and not outside, is owned at a mode of channels that are used exactly once
-owned-once : (m : Mode) (s : State) (name : ℕ) → IsLinearMode m → times provided s.objects name ≡ 1
-    → times used s.objects name ≡ 1 → count_of name s.outside ≡ 0 → IsOwned m s name
-owned-once mode.R s name linear provides uses outside = (provides, omega (arith, uses, outside))
-owned-once mode.L s name linear provides uses outside = (provides, uses, outside)
-owned-once mode.T s name (inl is) provides uses outside = absurd cc
-owned-once mode.T s name (inr is) provides uses outside = absurd cc
-owned-once mode.S s name (inl is) provides uses outside = absurd cc
-owned-once mode.S s name (inr is) provides uses outside = absurd cc
-
--- the mode of a process that goes on with its own channel is one of channels that are used exactly once
-abbrev pub IsLinearAt : Chan → Mode → Type 0
-IsLinearAt chan.Own m = IsLinearMode m
-IsLinearAt (chan.Var v) m = Unit {0}
-
-shared_of-linear : (m : Mode) (name other : ℕ) (base : Option ℕ) → IsLinearMode m
-    → shared_of m name base ≡ shared_of m other base
-shared_of-linear mode.R name other base linear = refl
-shared_of-linear mode.L name other base linear = refl
-shared_of-linear mode.T name other base (inl is) = absurd cc
-shared_of-linear mode.T name other base (inr is) = absurd cc
-shared_of-linear mode.S name other base (inl is) = absurd cc
-shared_of-linear mode.S name other base (inr is) = absurd cc
-
--- so it stands for the same shared names under the other name
-pub under-shared : (c : Chan) (name : ℕ) (p : Process) → IsLinearAt c p.mode
-    → shared_names (object.Process (under_name c name p)) ≡ shared_names (object.Process p)
-under-shared chan.Own name p linear = shared_of-linear p.mode name p.offers p.base linear
-under-shared (chan.Var v) name p linear = refl
-
-pub linear-at : {a : Acceptance} → IsAccepted a → {types : NameTypes} {accounts : ℕ} {p : Process}
-    → ProcessTyped a types accounts p → (c : Chan) (from : ℕ) (own : TypeId) (m : Mode) → present_name p c ≡ Some from
-    → type_of types from ≡ Some own → HasMode a.program own m → IsLinearMode m → IsLinearAt c p.mode
-linear-at {a} accepted {types} {p = p} t chan.Own from own m here found has linear =
-    let same : p.offers ≡ from = cc in
-    let offered = t.offered own (subst (λ (n : ℕ). type_of types n ≡ Some own) (sym same) found) in
-    subst IsLinearMode (mode-unique accepted.typed.formed.program has offered) linear
-linear-at accepted t (chan.Var v) from own m here found has linear = tt
-
--- a base is there, and shared, as before
-pub base-again : {lists : ProgramLists} {types : NameTypes} {p q : Process} → (more : NameTypes) → HasBase lists types p
-    → q.mode ≡ p.mode → q.base ≡ p.base → HasBase lists (types ++ more) q
-base-again {types = types} more has same_mode base = record {
-  base = (
-    λ some. same_mode ∙ has.base.0 (subst IsSome base some),
-    λ at_l. subst IsSome (sym base) (has.base.1 (sym same_mode ∙ at_l)),
-  );
-  shared = λ b is.
-      let (t, found, at_s) = has.shared b (sym base ∙ is) in
-      (t, type_of-kept types more b t found, at_s);
-}
 
 -- ---- the change
 
