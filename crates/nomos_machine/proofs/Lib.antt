@@ -16,3 +16,6 @@ pub mod ChannelLaws
 pub mod LinearLaws
 pub mod SendLaws
 pub mod SendDeeds
+pub mod ReceiveLaws
+pub mod MessageLaws
+pub mod ReceiveDeeds

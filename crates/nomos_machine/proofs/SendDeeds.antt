@@ -53,7 +53,7 @@ use Rattle.nomos_machine.specs.declared.object.Payload.TheVariants as payload
 use Rattle.nomos_machine.specs.declared.object.Process.{Process}
 use Rattle.nomos_machine.proofs.AloneDeeds.{At, GoesAt}
 use Rattle.nomos_machine.proofs.ChannelLaws.{IsUnshared, channel-unshared, goes_on-with_potential}
-use Rattle.nomos_machine.proofs.GoesLaws.{Goes, faulty, process-typed, process-variables, own-row, own-stands, own-is_judgement, value-has_kind, affords}
+use Rattle.nomos_machine.proofs.GoesLaws.{Goes, faulty, process-typed, process-variables, own-row, own-stands, own-is_judgement, own-matches, value-has_kind, affords}
 use Rattle.nomos_machine.proofs.MatchLaws.{holds-fewer}
 use Rattle.nomos_machine.proofs.ProcessLaws.{own_judgement}
 use Rattle.nomos_machine.proofs.SendLaws.{Sending, sends-go}
@@ -63,19 +63,6 @@ module _ {a : Acceptance} (accepted : IsAccepted a) {s : State} (typed : IsTyped
     (there : Contains s.objects (object.Process p)) where
   abbrev own : Judgement
   own = own_judgement p (process-typed typed there)
-
-  -- what the process has is what its judgement says
-  own-matches : Matches a.program a.annotations s.types p own
-  own-matches =
-      let t = process-typed typed there in
-      record {
-        mode = t.matches.mode;
-        code = t.matches.code;
-        offers = t.matches.offers;
-        values = t.matches.values;
-        held_lists = t.matches.held_lists;
-        channels = t.matches.channels;
-      }
 
   -- a name of a shared type is no other one
   abbrev IsUnsharedName : ℕ → Type 0
@@ -91,7 +78,7 @@ module _ {a : Acceptance} (accepted : IsAccepted a) {s : State} (typed : IsTyped
       → Sending a s p (process-typed typed there) c brought gas (record p { purse = purse }) next
   own-sending c brought gas purse next held head goes after row among holds unfolds brings nothing covered pays =
       let variables = process-variables typed there in
-      let on = own-matches in
+      let on = own-matches typed there in
       record {
         left = with_potential own (purse - potential_of p);
         held = held;
@@ -206,7 +193,7 @@ module _ {a : Acceptance} (accepted : IsAccepted a) {s : State} (typed : IsTyped
   -- the channel of a variable has a name, whose type is alike to that which the judgement has
   held-name : (y : VarId) (t : TypeId) → type_held own y.0 ≡ Some t
       → (name : ℕ) × (bound_to y.0 p.channels ≡ Some name) × NameHasType a.program a.annotations s.types name t
-  held-name y t found = paired-left t (own-matches.channels y.0) found
+  held-name y t found = paired-left t ((own-matches typed there).channels y.0) found
 
   -- whether the name is a shared one is told by the mode of that type
   told-shared : (name : ℕ) (t : TypeId) (m : Mode) → NameHasType a.program a.annotations s.types name t
@@ -293,7 +280,7 @@ module _ {a : Acceptance} (accepted : IsAccepted a) {s : State} (typed : IsTyped
           held-name y own_type (ap (λ (o : Option TypeId). option_or o (bound_to y.0 own.linear)) none ∙ bound)
           in
           let told = told-shared name own_type m is has ∙ sym (linear-unshared m is_linear) in
-          let on = own-matches in
+          let on = own-matches typed there in
           channel-goes c y next name (without_channel y p) found (hands-over y name false found told)
           (record {
             left = record own { linear = unbind y.0 own.linear };
