@@ -52,7 +52,7 @@ module _ {a : Acceptance} (accepted : IsAccepted a) {s : State} (typed : IsTyped
   own = own_judgement p (process-typed typed there)
 
   -- the instruction of the process
-  abbrev At : CodeNode → Type 0
+  abbrev pub At : CodeNode → Type 0
   At n = slice_get a.program.code p.code.0 ≡ Some n
 
   -- What the process does at an instruction.

@@ -20,7 +20,7 @@ use Rattle.nomos_types.proofs.InversionLaws.{derives-row}
 use Rattle.nomos_types.proofs.JudgementLaws.{row-keeps_judgement}
 use Rattle.nomos_machine.specs.Change.{Change}
 use Rattle.nomos_machine.specs.Deeds.{Deed, changes, has_fault, where_it_has}
-use Rattle.nomos_machine.specs.Matching.{ProcessTyped}
+use Rattle.nomos_machine.specs.Matching.{Matches, ProcessTyped}
 use Rattle.nomos_machine.specs.Objects.{potential_of, free_purse}
 use Rattle.nomos_machine.specs.State.{State}
 use Rattle.nomos_machine.specs.TypedState.{VariablesDiffer, HasVariables, ObjectTyped, IsTyped}
@@ -80,6 +80,19 @@ module _ {a : Acceptance} {s : State} (typed : IsTyped a s) {p : Process} (there
     value-has_kind accepted e kind x m has ended =
         evaluation-kind a.program accepted.typed.functions p.values process-typed.place.kinds e kind x m
         (paired-has_kinds p.values process-typed.place.kinds process-typed.matches.values) has ended
+
+    -- it has what its judgement says
+    pub own-matches : Matches a.program a.annotations s.types p (own_judgement p process-typed)
+    own-matches =
+        let matches = process-typed.matches in
+        record {
+          mode = matches.mode;
+          code = matches.code;
+          offers = matches.offers;
+          values = matches.values;
+          held_lists = matches.held_lists;
+          channels = matches.channels;
+        }
 
 -- ---- what it can pay
 

@@ -13,3 +13,12 @@ pub mod AloneDeeds
 pub mod HeldLaws
 pub mod CloseLaws
 pub mod RenameLaws
+pub mod TalkLaws
+pub mod ApartLaws
+pub mod ChannelLaws
+pub mod LinearLaws
+pub mod SendLaws
+pub mod SendDeeds
+pub mod ReceiveLaws
+pub mod MessageLaws
+pub mod ReceiveDeeds

@@ -43,7 +43,7 @@ module _ (lists : ProgramLists) (x : Annotations) (types others : NameTypes) whe
       → NameHasType lists x types name t → NameHasType lists x others name t
   of_type-kept name t kept is = record { own = is.own; found = kept is.own is.found; alike = is.alike }
 
-  brings-kept : (way : Bool) (node : TypeNode) (brought : Payload) (gas : ℕ) (goes : Option TypeId)
+  pub brings-kept : (way : Bool) (node : TypeNode) (brought : Payload) (gas : ℕ) (goes : Option TypeId)
       → Keep (Contains (carried brought)) types others → Brings lists x types way node brought gas goes
       → Brings lists x others way node brought gas goes
   brings-kept _ _ _ _ _ kept (own_label branches l t goes) = own_label branches l t goes
