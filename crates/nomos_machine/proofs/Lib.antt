@@ -10,3 +10,4 @@ pub mod OwnedLaws
 pub mod AloneLaws
 pub mod GoesLaws
 pub mod AloneDeeds
+pub mod BeginLaws
