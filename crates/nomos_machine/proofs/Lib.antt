@@ -11,3 +11,4 @@ pub mod AloneLaws
 pub mod GoesLaws
 pub mod AloneDeeds
 pub mod BeginLaws
+pub mod BirthLaws
