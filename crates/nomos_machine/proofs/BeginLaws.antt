@@ -34,12 +34,13 @@ use Rattle.nomos_types.proofs.StartLaws.{start-is_judgement, start-suits_mode}
 use Rattle.nomos_machine.specs.Given.{Given, me_value, begins}
 use Rattle.nomos_machine.specs.Matching.{NameHasType, IsListOf, Matches, HasBase, ProcessTyped}
 use Rattle.nomos_machine.specs.Objects.{potential_of, free_purse, used}
-use Rattle.nomos_machine.specs.State.{NameTypes}
+use Rattle.nomos_machine.specs.State.{NameTypes, type_of}
 use Rattle.nomos_machine.specs.TypedState.{VariablesDiffer}
 use Rattle.nomos_machine.specs.declared.object.Object.TheVariants as object
 use Rattle.nomos_machine.specs.declared.object.PotentialList.{PotentialList}
 use Rattle.nomos_machine.specs.declared.object.Process.{Process}
 use Rattle.nomos_machine.proofs.MatchLaws.{matches-differ}
+use Rattle.nomos_machine.proofs.ObjectLaws.{of_type-kept}
 use Rattle.nomos_machine.proofs.ProcessLaws.{offers-own_mode}
 
 -- For each parameter in order there is a value of its kind, or a list of its element kind and amount.
@@ -105,8 +106,12 @@ module _ {x : Annotations} where
   lists-occur v (value {par = par} {pars = pars} w no_list has rest) =
       omega (arith, lists-occur v rest, sum_by-cons (one_at v) par.var.0 (map (λ (q : Par). q.var.0) pars))
   lists-occur v (list {its_lists = its_lists} {par = par} {pars = pars} l amount its_amount is rest) =
-      omega (arith, lists-occur v rest, sum_by-cons (one_at v) par.var.0 (map (λ (q : Par). q.var.0) pars),
-      sum_by-cons (one_at v) par.var.0 (variables_of its_lists))
+      omega (
+        arith,
+        lists-occur v rest,
+        sum_by-cons (one_at v) par.var.0 (map (λ (q : Par). q.var.0) pars),
+        sum_by-cons (one_at v) par.var.0 (variables_of its_lists),
+      )
 
 -- the payer's account has the kind of its variable
 me-fits : (me : Option VarId) (payer : ℕ) {ps : List (VarId × Value)} {qs : List (VarId × Kind)}
@@ -161,6 +166,25 @@ same-variables : {X Y : Type 0} {R : X → Y → Type 0} {ps : List (VarId × X)
 same-variables pairs.none = refl
 same-variables (pairs.pair v related rest) = ap (λ vs. v.0 ∷ vs) (same-variables rest)
 
+-- ---- other tables of types
+
+names-kept : (a : Acceptance) (types others : NameTypes)
+    → ((name : ℕ) (t : TypeId) → type_of types name ≡ Some t → type_of others name ≡ Some t)
+    → {ps : List (VarId × ℕ)} {qs : List (VarId × TypeId)}
+    → PairedInOrder (NameHasType a.program a.annotations types) ps qs
+    → PairedInOrder (NameHasType a.program a.annotations others) ps qs
+names-kept a types others kept pairs.none = pairs.none
+names-kept a types others kept (pairs.pair {x = name} {y = t} v has rest) =
+    pairs.pair v (of_type-kept a.program a.annotations types others name t (λ u found. kept name u found) has)
+    (names-kept a types others kept rest)
+
+-- what fits where names have their types fits where they have them too
+pub given-kept : {a : Acceptance} {d : ProcDecl} {g : Given} (types others : NameTypes)
+    → ((name : ℕ) (t : TypeId) → type_of types name ≡ Some t → type_of others name ≡ Some t)
+    → GivenFits a types d g → GivenFits a others d g
+given-kept {a} types others kept fits =
+    record { values = fits.values; channels = names-kept a types others kept fits.channels }
+
 -- ---- starts
 
 -- A process stands at the start of a declaration, with what it is given for the parameters.
@@ -192,8 +216,12 @@ module _ {a : Acceptance} (accepted : IsAccepted a) {types : NameTypes} {d : Pro
   parameters-sum v =
       let me = me_parameter d.me in
       let value_names = map (λ (par : Par). par.var.0) d.values in
-      omega (arith, parameters-once v, count-append v (me ++ value_names) (variables_of d.channels),
-      count-append v me value_names)
+      omega (
+        arith,
+        parameters-once v,
+        count-append v (me ++ value_names) (variables_of d.channels),
+        count-append v me value_names,
+      )
 
   pub lists-once : (v : ℕ) → count_of v (variables_of g.lists) ≤ 1
   lists-once v = omega (arith, lists-occur v fits.values, parameters-sum v)

@@ -62,10 +62,14 @@ stands-mentioned : (objects : List Object) (name : ℕ)
     → times shared_names objects name ≤ times provided objects name + times based objects name
 stands-mentioned [] name = omega arith
 stands-mentioned (o ∷ objects) name =
-    omega (arith, stands-object name o, stands-mentioned objects name,
-    sum_by-cons (λ (d : Object). count_of name (shared_names d)) o objects,
-    sum_by-cons (λ (d : Object). count_of name (provided d)) o objects,
-    sum_by-cons (λ (d : Object). count_of name (based d)) o objects)
+    omega (
+      arith,
+      stands-object name o,
+      stands-mentioned objects name,
+      sum_by-cons (λ (d : Object). count_of name (shared_names d)) o objects,
+      sum_by-cons (λ (d : Object). count_of name (provided d)) o objects,
+      sum_by-cons (λ (d : Object). count_of name (based d)) o objects,
+    )
 
 unshared-mode : (m : Mode) → m ≢ mode.S → is_shared_mode m ≡ false
 unshared-mode mode.S other = absurd (other refl)
@@ -79,6 +83,30 @@ module _ {a : Acceptance} (accepted : IsAccepted a) where
       → HasMode a.program t m → m ≢ mode.S → is_shared_name a.program types name ≡ false
   unshared-shown types name t m found at other =
       ap (shows_shared a.program) found ∙ type-shows_shared accepted.typed.formed m at ∙ unshared-mode m other
+
+  -- a name of mode S is
+  pub shared-shown : (types : NameTypes) (name : ℕ) (t : TypeId) → type_of types name ≡ Some t → HasMode a.program t mode.S
+      → is_shared_name a.program types name ≡ true
+  shared-shown types name t found at =
+      ap (shows_shared a.program) found ∙ type-shows_shared accepted.typed.formed mode.S at
+
+-- the next name has no type, so it shows nothing
+pub next-unshown : {a : Acceptance} {s : State} → IsTyped a s → is_shared_name a.program s.types s.next_name ≡ false
+next-unshown {a} {s} typed = shown (type_of s.types s.next_name) refl
+  where
+    shown : (o : Option TypeId) → type_of s.types s.next_name ≡ o → shows_shared a.program o ≡ false
+    shown (Some t) found =
+        absurd (omega (arith, type_of-below s.types s.next_name s.next_name t typed.numbered.names found))
+    shown None found = refl
+
+-- names lead to their base among more objects too
+pub leads-more : (objects others : List Object) → ((o : Object) → Contains objects o → Contains others o)
+    → (base name : ℕ) → LeadsToBase objects base name → LeadsToBase others base name
+leads-more objects others kept base name leads =
+    leads-map (λ n. Unit {0}) objects others base
+    (λ p there at_l is stay. at_base p (kept (object.Process p) there) at_l is)
+    (λ m n onward there provides end stay. (tt, λ leads_on. further m n onward (kept (object.Message m) there) provides end leads_on))
+    name tt leads
 
 -- ---- what a birth has to be
 

@@ -12,3 +12,4 @@ pub mod GoesLaws
 pub mod AloneDeeds
 pub mod BeginLaws
 pub mod BirthLaws
+pub mod StartingLaws
