@@ -13,3 +13,4 @@ pub mod AloneDeeds
 pub mod BeginLaws
 pub mod BirthLaws
 pub mod StartingLaws
+pub mod ArgumentLaws
