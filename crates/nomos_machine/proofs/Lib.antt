@@ -14,3 +14,4 @@ pub mod BeginLaws
 pub mod BirthLaws
 pub mod StartingLaws
 pub mod ArgumentLaws
+pub mod HandedLaws
