@@ -15,3 +15,4 @@ pub mod BirthLaws
 pub mod StartingLaws
 pub mod ArgumentLaws
 pub mod HandedLaws
+pub mod SpawnLaws
