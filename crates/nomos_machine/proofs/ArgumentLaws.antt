@@ -205,7 +205,7 @@ module _ (a : Acceptance) (s : State) (p : Process) where
   abbrev Names : Type 0
   Names = List (VarId × ℕ)
 
-  abbrev Bound : ℕ → TypeId → Type 0
+  abbrev pub Bound : ℕ → TypeId → Type 0
   Bound name t = NameHasType a.program a.annotations s.types name t
 
   abbrev with_name_given : VarId × TypeId → Option Names → ℕ → Option Names
@@ -232,7 +232,7 @@ module _ (a : Acceptance) (s : State) (p : Process) where
 
   module _ (accepted : IsAccepted a) where
     -- a name that stands for a reference is shared, and one that stands for another channel is not
-    reference-shown : (name : ℕ) (own : TypeId) → Bound name own → HasMode a.program own mode.S
+    pub reference-shown : (name : ℕ) (own : TypeId) → Bound name own → HasMode a.program own mode.S
         → is_shared_name a.program s.types name ≡ true
     reference-shown name own has at_s =
         let same = mode-unique accepted.typed.formed.program has.alike.right_mode at_s in
@@ -250,7 +250,7 @@ module _ (a : Acceptance) (s : State) (p : Process) where
         not-shared m (inl at_r) at_s = absurd cc
         not-shared m (inr at_l) at_s = absurd cc
 
-    bound-alike : (name : ℕ) (own t : TypeId) → Bound name own → AlikeTypes a.program a.annotations own t → Bound name t
+    pub bound-alike : (name : ℕ) (own t : TypeId) → Bound name own → AlikeTypes a.program a.annotations own t → Bound name t
     bound-alike name own t has alike = record {
       own = has.own;
       found = has.found;

@@ -16,3 +16,4 @@ pub mod StartingLaws
 pub mod ArgumentLaws
 pub mod HandedLaws
 pub mod SpawnLaws
+pub mod SpawnDeeds
