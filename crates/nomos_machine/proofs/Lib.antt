@@ -16,4 +16,5 @@ pub mod StartingLaws
 pub mod ArgumentLaws
 pub mod HandedLaws
 pub mod SpawnLaws
+pub mod CallLaws
 pub mod SpawnDeeds

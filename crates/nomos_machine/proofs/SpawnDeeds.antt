@@ -25,7 +25,9 @@ use Rattle.nomos_machine.specs.TypedState.{IsTyped}
 use Rattle.nomos_machine.specs.declared.object.Object.TheVariants as object
 use Rattle.nomos_machine.specs.declared.object.Process.{Process}
 use Rattle.nomos_machine.proofs.AloneDeeds.{GoesAt}
+use Rattle.nomos_machine.proofs.AloneLaws.{alone-replaces, alone-fits}
 use Rattle.nomos_machine.proofs.BirthLaws.{birth, birth-fits}
+use Rattle.nomos_machine.proofs.CallLaws.{caller, caller-names, caller-variables, caller-typed}
 use Rattle.nomos_machine.proofs.GoesLaws.{Goes, acts, faulty, process-typed, own-row, own-stands, affords}
 use Rattle.nomos_machine.proofs.HandedLaws.{Handed, arguments-given}
 use Rattle.nomos_machine.proofs.ProcessLaws.{own_judgement}
@@ -83,3 +85,28 @@ module _ {a : Acceptance} (accepted : IsAccepted a) {s : State} (typed : IsTyped
           subst (λ (o : Option Deed). Goes a s true o) (sym found)
           (acts change (object.Process p ∷ []) is_birth.replaces (birth-fits accepted typed is_birth)
           (spawn-keeps_gas accepted typed there next says handed row goes_on))
+
+  pub call-goes : (at : ℕ) (f : ProcId) (args : Args) → slice_get a.program.code p.code.0 ≡ Some (code.Call at f args)
+      → GoesAt accepted typed there (code.Call at f args)
+  call-goes at f args stands = come (values_of_terms a.program p.values (code_terms n)) refl
+    where
+      n : CodeNode
+      n = code.Call at f args
+
+      come : (r : TermValues) → values_of_terms a.program p.values (code_terms n) ≡ r
+          → Goes a s true (deed_by a s p n r)
+      come (Err e) is = faulty e
+      come (Ok vs) is =
+          let (after, row) = own-row typed there accepted in
+          let (says, nothing) = row-inverted n (own-stands typed there n stands) row in
+          let handed = arguments-given accepted typed there says.d args vs says.left says.arguments is in
+          let q : Process = caller accepted typed there says handed in
+          let same = caller-names accepted typed there says handed in
+          let found : deed_by a s p n (Ok vs) ≡ Some (changes (alone a s p q)) =
+          starts-found f says.d args vs says.left (calls a s p) says.declared handed says.enough
+          in
+          subst (λ (o : Option Deed). Goes a s true o) (sym found)
+          (acts (alone a s p q) (object.Process p ∷ []) (alone-replaces typed there q 0 [] same)
+          (alone-fits typed there q 0 [] same (caller-typed accepted typed there says handed)
+          (caller-variables accepted typed there says handed))
+          (record { gives = tt; gets = tt; even = omega arith }))
