@@ -1,25 +1,21 @@
 -- What the arguments of a `spawn` or a `call` give in a typed process, and what is left of it.
-use Rattle.std.proofs.Common.{◌≡◌, ◌≢◌, ◌∙◌, ◌≤◌, inl, inr, ℕ, ◌+◌, ◌*◌, Bool, true, false, List, [], ◌∷◌, ◌++◌, map, length, Option, Some, None, Ok, Err, sum_by, refl, sym, subst, ap, arith, ne_eqb}
+use Rattle.std.proofs.Common.{◌≡◌, ◌≢◌, ◌∙◌, inl, inr, ℕ, ◌+◌, Bool, true, false, List, [], ◌∷◌, map, Option, Some, None, Ok, Err, sum_by, refl, sym, subst, ap, arith, ne_eqb}
 use Rattle.std.proofs.lemmas.Bool.{cases_eq}
 use Rattle.std.proofs.lemmas.List.Sums.{sum_by-cons}
 use Rattle.std.specs.List.{flat_map}
 use Rattle.std.specs.Option.{option_or, option_map, option_to_list}
 use Rattle.nomos_ir.specs.Bindings.{bound_to, unbind, sum_bound, IsAscending}
 use Rattle.nomos_ir.specs.CodeParts.{arg_terms}
-use Rattle.nomos_ir.specs.Evaluation.{Environment, Evaluation, ends, faults, term_evaluation}
+use Rattle.nomos_ir.specs.Evaluation.{Evaluation, ends, faults, term_evaluation}
 use Rattle.nomos_ir.specs.Order.{count_of}
 use Rattle.nomos_ir.specs.Paired.{Paired, ArePaired, PairedInOrder, both, neither}
 use Rattle.nomos_ir.specs.Paired as pairs
 use Rattle.nomos_ir.specs.TermKind.{HasKind}
 use Rattle.nomos_ir.specs.Value.{Value}
 use Rattle.nomos_ir.specs.ValueKind.{ValueHasKind}
-use Rattle.nomos_ir.specs.declared.amount.Amount.{Amount}
-use Rattle.nomos_ir.specs.declared.code_node.Args.{Args}
 use Rattle.nomos_ir.specs.declared.code_node.ValueArg.{ValueArg}
 use Rattle.nomos_ir.specs.declared.code_node.ValueArg.TheVariants as arg
 use Rattle.nomos_ir.specs.declared.declaration.Par.{Par}
-use Rattle.nomos_ir.specs.declared.declaration.ProcDecl.{ProcDecl}
-use Rattle.nomos_ir.specs.declared.fault.Fault.{Fault}
 use Rattle.nomos_ir.specs.declared.ids.TermId.{TermId}
 use Rattle.nomos_ir.specs.declared.ids.TypeId.{TypeId}
 use Rattle.nomos_ir.specs.declared.ids.VarId.{VarId}
@@ -30,10 +26,10 @@ use Rattle.nomos_ir.proofs.BindingLaws.{all-bound, bound-after_unbind, bound-aft
 use Rattle.nomos_ir.proofs.PairedLaws.{paired-left, paired-unbind}
 use Rattle.nomos_ir.proofs.SumLaws.{sum-after_unbind, times_bound, count-after_unbind}
 use Rattle.nomos_types.specs.Acceptance.{Acceptance, IsAccepted}
-use Rattle.nomos_types.specs.Amount.{Annotations, dths}
+use Rattle.nomos_types.specs.Amount.{dths}
 use Rattle.nomos_types.specs.Arguments.{PassesChannel, PassesChannels, PassesValue, PassesValues, ArgumentsFit}
 use Rattle.nomos_types.specs.Arguments as passes
-use Rattle.nomos_types.specs.Judgement.{Judgement, ListType, IsJudgement, type_held}
+use Rattle.nomos_types.specs.Judgement.{Judgement, ListType, IsJudgement}
 use Rattle.nomos_types.specs.Alike.{AlikeTypes}
 use Rattle.nomos_types.specs.Modes.{HasMode, IsLinearMode}
 use Rattle.nomos_types.proofs.AlikeLaws.{alike_types-through}
@@ -41,16 +37,15 @@ use Rattle.nomos_types.proofs.ModeLaws.{mode-unique}
 use Rattle.nomos_types.proofs.OccurrenceLaws.{one_at, count-elsewhere}
 use Rattle.nomos_types.proofs.ArgumentsLaws.{passes-channel_left, passes-value_left}
 use Rattle.nomos_machine.specs.Deeds.{unless_shared, hands_over, hands_over_all, hands_over_lists}
-use Rattle.nomos_machine.specs.Given.{Given, TermValues, with_others, values_of_terms, give_values, give_names, given}
+use Rattle.nomos_machine.specs.Given.{TermValues, with_others, values_of_terms, give_values, give_names}
 use Rattle.nomos_machine.specs.Matching.{NameHasType, IsListOf}
-use Rattle.nomos_machine.specs.Objects.{potential_of}
 use Rattle.nomos_machine.specs.Optional.{◌>>=◌}
-use Rattle.nomos_machine.specs.Revised.{list_used_up, without_channel}
-use Rattle.nomos_machine.specs.Sight.{shows_shared, is_shared_name}
-use Rattle.nomos_machine.specs.State.{State, NameTypes, type_of}
+use Rattle.nomos_machine.specs.Revised.{list_used_up}
+use Rattle.nomos_machine.specs.Sight.{is_shared_name}
+use Rattle.nomos_machine.specs.State.{State}
 use Rattle.nomos_machine.specs.declared.object.PotentialList.{PotentialList}
 use Rattle.nomos_machine.specs.declared.object.Process.{Process}
-use Rattle.nomos_machine.proofs.BeginLaws.{FitValues, value, list, none, GivenFits, carries}
+use Rattle.nomos_machine.proofs.BeginLaws.{FitValues, value, list, none, carries}
 use Rattle.nomos_machine.proofs.BirthLaws.{shared-shown, unshared-shown}
 use Rattle.nomos_machine.proofs.MatchLaws.{HoldsChannels, holds-fewer}
 
@@ -196,8 +191,13 @@ module _ (a : Acceptance) (s : State) (p : Process) where
             further.hands (list_used_up w q) (ap (λ (b : List (VarId × PotentialList)). unbind w.0 b) same);
         ascending = further.ascending;
         fits = further.fits;
-        sum = omega (arith, further.sum, without, one,
-            sum_by-cons (λ (d : VarId × PotentialList). carries d.1) (par.var, l) further.its_lists);
+        sum = omega (
+          arith,
+          further.sum,
+          without,
+          one,
+          sum_by-cons (λ (d : VarId × PotentialList). carries d.1) (par.var, l) further.its_lists,
+        );
       }
 
   -- ---- channels

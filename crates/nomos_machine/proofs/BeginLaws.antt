@@ -26,8 +26,7 @@ use Rattle.nomos_types.specs.Acceptance.{Acceptance, IsAccepted}
 use Rattle.nomos_types.specs.Amount.{Annotations, dths}
 use Rattle.nomos_types.specs.Derivation.{Derives}
 use Rattle.nomos_types.specs.Derivation as derivation
-use Rattle.nomos_types.specs.Judgement.{Judgement, ListType, type_held, payer_kinds, value_par, list_par, is_shared, start_of, with_potential}
-use Rattle.nomos_types.specs.Places.{IsPlace}
+use Rattle.nomos_types.specs.Judgement.{Judgement, ListType, type_held, payer_kinds, value_par, list_par, is_shared, start_of}
 use Rattle.nomos_types.proofs.DerivationLaws.{derives-more}
 use Rattle.nomos_types.proofs.OccurrenceLaws.{one_at, count-here, count-append, differ-once}
 use Rattle.nomos_types.proofs.StartLaws.{start-is_judgement, start-suits_mode}

@@ -1,9 +1,9 @@
 -- A process that comes, and offers the next name, leaves a typed state typed.
-use Rattle.std.proofs.Common.{◌≡◌, ◌≢◌, ◌∙◌, ◌≤◌, inl, inr, ℕ, ◌+◌, Bool, true, false, List, [], ◌∷◌, ◌++◌, length, All, Contains, Option, Some, None, refl, sym, subst, ap, arith, ne_eqb}
+use Rattle.std.proofs.Common.{◌≡◌, ◌≢◌, ◌∙◌, ◌≤◌, inl, inr, ℕ, ◌+◌, true, false, List, [], ◌∷◌, ◌++◌, length, All, Contains, Option, Some, None, refl, sym, subst, ap, arith, ne_eqb}
 use Rattle.std.proofs.lemmas.Bool.{cases_eq}
 use Rattle.std.proofs.lemmas.List.Sums.{sum_by-cons}
 use Rattle.std.specs.Option.{option_to_list}
-use Rattle.std.proofs.lemmas.List.Elements.{All-nil, All-cons, Contains-append_left}
+use Rattle.std.proofs.lemmas.List.Elements.{All-nil, All-cons}
 use Rattle.nomos_ir.specs.Order.{count_of}
 use Rattle.nomos_ir.specs.declared.ids.TypeId.{TypeId}
 use Rattle.nomos_ir.specs.declared.mode.Mode.{Mode}
@@ -15,12 +15,11 @@ use Rattle.nomos_types.specs.Modes.{HasMode}
 use Rattle.nomos_types.proofs.ToldModeLaws.{type-shows_shared}
 use Rattle.nomos_types.proofs.ModeLaws.{mode-unique}
 use Rattle.nomos_types.proofs.OccurrenceLaws.{count-elsewhere}
-use Rattle.nomos_machine.specs.Change.{Change, no_change, put_all, made}
+use Rattle.nomos_machine.specs.Change.{Change, no_change, made}
 use Rattle.nomos_machine.specs.Objects.{object_number, provided, used, based, shared_names, shared_of, mentioned, times}
 use Rattle.nomos_machine.specs.Sight.{shows_shared, is_shared_name}
 use Rattle.nomos_machine.specs.State.{State, NameTypes, type_of}
 use Rattle.nomos_machine.specs.TypedState.{HasVariables, IsOwned, ObjectTyped, LeadsToBase, at_base, further, IsTyped}
-use Rattle.nomos_machine.specs.declared.object.Message.{Message}
 use Rattle.nomos_machine.specs.declared.object.Object.{Object}
 use Rattle.nomos_machine.specs.declared.object.Object.TheVariants as object
 use Rattle.nomos_machine.specs.declared.object.Process.{Process}

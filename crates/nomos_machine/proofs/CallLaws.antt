@@ -1,16 +1,14 @@
 -- A process that goes on as another declaration stays typed, and has the names that it had.
-use Rattle.std.proofs.Common.{◌≡◌, ◌≢◌, ◌∙◌, ◌≤◌, inl, inr, ℕ, ◌+◌, Bool, true, false, List, [], ◌++◌, map, length, Contains, Option, Some, None, refl, sym, subst, ap, arith}
+use Rattle.std.proofs.Common.{◌≡◌, ◌∙◌, ◌≤◌, inl, inr, ℕ, true, false, List, ◌++◌, map, length, Contains, Option, Some, None, refl, sym, ap, arith}
 use Rattle.std.proofs.lemmas.Bool.{cases_eq}
 use Rattle.std.specs.Option.{option_or}
 use Rattle.nomos_ir.specs.Bindings.{bound_to, bindings_of, sum_bound}
 use Rattle.nomos_ir.specs.Order.{count_of}
 use Rattle.nomos_ir.specs.Value.{Value}
 use Rattle.nomos_ir.specs.declared.code_node.Args.{Args}
-use Rattle.nomos_ir.specs.declared.declaration.ProcDecl.{ProcDecl}
 use Rattle.nomos_ir.specs.declared.ids.ProcId.{ProcId}
 use Rattle.nomos_ir.specs.declared.ids.TypeId.{TypeId}
 use Rattle.nomos_ir.specs.declared.ids.VarId.{VarId}
-use Rattle.nomos_ir.specs.declared.mode.Mode.{Mode}
 use Rattle.nomos_ir.specs.declared.mode.Mode.TheVariants as mode
 use Rattle.nomos_ir.proofs.BindingLaws.{all-bound}
 use Rattle.nomos_ir.proofs.PairedLaws.{paired-right}
@@ -21,11 +19,11 @@ use Rattle.nomos_types.specs.Judgement.{Judgement}
 use Rattle.nomos_types.specs.Modes.{HasMode}
 use Rattle.nomos_types.specs.Premises.{Calls}
 use Rattle.nomos_types.proofs.OccurrenceLaws.{contained}
-use Rattle.nomos_machine.specs.Given.{me_value, begins}
+use Rattle.nomos_machine.specs.Given.{me_value}
 use Rattle.nomos_machine.specs.Matching.{NameHasType, HasBase, ProcessTyped}
 use Rattle.nomos_machine.specs.Objects.{used, potential_of, free_purse}
 use Rattle.nomos_machine.specs.Sight.{is_shared_name}
-use Rattle.nomos_machine.specs.State.{State, type_of}
+use Rattle.nomos_machine.specs.State.{State}
 use Rattle.nomos_machine.specs.TypedState.{VariablesDiffer, IsTyped}
 use Rattle.nomos_machine.specs.declared.object.Object.TheVariants as object
 use Rattle.nomos_machine.specs.declared.object.Process.{Process}

@@ -1,7 +1,7 @@
 -- What a `spawn` or a `call` of a typed process hands over fits the declaration, and what is left is what its rule leaves.
-use Rattle.std.proofs.Common.{◌≡◌, ◌∙◌, ℕ, ◌+◌, Bool, false, List, Contains, Option, Some, Ok, refl, sym, subst, ap}
+use Rattle.std.proofs.Common.{◌≡◌, ◌∙◌, ℕ, ◌+◌, false, List, Contains, Option, Some, Ok, refl, sym, subst, ap}
 use Rattle.std.specs.List.{flat_map}
-use Rattle.nomos_ir.specs.Bindings.{unbind, sum_bound, IsAscending}
+use Rattle.nomos_ir.specs.Bindings.{sum_bound, IsAscending}
 use Rattle.nomos_ir.specs.CodeParts.{arg_terms}
 use Rattle.nomos_ir.specs.Paired.{ArePaired}
 use Rattle.nomos_ir.specs.Value.{Value}
@@ -20,7 +20,7 @@ use Rattle.nomos_types.specs.Arguments as passes
 use Rattle.nomos_types.specs.Judgement.{Judgement, ListType}
 use Rattle.nomos_types.proofs.ArgumentsLaws.{passes-values_left}
 use Rattle.nomos_machine.specs.Deeds.{hands_over_all, hands_over_lists}
-use Rattle.nomos_machine.specs.Given.{Given, values_of_terms, give_values, give_names, given}
+use Rattle.nomos_machine.specs.Given.{Given, values_of_terms, give_names, given}
 use Rattle.nomos_machine.specs.Matching.{NameHasType, IsListOf}
 use Rattle.nomos_machine.specs.Objects.{potential_of}
 use Rattle.nomos_machine.specs.Optional.{◌>>=◌}

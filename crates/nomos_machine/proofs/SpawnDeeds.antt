@@ -1,5 +1,5 @@
 -- The instructions at which a process starts a declaration: `spawn`, beside itself, and `call`, in its own place.
-use Rattle.std.proofs.Common.{◌≡◌, ◌≢◌, ◌∙◌, ◌≤◌, inl, inr, ℕ, ◌+◌, Bool, true, false, List, [], ◌∷◌, length, Contains, Option, Some, None, slice_get, Ok, Err, refl, sym, subst, ap, arith}
+use Rattle.std.proofs.Common.{◌≡◌, ◌∙◌, ◌≤◌, ℕ, true, List, [], ◌∷◌, Contains, Option, Some, None, slice_get, Ok, Err, refl, sym, subst, ap, arith}
 use Rattle.nomos_ir.specs.CodeParts.{code_terms}
 use Rattle.nomos_ir.specs.Value.{Value}
 use Rattle.nomos_ir.specs.declared.code_node.Args.{Args}
@@ -15,8 +15,7 @@ use Rattle.nomos_types.specs.Judgement.{Judgement}
 use Rattle.nomos_types.proofs.RowLaws.{row-inverted}
 use Rattle.nomos_machine.specs.Change.{Change}
 use Rattle.nomos_machine.specs.Deeds.{Deed, changes, alone, does, where_it_has, spawns, calls}
-use Rattle.nomos_machine.specs.Given.{Given, TermValues, values_of_terms, given, begins}
-use Rattle.nomos_machine.specs.Objects.{potential_of, free_purse}
+use Rattle.nomos_machine.specs.Given.{Given, TermValues, values_of_terms, given}
 use Rattle.nomos_machine.specs.Optional.{◌>>=◌}
 use Rattle.nomos_machine.specs.Revised.{standing_at, with_channel, poorer}
 use Rattle.nomos_machine.specs.State.{State}

@@ -1,11 +1,10 @@
 -- A process that spawns another one leaves a typed state typed.
-use Rattle.std.proofs.Common.{◌≡◌, ◌≢◌, ◌⊎◌, ◌∙◌, ◌≤◌, ◌<◌, inl, inr, ℕ, ◌+◌, ◌-◌, Bool, true, false, IsTrue, IsSome, List, [], ◌∷◌, ◌++◌, length, All, Contains, Option, Some, None, slice_get, refl, sym, subst, ap, arith, ne_eqb}
+use Rattle.std.proofs.Common.{◌≡◌, ◌≢◌, ◌⊎◌, ◌∙◌, ◌≤◌, inl, inr, ℕ, ◌+◌, ◌-◌, List, [], ◌∷◌, ◌++◌, length, Contains, Option, Some, None, refl, sym, subst, ap, arith, ne_eqb}
 use Rattle.std.proofs.lemmas.Bool.{cases_eq}
 use Rattle.std.proofs.lemmas.List.Elements.{All-nil, All-cons, Contains-append_left}
 use Rattle.std.specs.Option.{option_or, option_to_list}
-use Rattle.nomos_ir.specs.Bindings.{bound_to, bind, sum_bound, IsAscending}
+use Rattle.nomos_ir.specs.Bindings.{bound_to, bind, sum_bound}
 use Rattle.nomos_ir.specs.Order.{count_of}
-use Rattle.nomos_ir.specs.Paired.{Paired}
 use Rattle.nomos_ir.specs.Value.{Value}
 use Rattle.nomos_ir.specs.declared.code_node.Args.{Args}
 use Rattle.nomos_ir.specs.declared.declaration.ProcDecl.{ProcDecl}
@@ -20,8 +19,8 @@ use Rattle.nomos_ir.proofs.PairedLaws.{none-left}
 use Rattle.nomos_ir.proofs.SumLaws.{times_bound, count-first, count-after_bind}
 use Rattle.nomos_types.specs.Acceptance.{Acceptance, IsAccepted}
 use Rattle.nomos_types.specs.Amount.{dths}
-use Rattle.nomos_types.specs.Judgement.{Judgement, IsFree, count_one, parts_with, at_code, with_potential, binds_channel}
-use Rattle.nomos_types.specs.Modes.{HasMode, may_spawn}
+use Rattle.nomos_types.specs.Judgement.{Judgement, count_one, at_code, with_potential, binds_channel}
+use Rattle.nomos_types.specs.Modes.{HasMode}
 use Rattle.nomos_types.specs.Premises.{Spawns}
 use Rattle.nomos_types.specs.Row.{Row}
 use Rattle.nomos_types.proofs.AlikeLaws.{alike_types-same}
@@ -29,18 +28,16 @@ use Rattle.nomos_types.proofs.ArgumentsLaws.{arguments-left}
 use Rattle.nomos_types.proofs.JudgementLaws.{spawned-carried}
 use Rattle.nomos_types.proofs.ModeLaws.{offered-has_mode}
 use Rattle.nomos_types.proofs.OccurrenceLaws.{count-elsewhere}
-use Rattle.nomos_machine.specs.Change.{Change, put_at, made}
-use Rattle.nomos_machine.specs.Given.{Given, begins}
+use Rattle.nomos_machine.specs.Change.{put_at, made}
+use Rattle.nomos_machine.specs.Given.{begins}
 use Rattle.nomos_machine.specs.Matching.{NameHasType, Matches, HasBase, ProcessTyped}
-use Rattle.nomos_machine.specs.Objects.{object_number, provided, used, shared_names, times, object_at, potential_of, free_purse}
+use Rattle.nomos_machine.specs.Objects.{object_number, used, object_at, potential_of, free_purse}
 use Rattle.nomos_machine.specs.Revised.{standing_at, with_channel, poorer}
-use Rattle.nomos_machine.specs.Sight.{is_shared_name}
 use Rattle.nomos_machine.specs.State.{State, NameTypes, type_of}
 use Rattle.nomos_machine.specs.TypedState.{VariablesDiffer, HasVariables, ObjectTyped, LeadsToBase, at_base, further, IsTyped}
 use Rattle.nomos_machine.specs.declared.object.Message.{Message}
 use Rattle.nomos_machine.specs.declared.object.Object.{Object}
 use Rattle.nomos_machine.specs.declared.object.Object.TheVariants as object
-use Rattle.nomos_machine.specs.declared.object.PotentialList.{PotentialList}
 use Rattle.nomos_machine.specs.declared.object.Process.{Process}
 use Rattle.nomos_machine.proofs.BeginLaws.{GivenFits, carries, given-kept, begins-start, begins-purse, begins-typed, begins-variables, begun-uses}
 use Rattle.nomos_machine.proofs.BirthLaws.{birth, uses_at, IsBirth, next-unshown, leads-more}
@@ -321,11 +318,22 @@ module _ {a : Acceptance} (accepted : IsAccepted a) {s : State} (typed : IsTyped
       stands = λ name. refl;
       uses = λ name other unshared.
           let apart : s.next_name ≢ name = λ same. other (sym same) in
-          omega (arith, parent-uses name, child-uses name, handed.uses name unshared,
-          count-elsewhere name s.next_name [] (ne_eqb s.next_name name apart));
+          omega (
+            arith,
+            parent-uses name,
+            child-uses name,
+            handed.uses name unshared,
+            count-elsewhere name s.next_name [] (ne_eqb s.next_name name apart),
+          );
       uses_next = λ not_s.
-          omega (arith, parent-uses s.next_name, child-uses s.next_name, handed.uses s.next_name (next-unshown typed),
-          count-first s.next_name [], spawned-used not_s);
+          omega (
+            arith,
+            parent-uses s.next_name,
+            child-uses s.next_name,
+            handed.uses s.next_name (next-unshown typed),
+            count-first s.next_name [],
+            spawned-used not_s,
+          );
       leads = spawn-leads;
       variables = All-cons HasVariables (object.Process parent) (object.Process child ∷ []) parent-variables
           (All-cons HasVariables (object.Process child) []

@@ -1,5 +1,5 @@
 -- Starts, accounts and deposits leave a typed state typed, and nothing but a deposit and a new account brings gas.
-use Rattle.std.proofs.Common.{◌≡◌, ◌≢◌, ◌⊎◌, ◌∙◌, ◌≤◌, ◌<◌, inl, inr, ℕ, ◌+◌, Bool, true, false, List, [], ◌∷◌, ◌++◌, map, length, All, Contains, Option, Some, None, slice_get, refl, sym, subst, ap, arith, append-nil, length-append}
+use Rattle.std.proofs.Common.{◌≡◌, ◌≢◌, ◌⊎◌, ◌∙◌, ◌≤◌, ◌<◌, inl, inr, ℕ, ◌+◌, true, false, List, [], ◌∷◌, ◌++◌, map, length, All, Some, slice_get, refl, sym, subst, ap, arith, append-nil, length-append}
 use Rattle.std.proofs.lemmas.Bool.{cases_eq}
 use Rattle.std.proofs.lemmas.List.Elements.{All-nil, All-cons, All-contains, All-weaker, Contains-append_left}
 use Rattle.std.specs.Prelude.{slice_index}
@@ -19,20 +19,20 @@ use Rattle.nomos_types.specs.Modes.{HasMode}
 use Rattle.nomos_types.proofs.AlikeLaws.{alike_types-same}
 use Rattle.nomos_types.proofs.ModeLaws.{offered-has_mode}
 use Rattle.nomos_types.proofs.OccurrenceLaws.{contained, contains-unmap}
-use Rattle.nomos_machine.specs.Change.{Change, paid_in, made}
+use Rattle.nomos_machine.specs.Change.{paid_in, made}
 use Rattle.nomos_machine.specs.Given.{Given, begins}
 use Rattle.nomos_machine.specs.Matching.{NameHasType}
 use Rattle.nomos_machine.specs.Objects.{object_number, used}
 use Rattle.nomos_machine.specs.Sight.{is_shared_name}
-use Rattle.nomos_machine.specs.Starting.{opened, credits, credited, cleared, starts, started}
-use Rattle.nomos_machine.specs.State.{State, NameTypes, type_of, empty, gas_of}
-use Rattle.nomos_machine.specs.TypedState.{HasVariables, IsOwned, ObjectTyped, LeadsToBase, IsTyped, IsContractName}
+use Rattle.nomos_machine.specs.Starting.{opened, credited, cleared, starts, started}
+use Rattle.nomos_machine.specs.State.{State, NameTypes, empty, gas_of}
+use Rattle.nomos_machine.specs.TypedState.{HasVariables, IsOwned, ObjectTyped, IsTyped, IsContractName}
 use Rattle.nomos_machine.specs.declared.object.Object.{Object}
 use Rattle.nomos_machine.specs.declared.object.Object.TheVariants as object
 use Rattle.nomos_machine.specs.declared.object.Process.{Process}
 use Rattle.nomos_machine.proofs.BeginLaws.{GivenFits, given-kept, begins-start, begins-typed, begins-variables, begun-uses}
-use Rattle.nomos_machine.proofs.BirthLaws.{birth, uses_at, IsBirth, birth-fits, shared-shown, next-unshown, leads-more}
-use Rattle.nomos_machine.proofs.ChangeLaws.{Replaces, done}
+use Rattle.nomos_machine.proofs.BirthLaws.{uses_at, IsBirth, birth-fits, shared-shown, next-unshown, leads-more}
+use Rattle.nomos_machine.proofs.ChangeLaws.{done}
 use Rattle.nomos_machine.proofs.FitLaws.{Fits, changed-typed}
 use Rattle.nomos_machine.proofs.GasLaws.{KeepsGas, paid_in-length, gas-changed}
 use Rattle.nomos_machine.proofs.NameLaws.{type_of-added, type_of-kept}
