@@ -22,3 +22,11 @@ pub mod SendDeeds
 pub mod ReceiveLaws
 pub mod MessageLaws
 pub mod ReceiveDeeds
+pub mod BeginLaws
+pub mod BirthLaws
+pub mod StartingLaws
+pub mod ArgumentLaws
+pub mod HandedLaws
+pub mod SpawnLaws
+pub mod CallLaws
+pub mod SpawnDeeds

@@ -1,0 +1,269 @@
+-- Starts, accounts and deposits leave a typed state typed, and nothing but a deposit and a new account brings gas.
+use Rattle.std.proofs.Common.{◌≡◌, ◌≢◌, ◌⊎◌, ◌∙◌, ◌≤◌, ◌<◌, inl, inr, ℕ, ◌+◌, true, false, List, [], ◌∷◌, ◌++◌, map, length, All, Some, slice_get, refl, sym, subst, ap, arith, append-nil, length-append}
+use Rattle.std.proofs.lemmas.Bool.{cases_eq}
+use Rattle.std.proofs.lemmas.List.Elements.{All-nil, All-cons, All-contains, All-weaker, Contains-append_left}
+use Rattle.std.specs.Prelude.{slice_index}
+use Rattle.std.specs.List.Sorted.{IsStrictlySortedBy}
+use Rattle.std.specs.Ordering.{nat_cmp}
+use Rattle.nomos_ir.specs.Order.{count_of}
+use Rattle.nomos_ir.specs.Value.{Value}
+use Rattle.nomos_ir.specs.declared.declaration.ProcDecl.{ProcDecl}
+use Rattle.nomos_ir.specs.declared.ids.TypeId.{TypeId}
+use Rattle.nomos_ir.specs.declared.ids.VarId.{VarId}
+use Rattle.nomos_ir.specs.declared.mode.Mode.{Mode}
+use Rattle.nomos_ir.specs.declared.mode.Mode.TheVariants as mode
+use Rattle.nomos_ir.proofs.SumLaws.{times_bound}
+use Rattle.nomos_types.specs.Acceptance.{Acceptance, IsAccepted}
+use Rattle.nomos_types.specs.Amount.{dths}
+use Rattle.nomos_types.specs.Modes.{HasMode}
+use Rattle.nomos_types.proofs.AlikeLaws.{alike_types-same}
+use Rattle.nomos_types.proofs.ModeLaws.{offered-has_mode}
+use Rattle.nomos_types.proofs.OccurrenceLaws.{contained, contains-unmap}
+use Rattle.nomos_machine.specs.Change.{paid_in, made}
+use Rattle.nomos_machine.specs.Given.{Given, begins}
+use Rattle.nomos_machine.specs.Matching.{NameHasType}
+use Rattle.nomos_machine.specs.Objects.{object_number, used}
+use Rattle.nomos_machine.specs.Sight.{is_shared_name}
+use Rattle.nomos_machine.specs.Starting.{opened, credited, cleared, starts, started}
+use Rattle.nomos_machine.specs.State.{State, NameTypes, empty, gas_of}
+use Rattle.nomos_machine.specs.TypedState.{HasVariables, IsOwned, ObjectTyped, IsTyped, IsContractName}
+use Rattle.nomos_machine.specs.declared.object.Object.{Object}
+use Rattle.nomos_machine.specs.declared.object.Object.TheVariants as object
+use Rattle.nomos_machine.specs.declared.object.Process.{Process}
+use Rattle.nomos_machine.proofs.BeginLaws.{GivenFits, given-kept, begins-start, begins-typed, begins-variables, begun-uses}
+use Rattle.nomos_machine.proofs.BirthLaws.{uses_at, IsBirth, birth-fits, shared-shown, next-unshown, leads-more}
+use Rattle.nomos_machine.proofs.ChangeLaws.{done}
+use Rattle.nomos_machine.proofs.FitLaws.{Fits, changed-typed}
+use Rattle.nomos_machine.proofs.GasLaws.{KeepsGas, paid_in-length, gas-changed}
+use Rattle.nomos_machine.proofs.NameLaws.{type_of-added, type_of-kept}
+
+-- A line of a script can start a process: its values and channels fit the parameters, of which none is a list; the
+-- channels are contracts; the process has mode S or T; and the payer's account has the declared potential.
+pub record CanStart (a : Acceptance) (s : State) (d : ProcDecl) (values : List (VarId × Value))
+    (channels : List (VarId × ℕ)) (payer : ℕ) : Type 0 where
+  pub fits : GivenFits a s.types d (record { values = values; lists = []; channels = channels })
+  pub contracts : All (λ e. IsContractName a s e.1) channels
+  pub its_mode : (d.mode ≡ mode.S) ⊎ (d.mode ≡ mode.T)
+  pub account : payer < length s.balances
+  pub has : dths a.annotations d.amount ≤ slice_index s.balances payer
+
+-- a process that comes by a line has no base, and its name no user
+its_mode-not_l : (m : Mode) → (m ≡ mode.S) ⊎ (m ≡ mode.T) → m ≢ mode.L
+its_mode-not_l m (inl at_s) at_l = absurd cc
+its_mode-not_l m (inr at_t) at_l = absurd cc
+
+its_mode-unused : (m : Mode) → (m ≡ mode.S) ⊎ (m ≡ mode.T) → uses_at m ≡ 0
+its_mode-unused m (inl at_s) = ap uses_at at_s
+its_mode-unused m (inr at_t) = ap uses_at at_t
+
+module _ {a : Acceptance} (accepted : IsAccepted a) {s : State} (typed : IsTyped a s) (number : ℕ) {d : ProcDecl}
+    (declared : slice_get a.program.procs number ≡ Some d) {values : List (VarId × Value)}
+    {channels : List (VarId × ℕ)} {payer : ℕ} (can : CanStart a s d values channels payer) where
+  abbrev line : Given
+  line = record { values = values; lists = []; channels = channels }
+
+  abbrev child : Process
+  child = begins d line s.next_object s.next_name (dths a.annotations d.amount) payer
+
+  abbrev after : State
+  after = made s (starts a s d values channels payer)
+
+  offered-mode : HasMode a.program d.offers d.mode
+  offered-mode = offered-has_mode a.program number d declared
+
+  -- a name that is not shared is none of the line's
+  unused : (name : ℕ) → is_shared_name a.program s.types name ≡ false → times_bound name channels ≡ 0
+  unused name unshared =
+      elim (cases_eq (times_bound name channels) 0) [
+        | inl none ↦ none
+        | inr some ↦
+            let (e, there, same) = contains-unmap (λ (b : VarId × ℕ). b.1) channels name
+            (contained name (map (λ (b : VarId × ℕ). b.1) channels) (omega arith)) in
+            let contract = All-contains (λ (b : VarId × ℕ). IsContractName a s b.1) channels e can.contracts there in
+            let shared = shared-shown accepted s.types e.1 contract.own contract.found contract.mode in
+            let unshown : is_shared_name a.program s.types e.1 ≡ false =
+            ap (is_shared_name a.program s.types) same ∙ unshared
+            in
+            absurd (differ (sym shared ∙ unshown))
+      ]
+    where
+      differ : true ≡ false → ⊥
+      differ equal = cc
+
+  child-uses : (name : ℕ) → is_shared_name a.program s.types name ≡ false → count_of name (used (object.Process child)) ≡ 0
+  child-uses name unshared =
+      begun-uses accepted number declared can.fits child
+      (begins-start accepted number declared can.fits s.next_object s.next_name (dths a.annotations d.amount) payer) name
+      ∙ unused name unshared
+
+  started-offers : NameHasType a.program a.annotations after.types s.next_name d.offers
+  started-offers = record {
+    own = d.offers;
+    found = type_of-added s.types s.next_name d.offers typed.numbered.names;
+    alike = alike_types-same a.annotations accepted.typed.formed.program accepted.typed.formed.contractive offered-mode;
+  }
+
+  started-given : GivenFits a after.types d line
+  started-given =
+      given-kept s.types after.types (λ name t found. type_of-kept s.types ((s.next_name, d.offers) ∷ []) name t found)
+      can.fits
+
+  started-birth : IsBirth a s [] [] child d.offers (Some (payer, dths a.annotations d.amount))
+  started-birth = record {
+    replaces = done s.objects;
+    numbered = refl;
+    offers = refl;
+    at = offered-mode;
+    not_l = its_mode-not_l d.mode can.its_mode;
+    provides = λ name. refl;
+    stands = λ name. refl;
+    uses = λ name other unshared. omega (arith, child-uses name unshared);
+    uses_next = λ not_s.
+        omega (arith, child-uses s.next_name (next-unshown typed), its_mode-unused d.mode can.its_mode);
+    leads = λ base name leads. leads-more s.objects after.objects
+        (λ o there. Contains-append_left s.objects (object.Process child ∷ []) o there) base name leads;
+    variables = All-cons HasVariables (object.Process child) []
+        (begins-variables accepted number declared started-given s.next_object s.next_name (dths a.annotations d.amount) payer
+        started-offers) (All-nil HasVariables);
+    typed = All-cons (ObjectTyped a after.types (length s.balances)) (object.Process child) []
+        (begins-typed accepted number declared started-given s.next_object s.next_name payer started-offers can.account
+        (its_mode-not_l d.mode can.its_mode)) (All-nil (ObjectTyped a after.types (length s.balances)));
+  }
+
+  pub starts-fits : Fits a s (starts a s d values channels payer)
+  starts-fits = birth-fits accepted typed started-birth
+
+  -- a start leaves the state typed
+  pub started-typed : IsTyped a (started a s d values channels payer)
+  started-typed = changed-typed a s (starts a s d values channels payer) typed starts-fits
+
+  pub starts-keeps_gas : KeepsGas s (starts a s d values channels payer) []
+  starts-keeps_gas = record { gives = (can.account, can.has); gets = tt; even = omega arith }
+
+  pub gas-started : gas_of (started a s d values channels payer) ≡ gas_of s
+  gas-started = gas-changed s (starts a s d values channels payer) [] (done s.objects) starts-keeps_gas
+
+-- ---- accounts, deposits and results
+
+module _ {a : Acceptance} {s : State} (typed : IsTyped a s) (balances : List ℕ) (spent : ℕ) (results : List (ℕ × Value))
+    (enough : length s.balances ≤ length balances) where
+  -- the same objects and names, with at least as many accounts
+  abbrev with_accounts : State
+  with_accounts = record s { balances = balances; spent = spent; results = results }
+
+  accounts-each : (o : Object) → ObjectTyped a s.types (length s.balances) o → ObjectTyped a s.types (length balances) o
+  accounts-each (object.Process p) t = record {
+    place = t.place;
+    is_place = t.is_place;
+    matches = t.matches;
+    covered = t.covered;
+    derives = t.derives;
+    payer = omega (arith, t.payer);
+    offered = t.offered;
+    has_base = t.has_base;
+  }
+  accounts-each (object.Message m) t = t
+
+  accounts-owned : (m : Mode) (name : ℕ) → IsOwned m s name → IsOwned m with_accounts name
+  accounts-owned mode.R name owned = owned
+  accounts-owned mode.S name owned = owned
+  accounts-owned mode.L name owned = owned
+  accounts-owned mode.T name owned = owned
+
+  accounts-typed : IsTyped a with_accounts
+  accounts-typed = record {
+    numbered = record {
+      ascending = typed.numbered.ascending;
+      over = typed.numbered.over;
+      below = typed.numbered.below;
+      next = typed.numbered.next;
+      table = typed.numbered.table;
+      names = typed.numbered.names;
+      typed = typed.numbered.typed;
+      variables = typed.numbered.variables;
+    };
+    owned = λ name t m found at. accounts-owned m name (typed.owned name t m found at);
+    outside = typed.outside;
+    each = All-weaker (ObjectTyped a s.types (length s.balances)) (ObjectTyped a s.types (length balances)) accounts-each
+        s.objects typed.each;
+    sections = λ name t found at_l.
+        let section = typed.sections name t found at_l in
+        record {
+          base = section.base;
+          leads = section.leads;
+          shared = section.shared;
+          found = section.found;
+          synchronizing = section.synchronizing;
+        };
+  }
+
+-- a new account
+pub opened-typed : {a : Acceptance} {s : State} → IsTyped a s → (gas : ℕ) → IsTyped a (opened s gas)
+opened-typed {a} {s} typed gas =
+    accounts-typed typed (s.balances ++ gas ∷ []) s.spent s.results
+    (omega (arith, length-append s.balances (gas ∷ [])))
+
+-- a state with these parts, and with more on an account
+abbrev with_parts : State → ℕ → ℕ → List Object → ℕ → ℕ → NameTypes → ℕ → List (ℕ × Value) → State
+with_parts s account gas objects next_object next_name types spent results = record {
+  objects = objects;
+  next_object = next_object;
+  next_name = next_name;
+  types = types;
+  balances = paid_in (Some (account, gas)) s.balances;
+  spent = spent;
+  results = results;
+  outside = s.outside;
+}
+
+no-more : (n : ℕ) → n + 0 ≡ n
+no-more n = omega arith
+
+-- a deposit changes balances alone
+credited-as : (s : State) (account gas : ℕ)
+    → credited s account gas ≡ record s { balances = paid_in (Some (account, gas)) s.balances }
+credited-as s account gas =
+    ap (λ (os : List Object). with_parts s account gas os (s.next_object + 0) (s.next_name + 0) (s.types ++ []) (s.spent + 0) (s.results ++ []))
+    (append-nil s.objects)
+    ∙ ap (λ (n : ℕ). with_parts s account gas s.objects n (s.next_name + 0) (s.types ++ []) (s.spent + 0) (s.results ++ []))
+    (no-more s.next_object)
+    ∙ ap (λ (n : ℕ). with_parts s account gas s.objects s.next_object n (s.types ++ []) (s.spent + 0) (s.results ++ []))
+    (no-more s.next_name)
+    ∙ ap (λ (ts : NameTypes). with_parts s account gas s.objects s.next_object s.next_name ts (s.spent + 0) (s.results ++ []))
+    (append-nil s.types)
+    ∙ ap (λ (n : ℕ). with_parts s account gas s.objects s.next_object s.next_name s.types n (s.results ++ [])) (no-more s.spent)
+    ∙ ap (λ (rs : List (ℕ × Value)). with_parts s account gas s.objects s.next_object s.next_name s.types s.spent rs) (append-nil s.results)
+
+pub credited-typed : {a : Acceptance} {s : State} → IsTyped a s → (account gas : ℕ) → IsTyped a (credited s account gas)
+credited-typed {a} {s} typed account gas =
+    subst (IsTyped a) (sym (credited-as s account gas))
+    (accounts-typed typed (paid_in (Some (account, gas)) s.balances) s.spent s.results
+    (omega (arith, paid_in-length (Some (account, gas)) s.balances)))
+
+-- nothing emitted is kept
+pub cleared-typed : {a : Acceptance} {s : State} → IsTyped a s → IsTyped a (cleared s)
+cleared-typed {a} {s} typed = accounts-typed typed s.balances s.spent [] (omega arith)
+
+-- nothing is in order
+no-order : IsStrictlySortedBy nat_cmp []
+unfolding IsStrictlySortedBy
+no-order = tt
+
+-- nothing is there
+pub empty-typed : (a : Acceptance) → IsTyped a empty
+empty-typed a = record {
+  numbered = record {
+    ascending = no-order;
+    over = All-nil (λ o. 0 < object_number o);
+    below = All-nil (λ o. object_number o < 1);
+    next = omega arith;
+    table = no-order;
+    names = All-nil (λ (t : ℕ × TypeId). t.0 < 1);
+    typed = λ name. (λ some. absurd cc, λ some. absurd (omega (arith, some)));
+    variables = All-nil HasVariables;
+  };
+  owned = λ name t m found at. absurd cc;
+  outside = λ name some. absurd (omega (arith, some));
+  each = All-nil (ObjectTyped a [] 0);
+  sections = λ name t found at_l. absurd cc;
+}
