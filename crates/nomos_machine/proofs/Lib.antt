@@ -12,3 +12,4 @@ pub mod GoesLaws
 pub mod AloneDeeds
 pub mod HeldLaws
 pub mod CloseLaws
+pub mod SectionLaws
