@@ -13,3 +13,4 @@ pub mod AloneDeeds
 pub mod HeldLaws
 pub mod CloseLaws
 pub mod SectionLaws
+pub mod SharingLaws
