@@ -14,3 +14,4 @@ pub mod HeldLaws
 pub mod CloseLaws
 pub mod SectionLaws
 pub mod SharingLaws
+pub mod AcquireLaws
