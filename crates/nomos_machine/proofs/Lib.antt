@@ -15,3 +15,4 @@ pub mod CloseLaws
 pub mod SectionLaws
 pub mod SharingLaws
 pub mod AcquireLaws
+pub mod ReleaseLaws
