@@ -16,3 +16,4 @@ pub mod SectionLaws
 pub mod SharingLaws
 pub mod AcquireLaws
 pub mod ReleaseLaws
+pub mod SharingDeeds
