@@ -16,4 +16,5 @@ pub mod SectionLaws
 pub mod SharingLaws
 pub mod AcquireLaws
 pub mod ReleaseLaws
+pub mod MeetingLaws
 pub mod SharingDeeds
