@@ -30,3 +30,9 @@ pub mod HandedLaws
 pub mod SpawnLaws
 pub mod CallLaws
 pub mod SpawnDeeds
+pub mod SectionLaws
+pub mod SharingLaws
+pub mod AcquireLaws
+pub mod ReleaseLaws
+pub mod MeetingLaws
+pub mod SharingDeeds

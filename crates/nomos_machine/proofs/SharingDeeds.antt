@@ -1,0 +1,205 @@
+-- The instructions at which a client and a contract meet: `acquire` and `release`, and `accept` and `detach`, which wait for
+-- them.
+use Rattle.std.proofs.Common.{◌≡◌, ◌≢◌, ◌∙◌, ◌≤◌, inl, inr, ℕ, ◌+◌, Bool, true, List, [], ◌∷◌, length, Contains, Option, Some, None, IsSome, slice_get, option_and_then, refl, sym, subst, ap, arith}
+use Rattle.std.specs.Option.{option_or, is_some}
+use Rattle.nomos_ir.specs.Bindings.{bound_to, bind, unbind}
+use Rattle.nomos_ir.specs.CodeParts.{code_terms}
+use Rattle.nomos_ir.specs.Unfold.{Unfolds, unfolded}
+use Rattle.nomos_ir.specs.declared.code_node.Chan.TheVariants as chan
+use Rattle.nomos_ir.specs.declared.code_node.CodeNode.{CodeNode}
+use Rattle.nomos_ir.specs.declared.code_node.CodeNode.TheVariants as code
+use Rattle.nomos_ir.specs.declared.ids.CodeId.{CodeId}
+use Rattle.nomos_ir.specs.declared.ids.TypeId.{TypeId}
+use Rattle.nomos_ir.specs.declared.ids.VarId.{VarId}
+use Rattle.nomos_ir.specs.declared.lists.ProgramLists.{ProgramLists}
+use Rattle.nomos_ir.specs.declared.mode.Mode.TheVariants as mode
+use Rattle.nomos_ir.specs.declared.type_node.TypeNode.{TypeNode}
+use Rattle.nomos_ir.specs.declared.type_node.TypeNode.TheVariants as node
+use Rattle.nomos_ir.proofs.BindingLaws.{bind-ascending, unbind-ascending, all-bound}
+use Rattle.nomos_ir.proofs.PairedLaws.{paired-left, none-left}
+use Rattle.nomos_ir.proofs.UnfoldLaws.{unfolds-unfolded}
+use Rattle.nomos_types.specs.Acceptance.{Acceptance, IsAccepted}
+use Rattle.nomos_types.specs.Alike.{AlikeTypes}
+use Rattle.nomos_types.specs.Equality.{EqualTypes, SameHead, up, down}
+use Rattle.nomos_types.specs.Judgement.{Judgement, IsJudgement, IsFree, count_one, type_held, at_code, binds_channel}
+use Rattle.nomos_types.specs.Modes.{HasMode}
+use Rattle.nomos_types.specs.Premises.{HasType, Acquires, Releases, Accepts, Detaches}
+use Rattle.nomos_types.specs.Row.{Row, gives_up}
+use Rattle.nomos_types.proofs.AlikeLaws.{alike_types-back, alike_types-through, alike_types-unfolded}
+use Rattle.nomos_types.proofs.EqualityLaws.{equal-back, equal-unfolded}
+use Rattle.nomos_types.proofs.HeadLaws.{up-rest, down-rest}
+use Rattle.nomos_types.proofs.ModeLaws.{part-has_mode}
+use Rattle.nomos_types.proofs.RowLaws.{row-inverted}
+use Rattle.nomos_types.proofs.SynchronizingLaws.{synchronizing-down}
+use Rattle.nomos_machine.specs.Change.{Change, made}
+use Rattle.nomos_machine.specs.Deeds.{with_other, does}
+use Rattle.nomos_machine.specs.Given.{values_of_terms}
+use Rattle.nomos_machine.specs.Matching.{NameHasType, Matches, HasBase, ProcessTyped}
+use Rattle.nomos_machine.specs.Optional.{◌>>=◌}
+use Rattle.nomos_machine.specs.Readiness.{is_met_at}
+use Rattle.nomos_machine.specs.Revised.{standing_at, with_channel, without_channel}
+use Rattle.nomos_machine.specs.Sight.{offering, accept_next, detach_next, after_acquire}
+use Rattle.nomos_machine.specs.State.{State, NameTypes, type_of, node_of}
+use Rattle.nomos_machine.specs.Step.{deed_by}
+use Rattle.nomos_machine.specs.TypedState.{VariablesDiffer, IsTyped}
+use Rattle.nomos_machine.specs.declared.object.Object.TheVariants as object
+use Rattle.nomos_machine.specs.declared.object.Process.{Process}
+use Rattle.nomos_machine.proofs.AcquireLaws.{acquiring, next-typed, acquire-fits}
+use Rattle.nomos_machine.proofs.GoesLaws.{Goes, acts, waits, process-typed, process-variables, own-row, own-stands, own-is_judgement, next-is_judgement}
+use Rattle.nomos_machine.proofs.MeetingLaws.{up-behind, down-behind, free-held, linear-alone, offers-up, offers-down, acquires-typed, accepts-typed, releases-typed, detaches-typed}
+use Rattle.nomos_machine.proofs.ObjectLaws.{matches-kept}
+use Rattle.nomos_machine.proofs.ProcessLaws.{own_judgement, process-next}
+use Rattle.nomos_machine.proofs.ReleaseLaws.{releasing, release-fits}
+use Rattle.nomos_machine.proofs.SectionLaws.{offering-found, one-process, goes-back}
+use Rattle.nomos_machine.proofs.SharingLaws.{Meeting, client_after, contract_after, both_go, both-replaces, both-keep}
+
+-- ---- the instructions
+
+module _ {a : Acceptance} (accepted : IsAccepted a) {s : State} (typed : IsTyped a s) {p : Process}
+    (there : Contains s.objects (object.Process p)) where
+  abbrev own : Judgement
+  own = own_judgement p (process-typed typed there)
+
+  -- the instruction of the process
+  abbrev At : CodeNode → Type 0
+  At n = slice_get a.program.code p.code.0 ≡ Some n
+
+  -- what the process does at an instruction
+  abbrev GoesAt : CodeNode → Type 0
+  GoesAt n = Goes a s (is_met_at a s p n) (deed_by a s p n (values_of_terms a.program p.values (code_terms n)))
+
+  pub accept-goes : (at : ℕ) (next : CodeId) → At (code.Accept at next) → GoesAt (code.Accept at next)
+  accept-goes at next stands = waits
+
+  pub detach-goes : (at : ℕ) (next : CodeId) → At (code.Detach at next) → GoesAt (code.Detach at next)
+  detach-goes at next stands = waits
+
+  -- ---- both go on
+
+  -- who stands at another instruction is another process
+  others-apart : (other : Process) (m n : CodeNode) → Contains s.objects (object.Process other) → At m
+      → slice_get a.program.code other.code.0 ≡ Some n → m ≢ n → p.pid ≢ other.pid
+  others-apart other m n there_other stands stands_other differ same =
+      let one : other ≡ p = one-process s.objects typed.numbered.ascending p other there there_other (sym same) in
+      let here : slice_get a.program.code p.code.0 ≡ Some n =
+      subst (λ (q : Process). slice_get a.program.code q.code.0 ≡ Some n) one stands_other
+      in
+      differ (node-same (sym stands ∙ here))
+    where
+      node-same : Some m ≡ Some n → m ≡ n
+      node-same is = cc
+
+  -- ---- acquire
+
+  -- where the process that offers the shared name is looked at, or its instruction
+  abbrev meets : (CodeNode → Option CodeId) → Option Process → Bool
+  meets stands_at found = is_some (found >>= λ other. slice_get a.program.code other.code.0 >>= stands_at)
+
+  abbrev acquires-at : VarId → CodeId → ℕ → Process → CodeId → Option TypeNode → Option Change
+  acquires-at v next shared other onward head = do
+    t ← head >>= after_acquire
+    Some (record (with_other a s p (standing_at next (with_channel v s.next_name p)) (record other {
+      mode = mode.L;
+      code = onward;
+      offers = s.next_name;
+      base = Some shared;
+    })) { next_type = Some t })
+
+  abbrev acquires-by : VarId → CodeId → ℕ → Process → Option CodeNode → Option Change
+  acquires-by v next shared other stood = do
+    n ← stood
+    onward ← accept_next n
+    acquires-at v next shared other onward (node_of a.program s.types shared)
+
+  abbrev acquires-from : VarId → CodeId → ℕ → Option Process → Option Change
+  acquires-from v next shared found = do
+    other ← found
+    acquires-by v next shared other (slice_get a.program.code other.code.0)
+
+  acquire-meets : (r v : VarId) (next : CodeId) (after : List Judgement) (t : TypeId) (acquires : Acquires a.program own r v t)
+      → Row a.program a.annotations own after → after ≡ binds_channel (at_code own next) v mode.L t ∷ []
+      → (other : Process) → Contains s.objects (object.Process other) → p.pid ≢ other.pid → (at : ℕ) (onward : CodeId)
+      → slice_get a.program.code other.code.0 ≡ Some (code.Accept at onward)
+      → NameHasType a.program a.annotations s.types other.offers acquires.own
+      → Goes a s true (does a s p (acquires-at v next other.offers other onward (node_of a.program s.types other.offers)))
+  acquire-meets r v next after t acquires row goes_on other there_other apart at onward stands_other has =
+      let formed = accepted.typed.formed in
+      let t_other = process-typed typed there_other in
+      let (after_other, row_other) = own-row typed there_other accepted in
+      let (u, accepts, goes_on_other) =
+      row-inverted (code.Accept at onward) (own-stands typed there_other (code.Accept at onward) stands_other) row_other
+      in
+      let at_s : other.mode ≡ mode.S = t_other.matches.mode ∙ accepts.mode in
+      let (body, unfolds, client_alike) = up-behind accepted t has.alike acquires.unfolds in
+      let contract_alike = offers-up accepted typed there_other has.own body u has.found unfolds accepts.channel in
+      let none = none-left ((process-typed typed there).matches.channels v.0) (free-held own v acquires.free) in
+      let k : Meeting = acquiring s p other v next onward body in
+      let later : NameTypes = (made s (both_go a s p other k)).types in
+      let keep = both-keep typed there there_other apart k in
+      let typed_next =
+      next-typed accepted typed there there_other apart v next onward body has.own at_s has.found unfolds none
+      in
+      let (client, differ) =
+      acquires-typed accepted typed there later keep v next after t body row goes_on acquires.free typed_next client_alike
+      in
+      let base_mode : HasMode a.program has.own mode.S =
+      subst (HasMode a.program has.own) at_s (t_other.offered has.own has.found)
+      in
+      let contract = accepts-typed accepted typed there_other later keep onward after_other u row_other goes_on_other
+      s.next_name body other.offers has.own typed_next contract_alike has.found base_mode
+      in
+      let head : node_of a.program s.types other.offers ≡ Some (node.Up body) =
+      ap (λ (o : Option TypeId). option_and_then (λ (w : TypeId). unfolded a.program w.0) o) has.found
+      ∙ unfolds-unfolded a.program has.own.0 (node.Up body) formed.contractive unfolds
+      in
+      subst (λ (o : Option TypeNode). Goes a s true (does a s p (acquires-at v next other.offers other onward o))) (sym head)
+      (acts (both_go a s p other k) (object.Process p ∷ object.Process other ∷ [])
+      (both-replaces typed there there_other apart k)
+      (acquire-fits accepted typed there there_other apart v next onward body has.own at_s has.found unfolds none client
+      contract differ)
+      (record { gives = tt; gets = tt; even = omega arith }))
+
+  acquire-by_code : (r v : VarId) (next : CodeId) (after : List Judgement) (t : TypeId) (acquires : Acquires a.program own r v t)
+      → Row a.program a.annotations own after → after ≡ binds_channel (at_code own next) v mode.L t ∷ []
+      → (at : ℕ) → At (code.Acquire at r v next)
+      → (other : Process) → Contains s.objects (object.Process other)
+      → NameHasType a.program a.annotations s.types other.offers acquires.own
+      → (stood : Option CodeNode) → slice_get a.program.code other.code.0 ≡ stood
+      → Goes a s (is_some (stood >>= accept_next)) (does a s p (acquires-by v next other.offers other stood))
+  acquire-by_code r v next after t acquires row goes_on at stands other there_other has (Some (code.Accept at_other onward)) is =
+      acquire-meets r v next after t acquires row goes_on other there_other
+      (others-apart other (code.Acquire at r v next) (code.Accept at_other onward) there_other stands is (λ same. cc))
+      at_other onward is has
+  acquire-by_code r v next after t acquires row goes_on at stands other there_other has (Some n) is = waits
+  acquire-by_code r v next after t acquires row goes_on at stands other there_other has None is = waits
+
+  acquire-by_offering : (r v : VarId) (next : CodeId) (after : List Judgement) (t : TypeId)
+      (acquires : Acquires a.program own r v t)
+      → Row a.program a.annotations own after → after ≡ binds_channel (at_code own next) v mode.L t ∷ []
+      → (at : ℕ) → At (code.Acquire at r v next)
+      → (shared : ℕ) → NameHasType a.program a.annotations s.types shared acquires.own
+      → (found : Option Process) → offering s.objects shared ≡ found
+      → Goes a s (meets accept_next found) (does a s p (acquires-from v next shared found))
+  acquire-by_offering r v next after t acquires row goes_on at stands shared has None is = waits
+  acquire-by_offering r v next after t acquires row goes_on at stands shared has (Some other) is =
+      let (there_other, same) = offering-found s.objects shared other is in
+      let has_too : NameHasType a.program a.annotations s.types other.offers acquires.own =
+      subst (λ (n : ℕ). NameHasType a.program a.annotations s.types n acquires.own) (sym same) has
+      in
+      let stood : Option CodeNode = slice_get a.program.code other.code.0 in
+      subst (λ (n : ℕ). Goes a s (is_some (stood >>= accept_next)) (does a s p (acquires-by v next n other stood))) same
+      (acquire-by_code r v next after t acquires row goes_on at stands other there_other has_too stood refl)
+
+  pub acquire-goes : (at : ℕ) (r v : VarId) (next : CodeId) → At (code.Acquire at r v next) → GoesAt (code.Acquire at r v next)
+  acquire-goes at r v next stands =
+      let n : CodeNode = code.Acquire at r v next in
+      let (after, row) = own-row typed there accepted in
+      let (t, acquires, goes_on) = row-inverted n (own-stands typed there n stands) row in
+      let held : type_held own r.0 ≡ Some acquires.own =
+      ap (λ (o : Option TypeId). option_or o (bound_to r.0 own.linear)) acquires.reference
+      in
+      let (shared, bound, has) = paired-left acquires.own ((process-typed typed there).matches.channels r.0) held in
+      subst (λ (o : Option ℕ). Goes a s (is_some (o >>= λ shared.
+      offering s.objects shared >>= λ other. slice_get a.program.code other.code.0 >>= accept_next))
+      (does a s p (o >>= λ shared. acquires-from v next shared (offering s.objects shared)))) (sym bound)
+      (acquire-by_offering r v next after t acquires row goes_on at stands shared has (offering s.objects shared) refl)
