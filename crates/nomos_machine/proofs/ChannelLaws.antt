@@ -44,10 +44,22 @@ pub record SameRest (p q : Process) : Type 0 where
 
 pub under-keeps : (c : Chan) (name : ℕ) (p : Process) → SameRest p (under_name c name p)
 under-keeps chan.Own name p = record {
-  pid = refl; same_mode = refl; base = refl; values = refl; held_lists = refl; purse = refl; payer = refl;
+  pid = refl;
+  same_mode = refl;
+  base = refl;
+  values = refl;
+  held_lists = refl;
+  purse = refl;
+  payer = refl;
 }
 under-keeps (chan.Var v) name p = record {
-  pid = refl; same_mode = refl; base = refl; values = refl; held_lists = refl; purse = refl; payer = refl;
+  pid = refl;
+  same_mode = refl;
+  base = refl;
+  values = refl;
+  held_lists = refl;
+  purse = refl;
+  payer = refl;
 }
 
 -- ---- what it has

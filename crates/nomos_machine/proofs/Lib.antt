@@ -36,3 +36,4 @@ pub mod AcquireLaws
 pub mod ReleaseLaws
 pub mod MeetingLaws
 pub mod SharingDeeds
+pub mod ForwardLaws

@@ -70,22 +70,23 @@ module _ (lists : ProgramLists) (x : Annotations) (types others : NameTypes) whe
 pub mentions-offer : (p : Process) → Contains (mentioned (object.Process p)) p.offers
 mentions-offer p = (0, omega arith, refl)
 
+among-first : (t : Bool) (e : VarId × ℕ) (b : List (VarId × ℕ)) (v name : ℕ) → cond t (Some e.1) (bound_to v b) ≡ Some name
+    → (bound_to v b ≡ Some name → Contains (map (λ d. d.1) b) name) → Contains (e.1 ∷ map (λ d. d.1) b) name
+among-first true e b v name is rest =
+    let same : e.1 ≡ name = cc in
+    Contains-append_left (e.1 ∷ []) (map (λ d. d.1) b) name (0, omega arith, same)
+among-first false e b v name is rest = Contains-append_right (e.1 ∷ []) (map (λ d. d.1) b) name (rest is)
+
+-- what a variable is bound to is among all that is bound
+pub bound-among : (b : List (VarId × ℕ)) (v name : ℕ) → bound_to v b ≡ Some name → Contains (map (λ e. e.1) b) name
+bound-among [] v name is = absurd cc
+bound-among (e ∷ b) v name is = among-first (e.0.0 == v) e b v name is (bound-among b v name)
+
 pub mentions-channel : (p : Process) (v name : ℕ) → bound_to v p.channels ≡ Some name
     → Contains (mentioned (object.Process p)) name
 mentions-channel p v name found =
     Contains-append_left (p.offers ∷ map (λ e. e.1) p.channels) (option_to_list p.base) name
-    (Contains-append_right (p.offers ∷ []) (map (λ e. e.1) p.channels) name (among p.channels found))
-  where
-    first : (t : Bool) (e : VarId × ℕ) (b : List (VarId × ℕ)) → cond t (Some e.1) (bound_to v b) ≡ Some name
-        → (bound_to v b ≡ Some name → Contains (map (λ d. d.1) b) name) → Contains (e.1 ∷ map (λ d. d.1) b) name
-    first true e b is rest =
-        let same : e.1 ≡ name = cc in
-        Contains-append_left (e.1 ∷ []) (map (λ d. d.1) b) name (0, omega arith, same)
-    first false e b is rest = Contains-append_right (e.1 ∷ []) (map (λ d. d.1) b) name (rest is)
-
-    among : (b : List (VarId × ℕ)) → bound_to v b ≡ Some name → Contains (map (λ e. e.1) b) name
-    among [] is = absurd cc
-    among (e ∷ b) is = first (e.0.0 == v) e b is (among b)
+    (Contains-append_right (p.offers ∷ []) (map (λ e. e.1) p.channels) name (bound-among p.channels v name found))
 
 pub mentions-base : (p : Process) (base : ℕ) → p.base ≡ Some base → Contains (mentioned (object.Process p)) base
 mentions-base p base is =

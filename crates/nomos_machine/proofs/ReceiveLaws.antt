@@ -144,8 +144,18 @@ module _ {a : Acceptance} (accepted : IsAccepted a) {s : State} (typed : IsTyped
       let sum = made-times based m.from s taken olds takes-replaces in
       let same = ap (λ (o : Option ℕ). count_of m.from (option_to_list o)) h.base in
       let none = base-not_other accepted typed m.from h.own h.mode h.found h.has_mode (unshared h.mode h.is_linear) in
-      omega (arith, mentioned-sum (made s taken).objects m.from, provides-fewer m.from, uses-fewer m.from,
-      count-first m.from [], sum, same, none, owned.0, owned.1)
+      omega (
+        arith,
+        mentioned-sum (made s taken).objects m.from,
+        provides-fewer m.from,
+        uses-fewer m.from,
+        count-first m.from [],
+        sum,
+        same,
+        none,
+        owned.0,
+        owned.1,
+      )
     where
       unshared : (k : Mode) → IsLinearMode k → k ≢ mode.S
       unshared k (inl at_r) at_s = absurd cc

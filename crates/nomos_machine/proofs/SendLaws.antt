@@ -369,9 +369,12 @@ module _ {a : Acceptance} (accepted : IsAccepted a) {s : State} (typed : IsTyped
   sent-leads : (base name : ℕ) → LeadsToBase s.objects base name → LeadsToBase (made s sent).objects base name
   sent-leads base name leads =
       leads-map (λ n. Unit {0}) s.objects (made s sent).objects base ends
-      (λ m n onward inside provides end stay. (tt, λ leads_on. further m n onward
-      (stays-there (object.Message m) inside
-      (λ number. numbers-differ s.objects typed.numbered.ascending p m there inside (sym number))) provides end leads_on))
+      (λ m n onward inside provides end stay. (
+        tt,
+        λ leads_on. further m n onward
+            (stays-there (object.Message m) inside
+            (λ number. numbers-differ s.objects typed.numbered.ascending p m there inside (sym number))) provides end leads_on,
+      ))
       name tt leads
     where
       ends : (r : Process) → Contains s.objects (object.Process r) → r.mode ≡ mode.L → r.base ≡ Some base → Unit {0}
