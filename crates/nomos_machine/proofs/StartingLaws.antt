@@ -35,6 +35,7 @@ use Rattle.nomos_machine.proofs.BirthLaws.{uses_at, IsBirth, birth-fits, shared-
 use Rattle.nomos_machine.proofs.ChangeLaws.{done}
 use Rattle.nomos_machine.proofs.FitLaws.{Fits, changed-typed}
 use Rattle.nomos_machine.proofs.GasLaws.{KeepsGas, paid_in-length, gas-changed}
+use Rattle.nomos_machine.proofs.OwnedLaws.{next-not_outside}
 use Rattle.nomos_machine.proofs.NameLaws.{type_of-added, type_of-kept}
 
 -- A line of a script can start a process: its values and channels fit the parameters, of which none is a list; the
@@ -62,8 +63,11 @@ module _ {a : Acceptance} (accepted : IsAccepted a) {s : State} (typed : IsTyped
   abbrev line : Given
   line = record { values = values; lists = []; channels = channels }
 
+  abbrev gas : ℕ
+  gas = dths a.annotations d.amount
+
   abbrev child : Process
-  child = begins d line s.next_object s.next_name (dths a.annotations d.amount) payer
+  child = begins d line s.next_object s.next_name gas payer
 
   abbrev after : State
   after = made s (starts a s d values channels payer)
@@ -90,10 +94,11 @@ module _ {a : Acceptance} (accepted : IsAccepted a) {s : State} (typed : IsTyped
       differ : true ≡ false → ⊥
       differ equal = cc
 
-  child-uses : (name : ℕ) → is_shared_name a.program s.types name ≡ false → count_of name (used (object.Process child)) ≡ 0
+  child-uses : (name : ℕ) → is_shared_name a.program s.types name ≡ false
+      → count_of name (used (object.Process child)) ≡ 0
   child-uses name unshared =
       begun-uses accepted number declared can.fits child
-      (begins-start accepted number declared can.fits s.next_object s.next_name (dths a.annotations d.amount) payer) name
+      (begins-start accepted number declared can.fits s.next_object s.next_name gas payer) name
       ∙ unused name unshared
 
   started-offers : NameHasType a.program a.annotations after.types s.next_name d.offers
@@ -108,7 +113,7 @@ module _ {a : Acceptance} (accepted : IsAccepted a) {s : State} (typed : IsTyped
       given-kept s.types after.types (λ name t found. type_of-kept s.types ((s.next_name, d.offers) ∷ []) name t found)
       can.fits
 
-  started-birth : IsBirth a s [] [] child d.offers (Some (payer, dths a.annotations d.amount))
+  started-birth : IsBirth a s s.outside [] [] child d.offers (Some (payer, dths a.annotations d.amount))
   started-birth = record {
     replaces = done s.objects;
     numbered = refl;
@@ -119,11 +124,14 @@ module _ {a : Acceptance} (accepted : IsAccepted a) {s : State} (typed : IsTyped
     stands = λ name. refl;
     uses = λ name other unshared. omega (arith, child-uses name unshared);
     uses_next = λ not_s.
-        omega (arith, child-uses s.next_name (next-unshown typed), its_mode-unused d.mode can.its_mode);
+        omega (arith, child-uses s.next_name (next-unshown typed), its_mode-unused d.mode can.its_mode,
+        next-not_outside typed);
+    outside_others = λ name other. refl;
+    outside_next = λ not_r. next-not_outside typed;
     leads = λ base name leads. leads-more s.objects after.objects
         (λ o there. Contains-append_left s.objects (object.Process child ∷ []) o there) base name leads;
     variables = All-cons HasVariables (object.Process child) []
-        (begins-variables accepted number declared started-given s.next_object s.next_name (dths a.annotations d.amount) payer
+        (begins-variables accepted number declared started-given s.next_object s.next_name gas payer
         started-offers) (All-nil HasVariables);
     typed = All-cons (ObjectTyped a after.types (length s.balances)) (object.Process child) []
         (begins-typed accepted number declared started-given s.next_object s.next_name payer started-offers can.account
@@ -184,8 +192,8 @@ module _ {a : Acceptance} {s : State} (typed : IsTyped a s) (balances : List ℕ
     };
     owned = λ name t m found at. accounts-owned m name (typed.owned name t m found at);
     outside = typed.outside;
-    each = All-weaker (ObjectTyped a s.types (length s.balances)) (ObjectTyped a s.types (length balances)) accounts-each
-        s.objects typed.each;
+    each = All-weaker (ObjectTyped a s.types (length s.balances)) (ObjectTyped a s.types (length balances))
+        accounts-each s.objects typed.each;
     sections = λ name t found at_l.
         let section = typed.sections name t found at_l in
         record {
@@ -223,16 +231,19 @@ no-more n = omega arith
 credited-as : (s : State) (account gas : ℕ)
     → credited s account gas ≡ record s { balances = paid_in (Some (account, gas)) s.balances }
 credited-as s account gas =
-    ap (λ (os : List Object). with_parts s account gas os (s.next_object + 0) (s.next_name + 0) (s.types ++ []) (s.spent + 0) (s.results ++ []))
-    (append-nil s.objects)
-    ∙ ap (λ (n : ℕ). with_parts s account gas s.objects n (s.next_name + 0) (s.types ++ []) (s.spent + 0) (s.results ++ []))
-    (no-more s.next_object)
-    ∙ ap (λ (n : ℕ). with_parts s account gas s.objects s.next_object n (s.types ++ []) (s.spent + 0) (s.results ++ []))
-    (no-more s.next_name)
-    ∙ ap (λ (ts : NameTypes). with_parts s account gas s.objects s.next_object s.next_name ts (s.spent + 0) (s.results ++ []))
-    (append-nil s.types)
-    ∙ ap (λ (n : ℕ). with_parts s account gas s.objects s.next_object s.next_name s.types n (s.results ++ [])) (no-more s.spent)
-    ∙ ap (λ (rs : List (ℕ × Value)). with_parts s account gas s.objects s.next_object s.next_name s.types s.spent rs) (append-nil s.results)
+    let with_objects = with_parts s account gas in
+    let name = s.next_name + 0 in
+    let types = s.types ++ [] in
+    let spent = s.spent + 0 in
+    let results = s.results ++ [] in
+    let with_numbers = with_objects s.objects in
+    let with_types = with_numbers s.next_object s.next_name in
+    ap (λ (os : List Object). with_objects os (s.next_object + 0) name types spent results) (append-nil s.objects)
+    ∙ ap (λ (n : ℕ). with_numbers n name types spent results) (no-more s.next_object)
+    ∙ ap (λ (n : ℕ). with_numbers s.next_object n types spent results) (no-more s.next_name)
+    ∙ ap (λ (ts : NameTypes). with_types ts spent results) (append-nil s.types)
+    ∙ ap (λ (n : ℕ). with_types s.types n results) (no-more s.spent)
+    ∙ ap (with_types s.types s.spent) (append-nil s.results)
 
 pub credited-typed : {a : Acceptance} {s : State} → IsTyped a s → (account gas : ℕ) → IsTyped a (credited s account gas)
 credited-typed {a} {s} typed account gas =
