@@ -26,7 +26,7 @@ use Rattle.nomos_machine.specs.declared.object.Process.{Process}
 use Rattle.nomos_machine.proofs.ChangeLaws.{Replaces, news}
 use Rattle.nomos_machine.proofs.FitLaws.{Fits}
 use Rattle.nomos_machine.proofs.NameLaws.{mentioned-sum, type_of-added, type_of-below, type_of-kept, type_of-other}
-use Rattle.nomos_machine.proofs.OwnedLaws.{made-times, CountsAsBefore, owned-as_before, unmentioned, next-unmentioned, next-not_outside, leads-map}
+use Rattle.nomos_machine.proofs.OwnedLaws.{made-times, CountsAsBefore, owned-as_before, unmentioned, next-unmentioned, leads-map}
 
 -- The change by which a process comes and others are changed; these are the outside names afterwards, and an account
 -- may give something for it.
@@ -167,9 +167,10 @@ module _ {a : Acceptance} (accepted : IsAccepted a) {s : State} (typed : IsTyped
   born-owned_next mode.R same =
       let (none, unused, unshared) = nothing-next in
       let uses = is.uses_next (λ at_s. differ (sym same ∙ at_s)) in
-      let once = ap uses_at same in
-      (omega (arith, born-times provided s.next_name, is.provides s.next_name, offered-once),
-          omega (arith, born-times used s.next_name))
+      let once = ap uses_at same in (
+        omega (arith, born-times provided s.next_name, is.provides s.next_name, offered-once),
+        omega (arith, born-times used s.next_name),
+      )
     where
       differ : mode.R ≡ mode.S → ⊥
       differ equal = cc
@@ -177,9 +178,10 @@ module _ {a : Acceptance} (accepted : IsAccepted a) {s : State} (typed : IsTyped
       let (none, unused, unshared) = nothing-next in
       let here : count_of s.next_name (shared_of child.mode child.offers child.base) ≡ 1 =
       ap (λ (k : Mode). count_of s.next_name (shared_of k child.offers child.base)) same ∙ offered-once
-      in
-      (omega (arith, born-times shared_names s.next_name, is.stands s.next_name),
-          is.outside_next (λ at_r. differ (sym same ∙ at_r)))
+      in (
+        omega (arith, born-times shared_names s.next_name, is.stands s.next_name),
+        is.outside_next (λ at_r. differ (sym same ∙ at_r)),
+      )
     where
       differ : mode.S ≡ mode.R → ⊥
       differ equal = cc
@@ -187,9 +189,11 @@ module _ {a : Acceptance} (accepted : IsAccepted a) {s : State} (typed : IsTyped
       let (none, unused, unshared) = nothing-next in
       let uses = is.uses_next (λ at_s. not_s (sym same ∙ at_s)) in
       let never = ap uses_at same in
-      let no_outside = is.outside_next (λ at_r. not_r (sym same ∙ at_r)) in
-      (omega (arith, born-times provided s.next_name, is.provides s.next_name, offered-once),
-          omega (arith, born-times used s.next_name), no_outside)
+      let no_outside = is.outside_next (λ at_r. not_r (sym same ∙ at_r)) in (
+        omega (arith, born-times provided s.next_name, is.provides s.next_name, offered-once),
+        omega (arith, born-times used s.next_name),
+        no_outside,
+      )
     where
       not_s : mode.T ≡ mode.S → ⊥
       not_s equal = cc
