@@ -83,8 +83,8 @@ unbound-within {X} v b c ascending within w x found =
 
 module _ (a : Acceptance) (s : State) (p : Process) where
   -- What arguments for values give, where these are the lists with which the process goes on, and what is left of them.
-  pub record ValuesGiven (args : List ValueArg) (pars : List Par) (vs : List Value) (held : List (VarId × PotentialList))
-      (left : List (VarId × ListType)) : Type 0 where
+  pub record ValuesGiven (args : List ValueArg) (pars : List Par) (vs : List Value)
+      (held : List (VarId × PotentialList)) (left : List (VarId × ListType)) : Type 0 where
     pub values : List (VarId × Value)
     pub its_lists : List (VarId × PotentialList)
     pub gives : give_values p vs args pars ≡ Some (values, its_lists)
@@ -149,10 +149,12 @@ module _ (a : Acceptance) (s : State) (p : Process) where
         fits = fits;
         sum = omega arith;
       }
-  values-given vs held h valued (passes.value {args = args} {par = par} {pars = pars} (passes.term {e = e} no_list kind) others) is ascending
-      within fits =
+  values-given vs held h valued
+      (passes.value {args = args} {par = par} {pars = pars} (passes.term {e = e} no_list kind) others)
+      is ascending within fits =
       let (v, m, ended, rest, others_ok, all) =
-      values-first (term_evaluation a.program p.values e) (values_of_terms a.program p.values (flat_map arg_terms args)) vs is
+      values-first (term_evaluation a.program p.values e)
+      (values_of_terms a.program p.values (flat_map arg_terms args)) vs is
       in
       let further = values-given rest held h valued others others_ok ascending within fits in
       record {
@@ -167,9 +169,11 @@ module _ (a : Acceptance) (s : State) (p : Process) where
         fits = further.fits;
         sum = further.sum;
       }
-  values-given {j} vs held h valued (passes.value {args = args} {par = par} {pars = pars} (passes.list {w = w} amount its_amount there) others) is
-      ascending within fits =
-      let (l, found, is_list) = paired-left (record { kind = par.kind; amount = dths a.annotations amount }) (fits w.0) there in
+  values-given {j} vs held h valued
+      (passes.value {args = args} {par = par} {pars = pars} (passes.list {w = w} amount its_amount there) others)
+      is ascending within fits =
+      let its_type : ListType = record { kind = par.kind; amount = dths a.annotations amount } in
+      let (l, found, is_list) = paired-left its_type (fits w.0) there in
       let first : PassesValue a.program a.annotations j (arg.List w) par (record j { lists = unbind w.0 j.lists }) =
       passes.list amount its_amount there
       in
@@ -211,8 +215,8 @@ module _ (a : Acceptance) (s : State) (p : Process) where
   abbrev with_name_given : VarId × TypeId → Option Names → ℕ → Option Names
   with_name_given par others name = others >>= λ names. Some ((par.0, name) ∷ names)
 
-  gives-name : (v : VarId) (vs : List VarId) (par : VarId × TypeId) (pars : List (VarId × TypeId)) (name : ℕ) (names : Names)
-      → bound_to v.0 p.channels ≡ Some name → give_names p vs pars ≡ Some names
+  gives-name : (v : VarId) (vs : List VarId) (par : VarId × TypeId) (pars : List (VarId × TypeId)) (name : ℕ)
+      (names : Names) → bound_to v.0 p.channels ≡ Some name → give_names p vs pars ≡ Some names
       → give_names p (v ∷ vs) (par ∷ pars) ≡ Some ((par.0, name) ∷ names)
   gives-name v vs par pars name names found gives =
       ap (λ (o : Option ℕ). o >>= with_name_given par (give_names p vs pars)) found
@@ -250,7 +254,8 @@ module _ (a : Acceptance) (s : State) (p : Process) where
         not-shared m (inl at_r) at_s = absurd cc
         not-shared m (inr at_l) at_s = absurd cc
 
-    pub bound-alike : (name : ℕ) (own t : TypeId) → Bound name own → AlikeTypes a.program a.annotations own t → Bound name t
+    pub bound-alike : (name : ℕ) (own t : TypeId) → Bound name own → AlikeTypes a.program a.annotations own t
+        → Bound name t
     bound-alike name own t has alike = record {
       own = has.own;
       found = has.found;
@@ -341,8 +346,8 @@ module _ (a : Acceptance) (s : State) (p : Process) where
       holds = holds;
       uses = λ name unshared. omega arith;
     }
-    names-given {j} held h (passes.channel {k = k} {v = v} {vs = vs} {par = par} {pars = pars} first others) ascending within
-        holds =
+    names-given {j} held h (passes.channel {k = k} {v = v} {vs = vs} {par = par} {pars = pars} first others) ascending
+        within holds =
         let one = name-given held h first ascending holds in
         let further = names-given one.rest (passes-channel_left h first).judgement others one.ascending
         (λ w x there. within w x (one.within w x there)) one.holds
@@ -357,5 +362,6 @@ module _ (a : Acceptance) (s : State) (p : Process) where
           ascending = further.ascending;
           holds = further.holds;
           uses = λ other unshared.
-              omega (arith, further.uses other unshared, count-more other one.name par.0 further.names, one.uses other unshared);
+              let more = count-more other one.name par.0 further.names in
+              omega (arith, further.uses other unshared, more, one.uses other unshared);
         }

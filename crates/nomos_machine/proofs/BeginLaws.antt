@@ -267,10 +267,11 @@ module _ {a : Acceptance} (accepted : IsAccepted a) {types : NameTypes} {d : Pro
       → count_of name (used (object.Process q)) ≡ times_bound name g.channels
   begun-uses q start name = ap (times_bound name) start.channels ∙ count-in_bindings_of name g.channels channels-once
 
-  pub begun-variables : (q : Process) → StandsAtStart d g q → NameHasType a.program a.annotations types q.offers d.offers
-      → VariablesDiffer q
+  pub begun-variables : (q : Process) → StandsAtStart d g q
+      → NameHasType a.program a.annotations types q.offers d.offers → VariablesDiffer q
   begun-variables q start offers =
-      matches-differ (start-is_judgement a.annotations number accepted.typed.formed declared) (begun-matches q start offers)
+      matches-differ (start-is_judgement a.annotations number accepted.typed.formed declared)
+      (begun-matches q start offers)
       (subst IsAscending (sym start.values) (bindings_of-ascending (me_value d.me q.payer ++ g.values)))
       (subst IsAscending (sym start.its_lists) (bindings_of-ascending g.lists))
       (subst IsAscending (sym start.channels) (bindings_of-ascending g.channels))
@@ -298,7 +299,8 @@ module _ {a : Acceptance} (accepted : IsAccepted a) {types : NameTypes} {d : Pro
         covered = covered;
         derives = derives-more (free_purse q) enough derived;
         payer = payer;
-        offered = offers-own_mode accepted (start-suits_mode a.annotations number accepted.typed.formed declared) matches;
+        offered =
+            offers-own_mode accepted (start-suits_mode a.annotations number accepted.typed.formed declared) matches;
         has_base = has_base;
       }
 

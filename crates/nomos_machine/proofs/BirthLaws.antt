@@ -26,14 +26,16 @@ use Rattle.nomos_machine.specs.declared.object.Process.{Process}
 use Rattle.nomos_machine.proofs.ChangeLaws.{Replaces, news}
 use Rattle.nomos_machine.proofs.FitLaws.{Fits}
 use Rattle.nomos_machine.proofs.NameLaws.{mentioned-sum, type_of-added, type_of-below, type_of-kept, type_of-other}
-use Rattle.nomos_machine.proofs.OwnedLaws.{made-times, CountsAsBefore, owned-as_before, unmentioned, next-unmentioned, next-not_outside, leads-map}
+use Rattle.nomos_machine.proofs.OwnedLaws.{made-times, CountsAsBefore, owned-as_before, unmentioned, next-unmentioned, leads-map}
 
--- The change by which a process comes and others are changed; an account may give something for it.
-abbrev pub birth : State → List (ℕ × Option Object) → Process → TypeId → Option (ℕ × ℕ) → Change
-birth s places child t gives = record (no_change s) {
+-- The change by which a process comes and others are changed; these are the outside names afterwards, and an account
+-- may give something for it.
+abbrev pub birth : State → List ℕ → List (ℕ × Option Object) → Process → TypeId → Option (ℕ × ℕ) → Change
+birth s outside places child t gives = record (no_change s) {
   places = places;
   comes = Some (object.Process child);
   next_type = Some t;
+  outside = outside;
   gives = gives;
 }
 
@@ -84,8 +86,8 @@ module _ {a : Acceptance} (accepted : IsAccepted a) where
       ap (shows_shared a.program) found ∙ type-shows_shared accepted.typed.formed m at ∙ unshared-mode m other
 
   -- a name of mode S is
-  pub shared-shown : (types : NameTypes) (name : ℕ) (t : TypeId) → type_of types name ≡ Some t → HasMode a.program t mode.S
-      → is_shared_name a.program types name ≡ true
+  pub shared-shown : (types : NameTypes) (name : ℕ) (t : TypeId) → type_of types name ≡ Some t
+      → HasMode a.program t mode.S → is_shared_name a.program types name ≡ true
   shared-shown types name t found at =
       ap (shows_shared a.program) found ∙ type-shows_shared accepted.typed.formed mode.S at
 
@@ -104,13 +106,14 @@ pub leads-more : (objects others : List Object) → ((o : Object) → Contains o
 leads-more objects others kept base name leads =
     leads-map (λ n. Unit {0}) objects others base
     (λ p there at_l is stay. at_base p (kept (object.Process p) there) at_l is)
-    (λ m n onward there provides end stay. (tt, λ leads_on. further m n onward (kept (object.Message m) there) provides end leads_on))
+    (λ m n onward there provides end stay.
+    (tt, λ leads_on. further m n onward (kept (object.Message m) there) provides end leads_on))
     name tt leads
 
 -- ---- what a birth has to be
 
-pub record IsBirth (a : Acceptance) (s : State) (places : List (ℕ × Option Object)) (olds : List Object)
-    (child : Process) (t : TypeId) (gives : Option (ℕ × ℕ)) : Type 0 where
+pub record IsBirth (a : Acceptance) (s : State) (outside : List ℕ) (places : List (ℕ × Option Object))
+    (olds : List Object) (child : Process) (t : TypeId) (gives : Option (ℕ × ℕ)) : Type 0 where
   pub replaces : Replaces places s.objects olds
   -- the process that comes has the next number, offers the next name, and is at no mode at which it has a base
   pub numbered : child.pid ≡ s.next_object
@@ -120,31 +123,34 @@ pub record IsBirth (a : Acceptance) (s : State) (places : List (ℕ × Option Ob
   -- what is changed provides what it provided, and stands for what it stood for
   pub provides : (name : ℕ) → times provided (news places) name ≡ times provided olds name
   pub stands : (name : ℕ) → times shared_names (news places) name ≡ times shared_names olds name
-  -- all names but shared ones are used as often as they were, and the next one as its mode wants it
+  -- all names but shared ones are used as often as they were, and the next one as its mode wants it, maybe from outside
   pub uses : (name : ℕ) → name ≢ s.next_name → is_shared_name a.program s.types name ≡ false
       → times used (news places) name + count_of name (used (object.Process child)) ≡ times used olds name
   pub uses_next : child.mode ≢ mode.S
       → times used (news places) s.next_name + count_of s.next_name (used (object.Process child))
+      + count_of s.next_name outside
       ≡ times used olds s.next_name + uses_at child.mode
+  pub outside_others : (name : ℕ) → name ≢ s.next_name → count_of name outside ≡ count_of name s.outside
+  pub outside_next : child.mode ≢ mode.R → count_of s.next_name outside ≡ 0
   -- sections stay
   pub leads : (base name : ℕ) → LeadsToBase s.objects base name
-      → LeadsToBase (made s (birth s places child t gives)).objects base name
+      → LeadsToBase (made s (birth s outside places child t gives)).objects base name
   -- all that comes is typed
   pub variables : All HasVariables (news places ++ object.Process child ∷ [])
-  pub typed : All (ObjectTyped a (made s (birth s places child t gives)).types (length s.balances))
+  pub typed : All (ObjectTyped a (made s (birth s outside places child t gives)).types (length s.balances))
       (news places ++ object.Process child ∷ [])
 
-module _ {a : Acceptance} (accepted : IsAccepted a) {s : State} (typed : IsTyped a s)
+module _ {a : Acceptance} (accepted : IsAccepted a) {s : State} (typed : IsTyped a s) {outside : List ℕ}
     {places : List (ℕ × Option Object)} {olds : List Object} {child : Process} {t : TypeId} {gives : Option (ℕ × ℕ)}
-    (is : IsBirth a s places olds child t gives) where
+    (is : IsBirth a s outside places olds child t gives) where
   abbrev born : State
-  born = made s (birth s places child t gives)
+  born = made s (birth s outside places child t gives)
 
   born-times : (does : Object → List ℕ) (name : ℕ)
       → times does born.objects name + times does olds name
       ≡ times does s.objects name + times does (news places) name + count_of name (does (object.Process child))
   born-times does name =
-      let sum = made-times does name s (birth s places child t gives) olds is.replaces in
+      let sum = made-times does name s (birth s outside places child t gives) olds is.replaces in
       omega (arith, sum)
 
   -- nothing was done with the next name
@@ -154,16 +160,16 @@ module _ {a : Acceptance} (accepted : IsAccepted a) {s : State} (typed : IsTyped
       let none = unmentioned typed s.next_name (next-unmentioned typed) in
       (none.0, none.1, omega (arith, stands-mentioned s.objects s.next_name, none.0, none.2))
 
+  offered-once : count_of s.next_name (child.offers ∷ []) ≡ 1
+  offered-once = ap (λ (n : ℕ). count_of s.next_name (n ∷ [])) is.offers ∙ count-first s.next_name []
+
   born-owned_next : (m : Mode) → child.mode ≡ m → IsOwned m born s.next_name
   born-owned_next mode.R same =
       let (none, unused, unshared) = nothing-next in
       let uses = is.uses_next (λ at_s. differ (sym same ∙ at_s)) in
-      let once = ap uses_at same in
-      let here : count_of s.next_name (child.offers ∷ []) ≡ 1 =
-      ap (λ (n : ℕ). count_of s.next_name (n ∷ [])) is.offers ∙ count-first s.next_name []
-      in (
-        omega (arith, born-times provided s.next_name, is.provides s.next_name),
-        omega (arith, born-times used s.next_name, next-not_outside typed),
+      let once = ap uses_at same in (
+        omega (arith, born-times provided s.next_name, is.provides s.next_name, offered-once),
+        omega (arith, born-times used s.next_name),
       )
     where
       differ : mode.R ≡ mode.S → ⊥
@@ -171,25 +177,43 @@ module _ {a : Acceptance} (accepted : IsAccepted a) {s : State} (typed : IsTyped
   born-owned_next mode.S same =
       let (none, unused, unshared) = nothing-next in
       let here : count_of s.next_name (shared_of child.mode child.offers child.base) ≡ 1 =
-      ap (λ (k : Mode). count_of s.next_name (shared_of k child.offers child.base)) same
-      ∙ ap (λ (n : ℕ). count_of s.next_name (n ∷ [])) is.offers ∙ count-first s.next_name []
-      in
-      (omega (arith, born-times shared_names s.next_name, is.stands s.next_name), next-not_outside typed)
-  born-owned_next mode.T same =
-      let (none, unused, unshared) = nothing-next in
-      let uses = is.uses_next (λ at_s. differ (sym same ∙ at_s)) in
-      let never = ap uses_at same in
-      let here : count_of s.next_name (child.offers ∷ []) ≡ 1 =
-      ap (λ (n : ℕ). count_of s.next_name (n ∷ [])) is.offers ∙ count-first s.next_name []
+      ap (λ (k : Mode). count_of s.next_name (shared_of k child.offers child.base)) same ∙ offered-once
       in (
-        omega (arith, born-times provided s.next_name, is.provides s.next_name),
-        omega (arith, born-times used s.next_name),
-        next-not_outside typed,
+        omega (arith, born-times shared_names s.next_name, is.stands s.next_name),
+        is.outside_next (λ at_r. differ (sym same ∙ at_r)),
       )
     where
-      differ : mode.T ≡ mode.S → ⊥
+      differ : mode.S ≡ mode.R → ⊥
       differ equal = cc
+  born-owned_next mode.T same =
+      let (none, unused, unshared) = nothing-next in
+      let uses = is.uses_next (λ at_s. not_s (sym same ∙ at_s)) in
+      let never = ap uses_at same in
+      let no_outside = is.outside_next (λ at_r. not_r (sym same ∙ at_r)) in (
+        omega (arith, born-times provided s.next_name, is.provides s.next_name, offered-once),
+        omega (arith, born-times used s.next_name),
+        no_outside,
+      )
+    where
+      not_s : mode.T ≡ mode.S → ⊥
+      not_s equal = cc
+
+      not_r : mode.T ≡ mode.R → ⊥
+      not_r equal = cc
   born-owned_next mode.L same = absurd (is.not_l same)
+
+  -- where an outside party has it, the process that comes is at mode R
+  outside-at_r : (m : Mode) → child.mode ≡ m → 1 ≤ count_of s.next_name outside → child.mode ≡ mode.R
+  outside-at_r mode.R same some = same
+  outside-at_r mode.S same some = absurd (omega (arith, some, is.outside_next (λ at_r. differ (sym same ∙ at_r))))
+    where
+      differ : mode.S ≡ mode.R → ⊥
+      differ equal = cc
+  outside-at_r mode.T same some = absurd (omega (arith, some, is.outside_next (λ at_r. differ (sym same ∙ at_r))))
+    where
+      differ : mode.T ≡ mode.R → ⊥
+      differ equal = cc
+  outside-at_r mode.L same some = absurd (is.not_l same)
 
   -- the process that comes does nothing with other names but use them
   other-offer : (name : ℕ) → name ≢ s.next_name → count_of name (child.offers ∷ []) ≡ 0
@@ -214,10 +238,11 @@ module _ {a : Acceptance} (accepted : IsAccepted a) {s : State} (typed : IsTyped
     provided = λ not_s.
         omega (arith, born-times provided name, is.provides name, other-offer name other);
     used = λ not_s.
-        omega (arith, born-times used name, is.uses name other (unshared-shown accepted s.types name u m found at not_s));
+        let shows = unshared-shown accepted s.types name u m found at not_s in
+        omega (arith, born-times used name, is.uses name other shows);
     shared = λ at_s.
         omega (arith, born-times shared_names name, is.stands name, other-stands name child.mode refl other);
-    outside = refl;
+    outside = is.outside_others name other;
   }
 
   born-type : (name : ℕ) → name ≢ s.next_name → type_of born.types name ≡ type_of s.types name
@@ -233,12 +258,31 @@ module _ {a : Acceptance} (accepted : IsAccepted a) {s : State} (typed : IsTyped
       let same : u ≡ t = cc in
       mode-unique accepted.typed.formed.program is.at (subst (λ (r : TypeId). HasMode a.program r m) same at)
 
-  -- a name that had a type is not the next one
-  old-name : (name : ℕ) (u : TypeId) → type_of s.types name ≡ Some u → name ≢ s.next_name
-  old-name name u found same =
-      omega (arith, type_of-below s.types name s.next_name u typed.numbered.names found)
+  -- an outside name is the next one, or it was one before
+  abbrev IsOutside : ℕ → Type 0
+  IsOutside name =
+      (u : TypeId) × (type_of born.types name ≡ Some u) × HasMode a.program u mode.R
+      × (1 ≤ times mentioned born.objects name)
 
-  pub birth-fits : Fits a s (birth s places child t gives)
+  outside-as : (name : ℕ) → name ≡ s.next_name → 1 ≤ count_of name outside → IsOutside name
+  outside-as name same some =
+      let at_r = outside-at_r child.mode refl (subst (λ (n : ℕ). 1 ≤ count_of n outside) same some) in
+      let once = born-owned_next mode.R at_r in
+      let there : 1 ≤ times mentioned born.objects s.next_name =
+      omega (arith, mentioned-sum born.objects s.next_name, once.0)
+      in
+      subst IsOutside (sym same) (t, born-next, subst (λ (m : Mode). HasMode a.program t m) at_r is.at, there)
+
+  outside-still : (name : ℕ) → name ≢ s.next_name → 1 ≤ count_of name outside → IsOutside name
+  outside-still name other some =
+      let (u, found, at_r) = typed.outside name (omega (arith, some, is.outside_others name other)) in
+      let once = typed.owned name u mode.R found at_r in
+      let still : 1 ≤ times mentioned born.objects name =
+      omega (arith, mentioned-sum born.objects name, born-times provided name, is.provides name, once.0)
+      in
+      (u, born-type name other ∙ found, at_r, still)
+
+  pub birth-fits : Fits a s (birth s outside places child t gives)
   birth-fits = record {
     olds = olds;
     replaces = is.replaces;
@@ -253,13 +297,10 @@ module _ {a : Acceptance} (accepted : IsAccepted a) {s : State} (typed : IsTyped
               owned-as_before m s born name (born-counts name u m other before at) (typed.owned name u m before at)
         ];
     outside = λ name some.
-        let (u, found, at_r) = typed.outside name some in
-        let other = old-name name u found in
-        let once = typed.owned name u mode.R found at_r in
-        let still : 1 ≤ times mentioned born.objects name =
-        omega (arith, mentioned-sum born.objects name, born-times provided name, is.provides name, once.0)
-        in
-        (u, born-type name other ∙ found, at_r, still);
+        elim (cases_eq name s.next_name) [
+          | inl same ↦ outside-as name same some
+          | inr other ↦ outside-still name other some
+        ];
     sections = λ name u found at_l some.
         let other : name ≢ s.next_name = λ same.
         let found_next : type_of born.types s.next_name ≡ Some u = ap (type_of born.types) (sym same) ∙ found in

@@ -63,7 +63,8 @@ module _ {a : Acceptance} (accepted : IsAccepted a) {s : State} (typed : IsTyped
 
     caller-offers : NameHasType a.program a.annotations s.types p.offers says.d.offers
     caller-offers =
-        bound-alike a s p accepted p.offers own.offers says.d.offers (process-typed typed there).matches.offers says.offers
+        let offers = (process-typed typed there).matches.offers in
+        bound-alike a s p accepted p.offers own.offers says.d.offers offers says.offers
 
     -- what is left are references
     nothing-left : (name : ℕ) → is_shared_name a.program s.types name ≡ false → times_bound name handed.names ≡ 0
@@ -119,6 +120,8 @@ module _ {a : Acceptance} (accepted : IsAccepted a) {s : State} (typed : IsTyped
         let same : potential_of caller ≡ sum_bound carries handed.g.lists =
         begun-potential accepted f.0 says.declared handed.fits caller caller-start
         in
-        let has_base : HasBase a.program s.types caller = record { base = t.has_base.base; shared = t.has_base.shared } in
+        let has_base : HasBase a.program s.types caller =
+        record { base = t.has_base.base; shared = t.has_base.shared }
+        in
         begun-typed accepted f.0 says.declared handed.fits caller caller-start caller-offers
         (omega (arith, same, handed.potential)) (omega (arith, same, handed.potential)) t.payer has_base

@@ -1,4 +1,4 @@
--- What a `spawn` or a `call` of a typed process hands over fits the declaration, and what is left is what its rule leaves.
+-- What a typed process hands over at `spawn` and `call` fits the declaration, and what is left is what its rule leaves.
 use Rattle.std.proofs.Common.{◌≡◌, ◌∙◌, ℕ, ◌+◌, false, List, Contains, Option, Some, Ok, refl, sym, subst, ap}
 use Rattle.std.specs.List.{flat_map}
 use Rattle.nomos_ir.specs.Bindings.{sum_bound, IsAscending}
@@ -20,8 +20,8 @@ use Rattle.nomos_types.specs.Arguments as passes
 use Rattle.nomos_types.specs.Judgement.{Judgement, ListType}
 use Rattle.nomos_types.proofs.ArgumentsLaws.{passes-values_left}
 use Rattle.nomos_machine.specs.Deeds.{hands_over_all, hands_over_lists}
-use Rattle.nomos_machine.specs.Given.{Given, values_of_terms, give_names, given}
-use Rattle.nomos_machine.specs.Matching.{NameHasType, IsListOf}
+use Rattle.nomos_machine.specs.Given.{Given, values_of_terms, give_values, give_names, given}
+use Rattle.nomos_machine.specs.Matching.{NameHasType, IsListOf, Matches}
 use Rattle.nomos_machine.specs.Objects.{potential_of}
 use Rattle.nomos_machine.specs.Optional.{◌>>=◌}
 use Rattle.nomos_machine.specs.Sight.{is_shared_name}
@@ -35,6 +35,21 @@ use Rattle.nomos_machine.proofs.BeginLaws.{GivenFits, carries}
 use Rattle.nomos_machine.proofs.GoesLaws.{process-typed, process-variables, own-is_judgement, value-has_kind}
 use Rattle.nomos_machine.proofs.MatchLaws.{HoldsChannels}
 use Rattle.nomos_machine.proofs.ProcessLaws.{own_judgement}
+
+-- ---- what is given, by its parts
+
+given-found : (p : Process) (vs : List Value) (args : Args) (d : ProcDecl) (values : List (VarId × Value))
+    (its_lists : List (VarId × PotentialList)) (names : List (VarId × ℕ))
+    → give_values p vs args.values d.values ≡ Some (values, its_lists)
+    → give_names p args.channels d.channels ≡ Some names
+    → given p vs args d ≡ Some (record { values = values; lists = its_lists; channels = names })
+given-found p vs args d values its_lists names has_values has_names =
+    let Parts : Type 0 = List (VarId × Value) × List (VarId × PotentialList) in
+    let with_names : Parts → List (VarId × ℕ) → Option Given = λ parts channels.
+    Some (record { values = parts.0; lists = parts.1; channels = channels })
+    in
+    ap (λ (o : Option Parts). o >>= λ parts. give_names p args.channels d.channels >>= with_names parts) has_values
+    ∙ ap (λ (o : Option (List (VarId × ℕ))). o >>= with_names (values, its_lists)) has_names
 
 -- ---- passing uses up lists and channels, and nothing else
 
@@ -59,6 +74,13 @@ values-leave : {lists : ProgramLists} {x : Annotations} {j k : Judgement} {args 
 values-leave passes.none = refl
 values-leave {k = k} (passes.value first others) =
     values-leave others ∙ ap (λ (i : Judgement). record i { lists = k.lists }) (value-leaves first)
+
+leaves-both : (j between k : Judgement) → between ≡ record j { lists = between.lists }
+    → k ≡ record between { linear = k.linear } → k ≡ record j { lists = k.lists; linear = k.linear }
+leaves-both j between k first second =
+    let same : k.lists ≡ between.lists = ap (λ (i : Judgement). i.lists) second in
+    second ∙ ap (λ (i : Judgement). record i { linear = k.linear }) first
+    ∙ ap (λ (ls : List (VarId × ListType)). record j { lists = ls; linear = k.linear }) (sym same)
 
 module _ {a : Acceptance} (accepted : IsAccepted a) {s : State} (typed : IsTyped a s) {p : Process}
     (there : Contains s.objects (object.Process p)) where
@@ -111,20 +133,16 @@ module _ {a : Acceptance} (accepted : IsAccepted a) {s : State} (typed : IsTyped
       let shared_left : left.shared ≡ own.shared =
       ap (λ (k : Judgement). k.shared) second ∙ ap (λ (k : Judgement). k.shared) first
       in
-      let Parts : Type 0 = List (VarId × Value) × List (VarId × PotentialList) in
       record {
         g = g;
         gives =
-            ap (λ (o : Option Parts). o >>= λ parts. give_names p args.channels d.channels >>= λ names.
-            Some (record { values = parts.0; lists = parts.1; channels = names })) one.gives
-            ∙ ap (λ (o : Option (List (VarId × ℕ))). o >>= λ names.
-            Some (record { values = one.values; lists = one.its_lists; channels = names })) two.gives;
+            given-found p vs args d one.values one.its_lists two.names one.gives two.gives;
         fits = record { values = one.fit; channels = two.fit };
         its_lists = one.rest;
         names = two.rest;
-        rest = ap (hands_over_all a s p args.channels) (one.hands p refl) ∙ two.hands (record p { lists = one.rest }) refl;
-        same = second ∙ ap (λ (k : Judgement). record k { linear = left.linear }) first
-            ∙ ap (λ (ls : List (VarId × ListType)). record own { lists = ls; linear = left.linear }) (sym lists_left);
+        rest = ap (hands_over_all a s p args.channels) (one.hands p refl)
+            ∙ two.hands (record p { lists = one.rest }) refl;
+        same = leaves-both own between left first second;
         lists_ascend = one.ascending;
         names_ascend = two.ascending;
         held_lists = subst (λ (ls : List (VarId × ListType)). ArePaired IsListOf one.rest ls) (sym lists_left) one.fits;
@@ -133,3 +151,22 @@ module _ {a : Acceptance} (accepted : IsAccepted a) {s : State} (typed : IsTyped
         potential = one.sum;
         uses = two.uses;
       }
+
+  -- what is left of the process is what is left of its judgement
+  pub handed-matches : {d : ProcDecl} {args : Args} {vs : List Value} {left : Judgement} → Handed d args vs left
+      → Matches a.program a.annotations s.types
+      (hands_over_all a s p args.channels (hands_over_lists a s p args.values p)) left
+  handed-matches {args = args} {left = left} handed =
+      let t = process-typed typed there in
+      let rest : Process = record p { lists = handed.its_lists; channels = handed.names } in
+      let still : Judgement = record own { lists = left.lists; linear = left.linear } in
+      let here : Matches a.program a.annotations s.types rest still = record {
+        mode = t.matches.mode;
+        code = t.matches.code;
+        offers = t.matches.offers;
+        values = t.matches.values;
+        held_lists = handed.held_lists;
+        channels = handed.channels;
+      } in
+      subst (λ (q : Process). Matches a.program a.annotations s.types q left) (sym handed.rest)
+      (subst (Matches a.program a.annotations s.types rest) (sym handed.same) here)

@@ -74,8 +74,10 @@ module _ {a : Acceptance} (accepted : IsAccepted a) {s : State} (typed : IsTyped
             comes = Some (object.Process its_child);
             next_type = Some d.offers;
           } in
-          let change : Change = birth s ((p.pid, Some (object.Process (parent accepted typed there next says handed row goes_on))) ∷ [])
-          its_child d.offers None in
+          let its_parent = parent accepted typed there next says handed row goes_on in
+          let change : Change =
+          birth s s.outside ((p.pid, Some (object.Process its_parent)) ∷ []) its_child d.offers None
+          in
           let found : deed_by a s p n (Ok vs) ≡ Some (changes change) =
           starts-found f d args vs left (λ e g. spawns a s p v e args g next) says.declared handed says.enough
           ∙ ap (λ (rest : Process). Some (changes (spawned rest))) handed.rest

@@ -48,7 +48,7 @@ use Rattle.nomos_machine.proofs.HandedLaws.{Handed}
 use Rattle.nomos_machine.proofs.MatchLaws.{HoldsChannels, holds-linear, holds-shared, matches-differ}
 use Rattle.nomos_machine.proofs.NameLaws.{type_of-added, type_of-kept}
 use Rattle.nomos_machine.proofs.ObjectLaws.{of_type-kept, paired-weaker}
-use Rattle.nomos_machine.proofs.OwnedLaws.{leads-map}
+use Rattle.nomos_machine.proofs.OwnedLaws.{leads-map, next-not_outside}
 use Rattle.nomos_machine.proofs.ProcessLaws.{own_judgement, process-next}
 use Rattle.nomos_machine.proofs.PutLaws.{object_at-own, put-new, put-kept}
 
@@ -81,8 +81,8 @@ none-counted None none = refl
 
 -- ---- a process is another one of the same name
 
-module _ {a : Acceptance} {s : State} (typed : IsTyped a s) {p : Process} (there : Contains s.objects (object.Process p))
-    (q : Process) (pid : q.pid ≡ p.pid) where
+module _ {a : Acceptance} {s : State} (typed : IsTyped a s) {p : Process}
+    (there : Contains s.objects (object.Process p)) (q : Process) (pid : q.pid ≡ p.pid) where
   placed-there : object_at s.objects p.pid ≡ Some (object.Process p)
   placed-there = object_at-own (object.Process p) s.objects typed.numbered.ascending there
 
@@ -90,14 +90,16 @@ module _ {a : Acceptance} {s : State} (typed : IsTyped a s) {p : Process} (there
   placed-replaces =
       let HasIt : Object → Type 0 = λ o. object_number o ≡ p.pid in
       then (object.Process p) (Some (object.Process q)) [] s.objects [] placed-there
-      (All-cons HasIt (object.Process q) [] pid (All-nil HasIt)) (done (put_at p.pid (Some (object.Process q)) s.objects))
+      (All-cons HasIt (object.Process q) [] pid (All-nil HasIt))
+      (done (put_at p.pid (Some (object.Process q)) s.objects))
 
   -- where it stays what it was the end of, sections stay
   pub placed-leads : q.mode ≡ p.mode → q.offers ≡ p.offers → q.base ≡ p.base → (base name : ℕ)
       → LeadsToBase s.objects base name → LeadsToBase (put_at p.pid (Some (object.Process q)) s.objects) base name
   placed-leads same_mode offers same_base base name leads =
       leads-map (λ n. Unit {0}) s.objects after base ends
-      (λ m n onward inside provides end stay. (tt, λ leads_on. further m n onward (kept-message m inside) provides end leads_on))
+      (λ m n onward inside provides end stay.
+      (tt, λ leads_on. further m n onward (kept-message m inside) provides end leads_on))
       name tt leads
     where
       after : List Object
@@ -106,7 +108,8 @@ module _ {a : Acceptance} {s : State} (typed : IsTyped a s) {p : Process} (there
       -- an object with the number of the process is the process
       only : (o : Object) → Contains s.objects o → object_number o ≡ p.pid → Some o ≡ Some (object.Process p)
       only o inside number =
-          sym (object_at-own o s.objects typed.numbered.ascending inside) ∙ ap (object_at s.objects) number ∙ placed-there
+          sym (object_at-own o s.objects typed.numbered.ascending inside)
+          ∙ ap (object_at s.objects) number ∙ placed-there
 
       kept-message : (m : Message) → Contains s.objects (object.Message m) → Contains after (object.Message m)
       kept-message m inside =
@@ -167,10 +170,15 @@ module _ {a : Acceptance} (accepted : IsAccepted a) {s : State} (typed : IsTyped
     places = (p.pid, Some (object.Process parent)) ∷ []
 
     abbrev types : NameTypes
-    types = (made s (birth s places child d.offers None)).types
+    types = (made s (birth s s.outside places child d.offers None)).types
 
     kept : (name : ℕ) (t : TypeId) → type_of s.types name ≡ Some t → type_of types name ≡ Some t
     kept name t found = type_of-kept s.types ((s.next_name, d.offers) ∷ []) name t found
+
+    has_type-kept : (name : ℕ) (t : TypeId) → NameHasType a.program a.annotations s.types name t
+        → NameHasType a.program a.annotations types name t
+    has_type-kept name t has =
+        of_type-kept a.program a.annotations s.types types name t (λ u found. kept name u found) has
 
     offered : HasMode a.program d.offers d.mode
     offered = offered-has_mode a.program f.0 d says.declared
@@ -214,17 +222,17 @@ module _ {a : Acceptance} (accepted : IsAccepted a) {s : State} (typed : IsTyped
     holds-on w =
         paired-weaker (NameHasType a.program a.annotations s.types) (NameHasType a.program a.annotations types)
         (bound_to w handed.names) (option_or (bound_to w own.shared) (bound_to w left.linear)) (handed.channels w)
-        (λ name t bound has. of_type-kept a.program a.annotations s.types types name t (λ u found. kept name u found) has)
+        (λ name t bound has. has_type-kept name t has)
 
     parent-matches : Matches a.program a.annotations types parent k
     parent-matches =
         let t = process-typed typed there in
-        let offers = t.matches.offers in
-        let here : Matches a.program a.annotations types parent (record onward { shared = k.shared; linear = k.linear }) =
+        let as_bound : Judgement = record onward { shared = k.shared; linear = k.linear } in
+        let here : Matches a.program a.annotations types parent as_bound =
         record {
           mode = t.matches.mode;
           code = refl;
-          offers = of_type-kept a.program a.annotations s.types types p.offers own.offers (λ u found. kept p.offers u found) offers;
+          offers = has_type-kept p.offers own.offers t.matches.offers;
           values = t.matches.values;
           held_lists = handed.held_lists;
           channels = holds-bound handed.names onward v s.next_name d.offers free-shared next-has_type holds-on d.mode;
@@ -262,8 +270,8 @@ module _ {a : Acceptance} (accepted : IsAccepted a) {s : State} (typed : IsTyped
 
     parent-typed : ProcessTyped a types (length s.balances) parent
     parent-typed =
-        process-next accepted (process-typed typed there) after k row among parent-matches parent-covered parent-free refl
-        parent-base
+        process-next accepted (process-typed typed there) after k row among parent-matches parent-covered parent-free
+        refl parent-base
 
     parent-variables : VariablesDiffer parent
     parent-variables =
@@ -273,7 +281,8 @@ module _ {a : Acceptance} (accepted : IsAccepted a) {s : State} (typed : IsTyped
 
     -- the new name is used once more, and every other one as often as it was
     parent-uses : (name : ℕ)
-        → count_of name (used (object.Process parent)) ≡ times_bound name handed.names + count_of name (s.next_name ∷ [])
+        → count_of name (used (object.Process parent))
+        ≡ times_bound name handed.names + count_of name (s.next_name ∷ [])
     parent-uses name =
         let none : count_of name (option_to_list (bound_to v.0 handed.names)) ≡ 0 =
         ap (λ (o : Option ℕ). count_of name (option_to_list o)) free-names
@@ -300,14 +309,14 @@ module _ {a : Acceptance} (accepted : IsAccepted a) {s : State} (typed : IsTyped
         used-once m (inr at_r) not_s = ap uses_at at_r
 
     spawn-leads : (base name : ℕ) → LeadsToBase s.objects base name
-        → LeadsToBase (made s (birth s places child d.offers None)).objects base name
+        → LeadsToBase (made s (birth s s.outside places child d.offers None)).objects base name
     spawn-leads base name leads =
         let placed = put_at p.pid (Some (object.Process parent)) s.objects in
         leads-more placed (placed ++ object.Process child ∷ [])
         (λ o inside. Contains-append_left placed (object.Process child ∷ []) o inside) base name
         (placed-leads typed there parent refl refl refl refl base name leads)
 
-    pub spawn-birth : IsBirth a s places (object.Process p ∷ []) child d.offers None
+    pub spawn-birth : IsBirth a s s.outside places (object.Process p ∷ []) child d.offers None
     spawn-birth = record {
       replaces = placed-replaces typed there parent refl;
       numbered = refl;
@@ -333,11 +342,15 @@ module _ {a : Acceptance} (accepted : IsAccepted a) {s : State} (typed : IsTyped
             handed.uses s.next_name (next-unshown typed),
             count-first s.next_name [],
             spawned-used not_s,
+            next-not_outside typed,
           );
+      outside_others = λ name other. refl;
+      outside_next = λ not_r. next-not_outside typed;
       leads = spawn-leads;
       variables = All-cons HasVariables (object.Process parent) (object.Process child ∷ []) parent-variables
           (All-cons HasVariables (object.Process child) []
-          (begins-variables accepted f.0 says.declared child-given s.next_object s.next_name (paid d) p.payer next-has_type)
+          (begins-variables accepted f.0 says.declared child-given s.next_object s.next_name (paid d) p.payer
+          next-has_type)
           (All-nil HasVariables));
       typed = All-cons Here (object.Process parent) (object.Process child ∷ []) parent-typed
           (All-cons Here (object.Process child) []
@@ -351,7 +364,7 @@ module _ {a : Acceptance} (accepted : IsAccepted a) {s : State} (typed : IsTyped
         child-given : GivenFits a types d handed.g
         child-given = given-kept s.types types kept handed.fits
 
-    pub spawn-keeps_gas : KeepsGas s (birth s places child d.offers None) (object.Process p ∷ [])
+    pub spawn-keeps_gas : KeepsGas s (birth s s.outside places child d.offers None) (object.Process p ∷ [])
     spawn-keeps_gas =
         let t = process-typed typed there in
         let covered : potential_of p ≤ p.purse = t.covered in

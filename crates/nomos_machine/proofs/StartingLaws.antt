@@ -1,5 +1,5 @@
 -- Starts, accounts and deposits leave a typed state typed, and nothing but a deposit and a new account brings gas.
-use Rattle.std.proofs.Common.{◌≡◌, ◌≢◌, ◌⊎◌, ◌∙◌, ◌≤◌, ◌<◌, inl, inr, ℕ, ◌+◌, true, false, List, [], ◌∷◌, ◌++◌, map, length, All, Some, slice_get, refl, sym, subst, ap, arith, append-nil, length-append}
+use Rattle.std.proofs.Common.{◌≡◌, ◌≢◌, ◌⊎◌, ◌∙◌, ◌≤◌, ◌<◌, inl, inr, ℕ, ◌+◌, true, false, List, [], ◌∷◌, ◌++◌, map, length, All, Some, slice_get, refl, sym, subst, ap, arith, append-nil, length-append, ne_eqb}
 use Rattle.std.proofs.lemmas.Bool.{cases_eq}
 use Rattle.std.proofs.lemmas.List.Elements.{All-nil, All-cons, All-contains, All-weaker, Contains-append_left}
 use Rattle.std.specs.Prelude.{slice_index}
@@ -12,17 +12,18 @@ use Rattle.nomos_ir.specs.declared.ids.TypeId.{TypeId}
 use Rattle.nomos_ir.specs.declared.ids.VarId.{VarId}
 use Rattle.nomos_ir.specs.declared.mode.Mode.{Mode}
 use Rattle.nomos_ir.specs.declared.mode.Mode.TheVariants as mode
-use Rattle.nomos_ir.proofs.SumLaws.{times_bound}
+use Rattle.nomos_ir.proofs.SumLaws.{times_bound, count-first}
 use Rattle.nomos_types.specs.Acceptance.{Acceptance, IsAccepted}
 use Rattle.nomos_types.specs.Amount.{dths}
 use Rattle.nomos_types.specs.Modes.{HasMode}
 use Rattle.nomos_types.proofs.AlikeLaws.{alike_types-same}
 use Rattle.nomos_types.proofs.ModeLaws.{offered-has_mode}
-use Rattle.nomos_types.proofs.OccurrenceLaws.{contained, contains-unmap}
-use Rattle.nomos_machine.specs.Change.{paid_in, made}
+use Rattle.nomos_types.proofs.OccurrenceLaws.{count-append, count-elsewhere, contained, contains-unmap}
+use Rattle.nomos_machine.specs.Change.{changed, paid_in, made}
 use Rattle.nomos_machine.specs.Given.{Given, begins}
 use Rattle.nomos_machine.specs.Matching.{NameHasType}
 use Rattle.nomos_machine.specs.Objects.{object_number, used}
+use Rattle.nomos_machine.specs.Outside.{opens_talk}
 use Rattle.nomos_machine.specs.Sight.{is_shared_name}
 use Rattle.nomos_machine.specs.Starting.{opened, credited, cleared, starts, started}
 use Rattle.nomos_machine.specs.State.{State, NameTypes, empty, gas_of}
@@ -35,26 +36,26 @@ use Rattle.nomos_machine.proofs.BirthLaws.{uses_at, IsBirth, birth-fits, shared-
 use Rattle.nomos_machine.proofs.ChangeLaws.{done}
 use Rattle.nomos_machine.proofs.FitLaws.{Fits, changed-typed}
 use Rattle.nomos_machine.proofs.GasLaws.{KeepsGas, paid_in-length, gas-changed}
+use Rattle.nomos_machine.proofs.OwnedLaws.{next-not_outside}
 use Rattle.nomos_machine.proofs.NameLaws.{type_of-added, type_of-kept}
 
 -- A line of a script can start a process: its values and channels fit the parameters, of which none is a list; the
--- channels are contracts; the process has mode S or T; and the payer's account has the declared potential.
+-- channels are contracts; and the payer's account has the declared potential.
 pub record CanStart (a : Acceptance) (s : State) (d : ProcDecl) (values : List (VarId × Value))
     (channels : List (VarId × ℕ)) (payer : ℕ) : Type 0 where
   pub fits : GivenFits a s.types d (record { values = values; lists = []; channels = channels })
   pub contracts : All (λ e. IsContractName a s e.1) channels
-  pub its_mode : (d.mode ≡ mode.S) ⊎ (d.mode ≡ mode.T)
   pub account : payer < length s.balances
   pub has : dths a.annotations d.amount ≤ slice_index s.balances payer
 
--- a process that comes by a line has no base, and its name no user
-its_mode-not_l : (m : Mode) → (m ≡ mode.S) ⊎ (m ≡ mode.T) → m ≢ mode.L
-its_mode-not_l m (inl at_s) at_l = absurd cc
-its_mode-not_l m (inr at_t) at_l = absurd cc
+-- a process at mode S or T has no base, and its name no user
+line-not_l : (m : Mode) → (m ≡ mode.S) ⊎ (m ≡ mode.T) → m ≢ mode.L
+line-not_l m (inl at_s) at_l = absurd cc
+line-not_l m (inr at_t) at_l = absurd cc
 
-its_mode-unused : (m : Mode) → (m ≡ mode.S) ⊎ (m ≡ mode.T) → uses_at m ≡ 0
-its_mode-unused m (inl at_s) = ap uses_at at_s
-its_mode-unused m (inr at_t) = ap uses_at at_t
+line-unused : (m : Mode) → (m ≡ mode.S) ⊎ (m ≡ mode.T) → uses_at m ≡ 0
+line-unused m (inl at_s) = ap uses_at at_s
+line-unused m (inr at_t) = ap uses_at at_t
 
 module _ {a : Acceptance} (accepted : IsAccepted a) {s : State} (typed : IsTyped a s) (number : ℕ) {d : ProcDecl}
     (declared : slice_get a.program.procs number ≡ Some d) {values : List (VarId × Value)}
@@ -62,8 +63,11 @@ module _ {a : Acceptance} (accepted : IsAccepted a) {s : State} (typed : IsTyped
   abbrev line : Given
   line = record { values = values; lists = []; channels = channels }
 
+  abbrev gas : ℕ
+  gas = dths a.annotations d.amount
+
   abbrev child : Process
-  child = begins d line s.next_object s.next_name (dths a.annotations d.amount) payer
+  child = begins d line s.next_object s.next_name gas payer
 
   abbrev after : State
   after = made s (starts a s d values channels payer)
@@ -90,10 +94,11 @@ module _ {a : Acceptance} (accepted : IsAccepted a) {s : State} (typed : IsTyped
       differ : true ≡ false → ⊥
       differ equal = cc
 
-  child-uses : (name : ℕ) → is_shared_name a.program s.types name ≡ false → count_of name (used (object.Process child)) ≡ 0
+  child-uses : (name : ℕ) → is_shared_name a.program s.types name ≡ false
+      → count_of name (used (object.Process child)) ≡ 0
   child-uses name unshared =
       begun-uses accepted number declared can.fits child
-      (begins-start accepted number declared can.fits s.next_object s.next_name (dths a.annotations d.amount) payer) name
+      (begins-start accepted number declared can.fits s.next_object s.next_name gas payer) name
       ∙ unused name unshared
 
   started-offers : NameHasType a.program a.annotations after.types s.next_name d.offers
@@ -108,37 +113,81 @@ module _ {a : Acceptance} (accepted : IsAccepted a) {s : State} (typed : IsTyped
       given-kept s.types after.types (λ name t found. type_of-kept s.types ((s.next_name, d.offers) ∷ []) name t found)
       can.fits
 
-  started-birth : IsBirth a s [] [] child d.offers (Some (payer, dths a.annotations d.amount))
-  started-birth = record {
+  -- What the name that comes has for a user outside is what its mode wants, and no other name goes out or comes in.
+  record SuitsOutside (outside : List ℕ) : Type 0 where
+    not_l : d.mode ≢ mode.L
+    next : d.mode ≢ mode.S → count_of s.next_name outside ≡ uses_at d.mode
+    next_at_r : d.mode ≢ mode.R → count_of s.next_name outside ≡ 0
+    others : (name : ℕ) → name ≢ s.next_name → count_of name outside ≡ count_of name s.outside
+
+  line-birth : (outside : List ℕ) → SuitsOutside outside → IsBirth a s outside [] [] child d.offers (Some (payer, gas))
+  line-birth outside suits = record {
     replaces = done s.objects;
     numbered = refl;
     offers = refl;
     at = offered-mode;
-    not_l = its_mode-not_l d.mode can.its_mode;
+    not_l = suits.not_l;
     provides = λ name. refl;
     stands = λ name. refl;
     uses = λ name other unshared. omega (arith, child-uses name unshared);
     uses_next = λ not_s.
-        omega (arith, child-uses s.next_name (next-unshown typed), its_mode-unused d.mode can.its_mode);
+        omega (arith, child-uses s.next_name (next-unshown typed), suits.next not_s);
+    outside_others = suits.others;
+    outside_next = suits.next_at_r;
     leads = λ base name leads. leads-more s.objects after.objects
         (λ o there. Contains-append_left s.objects (object.Process child ∷ []) o there) base name leads;
     variables = All-cons HasVariables (object.Process child) []
-        (begins-variables accepted number declared started-given s.next_object s.next_name (dths a.annotations d.amount) payer
+        (begins-variables accepted number declared started-given s.next_object s.next_name gas payer
         started-offers) (All-nil HasVariables);
     typed = All-cons (ObjectTyped a after.types (length s.balances)) (object.Process child) []
         (begins-typed accepted number declared started-given s.next_object s.next_name payer started-offers can.account
-        (its_mode-not_l d.mode can.its_mode)) (All-nil (ObjectTyped a after.types (length s.balances)));
+        suits.not_l) (All-nil (ObjectTyped a after.types (length s.balances)));
   }
 
-  pub starts-fits : Fits a s (starts a s d values channels payer)
-  starts-fits = birth-fits accepted typed started-birth
+  -- a start of a contract or of a transaction
+  pub starts-fits : (d.mode ≡ mode.S) ⊎ (d.mode ≡ mode.T) → Fits a s (starts a s d values channels payer)
+  starts-fits its_mode =
+      birth-fits accepted typed (line-birth s.outside (record {
+        not_l = line-not_l d.mode its_mode;
+        next = λ not_s. next-not_outside typed ∙ sym (line-unused d.mode its_mode);
+        next_at_r = λ not_r. next-not_outside typed;
+        others = λ name other. refl;
+      }))
 
-  -- a start leaves the state typed
-  pub started-typed : IsTyped a (started a s d values channels payer)
-  started-typed = changed-typed a s (starts a s d values channels payer) typed starts-fits
+  pub started-typed : (d.mode ≡ mode.S) ⊎ (d.mode ≡ mode.T) → IsTyped a (started a s d values channels payer)
+  started-typed its_mode = changed-typed a s (starts a s d values channels payer) typed (starts-fits its_mode)
+
+  -- an outside party opens a talk
+  pub opens_talk-fits : d.mode ≡ mode.R → Fits a s (opens_talk a s d values channels payer)
+  opens_talk-fits at_r =
+      let outside = s.outside ++ s.next_name ∷ [] in
+      let once : count_of s.next_name outside ≡ 1 =
+      let both = count-append s.next_name s.outside (s.next_name ∷ []) in
+      omega (arith, both, next-not_outside typed, count-first s.next_name [])
+      in
+      let same : (name : ℕ) → name ≢ s.next_name → count_of name outside ≡ count_of name s.outside = λ name other.
+      let apart : s.next_name ≢ name = λ equal. other (sym equal) in
+      let none = count-elsewhere name s.next_name [] (ne_eqb s.next_name name apart) in
+      omega (arith, count-append name s.outside (s.next_name ∷ []), none)
+      in
+      birth-fits accepted typed (line-birth outside (record {
+        not_l = λ at_l. r-is_not_l (sym at_r ∙ at_l);
+        next = λ not_s. once ∙ sym (ap uses_at at_r);
+        next_at_r = λ not_r. absurd (not_r at_r);
+        others = same;
+      }))
+    where
+      r-is_not_l : mode.R ≡ mode.L → ⊥
+      r-is_not_l equal = cc
+
+  pub opened_talk-typed : d.mode ≡ mode.R → IsTyped a (changed s (opens_talk a s d values channels payer))
+  opened_talk-typed at_r = changed-typed a s (opens_talk a s d values channels payer) typed (opens_talk-fits at_r)
 
   pub starts-keeps_gas : KeepsGas s (starts a s d values channels payer) []
   starts-keeps_gas = record { gives = (can.account, can.has); gets = tt; even = omega arith }
+
+  pub opens_talk-keeps_gas : KeepsGas s (opens_talk a s d values channels payer) []
+  opens_talk-keeps_gas = record { gives = (can.account, can.has); gets = tt; even = omega arith }
 
   pub gas-started : gas_of (started a s d values channels payer) ≡ gas_of s
   gas-started = gas-changed s (starts a s d values channels payer) [] (done s.objects) starts-keeps_gas
@@ -184,8 +233,8 @@ module _ {a : Acceptance} {s : State} (typed : IsTyped a s) (balances : List ℕ
     };
     owned = λ name t m found at. accounts-owned m name (typed.owned name t m found at);
     outside = typed.outside;
-    each = All-weaker (ObjectTyped a s.types (length s.balances)) (ObjectTyped a s.types (length balances)) accounts-each
-        s.objects typed.each;
+    each = All-weaker (ObjectTyped a s.types (length s.balances)) (ObjectTyped a s.types (length balances))
+        accounts-each s.objects typed.each;
     sections = λ name t found at_l.
         let section = typed.sections name t found at_l in
         record {
@@ -223,16 +272,19 @@ no-more n = omega arith
 credited-as : (s : State) (account gas : ℕ)
     → credited s account gas ≡ record s { balances = paid_in (Some (account, gas)) s.balances }
 credited-as s account gas =
-    ap (λ (os : List Object). with_parts s account gas os (s.next_object + 0) (s.next_name + 0) (s.types ++ []) (s.spent + 0) (s.results ++ []))
-    (append-nil s.objects)
-    ∙ ap (λ (n : ℕ). with_parts s account gas s.objects n (s.next_name + 0) (s.types ++ []) (s.spent + 0) (s.results ++ []))
-    (no-more s.next_object)
-    ∙ ap (λ (n : ℕ). with_parts s account gas s.objects s.next_object n (s.types ++ []) (s.spent + 0) (s.results ++ []))
-    (no-more s.next_name)
-    ∙ ap (λ (ts : NameTypes). with_parts s account gas s.objects s.next_object s.next_name ts (s.spent + 0) (s.results ++ []))
-    (append-nil s.types)
-    ∙ ap (λ (n : ℕ). with_parts s account gas s.objects s.next_object s.next_name s.types n (s.results ++ [])) (no-more s.spent)
-    ∙ ap (λ (rs : List (ℕ × Value)). with_parts s account gas s.objects s.next_object s.next_name s.types s.spent rs) (append-nil s.results)
+    let with_objects = with_parts s account gas in
+    let name = s.next_name + 0 in
+    let types = s.types ++ [] in
+    let spent = s.spent + 0 in
+    let results = s.results ++ [] in
+    let with_numbers = with_objects s.objects in
+    let with_types = with_numbers s.next_object s.next_name in
+    ap (λ (os : List Object). with_objects os (s.next_object + 0) name types spent results) (append-nil s.objects)
+    ∙ ap (λ (n : ℕ). with_numbers n name types spent results) (no-more s.next_object)
+    ∙ ap (λ (n : ℕ). with_numbers s.next_object n types spent results) (no-more s.next_name)
+    ∙ ap (λ (ts : NameTypes). with_types ts spent results) (append-nil s.types)
+    ∙ ap (λ (n : ℕ). with_types s.types n results) (no-more s.spent)
+    ∙ ap (with_types s.types s.spent) (append-nil s.results)
 
 pub credited-typed : {a : Acceptance} {s : State} → IsTyped a s → (account gas : ℕ) → IsTyped a (credited s account gas)
 credited-typed {a} {s} typed account gas =
