@@ -203,3 +203,146 @@ module _ {a : Acceptance} (accepted : IsAccepted a) {s : State} (typed : IsTyped
       offering s.objects shared >>= λ other. slice_get a.program.code other.code.0 >>= accept_next))
       (does a s p (o >>= λ shared. acquires-from v next shared (offering s.objects shared)))) (sym bound)
       (acquire-by_offering r v next after t acquires row goes_on at stands shared has (offering s.objects shared) refl)
+
+  -- ---- release
+
+  abbrev releases-with : VarId → VarId → CodeId → Process → CodeId → Option ℕ → Option Change
+  releases-with v r next other onward base = do
+    shared ← base
+    Some (with_other a s p (standing_at next (with_channel r shared (without_channel v p))) (record other {
+      mode = mode.S;
+      code = onward;
+      offers = shared;
+      base = None;
+    }))
+
+  abbrev releases-by : VarId → VarId → CodeId → Process → Option CodeNode → Option Change
+  releases-by v r next other stood = do
+    n ← stood
+    onward ← detach_next n
+    releases-with v r next other onward other.base
+
+  abbrev releases-from : VarId → VarId → CodeId → Option Process → Option Change
+  releases-from v r next found = do
+    other ← found
+    releases-by v r next other (slice_get a.program.code other.code.0)
+
+  release-meets : (v r : VarId) (next : CodeId) (after : List Judgement) (t : TypeId) → IsFree own r
+      → Row a.program a.annotations own after → after ≡ binds_channel (at_code (gives_up own v) next) r mode.S t ∷ []
+      → (ends : TypeId) → bound_to v.0 own.linear ≡ Some ends → Unfolds a.program ends.0 (node.Down t)
+      → (other : Process) → Contains s.objects (object.Process other) → p.pid ≢ other.pid → (at : ℕ) (onward : CodeId)
+      → slice_get a.program.code other.code.0 ≡ Some (code.Detach at onward)
+      → NameHasType a.program a.annotations s.types other.offers ends → bound_to v.0 p.channels ≡ Some other.offers
+      → (base : Option ℕ) → other.base ≡ base
+      → Goes a s true (does a s p (releases-with v r next other onward base))
+  release-meets v r next after t free row goes_on ends linear unfolds other there_other apart at onward stands_other has held
+      None is_base =
+      let t_other = process-typed typed there_other in
+      let (after_other, row_other) = own-row typed there_other accepted in
+      let (u, detaches, goes_on_other) =
+      row-inverted (code.Detach at onward) (own-stands typed there_other (code.Detach at onward) stands_other) row_other
+      in
+      absurd (no-base (subst IsSome is_base (t_other.has_base.base.1 (t_other.matches.mode ∙ detaches.mode))))
+    where
+      no-base : IsSome {T = ℕ} None → ⊥
+      no-base some = cc
+  release-meets v r next after t free row goes_on ends linear unfolds other there_other apart at onward stands_other has held
+      (Some shared) is_base =
+      let formed = accepted.typed.formed in
+      let t_other = process-typed typed there_other in
+      let (after_other, row_other) = own-row typed there_other accepted in
+      let (u, detaches, goes_on_other) =
+      row-inverted (code.Detach at onward) (own-stands typed there_other (code.Detach at onward) stands_other) row_other
+      in
+      let at_l : other.mode ≡ mode.L = t_other.matches.mode ∙ detaches.mode in
+      let own_mode : HasMode a.program has.own mode.L =
+      subst (HasMode a.program has.own) at_l (t_other.offered has.own has.found)
+      in
+      let (body, lands, client_alike) = down-behind accepted t has.alike unfolds in
+      let contract_alike = offers-down accepted typed there_other has.own body u has.found lands detaches.channel in
+      let (w, found_shared, at_s) = t_other.has_base.shared shared is_base in
+      let back = goes-back typed there_other at_l has.own has.found shared w is_base found_shared in
+      let equal = synchronizing-down a.annotations back lands in
+      let body_mode : HasMode a.program body mode.S =
+      part-has_mode {k = mode.S} formed.program formed.contractive formed.modes own_mode lands (0, omega arith, refl)
+      in
+      let same : AlikeTypes a.program a.annotations w body = record {
+        equal = equal-back a.program a.annotations body w equal;
+        mode = mode.S;
+        left_mode = at_s;
+        right_mode = body_mode;
+      } in
+      let none = none-left ((process-typed typed there).matches.channels r.0) (free-held own r free) in
+      let k : Meeting = releasing p v r next onward shared in
+      let later : NameTypes = (made s (both_go a s p other k)).types in
+      let keep = both-keep typed there there_other apart k in
+      let client_has : NameHasType a.program a.annotations later shared t = record {
+        own = w;
+        found = keep shared w found_shared;
+        alike = alike_types-through formed.program same client_alike;
+      } in
+      let contract_has : NameHasType a.program a.annotations later shared u = record {
+        own = w;
+        found = keep shared w found_shared;
+        alike = alike_types-through formed.program same contract_alike;
+      } in
+      let (client, differ) =
+      releases-typed accepted typed there later keep v r next after t ends row goes_on linear shared client_has
+      in
+      let contract =
+      detaches-typed accepted typed there_other later keep onward after_other u row_other goes_on_other shared contract_has
+      in
+      acts (both_go a s p other k) (object.Process p ∷ object.Process other ∷ [])
+      (both-replaces typed there there_other apart k)
+      (release-fits accepted typed there there_other apart v r next onward shared has.own at_l is_base has.found held none
+      client contract differ)
+      (record { gives = tt; gets = tt; even = omega arith })
+
+  release-by_code : (v r : VarId) (next : CodeId) (after : List Judgement) (t : TypeId) → IsFree own r
+      → Row a.program a.annotations own after → after ≡ binds_channel (at_code (gives_up own v) next) r mode.S t ∷ []
+      → (ends : TypeId) → bound_to v.0 own.linear ≡ Some ends → Unfolds a.program ends.0 (node.Down t)
+      → (at : ℕ) → At (code.Release at v r next)
+      → (other : Process) → Contains s.objects (object.Process other)
+      → NameHasType a.program a.annotations s.types other.offers ends → bound_to v.0 p.channels ≡ Some other.offers
+      → (stood : Option CodeNode) → slice_get a.program.code other.code.0 ≡ stood
+      → Goes a s (is_some (stood >>= detach_next)) (does a s p (releases-by v r next other stood))
+  release-by_code v r next after t free row goes_on ends linear unfolds at stands other there_other has held
+      (Some (code.Detach at_other onward)) is =
+      release-meets v r next after t free row goes_on ends linear unfolds other there_other
+      (others-apart other (code.Release at v r next) (code.Detach at_other onward) there_other stands is (λ same. cc))
+      at_other onward is has held other.base refl
+  release-by_code v r next after t free row goes_on ends linear unfolds at stands other there_other has held (Some n) is = waits
+  release-by_code v r next after t free row goes_on ends linear unfolds at stands other there_other has held None is = waits
+
+  release-by_offering : (v r : VarId) (next : CodeId) (after : List Judgement) (t : TypeId) → IsFree own r
+      → Row a.program a.annotations own after → after ≡ binds_channel (at_code (gives_up own v) next) r mode.S t ∷ []
+      → (ends : TypeId) → bound_to v.0 own.linear ≡ Some ends → Unfolds a.program ends.0 (node.Down t)
+      → (at : ℕ) → At (code.Release at v r next)
+      → (name : ℕ) → NameHasType a.program a.annotations s.types name ends → bound_to v.0 p.channels ≡ Some name
+      → (found : Option Process) → offering s.objects name ≡ found
+      → Goes a s (meets detach_next found) (does a s p (releases-from v r next found))
+  release-by_offering v r next after t free row goes_on ends linear unfolds at stands name has held None is = waits
+  release-by_offering v r next after t free row goes_on ends linear unfolds at stands name has held (Some other) is =
+      let (there_other, same) = offering-found s.objects name other is in
+      let has_too : NameHasType a.program a.annotations s.types other.offers ends =
+      subst (λ (n : ℕ). NameHasType a.program a.annotations s.types n ends) (sym same) has
+      in
+      release-by_code v r next after t free row goes_on ends linear unfolds at stands other there_other has_too
+      (held ∙ ap Some (sym same)) (slice_get a.program.code other.code.0) refl
+
+  pub release-goes : (at : ℕ) (v r : VarId) (next : CodeId) → At (code.Release at v r next) → GoesAt (code.Release at v r next)
+  release-goes at v r next stands =
+      let n : CodeNode = code.Release at v r next in
+      let (after, row) = own-row typed there accepted in
+      let (t, releases, goes_on) = row-inverted n (own-stands typed there n stands) row in
+      let (ends, linear, unfolds) = releases.channel in
+      let alone = linear-alone (own-is_judgement typed there accepted) v ends linear in
+      let held_type : type_held own v.0 ≡ Some ends =
+      ap (λ (o : Option TypeId). option_or o (bound_to v.0 own.linear)) alone ∙ linear
+      in
+      let (name, held, has) = paired-left ends ((process-typed typed there).matches.channels v.0) held_type in
+      subst (λ (o : Option ℕ). Goes a s (is_some (o >>= λ name.
+      offering s.objects name >>= λ other. slice_get a.program.code other.code.0 >>= detach_next))
+      (does a s p (o >>= λ name. releases-from v r next (offering s.objects name)))) (sym held)
+      (release-by_offering v r next after t releases.free row goes_on ends linear unfolds at stands name has held
+      (offering s.objects name) refl)
