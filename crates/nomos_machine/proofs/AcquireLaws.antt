@@ -1,6 +1,6 @@
 -- A client acquires a shared contract: the contract goes on at mode L under the next name, with its shared name as base, and
 -- a typed state stays typed.
-use Rattle.std.proofs.Common.{◌≡◌, ◌≢◌, ◌∙◌, ◌≤◌, ◌<◌, ◌⊎◌, inl, inr, ℕ, ◌+◌, List, [], ◌∷◌, length, Contains, Option, Some, None, refl, sym, subst, ap, arith, ne_eqb}
+use Rattle.std.proofs.Common.{◌≡◌, ◌≢◌, ◌∙◌, ◌≤◌, ◌<◌, ◌⊎◌, inl, inr, ℕ, ◌+◌, [], ◌∷◌, length, Contains, Option, Some, None, refl, sym, subst, ap, arith, ne_eqb}
 use Rattle.std.proofs.lemmas.Bool.{cases_eq}
 use Rattle.std.proofs.lemmas.List.Elements.{All-nil, All-cons}
 use Rattle.std.specs.Option.{option_to_list}
@@ -13,7 +13,7 @@ use Rattle.nomos_ir.specs.declared.ids.VarId.{VarId}
 use Rattle.nomos_ir.specs.declared.mode.Mode.{Mode}
 use Rattle.nomos_ir.specs.declared.mode.Mode.TheVariants as mode
 use Rattle.nomos_ir.specs.declared.type_node.TypeNode.TheVariants as node
-use Rattle.nomos_ir.proofs.SumLaws.{times_bound, count-after_bind}
+use Rattle.nomos_ir.proofs.SumLaws.{count-after_bind}
 use Rattle.nomos_types.specs.Acceptance.{Acceptance, IsAccepted}
 use Rattle.nomos_types.specs.Modes.{HasMode}
 use Rattle.nomos_types.proofs.ModeLaws.{mode-unique, part-has_mode}

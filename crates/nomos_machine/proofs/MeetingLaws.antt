@@ -1,12 +1,9 @@
 -- What a client and a contract go on with where they meet, by the rules of typing: each stays typed.
-use Rattle.std.proofs.Common.{◌≡◌, ◌≢◌, ◌∙◌, ◌≤◌, inl, inr, ℕ, ◌+◌, Bool, true, List, [], ◌∷◌, length, Contains, Option, Some, None, IsSome, slice_get, option_and_then, refl, sym, subst, ap, arith}
-use Rattle.std.specs.Option.{option_or, is_some}
+use Rattle.std.proofs.Common.{◌≡◌, ◌∙◌, ℕ, List, [], ◌∷◌, length, Contains, Option, Some, None, IsSome, refl, sym, subst, ap, arith}
+use Rattle.std.specs.Option.{option_or}
 use Rattle.nomos_ir.specs.Bindings.{bound_to, bind, unbind}
-use Rattle.nomos_ir.specs.CodeParts.{code_terms}
-use Rattle.nomos_ir.specs.Unfold.{Unfolds, unfolded}
+use Rattle.nomos_ir.specs.Unfold.{Unfolds}
 use Rattle.nomos_ir.specs.declared.code_node.Chan.TheVariants as chan
-use Rattle.nomos_ir.specs.declared.code_node.CodeNode.{CodeNode}
-use Rattle.nomos_ir.specs.declared.code_node.CodeNode.TheVariants as code
 use Rattle.nomos_ir.specs.declared.ids.CodeId.{CodeId}
 use Rattle.nomos_ir.specs.declared.ids.TypeId.{TypeId}
 use Rattle.nomos_ir.specs.declared.ids.VarId.{VarId}
@@ -14,40 +11,26 @@ use Rattle.nomos_ir.specs.declared.lists.ProgramLists.{ProgramLists}
 use Rattle.nomos_ir.specs.declared.mode.Mode.TheVariants as mode
 use Rattle.nomos_ir.specs.declared.type_node.TypeNode.{TypeNode}
 use Rattle.nomos_ir.specs.declared.type_node.TypeNode.TheVariants as node
-use Rattle.nomos_ir.proofs.BindingLaws.{bind-ascending, unbind-ascending, all-bound}
-use Rattle.nomos_ir.proofs.PairedLaws.{paired-left, none-left}
-use Rattle.nomos_ir.proofs.UnfoldLaws.{unfolds-unfolded}
+use Rattle.nomos_ir.proofs.BindingLaws.{bind-ascending, unbind-ascending}
 use Rattle.nomos_types.specs.Acceptance.{Acceptance, IsAccepted}
 use Rattle.nomos_types.specs.Alike.{AlikeTypes}
 use Rattle.nomos_types.specs.Equality.{EqualTypes, SameHead, up, down}
 use Rattle.nomos_types.specs.Judgement.{Judgement, IsJudgement, IsFree, count_one, type_held, at_code, binds_channel}
 use Rattle.nomos_types.specs.Modes.{HasMode}
-use Rattle.nomos_types.specs.Premises.{HasType, Acquires, Releases, Accepts, Detaches}
+use Rattle.nomos_types.specs.Premises.{HasType}
 use Rattle.nomos_types.specs.Row.{Row, gives_up}
-use Rattle.nomos_types.proofs.AlikeLaws.{alike_types-back, alike_types-through, alike_types-unfolded}
-use Rattle.nomos_types.proofs.EqualityLaws.{equal-back, equal-unfolded}
+use Rattle.nomos_types.proofs.AlikeLaws.{alike_types-back, alike_types-unfolded}
+use Rattle.nomos_types.proofs.EqualityLaws.{equal-unfolded}
 use Rattle.nomos_types.proofs.HeadLaws.{up-rest, down-rest}
-use Rattle.nomos_types.proofs.ModeLaws.{part-has_mode}
-use Rattle.nomos_types.proofs.RowLaws.{row-inverted}
-use Rattle.nomos_types.proofs.SynchronizingLaws.{synchronizing-down}
-use Rattle.nomos_machine.specs.Change.{Change, made}
-use Rattle.nomos_machine.specs.Deeds.{with_other, does}
-use Rattle.nomos_machine.specs.Given.{values_of_terms}
 use Rattle.nomos_machine.specs.Matching.{NameHasType, Matches, HasBase, ProcessTyped}
-use Rattle.nomos_machine.specs.Optional.{◌>>=◌}
-use Rattle.nomos_machine.specs.Readiness.{is_met_at}
-use Rattle.nomos_machine.specs.Revised.{standing_at, with_channel, without_channel}
-use Rattle.nomos_machine.specs.Sight.{offering, accept_next, detach_next, after_acquire}
-use Rattle.nomos_machine.specs.State.{State, NameTypes, type_of, node_of}
-use Rattle.nomos_machine.specs.Step.{deed_by}
+use Rattle.nomos_machine.specs.State.{State, NameTypes, type_of}
 use Rattle.nomos_machine.specs.TypedState.{VariablesDiffer, IsTyped}
 use Rattle.nomos_machine.specs.declared.object.Object.TheVariants as object
 use Rattle.nomos_machine.specs.declared.object.Process.{Process}
-use Rattle.nomos_machine.proofs.GoesLaws.{Goes, acts, waits, process-typed, process-variables, own-row, own-stands, own-is_judgement, next-is_judgement}
+use Rattle.nomos_machine.proofs.GoesLaws.{process-typed, process-variables, own-is_judgement, next-is_judgement}
 use Rattle.nomos_machine.proofs.MatchLaws.{holds-linear, holds-shared, holds-fewer, matches-differ}
 use Rattle.nomos_machine.proofs.ObjectLaws.{matches-kept}
 use Rattle.nomos_machine.proofs.ProcessLaws.{own_judgement, process-next}
-use Rattle.nomos_machine.proofs.SectionLaws.{offering-found, one-process, goes-back}
 
 -- ---- what stands behind an `up` and a `down`
 

@@ -5,7 +5,7 @@
 -- a base. The names of mode L that are mentioned afterwards lead to their bases as before: the contract was the end of those
 -- ways alone that end in the released name, and no way comes to that from another name, since a message on it would use it,
 -- whose only user is the client, a process.
-use Rattle.std.proofs.Common.{◌≡◌, ◌≢◌, ◌∙◌, ◌≤◌, inl, inr, ℕ, ◌+◌, List, [], ◌∷◌, length, Contains, Option, Some, None, refl, sym, subst, ap, arith, ne_eqb, append-nil}
+use Rattle.std.proofs.Common.{◌≡◌, ◌≢◌, ◌∙◌, ◌≤◌, inl, inr, ℕ, ◌+◌, [], ◌∷◌, length, Contains, Option, Some, None, refl, sym, subst, ap, arith, ne_eqb, append-nil}
 use Rattle.std.proofs.lemmas.Bool.{cases_eq}
 use Rattle.std.proofs.lemmas.List.Elements.{All-nil, All-cons, Contains-append_left}
 use Rattle.std.specs.Option.{option_to_list}
@@ -17,7 +17,7 @@ use Rattle.nomos_ir.specs.declared.ids.VarId.{VarId}
 use Rattle.nomos_ir.specs.declared.mode.Mode.{Mode}
 use Rattle.nomos_ir.specs.declared.mode.Mode.TheVariants as mode
 use Rattle.nomos_ir.proofs.BindingLaws.{unbind-ascending, bound-after_unbind, bound-after_unbind_other}
-use Rattle.nomos_ir.proofs.SumLaws.{times_bound, count-after_bind, count-after_unbind}
+use Rattle.nomos_ir.proofs.SumLaws.{count-after_bind, count-after_unbind}
 use Rattle.nomos_types.specs.Acceptance.{Acceptance, IsAccepted}
 use Rattle.nomos_types.specs.Modes.{HasMode}
 use Rattle.nomos_types.proofs.ModeLaws.{mode-unique}
@@ -26,7 +26,7 @@ use Rattle.nomos_machine.specs.Change.{Change, made}
 use Rattle.nomos_machine.specs.Matching.{ProcessTyped}
 use Rattle.nomos_machine.specs.Objects.{object_number, provided, used, based, carried, shared_names, shared_of, mentioned, talk_end, times}
 use Rattle.nomos_machine.specs.State.{State, NameTypes, type_of}
-use Rattle.nomos_machine.specs.TypedState.{VariablesDiffer, HasVariables, ObjectTyped, InSection, IsTyped}
+use Rattle.nomos_machine.specs.TypedState.{VariablesDiffer, HasVariables, ObjectTyped, IsTyped}
 use Rattle.nomos_machine.specs.declared.object.Message.{Message}
 use Rattle.nomos_machine.specs.declared.object.Object.{Object}
 use Rattle.nomos_machine.specs.declared.object.Object.TheVariants as object
@@ -37,7 +37,7 @@ use Rattle.nomos_machine.proofs.HeldLaws.{based-shared}
 use Rattle.nomos_machine.proofs.NameLaws.{mentioned-sum}
 use Rattle.nomos_machine.proofs.OwnedLaws.{CountsAsBefore, owned-as_before}
 use Rattle.nomos_machine.proofs.SectionLaws.{times-two, numbers-differ}
-use Rattle.nomos_machine.proofs.SharingLaws.{Meeting, client_after, contract_after, both_go, both-replaces, both-times, both-keep, both-lead}
+use Rattle.nomos_machine.proofs.SharingLaws.{Meeting, client_after, contract_after, both_go, both-replaces, both-times, both-lead}
 
 -- how both go on: the client has a reference to the shared name, and the contract offers it
 abbrev pub releasing : Process → VarId → VarId → CodeId → CodeId → ℕ → Meeting

@@ -1,20 +1,20 @@
 -- Critical sections: who offers a name that is provided once, where the name of an acquired process leads, and to what its
 -- talk goes back.
-use Rattle.std.proofs.Common.{◌≡◌, ◌≢◌, ◌∙◌, ◌≤◌, inl, inr, ℕ, ◌+◌, ◌==◌, Bool, true, false, cond, List, [], ◌∷◌, find, Contains, Option, Some, None, option_and_then, refl, sym, subst, ap, arith, eqb-true}
+use Rattle.std.proofs.Common.{◌≡◌, ◌≢◌, ◌∙◌, ◌≤◌, inl, inr, ℕ, ◌+◌, ◌==◌, Bool, true, false, cond, List, [], ◌∷◌, find, Contains, Some, None, option_and_then, refl, sym, subst, ap, arith, eqb-true}
 use Rattle.std.proofs.lemmas.Bool.{cases_eq}
 use Rattle.std.proofs.lemmas.List.Elements.{Contains-append_right}
 use Rattle.nomos_ir.specs.Order.{count_of}
 use Rattle.nomos_ir.specs.declared.ids.TypeId.{TypeId}
 use Rattle.nomos_ir.specs.declared.mode.Mode.TheVariants as mode
-use Rattle.nomos_types.specs.Acceptance.{Acceptance, IsAccepted}
+use Rattle.nomos_types.specs.Acceptance.{Acceptance}
 use Rattle.nomos_types.specs.Modes.{HasMode}
 use Rattle.nomos_types.specs.Synchronizing.{IsSynchronizingAt}
 use Rattle.nomos_types.proofs.OccurrenceLaws.{counted}
 use Rattle.nomos_machine.specs.Change.{put_at}
-use Rattle.nomos_machine.specs.Objects.{object_number, process_of, provided, talk_end, times, object_at}
+use Rattle.nomos_machine.specs.Objects.{object_number, process_of, provided, times, object_at}
 use Rattle.nomos_machine.specs.Sight.{is_offered, offering}
 use Rattle.nomos_machine.specs.State.{State, type_of}
-use Rattle.nomos_machine.specs.TypedState.{LeadsToBase, at_base, further, InSection, IsTyped}
+use Rattle.nomos_machine.specs.TypedState.{LeadsToBase, at_base, further, IsTyped}
 use Rattle.nomos_machine.specs.declared.object.Message.{Message}
 use Rattle.nomos_machine.specs.declared.object.Object.{Object}
 use Rattle.nomos_machine.specs.declared.object.Object.TheVariants as object

@@ -1,5 +1,5 @@
 -- Two processes go on together: a client acquires a shared contract, or releases one; a typed state stays typed.
-use Rattle.std.proofs.Common.{◌≡◌, ◌≢◌, ◌∙◌, ◌≤◌, ◌⊎◌, inl, inr, ℕ, ◌+◌, List, [], ◌∷◌, map, length, Contains, Option, Some, None, refl, sym, subst, ap, arith, ne_eqb}
+use Rattle.std.proofs.Common.{◌≡◌, ◌≢◌, ◌∙◌, inl, inr, ℕ, ◌+◌, List, [], ◌∷◌, map, Contains, Option, Some, refl, sym, subst, ap, arith}
 use Rattle.std.proofs.lemmas.Bool.{cases_eq}
 use Rattle.std.proofs.lemmas.List.Elements.{All-nil, All-cons, Contains-append_left}
 use Rattle.std.specs.Option.{option_to_list}
@@ -9,11 +9,11 @@ use Rattle.nomos_ir.specs.declared.ids.TypeId.{TypeId}
 use Rattle.nomos_ir.specs.declared.ids.VarId.{VarId}
 use Rattle.nomos_ir.specs.declared.mode.Mode.{Mode}
 use Rattle.nomos_ir.specs.declared.mode.Mode.TheVariants as mode
-use Rattle.nomos_types.specs.Acceptance.{Acceptance, IsAccepted}
+use Rattle.nomos_types.specs.Acceptance.{Acceptance}
 use Rattle.nomos_machine.specs.Change.{Change, put_at, made}
 use Rattle.nomos_machine.specs.Deeds.{with_other}
-use Rattle.nomos_machine.specs.Objects.{object_number, provided, used, talk_end, times, object_at}
-use Rattle.nomos_machine.specs.State.{State, NameTypes, type_of}
+use Rattle.nomos_machine.specs.Objects.{object_number, talk_end, times, object_at}
+use Rattle.nomos_machine.specs.State.{State, type_of}
 use Rattle.nomos_machine.specs.TypedState.{LeadsToBase, at_base, further, IsTyped}
 use Rattle.nomos_machine.specs.declared.object.Message.{Message}
 use Rattle.nomos_machine.specs.declared.object.Object.{Object}
