@@ -1,10 +1,10 @@
--- A client releases an acquired contract: the contract goes on at mode S under its base, to which the client has a reference
--- again, and a typed state stays typed.
+-- A client releases an acquired contract: the contract goes on at mode S under its base, to which the client has a
+-- reference again, and a typed state stays typed.
 --
--- The released name is mentioned no more: the contract alone provided it, the client alone used it, and no name of mode L is
--- a base. The names of mode L that are mentioned afterwards lead to their bases as before: the contract was the end of those
--- ways alone that end in the released name, and no way comes to that from another name, since a message on it would use it,
--- whose only user is the client, a process.
+-- The released name is mentioned no more: the contract alone provided it, the client alone used it, and no name of mode
+-- L is a base. The names of mode L that are mentioned afterwards lead to their bases as before: the contract was the
+-- end of those ways alone that come to the released name, and none comes there from another name, since a message that
+-- leads on to it would use it, and its only user was the client, which is a process.
 use Rattle.std.proofs.Common.{◌≡◌, ◌≢◌, ◌∙◌, ◌≤◌, inl, inr, ℕ, ◌+◌, [], ◌∷◌, length, Contains, Option, Some, None, refl, sym, subst, ap, arith, ne_eqb, append-nil}
 use Rattle.std.proofs.lemmas.Bool.{cases_eq}
 use Rattle.std.proofs.lemmas.List.Elements.{All-nil, All-cons, Contains-append_left}
@@ -66,8 +66,8 @@ module _ {a : Acceptance} (accepted : IsAccepted a) {s : State} (typed : IsTyped
   own-mode = subst (HasMode a.program own) at_l ((process-typed typed there_other).offered own found)
 
   -- names whose types have different modes differ
-  names-apart : (name other_name : ℕ) (t u : TypeId) (m n : Mode) → type_of s.types name ≡ Some t → HasMode a.program t m
-      → type_of s.types other_name ≡ Some u → HasMode a.program u n → m ≢ n → name ≢ other_name
+  names-apart : (name other_name : ℕ) (t u : TypeId) (m n : Mode) → type_of s.types name ≡ Some t
+      → HasMode a.program t m → type_of s.types other_name ≡ Some u → HasMode a.program u n → m ≢ n → name ≢ other_name
   names-apart name other_name t u m n is at_m is_too at_n differ same =
       let here : type_of s.types other_name ≡ Some t =
       subst (λ (i : ℕ). type_of s.types i ≡ Some t) same is
@@ -134,8 +134,8 @@ module _ {a : Acceptance} (accepted : IsAccepted a) {s : State} (typed : IsTyped
       omega (arith, released-gone)
 
   -- no message goes on from it
-  no-message : (m : Message) (onward_name : ℕ) → Contains s.objects (object.Message m) → Contains (talk_end m) onward_name
-      → onward_name ≢ other.offers
+  no-message : (m : Message) (onward_name : ℕ) → Contains s.objects (object.Message m)
+      → Contains (talk_end m) onward_name → onward_name ≢ other.offers
   no-message m onward_name inside end same =
       let owned = typed.owned other.offers own mode.L found own-mode in
       let among : Contains (used (object.Message m)) other.offers =
@@ -147,8 +147,8 @@ module _ {a : Acceptance} (accepted : IsAccepted a) {s : State} (typed : IsTyped
       let elsewhere = count-elsewhere other.offers shared []
       (ne_eqb shared other.offers (shared-apart other.offers own mode.L found own-mode l-not_s))
       in
-      let both = times-two s.objects typed.numbered.ascending used other.offers (object.Process p) (object.Message m) there inside
-      (numbers-differ s.objects typed.numbered.ascending p m there inside)
+      let both = times-two s.objects typed.numbered.ascending used other.offers (object.Process p) (object.Message m)
+      there inside (numbers-differ s.objects typed.numbered.ascending p m there inside)
       in
       omega (arith, owned.1, client-uses other.offers)
 

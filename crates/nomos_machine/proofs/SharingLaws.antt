@@ -77,8 +77,9 @@ module _ {a : Acceptance} {s : State} (typed : IsTyped a s) {p other : Process}
   both-replaces =
       let First : Object → Type 0 = λ o. object_number o ≡ p.pid in
       let Second : Object → Type 0 = λ o. object_number o ≡ other.pid in
-      then (object.Process p) (Some (object.Process client)) ((other.pid, Some (object.Process contract)) ∷ []) s.objects
-      (object.Process other ∷ []) found-client (All-cons First (object.Process client) [] refl (All-nil First))
+      then (object.Process p) (Some (object.Process client)) ((other.pid, Some (object.Process contract)) ∷ [])
+      s.objects (object.Process other ∷ []) found-client
+      (All-cons First (object.Process client) [] refl (All-nil First))
       (then (object.Process other) (Some (object.Process contract)) [] midway [] found-contract
       (All-cons Second (object.Process contract) [] refl (All-nil Second))
       (done (put_at other.pid (Some (object.Process contract)) midway)))
@@ -109,8 +110,8 @@ module _ {a : Acceptance} {s : State} (typed : IsTyped a s) {p other : Process}
   pub contract-there : Contains (made s goes).objects (object.Process contract)
   contract-there =
       Contains-append_left (put_at other.pid (Some (object.Process contract)) midway) [] (object.Process contract)
-      (put-new other.pid (Some (object.Process contract)) (object.Process other) (object.Process contract) midway found-contract
-      (0, omega arith, refl))
+      (put-new other.pid (Some (object.Process contract)) (object.Process other) (object.Process contract) midway
+      found-contract (0, omega arith, refl))
 
   others-kept : (o : Object) → Contains s.objects o → object_number o ≢ p.pid → object_number o ≢ other.pid
       → Contains (made s goes).objects o
@@ -122,17 +123,19 @@ module _ {a : Acceptance} {s : State} (typed : IsTyped a s) {p other : Process}
       (All-cons Other (p.pid, Some (object.Process client)) ((other.pid, Some (object.Process contract)) ∷ []) first
       (All-cons Other (other.pid, Some (object.Process contract)) [] second (All-nil Other)))
 
-  messages-kept : (m : Message) → Contains s.objects (object.Message m) → Contains (made s goes).objects (object.Message m)
+  messages-kept : (m : Message) → Contains s.objects (object.Message m)
+      → Contains (made s goes).objects (object.Message m)
   messages-kept m inside =
       others-kept (object.Message m) inside (numbers-differ s.objects typed.numbered.ascending p m there inside)
       (numbers-differ s.objects typed.numbered.ascending other m there_other inside)
 
   -- ---- where names of mode L lead
 
-  -- Names that stay lead to their base as before, where that of the contract was none of them, or it was not acquired; and
-  -- where no message leads from a name that stays to another one.
+  -- Names that stay lead to their base as before, where the contract was not acquired or its name is none of them, and
+  -- where each name to which a message leads on stays.
   pub both-lead : (stays : ℕ → Type 0) (base : ℕ) → (other.mode ≡ mode.L → stays other.offers → ⊥)
-      → ((m : Message) (onward : ℕ) → Contains s.objects (object.Message m) → Contains (talk_end m) onward → stays onward)
+      → ((m : Message) (onward : ℕ) → Contains s.objects (object.Message m) → Contains (talk_end m) onward
+      → stays onward)
       → (name : ℕ) → stays name → LeadsToBase s.objects base name → LeadsToBase (made s goes).objects base name
   both-lead stays base none goes_on name stay leads =
       leads-map stays s.objects (made s goes).objects base ends
@@ -140,8 +143,8 @@ module _ {a : Acceptance} {s : State} (typed : IsTyped a s) {p other : Process}
       (goes_on m onward inside end, λ leads_on. further m n onward (messages-kept m inside) provides end leads_on))
       name stay leads
     where
-      ends : (r : Process) → Contains s.objects (object.Process r) → r.mode ≡ mode.L → r.base ≡ Some base → stays r.offers
-          → LeadsToBase (made s goes).objects base r.offers
+      ends : (r : Process) → Contains s.objects (object.Process r) → r.mode ≡ mode.L → r.base ≡ Some base
+          → stays r.offers → LeadsToBase (made s goes).objects base r.offers
       ends r inside at_l is stays_here =
           elim (cases_eq r.pid p.pid) [
             | inl number ↦
@@ -151,7 +154,9 @@ module _ {a : Acceptance} {s : State} (typed : IsTyped a s) {p other : Process}
                 (ap (λ (q : Process). q.base) (sym same) ∙ is))
             | inr not_client ↦ elim (cases_eq r.pid other.pid) [
               | inl number ↦
-                  let same : r ≡ other = one-process s.objects typed.numbered.ascending other r there_other inside number in
+                  let same : r ≡ other =
+                  one-process s.objects typed.numbered.ascending other r there_other inside number
+                  in
                   absurd (none (ap (λ (q : Process). q.mode) (sym same) ∙ at_l)
                   (subst (λ (q : Process). stays q.offers) same stays_here))
               | inr not_contract ↦ at_base r (others-kept (object.Process r) inside not_client not_contract) at_l is
