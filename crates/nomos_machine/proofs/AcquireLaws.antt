@@ -1,6 +1,6 @@
--- A client acquires a shared contract: the contract goes on at mode L under the next name, with its shared name as base, and
--- a typed state stays typed.
-use Rattle.std.proofs.Common.{◌≡◌, ◌≢◌, ◌∙◌, ◌≤◌, ◌<◌, ◌⊎◌, inl, inr, ℕ, ◌+◌, List, [], ◌∷◌, length, Contains, Option, Some, None, refl, sym, subst, ap, arith, ne_eqb}
+-- A client acquires a shared contract: the contract goes on at mode L under the next name, with its shared name as
+-- base, and a typed state stays typed.
+use Rattle.std.proofs.Common.{◌≡◌, ◌≢◌, ◌∙◌, ◌≤◌, ◌<◌, ◌⊎◌, inl, inr, ℕ, ◌+◌, [], ◌∷◌, length, Contains, Option, Some, None, refl, sym, subst, ap, arith, ne_eqb}
 use Rattle.std.proofs.lemmas.Bool.{cases_eq}
 use Rattle.std.proofs.lemmas.List.Elements.{All-nil, All-cons}
 use Rattle.std.specs.Option.{option_to_list}
@@ -13,7 +13,7 @@ use Rattle.nomos_ir.specs.declared.ids.VarId.{VarId}
 use Rattle.nomos_ir.specs.declared.mode.Mode.{Mode}
 use Rattle.nomos_ir.specs.declared.mode.Mode.TheVariants as mode
 use Rattle.nomos_ir.specs.declared.type_node.TypeNode.TheVariants as node
-use Rattle.nomos_ir.proofs.SumLaws.{times_bound, count-after_bind}
+use Rattle.nomos_ir.proofs.SumLaws.{count-after_bind}
 use Rattle.nomos_types.specs.Acceptance.{Acceptance, IsAccepted}
 use Rattle.nomos_types.specs.Modes.{HasMode}
 use Rattle.nomos_types.proofs.ModeLaws.{mode-unique, part-has_mode}
@@ -62,7 +62,8 @@ module _ {a : Acceptance} (accepted : IsAccepted a) {s : State} (typed : IsTyped
   pub body-mode : HasMode a.program body mode.L
   body-mode =
       let formed = accepted.typed.formed in
-      part-has_mode {k = mode.L} formed.program formed.contractive formed.modes shared-mode unfolds (0, omega arith, refl)
+      part-has_mode {k = mode.L} formed.program formed.contractive formed.modes shared-mode unfolds
+      (0, omega arith, refl)
 
   type-same : {t u : TypeId} → Some t ≡ Some u → t ≡ u
   type-same is = cc
@@ -116,7 +117,8 @@ module _ {a : Acceptance} (accepted : IsAccepted a) {s : State} (typed : IsTyped
 
   earlier-type : (name : ℕ) (t : TypeId) → name ≢ s.next_name → type_of (made s acquired).types name ≡ Some t
       → type_of s.types name ≡ Some t
-  earlier-type name t other_name is = sym (type_of-other s.types s.next_name name body (λ same. other_name (sym same))) ∙ is
+  earlier-type name t other_name is =
+      sym (type_of-other s.types s.next_name name body (λ same. other_name (sym same))) ∙ is
 
   earlier-counts : (name : ℕ) (t : TypeId) (m : Mode) → type_of s.types name ≡ Some t → HasMode a.program t m
       → CountsAsBefore m s (made s acquired) name
@@ -190,8 +192,8 @@ module _ {a : Acceptance} (accepted : IsAccepted a) {s : State} (typed : IsTyped
           let owned = typed.owned name t mode.R is at_r in
           omega (arith, mentioned-sum (made s acquired).objects name, owned.0)
 
-      owned-by : (name : ℕ) (t : TypeId) (m : Mode) → type_of (made s acquired).types name ≡ Some t → HasMode a.program t m
-          → (name ≡ s.next_name) ⊎ (name ≢ s.next_name) → IsOwned m (made s acquired) name
+      owned-by : (name : ℕ) (t : TypeId) (m : Mode) → type_of (made s acquired).types name ≡ Some t
+          → HasMode a.program t m → (name ≡ s.next_name) ⊎ (name ≢ s.next_name) → IsOwned m (made s acquired) name
       owned-by name t m is at_m (inl same) =
           let here : type_of (made s acquired).types s.next_name ≡ Some t =
           subst (λ (n : ℕ). type_of (made s acquired).types n ≡ Some t) same is
@@ -204,7 +206,8 @@ module _ {a : Acceptance} (accepted : IsAccepted a) {s : State} (typed : IsTyped
           (subst (λ (n : ℕ). IsOwned mode.L (made s acquired) n) (sym same) next-owned)
       owned-by name t m is at_m (inr earlier) =
           let before = earlier-type name t earlier is in
-          owned-as_before m s (made s acquired) name (earlier-counts name t m before at_m) (typed.owned name t m before at_m)
+          owned-as_before m s (made s acquired) name (earlier-counts name t m before at_m)
+          (typed.owned name t m before at_m)
 
       section-of : (name : ℕ) (t : TypeId) → type_of (made s acquired).types name ≡ Some t → HasMode a.program t mode.L
           → (name ≡ s.next_name) ⊎ (name ≢ s.next_name) → InSection a (made s acquired) name t

@@ -1,11 +1,11 @@
--- A client releases an acquired contract: the contract goes on at mode S under its base, to which the client has a reference
--- again, and a typed state stays typed.
+-- A client releases an acquired contract: the contract goes on at mode S under its base, to which the client has a
+-- reference again, and a typed state stays typed.
 --
--- The released name is mentioned no more: the contract alone provided it, the client alone used it, and no name of mode L is
--- a base. The names of mode L that are mentioned afterwards lead to their bases as before: the contract was the end of those
--- ways alone that end in the released name, and no way comes to that from another name, since a message on it would use it,
--- whose only user is the client, a process.
-use Rattle.std.proofs.Common.{◌≡◌, ◌≢◌, ◌∙◌, ◌≤◌, inl, inr, ℕ, ◌+◌, List, [], ◌∷◌, length, Contains, Option, Some, None, refl, sym, subst, ap, arith, ne_eqb, append-nil}
+-- The released name is mentioned no more: the contract alone provided it, the client alone used it, and no name of mode
+-- L is a base. The names of mode L that are mentioned afterwards lead to their bases as before: the contract was the
+-- end of those ways alone that come to the released name, and none comes there from another name, since a message that
+-- leads on to it would use it, and its only user was the client, which is a process.
+use Rattle.std.proofs.Common.{◌≡◌, ◌≢◌, ◌∙◌, ◌≤◌, inl, inr, ℕ, ◌+◌, [], ◌∷◌, length, Contains, Option, Some, None, refl, sym, subst, ap, arith, ne_eqb, append-nil}
 use Rattle.std.proofs.lemmas.Bool.{cases_eq}
 use Rattle.std.proofs.lemmas.List.Elements.{All-nil, All-cons, Contains-append_left}
 use Rattle.std.specs.Option.{option_to_list}
@@ -17,7 +17,7 @@ use Rattle.nomos_ir.specs.declared.ids.VarId.{VarId}
 use Rattle.nomos_ir.specs.declared.mode.Mode.{Mode}
 use Rattle.nomos_ir.specs.declared.mode.Mode.TheVariants as mode
 use Rattle.nomos_ir.proofs.BindingLaws.{unbind-ascending, bound-after_unbind, bound-after_unbind_other}
-use Rattle.nomos_ir.proofs.SumLaws.{times_bound, count-after_bind, count-after_unbind}
+use Rattle.nomos_ir.proofs.SumLaws.{count-after_bind, count-after_unbind}
 use Rattle.nomos_types.specs.Acceptance.{Acceptance, IsAccepted}
 use Rattle.nomos_types.specs.Modes.{HasMode}
 use Rattle.nomos_types.proofs.ModeLaws.{mode-unique}
@@ -26,7 +26,7 @@ use Rattle.nomos_machine.specs.Change.{Change, made}
 use Rattle.nomos_machine.specs.Matching.{ProcessTyped}
 use Rattle.nomos_machine.specs.Objects.{object_number, provided, used, based, carried, shared_names, shared_of, mentioned, talk_end, times}
 use Rattle.nomos_machine.specs.State.{State, NameTypes, type_of}
-use Rattle.nomos_machine.specs.TypedState.{VariablesDiffer, HasVariables, ObjectTyped, InSection, IsTyped}
+use Rattle.nomos_machine.specs.TypedState.{VariablesDiffer, HasVariables, ObjectTyped, IsTyped}
 use Rattle.nomos_machine.specs.declared.object.Message.{Message}
 use Rattle.nomos_machine.specs.declared.object.Object.{Object}
 use Rattle.nomos_machine.specs.declared.object.Object.TheVariants as object
@@ -37,7 +37,7 @@ use Rattle.nomos_machine.proofs.HeldLaws.{based-shared}
 use Rattle.nomos_machine.proofs.NameLaws.{mentioned-sum}
 use Rattle.nomos_machine.proofs.OwnedLaws.{CountsAsBefore, owned-as_before}
 use Rattle.nomos_machine.proofs.SectionLaws.{times-two, numbers-differ}
-use Rattle.nomos_machine.proofs.SharingLaws.{Meeting, client_after, contract_after, both_go, both-replaces, both-times, both-keep, both-lead}
+use Rattle.nomos_machine.proofs.SharingLaws.{Meeting, client_after, contract_after, both_go, both-replaces, both-times, both-lead}
 
 -- how both go on: the client has a reference to the shared name, and the contract offers it
 abbrev pub releasing : Process → VarId → VarId → CodeId → CodeId → ℕ → Meeting
@@ -66,8 +66,8 @@ module _ {a : Acceptance} (accepted : IsAccepted a) {s : State} (typed : IsTyped
   own-mode = subst (HasMode a.program own) at_l ((process-typed typed there_other).offered own found)
 
   -- names whose types have different modes differ
-  names-apart : (name other_name : ℕ) (t u : TypeId) (m n : Mode) → type_of s.types name ≡ Some t → HasMode a.program t m
-      → type_of s.types other_name ≡ Some u → HasMode a.program u n → m ≢ n → name ≢ other_name
+  names-apart : (name other_name : ℕ) (t u : TypeId) (m n : Mode) → type_of s.types name ≡ Some t
+      → HasMode a.program t m → type_of s.types other_name ≡ Some u → HasMode a.program u n → m ≢ n → name ≢ other_name
   names-apart name other_name t u m n is at_m is_too at_n differ same =
       let here : type_of s.types other_name ≡ Some t =
       subst (λ (i : ℕ). type_of s.types i ≡ Some t) same is
@@ -134,8 +134,8 @@ module _ {a : Acceptance} (accepted : IsAccepted a) {s : State} (typed : IsTyped
       omega (arith, released-gone)
 
   -- no message goes on from it
-  no-message : (m : Message) (onward_name : ℕ) → Contains s.objects (object.Message m) → Contains (talk_end m) onward_name
-      → onward_name ≢ other.offers
+  no-message : (m : Message) (onward_name : ℕ) → Contains s.objects (object.Message m)
+      → Contains (talk_end m) onward_name → onward_name ≢ other.offers
   no-message m onward_name inside end same =
       let owned = typed.owned other.offers own mode.L found own-mode in
       let among : Contains (used (object.Message m)) other.offers =
@@ -147,8 +147,8 @@ module _ {a : Acceptance} (accepted : IsAccepted a) {s : State} (typed : IsTyped
       let elsewhere = count-elsewhere other.offers shared []
       (ne_eqb shared other.offers (shared-apart other.offers own mode.L found own-mode l-not_s))
       in
-      let both = times-two s.objects typed.numbered.ascending used other.offers (object.Process p) (object.Message m) there inside
-      (numbers-differ s.objects typed.numbered.ascending p m there inside)
+      let both = times-two s.objects typed.numbered.ascending used other.offers (object.Process p) (object.Message m)
+      there inside (numbers-differ s.objects typed.numbered.ascending p m there inside)
       in
       omega (arith, owned.1, client-uses other.offers)
 

@@ -1,20 +1,20 @@
--- Critical sections: who offers a name that is provided once, where the name of an acquired process leads, and to what its
--- talk goes back.
-use Rattle.std.proofs.Common.{◌≡◌, ◌≢◌, ◌∙◌, ◌≤◌, inl, inr, ℕ, ◌+◌, ◌==◌, Bool, true, false, cond, List, [], ◌∷◌, find, Contains, Option, Some, None, option_and_then, refl, sym, subst, ap, arith, eqb-true}
+-- Critical sections: who offers a name that is provided once, where the name of an acquired process leads, and to what
+-- its talk goes back.
+use Rattle.std.proofs.Common.{◌≡◌, ◌≢◌, ◌∙◌, ◌≤◌, inl, inr, ℕ, ◌+◌, ◌==◌, Bool, true, false, cond, List, [], ◌∷◌, find, Contains, Some, None, option_and_then, refl, sym, subst, ap, arith, eqb-true}
 use Rattle.std.proofs.lemmas.Bool.{cases_eq}
 use Rattle.std.proofs.lemmas.List.Elements.{Contains-append_right}
 use Rattle.nomos_ir.specs.Order.{count_of}
 use Rattle.nomos_ir.specs.declared.ids.TypeId.{TypeId}
 use Rattle.nomos_ir.specs.declared.mode.Mode.TheVariants as mode
-use Rattle.nomos_types.specs.Acceptance.{Acceptance, IsAccepted}
+use Rattle.nomos_types.specs.Acceptance.{Acceptance}
 use Rattle.nomos_types.specs.Modes.{HasMode}
 use Rattle.nomos_types.specs.Synchronizing.{IsSynchronizingAt}
 use Rattle.nomos_types.proofs.OccurrenceLaws.{counted}
 use Rattle.nomos_machine.specs.Change.{put_at}
-use Rattle.nomos_machine.specs.Objects.{object_number, process_of, provided, talk_end, times, object_at}
+use Rattle.nomos_machine.specs.Objects.{object_number, process_of, provided, times, object_at}
 use Rattle.nomos_machine.specs.Sight.{is_offered, offering}
 use Rattle.nomos_machine.specs.State.{State, type_of}
-use Rattle.nomos_machine.specs.TypedState.{LeadsToBase, at_base, further, InSection, IsTyped}
+use Rattle.nomos_machine.specs.TypedState.{LeadsToBase, at_base, further, IsTyped}
 use Rattle.nomos_machine.specs.declared.object.Message.{Message}
 use Rattle.nomos_machine.specs.declared.object.Object.{Object}
 use Rattle.nomos_machine.specs.declared.object.Object.TheVariants as object
@@ -64,7 +64,8 @@ module _ (objects : List Object) (order : InOrder objects) where
   -- objects of one number are one
   pub one-object : (o e : Object) → Contains objects o → Contains objects e → object_number e ≡ object_number o → e ≡ o
   one-object o e there inside same =
-      some-one (sym (object_at-own e objects order inside) ∙ ap (object_at objects) same ∙ object_at-own o objects order there)
+      some-one
+      (sym (object_at-own e objects order inside) ∙ ap (object_at objects) same ∙ object_at-own o objects order there)
     where
       some-one : Some e ≡ Some o → e ≡ o
       some-one is = cc
@@ -111,8 +112,9 @@ module _ (objects : List Object) (order : InOrder objects) where
 
 -- ---- an acquired process
 
-module _ {a : Acceptance} {s : State} (typed : IsTyped a s) {p : Process} (there : Contains s.objects (object.Process p))
-    (at_l : p.mode ≡ mode.L) (own : TypeId) (found : type_of s.types p.offers ≡ Some own) where
+module _ {a : Acceptance} {s : State} (typed : IsTyped a s) {p : Process}
+    (there : Contains s.objects (object.Process p)) (at_l : p.mode ≡ mode.L) (own : TypeId)
+    (found : type_of s.types p.offers ≡ Some own) where
   acquired-mode : HasMode a.program own mode.L
   acquired-mode = subst (HasMode a.program own) at_l ((process-typed typed there).offered own found)
 

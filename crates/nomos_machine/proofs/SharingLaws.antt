@@ -1,5 +1,5 @@
 -- Two processes go on together: a client acquires a shared contract, or releases one; a typed state stays typed.
-use Rattle.std.proofs.Common.{◌≡◌, ◌≢◌, ◌∙◌, ◌≤◌, ◌⊎◌, inl, inr, ℕ, ◌+◌, List, [], ◌∷◌, map, length, Contains, Option, Some, None, refl, sym, subst, ap, arith, ne_eqb}
+use Rattle.std.proofs.Common.{◌≡◌, ◌≢◌, ◌∙◌, inl, inr, ℕ, ◌+◌, List, [], ◌∷◌, map, Contains, Option, Some, refl, sym, subst, ap, arith}
 use Rattle.std.proofs.lemmas.Bool.{cases_eq}
 use Rattle.std.proofs.lemmas.List.Elements.{All-nil, All-cons, Contains-append_left}
 use Rattle.std.specs.Option.{option_to_list}
@@ -9,11 +9,11 @@ use Rattle.nomos_ir.specs.declared.ids.TypeId.{TypeId}
 use Rattle.nomos_ir.specs.declared.ids.VarId.{VarId}
 use Rattle.nomos_ir.specs.declared.mode.Mode.{Mode}
 use Rattle.nomos_ir.specs.declared.mode.Mode.TheVariants as mode
-use Rattle.nomos_types.specs.Acceptance.{Acceptance, IsAccepted}
+use Rattle.nomos_types.specs.Acceptance.{Acceptance}
 use Rattle.nomos_machine.specs.Change.{Change, put_at, made}
 use Rattle.nomos_machine.specs.Deeds.{with_other}
-use Rattle.nomos_machine.specs.Objects.{object_number, provided, used, talk_end, times, object_at}
-use Rattle.nomos_machine.specs.State.{State, NameTypes, type_of}
+use Rattle.nomos_machine.specs.Objects.{object_number, talk_end, times, object_at}
+use Rattle.nomos_machine.specs.State.{State, type_of}
 use Rattle.nomos_machine.specs.TypedState.{LeadsToBase, at_base, further, IsTyped}
 use Rattle.nomos_machine.specs.declared.object.Message.{Message}
 use Rattle.nomos_machine.specs.declared.object.Object.{Object}
@@ -77,8 +77,9 @@ module _ {a : Acceptance} {s : State} (typed : IsTyped a s) {p other : Process}
   both-replaces =
       let First : Object → Type 0 = λ o. object_number o ≡ p.pid in
       let Second : Object → Type 0 = λ o. object_number o ≡ other.pid in
-      then (object.Process p) (Some (object.Process client)) ((other.pid, Some (object.Process contract)) ∷ []) s.objects
-      (object.Process other ∷ []) found-client (All-cons First (object.Process client) [] refl (All-nil First))
+      then (object.Process p) (Some (object.Process client)) ((other.pid, Some (object.Process contract)) ∷ [])
+      s.objects (object.Process other ∷ []) found-client
+      (All-cons First (object.Process client) [] refl (All-nil First))
       (then (object.Process other) (Some (object.Process contract)) [] midway [] found-contract
       (All-cons Second (object.Process contract) [] refl (All-nil Second))
       (done (put_at other.pid (Some (object.Process contract)) midway)))
@@ -109,8 +110,8 @@ module _ {a : Acceptance} {s : State} (typed : IsTyped a s) {p other : Process}
   pub contract-there : Contains (made s goes).objects (object.Process contract)
   contract-there =
       Contains-append_left (put_at other.pid (Some (object.Process contract)) midway) [] (object.Process contract)
-      (put-new other.pid (Some (object.Process contract)) (object.Process other) (object.Process contract) midway found-contract
-      (0, omega arith, refl))
+      (put-new other.pid (Some (object.Process contract)) (object.Process other) (object.Process contract) midway
+      found-contract (0, omega arith, refl))
 
   others-kept : (o : Object) → Contains s.objects o → object_number o ≢ p.pid → object_number o ≢ other.pid
       → Contains (made s goes).objects o
@@ -122,17 +123,19 @@ module _ {a : Acceptance} {s : State} (typed : IsTyped a s) {p other : Process}
       (All-cons Other (p.pid, Some (object.Process client)) ((other.pid, Some (object.Process contract)) ∷ []) first
       (All-cons Other (other.pid, Some (object.Process contract)) [] second (All-nil Other)))
 
-  messages-kept : (m : Message) → Contains s.objects (object.Message m) → Contains (made s goes).objects (object.Message m)
+  messages-kept : (m : Message) → Contains s.objects (object.Message m)
+      → Contains (made s goes).objects (object.Message m)
   messages-kept m inside =
       others-kept (object.Message m) inside (numbers-differ s.objects typed.numbered.ascending p m there inside)
       (numbers-differ s.objects typed.numbered.ascending other m there_other inside)
 
   -- ---- where names of mode L lead
 
-  -- Names that stay lead to their base as before, where that of the contract was none of them, or it was not acquired; and
-  -- where no message leads from a name that stays to another one.
+  -- Names that stay lead to their base as before, where the contract was not acquired or its name is none of them, and
+  -- where each name to which a message leads on stays.
   pub both-lead : (stays : ℕ → Type 0) (base : ℕ) → (other.mode ≡ mode.L → stays other.offers → ⊥)
-      → ((m : Message) (onward : ℕ) → Contains s.objects (object.Message m) → Contains (talk_end m) onward → stays onward)
+      → ((m : Message) (onward : ℕ) → Contains s.objects (object.Message m) → Contains (talk_end m) onward
+      → stays onward)
       → (name : ℕ) → stays name → LeadsToBase s.objects base name → LeadsToBase (made s goes).objects base name
   both-lead stays base none goes_on name stay leads =
       leads-map stays s.objects (made s goes).objects base ends
@@ -140,8 +143,8 @@ module _ {a : Acceptance} {s : State} (typed : IsTyped a s) {p other : Process}
       (goes_on m onward inside end, λ leads_on. further m n onward (messages-kept m inside) provides end leads_on))
       name stay leads
     where
-      ends : (r : Process) → Contains s.objects (object.Process r) → r.mode ≡ mode.L → r.base ≡ Some base → stays r.offers
-          → LeadsToBase (made s goes).objects base r.offers
+      ends : (r : Process) → Contains s.objects (object.Process r) → r.mode ≡ mode.L → r.base ≡ Some base
+          → stays r.offers → LeadsToBase (made s goes).objects base r.offers
       ends r inside at_l is stays_here =
           elim (cases_eq r.pid p.pid) [
             | inl number ↦
@@ -151,7 +154,9 @@ module _ {a : Acceptance} {s : State} (typed : IsTyped a s) {p other : Process}
                 (ap (λ (q : Process). q.base) (sym same) ∙ is))
             | inr not_client ↦ elim (cases_eq r.pid other.pid) [
               | inl number ↦
-                  let same : r ≡ other = one-process s.objects typed.numbered.ascending other r there_other inside number in
+                  let same : r ≡ other =
+                  one-process s.objects typed.numbered.ascending other r there_other inside number
+                  in
                   absurd (none (ap (λ (q : Process). q.mode) (sym same) ∙ at_l)
                   (subst (λ (q : Process). stays q.offers) same stays_here))
               | inr not_contract ↦ at_base r (others-kept (object.Process r) inside not_client not_contract) at_l is
