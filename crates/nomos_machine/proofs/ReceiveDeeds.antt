@@ -31,7 +31,7 @@ use Rattle.nomos_ir.proofs.SumLaws.{count-after_bind, count-after_unbind, count-
 use Rattle.nomos_types.specs.Acceptance.{Acceptance, IsAccepted}
 use Rattle.nomos_types.specs.Amount.{dths}
 use Rattle.nomos_types.specs.Branches.{goes_by}
-use Rattle.nomos_types.specs.Judgement.{Judgement, IsJudgement, channel_type, goes_on, with_potential, binds_value, binds_channel, at_code, type_held}
+use Rattle.nomos_types.specs.Judgement.{Judgement, IsJudgement, channel_type, goes_on, with_potential, binds_value, binds_channel, at_code, type_held, IsFree}
 use Rattle.nomos_types.specs.Modes.{HasMode, IsLinearMode}
 use Rattle.nomos_types.specs.Premises.{by_side, ArmsGoOn, none, arm}
 use Rattle.nomos_types.specs.Row.{Row, gives_up}
@@ -54,7 +54,7 @@ use Rattle.nomos_machine.specs.declared.object.Payload.TheVariants as payload
 use Rattle.nomos_machine.specs.declared.object.PotentialList.{PotentialList}
 use Rattle.nomos_machine.specs.declared.object.Process.{Process}
 use Rattle.nomos_machine.proofs.AloneDeeds.{At, GoesAt}
-use Rattle.nomos_machine.proofs.ChannelLaws.{SameRest, under-keeps, IsUnshared, channel-unshared, present-has_type, matches-goes_on, goes_on-potential, under-ascending, provider_end, client_end, both-ends, under-uses, received-uses}
+use Rattle.nomos_machine.proofs.ChannelLaws.{SameRest, under-keeps, IsUnshared, channel-unshared, present-has_type, matches-goes_on, goes_on-potential, goes_on-shared, matches-binds, binds_channel-potential, under-free, uncounted, under-ascending, provider_end, client_end, both-ends, under-uses, received-uses}
 use Rattle.nomos_machine.proofs.GoesLaws.{Goes, acts, waits, process-typed, process-variables, own-row, own-stands, own-is_judgement, own-matches, next-is_judgement}
 use Rattle.nomos_machine.proofs.LinearLaws.{IsLinearAt, linear-at, base-same}
 use Rattle.nomos_machine.proofs.MatchLaws.{holds-linear, holds-shared, holds-fewer, matches-differ}
@@ -392,3 +392,165 @@ module _ {a : Acceptance} (accepted : IsAccepted a) {s : State} (typed : IsTyped
             purse = refl;
             exact = omega (arith, goes_on-potential own d t goes_to, no_gas);
           }
+
+  pub recv-goes : (at : ℕ) (c : Chan) (y : VarId) (next : CodeId) → At accepted typed there (code.Recv at c y next)
+      → GoesAt accepted typed there (code.Recv at c y next)
+  recv-goes at c y next stands =
+      let n : CodeNode = code.Recv at c y next in
+      let (after, row) = own-row typed there accepted in
+      let (mode, sent, t, receives_it, goes_on_so) = row-inverted n (own-stands typed there n stands) row in
+      let (held, holds, unfolds) = receives_it.channel in
+      let k : Judgement = binds_channel (goes_on own c t next) y mode sent in
+      let among : Contains after k = subst (λ (js : List Judgement). Contains js k) (sym goes_on_so) (0, omega arith, refl) in
+      receives-by c held (by_side c (node.Lolli sent t) (node.Tensor sent t))
+      (λ brought q. option_and_then (λ name. Some (standing_at next (with_channel y name q))) (channel_in brought)) holds unfolds
+      (λ m goes brings here.
+      let (carries, is_channel, no_gas, goes_so, is_sent) = received-channel c sent t brings in
+      (t, goes_so, λ name has. (
+        standing_at next (with_channel y carries (under_name c name p)),
+        ap (λ (brought : Payload). option_and_then (λ j. Some (standing_at next (with_channel y j (under_name c name p))))
+            (channel_in brought)) is_channel,
+        channel-goings c m name held t next mode sent carries after row among holds has is_sent receives_it.free here
+            (ap (λ (brought : Payload). carried brought) is_channel) no_gas,
+      )))
+    where
+      channel-goings : (d : Chan) (m : Message) (name : ℕ) (held t : TypeId) (goes_to : CodeId) (mode : Mode) (sent : TypeId)
+          (carries : ℕ) (after : List Judgement) → Row a.program a.annotations own after
+          → Contains after (binds_channel (goes_on own d t goes_to) y mode sent) → channel_type own d ≡ Some held
+          → NameHasType a.program a.annotations s.types name t → NameHasType a.program a.annotations s.types carries sent
+          → IsFree own y → present_name p d ≡ Some m.from → carried m.payload ≡ carries ∷ [] → m.purse ≡ 0
+          → Goings d m name (richer m.purse (standing_at goes_to (with_channel y carries (under_name d name p))))
+      channel-goings d m name held t goes_to mode sent carries after row among holds has is_sent free here one no_gas =
+          let unshared = channel-unshared (own-is_judgement typed there accepted) d held holds in
+          let on = matches-goes_on (own-matches typed there) d name t goes_to unshared has in
+          let no_reference : bound_to y.0 own.shared ≡ None = uncounted (bound_to y.0 own.shared) (omega (arith, free)) in
+          let no_channel : bound_to y.0 own.linear ≡ None = uncounted (bound_to y.0 own.linear) (omega (arith, free)) in
+          let none = ap (λ (cs : List (VarId × TypeId)). bound_to y.0 cs) (goes_on-shared own d t goes_to) ∙ no_reference in
+          let binds = matches-binds on y carries mode sent none is_sent in
+          let not_held : type_held own y.0 ≡ None =
+          ap (λ (o : Option TypeId). option_or o (bound_to y.0 own.linear)) no_reference ∙ no_channel
+          in
+          let not_bound = none-left ((own-matches typed there).channels y.0) not_held in
+          let unbound = under-free d name m.from p y.0 here not_bound in
+          let channels = under-ascending d name p (process-variables typed there).channels in
+          record {
+            after = after;
+            k = binds_channel (goes_on own d t goes_to) y mode sent;
+            row = row;
+            among = among;
+            matches = record {
+              mode = binds.mode;
+              code = binds.code;
+              offers = binds.offers;
+              values = binds.values;
+              held_lists = binds.held_lists;
+              channels = binds.channels;
+            };
+            rest = record {
+              pid = refl; same_mode = refl; base = refl; values = refl; held_lists = refl; purse = refl; payer = refl;
+            };
+            offers = refl;
+            uses = λ j.
+                let count = count-after_bind j y carries (under_name d name p).channels channels in
+                let nothing = ap (λ (o : Option ℕ). count_of j (option_to_list o)) unbound in
+                omega (arith, count, nothing, ap (λ (ns : List ℕ). count_of j ns) one);
+            values = subst IsAscending (sym (under-keeps d name p).values) (process-variables typed there).values;
+            channels = bind-ascending y carries (under_name d name p).channels channels;
+            purse = refl;
+            exact = omega (arith, binds_channel-potential (goes_on own d t goes_to) y mode sent,
+            goes_on-potential own d t goes_to, no_gas);
+          }
+
+  pub wait-goes : (at : ℕ) (v : VarId) (next : CodeId) → At accepted typed there (code.Wait at v next)
+      → GoesAt accepted typed there (code.Wait at v next)
+  wait-goes at v next stands =
+      let n : CodeNode = code.Wait at v next in
+      let (after, row) = own-row typed there accepted in
+      let (has_type, goes_on_so) = row-inverted n (own-stands typed there n stands) row in
+      let (held, holds, unfolds) = has_type in
+      let k : Judgement = at_code (gives_up own v) next in
+      let among : Contains after k = subst (λ (js : List Judgement). Contains js k) (sym goes_on_so) (0, omega arith, refl) in
+      let unshared = channel-unshared h (chan.Var v) held holds in
+      let (from, here, is) = present-has_type (own-matches typed there) (chan.Var v) held unshared holds in
+      let at_each : (m : Message) → IsReadOn s.objects true from m → Takes m (makes m) = λ m read.
+      let is_read : from ≡ m.from = sym read.read in
+      let here_too = here ∙ ap (λ (j : ℕ). Some j) is_read in
+      let b = message-brings accepted typed m held node.One read.waiting
+      (subst (λ (j : ℕ). NameHasType a.program a.annotations s.types j held) is_read is) unfolds
+      in
+      ended m held after row among holds unshared here_too read.waiting read.goes_way b
+      in
+      subst (λ (o : Option ℕ). Goes a s (is_some (option_and_then (message_on s.objects true) o))
+      (does a s p (option_and_then (λ j. option_and_then makes (message_on s.objects true j)) o))) (sym here)
+      (looked-goes true from makes at_each)
+    where
+      h : IsJudgement a.program own
+      h = own-is_judgement typed there accepted
+
+      HasLinearMode : TypeId → Type 0
+      HasLinearMode u = (m : Mode) × HasMode a.program u m × IsLinearMode m
+
+      q : Process
+      q = standing_at next (without_channel v p)
+
+      makes : Message → Option Change
+      makes m = option_and_then (λ closed. Some (takes a s p m q)) (close_in m.payload)
+
+      ended : (m : Message) (held : TypeId) (after : List Judgement) → Row a.program a.annotations own after
+          → Contains after (at_code (gives_up own v) next) → bound_to v.0 own.linear ≡ Some held
+          → bound_to v.0 own.shared ≡ None → bound_to v.0 p.channels ≡ Some m.from
+          → Contains s.objects (object.Message m) → m.to_client ≡ true → BringsTo a s m held node.One → Takes m (makes m)
+      ended m held after row among holds unshared here waiting way b =
+          let brings = subst
+          (λ (w : Bool). Brings a.program a.annotations s.types w node.One m.payload m.purse b.goes) way b.brings
+          in
+          let (is_close, no_gas, no_goes) = received-end brings in
+          let no_next = next-none a.program a.annotations s.types m.next
+          (subst (λ (o : Option TypeId). GoesOnAt a.program a.annotations s.types m.next o) no_goes b.next)
+          in
+          let (linear_mode, has_mode, is_linear) = all-bound HasLinearMode v.0 held own.linear h.linear_modes holds in
+          let same_mode = mode-unique accepted.typed.formed.program has_mode b.held_mode in
+          let variables = process-variables typed there in
+          let t = process-typed typed there in
+          let on = own-matches typed there in
+          let covered : potential_of p ≤ p.purse = t.covered in
+          let channels : IsAscending (unbind v.0 p.channels) = unbind-ascending v.0 p.channels variables.channels in
+          let matches : Matches a.program a.annotations s.types (richer m.purse q) (at_code (gives_up own v) next) = record {
+            mode = on.mode;
+            code = refl;
+            offers = on.offers;
+            values = on.values;
+            held_lists = on.held_lists;
+            channels = holds-fewer p.channels own.shared own.linear v unshared variables.channels h.linear on.channels;
+          } in
+          let counts : (name : ℕ) → count_of name (map (λ e. e.1) (unbind v.0 p.channels)) + count_of name (m.from ∷ [])
+          ≡ count_of name (map (λ e. e.1) p.channels) = λ name.
+          let one = ap (λ (o : Option ℕ). count_of name (option_to_list o)) here in
+          omega (arith, count-after_unbind name v.0 p.channels, one)
+          in
+          (
+            q,
+            ap (λ (brought : Payload). option_and_then (λ closed. Some (takes a s p m q)) (close_in brought)) is_close,
+            record {
+              waiting = waiting;
+              own = b.own;
+              found = b.found;
+              mode = b.mode;
+              has_mode = b.has_mode;
+              is_linear = subst IsLinearMode same_mode is_linear;
+              turns = client refl way (omega (arith, counts m.from, count-first m.from []));
+              uses = λ name.
+                  let ends = ap (λ (w : Bool). count_of name (cond w (option_to_list m.next) (m.from ∷ []) ++ carried m.payload)) way in
+                  let none_more = ap (λ (o : Option ℕ). count_of name (option_to_list o ++ carried m.payload)) no_next in
+                  let nothing = ap (λ (brought : Payload). count_of name (carried brought)) is_close in
+                  omega (arith, counts name, ends, none_more, nothing);
+              pid = refl;
+              same_mode = refl;
+              base = refl;
+              purse = refl;
+              typed = process-next accepted t after (at_code (gives_up own v) next) row among matches (omega arith)
+                  (omega (arith, no_gas)) refl (base-same t.has_base refl refl);
+              differ = matches-differ (next-is_judgement typed there accepted (at_code (gives_up own v) next) row among) matches
+                  variables.values variables.lists channels;
+            },
+          )
