@@ -10,16 +10,17 @@ use Rattle.nomos_ir.specs.declared.ids.TypeId.{TypeId}
 use Rattle.nomos_ir.specs.declared.ids.VarId.{VarId}
 use Rattle.nomos_ir.specs.declared.lists.ProgramLists.{ProgramLists}
 use Rattle.nomos_ir.specs.declared.mode.Mode.{Mode}
-use Rattle.nomos_ir.proofs.BindingLaws.{bind-ascending}
+use Rattle.nomos_ir.specs.declared.mode.Mode.TheVariants as mode
+use Rattle.nomos_ir.proofs.BindingLaws.{bind-ascending, bound-after_bind_other}
 use Rattle.nomos_ir.proofs.PairedLaws.{paired-left}
 use Rattle.nomos_ir.proofs.SumLaws.{count-after_bind}
 use Rattle.std.specs.Option.{option_or}
 use Rattle.nomos_types.specs.Amount.{Annotations}
-use Rattle.nomos_types.specs.Judgement.{Judgement, IsJudgement, channel_type, type_held, goes_on, count_one, with_potential}
+use Rattle.nomos_types.specs.Judgement.{Judgement, IsJudgement, channel_type, type_held, goes_on, count_one, with_potential, binds_channel}
 use Rattle.nomos_types.proofs.OccurrenceLaws.{count-append}
 use Rattle.nomos_machine.specs.Matching.{NameHasType, Matches}
 use Rattle.nomos_machine.specs.Objects.{provided, used, carried}
-use Rattle.nomos_machine.specs.Revised.{standing_at, under_name}
+use Rattle.nomos_machine.specs.Revised.{standing_at, under_name, with_channel}
 use Rattle.nomos_machine.specs.Sight.{is_own, present_name}
 use Rattle.nomos_machine.specs.State.{NameTypes}
 use Rattle.nomos_machine.specs.declared.object.Message.{Message}
@@ -28,7 +29,7 @@ use Rattle.nomos_machine.specs.declared.object.PotentialList.{PotentialList}
 use Rattle.nomos_machine.specs.declared.object.Payload.{Payload}
 use Rattle.nomos_machine.specs.declared.object.Process.{Process}
 use Rattle.nomos_ir.specs.Value.{Value}
-use Rattle.nomos_machine.proofs.MatchLaws.{holds-linear}
+use Rattle.nomos_machine.proofs.MatchLaws.{holds-linear, holds-shared}
 
 -- ---- what a process keeps
 
@@ -69,16 +70,17 @@ abbrev pub IsUnshared : List (VarId × TypeId) → Chan → Type 0
 IsUnshared shared chan.Own = Unit {0}
 IsUnshared shared (chan.Var v) = bound_to v.0 shared ≡ None
 
-first-none : {X : Type 0} (o : Option X) → count_one o ≡ 0 → o ≡ None
-first-none (Some x) none = absurd (omega arith)
-first-none None none = refl
+-- what is counted no time is not there
+pub uncounted : {X : Type 0} (o : Option X) → count_one o ≡ 0 → o ≡ None
+uncounted (Some x) none = absurd (omega arith)
+uncounted None none = refl
 
 pub channel-unshared : {lists : ProgramLists} {j : Judgement} → IsJudgement lists j → (c : Chan) (t : TypeId)
     → channel_type j c ≡ Some t → IsUnshared j.shared c
 channel-unshared h chan.Own t found = tt
 channel-unshared {lists} {j} h (chan.Var v) t found =
     let there : count_one (bound_to v.0 j.linear) ≡ 1 = ap (λ (o : Option TypeId). count_one o) found in
-    first-none (bound_to v.0 j.shared) (omega (arith, h.apart v.0, there))
+    uncounted (bound_to v.0 j.shared) (omega (arith, h.apart v.0, there))
 
 module _ {lists : ProgramLists} {x : Annotations} {types : NameTypes} where
   -- the present name of a channel has the type that the judgement has for the channel
@@ -122,6 +124,47 @@ pub goes_on-with_potential : (j : Judgement) (c : Chan) (t : TypeId) (next : Cod
     → goes_on (with_potential j q) c t next ≡ with_potential (goes_on j c t next) q
 goes_on-with_potential j chan.Own t next q = refl
 goes_on-with_potential j (chan.Var v) t next q = refl
+
+-- it goes on with the references that it had
+pub goes_on-shared : (j : Judgement) (c : Chan) (t : TypeId) (next : CodeId) → (goes_on j c t next).shared ≡ j.shared
+goes_on-shared j chan.Own t next = refl
+goes_on-shared j (chan.Var v) t next = refl
+
+-- a channel is bound beside those that it has, a reference or one that is used exactly once
+pub matches-binds : {lists : ProgramLists} {x : Annotations} {types : NameTypes} {p : Process} {j : Judgement}
+    → Matches lists x types p j → (y : VarId) (name : ℕ) (m : Mode) (t : TypeId) → bound_to y.0 j.shared ≡ None
+    → NameHasType lists x types name t → Matches lists x types (with_channel y name p) (binds_channel j y m t)
+matches-binds {p = p} {j = j} on y name mode.S t none is = record {
+  mode = on.mode;
+  code = on.code;
+  offers = on.offers;
+  values = on.values;
+  held_lists = on.held_lists;
+  channels = holds-shared p.channels j.shared j.linear y name t is on.channels;
+}
+matches-binds {p = p} {j = j} on y name m t none is = record {
+  mode = on.mode;
+  code = on.code;
+  offers = on.offers;
+  values = on.values;
+  held_lists = on.held_lists;
+  channels = holds-linear p.channels j.shared j.linear y name t none is on.channels;
+}
+
+pub binds_channel-potential : (j : Judgement) (y : VarId) (m : Mode) (t : TypeId) → (binds_channel j y m t).q ≡ j.q
+binds_channel-potential j y mode.S t = refl
+binds_channel-potential j y m t = refl
+
+-- a free variable stays free
+pub under-free : (c : Chan) (name from : ℕ) (p : Process) (y : ℕ) → present_name p c ≡ Some from
+    → bound_to y p.channels ≡ None → bound_to y (under_name c name p).channels ≡ None
+under-free chan.Own name from p y here free = free
+under-free (chan.Var v) name from p y here free =
+    bound-after_bind_other y v name p.channels (λ same.
+    differ (sym (subst (λ (w : ℕ). bound_to w p.channels ≡ None) same free) ∙ here)) ∙ free
+  where
+    differ : None ≡ Some from → ⊥
+    differ is = cc
 
 pub under-ascending : (c : Chan) (name : ℕ) (p : Process) → IsAscending p.channels
     → IsAscending (under_name c name p).channels

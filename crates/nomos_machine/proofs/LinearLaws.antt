@@ -65,17 +65,27 @@ linear-at {a} accepted {types} {p = p} t chan.Own from own m here found has line
 linear-at accepted t (chan.Var v) from own m here found has linear = tt
 
 -- a base is there, and shared, as before
-pub base-again : {lists : ProgramLists} {types : NameTypes} {p q : Process} → (more : NameTypes) → HasBase lists types p
-    → q.mode ≡ p.mode → q.base ≡ p.base → HasBase lists (types ++ more) q
-base-again {types = types} more has same_mode base = record {
+pub base-same : {lists : ProgramLists} {types : NameTypes} {p q : Process} → HasBase lists types p → q.mode ≡ p.mode
+    → q.base ≡ p.base → HasBase lists types q
+base-same has same_mode base = record {
   base = (
     λ some. same_mode ∙ has.base.0 (subst IsSome base some),
     λ at_l. subst IsSome (sym base) (has.base.1 (sym same_mode ∙ at_l)),
   );
-  shared = λ b is.
-      let (t, found, at_s) = has.shared b (sym base ∙ is) in
-      (t, type_of-kept types more b t found, at_s);
+  shared = λ b is. has.shared b (sym base ∙ is);
 }
+
+-- also where other names have types besides
+pub base-again : {lists : ProgramLists} {types : NameTypes} {p q : Process} → (more : NameTypes) → HasBase lists types p
+    → q.mode ≡ p.mode → q.base ≡ p.base → HasBase lists (types ++ more) q
+base-again {lists} {types} {p} {q} more has same_mode base =
+    let here : HasBase lists types q = base-same has same_mode base in
+    record {
+      base = here.base;
+      shared = λ b is.
+          let (t, found, at_s) = here.shared b is in
+          (t, type_of-kept types more b t found, at_s);
+    }
 
 -- such a name is provided once, and used once at most
 pub linear-owned : (m : Mode) (s : State) (name : ℕ) → IsLinearMode m → IsOwned m s name
