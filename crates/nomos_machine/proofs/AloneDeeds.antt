@@ -120,7 +120,7 @@ module _ {a : Acceptance} (accepted : IsAccepted a) {s : State} (typed : IsTyped
         channels = t.matches.channels;
       }
 
-  let-goes : (at : ℕ) (v : VarId) (e : TermId) (next : CodeId) → At (code.Let at v e next) → GoesAt (code.Let at v e next)
+  pub let-goes : (at : ℕ) (v : VarId) (e : TermId) (next : CodeId) → At (code.Let at v e next) → GoesAt (code.Let at v e next)
   let-goes at v e next stands = come (term_evaluation a.program p.values e) refl
     where
       n : CodeNode
@@ -150,7 +150,7 @@ module _ {a : Acceptance} (accepted : IsAccepted a) {s : State} (typed : IsTyped
           goes-by_row q 0 [] after k row among matches refl refl refl refl refl refl
           (bind-ascending v x p.values variables.values) variables.lists t.covered refl (omega arith)
 
-  emit-goes : (at : ℕ) (e : TermId) (next : CodeId) → At (code.Emit at e next) → GoesAt (code.Emit at e next)
+  pub emit-goes : (at : ℕ) (e : TermId) (next : CodeId) → At (code.Emit at e next) → GoesAt (code.Emit at e next)
   emit-goes at e next stands = come (term_evaluation a.program p.values e) refl
     where
       n : CodeNode
@@ -169,7 +169,7 @@ module _ {a : Acceptance} (accepted : IsAccepted a) {s : State} (typed : IsTyped
           goes-by_row (standing_at next p) 0 ((p.pid, x) ∷ []) after k row among (matches-on next) refl refl refl refl refl refl
           variables.values variables.lists t.covered refl (omega arith)
 
-  if-goes : (at : ℕ) (e : TermId) (then_next else_next : CodeId) → At (code.If at e then_next else_next)
+  pub if-goes : (at : ℕ) (e : TermId) (then_next else_next : CodeId) → At (code.If at e then_next else_next)
       → GoesAt (code.If at e then_next else_next)
   if-goes at e then_next else_next stands = come (term_evaluation a.program p.values e) refl
     where
@@ -195,7 +195,7 @@ module _ {a : Acceptance} (accepted : IsAccepted a) {s : State} (typed : IsTyped
           goes-by_row (standing_at next p) 0 [] after (at_code own next) row (chosen (truth_in x) after goes_on)
           (matches-on next) refl refl refl refl refl refl variables.values variables.lists t.covered refl (omega arith)
 
-  work-goes : (at : ℕ) (r : Amount) (next : CodeId) → At (code.Work at r next) → GoesAt (code.Work at r next)
+  pub work-goes : (at : ℕ) (r : Amount) (next : CodeId) → At (code.Work at r next) → GoesAt (code.Work at r next)
   work-goes at r next stands =
       let n : CodeNode = code.Work at r next in
       let (after, row) = own-row typed there accepted in
@@ -223,7 +223,7 @@ module _ {a : Acceptance} (accepted : IsAccepted a) {s : State} (typed : IsTyped
       (goes-by_row q gas [] after k row among matches refl refl refl refl refl refl variables.values variables.lists
       (omega arith) (omega arith) (omega arith))
 
-  empty-goes : (at : ℕ) (v : VarId) (r : Amount) (kind : Kind) (next : CodeId) → At (code.Empty at v r kind next)
+  pub empty-goes : (at : ℕ) (v : VarId) (r : Amount) (kind : Kind) (next : CodeId) → At (code.Empty at v r kind next)
       → GoesAt (code.Empty at v r kind next)
   empty-goes at v r kind next stands =
       let n : CodeNode = code.Empty at v r kind next in
@@ -297,7 +297,7 @@ module _ {a : Acceptance} (accepted : IsAccepted a) {s : State} (typed : IsTyped
       → (l : PotentialList) × (bound_to w.0 p.lists ≡ Some l) × IsListOf l list
   own-list w list has = paired-left list ((process-typed typed there).matches.held_lists w.0) has
 
-  add-goes : (at : ℕ) (v : VarId) (e : TermId) (w : VarId) (next : CodeId) → At (code.Add at v e w next)
+  pub add-goes : (at : ℕ) (v : VarId) (e : TermId) (w : VarId) (next : CodeId) → At (code.Add at v e w next)
       → GoesAt (code.Add at v e w next)
   add-goes at v e w next stands = come (term_evaluation a.program p.values e) refl
     where
@@ -371,7 +371,7 @@ module _ {a : Acceptance} (accepted : IsAccepted a) {s : State} (typed : IsTyped
           Some (has_fault fault.ListLength)) o)) (sym there_l)
           (weighed x l list after row adds goes_on there_l fits has (is_light (lengthened x l)))
 
-  match-goes : (at : ℕ) (w : VarId) (empty_next : CodeId) (head tail : VarId) (full_next : CodeId)
+  pub match-goes : (at : ℕ) (w : VarId) (empty_next : CodeId) (head tail : VarId) (full_next : CodeId)
       → At (code.Match at w empty_next head tail full_next) → GoesAt (code.Match at w empty_next head tail full_next)
   match-goes at w empty_next head tail full_next stands =
       let (after, row) = own-row typed there accepted in

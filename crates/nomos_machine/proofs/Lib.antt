@@ -37,3 +37,5 @@ pub mod ReleaseLaws
 pub mod MeetingLaws
 pub mod SharingDeeds
 pub mod ForwardLaws
+pub mod DeedLaws
+pub mod PreservationLaws

@@ -286,7 +286,13 @@ module _ {a : Acceptance} (accepted : IsAccepted a) {s : State} (typed : IsTyped
           channels = on.channels;
         };
         rest = record {
-          pid = refl; same_mode = refl; base = refl; values = refl; held_lists = refl; purse = refl; payer = refl;
+          pid = refl;
+          same_mode = refl;
+          base = refl;
+          values = refl;
+          held_lists = refl;
+          purse = refl;
+          payer = refl;
         };
         offers = refl;
         uses = λ k. omega (arith, ap (λ (ns : List ℕ). count_of k ns) nothing);
@@ -308,15 +314,18 @@ module _ {a : Acceptance} (accepted : IsAccepted a) {s : State} (typed : IsTyped
       holds unfolds
       (λ m goes brings here.
       let (l, t, is_label, no_gas, goes_so, chosen) = received-label c awaits.branches brings in
-      let (next, is_arm, among) = arm-found c awaits.branches l t arms after awaits.each_arm chosen (awaits.each_label l t chosen) in
-      (t, goes_so, λ name has. (
-        standing_at next (under_name c name p),
-        ap (λ (brought : Payload). option_and_then (λ k. Some (standing_at k (under_name c name p)))
-            (option_and_then (arm_for arms) (label_in brought))) is_label
-            ∙ ap (λ (o : Option CodeId). option_and_then (λ k. Some (standing_at k (under_name c name p))) o) is_arm,
-        plain-goings c m name held t next after (goes_on own c t next).q row among holds has
-            (ap (λ (brought : Payload). carried brought) is_label) (omega (arith, goes_on-potential own c t next, no_gas)),
-      )))
+      let (next, is_arm, among) = arm-found c awaits.branches l t arms after awaits.each_arm chosen (awaits.each_label l t chosen) in (
+        t,
+        goes_so,
+        λ name has. (
+          standing_at next (under_name c name p),
+          ap (λ (brought : Payload). option_and_then (λ k. Some (standing_at k (under_name c name p)))
+              (option_and_then (arm_for arms) (label_in brought))) is_label
+              ∙ ap (λ (o : Option CodeId). option_and_then (λ k. Some (standing_at k (under_name c name p))) o) is_arm,
+          plain-goings c m name held t next after (goes_on own c t next).q row among holds has
+              (ap (λ (brought : Payload). carried brought) is_label) (omega (arith, goes_on-potential own c t next, no_gas)),
+        ),
+      ))
 
   pub get-goes : (at : ℕ) (c : Chan) (r : Amount) (next : CodeId) → At accepted typed there (code.Get at c r next)
       → GoesAt accepted typed there (code.Get at c r next)
@@ -330,14 +339,17 @@ module _ {a : Acceptance} (accepted : IsAccepted a) {s : State} (typed : IsTyped
       receives-by c held (by_side c (node.PotIn gets.amount t) (node.PotOut gets.amount t))
       (λ brought q. option_and_then (λ some. Some (standing_at next q)) (potential_in brought)) holds unfolds
       (λ m goes brings here.
-      let (is_pay, is_gas, goes_so) = received-potential c gets.amount t brings in
-      (t, goes_so, λ name has. (
-        standing_at next (under_name c name p),
-        ap (λ (brought : Payload). option_and_then (λ some. Some (standing_at next (under_name c name p))) (potential_in brought))
-            is_pay,
-        plain-goings c m name held t next after (own.q + dths a.annotations r) row among holds has
-            (ap (λ (brought : Payload). carried brought) is_pay) (omega (arith, is_gas, gets.same)),
-      )))
+      let (is_pay, is_gas, goes_so) = received-potential c gets.amount t brings in (
+        t,
+        goes_so,
+        λ name has. (
+          standing_at next (under_name c name p),
+          ap (λ (brought : Payload). option_and_then (λ some. Some (standing_at next (under_name c name p))) (potential_in brought))
+              is_pay,
+          plain-goings c m name held t next after (own.q + dths a.annotations r) row among holds has
+              (ap (λ (brought : Payload). carried brought) is_pay) (omega (arith, is_gas, gets.same)),
+        ),
+      ))
 
   pub take-goes : (at : ℕ) (c : Chan) (v : VarId) (next : CodeId) → At accepted typed there (code.Take at c v next)
       → GoesAt accepted typed there (code.Take at c v next)
@@ -351,14 +363,17 @@ module _ {a : Acceptance} (accepted : IsAccepted a) {s : State} (typed : IsTyped
       receives-by c held (by_side c (node.ValueIn kind t) (node.ValueOut kind t))
       (λ brought q. option_and_then (λ x. Some (standing_at next (with_value v x q))) (value_in brought)) holds unfolds
       (λ m goes brings here.
-      let (x, is_value, no_gas, goes_so, of_kind) = received-one_value c kind t brings in
-      (t, goes_so, λ name has. (
-        standing_at next (with_value v x (under_name c name p)),
-        ap (λ (brought : Payload). option_and_then (λ y. Some (standing_at next (with_value v y (under_name c name p))))
-            (value_in brought)) is_value,
-        value-goings c m name held t next v x kind after row among holds has of_kind
-            (ap (λ (brought : Payload). carried brought) is_value) no_gas,
-      )))
+      let (x, is_value, no_gas, goes_so, of_kind) = received-one_value c kind t brings in (
+        t,
+        goes_so,
+        λ name has. (
+          standing_at next (with_value v x (under_name c name p)),
+          ap (λ (brought : Payload). option_and_then (λ y. Some (standing_at next (with_value v y (under_name c name p))))
+              (value_in brought)) is_value,
+          value-goings c m name held t next v x kind after row among holds has of_kind
+              (ap (λ (brought : Payload). carried brought) is_value) no_gas,
+        ),
+      ))
     where
       value-goings : (d : Chan) (m : Message) (name : ℕ) (held t : TypeId) (goes_to : CodeId) (w : VarId) (x : Value) (kind : Kind)
           (after : List Judgement) → Row a.program a.annotations own after
@@ -383,7 +398,13 @@ module _ {a : Acceptance} (accepted : IsAccepted a) {s : State} (typed : IsTyped
               channels = on.channels;
             };
             rest = record {
-              pid = refl; same_mode = refl; base = refl; values = refl; held_lists = refl; purse = refl; payer = refl;
+              pid = refl;
+              same_mode = refl;
+              base = refl;
+              values = refl;
+              held_lists = refl;
+              purse = refl;
+              payer = refl;
             };
             offers = refl;
             uses = λ j. omega (arith, ap (λ (ns : List ℕ). count_of j ns) nothing);
@@ -405,14 +426,17 @@ module _ {a : Acceptance} (accepted : IsAccepted a) {s : State} (typed : IsTyped
       receives-by c held (by_side c (node.Lolli sent t) (node.Tensor sent t))
       (λ brought q. option_and_then (λ name. Some (standing_at next (with_channel y name q))) (channel_in brought)) holds unfolds
       (λ m goes brings here.
-      let (carries, is_channel, no_gas, goes_so, is_sent) = received-channel c sent t brings in
-      (t, goes_so, λ name has. (
-        standing_at next (with_channel y carries (under_name c name p)),
-        ap (λ (brought : Payload). option_and_then (λ j. Some (standing_at next (with_channel y j (under_name c name p))))
-            (channel_in brought)) is_channel,
-        channel-goings c m name held t next mode sent carries after row among holds has is_sent receives_it.free here
-            (ap (λ (brought : Payload). carried brought) is_channel) no_gas,
-      )))
+      let (carries, is_channel, no_gas, goes_so, is_sent) = received-channel c sent t brings in (
+        t,
+        goes_so,
+        λ name has. (
+          standing_at next (with_channel y carries (under_name c name p)),
+          ap (λ (brought : Payload). option_and_then (λ j. Some (standing_at next (with_channel y j (under_name c name p))))
+              (channel_in brought)) is_channel,
+          channel-goings c m name held t next mode sent carries after row among holds has is_sent receives_it.free here
+              (ap (λ (brought : Payload). carried brought) is_channel) no_gas,
+        ),
+      ))
     where
       channel-goings : (d : Chan) (m : Message) (name : ℕ) (held t : TypeId) (goes_to : CodeId) (mode : Mode) (sent : TypeId)
           (carries : ℕ) (after : List Judgement) → Row a.program a.annotations own after
@@ -447,7 +471,13 @@ module _ {a : Acceptance} (accepted : IsAccepted a) {s : State} (typed : IsTyped
               channels = binds.channels;
             };
             rest = record {
-              pid = refl; same_mode = refl; base = refl; values = refl; held_lists = refl; purse = refl; payer = refl;
+              pid = refl;
+              same_mode = refl;
+              base = refl;
+              values = refl;
+              held_lists = refl;
+              purse = refl;
+              payer = refl;
             };
             offers = refl;
             uses = λ j.
@@ -457,8 +487,12 @@ module _ {a : Acceptance} (accepted : IsAccepted a) {s : State} (typed : IsTyped
             values = subst IsAscending (sym (under-keeps d name p).values) (process-variables typed there).values;
             channels = bind-ascending y carries (under_name d name p).channels channels;
             purse = refl;
-            exact = omega (arith, binds_channel-potential (goes_on own d t goes_to) y mode sent,
-            goes_on-potential own d t goes_to, no_gas);
+            exact = omega (
+              arith,
+              binds_channel-potential (goes_on own d t goes_to) y mode sent,
+              goes_on-potential own d t goes_to,
+              no_gas,
+            );
           }
 
   pub wait-goes : (at : ℕ) (v : VarId) (next : CodeId) → At accepted typed there (code.Wait at v next)
@@ -527,8 +561,7 @@ module _ {a : Acceptance} (accepted : IsAccepted a) {s : State} (typed : IsTyped
           ≡ count_of name (map (λ e. e.1) p.channels) = λ name.
           let one = ap (λ (o : Option ℕ). count_of name (option_to_list o)) here in
           omega (arith, count-after_unbind name v.0 p.channels, one)
-          in
-          (
+          in (
             q,
             ap (λ (brought : Payload). option_and_then (λ closed. Some (takes a s p m q)) (close_in brought)) is_close,
             record {
