@@ -2,6 +2,7 @@ pub mod Amounts
 pub mod Bindings
 pub mod CodeForm
 pub mod CodeParts
+pub mod CostAll
 pub mod Evaluation
 pub mod Example
 pub mod Ids
