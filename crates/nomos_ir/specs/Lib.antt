@@ -5,6 +5,7 @@ pub mod CodeParts
 pub mod CostAll
 pub mod Evaluation
 pub mod Example
+pub mod FirstOffset
 pub mod Ids
 pub mod Instruction
 pub mod Kinds
