@@ -31,7 +31,6 @@ pub mod PairLaws
 pub mod PairLemmas
 pub mod PassingSteps
 pub mod PlaceLemmas
-pub mod PlacesLemmas
 pub mod PremiseLemmas
 pub mod PremisesOver
 pub mod ReachingLaws
