@@ -46,6 +46,7 @@ pub mod StartingLemmas
 pub mod StepRows
 pub mod StrideLemmas
 pub mod StuckLaws
+pub mod UnderAmountsLaws
 pub mod VisitLemmas
 pub mod WalkingLemmas
 pub mod WayLemmas
