@@ -1,59 +1,62 @@
--- The law of rows over accounts: a declaration has a derivation exactly where it has a skeleton, affords the account at
--- each point, and the two amounts of each pair that is asked for are worth the same.
+-- The law of rows over accounts: a judgement has a derivation under amounts exactly where it has one where amounts are
+-- ignored, the account at each point is afforded, and both amounts of each pair that is asked for are worth the same.
 use Rattle.std.proofs.Common.{◌≡◌, ◌↔◌, Some, slice_get, sym, ◌∙◌, arith, ℕ, suc}
 use Rattle.nomos_ir.specs.declared.amount.Amount.{Amount}
 use Rattle.nomos_ir.specs.declared.declaration.ProcDecl.{ProcDecl}
 use Rattle.nomos_ir.specs.declared.lists.ProgramLists.{ProgramLists}
 use Rattle.nomos_types.specs.Amount.{Annotations, dths}
-use Rattle.nomos_types.specs.Derivation.{Derives, HasSkeleton}
+use Rattle.nomos_types.specs.Derivation.{Derives, Follows}
 use Rattle.nomos_types.specs.Equality.{no_amounts}
 use Rattle.nomos_types.specs.Judgement.{Judgement, IsJudgement, start_of}
 use Rattle.nomos_types.specs.Typed.{IsWellFormed}
 use Rattle.nomos_types.proofs.DerivationLaws.{derives-next}
 use Rattle.nomos_types.proofs.InversionLaws.{derives-row}
 use Rattle.nomos_types.proofs.StartLaws.{start-is_judgement}
-use Rattle.nomos_check.specs.Account.{Account, start_account, spends, Affords}
+use Rattle.nomos_check.specs.Account.{Account, spends, Affords}
 use Rattle.nomos_check.specs.Accounting.{accounts_after}
 use Rattle.nomos_check.specs.Asking.{IsAsked}
-use Rattle.nomos_check.specs.Reaching.{GetsTo, IsPoint}
+use Rattle.nomos_check.specs.Reaching.{Outset, outset_of, GetsTo, IsPointAt, IsPoint}
 use Rattle.nomos_check.specs.Reaching as reaching
 use Rattle.nomos_check.proofs.AskedLaws.{asked-worth, call-affords}
-use Rattle.nomos_check.proofs.Beside.{Beside, at-place}
+use Rattle.nomos_check.proofs.Beside.{Beside, at-place, beside-back}
 use Rattle.nomos_check.proofs.Carrying.{Provides, each-beside, no-dths, no-affords, start-beside, next-is_judgement, derivation-carried}
 use Rattle.nomos_check.proofs.ListLemmas.{paired-first}
 
--- The law of rows over accounts.
-abbrev pub DerivesByAccounts : ProgramLists → ProcDecl → Annotations → Type 0
-DerivesByAccounts lists d x =
-    Derives lists x (start_of lists x d)
-    ↔ (HasSkeleton lists d × ((a : Account) → IsPoint lists d a → Affords x a)
-    × ((p : Amount × Amount) → IsAsked lists d p → dths x p.0 ≡ dths x p.1))
+-- The law of rows over accounts: of a judgement under the amounts, and the outset over which it stands.
+abbrev pub DerivesByAccounts : ProgramLists → Annotations → Judgement → Outset → Type 0
+DerivesByAccounts lists x first o =
+    Derives lists x first
+    ↔ (Derives lists no_amounts o.judgement × ((a : Account) → IsPoint lists o a → Affords x a)
+    × ((p : Amount × Amount) → IsAsked lists o p → dths x p.0 ≡ dths x p.1))
 
--- A judgement that a declaration reaches where amounts are ignored, beside the one of other amounts.
-record ReachedUnder (lists : ProgramLists) (x : Annotations) (k : Judgement) (a : Account) : Type 0 where
-  judgement : Judgement
-  own : IsJudgement lists judgement
-  other : IsJudgement lists k
-  beside : Beside x no_amounts judgement k a
-  derives : Derives lists x judgement
+-- A judgement to which a process gets where amounts are ignored, beside the one that follows under other amounts.
+pub record ReachedUnder (lists : ProgramLists) (x : Annotations) (first k : Judgement) (a : Account) : Type 0 where
+  pub judgement : Judgement
+  pub own : IsJudgement lists judgement
+  pub other : IsJudgement lists k
+  pub beside : Beside x no_amounts judgement k a
+  pub follows : Follows lists x first judgement
+  pub derives : Derives lists x judgement
 
-module _ {lists : ProgramLists} (formed : IsWellFormed lists) (p : ℕ) (d : ProcDecl)
-    (declared : slice_get lists.procs p ≡ Some d) where
+module _ {lists : ProgramLists} {x : Annotations} {o : Outset} {first : Judgement} (formed : IsWellFormed lists)
+    (own : IsJudgement lists first) (other : IsJudgement lists o.judgement)
+    (beside : Beside x no_amounts first o.judgement o.account) where
   -- ---- what a derivation gives
 
-  -- each judgement that the declaration reaches stands beside one that has a derivation
-  reached-under : (x : Annotations) (k : Judgement) (a : Account) → Derives lists x (start_of lists x d)
-      → GetsTo lists d k a → ReachedUnder lists x k a
-  reached-under x _ _ derivation reaching.start =
+  -- each judgement to which the process gets stands beside one that follows and has a derivation
+  pub reached-under : (k : Judgement) (a : Account) → Derives lists x first → GetsTo lists o k a
+      → ReachedUnder lists x first k a
+  reached-under _ _ derivation reaching.start =
       record {
-        judgement = start_of lists x d;
-        own = start-is_judgement x p formed declared;
-        other = start-is_judgement no_amounts p formed declared;
-        beside = start-beside lists x no_amounts d;
+        judgement = first;
+        own = own;
+        other = other;
+        beside = beside;
+        follows = Follows.first;
         derives = derivation;
       }
-  reached-under x k b derivation (reaching.next {j} {a = a} n after before there row among) =
-      let r = reached-under x j a derivation before in
+  reached-under k b derivation (reaching.next {j} {a = a} n after before there row among) =
+      let r = reached-under j a derivation before in
       let (own_after, own_row) = derives-row formed r.derives in
       let each = each-beside formed r.own r.beside own_row there row in
       let at = at-place k b each among in
@@ -62,30 +65,33 @@ module _ {lists : ProgramLists} (formed : IsWellFormed lists) (p : ℕ) (d : Pro
         own = next-is_judgement formed r.own own_row at.among;
         other = next-is_judgement formed r.other row (paired-first after (accounts_after lists n a) k b among);
         beside = at.beside;
+        follows = Follows.next own_after r.follows own_row at.among;
         derives = derives-next formed r.derives own_row at.among;
       }
 
   -- each point is afforded
-  point-afforded : (x : Annotations) → Derives lists x (start_of lists x d) → (a : Account) → IsPoint lists d a
-      → Affords x a
-  point-afforded x derivation a (reaching.before {j} reached) =
-      let beside = (reached-under x j a derivation reached).beside in omega (arith, beside.left)
-  point-afforded x derivation _ (reaching.called {j} {a} {at} {f} {args} reached there e found) =
-      let r = reached-under x j a derivation reached in
+  point-at-afforded : (j : Judgement) (a c : Account) → ReachedUnder lists x first j a → IsPointAt lists j a c
+      → Affords x c
+  point-at-afforded j a _ r reaching.before = let beside_there = r.beside in omega (arith, beside_there.left)
+  point-at-afforded j a _ r (reaching.called {at} {f} {args} there e found) =
       let (after, row) = derives-row formed r.derives in
       call-affords r.own r.beside row at f args e there found
 
+  point-afforded : Derives lists x first → (c : Account) → IsPoint lists o c → Affords x c
+  point-afforded derivation c point =
+      point-at-afforded point.judgement point.account c
+      (reached-under point.judgement point.account derivation point.reached) point.needs
+
   -- each pair is worth the same
-  pair-same : (x : Annotations) → Derives lists x (start_of lists x d) → (q : Amount × Amount) → IsAsked lists d q
-      → dths x q.0 ≡ dths x q.1
-  pair-same x derivation q asked =
-      let r = reached-under x asked.judgement asked.account derivation asked.reached in
+  pair-same : Derives lists x first → (q : Amount × Amount) → IsAsked lists o q → dths x q.0 ≡ dths x q.1
+  pair-same derivation q asked =
+      let r = reached-under asked.judgement asked.account derivation asked.reached in
       let (after, row) = derives-row formed r.derives in
       asked-worth r.own r.beside row q asked.asks
 
   -- a derivation gives one where amounts are ignored
-  skeleton-from : (x : Annotations) → Derives lists x (start_of lists x d) → HasSkeleton lists d
-  skeleton-from x derivation =
+  skeleton-from : Derives lists x first → Derives lists no_amounts o.judgement
+  skeleton-from derivation =
       let Any : Judgement → Account → Type 0 = λ j a. Unit {0} in
       let provides : Provides lists x no_amounts Any =
       record {
@@ -95,33 +101,38 @@ module _ {lists : ProgramLists} (formed : IsWellFormed lists) (p : ℕ) (d : Pro
         pairs = λ j a q good asks. no-dths q.0 ∙ sym (no-dths q.1);
       }
       in
-      derivation-carried formed x no_amounts Any provides (suc d.first.0) (start_of lists x d)
-      (start_of lists no_amounts d) (start_account d) (omega arith) tt (start-is_judgement x p formed declared)
-      (start-is_judgement no_amounts p formed declared) (start-beside lists x no_amounts d) derivation
+      derivation-carried formed x no_amounts Any provides (suc first.code.0) first o.judgement o.account (omega arith)
+      tt own other beside derivation
 
   -- ---- what gives a derivation
 
-  -- a skeleton gives a derivation under amounts that meet what is asked for
-  derivation-from : (x : Annotations) → HasSkeleton lists d → ((a : Account) → IsPoint lists d a → Affords x a)
-      → ((q : Amount × Amount) → IsAsked lists d q → dths x q.0 ≡ dths x q.1) → Derives lists x (start_of lists x d)
-  derivation-from x skeleton points pairs =
-      let provides : Provides lists no_amounts x (GetsTo lists d) =
+  -- one where amounts are ignored gives one under amounts that meet what is asked for
+  derivation-from : Derives lists no_amounts o.judgement → ((a : Account) → IsPoint lists o a → Affords x a)
+      → ((q : Amount × Amount) → IsAsked lists o q → dths x q.0 ≡ dths x q.1) → Derives lists x first
+  derivation-from skeleton points pairs =
+      let provides : Provides lists no_amounts x (GetsTo lists o) =
       record {
         next = λ j k a b n after reached there row among. reaching.next n after reached there row among;
-        afforded = λ j a reached. points a (reaching.before reached);
+        afforded = λ j a reached. points a
+            (record { judgement = j; account = a; reached = reached; needs = reaching.before });
         call = λ j a at f args e reached there found. points (spends e.amount a)
-            (reaching.called reached there e found);
+            (record { judgement = j; account = a; reached = reached; needs = reaching.called there e found });
         pairs = λ j a q reached asks. pairs q (record { judgement = j; account = a; reached = reached; asks = asks });
       }
       in
-      derivation-carried formed no_amounts x (GetsTo lists d) provides (suc d.first.0)
-      (start_of lists no_amounts d) (start_of lists x d) (start_account d) (omega arith) reaching.start
-      (start-is_judgement no_amounts p formed declared) (start-is_judgement x p formed declared)
-      (start-beside lists no_amounts x d) skeleton
+      derivation-carried formed no_amounts x (GetsTo lists o) provides (suc o.judgement.code.0) o.judgement first
+      o.account (omega arith) reaching.start other own (beside-back beside) skeleton
 
-  -- the law of rows over accounts
-  pub rows-law : (x : Annotations) → DerivesByAccounts lists d x
-  rows-law x = (
-    λ derivation. (skeleton-from x derivation, point-afforded x derivation, pair-same x derivation),
-    λ given. derivation-from x given.0 given.1 given.2,
+  -- the law of rows over accounts, from any judgement
+  pub rows-law-from : DerivesByAccounts lists x first o
+  rows-law-from = (
+    λ derivation. (skeleton-from derivation, point-afforded derivation, pair-same derivation),
+    λ given. derivation-from given.0 given.1 given.2,
   )
+
+-- the law of rows over accounts, of a declaration
+pub rows-law : {lists : ProgramLists} → IsWellFormed lists → (p : ℕ) (d : ProcDecl) → slice_get lists.procs p ≡ Some d
+    → (x : Annotations) → DerivesByAccounts lists x (start_of lists x d) (outset_of lists d)
+rows-law {lists} formed p d declared x =
+    rows-law-from formed (start-is_judgement x p formed declared) (start-is_judgement no_amounts p formed declared)
+    (start-beside lists x no_amounts d)

@@ -1,4 +1,5 @@
--- The amounts of the accounts that a declaration reaches are amounts of the program.
+-- What holds of all amounts of a program, and of those with which a process begins, holds of the amounts of all
+-- accounts to which it gets.
 use Rattle.std.proofs.Common.{◌≡◌, ℕ, List, [], ◌∷◌, ◌++◌, map, All, Contains, Option, Some, None, slice_get, refl, arith}
 use Rattle.std.specs.List.{flat_map}
 use Rattle.std.specs.Option.{option_to_list}
@@ -14,15 +15,16 @@ use Rattle.nomos_ir.specs.declared.declaration.ProcDecl.{ProcDecl}
 use Rattle.nomos_ir.specs.declared.ids.VarId.{VarId}
 use Rattle.nomos_ir.specs.declared.lists.ProgramLists.{ProgramLists}
 use Rattle.nomos_ir.specs.declared.type_node.TypeAt.{TypeAt}
-use Rattle.nomos_ir.specs.Amounts.{amounts_of, proc_amounts, par_amounts}
+use Rattle.nomos_ir.specs.Amounts.{IsAmount, amounts_of, proc_amounts, par_amounts}
 use Rattle.nomos_ir.specs.Bindings.{bound_to, bind, unbind}
 use Rattle.nomos_ir.specs.CodeParts.{code_amounts}
+use Rattle.nomos_ir.specs.Program.{IsProgram}
 use Rattle.nomos_ir.specs.TypeParts.{type_amounts}
 use Rattle.nomos_ir.proofs.BindingLaws.{all-after_bind, all-after_unbind, all-in_bindings_of, all-bound}
 use Rattle.nomos_types.specs.Judgement.{Judgement}
 use Rattle.nomos_check.specs.Account.{Account, start_account, gains, spends, with_lists, carried_by}
 use Rattle.nomos_check.specs.Accounting.{accounts_after, without_passed, spends_for, grows_list, parts_list}
-use Rattle.nomos_check.specs.Reaching.{GetsTo, IsPoint}
+use Rattle.nomos_check.specs.Reaching.{Outset, GetsTo, IsPointAt, IsPoint}
 use Rattle.nomos_check.specs.Reaching as reaching
 use Rattle.nomos_check.proofs.ListLemmas.{contains-part, paired-second}
 
@@ -72,69 +74,83 @@ module _ (lists : ProgramLists) where
       proc-amount p d d.amount there
       (Contains-append_right (flat_map par_amounts d.values) (d.amount ∷ []) d.amount (0, omega arith, refl))
 
+-- an amount of a program has the size of an amount
+pub program-amount : {lists : ProgramLists} → IsProgram lists → (r : Amount) → Contains (amounts_of lists) r
+    → IsAmount r
+program-amount {lists} is_program r among = All-contains IsAmount (amounts_of lists) r is_program.amounts among
+
 -- ---- accounts
 
--- each amount of the account is one of the program
-pub record HasAmountsOf (program : ProgramLists) (a : Account) : Type 0 where
-  pub gained : All (Contains (amounts_of program)) a.gained
-  pub spent : All (Contains (amounts_of program)) a.spent
-  pub lists : All (λ b. Contains (amounts_of program) b.1) a.lists
+-- each amount of the account has the property
+pub record HasAmounts (P : Amount → Type 0) (a : Account) : Type 0 where
+  pub gained : All P a.gained
+  pub spent : All P a.spent
+  pub lists : All (λ b. P b.1) a.lists
 
-module _ (program : ProgramLists) where
+-- so has each what follows from the property
+pub amounts-weaker : {P Q : Amount → Type 0} (a : Account) → ((r : Amount) → P r → Q r) → HasAmounts P a
+    → HasAmounts Q a
+amounts-weaker {P} {Q} a weaker amounts =
+    record {
+      gained = All-weaker P Q weaker a.gained amounts.gained;
+      spent = All-weaker P Q weaker a.spent amounts.spent;
+      lists = All-weaker (λ (b : VarId × Amount). P b.1) (λ b. Q b.1) (λ b. weaker b.1) a.lists amounts.lists;
+    }
+
+module _ (P : Amount → Type 0) where
   -- an amount more
-  pub spends-amounts : (r : Amount) (a : Account) → Contains (amounts_of program) r → HasAmountsOf program a
-      → HasAmountsOf program (spends r a)
+  pub spends-amounts : (r : Amount) (a : Account) → P r → HasAmounts P a
+      → HasAmounts P (spends r a)
   spends-amounts r a among amounts =
       record {
         gained = amounts.gained;
-        spent = All-cons (Contains (amounts_of program)) r a.spent among amounts.spent;
+        spent = All-cons P r a.spent among amounts.spent;
         lists = amounts.lists;
       }
 
-  pub gains-amounts : (r : Amount) (a : Account) → Contains (amounts_of program) r → HasAmountsOf program a
-      → HasAmountsOf program (gains r a)
+  pub gains-amounts : (r : Amount) (a : Account) → P r → HasAmounts P a
+      → HasAmounts P (gains r a)
   gains-amounts r a among amounts =
       record {
-        gained = All-cons (Contains (amounts_of program)) r a.gained among amounts.gained;
+        gained = All-cons P r a.gained among amounts.gained;
         spent = amounts.spent;
         lists = amounts.lists;
       }
 
   -- other lists
-  lists-amounts : (a : Account) (bs : List (VarId × Amount)) → HasAmountsOf program a
-      → All (λ b. Contains (amounts_of program) b.1) bs
-      → HasAmountsOf program (with_lists a bs)
+  lists-amounts : (a : Account) (bs : List (VarId × Amount)) → HasAmounts P a
+      → All (λ b. P b.1) bs
+      → HasAmounts P (with_lists a bs)
   lists-amounts a bs amounts all = record { gained = amounts.gained; spent = amounts.spent; lists = all }
 
   -- lists that are passed on
-  passed-amounts : (args : List ValueArg) (bs : List (VarId × Amount)) → All (λ b. Contains (amounts_of program) b.1) bs
-      → All (λ b. Contains (amounts_of program) b.1) (without_passed args bs)
+  passed-amounts : (args : List ValueArg) (bs : List (VarId × Amount)) → All (λ b. P b.1) bs
+      → All (λ b. P b.1) (without_passed args bs)
   passed-amounts [] bs all = all
   passed-amounts (arg.Term e ∷ args) bs all = passed-amounts args bs all
   passed-amounts (arg.List w ∷ args) bs all =
-      passed-amounts args (unbind w.0 bs) (all-after_unbind (Contains (amounts_of program)) w.0 bs all)
+      passed-amounts args (unbind w.0 bs) (all-after_unbind P w.0 bs all)
 
   -- one account
-  one-account : (b : Account) → HasAmountsOf program b → All (HasAmountsOf program) (b ∷ [])
-  one-account b amounts = All-cons (HasAmountsOf program) b [] amounts (All-nil (HasAmountsOf program))
+  one-account : (b : Account) → HasAmounts P b → All (HasAmounts P) (b ∷ [])
+  one-account b amounts = All-cons (HasAmounts P) b [] amounts (All-nil (HasAmounts P))
 
-  two-accounts : (b c : Account) → HasAmountsOf program b → HasAmountsOf program c
-      → All (HasAmountsOf program) (b ∷ c ∷ [])
-  two-accounts b c first second = All-cons (HasAmountsOf program) b (c ∷ []) first (one-account c second)
+  two-accounts : (b c : Account) → HasAmounts P b → HasAmounts P c
+      → All (HasAmounts P) (b ∷ c ∷ [])
+  two-accounts b c first second = All-cons (HasAmounts P) b (c ∷ []) first (one-account c second)
 
   -- the arms have the same account
-  arms-accounts : (a : Account) (arms : List Arm) → HasAmountsOf program a
-      → All (HasAmountsOf program) (map (λ arm. a) arms)
-  arms-accounts a [] amounts = All-nil (HasAmountsOf program)
+  arms-accounts : (a : Account) (arms : List Arm) → HasAmounts P a
+      → All (HasAmounts P) (map (λ arm. a) arms)
+  arms-accounts a [] amounts = All-nil (HasAmounts P)
   arms-accounts a (arm ∷ arms) amounts =
-      All-cons (HasAmountsOf program) a (map (λ b. a) arms) amounts (arms-accounts a arms amounts)
+      All-cons (HasAmounts P) a (map (λ b. a) arms) amounts (arms-accounts a arms amounts)
 
   -- a list that grows, if it is there
-  grown-accounts : (o : Option Amount) (v w : VarId) (a : Account) → bound_to w.0 a.lists ≡ o → HasAmountsOf program a
-      → All (HasAmountsOf program) (grows_list o v w a)
-  grown-accounts None v w a found amounts = All-nil (HasAmountsOf program)
+  grown-accounts : (o : Option Amount) (v w : VarId) (a : Account) → bound_to w.0 a.lists ≡ o → HasAmounts P a
+      → All (HasAmounts P) (grows_list o v w a)
+  grown-accounts None v w a found amounts = All-nil (HasAmounts P)
   grown-accounts (Some r) v w a found amounts =
-      let P = Contains (amounts_of program) in
       let among : P r = all-bound P w.0 r a.lists amounts.lists found in
       let grown = bind v r (unbind w.0 a.lists) in
       let all = all-after_bind P v r (unbind w.0 a.lists) (all-after_unbind P w.0 a.lists amounts.lists) among in
@@ -143,11 +159,10 @@ module _ (program : ProgramLists) where
 
   -- a list that is taken apart, if it is there
   parted-accounts : (o : Option Amount) (w tail : VarId) (a : Account) → bound_to w.0 a.lists ≡ o
-      → HasAmountsOf program a
-      → All (HasAmountsOf program) (parts_list o w tail a)
-  parted-accounts None w tail a found amounts = All-nil (HasAmountsOf program)
+      → HasAmounts P a
+      → All (HasAmounts P) (parts_list o w tail a)
+  parted-accounts None w tail a found amounts = All-nil (HasAmounts P)
   parted-accounts (Some r) w tail a found amounts =
-      let P = Contains (amounts_of program) in
       let among : P r = all-bound P w.0 r a.lists amounts.lists found in
       let left = unbind w.0 a.lists in
       let parted = bind tail r left in
@@ -156,71 +171,69 @@ module _ (program : ProgramLists) where
       two-accounts (with_lists a left) (gains r (with_lists a parted)) (lists-amounts a left amounts left_all)
       (gains-amounts r (with_lists a parted) among (lists-amounts a parted amounts all))
 
-module _ (lists : ProgramLists) where
+module _ (lists : ProgramLists) (P : Amount → Type 0) (known : (r : Amount) → Contains (amounts_of lists) r → P r) where
   -- what is spent for a declaration
   declared-amounts : (f : ℕ) (o : Option ProcDecl) (a : Account) → slice_get lists.procs f ≡ o
-      → HasAmountsOf lists a → HasAmountsOf lists (spends_for o a)
+      → HasAmounts P a → HasAmounts P (spends_for o a)
   declared-amounts f None a found amounts = amounts
   declared-amounts f (Some d) a found amounts =
-      spends-amounts lists d.amount a (declared-amount lists f d found) amounts
+      spends-amounts P d.amount a (known d.amount (declared-amount lists f d found)) amounts
 
   -- the accounts after an instruction
   amounts-after : (c : ℕ) (n : CodeNode) (a : Account) → slice_get lists.code c ≡ Some n
-      → HasAmountsOf lists a → All (HasAmountsOf lists) (accounts_after lists n a)
-  amounts-after c (code.Case at x arms) a there amounts = arms-accounts lists a arms amounts
+      → HasAmounts P a → All (HasAmounts P) (accounts_after lists n a)
+  amounts-after c (code.Case at x arms) a there amounts = arms-accounts P a arms amounts
   amounts-after c (code.Pay at x r next) a there amounts =
-      let among = code-amount lists c (code.Pay at x r next) r there (0, omega arith, refl) in
-      one-account lists (spends r a) (spends-amounts lists r a among amounts)
+      let among = known r (code-amount lists c (code.Pay at x r next) r there (0, omega arith, refl)) in
+      one-account P (spends r a) (spends-amounts P r a among amounts)
   amounts-after c (code.Get at x r next) a there amounts =
-      let among = code-amount lists c (code.Get at x r next) r there (0, omega arith, refl) in
-      one-account lists (gains r a) (gains-amounts lists r a among amounts)
+      let among = known r (code-amount lists c (code.Get at x r next) r there (0, omega arith, refl)) in
+      one-account P (gains r a) (gains-amounts P r a among amounts)
   amounts-after c (code.Work at r next) a there amounts =
-      let among = code-amount lists c (code.Work at r next) r there (0, omega arith, refl) in
-      one-account lists (spends r a) (spends-amounts lists r a among amounts)
+      let among = known r (code-amount lists c (code.Work at r next) r there (0, omega arith, refl)) in
+      one-account P (spends r a) (spends-amounts P r a among amounts)
   amounts-after c (code.Spawn at v f args next) a there amounts =
       let left = with_lists a (without_passed args.values a.lists) in
-      let left_amounts = lists-amounts lists a left.lists amounts
-      (passed-amounts lists args.values a.lists amounts.lists) in
-      one-account lists (spends_for (slice_get lists.procs f.0) left)
+      let left_amounts = lists-amounts P a left.lists amounts
+      (passed-amounts P args.values a.lists amounts.lists) in
+      one-account P (spends_for (slice_get lists.procs f.0) left)
       (declared-amounts f.0 (slice_get lists.procs f.0) left refl left_amounts)
-  amounts-after c (code.If at e then_next else_next) a there amounts = two-accounts lists a a amounts amounts
-  amounts-after c (code.Close at) a there amounts = All-nil (HasAmountsOf lists)
-  amounts-after c (code.Fwd at v) a there amounts = All-nil (HasAmountsOf lists)
-  amounts-after c (code.Call at f args) a there amounts = All-nil (HasAmountsOf lists)
+  amounts-after c (code.If at e then_next else_next) a there amounts = two-accounts P a a amounts amounts
+  amounts-after c (code.Close at) a there amounts = All-nil (HasAmounts P)
+  amounts-after c (code.Fwd at v) a there amounts = All-nil (HasAmounts P)
+  amounts-after c (code.Call at f args) a there amounts = All-nil (HasAmounts P)
   amounts-after c (code.Empty at v r kind next) a there amounts =
-      let among = code-amount lists c (code.Empty at v r kind next) r there (0, omega arith, refl) in
-      let all = all-after_bind (Contains (amounts_of lists)) v r a.lists amounts.lists among in
-      one-account lists (with_lists a (bind v r a.lists)) (lists-amounts lists a (bind v r a.lists) amounts all)
+      let among = known r (code-amount lists c (code.Empty at v r kind next) r there (0, omega arith, refl)) in
+      let all = all-after_bind P v r a.lists amounts.lists among in
+      one-account P (with_lists a (bind v r a.lists)) (lists-amounts P a (bind v r a.lists) amounts all)
   amounts-after c (code.Add at v e w next) a there amounts =
-      grown-accounts lists (bound_to w.0 a.lists) v w a refl amounts
+      grown-accounts P (bound_to w.0 a.lists) v w a refl amounts
   amounts-after c (code.Match at w empty_next head tail full_next) a there amounts =
-      parted-accounts lists (bound_to w.0 a.lists) w tail a refl amounts
-  amounts-after c n a there amounts = one-account lists a amounts
+      parted-accounts P (bound_to w.0 a.lists) w tail a refl amounts
+  amounts-after c n a there amounts = one-account P a amounts
 
   -- one more parameter is a list or not
-  parameter-amounts : (v : VarId) (o : Option Amount) → All (Contains (amounts_of lists)) (option_to_list o)
-      → All (λ b. Contains (amounts_of lists) b.1) (carried_by v o)
-  parameter-amounts v None all = All-nil (λ b. Contains (amounts_of lists) b.1)
+  parameter-amounts : (v : VarId) (o : Option Amount) → All P (option_to_list o)
+      → All (λ b. P b.1) (carried_by v o)
+  parameter-amounts v None all = All-nil (λ b. P b.1)
   parameter-amounts v (Some r) all =
-      let P = Contains (amounts_of lists) in
       All-cons (λ b. P b.1) (v, r) [] (All-head P r [] all) (All-nil (λ b. P b.1))
 
-  parameters-amounts : (pars : List Par) → All (Contains (amounts_of lists)) (flat_map par_amounts pars)
-      → All (λ b. Contains (amounts_of lists) b.1) (flat_map (λ par. carried_by par.var par.amount) pars)
-  parameters-amounts [] all = All-nil (λ b. Contains (amounts_of lists) b.1)
+  parameters-amounts : (pars : List Par) → All P (flat_map par_amounts pars)
+      → All (λ b. P b.1) (flat_map (λ par. carried_by par.var par.amount) pars)
+  parameters-amounts [] all = All-nil (λ b. P b.1)
   parameters-amounts (par ∷ pars) all =
-      let P = Contains (amounts_of lists) in
       let both = all-split P (par_amounts par) (flat_map par_amounts pars) all in
       All-append (λ b. P b.1) (carried_by par.var par.amount) (flat_map (λ (q : Par). carried_by q.var q.amount) pars)
       (parameter-amounts par.var par.amount both.0) (parameters-amounts pars both.1)
 
   -- the account at the start of a declaration
-  start-amounts : (p : ℕ) (d : ProcDecl) → slice_get lists.procs p ≡ Some d
-      → HasAmountsOf lists (start_account d)
+  pub start-amounts : (p : ℕ) (d : ProcDecl) → slice_get lists.procs p ≡ Some d
+      → HasAmounts P (start_account d)
   start-amounts p d there =
-      let P = Contains (amounts_of lists) in
       let its : All P (proc_amounts d) =
-      All-weaker (Contains (proc_amounts d)) P (λ r among. proc-amount lists p d r there among) (proc_amounts d)
+      All-weaker (Contains (proc_amounts d)) P (λ r among. known r (proc-amount lists p d r there among))
+      (proc_amounts d)
       (All-contains_itself (proc_amounts d))
       in
       let both = all-split P (flat_map par_amounts d.values) (d.amount ∷ []) its in
@@ -231,19 +244,22 @@ module _ (lists : ProgramLists) where
             (parameters-amounts d.values both.0);
       }
 
-  -- each account that the declaration reaches
-  pub reached-amounts : (p : ℕ) (d : ProcDecl) (j : Judgement) (a : Account) → slice_get lists.procs p ≡ Some d
-      → GetsTo lists d j a → HasAmountsOf lists a
-  reached-amounts p d _ _ there reaching.start = start-amounts p d there
-  reached-amounts p d k b there (reaching.next {j} {a = a} n after before stands row among) =
-      All-contains (HasAmountsOf lists) (accounts_after lists n a) b
-      (amounts-after j.code.0 n a stands (reached-amounts p d j a there before))
+  -- each account to which the process gets
+  pub reached-amounts : {o : Outset} → HasAmounts P o.account → (j : Judgement) (a : Account) → GetsTo lists o j a
+      → HasAmounts P a
+  reached-amounts begins _ _ reaching.start = begins
+  reached-amounts begins k b (reaching.next {j} {a = a} n after before stands row among) =
+      All-contains (HasAmounts P) (accounts_after lists n a) b
+      (amounts-after j.code.0 n a stands (reached-amounts begins j a before))
       (paired-second after (accounts_after lists n a) k b among)
 
   -- and each point of it
-  pub point-amounts : (p : ℕ) (d : ProcDecl) (a : Account) → slice_get lists.procs p ≡ Some d → IsPoint lists d a
-      → HasAmountsOf lists a
-  point-amounts p d a there (reaching.before {j} reached) = reached-amounts p d j a there reached
-  point-amounts p d _ there (reaching.called {j} {a} {f = f} reached stands e found) =
-      spends-amounts lists e.amount a (declared-amount lists f.0 e found)
-      (reached-amounts p d j a there reached)
+  point-at-amounts : (j : Judgement) (a c : Account) → HasAmounts P a → IsPointAt lists j a c → HasAmounts P c
+  point-at-amounts j a _ amounts reaching.before = amounts
+  point-at-amounts j a _ amounts (reaching.called {f = f} stands e found) =
+      spends-amounts P e.amount a (known e.amount (declared-amount lists f.0 e found)) amounts
+
+  pub point-amounts : {o : Outset} → HasAmounts P o.account → (c : Account) → IsPoint lists o c → HasAmounts P c
+  point-amounts begins c point =
+      point-at-amounts point.judgement point.account c
+      (reached-amounts begins point.judgement point.account point.reached) point.needs

@@ -20,7 +20,7 @@ use Rattle.nomos_types.specs.Judgement.{Judgement, ListType, IsFree, channel_typ
 use Rattle.nomos_types.specs.Premises.{HasType}
 use Rattle.nomos_types.specs.Row.{StandsAtCode, gives_up}
 use Rattle.nomos_check.specs.Account.{Account, gains, spends, with_lists, worth_of, Affords}
-use Rattle.nomos_check.proofs.ListAmounts.{CarryBoth, list_at, counted-both, bind-both, unbind-both, second-both}
+use Rattle.nomos_check.proofs.ListAmounts.{CarryBoth, list_at, counted-both, bind-both, unbind-both, second-both, both-back}
 
 -- the judgement with other lists and another potential
 abbrev pub changed : Judgement → List (VarId × ListType) → ℕ → Judgement
@@ -328,3 +328,20 @@ judgements-paired (more {k = k} beside rest) = ap (λ (ls : List Judgement). k �
 pub second-beside : {x y : Annotations} {j k : Judgement} {a : Account} → Beside x y j k a → Beside y y k k a
 second-beside beside =
     record { same = refl; lists = second-both beside.lists; left = beside.right; right = beside.right }
+
+-- ---- the other way round
+
+-- the two sides change places
+pub beside-back : {x y : Annotations} {j k : Judgement} {a : Account} → Beside x y j k a → Beside y x k j a
+beside-back {j = j} {k = k} beside =
+    record {
+      same = sym (ap (λ (s : Judgement). changed s j.lists j.q) beside.same);
+      lists = both-back beside.lists;
+      left = beside.right;
+      right = beside.left;
+    }
+
+pub each-back : {x y : Annotations} {js ks : List Judgement} {bs : List Account} → EachBeside x y js ks bs
+    → EachBeside y x ks js bs
+each-back none = none
+each-back (more beside rest) = more (beside-back beside) (each-back rest)

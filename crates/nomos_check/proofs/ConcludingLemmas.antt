@@ -5,24 +5,22 @@ use Rattle.std.proofs.lemmas.List.Elements.{All-weaker, All-contains_itself, Con
 use Rattle.nomos_ir.specs.declared.amount.Amount.{Amount}
 use Rattle.nomos_ir.specs.declared.declaration.ProcDecl.{ProcDecl}
 use Rattle.nomos_ir.specs.declared.lists.ProgramLists.{ProgramLists}
-use Rattle.nomos_ir.specs.Amounts.{star_count}
+use Rattle.nomos_ir.specs.Amounts.{IsAmount, star_count}
 use Rattle.nomos_equality.specs.Comparing.{Compared, nothing_compared}
 use Rattle.nomos_forms.specs.Bounds.{IsForm}
 use Rattle.nomos_forms.specs.declared.form.Form.{Form}
-use Rattle.nomos_types.specs.Equality.{no_amounts}
-use Rattle.nomos_types.specs.Judgement.{Judgement, start_of}
+use Rattle.nomos_types.specs.Judgement.{Judgement}
 use Rattle.nomos_types.specs.Typed.{IsWellFormed}
+use Rattle.nomos_check.proofs.AmountLaws.{program-amount, start-amounts}
 use Rattle.nomos_check.proofs.MemberLemmas.{contains-none}
-use Rattle.nomos_check.proofs.PlacesLemmas.{reaches-leads}
-use Rattle.nomos_check.proofs.ReachingLaws.{follows-reaches, reaches-follows}
+use Rattle.nomos_check.proofs.ReachingLaws.{HasItsAccount, start-has, follows-reaches, reaches-follows}
 use Rattle.nomos_check.proofs.RowsLaws.{needs-rows-law, derives-skeleton}
-use Rattle.nomos_check.proofs.SizeLaws.{point-is_form}
+use Rattle.nomos_check.proofs.SizeLaws.{start-count, point-is_form}
 use Rattle.nomos_check.proofs.StuckLaws.{rows-skeleton, rowless-stuck, stuck-rowless, stuck-no_skeleton}
-use Rattle.nomos_check.specs.Account.{Account, start_account, form_of}
 use Rattle.nomos_check.specs.Asking.{IsAsked}
 use Rattle.nomos_check.specs.Checking.{IsFirstStuck, NeedsRows, NeedsChecked, NeedsBeside, AnswersProcess, AnswersBeside}
 use Rattle.nomos_ir.specs.Instruction.{code_offset}
-use Rattle.nomos_check.specs.Reaching.{GetsTo, IsPoint, IsFormOf}
+use Rattle.nomos_check.specs.Reaching.{Outset, outset_of, GetsTo, IsFormOf}
 use Rattle.nomos_check.specs.declared.checking.Checked.{Checked}
 use Rattle.nomos_check.specs.declared.checking.ProcError.{ProcError}
 use Rattle.nomos_check.specs.declared.checking.ProcError.TheVariants as error
@@ -32,63 +30,53 @@ use Rattle.nomos_check.specs.declared.walk.Walk.{Walk}
 use Rattle.nomos_check.specs.mirror.ProcessAnswers.{IsGathered, JoinsPairs}
 use Rattle.nomos_check.specs.mirror.Fresh.{IsFresh}
 use Rattle.nomos_check.specs.mirror.StartingWalk.{IsStartOf}
-use Rattle.nomos_check.specs.mirror.Walking.{LeadsFrom, IsPointAt, IsStuckBy, AtStanding, IsPending, IsReached, IsOpen, IsOnWay, IsWalk, Walking, Goes}
+use Rattle.nomos_check.specs.mirror.Walking.{LeadsFrom, StaysWithin, IsStuckBy, AtStanding, IsPending, IsReached, IsOpen, IsOnWay, IsWalk, Walking, Goes}
 
--- a declaration is reached where it begins
-pub start-reached : {lists : ProgramLists} {n : ℕ} (d : ProcDecl) (s : Standing) → IsStartOf lists n d s
-    → IsReached lists n d s
-start-reached {lists} d s is = record {
-  account = start_account d;
+-- a process gets to where it begins
+pub start-reached : {lists : ProgramLists} {n : ℕ} (o : Outset) (s : Standing) → IsStartOf n o s
+    → IsReached lists n o s
+start-reached {lists} o s is = record {
+  account = o.account;
   has = is.has;
-  reached = subst (λ (j : Judgement). GetsTo lists d j (start_account d)) (sym is.shape) GetsTo.start;
+  reached = subst (λ (j : Judgement). GetsTo lists o j o.account) (sym is.shape) GetsTo.start;
 }
 
-module _ {lists : ProgramLists} {n : ℕ} (p : ℕ) (d : ProcDecl) (found : slice_get lists.procs p ≡ Some d) (s : Standing)
-    (is : IsStartOf lists n d s) (old : Walk) (fresh : IsFresh old) where
+module _ {lists : ProgramLists} {n : ℕ} (o : Outset) (within : StaysWithin lists n o) (s : Standing)
+    (is : IsStartOf n o s) (old : Walk) (fresh : IsFresh old) where
   pub start-on_way : IsOnWay lists n s
-  start-on_way = record { place = p; declared = d; found = found; reached = start-reached d s is }
+  start-on_way = record { outset = o; within = within; reached = start-reached o s is }
 
-  -- what is done from there on is a walk of the declaration
-  pub start-walking : (new : Walk) → Goes lists n s old new
-      → Walking lists n d (start_of lists no_amounts d) (start_account d) old new.todo new
+  -- what is done from there on is a walk
+  pub start-walking : (new : Walk) → Goes lists n s old new → Walking lists n o old new.todo new
   start-walking new goes =
-      let reached = start-reached d s is in
+      let reached = start-reached o s is in
       let all : new.todo ≡ goes.added = goes.todo ∙ ap (λ l. goes.added ++ l) fresh.todo ∙ append-nil goes.added in
       record {
         complete =
             λ j a leads.
             let from : AtStanding lists n s j a = record {
-              account = start_account d;
+              account = o.account;
               has = is.has;
-              leads = subst (λ (k : Judgement). LeadsFrom lists k (start_account d) j a) (sym is.shape) leads;
+              leads = subst (λ (k : Judgement). LeadsFrom lists k o.account j a) (sym is.shape) leads;
             } in
             ⊎_elim (λ done. inl done)
             (λ (left : IsPending lists n goes.added j a). inr (subst (λ l. IsPending lists n l j a) (sym all) left))
             (goes.complete j a from);
-        gathers = goes.gathers d reached;
+        gathers = goes.gathers o reached;
         grows = goes.grows;
-        is_open = subst (All (IsOpen lists n d)) (sym all) (goes.is_open d reached);
+        is_open = subst (All (IsOpen lists n o)) (sym all) (goes.is_open o reached);
       }
 
   pub start-walk : (new : Walk) → Goes lists n s old new → IsWalk lists n new.todo new
-  start-walk new goes = record {
-    place = p;
-    declared = d;
-    found = found;
-    judgement = start_of lists no_amounts d;
-    account = start_account d;
-    first = old;
-    walking = start-walking new goes;
-  }
+  start-walk new goes = record { outset = o; within = within; first = old; walking = start-walking new goes }
 
   -- at the end all is gathered
-  pub all-gathered : (new : Walk) → Walking lists n d (start_of lists no_amounts d) (start_account d) old [] new
-      → IsGathered lists n d old.asked.equalities new
+  pub all-gathered : (new : Walk) → Walking lists n o old [] new → IsGathered lists n o old.asked.equalities new
   all-gathered new walking = record {
     done =
         λ j a reached.
         ⊎_elim (λ done. done) (λ (left : IsPending lists n [] j a). absurd (contains-none left.forks left.among))
-        (walking.complete j a (reaches-leads reached));
+        (walking.complete j a reached);
     forms =
         λ f among.
         ⊎_elim (λ early. absurd (contains-none f (subst (λ (l : List Form). Contains l f) fresh.forms early)))
@@ -110,15 +98,15 @@ module _ {lists : ProgramLists} {n : ℕ} (p : ℕ) (d : ProcDecl) (found : slic
 
 module _ {lists : ProgramLists} (p : ℕ) (d : ProcDecl) (formed : IsWellFormed lists)
     (found : slice_get lists.procs p ≡ Some d) where
-  module _ (known : Compared) (w : Walk) (gathered : IsGathered lists (star_count lists) d known w) where
-    point-there : (f : Form) (a : Account) → IsPoint lists d a → f ≡ form_of (star_count lists) a
-        → Contains w.forms.items f
-    point-there f _ (IsPoint.before {j} {a} reached) same = (gathered.done j a reached).forms f (IsPointAt.before same)
-    point-there f _ (IsPoint.called {j} {a} reached stands e there) same =
-        (gathered.done j a reached).forms f (IsPointAt.called stands e there same)
+  begins : HasItsAccount lists (outset_of lists d).judgement (outset_of lists d).account
+  begins = start-has p formed found
 
-    form-there : (f : Form) → IsFormOf lists (star_count lists) d f → Contains w.forms.items f
-    form-there f of = point-there f of.account of.point of.same
+  module _ (known : Compared) (w : Walk) (gathered : IsGathered lists (star_count lists)
+      (outset_of lists d) known w) where
+    form-there : (f : Form) → IsFormOf lists (star_count lists) (outset_of lists d) f → Contains w.forms.items f
+    form-there f of =
+        let point = of.point in
+        (gathered.done point.judgement point.account point.reached).forms f (of.account, point.needs, of.same)
 
     -- nothing is stuck
     pub needs-beside : w.stuck ≡ None → NeedsBeside lists (star_count lists) d known w.asked.equalities w.forms.items
@@ -126,7 +114,7 @@ module _ {lists : ProgramLists} (p : ℕ) (d : ProcDecl) (formed : IsWellFormed 
     needs-beside free = record {
       skeleton =
           rows-skeleton p formed found
-          (λ j follows. let (a, reached) = follows-reaches p formed found j follows in
+          (λ j follows. let (a, reached) = follows-reaches formed begins j follows in
           (gathered.done j a reached).row free);
       points = λ f. (gathered.forms f, form-there f);
       asked =
@@ -136,16 +124,17 @@ module _ {lists : ProgramLists} (p : ℕ) (d : ProcDecl) (formed : IsWellFormed 
             λ either.
                 ⊎_elim (λ compared. inr compared) (λ given. inl given)
                 (⊎_elim (λ early. gathered.keeps free pair early)
-                (λ (asked : IsAsked lists d pair).
+                (λ (asked : IsAsked lists (outset_of lists d) pair).
                 (gathered.done asked.judgement asked.account asked.reached).pairs free pair asked.asks)
                 either),
           );
       small =
+          let numbers = start-amounts lists IsAmount (program-amount formed.program) p d found in
           All-weaker (Contains w.forms.items) (IsForm (star_count lists))
           (λ f among.
           let of = gathered.forms f among in
-          subst (λ (g : Form). IsForm (star_count lists) g) (sym of.same) (point-is_form p
-          (star_count lists) formed found of.point))
+          subst (λ (g : Form). IsForm (star_count lists) g) (sym of.same)
+          (point-is_form (star_count lists) of.account formed numbers (start-count p formed found) of.point))
           w.forms.items (All-contains_itself w.forms.items);
     }
 
@@ -153,7 +142,7 @@ module _ {lists : ProgramLists} (p : ℕ) (d : ProcDecl) (formed : IsWellFormed 
     pub first-stuck : (t : Stuck) → w.stuck ≡ Some t → IsFirstStuck lists d t.at t.form
     first-stuck t is =
         let of = gathered.stuck t is in
-        let stuck = rowless-stuck p formed found (reaches-follows p formed found of.judgement of.account of.reached)
+        let stuck = rowless-stuck p formed found (reaches-follows formed begins of.judgement of.account of.reached)
         (λ row. of.no_row row.0 row.1) in
         let none = stuck-no_skeleton p formed found stuck in
         record {
@@ -167,7 +156,7 @@ module _ {lists : ProgramLists} (p : ℕ) (d : ProcDecl) (formed : IsWellFormed 
           };
           first =
               λ at form other.
-              let (a, reached) = follows-reaches p formed found other.judgement other.stuck.follows in
+              let (a, reached) = follows-reaches formed begins other.judgement other.stuck.follows in
               let done = gathered.done other.judgement a reached in
               let by : IsStuckBy w.stuck (code_offset other.node) =
               done.stuck (λ after row. stuck-rowless p formed found other.stuck (after, row)) other.node other.stands

@@ -14,12 +14,11 @@ use Rattle.nomos_forms.proofs.RowLaws.{dot_spread, spread_less, star_worth, spre
 use Rattle.nomos_forms.proofs.WholeLaws.{times_sum}
 use Rattle.nomos_types.specs.Amount.{Annotations, dths}
 use Rattle.nomos_check.specs.Account.{Account, worth_of, Affords, shares, form_of}
+use Rattle.nomos_check.proofs.AmountLaws.{HasAmounts}
 
 -- each amount has a star up to n
-pub record HasStarsUpTo (n : ℕ) (a : Account) : Type 0 where
-  pub gained : All (HasStarUpTo n) a.gained
-  pub spent : All (HasStarUpTo n) a.spent
-  pub lists : All (λ b. HasStarUpTo n b.1) a.lists
+abbrev pub HasStarsUpTo : ℕ → Account → Type 0
+HasStarsUpTo n a = HasAmounts (HasStarUpTo n) a
 
 -- ---- shares
 

@@ -1,9 +1,9 @@
 -- How what is gathered grows.
 use Rattle.std.proofs.Common.{◌≡◌, ◌≤◌, ◌<◌, ◌⊎◌, inl, inr, ⊎_elim, ℕ, Bool, true, false, cond, ltb, Option, Some, None, refl, arith}
-use Rattle.nomos_ir.specs.declared.declaration.ProcDecl.{ProcDecl}
 use Rattle.nomos_ir.specs.declared.lists.ProgramLists.{ProgramLists}
 use Rattle.nomos_types.specs.Judgement.{Judgement}
 use Rattle.nomos_check.specs.Account.{Account}
+use Rattle.nomos_check.specs.Reaching.{Outset}
 use Rattle.nomos_check.specs.declared.walk.Stuck.{Stuck}
 use Rattle.nomos_check.specs.declared.walk.Walk.{Walk}
 use Rattle.nomos_check.specs.mirror.Stops.{first_stuck}
@@ -38,17 +38,17 @@ done-grows grows done = record {
 }
 
 -- nothing is gathered
-pub gathers-none : {lists : ProgramLists} {n : ℕ} {d : ProcDecl} {w : Walk} → Gathers lists n d w w
+pub gathers-none : {lists : ProgramLists} {n : ℕ} {o : Outset} {w : Walk} → Gathers lists n o w w
 gathers-none = record {
   forms = λ f among. inl among;
   pairs = λ free pair has. inl has;
   stuck = λ s is. inl is;
 }
 
-module _ {lists : ProgramLists} {n : ℕ} {d : ProcDecl} where
+module _ {lists : ProgramLists} {n : ℕ} {o : Outset} where
   -- what is gathered in two stretches
-  pub gathers-through : {old between new : Walk} → Gathers lists n d old between → Grows between new
-      → Gathers lists n d between new → Gathers lists n d old new
+  pub gathers-through : {old between new : Walk} → Gathers lists n o old between → Grows between new
+      → Gathers lists n o between new → Gathers lists n o old new
   gathers-through {old} {between} {new} first grows second = record {
     forms = λ f among. ⊎_elim (λ before. first.forms f before) (λ here. inr here) (second.forms f among);
     pairs =

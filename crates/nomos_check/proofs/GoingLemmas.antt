@@ -1,7 +1,6 @@
 -- Along the code, from one standing to the next.
 use Rattle.std.proofs.Common.{◌≡◌, inl, inr, ⊎_elim, ℕ, List, [], ◌∷◌, refl, ap, ◌∙◌, arith}
 use Rattle.std.proofs.lemmas.List.Elements.{All-nil, All-cons}
-use Rattle.nomos_ir.specs.declared.declaration.ProcDecl.{ProcDecl}
 use Rattle.nomos_ir.specs.declared.lists.ProgramLists.{ProgramLists}
 use Rattle.nomos_ir.specs.Amounts.{star_count}
 use Rattle.nomos_types.proofs.InversionLaws.{row-descends}
@@ -15,6 +14,7 @@ use Rattle.nomos_check.proofs.MemberLemmas.{contains-head}
 use Rattle.nomos_check.proofs.VisitLemmas.{visits-grows, visits-gathers}
 use Rattle.nomos_check.proofs.WeightLemmas.{weight-positive, weight-rises, forks-light, work-one}
 use Rattle.nomos_check.specs.Account.{Account}
+use Rattle.nomos_check.specs.Reaching.{Outset}
 use Rattle.nomos_check.specs.declared.standing.Forks.{Forks}
 use Rattle.nomos_check.specs.declared.standing.Standing.{Standing}
 use Rattle.nomos_check.specs.declared.walk.Walk.{Walk}
@@ -32,8 +32,8 @@ module _ (lists : ProgramLists) where
     todo = refl;
     grows = grows-same;
     complete = λ j a at. inr at;
-    gathers = λ d r. gathers-none;
-    reached = λ d r. r;
+    gathers = λ o r. gathers-none;
+    reached = λ o r. r;
   }
 
   module _ (formed : IsWellFormed lists) (first s : Standing) (old between new : Walk)
@@ -42,9 +42,9 @@ module _ (lists : ProgramLists) where
     grown : Grows old new
     grown = grows-through going.grows (visits-grows visits a has)
 
-    gathered : (d : ProcDecl) → IsReached lists stars d first → Gathers lists stars d old new
-    gathered d r = gathers-through (going.gathers d r) (visits-grows visits a has) (visits-gathers visits
-        (going.reached d r))
+    gathered : (o : Outset) → IsReached lists stars o first → Gathers lists stars o old new
+    gathered o r = gathers-through (going.gathers o r) (visits-grows visits a has) (visits-gathers visits
+        (going.reached o r))
 
     -- to the next instruction
     pub going-next : (next : Standing) → LeadsTo lists s next → Going lists stars first next old new
@@ -60,7 +60,7 @@ module _ (lists : ProgramLists) where
           ⊎_elim (λ done. inl (done-grows (visits-grows visits a has) done))
           (λ there. leaves-next formed.program visits next leads j b there) (going.complete j b at);
       gathers = gathered;
-      reached = λ d r. reached-next leads (going.reached d r);
+      reached = λ o r. reached-next leads (going.reached o r);
     }
 
     -- to the end
@@ -76,7 +76,7 @@ module _ (lists : ProgramLists) where
           ⊎_elim (λ done. inl (done-grows (visits-grows visits a has) done))
           (λ there. inl (leaves-none formed.program visits ends j b there)) (going.complete j b at);
       gathers = gathered;
-      is_open = λ d r. All-nil (IsOpen lists stars d);
+      is_open = λ o r. All-nil (IsOpen lists stars o);
     }
 
   -- into several ways
@@ -100,9 +100,9 @@ module _ (lists : ProgramLists) where
             λ j b at.
             ⊎_elim (λ done. inl (done-grows grows done))
             (λ there. leaves-along formed.program f visits leads j b there) (going.complete j b at);
-        gathers = λ d r. gathers-through (going.gathers d r) grows (visits-gathers visits (going.reached d r));
+        gathers = λ o r. gathers-through (going.gathers o r) grows (visits-gathers visits (going.reached o r));
         is_open =
-            λ d r.
-            All-cons (IsOpen lists stars d) f [] (open-along f leads (going.reached d r)) (All-nil
-            (IsOpen lists stars d));
+            λ o r.
+            All-cons (IsOpen lists stars o) f [] (open-along f leads (going.reached o r)) (All-nil
+            (IsOpen lists stars o));
       }

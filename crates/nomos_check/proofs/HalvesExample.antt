@@ -25,7 +25,7 @@ use Rattle.nomos_types.specs.Row as row
 use Rattle.nomos_types.specs.Row.{Row, gives_up}
 use Rattle.nomos_check.specs.Account.{Account, start_account, gains, spends, Affords, form_of}
 use Rattle.nomos_check.specs.Asking.{IsAsked, paid, got}
-use Rattle.nomos_check.specs.Reaching.{GetsTo, IsPoint}
+use Rattle.nomos_check.specs.Reaching.{outset_of, GetsTo, IsPoint}
 use Rattle.nomos_check.specs.Reaching as reaching
 
 -- ---- the program
@@ -135,7 +135,7 @@ row-one =
     row.get refl (type_id 0)
     (record { amount = Star 1; channel = (type_id 2, refl, source-unfolds 2 refl); same = refl })
 
-reaches-one : GetsTo halves taker taker_one after_one
+reaches-one : GetsTo halves (outset_of halves taker) taker_one after_one
 reaches-one =
     reaching.next (code.Get 0 (held 0) (Star 2) (code_id 4)) (taker_one ∷ []) reaching.start refl row-one
     (0, omega arith, refl)
@@ -146,7 +146,7 @@ row-two =
     row.get refl (type_id 0)
     (record { amount = Star 1; channel = (type_id 3, refl, source-unfolds 3 refl); same = refl })
 
-reaches-two : GetsTo halves taker taker_two after_two
+reaches-two : GetsTo halves (outset_of halves taker) taker_two after_two
 reaches-two =
     reaching.next (code.Get 0 (held 1) (Star 3) (code_id 3)) (taker_two ∷ []) reaches-one refl row-two
     (0, omega arith, refl)
@@ -155,21 +155,22 @@ reaches-two =
 row-work : Row halves no_amounts taker_two (taker_worked ∷ [])
 row-work = row.work refl (omega arith)
 
-reaches-work : GetsTo halves taker taker_worked after_work
+reaches-work : GetsTo halves (outset_of halves taker) taker_worked after_work
 reaches-work =
     reaching.next (code.Work 0 (Written 1) (code_id 2)) (taker_worked ∷ []) reaches-two refl row-work
     (0, omega arith, refl)
 
 -- it has to afford that: the second and the third star are worth a unit together
-pub taker-point : IsPoint halves taker after_work
-taker-point = reaching.before reaches-work
+pub taker-point : IsPoint halves (outset_of halves taker) after_work
+taker-point =
+    record { judgement = taker_worked; account = after_work; reached = reaches-work; needs = reaching.before }
 
 pub taker-form : form_of 5 after_work
     ≡ record { coefs = pos 0 ∷ pos 1 ∷ pos 1 ∷ pos 0 ∷ pos 0 ∷ []; plus = negsuc 0 }
 taker-form = refl
 
 -- what it gets is what the type of each source says
-pub first-asked : IsAsked halves taker (Star 2, Star 1)
+pub first-asked : IsAsked halves (outset_of halves taker) (Star 2, Star 1)
 first-asked =
     record {
       judgement = taker_start;
@@ -178,7 +179,7 @@ first-asked =
       asks = got {c = held 0} refl (type_id 0) (type_id 2, refl, source-unfolds 2 refl);
     }
 
-pub second-asked : IsAsked halves taker (Star 3, Star 1)
+pub second-asked : IsAsked halves (outset_of halves taker) (Star 3, Star 1)
 second-asked =
     record {
       judgement = taker_one;
@@ -209,18 +210,22 @@ row-pay =
     })
 
 -- it has to afford what it pays: the fourth star is at least the fifth
-pub giver-point : IsPoint halves giver after_pay
+pub giver-point : IsPoint halves (outset_of halves giver) after_pay
 giver-point =
-    reaching.before
-    (reaching.next (code.Pay 0 chan.Own (Star 5) (code_id 6)) (giver_paid ∷ []) reaching.start refl row-pay
-    (0, omega arith, refl))
+    record {
+      judgement = giver_paid;
+      account = after_pay;
+      reached = reaching.next (code.Pay 0 chan.Own (Star 5) (code_id 6)) (giver_paid ∷ []) reaching.start refl row-pay
+          (0, omega arith, refl);
+      needs = reaching.before;
+    }
 
 pub giver-form : form_of 5 after_pay
     ≡ record { coefs = pos 0 ∷ pos 0 ∷ pos 0 ∷ pos 1 ∷ negsuc 0 ∷ []; plus = pos 0 }
 giver-form = refl
 
 -- and what it pays is what its type says
-pub giver-asked : IsAsked halves giver (Star 5, Star 1)
+pub giver-asked : IsAsked halves (outset_of halves giver) (Star 5, Star 1)
 giver-asked =
     record {
       judgement = giver_start;

@@ -1,7 +1,6 @@
 -- Where the code leads from a standing that was visited.
 use Rattle.std.proofs.Common.{◌≡◌, ◌⊎◌, inl, inr, ⊎_elim, List, [], ◌∷◌, map, zip, Contains, refl, sym, ap, subst}
 use Rattle.nomos_ir.specs.declared.code_node.CodeNode.{CodeNode}
-use Rattle.nomos_ir.specs.declared.declaration.ProcDecl.{ProcDecl}
 use Rattle.nomos_ir.specs.declared.lists.ProgramLists.{ProgramLists}
 use Rattle.nomos_ir.specs.Amounts.{star_count}
 use Rattle.nomos_ir.specs.Program.{IsProgram}
@@ -14,7 +13,7 @@ use Rattle.nomos_check.proofs.MemberLemmas.{contains-head, contains-none, contai
 use Rattle.nomos_check.proofs.VisitLemmas.{visits-done}
 use Rattle.nomos_check.specs.Account.{Account}
 use Rattle.nomos_check.specs.Accounting.{accounts_after}
-use Rattle.nomos_check.specs.Reaching.{GetsTo}
+use Rattle.nomos_check.specs.Reaching.{Outset, GetsTo}
 use Rattle.nomos_check.specs.declared.standing.Forks.{Forks}
 use Rattle.nomos_check.specs.declared.standing.Standing.{Standing}
 use Rattle.nomos_check.specs.declared.standing.Way.{Way}
@@ -34,21 +33,36 @@ record LeadsOver (lists : ProgramLists) (j : Judgement) (a : Account) (i : Judge
   rest : LeadsFrom lists judgement account i c
 
 -- it leads to the place itself, or over a first instruction
-leads-cases : {lists : ProgramLists} {j i : Judgement} {a c : Account} → LeadsFrom lists j a i c
+leads-cases : {lists : ProgramLists} {j : Judgement} {a : Account} {i : Judgement} {c : Account}
+    → LeadsFrom lists j a i c
     → ((j ≡ i) × (a ≡ c)) ⊎ LeadsOver lists j a i c
-leads-cases LeadsFrom.here = inl (refl, refl)
-leads-cases (LeadsFrom.later n after stands row among rest) =
-    inr (record {
+leads-cases GetsTo.start = inl (refl, refl)
+leads-cases {lists} {j} {a} {i} {c} (GetsTo.next {j = k} {a = b} n after before stands row among) =
+    ⊎_elim
+    (λ here.
+    let there : LeadsOver lists k b i c = record {
       node = n;
       after = after;
       stands = stands;
       row = row;
-      judgement = _;
-      account = _;
+      judgement = i;
+      account = c;
       among = among;
-      rest
-          = rest;
-    })
+      rest = GetsTo.start;
+    } in
+    inr (subst (λ (h : Judgement). LeadsOver lists h a i c) (sym here.0)
+    (subst (λ (e : Account). LeadsOver lists k e i c) (sym here.1) there)))
+    (λ (over : LeadsOver lists j a k b). inr (record {
+      node = over.node;
+      after = over.after;
+      stands = over.stands;
+      row = over.row;
+      judgement = over.judgement;
+      account = over.account;
+      among = over.among;
+      rest = GetsTo.next n after over.rest stands row among;
+    }))
+    (leads-cases before)
 
 pairs-parts : (j k : Judgement) (a b : Account) → ◌≡◌ {A = Judgement × Account} (j, a) (k, b) → (j ≡ k) × (a ≡ b)
 pairs-parts j k a b same = (ap (λ (q : Judgement × Account). q.0) same, ap (λ (q : Judgement × Account). q.1) same)
@@ -136,10 +150,10 @@ leaves-along {lists} is_program f {old} {new} visits leads j a at =
     }))
     (leads-cases at.leads)
 
-module _ {lists : ProgramLists} {d : ProcDecl} where
+module _ {lists : ProgramLists} {o : Outset} where
   -- what is reached next
-  pub reached-next : {s next : Standing} → LeadsTo lists s next → IsReached lists (star_count lists) d s
-      → IsReached lists (star_count lists) d next
+  pub reached-next : {s next : Standing} → LeadsTo lists s next → IsReached lists (star_count lists) o s
+      → IsReached lists (star_count lists) o next
   reached-next {s} {next} leads r =
       let (n, stands, says) = row-at leads.row in
       let (b, is, has) = leads.account n r.account stands r.has in
@@ -150,8 +164,8 @@ module _ {lists : ProgramLists} {d : ProcDecl} where
       record { account = b; has = has; reached = GetsTo.next n (shape_of next ∷ []) r.reached stands leads.row among }
 
   -- the ways that are reached
-  pub open-along : (f : Forks) → LeadsAlong lists f.before f.ways.items → IsReached lists (star_count lists) d f.before
-      → IsOpen lists (star_count lists) d f
+  pub open-along : (f : Forks) → LeadsAlong lists f.before f.ways.items → IsReached lists (star_count lists) o f.before
+      → IsOpen lists (star_count lists) o f
   open-along f leads r =
       let s = f.before in
       let ways = f.ways.items in

@@ -30,7 +30,6 @@ pub mod PairLaws
 pub mod PairLemmas
 pub mod PassingSteps
 pub mod PlaceLemmas
-pub mod PlacesLemmas
 pub mod PremiseLemmas
 pub mod ReachingLaws
 pub mod RowMaking
@@ -44,6 +43,7 @@ pub mod StartingLemmas
 pub mod StepRows
 pub mod StrideLemmas
 pub mod StuckLaws
+pub mod UnderAmountsLaws
 pub mod VisitLemmas
 pub mod WalkingLemmas
 pub mod WayLemmas

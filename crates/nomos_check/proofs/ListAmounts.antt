@@ -141,3 +141,9 @@ module _ {x y : Annotations} where
       → CarryBoth y y ms ms rs
   second-both none = none
   second-both (list v kind r rest) = list v kind r (second-both rest)
+
+-- the two sides change places
+pub both-back : {x y : Annotations} {ls ms : List (VarId × ListType)} {rs : List (VarId × Amount)}
+    → CarryBoth x y ls ms rs → CarryBoth y x ms ls rs
+both-back none = none
+both-back (list v kind r rest) = list v kind r (both-back rest)

@@ -1,4 +1,4 @@
--- Each judgement that follows from the start of a declaration is reached, with one account, which has its lists.
+-- Each judgement that follows from an outset is reached, with one account, which has its lists.
 use Rattle.std.proofs.Common.{◌≡◌, ◌≤◌, ℕ, List, Contains, Some, slice_get, zip, refl, ap, sym, subst, arith}
 use Rattle.std.proofs.lemmas.List.Elements.{All-contains}
 use Rattle.std.specs.Map.{keys_of}
@@ -14,12 +14,12 @@ use Rattle.nomos_types.specs.Row.{Row}
 use Rattle.nomos_types.specs.Typed.{IsWellFormed}
 use Rattle.nomos_types.proofs.InversionLaws.{row-descends}
 use Rattle.nomos_types.proofs.RowLaws.{row-at}
-use Rattle.nomos_types.proofs.StartLaws.{start-is_judgement, start-suits_mode}
+use Rattle.nomos_types.proofs.StartLaws.{start-is_judgement}
 use Rattle.nomos_types.proofs.SuitsModeLaws.{row-keeps_mode}
 use Rattle.nomos_types.proofs.UniqueRowLaws.{row-unique}
 use Rattle.nomos_check.specs.Account.{Account, start_account}
 use Rattle.nomos_check.specs.Accounting.{accounts_after}
-use Rattle.nomos_check.specs.Reaching.{GetsTo}
+use Rattle.nomos_check.specs.Reaching.{Outset, GetsTo}
 use Rattle.nomos_check.specs.Reaching as reaching
 use Rattle.nomos_check.proofs.Beside.{Beside, at-place, its-account, judgements-paired, second-beside}
 use Rattle.nomos_check.proofs.Carrying.{each-beside, next-is_judgement, start-beside}
@@ -32,47 +32,57 @@ pair-parts : (j k : Judgement) (a b : Account) → ◌≡◌ {A = Judgement × A
 pair-parts j k a b same =
     (ap (λ (q : Judgement × Account). q.0) same, ap (λ (q : Judgement × Account). q.1) same)
 
--- A judgement that is reached stands beside itself, with its account.
-pub record StandsReached (lists : ProgramLists) (j : Judgement) (a : Account) : Type 0 where
+-- A judgement stands beside itself, with its account.
+pub record HasItsAccount (lists : ProgramLists) (j : Judgement) (a : Account) : Type 0 where
   pub judgement : IsJudgement lists j
-  pub suits : SuitsMode lists j
   pub beside : Beside no_amounts no_amounts j j a
 
-module _ {lists : ProgramLists} {d : ProcDecl} (p : ℕ) (formed : IsWellFormed lists)
-    (declared : slice_get lists.procs p ≡ Some d) where
-  -- each judgement that is reached does so
-  pub stands-reached : (j : Judgement) (a : Account) → GetsTo lists d j a → StandsReached lists j a
-  stands-reached _ _ reaching.start =
-      record {
-        judgement = start-is_judgement no_amounts p formed declared;
-        suits = start-suits_mode no_amounts p formed declared;
-        beside = start-beside lists no_amounts no_amounts d;
-      }
+-- that at the start of a declaration does
+pub start-has : {lists : ProgramLists} {d : ProcDecl} (p : ℕ) → IsWellFormed lists → slice_get lists.procs p ≡ Some d
+    → HasItsAccount lists (start_of lists no_amounts d) (start_account d)
+start-has {lists} {d} p formed declared =
+    record {
+      judgement = start-is_judgement no_amounts p formed declared;
+      beside = start-beside lists no_amounts no_amounts d;
+    }
+
+module _ {lists : ProgramLists} {o : Outset} (formed : IsWellFormed lists)
+    (begins : HasItsAccount lists o.judgement o.account) where
+  -- so does each judgement that is reached
+  pub stands-reached : (j : Judgement) (a : Account) → GetsTo lists o j a → HasItsAccount lists j a
+  stands-reached _ _ reaching.start = begins
   stands-reached k b (reaching.next {j} {a = a} n after before there row among) =
       let s = stands-reached j a before in
       let at = at-place k b (each-beside formed s.judgement s.beside row there row) among in
       let inside = paired-first after (accounts_after lists n a) k b among in
       record {
         judgement = next-is_judgement formed s.judgement row inside;
-        suits = All-contains (SuitsMode lists) after k (row-keeps_mode formed s.judgement s.suits row) inside;
         beside = second-beside at.beside;
       }
 
+  -- and suits its mode, where the first one does
+  pub suits-reached : SuitsMode lists o.judgement → (j : Judgement) (a : Account) → GetsTo lists o j a → SuitsMode lists j
+  suits-reached first _ _ reaching.start = first
+  suits-reached first k b (reaching.next {j} {a = a} n after before there row among) =
+      let s = stands-reached j a before in
+      let inside = paired-first after (accounts_after lists n a) k b among in
+      All-contains (SuitsMode lists) after k (row-keeps_mode formed s.judgement (suits-reached first j a before) row) inside
+
   -- its lists are those of the account
-  pub reached-lists : (j : Judgement) (a : Account) → GetsTo lists d j a → keys_of j.lists ≡ keys_of a.lists
+  pub reached-lists : (j : Judgement) (a : Account) → GetsTo lists o j a → keys_of j.lists ≡ keys_of a.lists
   reached-lists j a reached = keys-both (stands-reached j a reached).beside.lists
 
-  -- what is reached follows from the start
-  pub reaches-follows : (j : Judgement) (a : Account) → GetsTo lists d j a
-      → Follows lists no_amounts (start_of lists no_amounts d) j
+  -- what is reached follows from the outset
+  pub reaches-follows : (j : Judgement) (a : Account) → GetsTo lists o j a
+      → Follows lists no_amounts o.judgement j
   reaches-follows _ _ reaching.start = following.first
   reaches-follows k b (reaching.next {j} {a = a} n after before there row among) =
       following.next after (reaches-follows j a before) row (paired-first after (accounts_after lists n a) k b among)
 
-  -- and what follows from the start is reached
-  pub follows-reaches : (j : Judgement) → Follows lists no_amounts (start_of lists no_amounts d) j
-      → (a : Account) × GetsTo lists d j a
-  follows-reaches _ following.first = (start_account d, reaching.start)
+  -- and what follows from the outset is reached
+  pub follows-reaches : (j : Judgement) → Follows lists no_amounts o.judgement j
+      → (a : Account) × GetsTo lists o j a
+  follows-reaches _ following.first = (o.account, reaching.start)
   follows-reaches k (following.next {j} after before row among) =
       let (a, reached) = follows-reaches j before in
       let (n, there, says) = row-at row in
@@ -81,7 +91,7 @@ module _ {lists : ProgramLists} {d : ProcDecl} (p : ℕ) (formed : IsWellFormed 
       (b, reaching.next n after reached there row paired)
 
   -- no instruction leads up to the first one
-  never-above : (j : Judgement) (a : Account) → GetsTo lists d j a → j.code.0 ≤ d.first.0
+  never-above : (j : Judgement) (a : Account) → GetsTo lists o j a → j.code.0 ≤ o.judgement.code.0
   never-above _ _ reaching.start = omega arith
   never-above k b (reaching.next {j} {a = a} n after before there row among) =
       let lower = row-descends formed row (paired-first after (accounts_after lists n a) k b among) in
@@ -89,14 +99,14 @@ module _ {lists : ProgramLists} {d : ProcDecl} (p : ℕ) (formed : IsWellFormed 
 
   -- so none leads to it
   not-first : (k : Judgement) (b : Account) {j : Judgement} {a : Account} (n : CodeNode) (after : List Judgement)
-      → GetsTo lists d j a → Row lists no_amounts j after → Contains (zip after (accounts_after lists n a)) (k, b)
-      → k.code ≡ d.first → ⊥
+      → GetsTo lists o j a → Row lists no_amounts j after → Contains (zip after (accounts_after lists n a)) (k, b)
+      → k.code ≡ o.judgement.code → ⊥
   not-first k b {j} {a} n after before row among first =
       let lower = row-descends formed row (paired-first after (accounts_after lists n a) k b among) in
       omega (arith, lower, never-above j a before, ap (λ (c : CodeId). c.0) first)
 
   -- at a place one judgement is reached, with one account
-  pub reaches-unique : (j k : Judgement) (a b : Account) → GetsTo lists d j a → GetsTo lists d k b → j.code ≡ k.code
+  pub reaches-unique : (j k : Judgement) (a b : Account) → GetsTo lists o j a → GetsTo lists o k b → j.code ≡ k.code
       → (j ≡ k) × (a ≡ b)
   reaches-unique _ _ _ _ reaching.start reaching.start same = (refl, refl)
   reaches-unique _ k _ b reaching.start (reaching.next n after before there row among) same =

@@ -10,7 +10,6 @@ use Rattle.nomos_ir.specs.declared.lists.ProgramLists.{ProgramLists}
 use Rattle.nomos_ir.specs.declared.type_node.TypeNode.TheVariants as node
 use Rattle.nomos_ir.specs.Bindings.{bound_to}
 use Rattle.nomos_equality.specs.Paths.{StandAtEqualPaths}
-use Rattle.nomos_ir.specs.declared.code_node.Chan.TheVariants as chan
 use Rattle.nomos_ir.specs.Program.{IsProgram}
 use Rattle.nomos_types.specs.Alike.{AlikeTypes}
 use Rattle.nomos_types.specs.Arguments.{PassesChannel}

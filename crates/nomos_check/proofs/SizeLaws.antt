@@ -15,21 +15,20 @@ use Rattle.nomos_ir.specs.declared.code_node.CodeNode.TheVariants as code
 use Rattle.nomos_ir.specs.declared.declaration.ProcDecl.{ProcDecl}
 use Rattle.nomos_ir.specs.declared.ids.VarId.{VarId}
 use Rattle.nomos_ir.specs.declared.lists.ProgramLists.{ProgramLists}
-use Rattle.nomos_ir.specs.Amounts.{amounts_of, IsAmount, star_of}
+use Rattle.nomos_ir.specs.Amounts.{IsAmount, star_of}
 use Rattle.nomos_ir.specs.Bindings.{bound_to}
 use Rattle.nomos_ir.specs.Ids.{ProcInRange}
-use Rattle.nomos_ir.specs.Program.{IsProgram}
 use Rattle.nomos_ir.proofs.NodeLaws.{All-at}
 use Rattle.nomos_forms.specs.Bounds.{IsSmall, IsForm}
 use Rattle.nomos_forms.specs.RowsOf.{share_of, units_in}
 use Rattle.nomos_types.proofs.InversionLaws.{row-descends}
 use Rattle.nomos_types.specs.Judgement.{Judgement}
 use Rattle.nomos_types.specs.Typed.{IsWellFormed}
-use Rattle.nomos_check.specs.Account.{Account, shares, form_of}
+use Rattle.nomos_check.specs.Account.{Account, start_account, shares, form_of}
 use Rattle.nomos_check.specs.Accounting.{accounts_after, spends_for, grows_list, parts_list}
-use Rattle.nomos_check.specs.Reaching.{GetsTo, IsPoint}
+use Rattle.nomos_check.specs.Reaching.{Outset, GetsTo, IsPointAt, IsPoint}
 use Rattle.nomos_check.specs.Reaching as reaching
-use Rattle.nomos_check.proofs.AmountLaws.{HasAmountsOf, point-amounts}
+use Rattle.nomos_check.proofs.AmountLaws.{HasAmounts, program-amount, point-amounts}
 use Rattle.nomos_check.proofs.ListLemmas.{paired-first, paired-second}
 
 -- how many amounts were gained and spent
@@ -81,16 +80,20 @@ module _ (a : Account) where
   count-after lists (code.Match at w empty_next head tail full_next) = parted-accounts (bound_to w.0 a.lists) w tail
   count-after lists n = one-account a (omega arith)
 
--- ---- a declaration
+-- ---- a process
 
-module _ {lists : ProgramLists} {d : ProcDecl} (p : ℕ) (formed : IsWellFormed lists)
-    (declared : slice_get lists.procs p ≡ Some d) where
+-- an account that a place has to afford has at most one amount more than that of the place
+point-at-count : {lists : ProgramLists} (j : Judgement) (a c : Account)
+    → amount_count a + j.code.0 ≤ length lists.code → IsPointAt lists j a c → amount_count c ≤ suc (length lists.code)
+point-at-count j a _ count reaching.before = omega (arith, count)
+point-at-count j a _ count (reaching.called there e found) = omega (arith, count)
+
+module _ {lists : ProgramLists} {o : Outset} (formed : IsWellFormed lists)
+    (begins : amount_count o.account + o.judgement.code.0 ≤ length lists.code) where
   -- an account has no more amounts than instructions are behind its place, and one
-  pub reached-count : (j : Judgement) (a : Account) → GetsTo lists d j a
+  pub reached-count : (j : Judgement) (a : Account) → GetsTo lists o j a
       → amount_count a + j.code.0 ≤ length lists.code
-  reached-count _ _ reaching.start =
-      let first = (All-at (ProcInRange lists) lists.procs p d formed.program.ids.procs declared).first in
-      omega (arith, first)
+  reached-count _ _ reaching.start = begins
   reached-count k b (reaching.next {j} {a = a} n after before there row among) =
       let lower = row-descends formed row (paired-first after (accounts_after lists n a) k b among) in
       let more = All-contains (OneMore a) (accounts_after lists n a) b (count-after a lists n)
@@ -99,9 +102,17 @@ module _ {lists : ProgramLists} {d : ProcDecl} (p : ℕ) (formed : IsWellFormed 
       omega (arith, lower, more, reached-count j a before)
 
   -- at a point there are at most as many amounts as the program has instructions, and one
-  pub point-count : (a : Account) → IsPoint lists d a → amount_count a ≤ suc (length lists.code)
-  point-count a (reaching.before {j} reached) = omega (arith, reached-count j a reached)
-  point-count _ (reaching.called {j} {a} reached there e found) = omega (arith, reached-count j a reached)
+  pub point-count : (c : Account) → IsPoint lists o c → amount_count c ≤ suc (length lists.code)
+  point-count c point =
+      point-at-count point.judgement point.account c (reached-count point.judgement point.account point.reached)
+      point.needs
+
+-- a declaration starts with one amount, at one of the instructions
+pub start-count : {lists : ProgramLists} {d : ProcDecl} (p : ℕ) → IsWellFormed lists
+    → slice_get lists.procs p ≡ Some d → amount_count (start_account d) + d.first.0 ≤ length lists.code
+start-count {lists} {d} p formed declared =
+    let first = (All-at (ProcInRange lists) lists.procs p d formed.program.ids.procs declared).first in
+    omega (arith, first)
 
 -- ---- numbers
 
@@ -146,22 +157,17 @@ units-size (r ∷ rs) all =
     let rest = units-size rs (All-tail IsAmount r rs all) in
     omega (arith, sum_by-cons units_in r rs, first, rest)
 
--- an account of a program's amounts has whole units of this size
-pub plus-size : {lists : ProgramLists} (n : ℕ) (a : Account) → IsProgram lists → HasAmountsOf lists a
+-- an account of such amounts has whole units of this size
+pub plus-size : (n : ℕ) (a : Account) → HasAmounts IsAmount a
     → unsigned_abs (form_of n a).plus ≤ 1000000000 * amount_count a
-plus-size {lists} n a is_program amounts =
-    let Among = Contains (amounts_of lists) in
-    let is : (r : Amount) → Among r → IsAmount r =
-    λ r among. All-contains IsAmount (amounts_of lists) r is_program.amounts among
-    in
-    let gained = units-size a.gained (All-weaker Among IsAmount is a.gained amounts.gained) in
-    let spent = units-size a.spent (All-weaker Among IsAmount is a.spent amounts.spent) in
+plus-size n a amounts =
+    let gained = units-size a.gained amounts.gained in
+    let spent = units-size a.spent amounts.spent in
     omega (arith, abs-difference (sum_by units_in a.gained) (sum_by units_in a.spent), gained, spent)
 
 -- an account with few amounts has a form of small numbers
-pub account-is_form : {lists : ProgramLists} (n : ℕ) (a : Account) → IsProgram lists → HasAmountsOf lists a
-    → amount_count a ≤ 20001 → IsForm n (form_of n a)
-account-is_form n a is_program amounts few =
+pub account-is_form : (n : ℕ) (a : Account) → HasAmounts IsAmount a → amount_count a ≤ 20001 → IsForm n (form_of n a)
+account-is_form n a amounts few =
     let f : ℕ → ℤ = λ star. shares a.gained star -ℤ shares a.spent star in
     let stars = range_with_len 1 n in
     let each : (star : ℕ) → Contains stars star → IsSmall (f star) =
@@ -170,13 +176,15 @@ account-is_form n a is_program amounts few =
       width = length-map stars f ∙ length-range_with_len 1 n;
       coefs = All-map IsSmall f stars
           (All-weaker (Contains stars) (λ star. IsSmall (f star)) each stars (All-contains_itself stars));
-      plus = omega (arith, plus-size n a is_program amounts, few);
+      plus = omega (arith, plus-size n a amounts, few);
     }
 
--- at each point of a declaration the form has small numbers
-pub point-is_form : {lists : ProgramLists} {d : ProcDecl} {a : Account} (p n : ℕ) → IsWellFormed lists
-    → slice_get lists.procs p ≡ Some d → IsPoint lists d a → IsForm n (form_of n a)
-point-is_form {lists} {d} {a} p n formed declared point =
-    let count = point-count p formed declared a point in
+-- at each point of a process the form has small numbers
+pub point-is_form : {lists : ProgramLists} {o : Outset} (n : ℕ) (c : Account) → IsWellFormed lists
+    → HasAmounts IsAmount o.account → amount_count o.account + o.judgement.code.0 ≤ length lists.code
+    → IsPoint lists o c → IsForm n (form_of n c)
+point-is_form {lists} n c formed amounts begins point =
+    let count = point-count formed begins c point in
     let small = formed.program.size.code in
-    account-is_form n a formed.program (point-amounts lists p d a declared point) (omega (arith, count, small))
+    let known = program-amount formed.program in
+    account-is_form n c (point-amounts lists IsAmount known amounts c point) (omega (arith, count, small))

@@ -26,6 +26,7 @@ use Rattle.nomos_check.specs.declared.standing.Carried.{Carried}
 use Rattle.nomos_check.specs.Room.{HasRoom}
 use Rattle.nomos_check.specs.mirror.FormLimits.{IsAmountOf}
 use Rattle.nomos_check.specs.mirror.StandingData.{each_bound, shape_of_list, amount_of}
+use Rattle.nomos_check.specs.Reaching.{outset_of}
 use Rattle.nomos_check.specs.mirror.StartingWalk.{carried_par, kinds_of, lists_of, picks, IsStartOf}
 
 -- channel parameters have the modes as which they are taken
@@ -103,7 +104,7 @@ pub start-is : (lists : ProgramLists) (n : ℕ) (d : ProcDecl) (kinds : List (Va
     → shared ≡ bindings_of (filter (λ par. picks true (is_shared lists par)) d.channels)
     → linear ≡ bindings_of (filter (λ par. picks false (is_shared lists par)) d.channels) → zero ≡ form_of n no_account
     → ((m : ℕ) (a : Account) → zero ≡ form_of m a → potential ≡ form_of m (gains d.amount a))
-    → IsStartOf lists n d (record {
+    → IsStartOf n (outset_of lists d) (record {
       mode = d.mode;
       kinds = kinds;
       lists = carried;

@@ -103,9 +103,8 @@ module _ (lists : ProgramLists) (formed : IsWellFormed lists) (first s next : St
 
     pub stride-on_way : IsOnWay lists (star_count lists) next
     stride-on_way = record {
-      place = on_way.place;
-      declared = on_way.declared;
-      found = on_way.found;
+      outset = on_way.outset;
+      within = on_way.within;
       reached = reached-next leads on_way.reached;
     }
 

@@ -1,20 +1,19 @@
 -- A standing that is visited.
 use Rattle.std.proofs.Common.{◌≡◌, inl, inr, ⊎_elim, Option, sym, ap, subst, ◌∙◌}
 use Rattle.nomos_ir.specs.declared.code_node.CodeNode.{CodeNode}
-use Rattle.nomos_ir.specs.declared.declaration.ProcDecl.{ProcDecl}
 use Rattle.nomos_ir.specs.declared.lists.ProgramLists.{ProgramLists}
 use Rattle.nomos_ir.specs.Amounts.{star_count}
 use Rattle.nomos_forms.specs.declared.form.Form.{Form}
 use Rattle.nomos_types.specs.Row.{StandsAtCode}
 use Rattle.nomos_check.proofs.GatherLemmas.{first-keeps, first-here, first-some, first-one}
-use Rattle.nomos_check.specs.Account.{Account, spends}
+use Rattle.nomos_check.specs.Account.{Account}
 use Rattle.nomos_ir.specs.Instruction.{code_offset, code_form}
-use Rattle.nomos_check.specs.Reaching.{IsFormOf, IsPoint}
+use Rattle.nomos_check.specs.Reaching.{Outset, IsFormOf}
 use Rattle.nomos_check.specs.declared.standing.Standing.{Standing}
 use Rattle.nomos_check.specs.declared.walk.Stuck.{Stuck}
 use Rattle.nomos_check.specs.declared.walk.Walk.{Walk}
 use Rattle.nomos_check.specs.mirror.StandingData.{shape_of, HasAccount}
-use Rattle.nomos_check.specs.mirror.Walking.{IsPointAt, IsStuckBy, IsDone, Grows, Gathers, StuckOf, IsReached, IsFirstStop, Visits}
+use Rattle.nomos_check.specs.mirror.Walking.{IsFormAt, IsStuckBy, IsDone, Grows, Gathers, StuckOf, IsReached, IsFirstStop, Visits}
 
 -- what is stuck there
 abbrev stop_of : CodeNode → Stuck
@@ -70,14 +69,17 @@ module _ {lists : ProgramLists} {s : Standing} {old new : Walk} (visits : Visits
   }
 
   -- and all that is gathered comes from there
-  module _ {d : ProcDecl} (r : IsReached lists (star_count lists) d s) where
-    point-form : (f : Form) → IsPointAt lists (star_count lists) (shape_of s) r.account f
-        → IsFormOf lists (star_count lists) d f
-    point-form f (IsPointAt.before same) = record { account = r.account; point = IsPoint.before r.reached; same = same }
-    point-form f (IsPointAt.called stands e found same) =
-        record { account = spends e.amount r.account; point = IsPoint.called r.reached stands e found; same = same }
+  module _ {o : Outset} (r : IsReached lists (star_count lists) o s) where
+    point-form : (f : Form) → IsFormAt lists (star_count lists) (shape_of s) r.account f
+        → IsFormOf lists (star_count lists) o f
+    point-form f (point, needs, same) =
+        record {
+          account = point;
+          point = record { judgement = shape_of s; account = r.account; reached = r.reached; needs = needs };
+          same = same;
+        }
 
-    stop-of : (stop : IsFirstStop lists s old.stuck new.stuck) (t : Stuck) → stop_of stop.node ≡ t → StuckOf lists d t
+    stop-of : (stop : IsFirstStop lists s old.stuck new.stuck) (t : Stuck) → stop_of stop.node ≡ t → StuckOf lists o t
     stop-of stop t same = record {
       judgement = shape_of s;
       account = r.account;
@@ -89,7 +91,7 @@ module _ {lists : ProgramLists} {s : Standing} {old new : Walk} (visits : Visits
       is_form = ap (λ (u : Stuck). u.form) same;
     }
 
-    pub visits-gathers : Gathers lists (star_count lists) d old new
+    pub visits-gathers : Gathers lists (star_count lists) o old new
     visits-gathers = record {
       forms = λ f among. ⊎_elim (λ early. inl early) (λ is. inr (point-form f is))
           ((visits.forms r.account r.has f).0 among);

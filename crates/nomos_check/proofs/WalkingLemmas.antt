@@ -2,7 +2,6 @@
 use Rattle.std.proofs.Common.{◌≡◌, ◌<◌, ◌⊎◌, inl, inr, ⊎_elim, ℕ, List, [], ◌∷◌, ◌++◌, All, Contains, Some, sum_by, refl, sym, ap, subst, ◌∙◌, arith}
 use Rattle.std.proofs.lemmas.List.Elements.{All-head, All-tail, All-cons, All-append, All-contains, All-pop, Contains-append_left, Contains-append_right, Contains-push, Contains-push_cases}
 use Rattle.std.proofs.lemmas.List.Sums.{sum_by-cons, sum_by-append}
-use Rattle.nomos_ir.specs.declared.declaration.ProcDecl.{ProcDecl}
 use Rattle.nomos_ir.specs.declared.lists.ProgramLists.{ProgramLists}
 use Rattle.nomos_ir.specs.Amounts.{star_count}
 use Rattle.nomos_types.proofs.FollowingLaws.{place}
@@ -14,7 +13,7 @@ use Rattle.nomos_check.proofs.MemberLemmas.{contains-head, contains-tail, contai
 use Rattle.nomos_check.proofs.WeightLemmas.{work-append, way-place}
 use Rattle.nomos_check.proofs.WithinLemmas.{within-on_way}
 use Rattle.nomos_check.specs.Account.{Account}
-use Rattle.nomos_check.specs.Reaching.{GetsTo}
+use Rattle.nomos_check.specs.Reaching.{Outset, GetsTo}
 use Rattle.nomos_check.specs.declared.standing.Forks.{Forks}
 use Rattle.nomos_check.specs.declared.standing.Standing.{Standing}
 use Rattle.nomos_check.specs.declared.standing.Way.{Way}
@@ -33,8 +32,8 @@ grows-beside w todo = record {
   none = λ free. free;
 }
 
-gathers-beside : {lists : ProgramLists} {n : ℕ} {d : ProcDecl} (w : Walk) (todo : List Forks)
-    → Gathers lists n d w (record w { todo = todo })
+gathers-beside : {lists : ProgramLists} {n : ℕ} {o : Outset} (w : Walk) (todo : List Forks)
+    → Gathers lists n o w (record w { todo = todo })
 gathers-beside w todo = record {
   forms = λ f among. inl among;
   pairs = λ free pair has. inl has;
@@ -43,7 +42,7 @@ gathers-beside w todo = record {
 
 pub walks-beside : (lists : ProgramLists) (n : ℕ) (todo : List Forks) (w : Walk) (beside : List Forks)
     → WalksOn lists n todo w todo (record w { todo = beside })
-walks-beside lists n todo w beside = λ d i c first walking. record {
+walks-beside lists n todo w beside = λ o first walking. record {
   complete = λ j a leads. ⊎_elim (λ done. inl (done-grows (grows-beside w beside) done)) (λ left. inr left)
       (walking.complete j a leads);
   gathers = gathers-through walking.gathers (grows-beside w beside) (gathers-beside w beside);
@@ -54,7 +53,7 @@ walks-beside lists n todo w beside = λ d i c first walking. record {
 module _ (lists : ProgramLists) (n : ℕ) (f : Forks) (todo : List Forks) (w : Walk) where
   -- no way is left
   pub walks-none : f.ways.items ≡ [] → WalksOn lists n (f ∷ todo) w todo w
-  walks-none none = λ d i c first walking. record {
+  walks-none none = λ o first walking. record {
     complete =
         λ j a leads.
         ⊎_elim (λ done. inl done)
@@ -85,12 +84,12 @@ module _ (lists : ProgramLists) (n : ℕ) (f : Forks) (todo : List Forks) (w : W
     inside-all : Contains f.ways.items taken
     inside-all = subst (λ (l : List Way). Contains l taken) (sym all) (Contains-push rest.ways.items taken)
 
-    pub way-reached : (d : ProcDecl) → IsOpen lists n d f → IsReached lists n d s
-    way-reached d is_open = record {
+    pub way-reached : (o : Outset) → IsOpen lists n o f → IsReached lists n o s
+    way-reached o is_open = record {
       account = way_account is_open.account taken;
       has = goes_way.account n is_open.account is_open.has;
       reached =
-          subst (λ (j : Judgement). GetsTo lists d j (way_account is_open.account taken)) (sym goes_way.shape)
+          subst (λ (j : Judgement). GetsTo lists o j (way_account is_open.account taken)) (sym goes_way.shape)
           (is_open.reached taken inside-all);
     }
 
@@ -111,18 +110,18 @@ module _ (lists : ProgramLists) (n : ℕ) (f : Forks) (todo : List Forks) (w : W
           (sym before) along.leads;
     }
 
-    open-rest : (d : ProcDecl) → IsOpen lists n d f → IsOpen lists n d rest
-    open-rest d is_open =
+    open-rest : (o : Outset) → IsOpen lists n o f → IsOpen lists n o rest
+    open-rest o is_open =
         let Open : Standing → Type 0 = λ k. HasAccount n k is_open.account in
         let parts = All-pop (IsWayOf f.before) f.ways.items rest.ways.items (Some taken) all is_open.there in
         record {
           account = is_open.account;
           has = subst Open (sym before) is_open.has;
-          base = subst (λ (k : Standing). GetsTo lists d (shape_of k) is_open.account) (sym before) is_open.base;
+          base = subst (λ (k : Standing). GetsTo lists o (shape_of k) is_open.account) (sym before) is_open.base;
           there = subst (λ (k : Standing). All (IsWayOf k) rest.ways.items) (sym before) parts.0;
           reached =
               λ v inside.
-              subst (λ (k : Standing). GetsTo lists d (way_shape (shape_of k) v) (way_account is_open.account v))
+              subst (λ (k : Standing). GetsTo lists o (way_shape (shape_of k) v) (way_account is_open.account v))
               (sym before)
               (is_open.reached v (subst (λ (l : List Way). Contains l v) (sym all)
               (Contains-append_left rest.ways.items (taken ∷ []) v inside)));
@@ -131,9 +130,9 @@ module _ (lists : ProgramLists) (n : ℕ) (f : Forks) (todo : List Forks) (w : W
     -- the others are left to do, with what is added
     pub walks-way : (new : Walk) → Goes lists n s (record w { todo = rest ∷ todo }) new
         → WalksOn lists n (f ∷ todo) w new.todo new
-    walks-way new goes = λ d i c first walking.
-        let is_open = All-head (IsOpen lists n d) f todo walking.is_open in
-        let reached = way-reached d is_open in
+    walks-way new goes = λ o first walking.
+        let is_open = All-head (IsOpen lists n o) f todo walking.is_open in
+        let reached = way-reached o is_open in
         let grows = grows-through (grows-beside w (rest ∷ todo)) goes.grows in
         let Left : Judgement → Account → Type 0 = λ j a. IsDone lists n new j a ⊎ IsPending lists n new.todo j a in
         let put : (j : Judgement) (a : Account) (g : Forks) (v : Way) → Contains (goes.added ++ rest ∷ todo) g
@@ -183,13 +182,13 @@ module _ (lists : ProgramLists) (n : ℕ) (f : Forks) (todo : List Forks) (w : W
               (walking.complete j a leads);
           gathers =
               gathers-through walking.gathers grows
-              (gathers-through (gathers-beside w (rest ∷ todo)) goes.grows (goes.gathers d reached));
+              (gathers-through (gathers-beside w (rest ∷ todo)) goes.grows (goes.gathers o reached));
           grows = grows-through walking.grows grows;
           is_open =
-              subst (All (IsOpen lists n d)) (sym goes.todo)
-              (All-append (IsOpen lists n d) goes.added (rest ∷ todo) (goes.is_open d reached)
-              (All-cons (IsOpen lists n d) rest todo (open-rest d is_open) (All-tail
-              (IsOpen lists n d) f todo walking.is_open)));
+              subst (All (IsOpen lists n o)) (sym goes.todo)
+              (All-append (IsOpen lists n o) goes.added (rest ∷ todo) (goes.is_open o reached)
+              (All-cons (IsOpen lists n o) rest todo (open-rest o is_open) (All-tail
+              (IsOpen lists n o) f todo walking.is_open)));
         }
 
     -- and less is left to do
@@ -230,28 +229,26 @@ room-by s (way.Full p) formed within there =
 
 module _ {lists : ProgramLists} (f : Forks) (todo : List Forks) (w : Walk) (formed : IsWellFormed lists)
     (walk : IsWalk lists (star_count lists) (f ∷ todo) w) where
-  first-open : IsOpen lists (star_count lists) walk.declared f
-  first-open = All-head (IsOpen lists (star_count lists) walk.declared) f todo walk.walking.is_open
+  first-open : IsOpen lists (star_count lists) walk.outset f
+  first-open = All-head (IsOpen lists (star_count lists) walk.outset) f todo walk.walking.is_open
 
   pub way-room : (v : Way) → Contains f.ways.items v → HasWayRoom f.before v
   way-room v inside =
       let on_way : IsOnWay lists (star_count lists) f.before = record {
-        place = walk.place;
-        declared = walk.declared;
-        found = walk.found;
+        outset = walk.outset;
+        within = walk.within;
         reached = record { account = first-open.account; has = first-open.has; reached = first-open.base };
       } in
-      room-by f.before v formed (within-on_way f.before formed on_way)
+      room-by f.before v formed (within-on_way f.before on_way)
       (All-contains (IsWayOf f.before) f.ways.items v first-open.there inside)
 
   pub way-on_way : (rest : Forks) → rest.before ≡ f.before → (taken : Way)
       → f.ways.items ≡ rest.ways.items ++ taken ∷ []
       → (s : Standing) → GoesWay f.before taken s → IsOnWay lists (star_count lists) s
   way-on_way rest before taken all s goes_way = record {
-    place = walk.place;
-    declared = walk.declared;
-    found = walk.found;
-    reached = way-reached lists (star_count lists) f todo w rest before taken all s goes_way walk.declared first-open;
+    outset = walk.outset;
+    within = walk.within;
+    reached = way-reached lists (star_count lists) f todo w rest before taken all s goes_way walk.outset first-open;
   }
 
 -- ---- walks as such
@@ -261,13 +258,10 @@ module _ (lists : ProgramLists) (n : ℕ) where
   pub walk-on : (todo : List Forks) (old : Walk) (rest : List Forks) (new : Walk) → WalksOn lists n todo old rest new
       → IsWalk lists n todo old → IsWalk lists n rest new
   walk-on todo old rest new on walk = record {
-    place = walk.place;
-    declared = walk.declared;
-    found = walk.found;
-    judgement = walk.judgement;
-    account = walk.account;
+    outset = walk.outset;
+    within = walk.within;
     first = walk.first;
-    walking = on walk.declared walk.judgement walk.account walk.first walk.walking;
+    walking = on walk.outset walk.first walk.walking;
   }
 
   pub walk-beside : (todo : List Forks) (w : Walk) (beside : List Forks) → IsWalk lists n todo w
@@ -277,12 +271,12 @@ module _ (lists : ProgramLists) (n : ℕ) where
 
   pub walks-through : {todo between rest : List Forks} {old mid new : Walk} → WalksOn lists n between mid rest new
       → WalksOn lists n todo old between mid → WalksOn lists n todo old rest new
-  walks-through second first = λ d i c w walking. second d i c w (first d i c w walking)
+  walks-through second first = λ o w walking. second o w (first o w walking)
 
   -- a way was taken from what was left to do
   pub popped-walks : (todo : List Forks) (w : Walk) (f : Forks) (rest : List Forks) (new : Walk) → todo ≡ f ∷ rest
       → WalksOn lists n (f ∷ rest) (record w { todo = rest }) new.todo new → WalksOn lists n todo w new.todo new
-  popped-walks todo w f rest new is on = λ d i c first walking.
-      on d i c first
-      (walks-beside lists n (f ∷ rest) w rest d i c first
-      (subst (λ (l : List Forks). Walking lists n d i c first l w) is walking))
+  popped-walks todo w f rest new is on = λ o first walking.
+      on o first
+      (walks-beside lists n (f ∷ rest) w rest o first
+      (subst (λ (l : List Forks). Walking lists n o first l w) is walking))

@@ -19,7 +19,7 @@ use Rattle.nomos_types.specs.Judgement.{Judgement}
 use Rattle.nomos_types.specs.Premises.{HasType, by_side}
 use Rattle.nomos_types.specs.Row.{StandsAtCode}
 use Rattle.nomos_check.specs.Account.{Account}
-use Rattle.nomos_check.specs.Reaching.{GetsTo}
+use Rattle.nomos_check.specs.Reaching.{Outset, GetsTo}
 
 -- the variable is that of a channel or a reference of this type
 abbrev pub IsOfType : Judgement → VarId → TypeId → Type 0
@@ -64,9 +64,9 @@ pub data AsksPair (lists : ProgramLists) (j : Judgement) (a : Account) : Amount 
   compared : {t u : TypeId} {pair : Amount × Amount} → ComparesTypes lists j t u → StandAtEqualPaths lists t u pair
       → AsksPair lists j a pair
 
--- some instruction that the declaration reaches asks for the pair
-pub record IsAsked (lists : ProgramLists) (d : ProcDecl) (pair : Amount × Amount) : Type 0 where
+-- at some place to which the process gets, the instruction asks for the pair
+pub record IsAsked (lists : ProgramLists) (o : Outset) (pair : Amount × Amount) : Type 0 where
   pub judgement : Judgement
   pub account : Account
-  pub reached : GetsTo lists d judgement account
+  pub reached : GetsTo lists o judgement account
   pub asks : AsksPair lists judgement account pair

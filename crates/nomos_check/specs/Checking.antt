@@ -18,7 +18,7 @@ use Rattle.nomos_types.specs.Derivation.{Derives, HasSkeleton, IsStuck}
 use Rattle.nomos_types.specs.Judgement.{Judgement, start_of}
 use Rattle.nomos_types.specs.Row.{StandsAtCode}
 use Rattle.nomos_check.specs.Asking.{IsAsked}
-use Rattle.nomos_check.specs.Reaching.{IsFormOf}
+use Rattle.nomos_check.specs.Reaching.{outset_of, IsFormOf}
 use Rattle.nomos_check.specs.declared.checking.Checked.{Checked}
 use Rattle.nomos_check.specs.declared.checking.ProcError.{ProcError}
 use Rattle.nomos_check.specs.declared.checking.ProcError.TheVariants as error
@@ -45,8 +45,8 @@ pub record IsFirstStuck (lists : ProgramLists) (d : ProcDecl) (at : ℕ) (f : Co
 pub record NeedsRows (lists : ProgramLists) (n : ℕ) (d : ProcDecl) (forms : List Form)
     (pairs : List (Amount × Amount)) : Type 0 where
   pub skeleton : HasSkeleton lists d
-  pub points : (f : Form) → Contains forms f ↔ IsFormOf lists n d f
-  pub asked : (p : Amount × Amount) → Contains pairs p ↔ IsAsked lists d p
+  pub points : (f : Form) → Contains forms f ↔ IsFormOf lists n (outset_of lists d) f
+  pub asked : (p : Amount × Amount) → Contains pairs p ↔ IsAsked lists (outset_of lists d) p
 
 -- each form is 0 or more
 abbrev pub AreAfforded : Annotations → List Form → Type 0
@@ -77,9 +77,9 @@ AnswersProcess lists n d (Err error.NoMemory) = Unit {0}
 pub record NeedsBeside (lists : ProgramLists) (n : ℕ) (d : ProcDecl) (old new : Compared) (forms : List Form)
     (pairs : List (Amount × Amount)) : Type 0 where
   pub skeleton : HasSkeleton lists d
-  pub points : (f : Form) → Contains forms f ↔ IsFormOf lists n d f
+  pub points : (f : Form) → Contains forms f ↔ IsFormOf lists n (outset_of lists d) f
   pub asked : (p : Amount × Amount) → (Contains pairs p ⊎ Contains new.amounts p)
-      ↔ (Contains old.amounts p ⊎ IsAsked lists d p)
+      ↔ (Contains old.amounts p ⊎ IsAsked lists (outset_of lists d) p)
   pub small : All (IsForm n) forms
 
 -- what it answers beside what was compared before

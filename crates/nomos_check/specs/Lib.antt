@@ -1,6 +1,7 @@
 pub mod Account
 pub mod Accounting
 pub mod Reaching
+pub mod UnderAmounts
 pub mod Room
 pub mod Asking
 pub mod Checker

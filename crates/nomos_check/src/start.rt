@@ -9,6 +9,7 @@ ghost use Rattle.nomos_types.specs.ModeTable.{AreModesOf};
 ghost use Rattle.nomos_types.specs.Modes.{HasMode, parameter_mode};
 ghost use Rattle.nomos_types.specs.Typed.{IsWellFormed};
 ghost use Rattle.nomos_check.specs.Checker.{IsCheckerOf};
+ghost use Rattle.nomos_check.specs.Reaching.{outset_of};
 ghost use Rattle.nomos_check.specs.mirror.StartingWalk.{bind_all, carried_par, kinds_of, lists_of, picks, one_if, IsStartOf};
 
 use crate::bound::Bound;
@@ -161,7 +162,7 @@ pub(crate) fn start(program: &Program, checker: &Checker, p: ProcId) -> Result<S
     requires p { p.0 < length program.now.procs }
     requires checker { IsCheckerOf program.now checker.now }
     ensures { IfOk result (λ s. (d : ProcDecl) → slice_get program.now.procs p.0 ≡ Some d →
-        IsStartOf program.now (star_count program.now) d s) }
+        IsStartOf (star_count program.now) (outset_of program.now d) s) }
 {
     let d = program.proc(p);
     let mut potential = Potential::none(checker.alloc, checker.stars)?;

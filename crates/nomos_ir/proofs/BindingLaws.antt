@@ -299,7 +299,7 @@ ascending-same (e ∷ a) (f ∷ b) a_ascending b_ascending same =
     ap₂ ◌∷◌ (same_first e f a b e_first f_first same variable) rest
 
 -- at one variable and at each other one: at every one
-by-variable : (P : ℕ → Type 0) (v : ℕ) → P v → ((w : ℕ) → w ≢ v → P w) → (w : ℕ) → P w
+pub by-variable : (P : ℕ → Type 0) (v : ℕ) → P v → ((w : ℕ) → w ≢ v → P w) → (w : ℕ) → P w
 by-variable P v here others w =
     elim (cases_eq w v) [ inl same ↦ subst P (sym same) here | inr other ↦ others w other ]
 

@@ -3,6 +3,7 @@ pub mod BindingLaws
 pub mod EvaluationLaws
 pub mod EvaluationLemmas
 pub mod ExampleLaws
+pub mod FirstOffsetLaws
 pub mod MappedLaws
 pub mod NameLemmas
 pub mod NodeLaws

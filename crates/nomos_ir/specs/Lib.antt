@@ -2,8 +2,10 @@ pub mod Amounts
 pub mod Bindings
 pub mod CodeForm
 pub mod CodeParts
+pub mod CostAll
 pub mod Evaluation
 pub mod Example
+pub mod FirstOffset
 pub mod Ids
 pub mod Instruction
 pub mod Kinds

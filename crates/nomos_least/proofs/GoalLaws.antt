@@ -10,10 +10,10 @@ use Rattle.std.proofs.lemmas.Option.{slice_get-get_or}
 use Rattle.std.proofs.lemmas.List.Sums.{sum_by-cons}
 use Rattle.nomos_check.specs.Account.{Account, worth_of, shares, gains, form_of, no_account}
 use Rattle.nomos_check.specs.Room.{HasRoom}
-use Rattle.nomos_check.proofs.AmountLaws.{HasAmountsOf, gains-amounts, proc-amount}
+use Rattle.nomos_check.proofs.AmountLaws.{HasAmounts, amounts-weaker, program-amount, gains-amounts, proc-amount}
 use Rattle.nomos_check.proofs.FormLaws.{form-worth}
 use Rattle.nomos_check.proofs.SizeLaws.{amount_count, account-is_form, shares-count}
-use Rattle.nomos_check.proofs.StarLaws.{account-stars, program-star}
+use Rattle.nomos_check.proofs.StarLaws.{program-star}
 use Rattle.nomos_forms.specs.Bounds.{IsForm, HasStarUpTo}
 use Rattle.nomos_forms.specs.Linear.{form_value}
 use Rattle.nomos_ir.specs.Amounts.{amounts_of, proc_amounts, star_count, star_of, IsAmount}
@@ -56,19 +56,20 @@ module _ (lists : ProgramLists) where
       let e = get_or lists.procs k d in
       proc-amount lists k e e.amount (slice_get-get_or lists.procs k d inside) (last-amount e)
 
-  gained-one : (t : Bool) (d : ProcDecl) (a : Account) → Declares lists d → HasAmountsOf lists a
-      → HasAmountsOf lists (if t then gains d.amount a else a)
-  gained-one true d a among amounts = gains-amounts lists d.amount a among amounts
+  gained-one : (t : Bool) (d : ProcDecl) (a : Account) → Declares lists d → HasAmounts (Contains (amounts_of lists)) a
+      → HasAmounts (Contains (amounts_of lists)) (if t then gains d.amount a else a)
+  gained-one true d a among amounts = gains-amounts (Contains (amounts_of lists)) d.amount a among amounts
   gained-one false d a among amounts = amounts
 
-  gained-amounts : (ds : List ProcDecl) (a : Account) → All (Declares lists) ds → HasAmountsOf lists a
-      → HasAmountsOf lists (gains_all ds a)
+  gained-amounts : (ds : List ProcDecl) (a : Account) → All (Declares lists) ds
+      → HasAmounts (Contains (amounts_of lists)) a
+      → HasAmounts (Contains (amounts_of lists)) (gains_all ds a)
   gained-amounts [] a all amounts = amounts
   gained-amounts (d ∷ ds) a all amounts =
       gained-amounts ds (gains_declared d a) (All-tail (Declares lists) d ds all)
       (gained-one (is_transaction d.mode) d a (All-head (Declares lists) d ds all) amounts)
 
-  none-amounts : HasAmountsOf lists no_account
+  none-amounts : HasAmounts (Contains (amounts_of lists)) no_account
   none-amounts =
       let Among = Contains (amounts_of lists) in
       record {
@@ -113,9 +114,10 @@ gained-is_form lists k n is_program =
       min-le_right k (length lists.procs),
     )
     in
-    account-is_form n (gains_all ds no_account) is_program
-    (gained-amounts lists ds no_account (All-take (Declares lists) k lists.procs (all-declare lists))
-    (none-amounts lists)) few
+    let amounts = gained-amounts lists ds no_account (All-take (Declares lists) k lists.procs (all-declare lists))
+    (none-amounts lists) in
+    account-is_form n (gains_all ds no_account)
+    (amounts-weaker (gains_all ds no_account) (program-amount is_program) amounts) few
 
 pub goal-is_form : (lists : ProgramLists) → IsProgram lists → IsForm (star_count lists) (goal_of lists)
 goal-is_form lists is_program =
@@ -189,9 +191,8 @@ pub goal-worth : (lists : ProgramLists) (x : Annotations) → IsProgram lists �
 goal-worth lists x is_program width =
     let n = star_count lists in
     let a = gains_all lists.procs no_account in
-    let stars = account-stars is_program a (gained-amounts lists lists.procs no_account (all-declare lists)
-    (none-amounts lists))
-    in
+    let amounts = gained-amounts lists lists.procs no_account (all-declare lists) (none-amounts lists) in
+    let stars = amounts-weaker a (λ r among. program-star r is_program among) amounts in
     let none : worth_of x a.spent ≡ 0 = ap (worth_of x) (spent-none lists.procs no_account refl) in
     form-worth x n a width stars
     ∙ less (worth_of x a.gained) (worth_of x a.spent) (all_declared x lists) none

@@ -1,4 +1,5 @@
 pub mod AnswerLaws
+pub mod CostAllLaws
 pub mod NamingLaws
 pub mod ProgramExamples
 pub mod ProgramLaws

@@ -1,11 +1,13 @@
 //! From the tree of a text to its program.
 ghost use Rattle.std.specs.Prelude.{◌≡◌, ◌≤◌, length, IfOk};
+ghost use Rattle.nomos_ir.specs.CostAll.{IsUnderCostAll};
 ghost use Rattle.nomos_program.specs.Elaborated.{Answers};
 ghost use Rattle.nomos_elaborate.specs.CostModel.{model_of};
 ghost use Rattle.nomos_elaborate.specs.Spaces.{declaring_all, no_names};
 ghost use Rattle.nomos_elaborate.specs.mirror.Checked.{Gives, found};
 ghost use Rattle.nomos_elaborate.specs.mirror.FileCheck.{begun, check_lists, lists_made};
 ghost use Rattle.nomos_surface.specs.TreeBounds.{IsWithinLimits};
+ghost use Rattle.nomos_surface.specs.declared.surface.CostModel.TheVariants as cost;
 ghost use Rattle.nomos_surface.specs.FileView.{file_tree};
 ghost use Rattle.nomos_syntax.specs.Limits.{node_limit};
 
@@ -100,6 +102,7 @@ pub fn elaborate(alloc: Global, surface: &Surface) -> Result<Program, ElabError>
     requires { IsWithinLimits (file_tree surface.now) }
     ensures answer { Answers (file_tree surface.now) result }
     ensures few { IfOk result (λ program. length program.types ≤ node_limit) }
+    ensures cost_all { IfOk result (λ program. model_of surface.now.cost ≡ cost.All → IsUnderCostAll program) }
 {
     let lists = program_lists(alloc, surface)?;
     Ok(Program::of_lists(lists))

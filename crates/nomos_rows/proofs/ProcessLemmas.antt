@@ -15,7 +15,7 @@ use Rattle.nomos_check.proofs.StuckLaws.{stuck-no_skeleton}
 use Rattle.nomos_check.specs.Checking.{NeedsBeside}
 use Rattle.nomos_check.specs.Asking.{IsAsked}
 use Rattle.nomos_check.specs.Checking.{IsFirstStuck, IsStuckAt}
-use Rattle.nomos_check.specs.Reaching.{IsFormOf}
+use Rattle.nomos_check.specs.Reaching.{outset_of, IsFormOf}
 use Rattle.nomos_rows.proofs.TellingLemmas.{below-next, below-more}
 use Rattle.nomos_rows.specs.declared.processes.Gathered.{Gathered}
 use Rattle.nomos_rows.specs.declared.telling.Fault.{Fault}
@@ -62,15 +62,15 @@ module _ (lists : ProgramLists) where
 
   module _ (k : ℕ) (d : ProcDecl) (declared : slice_get lists.procs k ≡ Some d) where
     -- what holds of the process at the place holds of this one
-    its-form : (f : Form) → HasForm lists f k → IsFormOf lists (star_count lists) d f
+    its-form : (f : Form) → HasForm lists f k → IsFormOf lists (star_count lists) (outset_of lists d) f
     its-form f (e, there, is) =
         let same : e ≡ d = cc in
-        subst (λ (o : ProcDecl). IsFormOf lists (star_count lists) o f) same is
+        subst (λ (o : ProcDecl). IsFormOf lists (star_count lists) (outset_of lists o) f) same is
 
-    its-pair : (p : Amount × Amount) → AsksFor lists p k → IsAsked lists d p
+    its-pair : (p : Amount × Amount) → AsksFor lists p k → IsAsked lists (outset_of lists d) p
     its-pair p (e, there, is) =
         let same : e ≡ d = cc in
-        subst (λ (o : ProcDecl). IsAsked lists o p) same is
+        subst (λ (o : ProcDecl). IsAsked lists (outset_of lists o) p) same is
 
     module _ {old new : Compared} {forms : List Form} {pairs : List (Amount
         × Amount)} (needs : NeedsBeside lists (star_count lists) d old new forms pairs) where
@@ -100,7 +100,7 @@ module _ (lists : ProgramLists) where
           ]
 
       asked-back : (before : List (Amount × Amount)) (p : Amount × Amount) → Contains old.amounts p
-          ⊎ IsAsked lists d p → Contains (before ++ pairs) p ⊎ Contains new.amounts p
+          ⊎ IsAsked lists (outset_of lists d) p → Contains (before ++ pairs) p ⊎ Contains new.amounts p
       asked-back before p given =
           elim ((needs.asked p).1 given) [
             | inl its ↦ inl (Contains-append_right before pairs p its)

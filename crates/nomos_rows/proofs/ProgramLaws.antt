@@ -13,7 +13,7 @@ use Rattle.nomos_types.specs.Judgement.{start_of}
 use Rattle.nomos_types.specs.Typed.{IsTypedProgram, HasSkeletons, IsWellFormed}
 use Rattle.nomos_check.specs.Account.{Account, Affords}
 use Rattle.nomos_check.specs.Asking.{IsAsked}
-use Rattle.nomos_check.specs.Reaching.{IsPoint}
+use Rattle.nomos_check.specs.Reaching.{outset_of, IsPoint}
 use Rattle.nomos_check.proofs.AccountsLaws.{DerivesByAccounts, rows-law}
 use Rattle.nomos_rows.specs.ProgramRows.{IsProgramPair, leads_back, asked}
 use Rattle.nomos_rows.proofs.SharedLaws.{synchronizing-exact}
@@ -21,7 +21,8 @@ use Rattle.nomos_rows.proofs.SharedLaws.{synchronizing-exact}
 -- each declaration affords the account at each of its points
 abbrev pub AffordsPoints : ProgramLists → Annotations → Type 0
 AffordsPoints lists x =
-    (p : ℕ) (d : ProcDecl) (a : Account) → slice_get lists.procs p ≡ Some d → IsPoint lists d a → Affords x a
+    (p : ℕ) (d : ProcDecl) (a : Account) → slice_get lists.procs p ≡ Some d → IsPoint lists (outset_of lists d) a
+    → Affords x a
 
 -- the two amounts of each pair of the program are worth the same
 abbrev pub PairsAlike : ProgramLists → Annotations → Type 0
@@ -35,13 +36,14 @@ pub record MeetsProgram (lists : ProgramLists) (x : Annotations) : Type 0 where
 
 module _ {lists : ProgramLists} (formed : IsWellFormed lists) (x : Annotations) where
   -- the law for one declaration
-  declaration-law : (p : ℕ) (d : ProcDecl) → slice_get lists.procs p ≡ Some d → DerivesByAccounts lists d x
+  declaration-law : (p : ℕ) (d : ProcDecl) → slice_get lists.procs p ≡ Some d
+      → DerivesByAccounts lists x (start_of lists x d) (outset_of lists d)
   declaration-law p d declared = rows-law formed p d declared x
 
   -- what a typed program gives for each declaration
   typed-declaration : IsTypedProgram lists x → (p : ℕ) (d : ProcDecl) → slice_get lists.procs p ≡ Some d
-      → HasSkeleton lists d × ((a : Account) → IsPoint lists d a → Affords x a) × ((q : Amount × Amount)
-      → IsAsked lists d q → dths x q.0 ≡ dths x q.1)
+      → HasSkeleton lists d × ((a : Account) → IsPoint lists (outset_of lists d) a → Affords x a)
+      × ((q : Amount × Amount) → IsAsked lists (outset_of lists d) q → dths x q.0 ≡ dths x q.1)
   typed-declaration typed p d declared =
       let Has : ProcDecl → Type 0 = λ e. Derives lists x (start_of lists x e) in
       (declaration-law p d declared).0 (All-at Has lists.procs p d typed.procs declared)

@@ -14,14 +14,14 @@ use Rattle.nomos_sync.specs.Continuing.{StandAtDown}
 use Rattle.nomos_types.specs.Amount.{Annotations}
 use Rattle.nomos_types.specs.Typed.{IsTypedProgram}
 use Rattle.nomos_check.specs.Asking.{IsAsked}
-use Rattle.nomos_check.specs.Reaching.{IsFormOf}
+use Rattle.nomos_check.specs.Reaching.{outset_of, IsFormOf}
 
 -- the form, over n stars, of an account that some declaration has to afford
 pub record IsProgramForm (lists : ProgramLists) (n : ℕ) (form : Form) : Type 0 where
   pub place : ℕ
   pub declaration : ProcDecl
   pub declared : slice_get lists.procs place ≡ Some declaration
-  pub is_form : IsFormOf lists n declaration form
+  pub is_form : IsFormOf lists n (outset_of lists declaration) form
 
 -- The two amounts have to be worth the same: where a shared type is to lead back to where it began, and where an
 -- instruction of a declaration asks for it.
@@ -29,7 +29,8 @@ pub data IsProgramPair (lists : ProgramLists) : Amount × Amount → Type 0 wher
   leads_back : {pair : Amount × Amount} → (shared body : TypeId) → type_node lists shared.0 ≡ Some (node.Up body)
       → StandAtDown lists body shared pair → IsProgramPair lists pair
   asked : {pair : Amount × Amount} → (place : ℕ) (declaration : ProcDecl)
-      → slice_get lists.procs place ≡ Some declaration → IsAsked lists declaration pair → IsProgramPair lists pair
+      → slice_get lists.procs place ≡ Some declaration → IsAsked lists (outset_of lists declaration) pair
+      → IsProgramPair lists pair
 
 -- these are the rows of the program, over n stars
 pub record AreProgramRows (lists : ProgramLists) (n : ℕ) (rows : List Row) : Type 0 where

@@ -1,6 +1,7 @@
 -- Why a program is not well formed, and where.
-use Rattle.std.specs.Prelude.{◌≡◌, ◌≤◌, ◌<◌, ℕ, Some, slice_get}
+use Rattle.std.specs.Prelude.{◌≡◌, ◌<◌, ℕ, Some, slice_get}
 use Rattle.std.specs.Option.{option_map}
+use Rattle.nomos_ir.specs.FirstOffset.{IsFirstAt}
 use Rattle.nomos_ir.specs.Nodes.{type_node}
 use Rattle.nomos_ir.specs.Unfold.{IsConstructor, IsContractive}
 use Rattle.nomos_ir.specs.declared.ids.DefId.{DefId}
@@ -36,9 +37,8 @@ abbrev pub OffendsAt : ProgramLists → ℕ → Type 0
 OffendsAt lists at = (t : TypeId) × Offends lists t × StandsAtOffset lists t at
 
 -- the first of them stands there
-pub record IsFirstOffence (lists : ProgramLists) (at : ℕ) : Type 0 where
-  pub there : OffendsAt lists at
-  pub first : (other : ℕ) → OffendsAt lists other → at ≤ other
+abbrev pub IsFirstOffence : ProgramLists → ℕ → Type 0
+IsFirstOffence lists at = IsFirstAt (OffendsAt lists) at
 
 -- what the error says is so
 abbrev pub IsFormFault : ProgramLists → FormError → Type 0

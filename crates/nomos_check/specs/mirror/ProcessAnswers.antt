@@ -1,4 +1,4 @@
--- A mirror of the code: all that a declaration asks for was gathered.
+-- A mirror of the code: all that a process asks for was gathered.
 use Rattle.std.specs.Prelude.{◌≡◌, ◌⊎◌, ◌++◌, ℕ, Contains, Some, None, slice_get}
 use Rattle.std.specs.declared.result.Result.{Result}
 use Rattle.std.specs.declared.result.Result.TheVariants.{Ok, Err}
@@ -12,7 +12,7 @@ use Rattle.nomos_forms.specs.declared.form.Form.{Form}
 use Rattle.nomos_types.specs.Judgement.{Judgement}
 use Rattle.nomos_check.specs.Account.{Account}
 use Rattle.nomos_check.specs.Asking.{IsAsked}
-use Rattle.nomos_check.specs.Reaching.{GetsTo, IsFormOf}
+use Rattle.nomos_check.specs.Reaching.{Outset, outset_of, GetsTo, IsFormOf}
 use Rattle.nomos_check.specs.declared.checking.Checked.{Checked}
 use Rattle.nomos_check.specs.declared.checking.ProcError.{ProcError}
 use Rattle.nomos_check.specs.declared.checking.ProcError.TheVariants as error
@@ -21,19 +21,20 @@ use Rattle.nomos_check.specs.declared.walk.Walk.{Walk}
 use Rattle.nomos_check.specs.mirror.StandingData.{HasPair}
 use Rattle.nomos_check.specs.mirror.Walking.{IsDone, StuckOf}
 
--- what the declaration asks for was gathered, beside what was compared before
-pub record IsGathered (lists : ProgramLists) (n : ℕ) (d : ProcDecl) (known : Compared) (w : Walk) : Type 0 where
-  pub done : (j : Judgement) (a : Account) → GetsTo lists d j a → IsDone lists n w j a
-  pub forms : (f : Form) → Contains w.forms.items f → IsFormOf lists n d f
+-- what the process asks for from the outset on was gathered, beside what was compared before
+pub record IsGathered (lists : ProgramLists) (n : ℕ) (o : Outset) (known : Compared) (w : Walk) : Type 0 where
+  pub done : (j : Judgement) (a : Account) → GetsTo lists o j a → IsDone lists n w j a
+  pub forms : (f : Form) → Contains w.forms.items f → IsFormOf lists n o f
   pub pairs : w.stuck ≡ None → (pair : Amount × Amount) → HasPair w.asked pair
-      → Contains known.amounts pair ⊎ IsAsked lists d pair
+      → Contains known.amounts pair ⊎ IsAsked lists o pair
   pub keeps : w.stuck ≡ None → (pair : Amount × Amount) → Contains known.amounts pair → HasPair w.asked pair
-  pub stuck : (s : Stuck) → w.stuck ≡ Some s → StuckOf lists d s
+  pub stuck : (s : Stuck) → w.stuck ≡ Some s → StuckOf lists o s
 
 -- all that the declaration with this number asks for
 abbrev pub GathersAll : ProgramLists → ProcId → Walk → Walk → Type 0
 GathersAll lists p old new =
-    (d : ProcDecl) → slice_get lists.procs p.0 ≡ Some d → IsGathered lists (star_count lists) d old.asked.equalities new
+    (d : ProcDecl) → slice_get lists.procs p.0 ≡ Some d
+    → IsGathered lists (star_count lists) (outset_of lists d) old.asked.equalities new
 
 -- the pairs of what was compared stand before those that were given
 abbrev pub JoinsPairs : Compared → Checked → Result Checked ProcError → Type 0

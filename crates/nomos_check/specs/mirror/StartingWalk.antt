@@ -5,11 +5,9 @@ use Rattle.nomos_ir.specs.declared.amount.Amount.{Amount}
 use Rattle.nomos_ir.specs.declared.declaration.ProcDecl.{ProcDecl}
 use Rattle.nomos_ir.specs.declared.ids.VarId.{VarId}
 use Rattle.nomos_ir.specs.declared.kind.Kind.{Kind}
-use Rattle.nomos_ir.specs.declared.lists.ProgramLists.{ProgramLists}
 use Rattle.nomos_ir.specs.Bindings.{bind, bindings_of}
-use Rattle.nomos_types.specs.Equality.{no_amounts}
-use Rattle.nomos_types.specs.Judgement.{payer_kinds, value_par, start_of}
-use Rattle.nomos_check.specs.Account.{start_account}
+use Rattle.nomos_types.specs.Judgement.{payer_kinds, value_par}
+use Rattle.nomos_check.specs.Reaching.{Outset}
 use Rattle.nomos_check.specs.declared.standing.Carried.{Carried}
 use Rattle.nomos_check.specs.declared.standing.Standing.{Standing}
 use Rattle.nomos_check.specs.mirror.StandingData.{shape_of, HasAccount}
@@ -41,7 +39,7 @@ abbrev pub one_if : {X : Type 0} → Bool → X → List X
 one_if true x = x ∷ []
 one_if false x = []
 
--- the standing is where the declaration begins
-pub record IsStartOf (lists : ProgramLists) (n : ℕ) (d : ProcDecl) (s : Standing) : Type 0 where
-  pub shape : shape_of s ≡ start_of lists no_amounts d
-  pub has : HasAccount n s (start_account d)
+-- the code's data stands for the outset
+pub record IsStartOf (n : ℕ) (o : Outset) (s : Standing) : Type 0 where
+  pub shape : shape_of s ≡ o.judgement
+  pub has : HasAccount n s o.account

@@ -1,11 +1,7 @@
 -- A mirror of the code: what was gathered of the places to which the code leads, and what is left to do.
-use Rattle.std.specs.Prelude.{◌≡◌, ◌<◌, ◌≤◌, ◌+◌, ◌*◌, ◌⊎◌, ◌↔◌, ℕ, zero, suc, List, ◌++◌, map, All, Contains, Option, Some, None, length, slice_get, zip, sum_by}
+use Rattle.std.specs.Prelude.{◌≡◌, ◌<◌, ◌≤◌, ◌+◌, ◌*◌, ◌⊎◌, ◌↔◌, ℕ, zero, suc, List, ◌++◌, map, All, Contains, Option, Some, None, length, sum_by}
 use Rattle.nomos_ir.specs.declared.amount.Amount.{Amount}
-use Rattle.nomos_ir.specs.declared.code_node.Args.{Args}
 use Rattle.nomos_ir.specs.declared.code_node.CodeNode.{CodeNode}
-use Rattle.nomos_ir.specs.declared.code_node.CodeNode.TheVariants as code
-use Rattle.nomos_ir.specs.declared.declaration.ProcDecl.{ProcDecl}
-use Rattle.nomos_ir.specs.declared.ids.ProcId.{ProcId}
 use Rattle.nomos_ir.specs.declared.lists.ProgramLists.{ProgramLists}
 use Rattle.nomos_ir.specs.Amounts.{star_count, greatest}
 use Rattle.nomos_ir.specs.CodeParts.{code_next}
@@ -13,11 +9,10 @@ use Rattle.nomos_forms.specs.declared.form.Form.{Form}
 use Rattle.nomos_types.specs.Equality.{no_amounts}
 use Rattle.nomos_types.specs.Judgement.{Judgement}
 use Rattle.nomos_types.specs.Row.{Row, StandsAtCode}
-use Rattle.nomos_check.specs.Account.{Account, spends, form_of}
-use Rattle.nomos_check.specs.Accounting.{accounts_after}
+use Rattle.nomos_check.specs.Account.{Account, form_of}
 use Rattle.nomos_check.specs.Asking.{AsksPair, IsAsked}
 use Rattle.nomos_ir.specs.Instruction.{code_offset, code_form}
-use Rattle.nomos_check.specs.Reaching.{GetsTo, IsFormOf}
+use Rattle.nomos_check.specs.Reaching.{Outset, GetsTo, IsPointAt, IsFormOf}
 use Rattle.nomos_check.specs.declared.standing.Forks.{Forks}
 use Rattle.nomos_check.specs.declared.standing.Standing.{Standing}
 use Rattle.nomos_check.specs.declared.standing.Way.{Way}
@@ -25,24 +20,17 @@ use Rattle.nomos_check.specs.declared.standing.Way.TheVariants as way
 use Rattle.nomos_check.specs.declared.walk.Stuck.{Stuck}
 use Rattle.nomos_check.specs.declared.walk.Walk.{Walk}
 use Rattle.nomos_check.specs.mirror.Stops.{first_stuck}
-use Rattle.nomos_check.specs.mirror.StandingData.{shape_of, HasAccount, way_shape, way_account, IsWayOf, NoRow, HasPair, JoinsAsked}
+use Rattle.nomos_check.specs.mirror.StandingData.{shape_of, HasAccount, IsWithin, way_shape, way_account, IsWayOf, NoRow, HasPair, JoinsAsked}
 
 -- ---- places
 
--- From the one judgement and account rules lead to the other.
-pub data LeadsFrom (lists : ProgramLists) : Judgement → Account → Judgement → Account → Type 0 where
-  here : {j : Judgement} {a : Account} → LeadsFrom lists j a j a
-  later : {j k i : Judgement} {a b c : Account} → (n : CodeNode) (after : List Judgement) → StandsAtCode lists j n
-      → Row lists no_amounts j after → Contains (zip after (accounts_after lists n a)) (k, b)
-      → LeadsFrom lists k b i c → LeadsFrom lists j a i c
+-- from the one judgement and account rules lead to the other
+abbrev pub LeadsFrom : ProgramLists → Judgement → Account → Judgement → Account → Type 0
+LeadsFrom lists j a k b = GetsTo lists (record { judgement = j; account = a }) k b
 
--- the form stands for what has to be afforded there: the potential before the instruction, and at a call that less
--- what the called declaration needs
-pub data IsPointAt (lists : ProgramLists) (n : ℕ) (j : Judgement) (a : Account) : Form → Type 0 where
-  before : {f : Form} → f ≡ form_of n a → IsPointAt lists n j a f
-  called : {f : Form} {at : ℕ} {p : ProcId} {args : Args} → StandsAtCode lists j (code.Call at p args)
-      → (e : ProcDecl) → slice_get lists.procs p.0 ≡ Some e → f ≡ form_of n (spends e.amount a)
-      → IsPointAt lists n j a f
+-- the form stands for an account that has to be afforded there
+abbrev pub IsFormAt : ProgramLists → ℕ → Judgement → Account → Form → Type 0
+IsFormAt lists n j a form = (point : Account) × IsPointAt lists j a point × (form ≡ form_of n point)
 
 -- ---- what was gathered
 
@@ -53,7 +41,7 @@ IsStuckBy None at = ⊥
 
 -- all that a place asks for was gathered
 pub record IsDone (lists : ProgramLists) (n : ℕ) (w : Walk) (j : Judgement) (a : Account) : Type 0 where
-  pub forms : (f : Form) → IsPointAt lists n j a f → Contains w.forms.items f
+  pub forms : (f : Form) → IsFormAt lists n j a f → Contains w.forms.items f
   pub pairs : w.stuck ≡ None → (pair : Amount × Amount) → AsksPair lists j a pair → HasPair w.asked pair
   pub row : w.stuck ≡ None → (after : List Judgement) × Row lists no_amounts j after
   pub stuck : NoRow lists j → (n : CodeNode) → StandsAtCode lists j n → IsStuckBy w.stuck (code_offset n)
@@ -65,23 +53,23 @@ pub record Grows (old new : Walk) : Type 0 where
   pub stuck : (at : ℕ) → IsStuckBy old.stuck at → IsStuckBy new.stuck at
   pub none : new.stuck ≡ None → old.stuck ≡ None
 
--- an instruction that the declaration reaches and that no rule applies to
-pub record StuckOf (lists : ProgramLists) (d : ProcDecl) (s : Stuck) : Type 0 where
+-- an instruction to which the process gets and that no rule applies to
+pub record StuckOf (lists : ProgramLists) (o : Outset) (s : Stuck) : Type 0 where
   pub judgement : Judgement
   pub account : Account
-  pub reached : GetsTo lists d judgement account
+  pub reached : GetsTo lists o judgement account
   pub no_row : NoRow lists judgement
   pub node : CodeNode
   pub stands : StandsAtCode lists judgement node
   pub offset : code_offset node ≡ s.at
   pub is_form : code_form node ≡ s.form
 
--- what was gathered beyond the old is asked for where the declaration reaches
-pub record Gathers (lists : ProgramLists) (n : ℕ) (d : ProcDecl) (old new : Walk) : Type 0 where
-  pub forms : (f : Form) → Contains new.forms.items f → Contains old.forms.items f ⊎ IsFormOf lists n d f
+-- what was gathered beyond the old is asked for where the process gets to
+pub record Gathers (lists : ProgramLists) (n : ℕ) (o : Outset) (old new : Walk) : Type 0 where
+  pub forms : (f : Form) → Contains new.forms.items f → Contains old.forms.items f ⊎ IsFormOf lists n o f
   pub pairs : new.stuck ≡ None → (pair : Amount × Amount) → HasPair new.asked pair
-      → HasPair old.asked pair ⊎ IsAsked lists d pair
-  pub stuck : (s : Stuck) → new.stuck ≡ Some s → (old.stuck ≡ Some s) ⊎ StuckOf lists d s
+      → HasPair old.asked pair ⊎ IsAsked lists o pair
+  pub stuck : (s : Stuck) → new.stuck ≡ Some s → (old.stuck ≡ Some s) ⊎ StuckOf lists o s
 
 -- ---- what is left
 
@@ -116,29 +104,29 @@ pub record IsPending (lists : ProgramLists) (n : ℕ) (todo : List Forks) (j : J
   pub inside : Contains forks.ways.items way
   pub along : AlongWay lists n forks way j a
 
--- the declaration reaches where the process stands
-pub record IsReached (lists : ProgramLists) (n : ℕ) (d : ProcDecl) (s : Standing) : Type 0 where
+-- the process gets to where the code's data stands
+pub record IsReached (lists : ProgramLists) (n : ℕ) (o : Outset) (s : Standing) : Type 0 where
   pub account : Account
   pub has : HasAccount n s account
-  pub reached : GetsTo lists d (shape_of s) account
+  pub reached : GetsTo lists o (shape_of s) account
 
--- the declaration reaches the ways, and what stands before them
-pub record IsOpen (lists : ProgramLists) (n : ℕ) (d : ProcDecl) (f : Forks) : Type 0 where
+-- the process gets to the ways, and to what stands before them
+pub record IsOpen (lists : ProgramLists) (n : ℕ) (o : Outset) (f : Forks) : Type 0 where
   pub account : Account
   pub has : HasAccount n f.before account
-  pub base : GetsTo lists d (shape_of f.before) account
+  pub base : GetsTo lists o (shape_of f.before) account
   pub there : All (IsWayOf f.before) f.ways.items
   pub reached : (w : Way) → Contains f.ways.items w
-      → GetsTo lists d (way_shape (shape_of f.before) w) (way_account account w)
+      → GetsTo lists o (way_shape (shape_of f.before) w) (way_account account w)
 
--- Of what the code leads to from a first judgement and account, all is done but what is left to do.
-pub record Walking (lists : ProgramLists) (n : ℕ) (d : ProcDecl) (i : Judgement) (c : Account) (first : Walk)
-    (todo : List Forks) (w : Walk) : Type 0 where
-  pub complete : (j : Judgement) (a : Account) → LeadsFrom lists i c j a
+-- Of what the process gets to from the outset, all is done but what is left to do.
+pub record Walking (lists : ProgramLists) (n : ℕ) (o : Outset) (first : Walk) (todo : List Forks) (w : Walk)
+    : Type 0 where
+  pub complete : (j : Judgement) (a : Account) → GetsTo lists o j a
       → IsDone lists n w j a ⊎ IsPending lists n todo j a
-  pub gathers : Gathers lists n d first w
+  pub gathers : Gathers lists n o first w
   pub grows : Grows first w
-  pub is_open : All (IsOpen lists n d) todo
+  pub is_open : All (IsOpen lists n o) todo
 
 -- ---- how much is left
 
@@ -172,7 +160,7 @@ pub record Notes (lists : ProgramLists) (s : Standing) (old new : Walk) : Type 0
   pub stuck : new.stuck ≡ old.stuck
   pub todo : new.todo ≡ old.todo
   pub forms : (a : Account) → HasAccount (star_count lists) s a → (f : Form)
-      → Contains new.forms.items f ↔ (Contains old.forms.items f ⊎ IsPointAt lists (star_count lists) (shape_of s) a f)
+      → Contains new.forms.items f ↔ (Contains old.forms.items f ⊎ IsFormAt lists (star_count lists) (shape_of s) a f)
 
 -- From where the process stands, all is done but the ways that were added to what is left to do.
 pub record Goes (lists : ProgramLists) (n : ℕ) (now : Standing) (old new : Walk) : Type 0 where
@@ -182,8 +170,8 @@ pub record Goes (lists : ProgramLists) (n : ℕ) (now : Standing) (old new : Wal
   pub grows : Grows old new
   pub complete : (j : Judgement) (a : Account) → AtStanding lists n now j a
       → IsDone lists n new j a ⊎ IsPending lists n added j a
-  pub gathers : (d : ProcDecl) → IsReached lists n d now → Gathers lists n d old new
-  pub is_open : (d : ProcDecl) → IsReached lists n d now → All (IsOpen lists n d) added
+  pub gathers : (o : Outset) → IsReached lists n o now → Gathers lists n o old new
+  pub is_open : (o : Outset) → IsReached lists n o now → All (IsOpen lists n o) added
 
 -- on the way from the one standing to the other
 pub record Going (lists : ProgramLists) (n : ℕ) (first now : Standing) (old new : Walk) : Type 0 where
@@ -192,35 +180,34 @@ pub record Going (lists : ProgramLists) (n : ℕ) (first now : Standing) (old ne
   pub grows : Grows old new
   pub complete : (j : Judgement) (a : Account) → AtStanding lists n first j a
       → IsDone lists n new j a ⊎ AtStanding lists n now j a
-  pub gathers : (d : ProcDecl) → IsReached lists n d first → Gathers lists n d old new
-  pub reached : (d : ProcDecl) → IsReached lists n d first → IsReached lists n d now
+  pub gathers : (o : Outset) → IsReached lists n o first → Gathers lists n o old new
+  pub reached : (o : Outset) → IsReached lists n o first → IsReached lists n o now
 
 -- all that a standing asks for was gathered
 pub record Visits (lists : ProgramLists) (s : Standing) (old new : Walk) : Type 0 where
   pub forms : (a : Account) → HasAccount (star_count lists) s a → (f : Form)
-      → Contains new.forms.items f ↔ (Contains old.forms.items f ⊎ IsPointAt lists (star_count lists) (shape_of s) a f)
+      → Contains new.forms.items f ↔ (Contains old.forms.items f ⊎ IsFormAt lists (star_count lists) (shape_of s) a f)
   pub pairs : new.stuck ≡ None → JoinsAsked lists s old.asked new.asked
   pub stuck : ((new.stuck ≡ old.stuck) × HasRow lists (shape_of s)) ⊎ IsFirstStop lists s old.stuck new.stuck
 
--- the declaration at a place reaches where the process stands
-pub record IsOnWay (lists : ProgramLists) (n : ℕ) (s : Standing) : Type 0 where
-  pub place : ℕ
-  pub declared : ProcDecl
-  pub found : slice_get lists.procs place ≡ Some declared
-  pub reached : IsReached lists n declared s
+-- wherever the process gets to from the outset, the code's data is in order
+abbrev pub StaysWithin : ProgramLists → ℕ → Outset → Type 0
+StaysWithin lists n o = (s : Standing) → IsReached lists n o s → IsWithin lists s
 
--- a walk of some declaration of the program
+-- from some outset in order the process gets to where the code's data stands
+pub record IsOnWay (lists : ProgramLists) (n : ℕ) (s : Standing) : Type 0 where
+  pub outset : Outset
+  pub within : StaysWithin lists n outset
+  pub reached : IsReached lists n outset s
+
+-- a walk from some outset in order
 pub record IsWalk (lists : ProgramLists) (n : ℕ) (todo : List Forks) (w : Walk) : Type 0 where
-  pub place : ℕ
-  pub declared : ProcDecl
-  pub found : slice_get lists.procs place ≡ Some declared
-  pub judgement : Judgement
-  pub account : Account
+  pub outset : Outset
+  pub within : StaysWithin lists n outset
   pub first : Walk
-  pub walking : Walking lists n declared judgement account first todo w
+  pub walking : Walking lists n outset first todo w
 
 -- what was so far a walk goes on as one
 abbrev pub WalksOn : ProgramLists → ℕ → List Forks → Walk → List Forks → Walk → Type 0
 WalksOn lists n todo old rest new =
-    (d : ProcDecl) (i : Judgement) (c : Account) (first : Walk) → Walking lists n d i c first todo old
-    → Walking lists n d i c first rest new
+    (o : Outset) (first : Walk) → Walking lists n o first todo old → Walking lists n o first rest new

@@ -12,7 +12,7 @@ use Rattle.nomos_forms.specs.declared.row.Row.{Row}
 use Rattle.nomos_forms.specs.declared.row_list.RowList.{RowList}
 use Rattle.nomos_forms.specs.RowsOf.{AreRowsOf}
 use Rattle.nomos_check.specs.Asking.{IsAsked}
-use Rattle.nomos_check.specs.Reaching.{IsFormOf}
+use Rattle.nomos_check.specs.Reaching.{outset_of, IsFormOf}
 use Rattle.nomos_rows.specs.declared.processes.Gathered.{Gathered}
 use Rattle.nomos_rows.specs.declared.telling.Fault.{Fault}
 use Rattle.nomos_rows.specs.mirror.Declarations.{DeclarationsFine, IsFirstOfAll}
@@ -21,10 +21,11 @@ use Rattle.nomos_rows.specs.mirror.Telling.{SomeBelow}
 -- the process at the place has the form, and asks for the pair
 abbrev pub HasForm : ProgramLists → Form → ℕ → Type 0
 HasForm lists form k =
-    (d : ProcDecl) × (slice_get lists.procs k ≡ Some d) × IsFormOf lists (star_count lists) d form
+    (d : ProcDecl) × (slice_get lists.procs k ≡ Some d) × IsFormOf lists (star_count lists) (outset_of lists d) form
 
 abbrev pub AsksFor : ProgramLists → Amount × Amount → ℕ → Type 0
-AsksFor lists pair k = (d : ProcDecl) × (slice_get lists.procs k ≡ Some d) × IsAsked lists d pair
+AsksFor lists pair k =
+    (d : ProcDecl) × (slice_get lists.procs k ≡ Some d) × IsAsked lists (outset_of lists d) pair
 
 -- the forms are those of the processes below the place, and the pairs those that these ask for, beside what was
 -- compared

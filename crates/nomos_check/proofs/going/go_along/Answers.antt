@@ -11,7 +11,7 @@ use Rattle.nomos_check.specs.mirror.Walking.{Goes}
 use Rattle.nomos_check.proofs.going.go_along.Goals as goal
 
 pub note-requires-clause-within : goal.note-requires-clause-within
-note-requires-clause-within c = within-on_way c.loop-at.at c.requires.formed c.loop-at.invariant.on_way
+note-requires-clause-within c = within-on_way c.loop-at.at c.loop-at.invariant.on_way
 
 pub returns-in_err-note-clause-ready : goal.returns-in_err-note-clause-ready
 returns-in_err-note-clause-ready c =
@@ -22,11 +22,11 @@ step-requires-clause-ready c =
     subst (λ (a : Asked). IsReady c.args.program.now a) (sym c.note.ensures.asked) c.loop-at.invariant.ready
 
 pub step-requires-clause-within : goal.step-requires-clause-within
-step-requires-clause-within c = within-on_way c.loop-at.at c.requires.formed c.loop-at.invariant.on_way
+step-requires-clause-within c = within-on_way c.loop-at.at c.loop-at.invariant.on_way
 
 pub code-requires : goal.code-requires
 code-requires c =
-    let within = within-on_way c.loop-at.at c.requires.formed c.loop-at.invariant.on_way in
+    let within = within-on_way c.loop-at.at c.loop-at.invariant.on_way in
     within.code
 
 pub returns-in-Stuck-clause-goes : goal.returns-in-Stuck-clause-goes

@@ -9,6 +9,7 @@ use Rattle.nomos_check.proofs.LimitLemmas.{proc-amount}
 use Rattle.nomos_check.proofs.StartingLemmas.{channels-have, none-room, start-is}
 use Rattle.nomos_check.specs.Account.{form_of, no_account}
 use Rattle.nomos_check.specs.declared.standing.Standing.{Standing}
+use Rattle.nomos_check.specs.Reaching.{outset_of}
 use Rattle.nomos_check.specs.mirror.StartingWalk.{kinds_of, lists_of, picks, IsStartOf}
 use Rattle.nomos_check.proofs.start.start.Goals as goal
 
@@ -48,8 +49,8 @@ returns-in-Ok c = λ d found.
       offers = e.offers;
     } in
     let is : c.bind_parameters.new.begun ≡ begun = c.in-Ok.ensures ∙ ap bound c.unbound-begun.ensures in
-    subst (λ (s : Standing). IsStartOf lists n d s) (sym is)
-    (subst (λ (k : ProcDecl). IsStartOf lists n k begun) same
+    subst (λ (s : Standing). IsStartOf n (outset_of lists d) s) (sym is)
+    (subst (λ (k : ProcDecl). IsStartOf n (outset_of lists k) begun) same
     (start-is lists n e (kinds_of e) (lists_of e) (picked true) (picked false) c.in_ok-potential.potential
     c.gain.new.self refl refl refl refl
     (c.in_ok-potential.ensures ∙ ap (λ (m : ℕ). form_of m no_account) c.requires.checker.stars)
