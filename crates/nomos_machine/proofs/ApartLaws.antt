@@ -10,9 +10,9 @@ use Rattle.nomos_types.specs.Modes.{HasMode}
 use Rattle.nomos_types.proofs.ModeLaws.{mode-unique}
 use Rattle.nomos_types.proofs.OccurrenceLaws.{counted}
 use Rattle.nomos_machine.specs.Change.{put_at}
-use Rattle.nomos_machine.specs.Objects.{object_number, provided, used, based, talk_end, times, object_at}
+use Rattle.nomos_machine.specs.Objects.{object_number, provided, based, talk_end, times, object_at}
 use Rattle.nomos_machine.specs.State.{State, type_of}
-use Rattle.nomos_machine.specs.TypedState.{LeadsToBase, at_base, further, ObjectTyped, IsTyped}
+use Rattle.nomos_machine.specs.TypedState.{LeadsToBase, at_base, further, IsTyped}
 use Rattle.nomos_machine.specs.declared.object.Message.{Message}
 use Rattle.nomos_machine.specs.declared.object.Object.{Object}
 use Rattle.nomos_machine.specs.declared.object.Object.TheVariants as object

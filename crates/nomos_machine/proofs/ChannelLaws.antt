@@ -1,5 +1,5 @@
 -- A channel of a process that goes on under another name: what the process has, provides and uses.
-use Rattle.std.proofs.Common.{◌≡◌, ◌∙◌, ◌≤◌, ℕ, ◌+◌, not, Bool, true, false, cond, List, [], ◌∷◌, ◌++◌, map, Option, Some, None, refl, sym, subst, ap, arith, append-nil}
+use Rattle.std.proofs.Common.{◌≡◌, ◌∙◌, ℕ, ◌+◌, not, Bool, cond, List, [], ◌∷◌, ◌++◌, Option, Some, None, refl, sym, subst, ap, arith}
 use Rattle.std.specs.Option.{option_to_list}
 use Rattle.nomos_ir.specs.Bindings.{bound_to, IsAscending}
 use Rattle.nomos_ir.specs.Order.{count_of}
@@ -16,7 +16,7 @@ use Rattle.nomos_ir.proofs.PairedLaws.{paired-left}
 use Rattle.nomos_ir.proofs.SumLaws.{count-after_bind}
 use Rattle.std.specs.Option.{option_or}
 use Rattle.nomos_types.specs.Amount.{Annotations}
-use Rattle.nomos_types.specs.Judgement.{Judgement, IsJudgement, channel_type, type_held, goes_on, count_one, with_potential, binds_channel}
+use Rattle.nomos_types.specs.Judgement.{Judgement, IsJudgement, channel_type, goes_on, count_one, with_potential, binds_channel}
 use Rattle.nomos_types.proofs.OccurrenceLaws.{count-append}
 use Rattle.nomos_machine.specs.Matching.{NameHasType, Matches}
 use Rattle.nomos_machine.specs.Objects.{provided, used, carried}
@@ -25,10 +25,8 @@ use Rattle.nomos_machine.specs.Sight.{is_own, present_name}
 use Rattle.nomos_machine.specs.State.{NameTypes}
 use Rattle.nomos_machine.specs.declared.object.Message.{Message}
 use Rattle.nomos_machine.specs.declared.object.Object.TheVariants as object
-use Rattle.nomos_machine.specs.declared.object.PotentialList.{PotentialList}
 use Rattle.nomos_machine.specs.declared.object.Payload.{Payload}
 use Rattle.nomos_machine.specs.declared.object.Process.{Process}
-use Rattle.nomos_ir.specs.Value.{Value}
 use Rattle.nomos_machine.proofs.MatchLaws.{holds-linear, holds-shared}
 
 -- ---- what a process keeps
@@ -45,10 +43,22 @@ pub record SameRest (p q : Process) : Type 0 where
 
 pub under-keeps : (c : Chan) (name : ℕ) (p : Process) → SameRest p (under_name c name p)
 under-keeps chan.Own name p = record {
-  pid = refl; same_mode = refl; base = refl; values = refl; held_lists = refl; purse = refl; payer = refl;
+  pid = refl;
+  same_mode = refl;
+  base = refl;
+  values = refl;
+  held_lists = refl;
+  purse = refl;
+  payer = refl;
 }
 under-keeps (chan.Var v) name p = record {
-  pid = refl; same_mode = refl; base = refl; values = refl; held_lists = refl; purse = refl; payer = refl;
+  pid = refl;
+  same_mode = refl;
+  base = refl;
+  values = refl;
+  held_lists = refl;
+  purse = refl;
+  payer = refl;
 }
 
 -- ---- what it has

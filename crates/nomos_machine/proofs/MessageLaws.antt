@@ -1,10 +1,7 @@
 -- A message that a process finds is what its judgement asks for: there is no wrong message.
-use Rattle.std.proofs.Common.{cond, ◌≡◌, ◌∙◌, ◌==◌, ◌&&◌, ◌≤◌, not, ℕ, ◌+◌, Bool, true, false, List, [], ◌∷◌, length, find, Contains, Option, Some, None, refl, sym, subst, ap, arith, eqb-true}
+use Rattle.std.proofs.Common.{cond, ◌≡◌, ◌∙◌, ◌==◌, ◌&&◌, ℕ, Bool, true, false, List, [], ◌∷◌, length, find, Contains, Option, Some, None, refl, sym, subst, ap, arith, eqb-true}
 use Rattle.std.specs.Prelude.{option_and_then}
-use Rattle.std.specs.Option.{option_to_list}
 use Rattle.std.proofs.lemmas.List.Elements.{Contains-append_left, Contains-append_right}
-use Rattle.nomos_ir.specs.Order.{count_of}
-use Rattle.nomos_ir.specs.Bindings.{bound_to}
 use Rattle.nomos_ir.specs.Paired.{Paired, both, neither}
 use Rattle.nomos_ir.specs.Unfold.{Unfolds}
 use Rattle.nomos_ir.specs.declared.ids.TypeId.{TypeId}

@@ -1,5 +1,5 @@
 -- A process that takes a message, and goes on with the channel under the message's next name, leaves a typed state typed.
-use Rattle.std.proofs.Common.{cond, ◌≡◌, ◌≢◌, ◌∙◌, ◌≤◌, ◌⊎◌, inl, inr, ℕ, ◌+◌, Bool, true, false, List, [], ◌∷◌, ◌++◌, length, All, Contains, Option, Some, None, IsSome, refl, sym, subst, ap, arith, append-nil}
+use Rattle.std.proofs.Common.{cond, ◌≡◌, ◌≢◌, ◌∙◌, ◌≤◌, ◌⊎◌, inl, inr, ℕ, ◌+◌, Bool, true, false, List, [], ◌∷◌, length, Contains, Option, Some, None, IsSome, refl, sym, subst, ap, arith, append-nil}
 use Rattle.std.specs.Option.{option_to_list}
 use Rattle.std.proofs.lemmas.Bool.{cases_eq}
 use Rattle.std.proofs.lemmas.List.Elements.{All-nil, All-cons, Contains-append_left}
@@ -15,7 +15,7 @@ use Rattle.nomos_machine.specs.Change.{Change, put_at, made, no_change}
 use Rattle.nomos_machine.specs.Matching.{ProcessTyped}
 use Rattle.nomos_machine.specs.Objects.{object_number, provided, used, based, shared_names, shared_of, mentioned, carried, times, object_at, talk_end}
 use Rattle.nomos_machine.specs.State.{State, NameTypes, type_of}
-use Rattle.nomos_machine.specs.TypedState.{VariablesDiffer, HasVariables, IsOwned, ObjectTyped, LeadsToBase, at_base, further, InSection, IsTyped}
+use Rattle.nomos_machine.specs.TypedState.{VariablesDiffer, HasVariables, IsOwned, ObjectTyped, LeadsToBase, at_base, further, IsTyped}
 use Rattle.nomos_machine.specs.declared.object.Message.{Message}
 use Rattle.nomos_machine.specs.declared.object.Object.{Object}
 use Rattle.nomos_machine.specs.declared.object.Object.TheVariants as object
@@ -28,7 +28,7 @@ use Rattle.nomos_machine.proofs.GoesLaws.{process-typed}
 use Rattle.nomos_machine.proofs.LinearLaws.{count-other, linear-owned, shared_of-linear}
 use Rattle.nomos_machine.proofs.NameLaws.{mentioned-sum}
 use Rattle.nomos_machine.proofs.ObjectLaws.{object-kept}
-use Rattle.nomos_machine.proofs.OwnedLaws.{made-times, CountsAsBefore, owned-as_before}
+use Rattle.nomos_machine.proofs.OwnedLaws.{made-times, owned-as_before}
 use Rattle.nomos_machine.proofs.PutLaws.{object_at-own, object_at-other, put-new, put-kept, contains-one}
 
 -- From which side the process takes the message: as the provider of the name it goes on with the next one, and as the client
@@ -97,8 +97,8 @@ module _ {a : Acceptance} (accepted : IsAccepted a) {s : State} (typed : IsTyped
   apart : p.pid ≢ m.number
   apart = numbers-differ s.objects typed.numbered.ascending p m there h.waiting
 
-  pub takes-replaces : Replaces taken.places s.objects olds
-  takes-replaces =
+  pub receives-replaces : Replaces taken.places s.objects olds
+  receives-replaces =
       let HasIt : Object → Type 0 = λ o. object_number o ≡ p.pid in
       let placed : List Object = put_at p.pid (Some (object.Process q)) s.objects in
       let numbered = All-cons HasIt (object.Process q) [] h.pid (All-nil HasIt) in
@@ -119,18 +119,18 @@ module _ {a : Acceptance} (accepted : IsAccepted a) {s : State} (typed : IsTyped
   provides-fewer : (name : ℕ)
       → times provided (made s taken).objects name + count_of name (m.from ∷ []) ≡ times provided s.objects name
   provides-fewer name =
-      let sum = made-times provided name s taken olds takes-replaces in
+      let sum = made-times provided name s taken olds receives-replaces in
       omega (arith, sum, turning-provides p q m name h.turns)
 
   uses-fewer : (name : ℕ)
       → times used (made s taken).objects name + count_of name (m.from ∷ []) ≡ times used s.objects name
   uses-fewer name =
-      let sum = made-times used name s taken olds takes-replaces in
+      let sum = made-times used name s taken olds receives-replaces in
       omega (arith, sum, h.uses name)
 
   shared-same : (name : ℕ) → times shared_names (made s taken).objects name ≡ times shared_names s.objects name
   shared-same name =
-      let sum = made-times shared_names name s taken olds takes-replaces in
+      let sum = made-times shared_names name s taken olds receives-replaces in
       let same = ap (λ (ns : List ℕ). count_of name ns) (turning-shared p q m h.turns h.same_mode h.base) in
       omega (arith, sum, same)
 
@@ -141,11 +141,21 @@ module _ {a : Acceptance} (accepted : IsAccepted a) {s : State} (typed : IsTyped
   pub gone : times mentioned (made s taken).objects m.from ≡ 0
   gone =
       let owned = owned-before in
-      let sum = made-times based m.from s taken olds takes-replaces in
+      let sum = made-times based m.from s taken olds receives-replaces in
       let same = ap (λ (o : Option ℕ). count_of m.from (option_to_list o)) h.base in
       let none = base-not_other accepted typed m.from h.own h.mode h.found h.has_mode (unshared h.mode h.is_linear) in
-      omega (arith, mentioned-sum (made s taken).objects m.from, provides-fewer m.from, uses-fewer m.from,
-      count-first m.from [], sum, same, none, owned.0, owned.1)
+      omega (
+        arith,
+        mentioned-sum (made s taken).objects m.from,
+        provides-fewer m.from,
+        uses-fewer m.from,
+        count-first m.from [],
+        sum,
+        same,
+        none,
+        owned.0,
+        owned.1,
+      )
     where
       unshared : (k : Mode) → IsLinearMode k → k ≢ mode.S
       unshared k (inl at_r) at_s = absurd cc
@@ -309,10 +319,10 @@ module _ {a : Acceptance} (accepted : IsAccepted a) {s : State} (typed : IsTyped
 
   -- ---- the whole
 
-  pub takes-fits : Fits a s taken
-  takes-fits = record {
+  pub receives-fits : Fits a s taken
+  receives-fits = record {
     olds = olds;
-    replaces = takes-replaces;
+    replaces = receives-replaces;
     numbered = All-nil (λ o. object_number o ≡ s.next_object);
     variables = All-cons HasVariables (object.Process q) [] h.differ (All-nil HasVariables);
     typed = All-cons Here (object.Process q) [] here (All-nil Here);
@@ -345,5 +355,5 @@ module _ {a : Acceptance} (accepted : IsAccepted a) {s : State} (typed : IsTyped
           let owned = typed.owned name t mode.R found at_r in
           omega (arith, mentioned-sum (made s taken).objects name, provides-fewer name, uses-fewer name, owned.0, owned.1)
 
-  pub takes-keeps_gas : KeepsGas s taken olds
-  takes-keeps_gas = record { gives = tt; gets = tt; even = omega (arith, h.purse) }
+  pub receives-keep_gas : KeepsGas s taken olds
+  receives-keep_gas = record { gives = tt; gets = tt; even = omega (arith, h.purse) }

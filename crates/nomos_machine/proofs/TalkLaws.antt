@@ -1,5 +1,5 @@
 -- What a message brings, at types that are alike; and with which types, of which modes, a talk goes on.
-use Rattle.std.proofs.Common.{◌≡◌, ℕ, Bool, true, false, not, map, List, Contains, Option, Some, None, refl, sym, subst, arith}
+use Rattle.std.proofs.Common.{◌≡◌, ℕ, Bool, true, false, not, List, Contains, Option, Some, None, refl, sym, subst, arith}
 use Rattle.nomos_ir.specs.Paired.{Paired, both, neither}
 use Rattle.nomos_ir.specs.Unfold.{Unfolds}
 use Rattle.nomos_ir.specs.Value.{Value}
@@ -23,7 +23,7 @@ use Rattle.nomos_types.specs.Modes.{HasMode, IsLinearMode, Allows, part_modes}
 use Rattle.nomos_types.specs.Premises.{by_side}
 use Rattle.nomos_types.specs.Synchronizing.{continuations}
 use Rattle.nomos_types.specs.Typed.{IsWellFormed}
-use Rattle.nomos_types.proofs.AlikeLaws.{alike_types-through, alike_types-back, alike_types-unfolded}
+use Rattle.nomos_types.proofs.AlikeLaws.{alike_types-through, alike_types-unfolded}
 use Rattle.nomos_types.proofs.HeadsOverLaws.{both-under}
 use Rattle.nomos_types.proofs.ModeLaws.{unfolding-keeps_mode, part-has_mode, branch-among}
 use Rattle.nomos_types.proofs.SynchronizingLaws.{goes-among}
@@ -67,18 +67,16 @@ brings-alike formed (other_channel sent t name is) (lolli _ _ c d first rest) =
     (Some d, other_channel c d name (of_type-through formed is first), both rest)
 brings-alike formed (own_value kind t v has) (value_out _ _ d rest) = (Some d, own_value kind d v has, both rest)
 brings-alike formed (other_value kind t v has) (value_in _ _ d rest) = (Some d, other_value kind d v has, both rest)
-brings-alike {lists} {x} {types} formed (own_potential r t) (pot_out _ q _ d same rest) =
-    (
-      Some d,
-      subst (λ (gas : ℕ). Brings lists x types true (node.PotOut q d) payload.Pay gas (Some d)) (sym same) (own_potential q d),
-      both rest,
-    )
-brings-alike {lists} {x} {types} formed (other_potential r t) (pot_in _ q _ d same rest) =
-    (
-      Some d,
-      subst (λ (gas : ℕ). Brings lists x types false (node.PotIn q d) payload.Pay gas (Some d)) (sym same) (other_potential q d),
-      both rest,
-    )
+brings-alike {lists} {x} {types} formed (own_potential r t) (pot_out _ q _ d same rest) = (
+  Some d,
+  subst (λ (gas : ℕ). Brings lists x types true (node.PotOut q d) payload.Pay gas (Some d)) (sym same) (own_potential q d),
+  both rest,
+)
+brings-alike {lists} {x} {types} formed (other_potential r t) (pot_in _ q _ d same rest) = (
+  Some d,
+  subst (λ (gas : ℕ). Brings lists x types false (node.PotIn q d) payload.Pay gas (Some d)) (sym same) (other_potential q d),
+  both rest,
+)
 brings-alike formed end one = (None, end, neither)
 
 -- What is brought where one of two types that are alike unfolds to a node is brought where the other does: so a talk goes on
