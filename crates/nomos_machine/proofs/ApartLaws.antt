@@ -1,4 +1,4 @@
--- Objects of one state are apart by their numbers: what two of them do with a name counts twice, and so sections lead on.
+-- Objects are apart by their numbers: what two of them do with a name counts twice, and sections lead on.
 use Rattle.std.proofs.Common.{◌≡◌, ◌≢◌, ◌∙◌, ◌≤◌, ◌⊎◌, inl, inr, ℕ, ◌+◌, List, [], ◌∷◌, Contains, Option, Some, None, refl, sym, subst, ap, arith}
 use Rattle.std.proofs.lemmas.Bool.{cases_eq}
 use Rattle.nomos_ir.specs.Order.{count_of}

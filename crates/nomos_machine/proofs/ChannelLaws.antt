@@ -201,7 +201,8 @@ module _ (n : ℕ) where
       ≡ count_of n (used (object.Process p)) + count_of n (client_end c name)
   under-uses chan.Own name from p ascending found = refl
   under-uses (chan.Var v) name from p ascending found =
-      ap (λ (o : Option ℕ). count_of n (used (object.Process (under_name (chan.Var v) name p))) + count_of n (option_to_list o))
+      ap (λ (o : Option ℕ). count_of n (used (object.Process (under_name (chan.Var v) name p))) + count_of n
+      (option_to_list o))
       (sym found)
       ∙ count-after_bind n v name p.channels ascending
 
@@ -244,5 +245,6 @@ module _ (n : ℕ) where
       ≡ count_of n (provider_end c m.from) + count_of n (client_end c name) + count_of n (carried m.payload)
   received-uses c m name way next =
       ap (λ (b : Bool). count_of n (cond b (option_to_list m.next) (m.from ∷ []) ++ carried m.payload)) way
-      ∙ ap (λ (o : Option ℕ). count_of n (cond (not (is_own c)) (option_to_list o) (m.from ∷ []) ++ carried m.payload)) next
+      ∙ ap (λ (o : Option ℕ). count_of n (cond (not (is_own c)) (option_to_list o) (m.from ∷ []) ++ carried m.payload))
+      next
       ∙ got-uses c m.from name m.payload

@@ -27,7 +27,7 @@ use Rattle.nomos_machine.proofs.NameLaws.{type_of-kept}
 pub count-other : (n k : ℕ) → n ≢ k → count_of n (k ∷ []) ≡ 0
 count-other n k other = count-elsewhere n k [] (ne_eqb k n (λ same. other (sym same)))
 
--- a name that is provided once and used once, and not outside, is owned at a mode of channels that are used exactly once
+-- a name that is provided once, used once and not outside is owned at a mode of channels that are used exactly once
 pub owned-once : (m : Mode) (s : State) (name : ℕ) → IsLinearMode m → times provided s.objects name ≡ 1
     → times used s.objects name ≡ 1 → count_of name s.outside ≡ 0 → IsOwned m s name
 owned-once mode.R s name linear provides uses outside = (provides, omega (arith, uses, outside))

@@ -65,7 +65,8 @@ module _ {a : Acceptance} (accepted : IsAccepted a) {s : State} (typed : IsTyped
 
   -- ---- a label
 
-  arm-first : (c : Chan) (bs : List Branch) (l : Label) (t u : TypeId) (e : Arm) (arms : List Arm) (after : List Judgement)
+  arm-first : (c : Chan) (bs : List Branch) (l : Label) (t u : TypeId) (e : Arm) (arms : List Arm)
+      (after : List Judgement)
       (b : Bool) → (e.label.0 == l.0) ≡ b → goes_by bs e.label ≡ Some u → goes_by bs l ≡ Some t
       → Contains (map (λ d. d.label) (e ∷ arms)) l
       → (Contains (map (λ d. d.label) arms) l
@@ -109,11 +110,13 @@ module _ {a : Acceptance} (accepted : IsAccepted a) {s : State} (typed : IsTyped
       let awaits = row-inverted n (own-stands typed there n stands) row in
       let (held, holds, unfolds) = awaits.channel in
       receives-by accepted typed there c held (by_side c (node.With awaits.branches) (node.Plus awaits.branches))
-      (λ brought q. option_and_then (λ next. Some (standing_at next q)) (option_and_then (arm_for arms) (label_in brought)))
+      (λ brought q. option_and_then (λ next. Some (standing_at next q))
+      (option_and_then (arm_for arms) (label_in brought)))
       holds unfolds
       (λ m goes brings here.
       let (l, t, is_label, no_gas, goes_so, chosen) = received-label c awaits.branches brings in
-      let (next, is_arm, among) = arm-found c awaits.branches l t arms after awaits.each_arm chosen (awaits.each_label l t chosen) in (
+      let (next, is_arm, among) = arm-found c awaits.branches l t arms after awaits.each_arm chosen
+      (awaits.each_label l t chosen) in (
         t,
         goes_so,
         λ name has. (
@@ -122,7 +125,8 @@ module _ {a : Acceptance} (accepted : IsAccepted a) {s : State} (typed : IsTyped
               (option_and_then (arm_for arms) (label_in brought))) is_label
               ∙ ap (λ (o : Option CodeId). option_and_then (λ k. Some (standing_at k (under_name c name p))) o) is_arm,
           plain-received accepted typed there c m name held t next after (goes_on own c t next).q row among holds has
-              (ap (λ (brought : Payload). carried brought) is_label) (omega (arith, goes_on-potential own c t next, no_gas)),
+              (ap (λ (brought : Payload). carried brought) is_label)
+              (omega (arith, goes_on-potential own c t next, no_gas)),
         ),
       ))
 
@@ -134,7 +138,9 @@ module _ {a : Acceptance} (accepted : IsAccepted a) {s : State} (typed : IsTyped
       let (t, gets, goes_on_so) = row-inverted n (own-stands typed there n stands) row in
       let (held, holds, unfolds) = gets.channel in
       let k : Judgement = with_potential (goes_on own c t next) (own.q + dths a.annotations r) in
-      let among : Contains after k = subst (λ (js : List Judgement). Contains js k) (sym goes_on_so) (0, omega arith, refl) in
+      let among : Contains after k =
+      subst (λ (js : List Judgement). Contains js k) (sym goes_on_so) (0, omega arith, refl)
+      in
       receives-by accepted typed there c held (by_side c (node.PotIn gets.amount t) (node.PotOut gets.amount t))
       (λ brought q. option_and_then (λ some. Some (standing_at next q)) (potential_in brought)) holds unfolds
       (λ m goes brings here.
@@ -143,9 +149,11 @@ module _ {a : Acceptance} (accepted : IsAccepted a) {s : State} (typed : IsTyped
         goes_so,
         λ name has. (
           standing_at next (under_name c name p),
-          ap (λ (brought : Payload). option_and_then (λ some. Some (standing_at next (under_name c name p))) (potential_in brought))
+          ap (λ (brought : Payload). option_and_then (λ some. Some (standing_at next (under_name c name p)))
+              (potential_in brought))
               is_pay,
-          plain-received accepted typed there c m name held t next after (own.q + dths a.annotations r) row among holds has
+          plain-received accepted typed there c m name held t next after (own.q + dths a.annotations r) row among holds
+              has
               (ap (λ (brought : Payload). carried brought) is_pay) (omega (arith, is_gas, gets.same)),
         ),
       ))
@@ -158,7 +166,9 @@ module _ {a : Acceptance} (accepted : IsAccepted a) {s : State} (typed : IsTyped
       let (kind, t, receives_it, goes_on_so) = row-inverted n (own-stands typed there n stands) row in
       let (held, holds, unfolds) = receives_it.channel in
       let k : Judgement = binds_value (goes_on own c t next) v kind in
-      let among : Contains after k = subst (λ (js : List Judgement). Contains js k) (sym goes_on_so) (0, omega arith, refl) in
+      let among : Contains after k =
+      subst (λ (js : List Judgement). Contains js k) (sym goes_on_so) (0, omega arith, refl)
+      in
       receives-by accepted typed there c held (by_side c (node.ValueIn kind t) (node.ValueOut kind t))
       (λ brought q. option_and_then (λ x. Some (standing_at next (with_value v x q))) (value_in brought)) holds unfolds
       (λ m goes brings here.
@@ -167,18 +177,22 @@ module _ {a : Acceptance} (accepted : IsAccepted a) {s : State} (typed : IsTyped
         goes_so,
         λ name has. (
           standing_at next (with_value v x (under_name c name p)),
-          ap (λ (brought : Payload). option_and_then (λ y. Some (standing_at next (with_value v y (under_name c name p))))
+          ap (λ (brought : Payload). option_and_then
+              (λ y. Some (standing_at next (with_value v y (under_name c name p))))
               (value_in brought)) is_value,
           value-received c m name held t next v x kind after row among holds has of_kind
               (ap (λ (brought : Payload). carried brought) is_value) no_gas,
         ),
       ))
     where
-      value-received : (d : Chan) (m : Message) (name : ℕ) (held t : TypeId) (goes_to : CodeId) (w : VarId) (x : Value) (kind : Kind)
+      value-received : (d : Chan) (m : Message) (name : ℕ) (held t : TypeId) (goes_to : CodeId) (w : VarId) (x : Value)
+          (kind : Kind)
           (after : List Judgement) → Row a.program a.annotations own after
           → Contains after (binds_value (goes_on own d t goes_to) w kind) → channel_type own d ≡ Some held
-          → NameHasType a.program a.annotations s.types name t → ValueHasKind x kind → carried m.payload ≡ [] → m.purse ≡ 0
-          → Received accepted typed there d m name (richer m.purse (standing_at goes_to (with_value w x (under_name d name p))))
+          → NameHasType a.program a.annotations s.types name t → ValueHasKind x kind → carried m.payload ≡ []
+          → m.purse ≡ 0
+          → Received accepted typed there d m name
+          (richer m.purse (standing_at goes_to (with_value w x (under_name d name p))))
       value-received d m name held t goes_to w x kind after row among holds has of_kind nothing no_gas =
           let unshared = channel-unshared (own-is_judgement typed there accepted) d held holds in
           let on = matches-goes_on (own-matches typed there) d name t goes_to unshared has in
@@ -192,7 +206,8 @@ module _ {a : Acceptance} (accepted : IsAccepted a) {s : State} (typed : IsTyped
               mode = on.mode;
               code = on.code;
               offers = on.offers;
-              values = paired-bind w x kind (under_name d name p).values (goes_on own d t goes_to).kinds of_kind on.values;
+              values = paired-bind w x kind (under_name d name p).values (goes_on own d t goes_to).kinds of_kind
+                  on.values;
               held_lists = on.held_lists;
               channels = on.channels;
             };
@@ -217,34 +232,47 @@ module _ {a : Acceptance} (accepted : IsAccepted a) {s : State} (typed : IsTyped
       let (mode, sent, t, receives_it, goes_on_so) = row-inverted n (own-stands typed there n stands) row in
       let (held, holds, unfolds) = receives_it.channel in
       let k : Judgement = binds_channel (goes_on own c t next) y mode sent in
-      let among : Contains after k = subst (λ (js : List Judgement). Contains js k) (sym goes_on_so) (0, omega arith, refl) in
+      let among : Contains after k =
+      subst (λ (js : List Judgement). Contains js k) (sym goes_on_so) (0, omega arith, refl)
+      in
       receives-by accepted typed there c held (by_side c (node.Lolli sent t) (node.Tensor sent t))
-      (λ brought q. option_and_then (λ name. Some (standing_at next (with_channel y name q))) (channel_in brought)) holds unfolds
+      (λ brought q. option_and_then (λ name. Some (standing_at next (with_channel y name q))) (channel_in brought))
+      holds unfolds
       (λ m goes brings here.
       let (carries, is_channel, no_gas, goes_so, is_sent) = received-channel c sent t brings in (
         t,
         goes_so,
         λ name has. (
           standing_at next (with_channel y carries (under_name c name p)),
-          ap (λ (brought : Payload). option_and_then (λ j. Some (standing_at next (with_channel y j (under_name c name p))))
+          ap (λ (brought : Payload). option_and_then
+              (λ j. Some (standing_at next (with_channel y j (under_name c name p))))
               (channel_in brought)) is_channel,
-          channel-received c m name held t next mode sent carries after row among holds has is_sent receives_it.free here
+          channel-received c m name held t next mode sent carries after row among holds has is_sent receives_it.free
+              here
               (ap (λ (brought : Payload). carried brought) is_channel) no_gas,
         ),
       ))
     where
-      channel-received : (d : Chan) (m : Message) (name : ℕ) (held t : TypeId) (goes_to : CodeId) (mode : Mode) (sent : TypeId)
+      channel-received : (d : Chan) (m : Message) (name : ℕ) (held t : TypeId) (goes_to : CodeId) (mode : Mode)
+          (sent : TypeId)
           (carries : ℕ) (after : List Judgement) → Row a.program a.annotations own after
           → Contains after (binds_channel (goes_on own d t goes_to) y mode sent) → channel_type own d ≡ Some held
-          → NameHasType a.program a.annotations s.types name t → NameHasType a.program a.annotations s.types carries sent
+          → NameHasType a.program a.annotations s.types name t
+          → NameHasType a.program a.annotations s.types carries sent
           → IsFree own y → present_name p d ≡ Some m.from → carried m.payload ≡ carries ∷ [] → m.purse ≡ 0
-          → Received accepted typed there d m name (richer m.purse (standing_at goes_to (with_channel y carries (under_name d name p))))
-      channel-received d m name held t goes_to mode sent carries after row among holds has is_sent free here one no_gas =
+          → Received accepted typed there d m name
+          (richer m.purse (standing_at goes_to (with_channel y carries (under_name d name p))))
+      channel-received d m name held t goes_to mode sent carries after row among holds has is_sent free here one
+          no_gas =
           let unshared = channel-unshared (own-is_judgement typed there accepted) d held holds in
           let on = matches-goes_on (own-matches typed there) d name t goes_to unshared has in
-          let no_reference : bound_to y.0 own.shared ≡ None = uncounted (bound_to y.0 own.shared) (omega (arith, free)) in
+          let no_reference : bound_to y.0 own.shared ≡ None =
+          uncounted (bound_to y.0 own.shared) (omega (arith, free))
+          in
           let no_channel : bound_to y.0 own.linear ≡ None = uncounted (bound_to y.0 own.linear) (omega (arith, free)) in
-          let none = ap (λ (cs : List (VarId × TypeId)). bound_to y.0 cs) (goes_on-shared own d t goes_to) ∙ no_reference in
+          let none =
+          ap (λ (cs : List (VarId × TypeId)). bound_to y.0 cs) (goes_on-shared own d t goes_to) ∙ no_reference
+          in
           let binds = matches-binds on y carries mode sent none is_sent in
           let not_held : type_held own y.0 ≡ None =
           ap (λ (o : Option TypeId). option_or o (bound_to y.0 own.linear)) no_reference ∙ no_channel
@@ -294,7 +322,9 @@ module _ {a : Acceptance} (accepted : IsAccepted a) {s : State} (typed : IsTyped
       let (has_type, goes_on_so) = row-inverted n (own-stands typed there n stands) row in
       let (held, holds, unfolds) = has_type in
       let k : Judgement = at_code (gives_up own v) next in
-      let among : Contains after k = subst (λ (js : List Judgement). Contains js k) (sym goes_on_so) (0, omega arith, refl) in
+      let among : Contains after k =
+      subst (λ (js : List Judgement). Contains js k) (sym goes_on_so) (0, omega arith, refl)
+      in
       let unshared = channel-unshared h (chan.Var v) held holds in
       let (from, here, is) = present-has_type (own-matches typed there) (chan.Var v) held unshared holds in
       let at_each : (m : Message) → IsReadOn s.objects true from m → Takes accepted typed there m (makes m) = λ m read.
@@ -324,7 +354,8 @@ module _ {a : Acceptance} (accepted : IsAccepted a) {s : State} (typed : IsTyped
       ended : (m : Message) (held : TypeId) (after : List Judgement) → Row a.program a.annotations own after
           → Contains after (at_code (gives_up own v) next) → bound_to v.0 own.linear ≡ Some held
           → bound_to v.0 own.shared ≡ None → bound_to v.0 p.channels ≡ Some m.from
-          → Contains s.objects (object.Message m) → m.to_client ≡ true → BringsTo a s m held node.One → Takes accepted typed there m (makes m)
+          → Contains s.objects (object.Message m) → m.to_client ≡ true → BringsTo a s m held node.One
+          → Takes accepted typed there m (makes m)
       ended m held after row among holds unshared here waiting way b =
           let brings = subst
           (λ (w : Bool). Brings a.program a.annotations s.types w node.One m.payload m.purse b.goes) way b.brings
@@ -340,7 +371,8 @@ module _ {a : Acceptance} (accepted : IsAccepted a) {s : State} (typed : IsTyped
           let on = own-matches typed there in
           let covered : potential_of p ≤ p.purse = t.covered in
           let channels : IsAscending (unbind v.0 p.channels) = unbind-ascending v.0 p.channels variables.channels in
-          let matches : Matches a.program a.annotations s.types (richer m.purse q) (at_code (gives_up own v) next) = record {
+          let matches : Matches a.program a.annotations s.types (richer m.purse q)
+          (at_code (gives_up own v) next) = record {
             mode = on.mode;
             code = refl;
             offers = on.offers;
@@ -364,8 +396,13 @@ module _ {a : Acceptance} (accepted : IsAccepted a) {s : State} (typed : IsTyped
               is_linear = subst IsLinearMode same_mode is_linear;
               turns = client refl way (omega (arith, counts m.from, count-first m.from []));
               uses = λ name.
-                  let ends = ap (λ (w : Bool). count_of name (cond w (option_to_list m.next) (m.from ∷ []) ++ carried m.payload)) way in
-                  let none_more = ap (λ (o : Option ℕ). count_of name (option_to_list o ++ carried m.payload)) no_next in
+                  let ends =
+                  ap (λ (w : Bool). count_of name (cond w (option_to_list m.next) (m.from ∷ []) ++ carried m.payload))
+                  way
+                  in
+                  let none_more =
+                  ap (λ (o : Option ℕ). count_of name (option_to_list o ++ carried m.payload)) no_next
+                  in
                   let nothing = ap (λ (brought : Payload). count_of name (carried brought)) is_close in
                   omega (arith, counts name, ends, none_more, nothing);
               pid = refl;
@@ -374,7 +411,8 @@ module _ {a : Acceptance} (accepted : IsAccepted a) {s : State} (typed : IsTyped
               purse = refl;
               typed = process-next accepted t after (at_code (gives_up own v) next) row among matches (omega arith)
                   (omega (arith, no_gas)) refl (base-same t.has_base refl refl);
-              differ = matches-differ (next-is_judgement typed there accepted (at_code (gives_up own v) next) row among) matches
+              differ = matches-differ
+                  (next-is_judgement typed there accepted (at_code (gives_up own v) next) row among) matches
                   variables.values variables.lists channels;
             },
           )

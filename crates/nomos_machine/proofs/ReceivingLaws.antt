@@ -47,10 +47,12 @@ module _ {a : Acceptance} (accepted : IsAccepted a) {s : State} (typed : IsTyped
   -- ---- the message is there, or it is not
 
   -- a change that takes a message is made
-  take-acts : (m : Message) (q : Process) → Taking a s p m (richer m.purse q) → Goes a s true (does a s p (Some (takes a s p m q)))
+  take-acts : (m : Message) (q : Process) → Taking a s p m (richer m.purse q)
+      → Goes a s true (does a s p (Some (takes a s p m q)))
   take-acts m q taking =
       acts (takes a s p m q) (object.Process p ∷ object.Message m ∷ [])
-      (receives-replaces accepted typed there m (richer m.purse q) taking) (receives-fits accepted typed there m (richer m.purse q) taking)
+      (receives-replaces accepted typed there m (richer m.purse q) taking)
+      (receives-fits accepted typed there m (richer m.purse q) taking)
       (receives-keep_gas accepted typed there m (richer m.purse q) taking)
 
   -- What it makes of each message that it may find.
@@ -74,11 +76,13 @@ module _ {a : Acceptance} (accepted : IsAccepted a) {s : State} (typed : IsTyped
   -- what it makes of a message at a receive
   abbrev makes_of : Chan → (Payload → Process → Option Process) → Message → Option Change
   makes_of c reads m =
-      option_and_then (λ name. option_and_then (λ q. Some (takes a s p m q)) (reads m.payload (under_name c name p))) m.next
+      option_and_then (λ name. option_and_then (λ q. Some (takes a s p m q)) (reads m.payload (under_name c name p)))
+      m.next
 
   receives-go : (c : Chan) (held : TypeId) (n : TypeNode) (reads : Payload → Process → Option Process)
       → channel_type own c ≡ Some held → Unfolds a.program held.0 n
-      → ((m : Message) → IsReadOn s.objects (not (is_own c)) m.from m → present_name p c ≡ Some m.from → BringsTo a s m held n
+      → ((m : Message) → IsReadOn s.objects (not (is_own c)) m.from m → present_name p c ≡ Some m.from
+      → BringsTo a s m held n
       → Takes m (makes_of c reads m))
       → Goes a s (is_some (option_and_then (message_on s.objects (not (is_own c))) (present_name p c)))
       (does a s p (receives a s p c reads))
@@ -88,18 +92,20 @@ module _ {a : Acceptance} (accepted : IsAccepted a) {s : State} (typed : IsTyped
       let way : Bool = not (is_own c) in
       let at_each : (m : Message) → IsReadOn s.objects way from m → Takes m (makes_of c reads m) = λ m read.
       let is_read : from ≡ m.from = sym read.read in
-      each m (record { waiting = read.waiting; goes_way = read.goes_way; read = refl }) (here ∙ ap (λ (k : ℕ). Some k) is_read)
+      each m (record { waiting = read.waiting; goes_way = read.goes_way; read = refl })
+      (here ∙ ap (λ (k : ℕ). Some k) is_read)
       (message-brings accepted typed m held n read.waiting
       (subst (λ (k : ℕ). NameHasType a.program a.annotations s.types k held) is_read is) unfolds)
       in
       subst (λ (o : Option ℕ). Goes a s (is_some (option_and_then (message_on s.objects way) o))
-      (does a s p (option_and_then (λ k. option_and_then (makes_of c reads) (message_on s.objects way k)) o))) (sym here)
+      (does a s p (option_and_then (λ k. option_and_then (makes_of c reads) (message_on s.objects way k)) o)))
+      (sym here)
       (looked-goes way from (makes_of c reads) at_each)
 
   -- ---- as which it goes on
 
-  -- It received the message, whose next name is this one, and goes on as q: by the rule of its judgement, under that name, with
-  -- the message's gas; and it uses what the message brings.
+  -- It received the message, whose next name is this one, and goes on as q: by the rule of its judgement, under that
+  -- name, with the message's gas; and it uses what the message brings.
   pub record Received (c : Chan) (m : Message) (name : ℕ) (q : Process) : Type 0 where
     pub after : List Judgement
     pub k : Judgement
@@ -170,10 +176,12 @@ module _ {a : Acceptance} (accepted : IsAccepted a) {s : State} (typed : IsTyped
         same_mode = g.same_mode ∙ kept.same_mode;
         base = g.base ∙ kept.base;
         purse = purse;
-        typed = process-next accepted it g.after g.k g.row g.among g.matches (omega (arith, potential, purse, covered)) free
+        typed = process-next accepted it g.after g.k g.row g.among g.matches (omega (arith, potential, purse, covered))
+            free
             (g.payer ∙ kept.payer)
             (base-same it.has_base (g.same_mode ∙ kept.same_mode) (g.base ∙ kept.base));
-        differ = matches-differ (next-is_judgement typed there accepted g.k g.row g.among) g.matches g.values lists g.channels;
+        differ = matches-differ (next-is_judgement typed there accepted g.k g.row g.among) g.matches g.values lists
+            g.channels;
       }
 
   -- ---- what it does
@@ -182,7 +190,8 @@ module _ {a : Acceptance} (accepted : IsAccepted a) {s : State} (typed : IsTyped
   pub receives-by : (c : Chan) (held : TypeId) (n : TypeNode) (reads : Payload → Process → Option Process)
       → channel_type own c ≡ Some held → Unfolds a.program held.0 n
       → ((m : Message) (goes : Option TypeId)
-      → Brings a.program a.annotations s.types (not (is_own c)) n m.payload m.purse goes → present_name p c ≡ Some m.from
+      → Brings a.program a.annotations s.types (not (is_own c)) n m.payload m.purse goes
+      → present_name p c ≡ Some m.from
       → (t : TypeId) × (goes ≡ Some t)
       × ((name : ℕ) → NameHasType a.program a.annotations s.types name t
       → (q : Process) × (reads m.payload (under_name c name p) ≡ Some q) × Received c m name (richer m.purse q)))
@@ -191,7 +200,9 @@ module _ {a : Acceptance} (accepted : IsAccepted a) {s : State} (typed : IsTyped
   receives-by c held n reads holds unfolds each =
       receives-go c held n reads holds unfolds
       (λ m read here b.
-      let brings = subst (λ (w : Bool). Brings a.program a.annotations s.types w n m.payload m.purse b.goes) read.goes_way b.brings in
+      let brings =
+      subst (λ (w : Bool). Brings a.program a.annotations s.types w n m.payload m.purse b.goes) read.goes_way b.brings
+      in
       let (t, goes, makes) = each m b.goes brings here in
       let (name, is_next, has) = next-there a.program a.annotations s.types m.next t
       (subst (λ (o : Option TypeId). GoesOnAt a.program a.annotations s.types m.next o) goes b.next)
@@ -205,7 +216,8 @@ module _ {a : Acceptance} (accepted : IsAccepted a) {s : State} (typed : IsTyped
       ))
 
   -- it goes on under the message's next name, and has besides only the message's gas
-  pub plain-received : (c : Chan) (m : Message) (name : ℕ) (held t : TypeId) (next : CodeId) (after : List Judgement) (gas : ℕ)
+  pub plain-received : (c : Chan) (m : Message) (name : ℕ) (held t : TypeId) (next : CodeId) (after : List Judgement)
+      (gas : ℕ)
       → Row a.program a.annotations own after → Contains after (with_potential (goes_on own c t next) gas)
       → channel_type own c ≡ Some held → NameHasType a.program a.annotations s.types name t → carried m.payload ≡ []
       → gas ≡ own.q + m.purse → Received c m name (richer m.purse (standing_at next (under_name c name p)))

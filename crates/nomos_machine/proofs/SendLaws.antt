@@ -54,7 +54,8 @@ use Rattle.nomos_machine.proofs.TalkLaws.{brings-continues, brings-keeps_mode, b
 -- ---- the change
 
 module _ {a : Acceptance} (accepted : IsAccepted a) {s : State} (typed : IsTyped a s) {p : Process}
-    (there : Contains s.objects (object.Process p)) (c : Chan) (brought : Payload) (gas : ℕ) (q : Process) (next : CodeId)
+    (there : Contains s.objects (object.Process p)) (c : Chan) (brought : Payload) (gas : ℕ) (q : Process)
+    (next : CodeId)
     (h : Sending a s p (process-typed typed there) c brought gas q next) (g : SendsOn a s p c brought gas h.goes) where
   -- the process afterwards, and the message
   abbrev onward : Process
@@ -138,7 +139,9 @@ module _ {a : Acceptance} (accepted : IsAccepted a) {s : State} (typed : IsTyped
   shared-same : (name : ℕ) → times shared_names (made s sent).objects name ≡ times shared_names s.objects name
   shared-same name =
       let sum = made-times shared_names name s sent (object.Process p ∷ []) sends-replaces in
-      let at_p = linear-at accepted (process-typed typed there) c g.from g.own g.mode g.here g.found g.has_mode goes-linear in
+      let at_p =
+      linear-at accepted (process-typed typed there) c g.from g.own g.mode g.here g.found g.has_mode goes-linear
+      in
       let linear : IsLinearAt c q.mode = subst (IsLinearAt c) (sym h.same_mode) at_p in
       let under = ap (λ (ns : List ℕ). count_of name ns) (under-shared c s.next_name q linear) in
       let same : count_of name (shared_names (object.Process q)) ≡ count_of name (shared_names (object.Process p)) =
@@ -183,7 +186,8 @@ module _ {a : Acceptance} (accepted : IsAccepted a) {s : State} (typed : IsTyped
           → ¬ (HasMode a.program u mode.S)
       unshared before is u u_found at_s =
           let same : u ≡ t = cc in
-          is (mode-unique accepted.typed.formed.program has (subst (λ (v : TypeId). HasMode a.program v mode.S) same at_s))
+          is (mode-unique accepted.typed.formed.program has
+          (subst (λ (v : TypeId). HasMode a.program v mode.S) same at_s))
 
   -- ---- what comes is typed
 
@@ -197,13 +201,16 @@ module _ {a : Acceptance} (accepted : IsAccepted a) {s : State} (typed : IsTyped
 
   onward-matches : Matches a.program a.annotations (made s sent).types onward (goes_on h.left c h.goes next)
   onward-matches =
-      matches-goes_on (matches-kept a s.types (made s sent).types q h.left (λ name t among found. type-kept name t found) h.matches)
+      matches-goes_on (matches-kept a s.types (made s sent).types q h.left
+      (λ name t among found. type-kept name t found) h.matches)
       c s.next_name h.goes next h.unshared (goes-type h.goes g.alike)
 
   onward-typed : ProcessTyped a (made s sent).types (length s.balances) onward
   onward-typed =
       let t = process-typed typed there in
-      let same_lists = ap (λ (ls : List (VarId × PotentialList)). sum_by (λ e. e.1.amount * length e.1.items) ls) kept.held_lists in
+      let same_lists =
+      ap (λ (ls : List (VarId × PotentialList)). sum_by (λ e. e.1.amount * length e.1.items) ls) kept.held_lists
+      in
       let potential : potential_of onward ≡ potential_of q = same_lists in
       let purse : onward.purse ≡ q.purse = kept.purse in
       let covered : potential_of q ≤ q.purse = h.covered in
@@ -215,7 +222,8 @@ module _ {a : Acceptance} (accepted : IsAccepted a) {s : State} (typed : IsTyped
 
   onward-differ : VariablesDiffer onward
   onward-differ =
-      matches-differ (next-is_judgement typed there accepted (goes_on h.left c h.goes next) h.row h.among) onward-matches
+      matches-differ (next-is_judgement typed there accepted (goes_on h.left c h.goes next) h.row h.among)
+      onward-matches
       (subst IsAscending (sym kept.values) h.values) (subst IsAscending (sym kept.held_lists) h.held_lists)
       (under-ascending c s.next_name q h.channels)
 
@@ -227,7 +235,8 @@ module _ {a : Acceptance} (accepted : IsAccepted a) {s : State} (typed : IsTyped
         head = g.head;
         unfolds = g.unfolds;
         goes = Some g.goes;
-        brings = brings-kept a.program a.annotations s.types (made s sent).types (is_own c) g.head brought gas (Some g.goes)
+        brings = brings-kept a.program a.annotations s.types (made s sent).types (is_own c) g.head brought gas
+            (Some g.goes)
             (λ name t among found. type-kept name t found) g.brings;
         next = goes-type g.goes (alike_types-same a.annotations formed.program formed.contractive goes-mode);
       }
@@ -290,7 +299,8 @@ module _ {a : Acceptance} (accepted : IsAccepted a) {s : State} (typed : IsTyped
         tt,
         λ leads_on. further m n onward
             (stays-there (object.Message m) inside
-            (λ number. numbers-differ s.objects typed.numbered.ascending p m there inside (sym number))) provides end leads_on,
+            (λ number. numbers-differ s.objects typed.numbered.ascending p m there inside (sym number))) provides end
+            leads_on,
       ))
       name tt leads
     where
@@ -349,7 +359,8 @@ module _ {a : Acceptance} (accepted : IsAccepted a) {s : State} (typed : IsTyped
             let goes_at_l = subst (λ (u : TypeId). HasMode a.program u mode.L) (sym is) at_l in
             let at : g.mode ≡ mode.L = mode-unique accepted.typed.formed.program goes-mode goes_at_l in
             let section = typed.sections g.from g.own g.found (subst (HasMode a.program g.own) at g.has_mode) in
-            let goes_on = synchronizing-continues a.annotations g.head section.synchronizing g.unfolds (brings-continues g.brings)
+            let goes_on = synchronizing-continues a.annotations g.head section.synchronizing g.unfolds
+            (brings-continues g.brings)
             in
             let next_section : InSection a (made s sent) s.next_name g.goes = record {
               base = section.base;

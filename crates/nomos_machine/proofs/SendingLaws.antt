@@ -29,10 +29,10 @@ use Rattle.nomos_machine.proofs.ChannelLaws.{IsUnshared, present-has_type}
 use Rattle.nomos_machine.proofs.ProcessLaws.{own_judgement}
 use Rattle.nomos_machine.proofs.TalkLaws.{goes-alike}
 
--- What the rule gives at a send: the channel's type unfolds to a node at which this is brought, and with which the channel
--- goes on; and the process, as which it goes on, has what is left, and has handed over what the message carries.
-pub record Sending (a : Acceptance) (s : State) (p : Process) (t : ProcessTyped a s.types (length s.balances) p) (c : Chan)
-    (brought : Payload) (gas : ℕ) (q : Process) (next : CodeId) : Type 0 where
+-- What the rule gives at a send: the channel's type unfolds to a node at which this is brought, and after which it goes
+-- on; and the process as which it goes on has what is left, and has handed over what the message carries.
+pub record Sending (a : Acceptance) (s : State) (p : Process) (t : ProcessTyped a s.types (length s.balances) p)
+    (c : Chan) (brought : Payload) (gas : ℕ) (q : Process) (next : CodeId) : Type 0 where
   pub left : Judgement
   pub held : TypeId
   pub head : TypeNode
@@ -77,7 +77,8 @@ pub record SendsOn (a : Acceptance) (s : State) (p : Process) (c : Chan) (brough
   pub brings : Brings a.program a.annotations s.types (is_own c) head brought gas (Some goes)
   pub alike : AlikeTypes a.program a.annotations goes t
 
-pub sends-on : {a : Acceptance} → IsAccepted a → {s : State} {p : Process} {t : ProcessTyped a s.types (length s.balances) p}
+pub sends-on : {a : Acceptance} → IsAccepted a
+    → {s : State} {p : Process} {t : ProcessTyped a s.types (length s.balances) p}
     {c : Chan} {brought : Payload} {gas : ℕ} {q : Process} {next : CodeId} → (h : Sending a s p t c brought gas q next)
     → SendsOn a s p c brought gas h.goes
 sends-on {a} accepted {s} {c = c} {brought = brought} {gas = gas} h =
@@ -98,6 +99,7 @@ sends-on {a} accepted {s} {c = c} {brought = brought} {gas = gas} h =
       head = head;
       unfolds = unfolds;
       goes = u;
-      brings = subst (λ (o : Option TypeId). Brings a.program a.annotations s.types (is_own c) head brought gas o) is_u brings;
+      brings = subst (λ (o : Option TypeId). Brings a.program a.annotations s.types (is_own c) head brought gas o) is_u
+          brings;
       alike = alike_types-back alike;
     }
