@@ -1,4 +1,4 @@
--- Objects of one state are apart by their numbers: what two of them do with a name counts twice, and so sections lead on.
+-- Objects are apart by their numbers: what two of them do with a name counts twice, and sections lead on.
 use Rattle.std.proofs.Common.{◌≡◌, ◌≢◌, ◌∙◌, ◌≤◌, ◌⊎◌, inl, inr, ℕ, ◌+◌, List, [], ◌∷◌, Contains, Option, Some, None, refl, sym, subst, ap, arith}
 use Rattle.std.proofs.lemmas.Bool.{cases_eq}
 use Rattle.nomos_ir.specs.Order.{count_of}
@@ -10,9 +10,9 @@ use Rattle.nomos_types.specs.Modes.{HasMode}
 use Rattle.nomos_types.proofs.ModeLaws.{mode-unique}
 use Rattle.nomos_types.proofs.OccurrenceLaws.{counted}
 use Rattle.nomos_machine.specs.Change.{put_at}
-use Rattle.nomos_machine.specs.Objects.{object_number, provided, used, based, talk_end, times, object_at}
+use Rattle.nomos_machine.specs.Objects.{object_number, provided, based, talk_end, times, object_at}
 use Rattle.nomos_machine.specs.State.{State, type_of}
-use Rattle.nomos_machine.specs.TypedState.{LeadsToBase, at_base, further, ObjectTyped, IsTyped}
+use Rattle.nomos_machine.specs.TypedState.{LeadsToBase, at_base, further, IsTyped}
 use Rattle.nomos_machine.specs.declared.object.Message.{Message}
 use Rattle.nomos_machine.specs.declared.object.Object.{Object}
 use Rattle.nomos_machine.specs.declared.object.Object.TheVariants as object

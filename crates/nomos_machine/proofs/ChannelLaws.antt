@@ -1,5 +1,5 @@
 -- A channel of a process that goes on under another name: what the process has, provides and uses.
-use Rattle.std.proofs.Common.{◌≡◌, ◌∙◌, ◌≤◌, ℕ, ◌+◌, not, Bool, true, false, cond, List, [], ◌∷◌, ◌++◌, map, Option, Some, None, refl, sym, subst, ap, arith, append-nil}
+use Rattle.std.proofs.Common.{◌≡◌, ◌∙◌, ℕ, ◌+◌, not, Bool, cond, List, [], ◌∷◌, ◌++◌, Option, Some, None, refl, sym, subst, ap, arith}
 use Rattle.std.specs.Option.{option_to_list}
 use Rattle.nomos_ir.specs.Bindings.{bound_to, IsAscending}
 use Rattle.nomos_ir.specs.Order.{count_of}
@@ -16,7 +16,7 @@ use Rattle.nomos_ir.proofs.PairedLaws.{paired-left}
 use Rattle.nomos_ir.proofs.SumLaws.{count-after_bind}
 use Rattle.std.specs.Option.{option_or}
 use Rattle.nomos_types.specs.Amount.{Annotations}
-use Rattle.nomos_types.specs.Judgement.{Judgement, IsJudgement, channel_type, type_held, goes_on, count_one, with_potential, binds_channel}
+use Rattle.nomos_types.specs.Judgement.{Judgement, IsJudgement, channel_type, goes_on, count_one, with_potential, binds_channel}
 use Rattle.nomos_types.proofs.OccurrenceLaws.{count-append}
 use Rattle.nomos_machine.specs.Matching.{NameHasType, Matches}
 use Rattle.nomos_machine.specs.Objects.{provided, used, carried}
@@ -25,10 +25,8 @@ use Rattle.nomos_machine.specs.Sight.{is_own, present_name}
 use Rattle.nomos_machine.specs.State.{NameTypes}
 use Rattle.nomos_machine.specs.declared.object.Message.{Message}
 use Rattle.nomos_machine.specs.declared.object.Object.TheVariants as object
-use Rattle.nomos_machine.specs.declared.object.PotentialList.{PotentialList}
 use Rattle.nomos_machine.specs.declared.object.Payload.{Payload}
 use Rattle.nomos_machine.specs.declared.object.Process.{Process}
-use Rattle.nomos_ir.specs.Value.{Value}
 use Rattle.nomos_machine.proofs.MatchLaws.{holds-linear, holds-shared}
 
 -- ---- what a process keeps
@@ -203,7 +201,8 @@ module _ (n : ℕ) where
       ≡ count_of n (used (object.Process p)) + count_of n (client_end c name)
   under-uses chan.Own name from p ascending found = refl
   under-uses (chan.Var v) name from p ascending found =
-      ap (λ (o : Option ℕ). count_of n (used (object.Process (under_name (chan.Var v) name p))) + count_of n (option_to_list o))
+      ap (λ (o : Option ℕ). count_of n (used (object.Process (under_name (chan.Var v) name p))) + count_of n
+      (option_to_list o))
       (sym found)
       ∙ count-after_bind n v name p.channels ascending
 
@@ -246,5 +245,6 @@ module _ (n : ℕ) where
       ≡ count_of n (provider_end c m.from) + count_of n (client_end c name) + count_of n (carried m.payload)
   received-uses c m name way next =
       ap (λ (b : Bool). count_of n (cond b (option_to_list m.next) (m.from ∷ []) ++ carried m.payload)) way
-      ∙ ap (λ (o : Option ℕ). count_of n (cond (not (is_own c)) (option_to_list o) (m.from ∷ []) ++ carried m.payload)) next
+      ∙ ap (λ (o : Option ℕ). count_of n (cond (not (is_own c)) (option_to_list o) (m.from ∷ []) ++ carried m.payload))
+      next
       ∙ got-uses c m.from name m.payload

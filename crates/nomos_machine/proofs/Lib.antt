@@ -17,10 +17,12 @@ pub mod TalkLaws
 pub mod ApartLaws
 pub mod ChannelLaws
 pub mod LinearLaws
+pub mod SendingLaws
 pub mod SendLaws
 pub mod SendDeeds
 pub mod ReceiveLaws
 pub mod MessageLaws
+pub mod ReceivingLaws
 pub mod ReceiveDeeds
 pub mod BeginLaws
 pub mod BirthLaws

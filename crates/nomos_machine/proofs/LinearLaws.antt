@@ -1,5 +1,5 @@
 -- Names that are used exactly once, and what a process that goes on with its own channel stands for.
-use Rattle.std.proofs.Common.{◌≡◌, ◌≢◌, ◌∙◌, ◌≤◌, inl, inr, ℕ, List, [], ◌∷◌, ◌++◌, Option, Some, None, IsSome, refl, sym, subst, arith, ne_eqb}
+use Rattle.std.proofs.Common.{◌≡◌, ◌≢◌, ◌∙◌, ◌≤◌, inl, inr, ℕ, [], ◌∷◌, ◌++◌, Option, Some, IsSome, refl, sym, subst, ap, arith, ne_eqb}
 use Rattle.nomos_ir.specs.Order.{count_of}
 use Rattle.nomos_ir.specs.declared.code_node.Chan.{Chan}
 use Rattle.nomos_ir.specs.declared.code_node.Chan.TheVariants as chan
@@ -8,13 +8,15 @@ use Rattle.nomos_ir.specs.declared.lists.ProgramLists.{ProgramLists}
 use Rattle.nomos_ir.specs.declared.mode.Mode.{Mode}
 use Rattle.nomos_ir.specs.declared.mode.Mode.TheVariants as mode
 use Rattle.nomos_types.specs.Acceptance.{Acceptance, IsAccepted}
+use Rattle.nomos_types.specs.Judgement.{is_shared_mode}
 use Rattle.nomos_types.specs.Modes.{HasMode, IsLinearMode}
 use Rattle.nomos_types.proofs.ModeLaws.{mode-unique}
+use Rattle.nomos_types.proofs.ToldModeLaws.{type-shows_shared}
 use Rattle.nomos_types.proofs.OccurrenceLaws.{count-elsewhere}
-use Rattle.nomos_machine.specs.Matching.{HasBase, ProcessTyped}
+use Rattle.nomos_machine.specs.Matching.{NameHasType, HasBase, ProcessTyped}
 use Rattle.nomos_machine.specs.Objects.{provided, used, shared_names, shared_of, times}
 use Rattle.nomos_machine.specs.Revised.{under_name}
-use Rattle.nomos_machine.specs.Sight.{present_name}
+use Rattle.nomos_machine.specs.Sight.{present_name, shows_shared, is_shared_name}
 use Rattle.nomos_machine.specs.State.{State, NameTypes, type_of}
 use Rattle.nomos_machine.specs.TypedState.{IsOwned}
 use Rattle.nomos_machine.specs.declared.object.Object.TheVariants as object
@@ -25,7 +27,7 @@ use Rattle.nomos_machine.proofs.NameLaws.{type_of-kept}
 pub count-other : (n k : ℕ) → n ≢ k → count_of n (k ∷ []) ≡ 0
 count-other n k other = count-elsewhere n k [] (ne_eqb k n (λ same. other (sym same)))
 
--- a name that is provided once and used once, and not outside, is owned at a mode of channels that are used exactly once
+-- a name that is provided once, used once and not outside is owned at a mode of channels that are used exactly once
 pub owned-once : (m : Mode) (s : State) (name : ℕ) → IsLinearMode m → times provided s.objects name ≡ 1
     → times used s.objects name ≡ 1 → count_of name s.outside ≡ 0 → IsOwned m s name
 owned-once mode.R s name linear provides uses outside = (provides, omega (arith, uses, outside))
@@ -95,3 +97,13 @@ linear-owned mode.L s name linear owned = (owned.0, omega (arith, owned.1))
 linear-owned mode.T s name linear owned = (owned.0, omega (arith, owned.1))
 linear-owned mode.S s name (inl is) owned = absurd cc
 linear-owned mode.S s name (inr is) owned = absurd cc
+
+-- whether a name is a shared one is told by the mode of a type that it has
+pub told-shared : {a : Acceptance} → IsAccepted a → {types : NameTypes} (name : ℕ) (t : TypeId) (m : Mode)
+    → NameHasType a.program a.annotations types name t → HasMode a.program t m
+    → is_shared_name a.program types name ≡ is_shared_mode m
+told-shared {a} accepted name t m is has =
+    let formed = accepted.typed.formed in
+    ap (shows_shared a.program) is.found
+    ∙ type-shows_shared formed is.alike.mode is.alike.left_mode
+    ∙ ap is_shared_mode (mode-unique formed.program is.alike.right_mode has)

@@ -1,10 +1,7 @@
 -- A message that a process finds is what its judgement asks for: there is no wrong message.
-use Rattle.std.proofs.Common.{cond, ◌≡◌, ◌∙◌, ◌==◌, ◌&&◌, ◌≤◌, not, ℕ, ◌+◌, Bool, true, false, List, [], ◌∷◌, length, find, Contains, Option, Some, None, refl, sym, subst, ap, arith, eqb-true}
+use Rattle.std.proofs.Common.{cond, ◌≡◌, ◌∙◌, ◌==◌, ◌&&◌, ℕ, Bool, true, false, List, [], ◌∷◌, length, find, Contains, Option, Some, None, refl, sym, subst, ap, arith, eqb-true}
 use Rattle.std.specs.Prelude.{option_and_then}
-use Rattle.std.specs.Option.{option_to_list}
 use Rattle.std.proofs.lemmas.List.Elements.{Contains-append_left, Contains-append_right}
-use Rattle.nomos_ir.specs.Order.{count_of}
-use Rattle.nomos_ir.specs.Bindings.{bound_to}
 use Rattle.nomos_ir.specs.Paired.{Paired, both, neither}
 use Rattle.nomos_ir.specs.Unfold.{Unfolds}
 use Rattle.nomos_ir.specs.declared.ids.TypeId.{TypeId}
@@ -75,7 +72,8 @@ message_on-found way name m (e ∷ objects) found =
 
 -- the next name has each type that is alike to its own
 goes_on-through : {lists : ProgramLists} (x : Annotations) (types : NameTypes) {goes u : Option TypeId}
-    → IsWellFormed lists → (next : Option ℕ) → GoesOnAt lists x types next goes → Paired (AlikeTypes lists x) goes u → GoesOnAt lists x types next u
+    → IsWellFormed lists → (next : Option ℕ) → GoesOnAt lists x types next goes → Paired (AlikeTypes lists x) goes u
+    → GoesOnAt lists x types next u
 goes_on-through x types formed (Some name) is (both alike) = of_type-through formed is alike
 goes_on-through x types formed (Some name) is neither = absurd is
 goes_on-through x types formed None is (both alike) = absurd is
@@ -91,7 +89,8 @@ pub next-none : (lists : ProgramLists) (x : Annotations) (types : NameTypes) (ne
 next-none lists x types (Some name) is = absurd is
 next-none lists x types None is = refl
 
--- The message brings this at the node to which the type unfolds that the name has for the process, and goes on as that does.
+-- The message brings what the node asks for to which the type unfolds that the name has for the process, and goes on as
+-- that does.
 pub record BringsTo (a : Acceptance) (s : State) (m : Message) (held : TypeId) (n : TypeNode) : Type 0 where
   pub own : TypeId
   pub found : type_of s.types m.from ≡ Some own
@@ -102,7 +101,8 @@ pub record BringsTo (a : Acceptance) (s : State) (m : Message) (held : TypeId) (
   pub brings : Brings a.program a.annotations s.types m.to_client n m.payload m.purse goes
   pub next : GoesOnAt a.program a.annotations s.types m.next goes
 
-pub message-brings : {a : Acceptance} → IsAccepted a → {s : State} → IsTyped a s → (m : Message) (held : TypeId) (n : TypeNode)
+pub message-brings : {a : Acceptance} → IsAccepted a → {s : State} → IsTyped a s
+    → (m : Message) (held : TypeId) (n : TypeNode)
     → Contains s.objects (object.Message m) → NameHasType a.program a.annotations s.types m.from held
     → Unfolds a.program held.0 n → BringsTo a s m held n
 message-brings {a} accepted {s} typed m held n waiting is unfolds =

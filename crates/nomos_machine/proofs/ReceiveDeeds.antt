@@ -1,12 +1,10 @@
 -- The instructions at which a process takes a message: `case`, `recv`, `take`, `get` and `wait`.
-use Rattle.std.proofs.Common.{cond, ◌==◌, ◌≡◌, ◌≢◌, ◌∙◌, ◌≤◌, inl, inr, not, ℕ, ◌+◌, ◌-◌, ◌*◌, Bool, true, false, List, [], ◌∷◌, ◌++◌, map, find, length, sum_by, Contains, Option, Some, None, is_some, slice_get, refl, sym, subst, ap, arith, eqb-true, eq-eqb}
+use Rattle.std.proofs.Common.{cond, ◌==◌, ◌≡◌, ◌∙◌, ◌≤◌, inl, inr, ℕ, ◌+◌, Bool, true, false, List, [], ◌∷◌, ◌++◌, map, find, Contains, Option, Some, None, is_some, refl, sym, subst, ap, arith, eqb-true, eq-eqb}
 use Rattle.std.specs.Prelude.{option_and_then}
 use Rattle.std.specs.Option.{option_map, option_or, option_to_list}
-use Rattle.std.proofs.lemmas.Bool.{cases_eq}
 use Rattle.std.proofs.lemmas.List.Elements.{Contains-append_cases, Contains-append_right}
-use Rattle.nomos_ir.specs.Bindings.{bound_to, bind, unbind, IsAscending}
+use Rattle.nomos_ir.specs.Bindings.{bound_to, unbind, IsAscending}
 use Rattle.nomos_ir.specs.Order.{count_of}
-use Rattle.nomos_ir.specs.Unfold.{Unfolds}
 use Rattle.nomos_ir.specs.Value.{Value}
 use Rattle.nomos_ir.specs.ValueKind.{ValueHasKind}
 use Rattle.nomos_ir.specs.declared.amount.Amount.{Amount}
@@ -21,11 +19,9 @@ use Rattle.nomos_ir.specs.declared.ids.TypeId.{TypeId}
 use Rattle.nomos_ir.specs.declared.ids.VarId.{VarId}
 use Rattle.nomos_ir.specs.declared.kind.Kind.{Kind}
 use Rattle.nomos_ir.specs.declared.mode.Mode.{Mode}
-use Rattle.nomos_ir.specs.declared.mode.Mode.TheVariants as mode
 use Rattle.nomos_ir.specs.declared.type_node.Branch.{Branch}
-use Rattle.nomos_ir.specs.declared.type_node.TypeNode.{TypeNode}
 use Rattle.nomos_ir.specs.declared.type_node.TypeNode.TheVariants as node
-use Rattle.nomos_ir.proofs.BindingLaws.{bound-after_bind_other, bind-ascending, unbind-ascending, all-bound}
+use Rattle.nomos_ir.proofs.BindingLaws.{bind-ascending, unbind-ascending, all-bound}
 use Rattle.nomos_ir.proofs.PairedLaws.{paired-bind, none-left}
 use Rattle.nomos_ir.proofs.SumLaws.{count-after_bind, count-after_unbind, count-first}
 use Rattle.nomos_types.specs.Acceptance.{Acceptance, IsAccepted}
@@ -38,169 +34,39 @@ use Rattle.nomos_types.specs.Row.{Row, gives_up}
 use Rattle.nomos_types.proofs.ModeLaws.{mode-unique}
 use Rattle.nomos_types.proofs.RowLaws.{row-inverted}
 use Rattle.nomos_machine.specs.Change.{Change}
-use Rattle.nomos_machine.specs.Deeds.{does, takes, receives, hears_end, label_in, channel_in, value_in, potential_in, close_in, arm_for}
-use Rattle.nomos_machine.specs.Matching.{NameHasType, Matches, ProcessTyped}
-use Rattle.nomos_machine.specs.Objects.{carried, used, talk_end, potential_of, free_purse}
+use Rattle.nomos_machine.specs.Deeds.{does, takes, label_in, channel_in, value_in, potential_in, close_in, arm_for}
+use Rattle.nomos_machine.specs.Matching.{NameHasType, Matches}
+use Rattle.nomos_machine.specs.Objects.{carried, potential_of}
 use Rattle.nomos_machine.specs.Revised.{standing_at, under_name, with_channel, without_channel, with_value, richer}
-use Rattle.nomos_machine.specs.Sight.{is_own, present_name, message_on}
-use Rattle.nomos_machine.specs.State.{State, type_of}
+use Rattle.nomos_machine.specs.Sight.{present_name, message_on}
+use Rattle.nomos_machine.specs.State.{State}
 use Rattle.nomos_machine.specs.TypedMessage.{Brings, GoesOnAt}
-use Rattle.nomos_machine.specs.TypedState.{VariablesDiffer, IsTyped}
+use Rattle.nomos_machine.specs.TypedState.{IsTyped}
 use Rattle.nomos_machine.specs.declared.object.Message.{Message}
-use Rattle.nomos_machine.specs.declared.object.Object.{Object}
 use Rattle.nomos_machine.specs.declared.object.Object.TheVariants as object
 use Rattle.nomos_machine.specs.declared.object.Payload.{Payload}
-use Rattle.nomos_machine.specs.declared.object.Payload.TheVariants as payload
-use Rattle.nomos_machine.specs.declared.object.PotentialList.{PotentialList}
 use Rattle.nomos_machine.specs.declared.object.Process.{Process}
 use Rattle.nomos_machine.proofs.AloneDeeds.{At, GoesAt}
-use Rattle.nomos_machine.proofs.ChannelLaws.{SameRest, under-keeps, IsUnshared, channel-unshared, present-has_type, matches-goes_on, goes_on-potential, goes_on-shared, matches-binds, binds_channel-potential, under-free, uncounted, under-ascending, provider_end, client_end, both-ends, under-uses, received-uses}
-use Rattle.nomos_machine.proofs.GoesLaws.{Goes, acts, waits, process-typed, process-variables, own-row, own-stands, own-is_judgement, own-matches, next-is_judgement}
-use Rattle.nomos_machine.proofs.LinearLaws.{IsLinearAt, linear-at, base-same}
-use Rattle.nomos_machine.proofs.MatchLaws.{holds-linear, holds-shared, holds-fewer, matches-differ}
-use Rattle.nomos_machine.proofs.MessageLaws.{IsReadOn, message_on-found, next-there, next-none, BringsTo, message-brings}
+use Rattle.nomos_machine.proofs.ChannelLaws.{under-keeps, channel-unshared, present-has_type, matches-goes_on, goes_on-potential, goes_on-shared, matches-binds, binds_channel-potential, under-free, uncounted, under-ascending}
+use Rattle.nomos_machine.proofs.GoesLaws.{Goes, process-typed, process-variables, own-row, own-stands, own-is_judgement, own-matches, next-is_judgement}
+use Rattle.nomos_machine.proofs.LinearLaws.{base-same}
+use Rattle.nomos_machine.proofs.MatchLaws.{holds-fewer, matches-differ}
+use Rattle.nomos_machine.proofs.MessageLaws.{IsReadOn, next-none, BringsTo, message-brings}
 use Rattle.nomos_machine.proofs.ProcessLaws.{own_judgement, process-next}
 use Rattle.nomos_machine.proofs.PutLaws.{contains-one}
-use Rattle.nomos_machine.proofs.ReceiveLaws.{Turning, provider, client, Taking, taken, takes-replaces, takes-fits, takes-keeps_gas}
-use Rattle.nomos_machine.proofs.TalkLaws.{brings-linear, received-label, received-channel, received-one_value, received-potential, received-end}
+use Rattle.nomos_machine.proofs.ReceiveLaws.{client}
+use Rattle.nomos_machine.proofs.ReceivingLaws.{Takes, looked-goes, Received, receives-by, plain-received}
+use Rattle.nomos_machine.proofs.TalkLaws.{received-label, received-channel, received-one_value, received-potential, received-end}
 
 module _ {a : Acceptance} (accepted : IsAccepted a) {s : State} (typed : IsTyped a s) {p : Process}
     (there : Contains s.objects (object.Process p)) where
   abbrev own : Judgement
   own = own_judgement p (process-typed typed there)
 
-  -- ---- the message is there, or it is not
-
-  -- a change that takes a message is made
-  take-acts : (m : Message) (q : Process) → Taking a s p m (richer m.purse q) → Goes a s true (does a s p (Some (takes a s p m q)))
-  take-acts m q taking =
-      acts (takes a s p m q) (object.Process p ∷ object.Message m ∷ [])
-      (takes-replaces accepted typed there m (richer m.purse q) taking) (takes-fits accepted typed there m (richer m.purse q) taking)
-      (takes-keeps_gas accepted typed there m (richer m.purse q) taking)
-
-  -- What it makes of each message that it may find.
-  abbrev Takes : Message → Option Change → Type 0
-  Takes m change = (q : Process) × (change ≡ Some (takes a s p m q)) × Taking a s p m (richer m.purse q)
-
-  -- where it finds one it takes it, and otherwise it waits
-  looked-goes : (way : Bool) (from : ℕ) (makes : Message → Option Change)
-      → ((m : Message) → IsReadOn s.objects way from m → Takes m (makes m))
-      → Goes a s (is_some (message_on s.objects way from))
-      (does a s p (option_and_then makes (message_on s.objects way from)))
-  looked-goes way from makes each = come (message_on s.objects way from) refl
-    where
-      come : (o : Option Message) → message_on s.objects way from ≡ o
-          → Goes a s (is_some o) (does a s p (option_and_then makes o))
-      come None is = waits
-      come (Some m) is =
-          let (q, makes_it, taking) = each m (message_on-found way from m s.objects is) in
-          subst (λ (o : Option Change). Goes a s true (does a s p o)) (sym makes_it) (take-acts m q taking)
-
-  -- what it makes of a message at a receive
-  abbrev makes_of : Chan → (Payload → Process → Option Process) → Message → Option Change
-  makes_of c reads m =
-      option_and_then (λ name. option_and_then (λ q. Some (takes a s p m q)) (reads m.payload (under_name c name p))) m.next
-
-  receives-go : (c : Chan) (held : TypeId) (n : TypeNode) (reads : Payload → Process → Option Process)
-      → channel_type own c ≡ Some held → Unfolds a.program held.0 n
-      → ((m : Message) → IsReadOn s.objects (not (is_own c)) m.from m → present_name p c ≡ Some m.from → BringsTo a s m held n
-      → Takes m (makes_of c reads m))
-      → Goes a s (is_some (option_and_then (message_on s.objects (not (is_own c))) (present_name p c)))
-      (does a s p (receives a s p c reads))
-  receives-go c held n reads holds unfolds each =
-      let unshared = channel-unshared (own-is_judgement typed there accepted) c held holds in
-      let (from, here, is) = present-has_type (own-matches typed there) c held unshared holds in
-      let way : Bool = not (is_own c) in
-      let at_each : (m : Message) → IsReadOn s.objects way from m → Takes m (makes_of c reads m) = λ m read.
-      let is_read : from ≡ m.from = sym read.read in
-      each m (record { waiting = read.waiting; goes_way = read.goes_way; read = refl }) (here ∙ ap (λ (k : ℕ). Some k) is_read)
-      (message-brings accepted typed m held n read.waiting
-      (subst (λ (k : ℕ). NameHasType a.program a.annotations s.types k held) is_read is) unfolds)
-      in
-      subst (λ (o : Option ℕ). Goes a s (is_some (option_and_then (message_on s.objects way) o))
-      (does a s p (option_and_then (λ k. option_and_then (makes_of c reads) (message_on s.objects way k)) o))) (sym here)
-      (looked-goes way from (makes_of c reads) at_each)
-
-  -- ---- as which it goes on
-
-  -- What it is afterwards, where the message's next name is this one: it goes on by the rule of its judgement, under that name,
-  -- and uses what the message brings.
-  record Goings (c : Chan) (m : Message) (name : ℕ) (q : Process) : Type 0 where
-    after : List Judgement
-    k : Judgement
-    row : Row a.program a.annotations own after
-    among : Contains after k
-    matches : Matches a.program a.annotations s.types q k
-    rest : SameRest (under_name c name p) (record q { values = (under_name c name p).values; purse = (under_name c name p).purse })
-    offers : q.offers ≡ (under_name c name p).offers
-    uses : (n : ℕ) → count_of n (used (object.Process q))
-        ≡ count_of n (used (object.Process (under_name c name p))) + count_of n (carried m.payload)
-    values : IsAscending q.values
-    channels : IsAscending q.channels
-    purse : q.purse ≡ (under_name c name p).purse + m.purse
-    exact : k.q ≡ own.q + m.purse
-
-  turns-at : (c : Chan) (m : Message) (name : ℕ) (q : Process) → m.to_client ≡ not (is_own c)
-      → present_name p c ≡ Some m.from → m.next ≡ Some name → q.offers ≡ (under_name c name p).offers
-      → IsLinearAt c p.mode → Turning p q m
-  turns-at chan.Own m name q way here next offers linear =
-      provider (some-same here) way (next ∙ ap (λ (k : ℕ). Some k) (sym offers)) linear
-    where
-      some-same : {i j : ℕ} → Some i ≡ Some j → i ≡ j
-      some-same same = cc
-  turns-at (chan.Var v) m name q way here next offers linear =
-      let count = count-after_unbind m.from v.0 p.channels in
-      let one = ap (λ (o : Option ℕ). count_of m.from (option_to_list o)) here in
-      client offers way (omega (arith, count, one, count-first m.from []))
-
-  taking-so : (c : Chan) (m : Message) (held : TypeId) (n : TypeNode) (t : TypeId) (name : ℕ) (q : Process)
-      → IsReadOn s.objects (not (is_own c)) m.from m → present_name p c ≡ Some m.from → Unfolds a.program held.0 n
-      → (b : BringsTo a s m held n) → b.goes ≡ Some t → m.next ≡ Some name → Goings c m name q → Taking a s p m q
-  taking-so c m held n t name q read here unfolds b goes next g =
-      let formed = accepted.typed.formed in
-      let it = process-typed typed there in
-      let kept = under-keeps c name p in
-      let brings = subst
-      (λ (o : Option TypeId). Brings a.program a.annotations s.types m.to_client n m.payload m.purse o) goes b.brings
-      in
-      let modes = mode-unique formed.program b.held_mode b.held_mode in
-      let linear : IsLinearMode b.mode = brings-linear formed b.held_mode unfolds brings in
-      let linear_too = linear-at accepted it c m.from b.own b.mode here b.found b.has_mode linear in
-      let potential : potential_of q ≡ potential_of p =
-      ap (λ (ls : List (VarId × PotentialList)). sum_by (λ e. e.1.amount * length e.1.items) ls)
-      (g.rest.held_lists ∙ kept.held_lists)
-      in
-      let covered : potential_of p ≤ p.purse = it.covered in
-      let purse : q.purse ≡ p.purse + m.purse = g.purse ∙ ap (λ (k : ℕ). k + m.purse) kept.purse in
-      let free : free_purse q ≡ g.k.q = omega (arith, potential, purse, covered, g.exact) in
-      let lists : IsAscending q.lists =
-      subst IsAscending (sym (g.rest.held_lists ∙ kept.held_lists)) (process-variables typed there).lists
-      in
-      record {
-        waiting = read.waiting;
-        own = b.own;
-        found = b.found;
-        mode = b.mode;
-        has_mode = b.has_mode;
-        is_linear = linear;
-        turns = turns-at c m name q read.goes_way here next g.offers linear_too;
-        uses = λ k.
-            let process = under-uses k c name m.from p (process-variables typed there).channels here in
-            let message = received-uses k c m name read.goes_way next in
-            omega (arith, process, message, g.uses k, both-ends k c m.from);
-        pid = g.rest.pid ∙ kept.pid;
-        same_mode = g.rest.same_mode ∙ kept.same_mode;
-        base = g.rest.base ∙ kept.base;
-        purse = purse;
-        typed = process-next accepted it g.after g.k g.row g.among g.matches (omega (arith, potential, purse, covered)) free
-            (g.rest.payer ∙ kept.payer)
-            (base-same it.has_base (g.rest.same_mode ∙ kept.same_mode) (g.rest.base ∙ kept.base));
-        differ = matches-differ (next-is_judgement typed there accepted g.k g.row g.among) g.matches g.values lists g.channels;
-      }
-
   -- ---- a label
 
-  arm-first : (c : Chan) (bs : List Branch) (l : Label) (t u : TypeId) (e : Arm) (arms : List Arm) (after : List Judgement)
+  arm-first : (c : Chan) (bs : List Branch) (l : Label) (t u : TypeId) (e : Arm) (arms : List Arm)
+      (after : List Judgement)
       (b : Bool) → (e.label.0 == l.0) ≡ b → goes_by bs e.label ≡ Some u → goes_by bs l ≡ Some t
       → Contains (map (λ d. d.label) (e ∷ arms)) l
       → (Contains (map (λ d. d.label) arms) l
@@ -236,72 +102,6 @@ module _ {a : Acceptance} (accepted : IsAccepted a) {s : State} (typed : IsTyped
       arm-first c bs l t u e arms after (e.label.0 == l.0) refl goes found among
       (λ further. arm-found c bs l t arms after rest found further)
 
-  -- ---- the instructions
-
-  -- What it does where of each message that it may find it makes that.
-  receives-by : (c : Chan) (held : TypeId) (n : TypeNode) (reads : Payload → Process → Option Process)
-      → channel_type own c ≡ Some held → Unfolds a.program held.0 n
-      → ((m : Message) (goes : Option TypeId)
-      → Brings a.program a.annotations s.types (not (is_own c)) n m.payload m.purse goes → present_name p c ≡ Some m.from
-      → (t : TypeId) × (goes ≡ Some t)
-      × ((name : ℕ) → NameHasType a.program a.annotations s.types name t
-      → (q : Process) × (reads m.payload (under_name c name p) ≡ Some q) × Goings c m name (richer m.purse q)))
-      → Goes a s (is_some (option_and_then (message_on s.objects (not (is_own c))) (present_name p c)))
-      (does a s p (receives a s p c reads))
-  receives-by c held n reads holds unfolds each =
-      receives-go c held n reads holds unfolds
-      (λ m read here b.
-      let brings = subst (λ (w : Bool). Brings a.program a.annotations s.types w n m.payload m.purse b.goes) read.goes_way b.brings in
-      let (t, goes, makes) = each m b.goes brings here in
-      let (name, is_next, has) = next-there a.program a.annotations s.types m.next t
-      (subst (λ (o : Option TypeId). GoesOnAt a.program a.annotations s.types m.next o) goes b.next)
-      in
-      let (q, is_q, goings) = makes name has in (
-        q,
-        ap (λ (o : Option ℕ). option_and_then (λ k. option_and_then (λ r. Some (takes a s p m r))
-            (reads m.payload (under_name c k p))) o) is_next
-            ∙ ap (λ (o : Option Process). option_and_then (λ r. Some (takes a s p m r)) o) is_q,
-        taking-so c m held n t name (richer m.purse q) read here unfolds b goes is_next goings,
-      ))
-
-  -- it goes on under the message's next name, and has besides only the message's gas
-  plain-goings : (c : Chan) (m : Message) (name : ℕ) (held t : TypeId) (next : CodeId) (after : List Judgement) (gas : ℕ)
-      → Row a.program a.annotations own after → Contains after (with_potential (goes_on own c t next) gas)
-      → channel_type own c ≡ Some held → NameHasType a.program a.annotations s.types name t → carried m.payload ≡ []
-      → gas ≡ own.q + m.purse → Goings c m name (richer m.purse (standing_at next (under_name c name p)))
-  plain-goings c m name held t next after gas row among holds has nothing exact =
-      let unshared = channel-unshared (own-is_judgement typed there accepted) c held holds in
-      let on = matches-goes_on (own-matches typed there) c name t next unshared has in
-      record {
-        after = after;
-        k = with_potential (goes_on own c t next) gas;
-        row = row;
-        among = among;
-        matches = record {
-          mode = on.mode;
-          code = on.code;
-          offers = on.offers;
-          values = on.values;
-          held_lists = on.held_lists;
-          channels = on.channels;
-        };
-        rest = record {
-          pid = refl;
-          same_mode = refl;
-          base = refl;
-          values = refl;
-          held_lists = refl;
-          purse = refl;
-          payer = refl;
-        };
-        offers = refl;
-        uses = λ k. omega (arith, ap (λ (ns : List ℕ). count_of k ns) nothing);
-        values = subst IsAscending (sym (under-keeps c name p).values) (process-variables typed there).values;
-        channels = under-ascending c name p (process-variables typed there).channels;
-        purse = refl;
-        exact = exact;
-      }
-
   pub case-goes : (at : ℕ) (c : Chan) (arms : List Arm) → At accepted typed there (code.Case at c arms)
       → GoesAt accepted typed there (code.Case at c arms)
   case-goes at c arms stands =
@@ -309,12 +109,14 @@ module _ {a : Acceptance} (accepted : IsAccepted a) {s : State} (typed : IsTyped
       let (after, row) = own-row typed there accepted in
       let awaits = row-inverted n (own-stands typed there n stands) row in
       let (held, holds, unfolds) = awaits.channel in
-      receives-by c held (by_side c (node.With awaits.branches) (node.Plus awaits.branches))
-      (λ brought q. option_and_then (λ next. Some (standing_at next q)) (option_and_then (arm_for arms) (label_in brought)))
+      receives-by accepted typed there c held (by_side c (node.With awaits.branches) (node.Plus awaits.branches))
+      (λ brought q. option_and_then (λ next. Some (standing_at next q))
+      (option_and_then (arm_for arms) (label_in brought)))
       holds unfolds
       (λ m goes brings here.
       let (l, t, is_label, no_gas, goes_so, chosen) = received-label c awaits.branches brings in
-      let (next, is_arm, among) = arm-found c awaits.branches l t arms after awaits.each_arm chosen (awaits.each_label l t chosen) in (
+      let (next, is_arm, among) = arm-found c awaits.branches l t arms after awaits.each_arm chosen
+      (awaits.each_label l t chosen) in (
         t,
         goes_so,
         λ name has. (
@@ -322,8 +124,9 @@ module _ {a : Acceptance} (accepted : IsAccepted a) {s : State} (typed : IsTyped
           ap (λ (brought : Payload). option_and_then (λ k. Some (standing_at k (under_name c name p)))
               (option_and_then (arm_for arms) (label_in brought))) is_label
               ∙ ap (λ (o : Option CodeId). option_and_then (λ k. Some (standing_at k (under_name c name p))) o) is_arm,
-          plain-goings c m name held t next after (goes_on own c t next).q row among holds has
-              (ap (λ (brought : Payload). carried brought) is_label) (omega (arith, goes_on-potential own c t next, no_gas)),
+          plain-received accepted typed there c m name held t next after (goes_on own c t next).q row among holds has
+              (ap (λ (brought : Payload). carried brought) is_label)
+              (omega (arith, goes_on-potential own c t next, no_gas)),
         ),
       ))
 
@@ -335,8 +138,10 @@ module _ {a : Acceptance} (accepted : IsAccepted a) {s : State} (typed : IsTyped
       let (t, gets, goes_on_so) = row-inverted n (own-stands typed there n stands) row in
       let (held, holds, unfolds) = gets.channel in
       let k : Judgement = with_potential (goes_on own c t next) (own.q + dths a.annotations r) in
-      let among : Contains after k = subst (λ (js : List Judgement). Contains js k) (sym goes_on_so) (0, omega arith, refl) in
-      receives-by c held (by_side c (node.PotIn gets.amount t) (node.PotOut gets.amount t))
+      let among : Contains after k =
+      subst (λ (js : List Judgement). Contains js k) (sym goes_on_so) (0, omega arith, refl)
+      in
+      receives-by accepted typed there c held (by_side c (node.PotIn gets.amount t) (node.PotOut gets.amount t))
       (λ brought q. option_and_then (λ some. Some (standing_at next q)) (potential_in brought)) holds unfolds
       (λ m goes brings here.
       let (is_pay, is_gas, goes_so) = received-potential c gets.amount t brings in (
@@ -344,9 +149,11 @@ module _ {a : Acceptance} (accepted : IsAccepted a) {s : State} (typed : IsTyped
         goes_so,
         λ name has. (
           standing_at next (under_name c name p),
-          ap (λ (brought : Payload). option_and_then (λ some. Some (standing_at next (under_name c name p))) (potential_in brought))
+          ap (λ (brought : Payload). option_and_then (λ some. Some (standing_at next (under_name c name p)))
+              (potential_in brought))
               is_pay,
-          plain-goings c m name held t next after (own.q + dths a.annotations r) row among holds has
+          plain-received accepted typed there c m name held t next after (own.q + dths a.annotations r) row among holds
+              has
               (ap (λ (brought : Payload). carried brought) is_pay) (omega (arith, is_gas, gets.same)),
         ),
       ))
@@ -359,8 +166,10 @@ module _ {a : Acceptance} (accepted : IsAccepted a) {s : State} (typed : IsTyped
       let (kind, t, receives_it, goes_on_so) = row-inverted n (own-stands typed there n stands) row in
       let (held, holds, unfolds) = receives_it.channel in
       let k : Judgement = binds_value (goes_on own c t next) v kind in
-      let among : Contains after k = subst (λ (js : List Judgement). Contains js k) (sym goes_on_so) (0, omega arith, refl) in
-      receives-by c held (by_side c (node.ValueIn kind t) (node.ValueOut kind t))
+      let among : Contains after k =
+      subst (λ (js : List Judgement). Contains js k) (sym goes_on_so) (0, omega arith, refl)
+      in
+      receives-by accepted typed there c held (by_side c (node.ValueIn kind t) (node.ValueOut kind t))
       (λ brought q. option_and_then (λ x. Some (standing_at next (with_value v x q))) (value_in brought)) holds unfolds
       (λ m goes brings here.
       let (x, is_value, no_gas, goes_so, of_kind) = received-one_value c kind t brings in (
@@ -368,19 +177,23 @@ module _ {a : Acceptance} (accepted : IsAccepted a) {s : State} (typed : IsTyped
         goes_so,
         λ name has. (
           standing_at next (with_value v x (under_name c name p)),
-          ap (λ (brought : Payload). option_and_then (λ y. Some (standing_at next (with_value v y (under_name c name p))))
+          ap (λ (brought : Payload). option_and_then
+              (λ y. Some (standing_at next (with_value v y (under_name c name p))))
               (value_in brought)) is_value,
-          value-goings c m name held t next v x kind after row among holds has of_kind
+          value-received c m name held t next v x kind after row among holds has of_kind
               (ap (λ (brought : Payload). carried brought) is_value) no_gas,
         ),
       ))
     where
-      value-goings : (d : Chan) (m : Message) (name : ℕ) (held t : TypeId) (goes_to : CodeId) (w : VarId) (x : Value) (kind : Kind)
+      value-received : (d : Chan) (m : Message) (name : ℕ) (held t : TypeId) (goes_to : CodeId) (w : VarId) (x : Value)
+          (kind : Kind)
           (after : List Judgement) → Row a.program a.annotations own after
           → Contains after (binds_value (goes_on own d t goes_to) w kind) → channel_type own d ≡ Some held
-          → NameHasType a.program a.annotations s.types name t → ValueHasKind x kind → carried m.payload ≡ [] → m.purse ≡ 0
-          → Goings d m name (richer m.purse (standing_at goes_to (with_value w x (under_name d name p))))
-      value-goings d m name held t goes_to w x kind after row among holds has of_kind nothing no_gas =
+          → NameHasType a.program a.annotations s.types name t → ValueHasKind x kind → carried m.payload ≡ []
+          → m.purse ≡ 0
+          → Received accepted typed there d m name
+          (richer m.purse (standing_at goes_to (with_value w x (under_name d name p))))
+      value-received d m name held t goes_to w x kind after row among holds has of_kind nothing no_gas =
           let unshared = channel-unshared (own-is_judgement typed there accepted) d held holds in
           let on = matches-goes_on (own-matches typed there) d name t goes_to unshared has in
           let values = subst IsAscending (sym (under-keeps d name p).values) (process-variables typed there).values in
@@ -393,19 +206,16 @@ module _ {a : Acceptance} (accepted : IsAccepted a) {s : State} (typed : IsTyped
               mode = on.mode;
               code = on.code;
               offers = on.offers;
-              values = paired-bind w x kind (under_name d name p).values (goes_on own d t goes_to).kinds of_kind on.values;
+              values = paired-bind w x kind (under_name d name p).values (goes_on own d t goes_to).kinds of_kind
+                  on.values;
               held_lists = on.held_lists;
               channels = on.channels;
             };
-            rest = record {
-              pid = refl;
-              same_mode = refl;
-              base = refl;
-              values = refl;
-              held_lists = refl;
-              purse = refl;
-              payer = refl;
-            };
+            pid = refl;
+            same_mode = refl;
+            base = refl;
+            held_lists = refl;
+            payer = refl;
             offers = refl;
             uses = λ j. omega (arith, ap (λ (ns : List ℕ). count_of j ns) nothing);
             values = bind-ascending w x (under_name d name p).values values;
@@ -422,34 +232,47 @@ module _ {a : Acceptance} (accepted : IsAccepted a) {s : State} (typed : IsTyped
       let (mode, sent, t, receives_it, goes_on_so) = row-inverted n (own-stands typed there n stands) row in
       let (held, holds, unfolds) = receives_it.channel in
       let k : Judgement = binds_channel (goes_on own c t next) y mode sent in
-      let among : Contains after k = subst (λ (js : List Judgement). Contains js k) (sym goes_on_so) (0, omega arith, refl) in
-      receives-by c held (by_side c (node.Lolli sent t) (node.Tensor sent t))
-      (λ brought q. option_and_then (λ name. Some (standing_at next (with_channel y name q))) (channel_in brought)) holds unfolds
+      let among : Contains after k =
+      subst (λ (js : List Judgement). Contains js k) (sym goes_on_so) (0, omega arith, refl)
+      in
+      receives-by accepted typed there c held (by_side c (node.Lolli sent t) (node.Tensor sent t))
+      (λ brought q. option_and_then (λ name. Some (standing_at next (with_channel y name q))) (channel_in brought))
+      holds unfolds
       (λ m goes brings here.
       let (carries, is_channel, no_gas, goes_so, is_sent) = received-channel c sent t brings in (
         t,
         goes_so,
         λ name has. (
           standing_at next (with_channel y carries (under_name c name p)),
-          ap (λ (brought : Payload). option_and_then (λ j. Some (standing_at next (with_channel y j (under_name c name p))))
+          ap (λ (brought : Payload). option_and_then
+              (λ j. Some (standing_at next (with_channel y j (under_name c name p))))
               (channel_in brought)) is_channel,
-          channel-goings c m name held t next mode sent carries after row among holds has is_sent receives_it.free here
+          channel-received c m name held t next mode sent carries after row among holds has is_sent receives_it.free
+              here
               (ap (λ (brought : Payload). carried brought) is_channel) no_gas,
         ),
       ))
     where
-      channel-goings : (d : Chan) (m : Message) (name : ℕ) (held t : TypeId) (goes_to : CodeId) (mode : Mode) (sent : TypeId)
+      channel-received : (d : Chan) (m : Message) (name : ℕ) (held t : TypeId) (goes_to : CodeId) (mode : Mode)
+          (sent : TypeId)
           (carries : ℕ) (after : List Judgement) → Row a.program a.annotations own after
           → Contains after (binds_channel (goes_on own d t goes_to) y mode sent) → channel_type own d ≡ Some held
-          → NameHasType a.program a.annotations s.types name t → NameHasType a.program a.annotations s.types carries sent
+          → NameHasType a.program a.annotations s.types name t
+          → NameHasType a.program a.annotations s.types carries sent
           → IsFree own y → present_name p d ≡ Some m.from → carried m.payload ≡ carries ∷ [] → m.purse ≡ 0
-          → Goings d m name (richer m.purse (standing_at goes_to (with_channel y carries (under_name d name p))))
-      channel-goings d m name held t goes_to mode sent carries after row among holds has is_sent free here one no_gas =
+          → Received accepted typed there d m name
+          (richer m.purse (standing_at goes_to (with_channel y carries (under_name d name p))))
+      channel-received d m name held t goes_to mode sent carries after row among holds has is_sent free here one
+          no_gas =
           let unshared = channel-unshared (own-is_judgement typed there accepted) d held holds in
           let on = matches-goes_on (own-matches typed there) d name t goes_to unshared has in
-          let no_reference : bound_to y.0 own.shared ≡ None = uncounted (bound_to y.0 own.shared) (omega (arith, free)) in
+          let no_reference : bound_to y.0 own.shared ≡ None =
+          uncounted (bound_to y.0 own.shared) (omega (arith, free))
+          in
           let no_channel : bound_to y.0 own.linear ≡ None = uncounted (bound_to y.0 own.linear) (omega (arith, free)) in
-          let none = ap (λ (cs : List (VarId × TypeId)). bound_to y.0 cs) (goes_on-shared own d t goes_to) ∙ no_reference in
+          let none =
+          ap (λ (cs : List (VarId × TypeId)). bound_to y.0 cs) (goes_on-shared own d t goes_to) ∙ no_reference
+          in
           let binds = matches-binds on y carries mode sent none is_sent in
           let not_held : type_held own y.0 ≡ None =
           ap (λ (o : Option TypeId). option_or o (bound_to y.0 own.linear)) no_reference ∙ no_channel
@@ -470,15 +293,11 @@ module _ {a : Acceptance} (accepted : IsAccepted a) {s : State} (typed : IsTyped
               held_lists = binds.held_lists;
               channels = binds.channels;
             };
-            rest = record {
-              pid = refl;
-              same_mode = refl;
-              base = refl;
-              values = refl;
-              held_lists = refl;
-              purse = refl;
-              payer = refl;
-            };
+            pid = refl;
+            same_mode = refl;
+            base = refl;
+            held_lists = refl;
+            payer = refl;
             offers = refl;
             uses = λ j.
                 let count = count-after_bind j y carries (under_name d name p).channels channels in
@@ -503,10 +322,12 @@ module _ {a : Acceptance} (accepted : IsAccepted a) {s : State} (typed : IsTyped
       let (has_type, goes_on_so) = row-inverted n (own-stands typed there n stands) row in
       let (held, holds, unfolds) = has_type in
       let k : Judgement = at_code (gives_up own v) next in
-      let among : Contains after k = subst (λ (js : List Judgement). Contains js k) (sym goes_on_so) (0, omega arith, refl) in
+      let among : Contains after k =
+      subst (λ (js : List Judgement). Contains js k) (sym goes_on_so) (0, omega arith, refl)
+      in
       let unshared = channel-unshared h (chan.Var v) held holds in
       let (from, here, is) = present-has_type (own-matches typed there) (chan.Var v) held unshared holds in
-      let at_each : (m : Message) → IsReadOn s.objects true from m → Takes m (makes m) = λ m read.
+      let at_each : (m : Message) → IsReadOn s.objects true from m → Takes accepted typed there m (makes m) = λ m read.
       let is_read : from ≡ m.from = sym read.read in
       let here_too = here ∙ ap (λ (j : ℕ). Some j) is_read in
       let b = message-brings accepted typed m held node.One read.waiting
@@ -516,7 +337,7 @@ module _ {a : Acceptance} (accepted : IsAccepted a) {s : State} (typed : IsTyped
       in
       subst (λ (o : Option ℕ). Goes a s (is_some (option_and_then (message_on s.objects true) o))
       (does a s p (option_and_then (λ j. option_and_then makes (message_on s.objects true j)) o))) (sym here)
-      (looked-goes true from makes at_each)
+      (looked-goes accepted typed there true from makes at_each)
     where
       h : IsJudgement a.program own
       h = own-is_judgement typed there accepted
@@ -533,7 +354,8 @@ module _ {a : Acceptance} (accepted : IsAccepted a) {s : State} (typed : IsTyped
       ended : (m : Message) (held : TypeId) (after : List Judgement) → Row a.program a.annotations own after
           → Contains after (at_code (gives_up own v) next) → bound_to v.0 own.linear ≡ Some held
           → bound_to v.0 own.shared ≡ None → bound_to v.0 p.channels ≡ Some m.from
-          → Contains s.objects (object.Message m) → m.to_client ≡ true → BringsTo a s m held node.One → Takes m (makes m)
+          → Contains s.objects (object.Message m) → m.to_client ≡ true → BringsTo a s m held node.One
+          → Takes accepted typed there m (makes m)
       ended m held after row among holds unshared here waiting way b =
           let brings = subst
           (λ (w : Bool). Brings a.program a.annotations s.types w node.One m.payload m.purse b.goes) way b.brings
@@ -549,7 +371,8 @@ module _ {a : Acceptance} (accepted : IsAccepted a) {s : State} (typed : IsTyped
           let on = own-matches typed there in
           let covered : potential_of p ≤ p.purse = t.covered in
           let channels : IsAscending (unbind v.0 p.channels) = unbind-ascending v.0 p.channels variables.channels in
-          let matches : Matches a.program a.annotations s.types (richer m.purse q) (at_code (gives_up own v) next) = record {
+          let matches : Matches a.program a.annotations s.types (richer m.purse q)
+          (at_code (gives_up own v) next) = record {
             mode = on.mode;
             code = refl;
             offers = on.offers;
@@ -573,8 +396,13 @@ module _ {a : Acceptance} (accepted : IsAccepted a) {s : State} (typed : IsTyped
               is_linear = subst IsLinearMode same_mode is_linear;
               turns = client refl way (omega (arith, counts m.from, count-first m.from []));
               uses = λ name.
-                  let ends = ap (λ (w : Bool). count_of name (cond w (option_to_list m.next) (m.from ∷ []) ++ carried m.payload)) way in
-                  let none_more = ap (λ (o : Option ℕ). count_of name (option_to_list o ++ carried m.payload)) no_next in
+                  let ends =
+                  ap (λ (w : Bool). count_of name (cond w (option_to_list m.next) (m.from ∷ []) ++ carried m.payload))
+                  way
+                  in
+                  let none_more =
+                  ap (λ (o : Option ℕ). count_of name (option_to_list o ++ carried m.payload)) no_next
+                  in
                   let nothing = ap (λ (brought : Payload). count_of name (carried brought)) is_close in
                   omega (arith, counts name, ends, none_more, nothing);
               pid = refl;
@@ -583,7 +411,8 @@ module _ {a : Acceptance} (accepted : IsAccepted a) {s : State} (typed : IsTyped
               purse = refl;
               typed = process-next accepted t after (at_code (gives_up own v) next) row among matches (omega arith)
                   (omega (arith, no_gas)) refl (base-same t.has_base refl refl);
-              differ = matches-differ (next-is_judgement typed there accepted (at_code (gives_up own v) next) row among) matches
+              differ = matches-differ
+                  (next-is_judgement typed there accepted (at_code (gives_up own v) next) row among) matches
                   variables.values variables.lists channels;
             },
           )

@@ -1,5 +1,5 @@
--- A process that takes a message, and goes on with the channel under the message's next name, leaves a typed state typed.
-use Rattle.std.proofs.Common.{cond, ◌≡◌, ◌≢◌, ◌∙◌, ◌≤◌, ◌⊎◌, inl, inr, ℕ, ◌+◌, Bool, true, false, List, [], ◌∷◌, ◌++◌, length, All, Contains, Option, Some, None, IsSome, refl, sym, subst, ap, arith, append-nil}
+-- A process that takes a message, and goes on under the message's next name, leaves a typed state typed.
+use Rattle.std.proofs.Common.{cond, ◌≡◌, ◌≢◌, ◌∙◌, ◌≤◌, ◌⊎◌, inl, inr, ℕ, ◌+◌, Bool, true, false, List, [], ◌∷◌, length, Contains, Option, Some, None, IsSome, refl, sym, subst, ap, arith, append-nil}
 use Rattle.std.specs.Option.{option_to_list}
 use Rattle.std.proofs.lemmas.Bool.{cases_eq}
 use Rattle.std.proofs.lemmas.List.Elements.{All-nil, All-cons, Contains-append_left}
@@ -15,7 +15,7 @@ use Rattle.nomos_machine.specs.Change.{Change, put_at, made, no_change}
 use Rattle.nomos_machine.specs.Matching.{ProcessTyped}
 use Rattle.nomos_machine.specs.Objects.{object_number, provided, used, based, shared_names, shared_of, mentioned, carried, times, object_at, talk_end}
 use Rattle.nomos_machine.specs.State.{State, NameTypes, type_of}
-use Rattle.nomos_machine.specs.TypedState.{VariablesDiffer, HasVariables, IsOwned, ObjectTyped, LeadsToBase, at_base, further, InSection, IsTyped}
+use Rattle.nomos_machine.specs.TypedState.{VariablesDiffer, HasVariables, IsOwned, ObjectTyped, LeadsToBase, at_base, further, IsTyped}
 use Rattle.nomos_machine.specs.declared.object.Message.{Message}
 use Rattle.nomos_machine.specs.declared.object.Object.{Object}
 use Rattle.nomos_machine.specs.declared.object.Object.TheVariants as object
@@ -28,17 +28,17 @@ use Rattle.nomos_machine.proofs.GoesLaws.{process-typed}
 use Rattle.nomos_machine.proofs.LinearLaws.{count-other, linear-owned, shared_of-linear}
 use Rattle.nomos_machine.proofs.NameLaws.{mentioned-sum}
 use Rattle.nomos_machine.proofs.ObjectLaws.{object-kept}
-use Rattle.nomos_machine.proofs.OwnedLaws.{made-times, CountsAsBefore, owned-as_before}
+use Rattle.nomos_machine.proofs.OwnedLaws.{made-times, owned-as_before}
 use Rattle.nomos_machine.proofs.PutLaws.{object_at-own, object_at-other, put-new, put-kept, contains-one}
 
--- From which side the process takes the message: as the provider of the name it goes on with the next one, and as the client
--- it still offers what it offered.
+-- From which side the process takes the message: as the provider of the name it goes on with the next one, and as the
+-- client it still offers what it offered.
 pub data Turning (p q : Process) (m : Message) : Type 0 where
   provider : p.offers ≡ m.from → m.to_client ≡ false → m.next ≡ Some q.offers → IsLinearMode p.mode → Turning p q m
   client : q.offers ≡ p.offers → m.to_client ≡ true → 1 ≤ count_of m.from (used (object.Process p)) → Turning p q m
 
--- What the rule and the message give at a receive: the message is there, on a name that is used exactly once; that name is
--- gone afterwards; and the process goes on as q, which is typed.
+-- What the rule and the message give at a receive: the message is there, on a name that is used exactly once; that
+-- name is gone afterwards; and the process goes on as q, which is typed.
 pub record Taking (a : Acceptance) (s : State) (p : Process) (m : Message) (q : Process) : Type 0 where
   pub waiting : Contains s.objects (object.Message m)
   pub own : TypeId
@@ -97,8 +97,8 @@ module _ {a : Acceptance} (accepted : IsAccepted a) {s : State} (typed : IsTyped
   apart : p.pid ≢ m.number
   apart = numbers-differ s.objects typed.numbered.ascending p m there h.waiting
 
-  pub takes-replaces : Replaces taken.places s.objects olds
-  takes-replaces =
+  pub receives-replaces : Replaces taken.places s.objects olds
+  receives-replaces =
       let HasIt : Object → Type 0 = λ o. object_number o ≡ p.pid in
       let placed : List Object = put_at p.pid (Some (object.Process q)) s.objects in
       let numbered = All-cons HasIt (object.Process q) [] h.pid (All-nil HasIt) in
@@ -106,7 +106,8 @@ module _ {a : Acceptance} (accepted : IsAccepted a) {s : State} (typed : IsTyped
       object_at-other p.pid m.number (Some (object.Process q)) s.objects apart numbered
       ∙ object_at-own (object.Message m) s.objects typed.numbered.ascending h.waiting
       in
-      then (object.Process p) (Some (object.Process q)) ((m.number, None) ∷ []) s.objects (object.Message m ∷ []) found-there
+      then (object.Process p) (Some (object.Process q)) ((m.number, None) ∷ []) s.objects (object.Message m ∷ [])
+      found-there
       numbered
       (then (object.Message m) None [] placed [] found_message (All-nil (λ o. object_number o ≡ m.number))
       (done (put_at m.number None placed)))
@@ -119,18 +120,18 @@ module _ {a : Acceptance} (accepted : IsAccepted a) {s : State} (typed : IsTyped
   provides-fewer : (name : ℕ)
       → times provided (made s taken).objects name + count_of name (m.from ∷ []) ≡ times provided s.objects name
   provides-fewer name =
-      let sum = made-times provided name s taken olds takes-replaces in
+      let sum = made-times provided name s taken olds receives-replaces in
       omega (arith, sum, turning-provides p q m name h.turns)
 
   uses-fewer : (name : ℕ)
       → times used (made s taken).objects name + count_of name (m.from ∷ []) ≡ times used s.objects name
   uses-fewer name =
-      let sum = made-times used name s taken olds takes-replaces in
+      let sum = made-times used name s taken olds receives-replaces in
       omega (arith, sum, h.uses name)
 
   shared-same : (name : ℕ) → times shared_names (made s taken).objects name ≡ times shared_names s.objects name
   shared-same name =
-      let sum = made-times shared_names name s taken olds takes-replaces in
+      let sum = made-times shared_names name s taken olds receives-replaces in
       let same = ap (λ (ns : List ℕ). count_of name ns) (turning-shared p q m h.turns h.same_mode h.base) in
       omega (arith, sum, same)
 
@@ -141,7 +142,7 @@ module _ {a : Acceptance} (accepted : IsAccepted a) {s : State} (typed : IsTyped
   pub gone : times mentioned (made s taken).objects m.from ≡ 0
   gone =
       let owned = owned-before in
-      let sum = made-times based m.from s taken olds takes-replaces in
+      let sum = made-times based m.from s taken olds receives-replaces in
       let same = ap (λ (o : Option ℕ). count_of m.from (option_to_list o)) h.base in
       let none = base-not_other accepted typed m.from h.own h.mode h.found h.has_mode (unshared h.mode h.is_linear) in
       omega (
@@ -196,7 +197,8 @@ module _ {a : Acceptance} (accepted : IsAccepted a) {s : State} (typed : IsTyped
   q-there =
       let placed : List Object = put_at p.pid (Some (object.Process q)) s.objects in
       let here : Contains placed (object.Process q) =
-      put-new p.pid (Some (object.Process q)) (object.Process p) (object.Process q) s.objects found-there (0, omega arith, refl)
+      put-new p.pid (Some (object.Process q)) (object.Process p) (object.Process q) s.objects found-there
+      (0, omega arith, refl)
       in
       Contains-append_left (put_at m.number None placed) [] (object.Process q)
       (put-kept m.number None (object.Process q) placed (λ same. apart (sym h.pid ∙ same)) here)
@@ -223,7 +225,8 @@ module _ {a : Acceptance} (accepted : IsAccepted a) {s : State} (typed : IsTyped
           (Contains-append_left (talk_end m) (carried m.payload) m.from
           (subst (λ (ns : List ℕ). Contains ns m.from) (sym ends) (0, omega arith, refl)))
           in
-          let two = times-two s.objects typed.numbered.ascending used m.from (object.Message m) (object.Message n) h.waiting inside
+          let two = times-two s.objects typed.numbered.ascending used m.from (object.Message m) (object.Message n)
+          h.waiting inside
           other
           in
           omega (arith, two, one, uses, owned-before.1)
@@ -231,7 +234,8 @@ module _ {a : Acceptance} (accepted : IsAccepted a) {s : State} (typed : IsTyped
           let differ : n.number ≢ p.pid = λ is.
           numbers-differ s.objects typed.numbered.ascending p n there inside (sym is)
           in
-          let two = times-two s.objects typed.numbered.ascending used m.from (object.Process p) (object.Message n) there inside
+          let two = times-two s.objects typed.numbered.ascending used m.from (object.Process p) (object.Message n)
+          there inside
           differ
           in
           omega (arith, two, one, uses, owned-before.1)
@@ -278,7 +282,8 @@ module _ {a : Acceptance} (accepted : IsAccepted a) {s : State} (typed : IsTyped
   taken-leads base name other leads =
       leads-further (λ n. n ≢ m.from) s.objects (made s taken).objects base ends onward name other leads
     where
-      ends : (r : Process) → Contains s.objects (object.Process r) → r.mode ≡ mode.L → r.base ≡ Some base → r.offers ≢ m.from
+      ends : (r : Process) → Contains s.objects (object.Process r) → r.mode ≡ mode.L → r.base ≡ Some base
+          → r.offers ≢ m.from
           → LeadsToBase (made s taken).objects base r.offers
       ends r inside at_l is stay =
           elim (cases_eq r.pid p.pid) [
@@ -299,13 +304,15 @@ module _ {a : Acceptance} (accepted : IsAccepted a) {s : State} (typed : IsTyped
       Onward k l = (LeadsToBase (made s taken).objects base k)
           ⊎ ((l ≢ m.from) × (LeadsToBase (made s taken).objects base l → LeadsToBase (made s taken).objects base k))
 
-      onward : (n : Message) (k l : ℕ) → Contains s.objects (object.Message n) → Contains (provided (object.Message n)) k
+      onward : (n : Message) (k l : ℕ) → Contains s.objects (object.Message n)
+          → Contains (provided (object.Message n)) k
           → Contains (talk_end n) l → k ≢ m.from → LeadsToBase s.objects base l → Onward k l
       onward n k l inside provides end stay leads_on =
           elim (cases_eq n.number m.number) [
             | inl number ↦
                 let is_m = one-message s.objects typed.numbered.ascending m n h.waiting inside number in
-                inl (message-ends base k l (subst (λ (o : Message). Contains (provided (object.Message o)) k) is_m provides)
+                inl (message-ends base k l
+                (subst (λ (o : Message). Contains (provided (object.Message o)) k) is_m provides)
                 (subst (λ (o : Message). Contains (talk_end o) l) is_m end) stay leads_on)
             | inr another ↦
                 let differ : n.number ≢ p.pid = λ is.
@@ -313,16 +320,17 @@ module _ {a : Acceptance} (accepted : IsAccepted a) {s : State} (typed : IsTyped
                 in
                 inr (
                   not-used n l inside another end,
-                  λ leads_there. further n k l (stays-there (object.Message n) inside differ another) provides end leads_there,
+                  λ leads_there. further n k l (stays-there (object.Message n) inside differ another) provides end
+                      leads_there,
                 )
           ]
 
   -- ---- the whole
 
-  pub takes-fits : Fits a s taken
-  takes-fits = record {
+  pub receives-fits : Fits a s taken
+  receives-fits = record {
     olds = olds;
-    replaces = takes-replaces;
+    replaces = receives-replaces;
     numbered = All-nil (λ o. object_number o ≡ s.next_object);
     variables = All-cons HasVariables (object.Process q) [] h.differ (All-nil HasVariables);
     typed = All-cons Here (object.Process q) [] here (All-nil Here);
@@ -353,7 +361,14 @@ module _ {a : Acceptance} (accepted : IsAccepted a) {s : State} (typed : IsTyped
           → HasMode a.program t mode.R → 1 ≤ times mentioned (made s taken).objects name
       still-mentioned name t some found at_r =
           let owned = typed.owned name t mode.R found at_r in
-          omega (arith, mentioned-sum (made s taken).objects name, provides-fewer name, uses-fewer name, owned.0, owned.1)
+          omega (
+            arith,
+            mentioned-sum (made s taken).objects name,
+            provides-fewer name,
+            uses-fewer name,
+            owned.0,
+            owned.1,
+          )
 
-  pub takes-keeps_gas : KeepsGas s taken olds
-  takes-keeps_gas = record { gives = tt; gets = tt; even = omega (arith, h.purse) }
+  pub receives-keep_gas : KeepsGas s taken olds
+  receives-keep_gas = record { gives = tt; gets = tt; even = omega (arith, h.purse) }

@@ -1,12 +1,12 @@
 -- The instructions at which a process sends: `label`, `send`, `put` and `pay`.
-use Rattle.std.proofs.Common.{◌≡◌, ◌≢◌, ◌∙◌, ◌≤◌, inl, inr, ℕ, ◌+◌, ◌-◌, Bool, true, false, List, [], ◌∷◌, ◌++◌, map, length, Contains, Option, Some, None, slice_get, Ok, refl, sym, subst, ap, arith, ne_eqb}
+use Rattle.std.proofs.Common.{◌≡◌, ◌≢◌, ◌∙◌, ◌≤◌, inl, inr, ℕ, ◌+◌, ◌-◌, Bool, true, false, List, [], ◌∷◌, Contains, Option, Some, Ok, refl, sym, subst, ap, arith, ne_eqb}
 use Rattle.std.specs.Prelude.{option_and_then}
 use Rattle.std.specs.Option.{option_map, option_or, option_to_list}
 use Rattle.std.proofs.lemmas.Bool.{cases_eq}
-use Rattle.nomos_ir.specs.Bindings.{bound_to, unbind, IsAscending}
+use Rattle.nomos_ir.specs.Bindings.{bound_to, unbind}
 use Rattle.nomos_ir.specs.Evaluation.{Evaluation, ends, faults, term_evaluation}
 use Rattle.nomos_ir.specs.Order.{count_of}
-use Rattle.nomos_ir.specs.Unfold.{Unfolds}
+use Rattle.nomos_ir.specs.Unfold.{Unfolds, unfolded}
 use Rattle.nomos_ir.specs.declared.amount.Amount.{Amount}
 use Rattle.nomos_ir.specs.declared.code_node.Chan.{Chan}
 use Rattle.nomos_ir.specs.declared.code_node.Chan.TheVariants as chan
@@ -24,26 +24,26 @@ use Rattle.nomos_ir.specs.declared.type_node.TypeNode.TheVariants as node
 use Rattle.nomos_ir.proofs.BindingLaws.{bound-after_unbind_other, unbind-ascending, all-bound}
 use Rattle.nomos_ir.proofs.PairedLaws.{paired-left}
 use Rattle.nomos_ir.proofs.SumLaws.{count-after_unbind}
+use Rattle.nomos_ir.proofs.UnfoldLaws.{unfolds-unfolded}
 use Rattle.nomos_types.specs.Acceptance.{Acceptance, IsAccepted}
-use Rattle.nomos_types.specs.Alike.{AlikeTypes}
 use Rattle.nomos_types.specs.Amount.{dths}
 use Rattle.nomos_types.specs.Arguments.{PassesChannel, shared, linear}
-use Rattle.nomos_types.specs.Judgement.{Judgement, IsJudgement, channel_type, goes_on, with_potential, type_held, is_shared_mode}
-use Rattle.nomos_types.specs.Modes.{HasMode, IsLinearMode, parameter_mode}
+use Rattle.nomos_types.specs.Judgement.{Judgement, IsJudgement, channel_type, goes_on, with_potential, type_held}
+use Rattle.nomos_types.specs.Modes.{HasMode, IsLinearMode}
 use Rattle.nomos_types.specs.Row.{Row}
 use Rattle.nomos_types.specs.Premises.{by_side}
 use Rattle.nomos_types.proofs.ModeLaws.{mode-unique}
 use Rattle.nomos_types.proofs.OccurrenceLaws.{count-elsewhere}
 use Rattle.nomos_types.proofs.RowLaws.{row-inverted}
-use Rattle.nomos_types.proofs.ToldModeLaws.{type-shows_shared, linear-unshared}
+use Rattle.nomos_types.proofs.ToldModeLaws.{linear-unshared}
 use Rattle.nomos_machine.specs.Change.{Change}
 use Rattle.nomos_machine.specs.Deeds.{does, sends, where_it_has, hands_over, unless_shared}
-use Rattle.nomos_machine.specs.Given.{values_of_terms, with_others}
-use Rattle.nomos_machine.specs.Matching.{NameHasType, Matches, ProcessTyped}
-use Rattle.nomos_machine.specs.Objects.{carried, used, potential_of, free_purse}
+use Rattle.nomos_machine.specs.Given.{with_others}
+use Rattle.nomos_machine.specs.Matching.{NameHasType}
+use Rattle.nomos_machine.specs.Objects.{carried, potential_of, free_purse}
 use Rattle.nomos_machine.specs.Revised.{poorer, without_channel}
-use Rattle.nomos_machine.specs.Sight.{is_own, present_name, head_on, shows_shared, is_shared_name, after_label, after_channel, after_value, after_potential}
-use Rattle.nomos_machine.specs.State.{State, type_of}
+use Rattle.nomos_machine.specs.Sight.{is_own, present_name, head_on, is_shared_name, after_channel, after_potential}
+use Rattle.nomos_machine.specs.State.{State, type_of, node_of}
 use Rattle.nomos_machine.specs.Step.{deed_by}
 use Rattle.nomos_machine.specs.TypedMessage.{Brings}
 use Rattle.nomos_machine.specs.TypedState.{VariablesDiffer, IsTyped}
@@ -52,12 +52,46 @@ use Rattle.nomos_machine.specs.declared.object.Payload.{Payload}
 use Rattle.nomos_machine.specs.declared.object.Payload.TheVariants as payload
 use Rattle.nomos_machine.specs.declared.object.Process.{Process}
 use Rattle.nomos_machine.proofs.AloneDeeds.{At, GoesAt}
-use Rattle.nomos_machine.proofs.ChannelLaws.{IsUnshared, channel-unshared, goes_on-with_potential}
-use Rattle.nomos_machine.proofs.GoesLaws.{Goes, faulty, process-typed, process-variables, own-row, own-stands, own-is_judgement, own-matches, value-has_kind, affords}
+use Rattle.nomos_machine.proofs.ChannelLaws.{channel-unshared, goes_on-with_potential}
+use Rattle.nomos_machine.proofs.GoesLaws.{Goes, acts, faulty, process-typed, process-variables, own-row, own-stands, own-is_judgement, own-matches, value-has_kind, affords}
+use Rattle.nomos_machine.proofs.LinearLaws.{told-shared}
 use Rattle.nomos_machine.proofs.MatchLaws.{holds-fewer}
 use Rattle.nomos_machine.proofs.ProcessLaws.{own_judgement}
-use Rattle.nomos_machine.proofs.SendLaws.{Sending, sends-go}
-use Rattle.nomos_machine.proofs.TalkLaws.{of_type-through, sent-label, sent-channel, sent-one_value, sent-potential}
+use Rattle.nomos_machine.proofs.SendLaws.{sent, sends-made, sends-replaces, sends-fits, sends-keeps_gas}
+use Rattle.nomos_machine.proofs.SendingLaws.{Sending, SendsOn, sends-on}
+use Rattle.nomos_machine.proofs.TalkLaws.{after_brought, brings-after, of_type-through, sent-label, sent-channel, sent-one_value, sent-potential}
+
+-- What a process does at a send, by what the rule gives.
+module _ {a : Acceptance} (accepted : IsAccepted a) {s : State} (typed : IsTyped a s) {p : Process}
+    (there : Contains s.objects (object.Process p)) (c : Chan) (brought : Payload) (gas : ℕ) (q : Process)
+    (next : CodeId)
+    (h : Sending a s p (process-typed typed there) c brought gas q next) where
+  -- the type with which the talk goes on is found at the channel's present name
+  goes-found : (g : SendsOn a s p c brought gas h.goes)
+      → option_and_then (after_brought brought) (head_on a.program s.types p c) ≡ Some g.goes
+  goes-found g =
+      let unfolds : unfolded a.program g.own.0 ≡ Some g.head =
+      unfolds-unfolded a.program g.own.0 g.head accepted.typed.formed.contractive g.unfolds
+      in
+      ap (λ (o : Option ℕ). option_and_then (after_brought brought) (option_and_then (node_of a.program s.types) o))
+      g.here
+      ∙ ap (λ (o : Option TypeId). option_and_then (after_brought brought)
+      (option_and_then (λ t. unfolded a.program t.0) o))
+      g.found
+      ∙ ap (λ (o : Option TypeNode). option_and_then (after_brought brought) o) unfolds ∙ brings-after g.brings
+
+  pub sends-go : Goes a s true
+      (does a s p (sends a s p c brought gas q
+      (option_and_then (after_brought brought) (head_on a.program s.types p c)) next))
+  sends-go =
+      let g = sends-on accepted h in
+      subst (λ (o : Option Change). Goes a s true (does a s p o))
+      (sym (sends-made accepted typed there c brought gas q next h g
+      (option_and_then (after_brought brought) (head_on a.program s.types p c)) (goes-found g)))
+      (acts (sent accepted typed there c brought gas q next h g) (object.Process p ∷ [])
+      (sends-replaces accepted typed there c brought gas q next h g)
+      (sends-fits accepted typed there c brought gas q next h g)
+      (sends-keeps_gas accepted typed there c brought gas q next h g))
 
 module _ {a : Acceptance} (accepted : IsAccepted a) {s : State} (typed : IsTyped a s) {p : Process}
     (there : Contains s.objects (object.Process p)) where
@@ -69,12 +103,15 @@ module _ {a : Acceptance} (accepted : IsAccepted a) {s : State} (typed : IsTyped
   IsUnsharedName name = (t : TypeId) → type_of s.types name ≡ Some t → ¬ (HasMode a.program t mode.S)
 
   -- It sends what is no channel, or a reference, and keeps all that it has but for gas.
-  own-sending : (c : Chan) (brought : Payload) (gas purse : ℕ) (next : CodeId) (held : TypeId) (head : TypeNode) (goes : TypeId)
+  own-sending : (c : Chan) (brought : Payload) (gas purse : ℕ) (next : CodeId) (held : TypeId) (head : TypeNode)
+      (goes : TypeId)
       (after : List Judgement) → Row a.program a.annotations own after
-      → Contains after (goes_on (with_potential own (purse - potential_of p)) c goes next) → channel_type own c ≡ Some held
+      → Contains after (goes_on (with_potential own (purse - potential_of p)) c goes next)
+      → channel_type own c ≡ Some held
       → Unfolds a.program held.0 head
       → Brings a.program a.annotations s.types (is_own c) head brought gas (Some goes)
-      → ((name : ℕ) → IsUnsharedName name → count_of name (carried brought) ≡ 0) → potential_of p ≤ purse → gas + purse ≡ p.purse
+      → ((name : ℕ) → IsUnsharedName name → count_of name (carried brought) ≡ 0) → potential_of p ≤ purse
+      → gas + purse ≡ p.purse
       → Sending a s p (process-typed typed there) c brought gas (record p { purse = purse }) next
   own-sending c brought gas purse next held head goes after row among holds unfolds brings nothing covered pays =
       let variables = process-variables typed there in
@@ -135,7 +172,8 @@ module _ {a : Acceptance} (accepted : IsAccepted a) {s : State} (typed : IsTyped
       in
       sends-go accepted typed there c (payload.Label l) 0 p next
       (own-sending c (payload.Label l) 0 p.purse next held _ t after row among holds unfolds
-      (sent-label c sends_it.branches l t sends_it.goes) (λ name unshared. refl) (process-typed typed there).covered (omega arith))
+      (sent-label c sends_it.branches l t sends_it.goes) (λ name unshared. refl) (process-typed typed there).covered
+      (omega arith))
 
   pub put-goes : (at : ℕ) (c : Chan) (e : TermId) (next : CodeId) → At accepted typed there (code.Put at c e next)
       → GoesAt accepted typed there (code.Put at c e next)
@@ -157,7 +195,8 @@ module _ {a : Acceptance} (accepted : IsAccepted a) {s : State} (typed : IsTyped
           in
           sends-go accepted typed there c (payload.Value x) 0 p next
           (own-sending c (payload.Value x) 0 p.purse next held _ t after row among holds unfolds
-          (sent-one_value c sends_it.kind t x has) (λ name unshared. refl) (process-typed typed there).covered (omega arith))
+          (sent-one_value c sends_it.kind t x has) (λ name unshared. refl) (process-typed typed there).covered
+          (omega arith))
 
   pub pay-goes : (at : ℕ) (c : Chan) (r : Amount) (next : CodeId) → At accepted typed there (code.Pay at c r next)
       → GoesAt accepted typed there (code.Pay at c r next)
@@ -172,11 +211,14 @@ module _ {a : Acceptance} (accepted : IsAccepted a) {s : State} (typed : IsTyped
       let left : Judgement = with_potential own (own.q - gas) in
       let rest : own.q - gas ≡ p.purse - gas - potential_of p = omega arith in
       let k : Judgement = goes_on left c t next in
-      let is_k : after ≡ k ∷ [] = goes_on_so ∙ ap (λ j. j ∷ []) (sym (goes_on-with_potential own c t next (own.q - gas))) in
+      let is_k : after ≡ k ∷ [] =
+      goes_on_so ∙ ap (λ j. j ∷ []) (sym (goes_on-with_potential own c t next (own.q - gas)))
+      in
       let among : Contains after k = subst (λ (js : List Judgement). Contains js k) (sym is_k) (0, omega arith, refl) in
       let brings = subst
       (λ (g : ℕ). Brings a.program a.annotations s.types (is_own c)
-      (by_side c (node.PotOut pays_it.amount t) (node.PotIn pays_it.amount t)) payload.Pay g (Some t)) (sym pays_it.same)
+      (by_side c (node.PotOut pays_it.amount t) (node.PotIn pays_it.amount t)) payload.Pay g (Some t))
+      (sym pays_it.same)
       (sent-potential c pays_it.amount t)
       in
       let found = option_and_then after_potential (head_on a.program s.types p c) in
@@ -195,15 +237,6 @@ module _ {a : Acceptance} (accepted : IsAccepted a) {s : State} (typed : IsTyped
       → (name : ℕ) × (bound_to y.0 p.channels ≡ Some name) × NameHasType a.program a.annotations s.types name t
   held-name y t found = paired-left t ((own-matches typed there).channels y.0) found
 
-  -- whether the name is a shared one is told by the mode of that type
-  told-shared : (name : ℕ) (t : TypeId) (m : Mode) → NameHasType a.program a.annotations s.types name t
-      → HasMode a.program t m → is_shared_name a.program s.types name ≡ is_shared_mode m
-  told-shared name t m is has =
-      let formed = accepted.typed.formed in
-      ap (shows_shared a.program) is.found
-      ∙ type-shows_shared formed is.alike.mode is.alike.left_mode
-      ∙ ap is_shared_mode (mode-unique formed.program is.alike.right_mode has)
-
   -- so what is handed over of it is told
   hands-over : (y : VarId) (name : ℕ) (b : Bool) → bound_to y.0 p.channels ≡ Some name
       → is_shared_name a.program s.types name ≡ b → hands_over a s p y p ≡ unless_shared a s p y (Some b) p
@@ -215,13 +248,15 @@ module _ {a : Acceptance} (accepted : IsAccepted a) {s : State} (typed : IsTyped
   channel-goes : (c : Chan) (y : VarId) (next : CodeId) (name : ℕ) (q : Process) → bound_to y.0 p.channels ≡ Some name
       → hands_over a s p y p ≡ q → Sending a s p (process-typed typed there) c (payload.Channel name) 0 q next
       → Goes a s true (does a s p (option_and_then (λ k.
-      sends a s p c (payload.Channel k) 0 (hands_over a s p y p) (option_and_then after_channel (head_on a.program s.types p c))
+      sends a s p c (payload.Channel k) 0 (hands_over a s p y p)
+      (option_and_then after_channel (head_on a.program s.types p c))
       next) (bound_to y.0 p.channels)))
   channel-goes c y next name q bound hands sending =
       let found = option_and_then after_channel (head_on a.program s.types p c) in
       subst (λ (o : Option ℕ). Goes a s true (does a s p (option_and_then (λ k.
       sends a s p c (payload.Channel k) 0 (hands_over a s p y p) found next) o))) (sym bound)
-      (subst (λ (r : Process). Goes a s true (does a s p (sends a s p c (payload.Channel name) 0 r found next))) (sym hands)
+      (subst (λ (r : Process). Goes a s true (does a s p (sends a s p c (payload.Channel name) 0 r found next)))
+      (sym hands)
       (sends-go accepted typed there c (payload.Channel name) 0 q next sending))
 
   -- a name of a shared type is counted where it is the name of no other type
@@ -260,15 +295,18 @@ module _ {a : Acceptance} (accepted : IsAccepted a) {s : State} (typed : IsTyped
       apart : c ≢ chan.Var y → (v : VarId) → c ≡ chan.Var v → v.0 ≢ y.0
       apart other v is same = other (is ∙ ap (λ (k : ℕ). chan.Var (record { 0 = k })) same)
 
-      passed : (after : List Judgement) → Row a.program a.annotations own after → (left : Judgement) (t sent held : TypeId)
+      passed : (after : List Judgement) → Row a.program a.annotations own after
+          → (left : Judgement) (t sent held : TypeId)
           → Contains after (goes_on left c t next) → channel_type own c ≡ Some held
           → Unfolds a.program held.0 (by_side c (node.Tensor sent t) (node.Lolli sent t)) → c ≢ chan.Var y
           → PassesChannel a.program a.annotations own y sent left
           → GoesAt accepted typed there (code.Send at c y next)
       passed after row _ t sent held among holds unfolds other (shared reference bound alike) =
           let at_s = all-bound (λ u. HasMode a.program u mode.S) y.0 reference own.shared h.shared_modes bound in
-          let (name, found, is) = held-name y reference (ap (λ (o : Option TypeId). option_or o (bound_to y.0 own.linear)) bound) in
-          let told = told-shared name reference mode.S is at_s in
+          let (name, found, is) =
+          held-name y reference (ap (λ (o : Option TypeId). option_or o (bound_to y.0 own.linear)) bound)
+          in
+          let told = told-shared accepted name reference mode.S is at_s in
           let carries = of_type-through accepted.typed.formed is alike in
           channel-goes c y next name p found (hands-over y name true found told)
           (own-sending c (payload.Channel name) 0 p.purse next held _ t after row among holds unfolds
@@ -279,7 +317,7 @@ module _ {a : Acceptance} (accepted : IsAccepted a) {s : State} (typed : IsTyped
           let (name, found, is) =
           held-name y own_type (ap (λ (o : Option TypeId). option_or o (bound_to y.0 own.linear)) none ∙ bound)
           in
-          let told = told-shared name own_type m is has ∙ sym (linear-unshared m is_linear) in
+          let told = told-shared accepted name own_type m is has ∙ sym (linear-unshared m is_linear) in
           let on = own-matches typed there in
           channel-goes c y next name (without_channel y p) found (hands-over y name false found told)
           (record {

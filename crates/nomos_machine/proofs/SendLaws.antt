@@ -1,44 +1,33 @@
 -- A process that sends, and goes on with the channel under the next name, leaves a typed state typed.
-use Rattle.std.proofs.Common.{cond, Bool, true, ◌≡◌, ◌≢◌, ◌∙◌, ◌≤◌, inl, inr, ℕ, ◌+◌, ◌*◌, List, [], ◌∷◌, ◌++◌, map, length, All, Contains, Option, Some, None, IsSome, sum_by, refl, sym, subst, ap, arith, ne_eqb}
+use Rattle.std.proofs.Common.{cond, ◌≡◌, ◌≢◌, ◌∙◌, ◌≤◌, inl, inr, ℕ, ◌+◌, ◌*◌, List, [], ◌∷◌, length, Contains, Option, Some, sum_by, refl, sym, subst, ap, arith}
 use Rattle.std.specs.Prelude.{option_and_then}
 use Rattle.std.proofs.lemmas.Bool.{cases_eq}
-use Rattle.std.proofs.lemmas.List.Elements.{All-nil, All-cons, Contains-append_left, Contains-append_right}
+use Rattle.std.proofs.lemmas.List.Elements.{All-nil, All-cons, Contains-append_left}
 use Rattle.nomos_ir.specs.Bindings.{IsAscending}
 use Rattle.nomos_ir.specs.Order.{count_of}
-use Rattle.nomos_ir.specs.Paired.{Paired}
-use Rattle.nomos_ir.specs.Unfold.{Unfolds, unfolded}
 use Rattle.nomos_ir.specs.declared.code_node.Chan.{Chan}
 use Rattle.nomos_ir.specs.declared.code_node.Chan.TheVariants as chan
 use Rattle.nomos_ir.specs.declared.ids.CodeId.{CodeId}
 use Rattle.nomos_ir.specs.declared.ids.TypeId.{TypeId}
 use Rattle.nomos_ir.specs.declared.ids.VarId.{VarId}
-use Rattle.nomos_ir.specs.declared.lists.ProgramLists.{ProgramLists}
 use Rattle.nomos_ir.specs.declared.mode.Mode.{Mode}
 use Rattle.nomos_ir.specs.declared.mode.Mode.TheVariants as mode
-use Rattle.nomos_ir.specs.declared.type_node.TypeNode.{TypeNode}
-use Rattle.nomos_ir.proofs.PairedLaws.{paired-right}
 use Rattle.nomos_ir.proofs.SumLaws.{count-first}
-use Rattle.nomos_ir.proofs.UnfoldLaws.{unfolds-unfolded}
 use Rattle.nomos_types.specs.Acceptance.{Acceptance, IsAccepted}
 use Rattle.nomos_types.specs.Alike.{AlikeTypes}
-use Rattle.nomos_types.specs.Judgement.{Judgement, channel_type, goes_on}
+use Rattle.nomos_types.specs.Judgement.{goes_on}
 use Rattle.nomos_types.specs.Modes.{HasMode, IsLinearMode}
-use Rattle.nomos_types.specs.Row.{Row}
-use Rattle.nomos_types.specs.Synchronizing.{IsSynchronizingAt}
-use Rattle.nomos_types.specs.Typed.{IsWellFormed}
-use Rattle.nomos_types.proofs.AlikeLaws.{alike_types-back, alike_types-same}
-use Rattle.nomos_types.proofs.EqualityLaws.{equal-unfolded, equal-back}
+use Rattle.nomos_types.proofs.AlikeLaws.{alike_types-same}
 use Rattle.nomos_types.proofs.ModeLaws.{mode-unique}
-use Rattle.nomos_types.proofs.OccurrenceLaws.{counted, count-elsewhere}
 use Rattle.nomos_types.proofs.SynchronizingLaws.{synchronizing-continues}
 use Rattle.nomos_machine.specs.Change.{Change, put_at, made}
-use Rattle.nomos_machine.specs.Deeds.{alone, sends, does}
-use Rattle.nomos_machine.specs.Matching.{NameHasType, Matches, HasBase, ProcessTyped}
-use Rattle.nomos_machine.specs.Objects.{object_number, provided, used, based, shared_names, shared_of, mentioned, carried, times, object_at, potential_of, free_purse, talk_end}
+use Rattle.nomos_machine.specs.Deeds.{alone, sends}
+use Rattle.nomos_machine.specs.Matching.{NameHasType, Matches, ProcessTyped}
+use Rattle.nomos_machine.specs.Objects.{object_number, provided, used, shared_names, shared_of, mentioned, times, object_at, potential_of, free_purse}
 use Rattle.nomos_machine.specs.Revised.{standing_at, under_name}
-use Rattle.nomos_machine.specs.Sight.{is_own, present_name, head_on}
-use Rattle.nomos_machine.specs.State.{State, NameTypes, type_of, node_of}
-use Rattle.nomos_machine.specs.TypedMessage.{Brings, MessageTyped}
+use Rattle.nomos_machine.specs.Sight.{is_own, present_name}
+use Rattle.nomos_machine.specs.State.{State, type_of}
+use Rattle.nomos_machine.specs.TypedMessage.{MessageTyped}
 use Rattle.nomos_machine.specs.TypedState.{VariablesDiffer, HasVariables, IsOwned, ObjectTyped, LeadsToBase, at_base, further, InSection, IsTyped}
 use Rattle.nomos_machine.specs.declared.object.Message.{Message}
 use Rattle.nomos_machine.specs.declared.object.Object.{Object}
@@ -48,96 +37,25 @@ use Rattle.nomos_machine.specs.declared.object.PotentialList.{PotentialList}
 use Rattle.nomos_machine.specs.declared.object.Process.{Process}
 use Rattle.nomos_machine.proofs.ApartLaws.{one-process, numbers-differ, leads-own}
 use Rattle.nomos_machine.proofs.ChangeLaws.{Replaces, done, further as then, made-kept, made-comes}
-use Rattle.nomos_machine.proofs.ChannelLaws.{SameRest, under-keeps, IsUnshared, present-has_type, matches-goes_on, goes_on-potential, under-ascending, provider_end, client_end, both-ends, under-provides, under-uses, sent-provides, sent-uses}
+use Rattle.nomos_machine.proofs.ChannelLaws.{SameRest, under-keeps, matches-goes_on, goes_on-potential, under-ascending, both-ends, under-provides, under-uses, sent-provides, sent-uses}
 use Rattle.nomos_machine.proofs.FitLaws.{Fits}
 use Rattle.nomos_machine.proofs.GasLaws.{KeepsGas}
-use Rattle.nomos_machine.proofs.GoesLaws.{Goes, acts, process-typed, process-variables, next-is_judgement}
+use Rattle.nomos_machine.proofs.GoesLaws.{process-typed, next-is_judgement}
 use Rattle.nomos_machine.proofs.LinearLaws.{count-other, owned-once, IsLinearAt, under-shared, linear-at, base-again}
 use Rattle.nomos_machine.proofs.MatchLaws.{matches-differ}
-use Rattle.nomos_machine.proofs.NameLaws.{mentioned-sum, times-one, type_of-below, type_of-kept, type_of-added, type_of-other}
+use Rattle.nomos_machine.proofs.NameLaws.{mentioned-sum, type_of-below, type_of-kept, type_of-added, type_of-other}
 use Rattle.nomos_machine.proofs.ObjectLaws.{brings-kept, matches-kept}
-use Rattle.nomos_machine.proofs.OwnedLaws.{made-times, CountsAsBefore, owned-as_before, unmentioned, next-unmentioned, next-not_outside, leads-map}
-use Rattle.nomos_machine.proofs.ProcessLaws.{own_judgement, process-next}
+use Rattle.nomos_machine.proofs.OwnedLaws.{made-times, owned-as_before, unmentioned, next-unmentioned, next-not_outside, leads-map}
+use Rattle.nomos_machine.proofs.ProcessLaws.{process-next}
 use Rattle.nomos_machine.proofs.PutLaws.{object_at-own, put-new}
-use Rattle.nomos_machine.proofs.TalkLaws.{after_brought, brings-after, goes-alike, brings-continues, brings-keeps_mode, brings-linear}
-
--- What the rule gives at a send: the channel's type unfolds to a node at which this is brought, and with which the channel
--- goes on; and the process, as which it goes on, has what is left, and has handed over what the message carries.
-pub record Sending (a : Acceptance) (s : State) (p : Process) (t : ProcessTyped a s.types (length s.balances) p) (c : Chan)
-    (brought : Payload) (gas : ℕ) (q : Process) (next : CodeId) : Type 0 where
-  pub left : Judgement
-  pub held : TypeId
-  pub head : TypeNode
-  pub goes : TypeId
-  pub after : List Judgement
-  pub row : Row a.program a.annotations (own_judgement p t) after
-  pub among : Contains after (goes_on left c goes next)
-  pub unshared : IsUnshared left.shared c
-  pub holds : channel_type left c ≡ Some held
-  pub unfolds : Unfolds a.program held.0 head
-  pub brings : Brings a.program a.annotations s.types (is_own c) head brought gas (Some goes)
-  pub matches : Matches a.program a.annotations s.types q left
-  pub here : present_name q c ≡ present_name p c
-  pub pid : q.pid ≡ p.pid
-  pub same_mode : q.mode ≡ p.mode
-  pub offers : q.offers ≡ p.offers
-  pub base : q.base ≡ p.base
-  pub payer : q.payer ≡ p.payer
-  pub values : IsAscending q.values
-  pub held_lists : IsAscending q.lists
-  pub channels : IsAscending q.channels
-  pub covered : potential_of q ≤ q.purse
-  pub exact : free_purse q ≡ left.q
-  pub pays : gas + q.purse ≡ p.purse
-  -- a reference may be carried, and stays as well
-  pub uses : (name : ℕ) → ((t : TypeId) → type_of s.types name ≡ Some t → ¬ (HasMode a.program t mode.S))
-      → count_of name (used (object.Process q)) + count_of name (carried brought)
-      ≡ count_of name (used (object.Process p))
-
--- the same at the type of the channel's present name
-pub record SendsOn (a : Acceptance) (s : State) (p : Process) (c : Chan) (brought : Payload) (gas : ℕ) (t : TypeId)
-    : Type 0 where
-  pub from : ℕ
-  pub here : present_name p c ≡ Some from
-  pub own : TypeId
-  pub found : type_of s.types from ≡ Some own
-  pub mode : Mode
-  pub has_mode : HasMode a.program own mode
-  pub head : TypeNode
-  pub unfolds : Unfolds a.program own.0 head
-  pub goes : TypeId
-  pub brings : Brings a.program a.annotations s.types (is_own c) head brought gas (Some goes)
-  pub alike : AlikeTypes a.program a.annotations goes t
-
-pub sends-on : {a : Acceptance} → IsAccepted a → {s : State} {p : Process} {t : ProcessTyped a s.types (length s.balances) p}
-    {c : Chan} {brought : Payload} {gas : ℕ} {q : Process} {next : CodeId} → (h : Sending a s p t c brought gas q next)
-    → SendsOn a s p c brought gas h.goes
-sends-on {a} accepted {s} {c = c} {brought = brought} {gas = gas} h =
-    let formed = accepted.typed.formed in
-    let (from, here, is) = present-has_type h.matches c h.held h.unshared h.holds in
-    let (head, unfolds, same) = equal-unfolded a.program a.annotations h.held is.own h.head
-    (equal-back a.program a.annotations is.own h.held is.alike.equal) h.unfolds
-    in
-    let (goes, brings, paired) = goes-alike formed (alike_types-back is.alike) h.unfolds unfolds h.brings in
-    let (u, is_u, alike) = paired-right h.goes paired refl in
-    record {
-      from = from;
-      here = sym h.here ∙ here;
-      own = is.own;
-      found = is.found;
-      mode = is.alike.mode;
-      has_mode = is.alike.left_mode;
-      head = head;
-      unfolds = unfolds;
-      goes = u;
-      brings = subst (λ (o : Option TypeId). Brings a.program a.annotations s.types (is_own c) head brought gas o) is_u brings;
-      alike = alike_types-back alike;
-    }
+use Rattle.nomos_machine.proofs.SendingLaws.{Sending, SendsOn}
+use Rattle.nomos_machine.proofs.TalkLaws.{brings-continues, brings-keeps_mode, brings-linear}
 
 -- ---- the change
 
 module _ {a : Acceptance} (accepted : IsAccepted a) {s : State} (typed : IsTyped a s) {p : Process}
-    (there : Contains s.objects (object.Process p)) (c : Chan) (brought : Payload) (gas : ℕ) (q : Process) (next : CodeId)
+    (there : Contains s.objects (object.Process p)) (c : Chan) (brought : Payload) (gas : ℕ) (q : Process)
+    (next : CodeId)
     (h : Sending a s p (process-typed typed there) c brought gas q next) (g : SendsOn a s p c brought gas h.goes) where
   -- the process afterwards, and the message
   abbrev onward : Process
@@ -221,7 +139,9 @@ module _ {a : Acceptance} (accepted : IsAccepted a) {s : State} (typed : IsTyped
   shared-same : (name : ℕ) → times shared_names (made s sent).objects name ≡ times shared_names s.objects name
   shared-same name =
       let sum = made-times shared_names name s sent (object.Process p ∷ []) sends-replaces in
-      let at_p = linear-at accepted (process-typed typed there) c g.from g.own g.mode g.here g.found g.has_mode goes-linear in
+      let at_p =
+      linear-at accepted (process-typed typed there) c g.from g.own g.mode g.here g.found g.has_mode goes-linear
+      in
       let linear : IsLinearAt c q.mode = subst (IsLinearAt c) (sym h.same_mode) at_p in
       let under = ap (λ (ns : List ℕ). count_of name ns) (under-shared c s.next_name q linear) in
       let same : count_of name (shared_names (object.Process q)) ≡ count_of name (shared_names (object.Process p)) =
@@ -266,7 +186,8 @@ module _ {a : Acceptance} (accepted : IsAccepted a) {s : State} (typed : IsTyped
           → ¬ (HasMode a.program u mode.S)
       unshared before is u u_found at_s =
           let same : u ≡ t = cc in
-          is (mode-unique accepted.typed.formed.program has (subst (λ (v : TypeId). HasMode a.program v mode.S) same at_s))
+          is (mode-unique accepted.typed.formed.program has
+          (subst (λ (v : TypeId). HasMode a.program v mode.S) same at_s))
 
   -- ---- what comes is typed
 
@@ -280,13 +201,16 @@ module _ {a : Acceptance} (accepted : IsAccepted a) {s : State} (typed : IsTyped
 
   onward-matches : Matches a.program a.annotations (made s sent).types onward (goes_on h.left c h.goes next)
   onward-matches =
-      matches-goes_on (matches-kept a s.types (made s sent).types q h.left (λ name t among found. type-kept name t found) h.matches)
+      matches-goes_on (matches-kept a s.types (made s sent).types q h.left
+      (λ name t among found. type-kept name t found) h.matches)
       c s.next_name h.goes next h.unshared (goes-type h.goes g.alike)
 
   onward-typed : ProcessTyped a (made s sent).types (length s.balances) onward
   onward-typed =
       let t = process-typed typed there in
-      let same_lists = ap (λ (ls : List (VarId × PotentialList)). sum_by (λ e. e.1.amount * length e.1.items) ls) kept.held_lists in
+      let same_lists =
+      ap (λ (ls : List (VarId × PotentialList)). sum_by (λ e. e.1.amount * length e.1.items) ls) kept.held_lists
+      in
       let potential : potential_of onward ≡ potential_of q = same_lists in
       let purse : onward.purse ≡ q.purse = kept.purse in
       let covered : potential_of q ≤ q.purse = h.covered in
@@ -298,7 +222,8 @@ module _ {a : Acceptance} (accepted : IsAccepted a) {s : State} (typed : IsTyped
 
   onward-differ : VariablesDiffer onward
   onward-differ =
-      matches-differ (next-is_judgement typed there accepted (goes_on h.left c h.goes next) h.row h.among) onward-matches
+      matches-differ (next-is_judgement typed there accepted (goes_on h.left c h.goes next) h.row h.among)
+      onward-matches
       (subst IsAscending (sym kept.values) h.values) (subst IsAscending (sym kept.held_lists) h.held_lists)
       (under-ascending c s.next_name q h.channels)
 
@@ -310,7 +235,8 @@ module _ {a : Acceptance} (accepted : IsAccepted a) {s : State} (typed : IsTyped
         head = g.head;
         unfolds = g.unfolds;
         goes = Some g.goes;
-        brings = brings-kept a.program a.annotations s.types (made s sent).types (is_own c) g.head brought gas (Some g.goes)
+        brings = brings-kept a.program a.annotations s.types (made s sent).types (is_own c) g.head brought gas
+            (Some g.goes)
             (λ name t among found. type-kept name t found) g.brings;
         next = goes-type g.goes (alike_types-same a.annotations formed.program formed.contractive goes-mode);
       }
@@ -373,7 +299,8 @@ module _ {a : Acceptance} (accepted : IsAccepted a) {s : State} (typed : IsTyped
         tt,
         λ leads_on. further m n onward
             (stays-there (object.Message m) inside
-            (λ number. numbers-differ s.objects typed.numbered.ascending p m there inside (sym number))) provides end leads_on,
+            (λ number. numbers-differ s.objects typed.numbered.ascending p m there inside (sym number))) provides end
+            leads_on,
       ))
       name tt leads
     where
@@ -432,7 +359,8 @@ module _ {a : Acceptance} (accepted : IsAccepted a) {s : State} (typed : IsTyped
             let goes_at_l = subst (λ (u : TypeId). HasMode a.program u mode.L) (sym is) at_l in
             let at : g.mode ≡ mode.L = mode-unique accepted.typed.formed.program goes-mode goes_at_l in
             let section = typed.sections g.from g.own g.found (subst (HasMode a.program g.own) at g.has_mode) in
-            let goes_on = synchronizing-continues a.annotations g.head section.synchronizing g.unfolds (brings-continues g.brings)
+            let goes_on = synchronizing-continues a.annotations g.head section.synchronizing g.unfolds
+            (brings-continues g.brings)
             in
             let next_section : InSection a (made s sent) s.next_name g.goes = record {
               base = section.base;
@@ -486,30 +414,3 @@ module _ {a : Acceptance} (accepted : IsAccepted a) {s : State} (typed : IsTyped
   sends-keeps_gas =
       let purse : onward.purse ≡ q.purse = kept.purse in
       record { gives = tt; gets = tt; even = omega (arith, purse, h.pays) }
-
--- What a process does at a send.
-module _ {a : Acceptance} (accepted : IsAccepted a) {s : State} (typed : IsTyped a s) {p : Process}
-    (there : Contains s.objects (object.Process p)) (c : Chan) (brought : Payload) (gas : ℕ) (q : Process) (next : CodeId)
-    (h : Sending a s p (process-typed typed there) c brought gas q next) where
-  -- the type with which the talk goes on is found at the channel's present name
-  goes-found : (g : SendsOn a s p c brought gas h.goes)
-      → option_and_then (after_brought brought) (head_on a.program s.types p c) ≡ Some g.goes
-  goes-found g =
-      let unfolds : unfolded a.program g.own.0 ≡ Some g.head =
-      unfolds-unfolded a.program g.own.0 g.head accepted.typed.formed.contractive g.unfolds
-      in
-      ap (λ (o : Option ℕ). option_and_then (after_brought brought) (option_and_then (node_of a.program s.types) o)) g.here
-      ∙ ap (λ (o : Option TypeId). option_and_then (after_brought brought) (option_and_then (λ t. unfolded a.program t.0) o))
-      g.found
-      ∙ ap (λ (o : Option TypeNode). option_and_then (after_brought brought) o) unfolds ∙ brings-after g.brings
-
-  pub sends-go : Goes a s true
-      (does a s p (sends a s p c brought gas q (option_and_then (after_brought brought) (head_on a.program s.types p c)) next))
-  sends-go =
-      let g = sends-on accepted h in
-      subst (λ (o : Option Change). Goes a s true (does a s p o))
-      (sym (sends-made accepted typed there c brought gas q next h g
-      (option_and_then (after_brought brought) (head_on a.program s.types p c)) (goes-found g)))
-      (acts (sent accepted typed there c brought gas q next h g) (object.Process p ∷ [])
-      (sends-replaces accepted typed there c brought gas q next h g) (sends-fits accepted typed there c brought gas q next h g)
-      (sends-keeps_gas accepted typed there c brought gas q next h g))

@@ -1,5 +1,5 @@
 -- What a message brings, at types that are alike; and with which types, of which modes, a talk goes on.
-use Rattle.std.proofs.Common.{◌≡◌, ℕ, Bool, true, false, not, map, List, Contains, Option, Some, None, refl, sym, subst, arith}
+use Rattle.std.proofs.Common.{◌≡◌, ℕ, Bool, true, false, not, List, Contains, Option, Some, None, refl, sym, subst, arith}
 use Rattle.nomos_ir.specs.Paired.{Paired, both, neither}
 use Rattle.nomos_ir.specs.Unfold.{Unfolds}
 use Rattle.nomos_ir.specs.Value.{Value}
@@ -23,7 +23,7 @@ use Rattle.nomos_types.specs.Modes.{HasMode, IsLinearMode, Allows, part_modes}
 use Rattle.nomos_types.specs.Premises.{by_side}
 use Rattle.nomos_types.specs.Synchronizing.{continuations}
 use Rattle.nomos_types.specs.Typed.{IsWellFormed}
-use Rattle.nomos_types.proofs.AlikeLaws.{alike_types-through, alike_types-back, alike_types-unfolded}
+use Rattle.nomos_types.proofs.AlikeLaws.{alike_types-through, alike_types-unfolded}
 use Rattle.nomos_types.proofs.HeadsOverLaws.{both-under}
 use Rattle.nomos_types.proofs.ModeLaws.{unfolding-keeps_mode, part-has_mode, branch-among}
 use Rattle.nomos_types.proofs.SynchronizingLaws.{goes-among}
@@ -69,19 +69,22 @@ brings-alike formed (own_value kind t v has) (value_out _ _ d rest) = (Some d, o
 brings-alike formed (other_value kind t v has) (value_in _ _ d rest) = (Some d, other_value kind d v has, both rest)
 brings-alike {lists} {x} {types} formed (own_potential r t) (pot_out _ q _ d same rest) = (
   Some d,
-  subst (λ (gas : ℕ). Brings lists x types true (node.PotOut q d) payload.Pay gas (Some d)) (sym same) (own_potential q d),
+  subst (λ (gas : ℕ). Brings lists x types true (node.PotOut q d) payload.Pay gas (Some d)) (sym same)
+      (own_potential q d),
   both rest,
 )
 brings-alike {lists} {x} {types} formed (other_potential r t) (pot_in _ q _ d same rest) = (
   Some d,
-  subst (λ (gas : ℕ). Brings lists x types false (node.PotIn q d) payload.Pay gas (Some d)) (sym same) (other_potential q d),
+  subst (λ (gas : ℕ). Brings lists x types false (node.PotIn q d) payload.Pay gas (Some d)) (sym same)
+      (other_potential q d),
   both rest,
 )
 brings-alike formed end one = (None, end, neither)
 
--- What is brought where one of two types that are alike unfolds to a node is brought where the other does: so a talk goes on
--- alike at the type of its name and at the type that a judgement has for it.
-pub goes-alike : {lists : ProgramLists} {x : Annotations} {types : NameTypes} {way : Bool} {t u : TypeId} {n k : TypeNode}
+-- What is brought where one of two types that are alike unfolds to a node is brought where the other does: so a talk
+-- goes on alike at the type of its name and at the type that a judgement has for it.
+pub goes-alike : {lists : ProgramLists} {x : Annotations} {types : NameTypes} {way : Bool} {t u : TypeId}
+    {n k : TypeNode}
     {brought : Payload} {gas : ℕ} {goes : Option TypeId} → IsWellFormed lists → AlikeTypes lists x t u
     → Unfolds lists t.0 n → Unfolds lists u.0 k → Brings lists x types way n brought gas goes
     → BringsAlike lists x types way k brought gas goes
@@ -173,12 +176,14 @@ module _ {lists : ProgramLists} {x : Annotations} {types : NameTypes} where
   sent-label (chan.Var v) bs l t goes = other_label bs l t goes
 
   pub sent-channel : (c : Chan) (sent t : TypeId) (name : ℕ) → NameHasType lists x types name sent
-      → Brings lists x types (is_own c) (by_side c (node.Tensor sent t) (node.Lolli sent t)) (payload.Channel name) 0 (Some t)
+      → Brings lists x types (is_own c) (by_side c (node.Tensor sent t) (node.Lolli sent t)) (payload.Channel name) 0
+      (Some t)
   sent-channel chan.Own sent t name is = own_channel sent t name is
   sent-channel (chan.Var v) sent t name is = other_channel sent t name is
 
   pub sent-one_value : (c : Chan) (kind : Kind) (t : TypeId) (v : Value) → ValueHasKind v kind
-      → Brings lists x types (is_own c) (by_side c (node.ValueOut kind t) (node.ValueIn kind t)) (payload.Value v) 0 (Some t)
+      → Brings lists x types (is_own c) (by_side c (node.ValueOut kind t) (node.ValueIn kind t)) (payload.Value v) 0
+      (Some t)
   sent-one_value chan.Own kind t v has = own_value kind t v has
   sent-one_value (chan.Var w) kind t v has = other_value kind t v has
 
@@ -196,7 +201,8 @@ module _ {lists : ProgramLists} {x : Annotations} {types : NameTypes} where
 
   pub received-channel : (c : Chan) (sent t : TypeId) {brought : Payload} {gas : ℕ} {goes : Option TypeId}
       → Brings lists x types (not (is_own c)) (by_side c (node.Lolli sent t) (node.Tensor sent t)) brought gas goes
-      → (name : ℕ) × (brought ≡ payload.Channel name) × (gas ≡ 0) × (goes ≡ Some t) × NameHasType lists x types name sent
+      → (name : ℕ) × (brought ≡ payload.Channel name) × (gas ≡ 0) × (goes ≡ Some t)
+      × NameHasType lists x types name sent
   received-channel chan.Own sent t (other_channel _ _ name is) = (name, refl, refl, refl, is)
   received-channel (chan.Var v) sent t (own_channel _ _ name is) = (name, refl, refl, refl, is)
 
