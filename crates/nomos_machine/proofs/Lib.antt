@@ -11,6 +11,7 @@ pub mod AloneLaws
 pub mod GoesLaws
 pub mod AloneDeeds
 pub mod BeginLaws
+pub mod PlacedLaws
 pub mod BirthLaws
 pub mod StartingLaws
 pub mod ArgumentLaws

@@ -32,11 +32,12 @@ use Rattle.nomos_machine.specs.declared.object.Object.{Object}
 use Rattle.nomos_machine.specs.declared.object.Object.TheVariants as object
 use Rattle.nomos_machine.specs.declared.object.Process.{Process}
 use Rattle.nomos_machine.proofs.BeginLaws.{GivenFits, given-kept, begins-start, begins-typed, begins-variables, begun-uses}
-use Rattle.nomos_machine.proofs.BirthLaws.{uses_at, IsBirth, birth-fits, shared-shown, next-unshown, leads-more}
+use Rattle.nomos_machine.proofs.BirthLaws.{uses_at, IsBirth, birth-fits, shared-shown, next-unshown}
 use Rattle.nomos_machine.proofs.ChangeLaws.{done}
 use Rattle.nomos_machine.proofs.FitLaws.{Fits, changed-typed}
 use Rattle.nomos_machine.proofs.GasLaws.{KeepsGas, paid_in-length, gas-changed}
 use Rattle.nomos_machine.proofs.OwnedLaws.{next-not_outside}
+use Rattle.nomos_machine.proofs.PlacedLaws.{leads-more}
 use Rattle.nomos_machine.proofs.NameLaws.{type_of-added, type_of-kept}
 
 -- A line of a script can start a process: its values and channels fit the parameters, of which none is a list; the
