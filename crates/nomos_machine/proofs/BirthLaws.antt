@@ -1,5 +1,5 @@
 -- A process that comes, and offers the next name, leaves a typed state typed.
-use Rattle.std.proofs.Common.{◌≡◌, ◌≢◌, ◌∙◌, ◌≤◌, inl, inr, ℕ, ◌+◌, true, false, List, [], ◌∷◌, ◌++◌, length, All, Contains, Option, Some, None, refl, sym, subst, ap, arith, ne_eqb}
+use Rattle.std.proofs.Common.{◌≡◌, ◌≢◌, ◌∙◌, ◌≤◌, inl, inr, ℕ, ◌+◌, true, false, List, [], ◌∷◌, ◌++◌, length, All, Option, Some, None, refl, sym, subst, ap, arith, ne_eqb}
 use Rattle.std.proofs.lemmas.Bool.{cases_eq}
 use Rattle.std.proofs.lemmas.List.Sums.{sum_by-cons}
 use Rattle.std.specs.Option.{option_to_list}
@@ -19,14 +19,14 @@ use Rattle.nomos_machine.specs.Change.{Change, no_change, made}
 use Rattle.nomos_machine.specs.Objects.{object_number, provided, used, based, shared_names, shared_of, mentioned, times}
 use Rattle.nomos_machine.specs.Sight.{shows_shared, is_shared_name}
 use Rattle.nomos_machine.specs.State.{State, NameTypes, type_of}
-use Rattle.nomos_machine.specs.TypedState.{HasVariables, IsOwned, ObjectTyped, LeadsToBase, at_base, further, IsTyped}
+use Rattle.nomos_machine.specs.TypedState.{HasVariables, IsOwned, ObjectTyped, LeadsToBase, IsTyped}
 use Rattle.nomos_machine.specs.declared.object.Object.{Object}
 use Rattle.nomos_machine.specs.declared.object.Object.TheVariants as object
 use Rattle.nomos_machine.specs.declared.object.Process.{Process}
 use Rattle.nomos_machine.proofs.ChangeLaws.{Replaces, news}
 use Rattle.nomos_machine.proofs.FitLaws.{Fits}
 use Rattle.nomos_machine.proofs.NameLaws.{mentioned-sum, type_of-added, type_of-below, type_of-kept, type_of-other}
-use Rattle.nomos_machine.proofs.OwnedLaws.{made-times, CountsAsBefore, owned-as_before, unmentioned, next-unmentioned, leads-map}
+use Rattle.nomos_machine.proofs.OwnedLaws.{made-times, CountsAsBefore, owned-as_before, unmentioned, next-unmentioned}
 
 -- The change by which a process comes and others are changed; these are the outside names afterwards, and an account
 -- may give something for it.
@@ -99,16 +99,6 @@ next-unshown {a} {s} typed = shown (type_of s.types s.next_name) refl
     shown (Some t) found =
         absurd (omega (arith, type_of-below s.types s.next_name s.next_name t typed.numbered.names found))
     shown None found = refl
-
--- names lead to their base among more objects too
-pub leads-more : (objects others : List Object) → ((o : Object) → Contains objects o → Contains others o)
-    → (base name : ℕ) → LeadsToBase objects base name → LeadsToBase others base name
-leads-more objects others kept base name leads =
-    leads-map (λ n. Unit {0}) objects others base
-    (λ p there at_l is stay. at_base p (kept (object.Process p) there) at_l is)
-    (λ m n onward there provides end stay.
-    (tt, λ leads_on. further m n onward (kept (object.Message m) there) provides end leads_on))
-    name tt leads
 
 -- ---- what a birth has to be
 

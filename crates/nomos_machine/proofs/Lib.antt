@@ -25,6 +25,7 @@ pub mod MessageLaws
 pub mod ReceivingLaws
 pub mod ReceiveDeeds
 pub mod BeginLaws
+pub mod PlacedLaws
 pub mod BirthLaws
 pub mod StartingLaws
 pub mod ArgumentLaws

@@ -32,11 +32,12 @@ use Rattle.nomos_machine.specs.declared.object.Object.{Object}
 use Rattle.nomos_machine.specs.declared.object.Object.TheVariants as object
 use Rattle.nomos_machine.specs.declared.object.Process.{Process}
 use Rattle.nomos_machine.proofs.BeginLaws.{GivenFits, given-kept, begins-start, begins-typed, begins-variables, begun-uses}
-use Rattle.nomos_machine.proofs.BirthLaws.{uses_at, IsBirth, birth-fits, shared-shown, next-unshown, leads-more}
+use Rattle.nomos_machine.proofs.BirthLaws.{uses_at, IsBirth, birth-fits, shared-shown, next-unshown}
 use Rattle.nomos_machine.proofs.ChangeLaws.{done}
 use Rattle.nomos_machine.proofs.FitLaws.{Fits, changed-typed}
 use Rattle.nomos_machine.proofs.GasLaws.{KeepsGas, paid_in-length, gas-changed}
 use Rattle.nomos_machine.proofs.OwnedLaws.{next-not_outside}
+use Rattle.nomos_machine.proofs.PlacedLaws.{leads-more}
 use Rattle.nomos_machine.proofs.NameLaws.{type_of-added, type_of-kept}
 
 -- A line of a script can start a process: its values and channels fit the parameters, of which none is a list; the
@@ -252,19 +253,6 @@ opened-typed {a} {s} typed gas =
     accounts-typed typed (s.balances ++ gas ∷ []) s.spent s.results
     (omega (arith, length-append s.balances (gas ∷ [])))
 
--- a state with these parts, and with more on an account
-abbrev with_parts : State → ℕ → ℕ → List Object → ℕ → ℕ → NameTypes → ℕ → List (ℕ × Value) → State
-with_parts s account gas objects next_object next_name types spent results = record {
-  objects = objects;
-  next_object = next_object;
-  next_name = next_name;
-  types = types;
-  balances = paid_in (Some (account, gas)) s.balances;
-  spent = spent;
-  results = results;
-  outside = s.outside;
-}
-
 no-more : (n : ℕ) → n + 0 ≡ n
 no-more n = omega arith
 
@@ -272,19 +260,15 @@ no-more n = omega arith
 credited-as : (s : State) (account gas : ℕ)
     → credited s account gas ≡ record s { balances = paid_in (Some (account, gas)) s.balances }
 credited-as s account gas =
-    let with_objects = with_parts s account gas in
-    let name = s.next_name + 0 in
-    let types = s.types ++ [] in
-    let spent = s.spent + 0 in
-    let results = s.results ++ [] in
-    let with_numbers = with_objects s.objects in
-    let with_types = with_numbers s.next_object s.next_name in
-    ap (λ (os : List Object). with_objects os (s.next_object + 0) name types spent results) (append-nil s.objects)
-    ∙ ap (λ (n : ℕ). with_numbers n name types spent results) (no-more s.next_object)
-    ∙ ap (λ (n : ℕ). with_numbers s.next_object n types spent results) (no-more s.next_name)
-    ∙ ap (λ (ts : NameTypes). with_types ts spent results) (append-nil s.types)
-    ∙ ap (λ (n : ℕ). with_types s.types n results) (no-more s.spent)
-    ∙ ap (with_types s.types s.spent) (append-nil s.results)
+    let c = credited s account gas in
+    let paid = c.balances in
+    ap (λ (os : List Object). record c { objects = os }) (append-nil s.objects)
+    ∙ ap (λ (n : ℕ). record c { objects = s.objects; next_object = n }) (no-more s.next_object)
+    ∙ ap (λ (n : ℕ). record c { objects = s.objects; next_object = s.next_object; next_name = n }) (no-more s.next_name)
+    ∙ ap (λ (ts : NameTypes). record s { balances = paid; types = ts; spent = c.spent; results = c.results })
+    (append-nil s.types)
+    ∙ ap (λ (n : ℕ). record s { balances = paid; spent = n; results = c.results }) (no-more s.spent)
+    ∙ ap (λ (rs : List (ℕ × Value)). record s { balances = paid; results = rs }) (append-nil s.results)
 
 pub credited-typed : {a : Acceptance} {s : State} → IsTyped a s → (account gas : ℕ) → IsTyped a (credited s account gas)
 credited-typed {a} {s} typed account gas =
