@@ -168,11 +168,11 @@ module _ {a : Acceptance} (accepted : IsAccepted a) {s : State} (typed : IsTyped
       provided-twice once =
           let first = count-here p.offers p.offers [] refl in
           let second = count-here p.offers q.offers [] same in
-          omega (
-            arith,
-            times-two s.objects typed.numbered.ascending provided p.offers (object.Process p) (object.Process q) there inside
-                differ,
-          )
+          let order = typed.numbered.ascending in
+          let both =
+          times-two s.objects order provided p.offers (object.Process p) (object.Process q) there inside differ
+          in
+          omega arith
 
       shared-twice : p.mode ≡ mode.S → times shared_names s.objects p.offers ≢ 1
       shared-twice at_s once =
@@ -188,11 +188,11 @@ module _ {a : Acceptance} (accepted : IsAccepted a) {s : State} (typed : IsTyped
           ap (λ (o : Mode). count_of p.offers (shared_of o q.offers q.base)) at_s_too
           ∙ count-here p.offers q.offers [] same
           in
-          omega (
-            arith,
-            times-two s.objects typed.numbered.ascending shared_names p.offers (object.Process p) (object.Process q) there
-                inside differ,
-          )
+          let order = typed.numbered.ascending in
+          let both =
+          times-two s.objects order shared_names p.offers (object.Process p) (object.Process q) there inside differ
+          in
+          omega arith
 
       by-mode : (m : Mode) → p.mode ≡ m → IsOwned m s p.offers → ⊥
       by-mode mode.R is owned = provided-twice owned.0
