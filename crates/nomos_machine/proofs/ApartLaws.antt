@@ -1,25 +1,18 @@
 -- Objects are apart by their numbers: what two of them do with a name counts twice, and sections lead on.
-use Rattle.std.proofs.Common.{◌≡◌, ◌≢◌, ◌∙◌, ◌≤◌, ◌⊎◌, inl, inr, ℕ, ◌+◌, List, [], ◌∷◌, Contains, Option, Some, None, refl, sym, subst, ap, arith}
+use Rattle.std.proofs.Common.{◌≡◌, ◌≢◌, ◌∙◌, ◌≤◌, ◌⊎◌, inl, inr, ℕ, ◌+◌, List, [], ◌∷◌, Contains, Some, None, refl, sym, subst, ap, arith}
 use Rattle.std.proofs.lemmas.Bool.{cases_eq}
 use Rattle.nomos_ir.specs.Order.{count_of}
-use Rattle.nomos_ir.specs.declared.ids.TypeId.{TypeId}
-use Rattle.nomos_ir.specs.declared.mode.Mode.{Mode}
 use Rattle.nomos_ir.specs.declared.mode.Mode.TheVariants as mode
-use Rattle.nomos_types.specs.Acceptance.{Acceptance, IsAccepted}
-use Rattle.nomos_types.specs.Modes.{HasMode}
-use Rattle.nomos_types.proofs.ModeLaws.{mode-unique}
 use Rattle.nomos_types.proofs.OccurrenceLaws.{counted}
 use Rattle.nomos_machine.specs.Change.{put_at}
-use Rattle.nomos_machine.specs.Objects.{object_number, provided, based, talk_end, times, object_at}
-use Rattle.nomos_machine.specs.State.{State, type_of}
-use Rattle.nomos_machine.specs.TypedState.{LeadsToBase, at_base, further, IsTyped}
+use Rattle.nomos_machine.specs.Objects.{object_number, provided, talk_end, times, object_at}
+use Rattle.nomos_machine.specs.TypedState.{LeadsToBase, at_base, further}
 use Rattle.nomos_machine.specs.declared.object.Message.{Message}
 use Rattle.nomos_machine.specs.declared.object.Object.{Object}
 use Rattle.nomos_machine.specs.declared.object.Object.TheVariants as object
 use Rattle.nomos_machine.specs.declared.object.Process.{Process}
-use Rattle.nomos_machine.proofs.GoesLaws.{process-typed}
-use Rattle.nomos_machine.proofs.NameLaws.{times-one, contains-times}
-use Rattle.nomos_machine.proofs.PutLaws.{InOrder, put-weight, put-kept, object_at-own, contains-one}
+use Rattle.nomos_machine.proofs.NameLaws.{times-one}
+use Rattle.nomos_machine.proofs.PutLaws.{InOrder, put-weight, put-kept, object_at-own}
 
 module _ (objects : List Object) (order : InOrder objects) where
   -- what two objects do with a name counts twice
@@ -108,29 +101,3 @@ leads-further stays objects others base ends goes name stay (further m _ onward 
       | inl at_once ↦ at_once
       | inr step ↦ step.1 (leads-further stays objects others base ends goes onward step.0 leads)
     ]
-
--- a base has mode S
-pub base-not_other : {a : Acceptance} → IsAccepted a → {s : State} → IsTyped a s → (name : ℕ) (t : TypeId) (m : Mode)
-    → type_of s.types name ≡ Some t → HasMode a.program t m → m ≢ mode.S → times based s.objects name ≡ 0
-base-not_other {a} accepted {s} typed name t m found has other =
-    elim (cases_eq (times based s.objects name) 0) [
-      | inl none ↦ none
-      | inr some ↦
-          let (o, there, among) = contains-times based name s.objects (omega arith) in
-          absurd (based-shared o there among)
-    ]
-  where
-    at : (p : Process) (b : Option ℕ) → Contains s.objects (object.Process p) → p.base ≡ b
-        → Contains (based (object.Process (record p { base = b }))) name → ⊥
-    at p (Some b) there is among =
-        let (u, u_found, at_s) = (process-typed typed there).has_base.shared b is in
-        let same : b ≡ name = contains-one b name among in
-        let here : type_of s.types name ≡ Some u = subst (λ (n : ℕ). type_of s.types n ≡ Some u) same u_found in
-        let one : u ≡ t = cc in
-        other (mode-unique accepted.typed.formed.program has
-        (subst (λ (v : TypeId). HasMode a.program v mode.S) one at_s))
-    at p None there is among = omega (arith, among.1)
-
-    based-shared : (o : Object) → Contains s.objects o → Contains (based o) name → ⊥
-    based-shared (object.Process p) there among = at p p.base there refl among
-    based-shared (object.Message m) there among = omega (arith, among.1)

@@ -20,11 +20,12 @@ use Rattle.nomos_machine.specs.declared.object.Message.{Message}
 use Rattle.nomos_machine.specs.declared.object.Object.{Object}
 use Rattle.nomos_machine.specs.declared.object.Object.TheVariants as object
 use Rattle.nomos_machine.specs.declared.object.Process.{Process}
-use Rattle.nomos_machine.proofs.ApartLaws.{times-two, one-process, one-message, numbers-differ, leads-own, leads-further, base-not_other}
+use Rattle.nomos_machine.proofs.ApartLaws.{times-two, one-process, one-message, numbers-differ, leads-own, leads-further}
 use Rattle.nomos_machine.proofs.ChangeLaws.{Replaces, done, further as then, made-kept}
 use Rattle.nomos_machine.proofs.FitLaws.{Fits}
 use Rattle.nomos_machine.proofs.GasLaws.{KeepsGas}
 use Rattle.nomos_machine.proofs.GoesLaws.{process-typed}
+use Rattle.nomos_machine.proofs.HeldLaws.{based-shared}
 use Rattle.nomos_machine.proofs.LinearLaws.{count-other, linear-owned, shared_of-linear}
 use Rattle.nomos_machine.proofs.NameLaws.{mentioned-sum}
 use Rattle.nomos_machine.proofs.ObjectLaws.{object-kept}
@@ -144,7 +145,7 @@ module _ {a : Acceptance} (accepted : IsAccepted a) {s : State} (typed : IsTyped
       let owned = owned-before in
       let sum = made-times based m.from s taken olds receives-replaces in
       let same = ap (λ (o : Option ℕ). count_of m.from (option_to_list o)) h.base in
-      let none = base-not_other accepted typed m.from h.own h.mode h.found h.has_mode (unshared h.mode h.is_linear) in
+      let none = based-shared accepted typed m.from h.own h.mode h.found h.has_mode (unshared h.mode h.is_linear) in
       omega (
         arith,
         mentioned-sum (made s taken).objects m.from,

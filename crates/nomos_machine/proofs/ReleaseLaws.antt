@@ -36,7 +36,7 @@ use Rattle.nomos_machine.proofs.GoesLaws.{process-typed, process-variables}
 use Rattle.nomos_machine.proofs.HeldLaws.{based-shared}
 use Rattle.nomos_machine.proofs.NameLaws.{mentioned-sum}
 use Rattle.nomos_machine.proofs.OwnedLaws.{CountsAsBefore, owned-as_before}
-use Rattle.nomos_machine.proofs.SectionLaws.{times-two, numbers-differ}
+use Rattle.nomos_machine.proofs.ApartLaws.{times-two, numbers-differ}
 use Rattle.nomos_machine.proofs.SharingLaws.{Meeting, client_after, contract_after, both_go, both-replaces, both-times, both-lead}
 
 -- how both go on: the client has a reference to the shared name, and the contract offers it
@@ -148,7 +148,7 @@ module _ {a : Acceptance} (accepted : IsAccepted a) {s : State} (typed : IsTyped
       (ne_eqb shared other.offers (shared-apart other.offers own mode.L found own-mode l-not_s))
       in
       let both = times-two s.objects typed.numbered.ascending used other.offers (object.Process p) (object.Message m)
-      there inside (numbers-differ s.objects typed.numbered.ascending p m there inside)
+      there inside (λ is. numbers-differ s.objects typed.numbered.ascending p m there inside (sym is))
       in
       omega (arith, owned.1, client-uses other.offers)
 

@@ -45,7 +45,8 @@ use Rattle.nomos_machine.proofs.GoesLaws.{Goes, acts, waits, process-typed, own-
 use Rattle.nomos_machine.proofs.MeetingLaws.{up-behind, down-behind, free-held, linear-alone, offers-head, acquires-typed, accepts-typed, releases-typed, detaches-typed}
 use Rattle.nomos_machine.proofs.ProcessLaws.{own_judgement}
 use Rattle.nomos_machine.proofs.ReleaseLaws.{releasing, release-fits}
-use Rattle.nomos_machine.proofs.SectionLaws.{offering-found, one-process, goes-back}
+use Rattle.nomos_machine.proofs.ApartLaws.{one-process}
+use Rattle.nomos_machine.proofs.SectionLaws.{offering-found, goes-back}
 use Rattle.nomos_machine.proofs.SharingLaws.{Meeting, both_go, both-replaces, both-keep}
 
 -- ---- the instructions

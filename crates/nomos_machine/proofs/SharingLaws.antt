@@ -23,7 +23,7 @@ use Rattle.nomos_machine.proofs.ChangeLaws.{Replaces, done, further as then, mad
 use Rattle.nomos_machine.proofs.NameLaws.{type_of-kept}
 use Rattle.nomos_machine.proofs.OwnedLaws.{made-times, leads-map}
 use Rattle.nomos_machine.proofs.PutLaws.{object_at-own, object_at-other, put-new, put-kept}
-use Rattle.nomos_machine.proofs.SectionLaws.{one-process, numbers-differ}
+use Rattle.nomos_machine.proofs.ApartLaws.{one-process, numbers-differ}
 
 -- how a client and a contract go on together, and the type of the next name, where that is taken
 pub record Meeting : Type 0 where
@@ -126,8 +126,8 @@ module _ {a : Acceptance} {s : State} (typed : IsTyped a s) {p other : Process}
   messages-kept : (m : Message) → Contains s.objects (object.Message m)
       → Contains (made s goes).objects (object.Message m)
   messages-kept m inside =
-      others-kept (object.Message m) inside (numbers-differ s.objects typed.numbered.ascending p m there inside)
-      (numbers-differ s.objects typed.numbered.ascending other m there_other inside)
+      others-kept (object.Message m) inside (λ is. numbers-differ s.objects typed.numbered.ascending p m there inside (sym is))
+      (λ is. numbers-differ s.objects typed.numbered.ascending other m there_other inside (sym is))
 
   -- ---- where names of mode L lead
 

@@ -1,5 +1,6 @@
 -- What a message brings, at types that are alike; and with which types, of which modes, a talk goes on.
-use Rattle.std.proofs.Common.{◌≡◌, ℕ, Bool, true, false, not, List, Contains, Option, Some, None, refl, sym, subst, arith}
+use Rattle.std.proofs.Common.{◌≡◌, ℕ, map, All, Bool, true, false, not, List, Contains, Option, Some, None, refl, sym, subst, arith}
+use Rattle.std.proofs.lemmas.List.Elements.{All-weaker, All-contains_itself}
 use Rattle.nomos_ir.specs.Paired.{Paired, both, neither}
 use Rattle.nomos_ir.specs.Unfold.{Unfolds}
 use Rattle.nomos_ir.specs.Value.{Value}
@@ -26,7 +27,8 @@ use Rattle.nomos_types.specs.Typed.{IsWellFormed}
 use Rattle.nomos_types.proofs.AlikeLaws.{alike_types-through, alike_types-unfolded}
 use Rattle.nomos_types.proofs.HeadsOverLaws.{both-under}
 use Rattle.nomos_types.proofs.ModeLaws.{unfolding-keeps_mode, part-has_mode, branch-among}
-use Rattle.nomos_types.proofs.SynchronizingLaws.{goes-among}
+use Rattle.nomos_types.proofs.BranchLaws.{goes-all}
+use Rattle.nomos_types.proofs.OccurrenceLaws.{contains-map}
 use Rattle.nomos_machine.specs.Matching.{NameHasType}
 use Rattle.nomos_machine.specs.Sight.{is_own, after_label, after_channel, after_value, after_potential}
 use Rattle.nomos_machine.specs.State.{NameTypes}
@@ -101,6 +103,17 @@ after_brought (payload.Value v) n = after_value n
 after_brought payload.Pay n = after_potential n
 after_brought payload.Close n = None
 
+-- a choice goes on after a label as one of its branches does
+continues-by_label : (bs : List Branch) (l : Label) (u : TypeId) → goes_by bs l ≡ Some u
+    → Contains (map (λ b. b.goes) bs) u
+continues-by_label bs l u goes =
+    let Among : TypeId → Type 0 = λ t. Contains (map (λ (b : Branch). b.goes) bs) t in
+    let each : All (λ b. Among b.goes) bs =
+    All-weaker (Contains bs) (λ b. Among b.goes)
+    (λ b among. contains-map (λ (c : Branch). c.goes) bs b b.goes among refl) bs (All-contains_itself bs)
+    in
+    goes-all Among bs l u each goes
+
 module _ {lists : ProgramLists} {x : Annotations} {types : NameTypes} where
   -- it is the type with which the talk goes on
   pub brings-after : {way : Bool} {n : TypeNode} {brought : Payload} {gas : ℕ} {goes : Option TypeId}
@@ -118,8 +131,8 @@ module _ {lists : ProgramLists} {x : Annotations} {types : NameTypes} where
   -- it goes on with a continuation of the node
   pub brings-continues : {way : Bool} {n : TypeNode} {brought : Payload} {gas : ℕ} {t : TypeId}
       → Brings lists x types way n brought gas (Some t) → Contains (continuations n) t
-  brings-continues (own_label bs l t goes) = goes-among bs l t goes
-  brings-continues (other_label bs l t goes) = goes-among bs l t goes
+  brings-continues (own_label bs l t goes) = continues-by_label bs l t goes
+  brings-continues (other_label bs l t goes) = continues-by_label bs l t goes
   brings-continues (own_channel sent t name is) = (0, omega arith, refl)
   brings-continues (other_channel sent t name is) = (0, omega arith, refl)
   brings-continues (own_value kind t v has) = (0, omega arith, refl)

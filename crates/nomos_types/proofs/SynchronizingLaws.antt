@@ -62,7 +62,7 @@ unfolded-differ lists t n is_program (name _ id def _ there found unfolds) =
     unfolded-differ lists def.body.0 n is_program unfolds
 
 -- a choice goes on after a label as one of its branches does
-pub goes-among : (bs : List Branch) (l : Label) (u : TypeId) → goes_by bs l ≡ Some u → Contains (map (λ b. b.goes) bs) u
+goes-among : (bs : List Branch) (l : Label) (u : TypeId) → goes_by bs l ≡ Some u → Contains (map (λ b. b.goes) bs) u
 goes-among bs l u goes =
     let Among : TypeId → Type 0 = λ t. Contains (map (λ (b : Branch). b.goes) bs) t in
     let each : All (λ b. Among b.goes) bs =

@@ -44,7 +44,7 @@ others-linear mode.T not_s not_t = absurd (not_t refl)
 -- ---- S shows at the head
 
 -- a mode of channels that are used exactly once is not S
-pub linear-unshared : (m : Mode) → IsLinearMode m → false ≡ is_shared_mode m
+linear-unshared : (m : Mode) → IsLinearMode m → false ≡ is_shared_mode m
 linear-unshared mode.R linear = refl
 linear-unshared mode.L linear = refl
 linear-unshared mode.T linear = refl
