@@ -31,7 +31,7 @@ abbrev pub put_at : ℕ → Option Object → List Object → List Object
 put_at n new [] = []
 put_at n new (o ∷ objects) = if object_number o == n then option_to_list new ++ objects else o ∷ put_at n new objects
 
--- one put_at after another
+-- one after another
 abbrev pub put_all : List (ℕ × Option Object) → List Object → List Object
 put_all [] objects = objects
 put_all (e ∷ places) objects = put_all places (put_at e.0 e.1 objects)

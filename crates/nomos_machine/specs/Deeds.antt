@@ -97,7 +97,7 @@ where_it_has gas p change = if nat_le (gas + potential_of p) p.purse then change
 -- ---- the kinds of change, of a process p in a state s
 
 module _ (a : Acceptance) (s : State) (p : Process) where
-  -- the process goes on as another, and no_change else changes
+  -- the process goes on as another, and nothing else changes
   abbrev pub alone : Process → Change
   alone q = record (no_change s) { places = (p.pid, Some (object.Process q)) ∷ [] }
 
@@ -163,7 +163,8 @@ module _ (a : Acceptance) (s : State) (p : Process) where
   abbrev pub forwards : ℕ → Change
   forwards name = record leaves {
     places =
-        map (λ o. (object_number o, Some (uses_instead p.offers name o))) (option_to_list (user_of s.objects p.offers)) ++
+        map (λ o. (object_number o, Some (uses_instead p.offers name o)))
+        (option_to_list (user_of s.objects p.offers)) ++
         (p.pid, None) ∷ [];
     outside = map (renamed p.offers name) s.outside;
   }

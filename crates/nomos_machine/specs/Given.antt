@@ -28,7 +28,8 @@ with_others (faults f) others = Err f
 
 abbrev pub values_of_terms : ProgramLists → Environment → List ℕ → TermValues
 values_of_terms lists env [] = Ok []
-values_of_terms lists env (t ∷ ts) = with_others (term_evaluation lists env (record { 0 = t })) (values_of_terms lists env ts)
+values_of_terms lists env (t ∷ ts) = with_others (term_evaluation lists env (record { 0 = t }))
+    (values_of_terms lists env ts)
 
 -- What a declaration is given: for each of its parameters a value, a list, or the name of a channel, each in the order
 -- of the parameters.

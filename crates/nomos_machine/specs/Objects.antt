@@ -63,8 +63,8 @@ abbrev pub based : Object → List ℕ
 based (object.Process p) = option_to_list p.base
 based (object.Message m) = []
 
--- The shared name for which a process of this mode stands: what it offers at mode S, and at mode L, while it is acquired,
--- its base.
+-- The shared name for which a process of this mode stands: what it offers at mode S, and at mode L, while it is
+-- acquired, its base.
 abbrev pub shared_of : Mode → ℕ → Option ℕ → List ℕ
 shared_of mode.S offers base = offers ∷ []
 shared_of mode.L offers base = option_to_list base

@@ -31,8 +31,8 @@ pub data MaySay (a : Acceptance) (s : State) (name : ℕ) : Payload → ℕ → 
       → type_of s.types name ≡ Some own → Unfolds a.program own.0 head → carried brought ≡ []
       → Brings a.program a.annotations s.types false head brought gas (Some goes) → MaySay a s name brought gas goes
 
--- A message goes to the provider of the outside name, and the talk goes on under the next name, which has this type. The
--- account, which has so much, pays what the message carries.
+-- A message goes to the provider of the outside name, and the talk goes on under the next name, which has this type.
+-- The account, which has so much, pays what the message carries.
 abbrev pub says : State → ℕ → Payload → TypeId → ℕ → ℕ → Change
 says s name brought goes account gas = record (no_change s) {
   comes = Some (object.Message (record {
@@ -57,8 +57,8 @@ abbrev pub heard_names : ℕ → Option ℕ → List ℕ → List ℕ
 heard_names name (Some next) outside = map (renamed name next) outside
 heard_names name None outside = filter (λ n. not (n == name)) outside
 
--- The message, which brings no channel, leaves; the outside name is then the next one, or gone; and the account gets what
--- the message carries.
+-- The message, which brings no channel, leaves; the outside name is then the next one, or gone; and the account gets
+-- what the message carries.
 abbrev pub hears : State → Message → ℕ → Change
 hears s m account = record (no_change s) {
   places = (m.number, None) ∷ [];

@@ -21,7 +21,7 @@ credits s account gas = record (no_change s) { gets = Some (account, gas) }
 abbrev pub credited : State → ℕ → ℕ → State
 credited s account gas = made s (credits s account gas)
 
--- no_change was emitted
+-- nothing was emitted
 abbrev pub cleared : State → State
 cleared s = record s { results = [] }
 

@@ -35,7 +35,7 @@ pub record State : Type 0 where
 abbrev pub gas_of : State → ℕ
 gas_of s = sum s.balances + sum_by purse_of s.objects + s.spent
 
--- the state with no_change in it
+-- the state with nothing in it
 abbrev pub empty : State
 empty = record {
   objects = [];

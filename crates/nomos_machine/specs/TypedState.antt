@@ -49,8 +49,8 @@ pub record Numbered (s : State) : Type 0 where
 
 -- ---- who provides a name, and who uses it
 
--- By the mode of its type: a name of mode R or L has one provider and one user, which for R may be an outside party; one
--- of mode T a provider alone; and for one of mode S there stands one process.
+-- By the mode of its type: a name of mode R or L has one provider and one user, which for R may be an outside party;
+-- one of mode T a provider alone; and for one of mode S there stands one process.
 abbrev pub IsOwned : Mode → State → ℕ → Type 0
 IsOwned mode.R s name =
     (times provided s.objects name ≡ 1) × (times used s.objects name + count_of name s.outside ≡ 1)
@@ -78,8 +78,8 @@ pub data LeadsToBase (objects : List Object) (base : ℕ) : ℕ → Type 0 where
       → Contains (provided (object.Message m)) name → Contains (talk_end m) onward → LeadsToBase objects base onward
       → LeadsToBase objects base name
 
--- The talk on a name of mode L comes from an acquired contract, and each `down` that it can reach goes back to the type of
--- that contract.
+-- The talk on a name of mode L comes from an acquired contract, and each `down` that it can reach goes back to the type
+-- of that contract.
 pub record InSection (a : Acceptance) (s : State) (name : ℕ) (t : TypeId) : Type 0 where
   pub base : ℕ
   pub leads : LeadsToBase s.objects base name

@@ -32,8 +32,8 @@ use Rattle.nomos_machine.specs.declared.object.Payload.{Payload}
 use Rattle.nomos_machine.specs.declared.object.Payload.TheVariants as payload
 use Rattle.nomos_machine.specs.declared.object.Process.{Process}
 
--- The channel to which a process turns at an instruction: it sends or receives on it, waits for its end, releases it, or
--- provides it and accepts, detaches or closes. To pass a channel on is not to turn to it.
+-- The channel to which a process turns at an instruction: it sends or receives on it, waits for its end, releases it,
+-- or provides it and accepts, detaches or closes. To pass a channel on is not to turn to it.
 abbrev pub turns_to : CodeNode → List Chan
 turns_to (code.Label _ c l next) = c ∷ []
 turns_to (code.Case _ c arms) = c ∷ []
@@ -70,7 +70,8 @@ Receives a _ _ gas = ⊥
 pub data Needs (a : Acceptance) (p : Process) : CodeNode → ℕ → Type 0 where
   work : (at : ℕ) (r : Amount) (next : CodeId) → Needs a p (code.Work at r next) (dths a.annotations r)
   pay : (at : ℕ) (c : Chan) (r : Amount) (next : CodeId) → Needs a p (code.Pay at c r next) (dths a.annotations r)
-  add : (at : ℕ) (v : VarId) (e : TermId) (w : VarId) (next : CodeId) (l : PotentialList) → bound_to w.0 p.lists ≡ Some l
+  add : (at : ℕ) (v : VarId) (e : TermId) (w : VarId) (next : CodeId) (l : PotentialList)
+      → bound_to w.0 p.lists ≡ Some l
       → Needs a p (code.Add at v e w next) l.amount
   spawn : (at : ℕ) (v : VarId) (f : ProcId) (args : Args) (next : CodeId) (d : ProcDecl)
       → slice_get a.program.procs f.0 ≡ Some d → Needs a p (code.Spawn at v f args next) (dths a.annotations d.amount)
