@@ -37,3 +37,6 @@ pub mod ReleaseLaws
 pub mod MeetingLaws
 pub mod SharingDeeds
 pub mod ForwardLaws
+pub mod SpeakerLaws
+pub mod UnexpectedLaws
+pub mod NotWrongLaws
