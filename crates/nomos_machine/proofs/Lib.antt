@@ -40,3 +40,4 @@ pub mod ForwardLaws
 pub mod SpeakerLaws
 pub mod UnexpectedLaws
 pub mod NotWrongLaws
+pub mod OwnerLaws

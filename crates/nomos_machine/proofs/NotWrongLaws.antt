@@ -1,11 +1,10 @@
 -- Typed states are not wrong.
-use Rattle.std.proofs.Common.{cond, ◌≡◌, ◌≢◌, ◌∙◌, ◌≤◌, ◌<◌, inl, inr, ℕ, ◌+◌, Bool, true, false, List, [], ◌∷◌, length, All, Contains, Option, Some, None, slice_get, sum_by, refl, sym, subst, ap, arith}
+use Rattle.std.proofs.Common.{cond, ◌≡◌, ◌∙◌, ◌≤◌, ◌<◌, inl, inr, ℕ, Bool, true, false, List, [], ◌∷◌, length, Contains, Option, Some, None, slice_get, refl, sym, subst, ap, arith}
 use Rattle.std.specs.Option.{option_to_list}
 use Rattle.std.proofs.lemmas.Bool.{cases_eq}
 use Rattle.std.proofs.lemmas.List.Elements.{All-contains, Contains-append_right}
 use Rattle.std.proofs.lemmas.List.Sums.{sum_by-cons}
 use Rattle.std.proofs.lemmas.Option.{slice_get_within}
-use Rattle.nomos_ir.specs.Bindings.{bound_to}
 use Rattle.nomos_ir.specs.Order.{count_of}
 use Rattle.nomos_ir.specs.Unfold.{Unfolds, constructor, name}
 use Rattle.nomos_ir.specs.declared.code_node.CodeNode.{CodeNode}
@@ -19,20 +18,17 @@ use Rattle.nomos_ir.specs.declared.type_node.TypeNode.{TypeNode}
 use Rattle.nomos_ir.specs.declared.type_node.TypeNode.TheVariants as node
 use Rattle.nomos_ir.proofs.NodeLaws.{type_node-at}
 use Rattle.nomos_ir.proofs.PairedLaws.{paired-left}
-use Rattle.nomos_ir.proofs.SumLaws.{count-first}
 use Rattle.nomos_types.specs.Acceptance.{Acceptance, IsAccepted}
 use Rattle.nomos_types.specs.Amount.{dths}
-use Rattle.nomos_types.specs.Judgement.{Judgement}
 use Rattle.nomos_types.specs.Modes.{HasMode, IsLinearMode, Allows}
 use Rattle.nomos_types.specs.Typed.{IsWellFormed}
 use Rattle.nomos_types.proofs.ModeLaws.{mode-exists, mode-unique, unfolding-keeps_mode}
 use Rattle.nomos_types.proofs.OccurrenceLaws.{contained}
 use Rattle.nomos_types.proofs.RowLaws.{row-inverted}
-use Rattle.nomos_machine.specs.Matching.{NameHasType}
 use Rattle.nomos_machine.specs.Objects.{provided, used, times, shared_of, shared_names, potential_of, free_purse}
 use Rattle.nomos_machine.specs.State.{State, NameTypes, type_of}
 use Rattle.nomos_machine.specs.TypedMessage.{Brings, GoesOnAt, MessageTyped, end}
-use Rattle.nomos_machine.specs.TypedState.{IsOwned, ObjectTyped, IsTyped}
+use Rattle.nomos_machine.specs.TypedState.{ObjectTyped, IsTyped}
 use Rattle.nomos_machine.specs.Wrong.{Needs, Wrong}
 use Rattle.nomos_machine.specs.Wrong as wrong
 use Rattle.nomos_machine.specs.declared.object.Message.{Message}
@@ -44,7 +40,6 @@ use Rattle.nomos_machine.specs.declared.object.Process.{Process}
 use Rattle.nomos_machine.proofs.GoesLaws.{process-typed, own-row, own-stands, own-matches}
 use Rattle.nomos_machine.proofs.LinearLaws.{count-other}
 use Rattle.nomos_machine.proofs.NameLaws.{contains-times}
-use Rattle.nomos_machine.proofs.ProcessLaws.{own_judgement}
 use Rattle.nomos_machine.proofs.PutLaws.{contains-one}
 use Rattle.nomos_machine.proofs.TalkLaws.{brings-linear, brings-keeps_mode}
 use Rattle.nomos_machine.proofs.UnexpectedLaws.{is-received}

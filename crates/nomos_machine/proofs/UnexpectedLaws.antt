@@ -1,7 +1,6 @@
 -- In a typed state a process gets no message that its instruction does not receive.
-use Rattle.std.proofs.Common.{◌≡◌, ◌∙◌, ◌≤◌, ℕ, ◌+◌, Bool, true, false, not, List, [], ◌∷◌, map, length, Contains, Option, Some, None, slice_get, refl, sym, subst, ap, arith}
+use Rattle.std.proofs.Common.{◌≡◌, ◌∙◌, ℕ, Bool, not, List, [], ◌∷◌, Contains, Option, Some, None, refl, sym, subst, arith}
 use Rattle.nomos_ir.specs.Bindings.{bound_to}
-use Rattle.nomos_ir.specs.ValueKind.{ValueHasKind}
 use Rattle.nomos_ir.specs.declared.amount.Amount.{Amount}
 use Rattle.nomos_ir.specs.declared.code_node.Arm.{Arm}
 use Rattle.nomos_ir.specs.declared.code_node.Chan.{Chan}
@@ -20,7 +19,6 @@ use Rattle.nomos_ir.proofs.BindingLaws.{bound-after_bind}
 use Rattle.nomos_types.specs.Acceptance.{Acceptance, IsAccepted}
 use Rattle.nomos_types.specs.Judgement.{Judgement, goes_on, binds_value}
 use Rattle.nomos_types.specs.Premises.{HasType, by_side}
-use Rattle.nomos_types.specs.Row.{Row}
 use Rattle.nomos_types.proofs.RowLaws.{row-inverted}
 use Rattle.nomos_machine.specs.Matching.{NameHasType}
 use Rattle.nomos_machine.specs.Sight.{is_own, present_name}
