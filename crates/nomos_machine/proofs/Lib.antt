@@ -41,3 +41,4 @@ pub mod SpeakerLaws
 pub mod UnexpectedLaws
 pub mod NotWrongLaws
 pub mod OwnerLaws
+pub mod OwnJudgementLaws
