@@ -6,7 +6,8 @@ use Rattle.std.proofs.lemmas.List.Elements.{All-contains, Contains-append_right}
 use Rattle.std.proofs.lemmas.List.Sums.{sum_by-cons}
 use Rattle.std.proofs.lemmas.Option.{slice_get_within}
 use Rattle.nomos_ir.specs.Order.{count_of}
-use Rattle.nomos_ir.specs.Unfold.{Unfolds, constructor, name}
+use Rattle.nomos_ir.specs.Unfold.{Unfolds}
+use Rattle.nomos_ir.specs.Unfold as heads
 use Rattle.nomos_ir.specs.declared.code_node.CodeNode.{CodeNode}
 use Rattle.nomos_ir.specs.declared.code_node.CodeNode.TheVariants as code
 use Rattle.nomos_ir.specs.declared.declaration.ProcDecl.{ProcDecl}
@@ -52,16 +53,16 @@ unfolds-has_mode : {lists : ProgramLists} → IsWellFormed lists → (t : TypeId
 unfolds-has_mode {lists} formed t n unfolds = mode-exists lists t formed.program (in_range t.0 n unfolds)
   where
     in_range : (i : ℕ) (k : TypeNode) → Unfolds lists i k → i < length lists.types
-    in_range i k (constructor _ _ found no_name) =
+    in_range i k (heads.constructor _ _ found no_name) =
         let at = type_node-at lists i k found in
         slice_get_within lists.types i at.0 at.1
-    in_range i k (name _ id def _ found defined unfolds) =
+    in_range i k (heads.name _ id def _ found defined unfolds) =
         let at = type_node-at lists i (node.Named id) found in
         slice_get_within lists.types i at.0 at.1
 
 -- the name has a type, and that has a mode
 abbrev HasSomeMode : Acceptance → NameTypes → ℕ → Type 0
-HasSomeMode a types k = (t : TypeId) × (type_of types k ≡ Some t) × (m : Mode) × HasMode a.program t m
+HasSomeMode a types name = (t : TypeId) × (type_of types name ≡ Some t) × (m : Mode) × HasMode a.program t m
 
 module _ {a : Acceptance} (accepted : IsAccepted a) {s : State} (typed : IsTyped a s) where
   message-typed : (m : Message) → Contains s.objects (object.Message m) → MessageTyped a s.types m
@@ -73,31 +74,36 @@ module _ {a : Acceptance} (accepted : IsAccepted a) {s : State} (typed : IsTyped
       let (k, has) = unfolds-has_mode accepted.typed.formed t.own t.head t.unfolds in
       (t.own, t.found, k, has)
 
-  next-has_mode : (next : Option ℕ) (goes : Option TypeId) (k : ℕ) → GoesOnAt a.program a.annotations s.types next goes
-      → Contains (option_to_list next) k → HasSomeMode a s.types k
-  next-has_mode (Some n) (Some t) k is among =
-      subst (HasSomeMode a s.types) (contains-one n k among) (is.own, is.found, is.alike.mode, is.alike.left_mode)
-  next-has_mode (Some n) None k is among = absurd is
-  next-has_mode None goes k is among = absurd (omega (arith, among.1))
+  next-has_mode : (next : Option ℕ) (goes : Option TypeId) (name : ℕ)
+      → GoesOnAt a.program a.annotations s.types next goes → Contains (option_to_list next) name
+      → HasSomeMode a s.types name
+  next-has_mode (Some n) (Some t) name is among =
+      subst (HasSomeMode a s.types) (contains-one n name among) (is.own, is.found, is.alike.mode, is.alike.left_mode)
+  next-has_mode (Some n) None name is among = absurd is
+  next-has_mode None goes name is among = absurd (omega (arith, among.1))
 
-  provided-has_mode : (o : Object) (k : ℕ) → Contains s.objects o → Contains (provided o) k → HasSomeMode a s.types k
-  provided-has_mode (object.Process p) k there among =
+  provided-has_mode : (o : Object) (name : ℕ) → Contains s.objects o → Contains (provided o) name
+      → HasSomeMode a s.types name
+  provided-has_mode (object.Process p) name there among =
       let is = (process-typed typed there).matches.offers in
-      subst (HasSomeMode a s.types) (contains-one p.offers k among) (is.own, is.found, is.alike.mode, is.alike.left_mode)
-  provided-has_mode (object.Message m) k there among = by_way m.to_client among
+      subst (HasSomeMode a s.types) (contains-one p.offers name among)
+      (is.own, is.found, is.alike.mode, is.alike.left_mode)
+  provided-has_mode (object.Message m) name there among = by_way m.to_client among
     where
       t : MessageTyped a s.types m
       t = message-typed m there
 
-      by_way : (way : Bool) → Contains (cond way (m.from ∷ []) (option_to_list m.next)) k → HasSomeMode a s.types k
-      by_way true among = subst (HasSomeMode a s.types) (contains-one m.from k among) (from-has_mode m t)
-      by_way false among = next-has_mode m.next t.goes k t.next among
+      by_way : (way : Bool) → Contains (cond way (m.from ∷ []) (option_to_list m.next)) name
+          → HasSomeMode a s.types name
+      by_way true among = subst (HasSomeMode a s.types) (contains-one m.from name among) (from-has_mode m t)
+      by_way false among = next-has_mode m.next t.goes name t.next among
 
   -- ---- a shared name has one provider
 
-  module _ (k : ℕ) (own : TypeId) (found : type_of s.types k ≡ Some own) (at_s : HasMode a.program own mode.S) where
+  module _ (name : ℕ) (own : TypeId) (found : type_of s.types name ≡ Some own)
+      (at_s : HasMode a.program own mode.S) where
     -- no message provides it, since no talk that goes on has this mode, nor has the end of one
-    no-message : (m : Message) → Contains s.objects (object.Message m) → Contains (provided (object.Message m)) k → ⊥
+    no-message : (m : Message) → Contains s.objects (object.Message m) → Contains (provided (object.Message m)) name → ⊥
     no-message m there among = by_way m.to_client among
       where
         t : MessageTyped a s.types m
@@ -125,7 +131,7 @@ module _ {a : Acceptance} (accepted : IsAccepted a) {s : State} (typed : IsTyped
             neither (inr at_t) = cc
 
         -- the name is the one on which the message is read
-        not-from : m.from ≡ k → (goes : Option TypeId)
+        not-from : m.from ≡ name → (goes : Option TypeId)
             → Brings a.program a.annotations s.types m.to_client t.head m.payload m.purse goes → ⊥
         not-from same goes brings = by_end goes brings
           where
@@ -145,13 +151,13 @@ module _ {a : Acceptance} (accepted : IsAccepted a) {s : State} (typed : IsTyped
         -- the name is the one under which the talk goes on
         not-next : (next : Option ℕ) (goes : Option TypeId) → GoesOnAt a.program a.annotations s.types next goes
             → Brings a.program a.annotations s.types m.to_client t.head m.payload m.purse goes
-            → Contains (option_to_list next) k → ⊥
+            → Contains (option_to_list next) name → ⊥
         not-next (Some n) (Some u) is brings among =
             let (j, has) = unfolds-has_mode accepted.typed.formed t.own t.head t.unfolds in
             let linear = brings-linear accepted.typed.formed has t.unfolds brings in
             let goes_on = brings-keeps_mode accepted.typed.formed has t.unfolds brings in
-            let same : n ≡ k = contains-one n k among in
-            let there_too : type_of s.types k ≡ Some is.own =
+            let same : n ≡ name = contains-one n name among in
+            let there_too : type_of s.types name ≡ Some is.own =
             subst (λ (i : ℕ). type_of s.types i ≡ Some is.own) same is.found
             in
             let one : is.own ≡ own = cc in
@@ -163,85 +169,85 @@ module _ {a : Acceptance} (accepted : IsAccepted a) {s : State} (typed : IsTyped
         not-next (Some n) None is brings among = absurd is
         not-next None goes is brings among = absurd (omega (arith, among.1))
 
-        by_way : (way : Bool) → Contains (cond way (m.from ∷ []) (option_to_list m.next)) k → ⊥
-        by_way true among = not-from (contains-one m.from k among) t.goes t.brings
+        by_way : (way : Bool) → Contains (cond way (m.from ∷ []) (option_to_list m.next)) name → ⊥
+        by_way true among = not-from (contains-one m.from name among) t.goes t.brings
         by_way false among = not-next m.next t.goes t.next t.brings among
 
     -- a process that provides it stands for it
-    provided-shared : (o : Object) → Contains s.objects o → count_of k (provided o) ≤ count_of k (shared_names o)
+    provided-shared : (o : Object) → Contains s.objects o → count_of name (provided o) ≤ count_of name (shared_names o)
     provided-shared (object.Process p) there =
-        elim (cases_eq p.offers k) [
+        elim (cases_eq p.offers name) [
           | inl same ↦
               let t = process-typed typed there in
               let offered = t.offered own (subst (λ (i : ℕ). type_of s.types i ≡ Some own) (sym same) found) in
               let is_s : p.mode ≡ mode.S = mode-unique accepted.typed.formed.program offered at_s in
-              let stands = ap (λ (m : Mode). count_of k (shared_of m p.offers p.base)) is_s in
+              let stands = ap (λ (m : Mode). count_of name (shared_of m p.offers p.base)) is_s in
               omega (arith, stands)
           | inr other ↦
-              let none = count-other k p.offers (λ is. other (sym is)) in
+              let none = count-other name p.offers (λ is. other (sym is)) in
               omega (arith, none)
         ]
     provided-shared (object.Message m) there =
-        elim (cases_eq (count_of k (provided (object.Message m))) 0) [
+        elim (cases_eq (count_of name (provided (object.Message m))) 0) [
           | inl none ↦ omega (arith, none)
-          | inr some ↦ absurd (no-message m there (contained k (provided (object.Message m)) (omega (arith, some))))
+          | inr some ↦ absurd (no-message m there (contained name (provided (object.Message m)) (omega (arith, some))))
         ]
 
-    provided-once : times provided s.objects k ≤ times shared_names s.objects k
+    provided-once : times provided s.objects name ≤ times shared_names s.objects name
     provided-once = summed s.objects (λ o there. provided-shared o there)
       where
         summed : (objects : List Object)
-            → ((o : Object) → Contains objects o → count_of k (provided o) ≤ count_of k (shared_names o))
-            → times provided objects k ≤ times shared_names objects k
+            → ((o : Object) → Contains objects o → count_of name (provided o) ≤ count_of name (shared_names o))
+            → times provided objects name ≤ times shared_names objects name
         summed [] each = omega arith
         summed (o ∷ objects) each =
             let first = each o (0, omega arith, refl) in
             let rest = summed objects (λ e there. each e (Contains-append_right (o ∷ []) objects e there)) in
             omega (
               arith,
-              sum_by-cons (λ (e : Object). count_of k (provided e)) o objects,
-              sum_by-cons (λ (e : Object). count_of k (shared_names e)) o objects,
+              sum_by-cons (λ (e : Object). count_of name (provided e)) o objects,
+              sum_by-cons (λ (e : Object). count_of name (shared_names e)) o objects,
               first,
               rest,
             )
 
-  once-owned : (k : ℕ) (t : TypeId) (m : Mode) → type_of s.types k ≡ Some t → HasMode a.program t m
-      → times provided s.objects k ≤ 1
-  once-owned k t mode.R found has = omega (arith, (typed.owned k t mode.R found has).0)
-  once-owned k t mode.L found has = omega (arith, (typed.owned k t mode.L found has).0)
-  once-owned k t mode.T found has = omega (arith, (typed.owned k t mode.T found has).0)
-  once-owned k t mode.S found has =
-      omega (arith, provided-once k t found has, (typed.owned k t mode.S found has).0)
+  once-owned : (name : ℕ) (t : TypeId) (m : Mode) → type_of s.types name ≡ Some t → HasMode a.program t m
+      → times provided s.objects name ≤ 1
+  once-owned name t mode.R found has = omega (arith, (typed.owned name t mode.R found has).0)
+  once-owned name t mode.L found has = omega (arith, (typed.owned name t mode.L found has).0)
+  once-owned name t mode.T found has = omega (arith, (typed.owned name t mode.T found has).0)
+  once-owned name t mode.S found has =
+      omega (arith, provided-once name t found has, (typed.owned name t mode.S found has).0)
 
   -- each name is provided once at most
-  pub name-provided_once : (k : ℕ) → times provided s.objects k ≤ 1
-  name-provided_once k =
-      elim (cases_eq (times provided s.objects k) 0) [
+  pub name-provided_once : (name : ℕ) → times provided s.objects name ≤ 1
+  name-provided_once name =
+      elim (cases_eq (times provided s.objects name) 0) [
         | inl none ↦ omega arith
         | inr some ↦
-            let (o, there, among) = contains-times provided k s.objects (omega arith) in
-            let (t, found, m, has) = provided-has_mode o k there among in
-            once-owned k t m found has
+            let (o, there, among) = contains-times provided name s.objects (omega arith) in
+            let (t, found, m, has) = provided-has_mode o name there among in
+            once-owned name t m found has
       ]
 
   -- ---- users
 
   -- a name that is used exactly once and is no outside name has one user
-  pub name-used_once : (k : ℕ) (t : TypeId) (m : Mode) → type_of s.types k ≡ Some t → HasMode a.program t m
-      → IsLinearMode m → count_of k s.outside ≡ 0 → times used s.objects k ≡ 1
-  name-used_once k t mode.R found has linear inside = omega (arith, (typed.owned k t mode.R found has).1, inside)
-  name-used_once k t mode.L found has linear inside = (typed.owned k t mode.L found has).1
-  name-used_once k t mode.T found has (inl is) inside = absurd cc
-  name-used_once k t mode.T found has (inr is) inside = absurd cc
-  name-used_once k t mode.S found has (inl is) inside = absurd cc
-  name-used_once k t mode.S found has (inr is) inside = absurd cc
+  pub name-used_once : (name : ℕ) (t : TypeId) (m : Mode) → type_of s.types name ≡ Some t → HasMode a.program t m
+      → IsLinearMode m → count_of name s.outside ≡ 0 → times used s.objects name ≡ 1
+  name-used_once name t mode.R found has linear inside = omega (arith, (typed.owned name t mode.R found has).1, inside)
+  name-used_once name t mode.L found has linear inside = (typed.owned name t mode.L found has).1
+  name-used_once name t mode.T found has (inl is) inside = absurd cc
+  name-used_once name t mode.T found has (inr is) inside = absurd cc
+  name-used_once name t mode.S found has (inl is) inside = absurd cc
+  name-used_once name t mode.S found has (inr is) inside = absurd cc
 
   -- an outside name is one once, and no object uses it
-  pub outside-unused : (k : ℕ) → 1 ≤ count_of k s.outside
-      → (times used s.objects k ≡ 0) × (count_of k s.outside ≡ 1)
-  outside-unused k some =
-      let (t, found, has) = typed.outside k some in
-      let sum = (typed.owned k t mode.R found has).1 in
+  pub outside-unused : (name : ℕ) → 1 ≤ count_of name s.outside
+      → (times used s.objects name ≡ 0) × (count_of name s.outside ≡ 1)
+  outside-unused name some =
+      let (t, found, has) = typed.outside name some in
+      let sum = (typed.owned name t mode.R found has).1 in
       (omega (arith, sum, some), omega (arith, sum, some))
 
   -- ---- gas
@@ -295,15 +301,15 @@ module _ {a : Acceptance} (accepted : IsAccepted a) {s : State} (typed : IsTyped
 pub typed-not_wrong : {a : Acceptance} {s : State} → IsAccepted a → IsTyped a s → ¬ (Wrong a s)
 typed-not_wrong accepted typed (wrong.unexpected m p n c waiting there stands turns here way not_received) =
     not_received (is-received accepted typed there m waiting n c stands turns here way)
-typed-not_wrong accepted typed (wrong.provided_twice k twice) =
-    omega (arith, twice, name-provided_once accepted typed k)
-typed-not_wrong accepted typed (wrong.not_used_once k t m found has linear inside other) =
-    other (name-used_once accepted typed k t m found has linear inside)
-typed-not_wrong accepted typed (wrong.used_outside k outside uses) =
-    omega (arith, uses, (outside-unused accepted typed k outside).0)
-typed-not_wrong {s = s} accepted typed (wrong.twice_outside k twice) =
-    let some : 1 ≤ count_of k s.outside = omega (arith, twice) in
-    omega (arith, twice, (outside-unused accepted typed k some).1)
+typed-not_wrong accepted typed (wrong.provided_twice name twice) =
+    omega (arith, twice, name-provided_once accepted typed name)
+typed-not_wrong accepted typed (wrong.not_used_once name t m found has linear inside other) =
+    other (name-used_once accepted typed name t m found has linear inside)
+typed-not_wrong accepted typed (wrong.used_outside name outside uses) =
+    omega (arith, uses, (outside-unused accepted typed name outside).0)
+typed-not_wrong {s = s} accepted typed (wrong.twice_outside name twice) =
+    let some : 1 ≤ count_of name s.outside = omega (arith, twice) in
+    omega (arith, twice, (outside-unused accepted typed name some).1)
 typed-not_wrong accepted typed (wrong.lacks_gas p n needs there stands asks lacks) =
     let enough = gas-enough accepted typed there n needs stands asks in
     let covered : potential_of p ≤ p.purse = (process-typed typed there).covered in

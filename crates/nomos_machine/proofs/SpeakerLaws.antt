@@ -13,8 +13,8 @@ use Rattle.nomos_machine.specs.State.{NameTypes}
 use Rattle.nomos_machine.specs.TypedMessage.{Brings, own_label, other_label, own_channel, other_channel, own_value, other_value, own_potential, other_potential, end}
 use Rattle.nomos_machine.specs.declared.object.Payload.{Payload}
 
--- Who speaks next where a type unfolds to this node: the provider, so that what it says goes to the client, or the client;
--- and at an `up` and a `down` neither.
+-- Who speaks next where a type unfolds to this node: the provider, so that what it says goes to the client, or the
+-- client; and at an `up` and a `down` neither.
 abbrev pub speaker : TypeNode → Option Bool
 speaker node.One = Some true
 speaker (node.Plus branches) = Some true

@@ -45,7 +45,8 @@ goes_on-code j chan.Own t next = refl
 goes_on-code j (chan.Var v) t next = refl
 
 module _ {a : Acceptance} (accepted : IsAccepted a) {s : State} (typed : IsTyped a s) {p : Process}
-    (there : Contains s.objects (object.Process p)) (m : Message) (waiting : Contains s.objects (object.Message m)) where
+    (there : Contains s.objects (object.Process p)) (m : Message)
+    (waiting : Contains s.objects (object.Message m)) where
   abbrev own : Judgement
   own = own_judgement p (process-typed typed there)
 
@@ -88,8 +89,8 @@ module _ {a : Acceptance} (accepted : IsAccepted a) {s : State} (typed : IsTyped
 
   -- ---- by the instruction
 
-  label-hears : (at : ℕ) (c : Chan) (l : Label) (next : CodeId) → At accepted typed there (code.Label at c l next) → IsFor c
-      → Received (code.Label at c l next)
+  label-hears : (at : ℕ) (c : Chan) (l : Label) (next : CodeId) → At accepted typed there (code.Label at c l next)
+      → IsFor c → Received (code.Label at c l next)
   label-hears at c l next stands is_for =
       let n : CodeNode = code.Label at c l next in
       let (after, row) = own-row typed there accepted in
@@ -98,8 +99,8 @@ module _ {a : Acceptance} (accepted : IsAccepted a) {s : State} (typed : IsTyped
       absurd (not-silent c (by_side c (node.Plus bs) (node.With bs)) sends_it.channel is_for
       (sends-speaks c (node.Plus bs) (node.With bs) refl refl))
 
-  send-hears : (at : ℕ) (c : Chan) (y : VarId) (next : CodeId) → At accepted typed there (code.Send at c y next) → IsFor c
-      → Received (code.Send at c y next)
+  send-hears : (at : ℕ) (c : Chan) (y : VarId) (next : CodeId) → At accepted typed there (code.Send at c y next)
+      → IsFor c → Received (code.Send at c y next)
   send-hears at c y next stands is_for =
       let n : CodeNode = code.Send at c y next in
       let (after, row) = own-row typed there accepted in
@@ -108,8 +109,8 @@ module _ {a : Acceptance} (accepted : IsAccepted a) {s : State} (typed : IsTyped
       absurd (not-silent c (by_side c (node.Tensor sent t) (node.Lolli sent t)) sends_it.channel is_for
       (sends-speaks c (node.Tensor sent t) (node.Lolli sent t) refl refl))
 
-  put-hears : (at : ℕ) (c : Chan) (e : TermId) (next : CodeId) → At accepted typed there (code.Put at c e next) → IsFor c
-      → Received (code.Put at c e next)
+  put-hears : (at : ℕ) (c : Chan) (e : TermId) (next : CodeId) → At accepted typed there (code.Put at c e next)
+      → IsFor c → Received (code.Put at c e next)
   put-hears at c e next stands is_for =
       let n : CodeNode = code.Put at c e next in
       let (after, row) = own-row typed there accepted in
@@ -118,8 +119,8 @@ module _ {a : Acceptance} (accepted : IsAccepted a) {s : State} (typed : IsTyped
       absurd (not-silent c (by_side c (node.ValueOut kind t) (node.ValueIn kind t)) sends_it.channel is_for
       (sends-speaks c (node.ValueOut kind t) (node.ValueIn kind t) refl refl))
 
-  pay-hears : (at : ℕ) (c : Chan) (r : Amount) (next : CodeId) → At accepted typed there (code.Pay at c r next) → IsFor c
-      → Received (code.Pay at c r next)
+  pay-hears : (at : ℕ) (c : Chan) (r : Amount) (next : CodeId) → At accepted typed there (code.Pay at c r next)
+      → IsFor c → Received (code.Pay at c r next)
   pay-hears at c r next stands is_for =
       let n : CodeNode = code.Pay at c r next in
       let (after, row) = own-row typed there accepted in
@@ -159,8 +160,8 @@ module _ {a : Acceptance} (accepted : IsAccepted a) {s : State} (typed : IsTyped
       let (t, releases_it, goes_on_so) = row-inverted n (own-stands typed there n stands) row in
       absurd (not-awaited (chan.Var v) (node.Down t) releases_it.channel is_for refl)
 
-  case-hears : (at : ℕ) (c : Chan) (arms : List Arm) → At accepted typed there (code.Case at c arms) → IsFor c
-      → Received (code.Case at c arms)
+  case-hears : (at : ℕ) (c : Chan) (arms : List Arm) → At accepted typed there (code.Case at c arms)
+      → IsFor c → Received (code.Case at c arms)
   case-hears at c arms stands is_for =
       let n : CodeNode = code.Case at c arms in
       let (after, row) = own-row typed there accepted in
@@ -170,18 +171,20 @@ module _ {a : Acceptance} (accepted : IsAccepted a) {s : State} (typed : IsTyped
       let (l, t, is_label, no_gas, goes_so, goes_by_it) = received-label c bs brings in
       subst (λ (brought : Payload). Receives a n brought m.purse) (sym is_label) (awaits.each_label l t goes_by_it)
 
-  recv-hears : (at : ℕ) (c : Chan) (y : VarId) (next : CodeId) → At accepted typed there (code.Recv at c y next) → IsFor c
-      → Received (code.Recv at c y next)
+  recv-hears : (at : ℕ) (c : Chan) (y : VarId) (next : CodeId) → At accepted typed there (code.Recv at c y next)
+      → IsFor c → Received (code.Recv at c y next)
   recv-hears at c y next stands is_for =
       let n : CodeNode = code.Recv at c y next in
       let (after, row) = own-row typed there accepted in
       let (mode, sent, t, receives_it, goes_on_so) = row-inverted n (own-stands typed there n stands) row in
-      let (goes, brings) = brings-at c (by_side c (node.Lolli sent t) (node.Tensor sent t)) receives_it.channel is_for in
+      let (goes, brings) =
+      brings-at c (by_side c (node.Lolli sent t) (node.Tensor sent t)) receives_it.channel is_for
+      in
       let (name, is_channel, no_gas, goes_so, is_sent) = received-channel c sent t brings in
       subst (λ (brought : Payload). Receives a n brought m.purse) (sym is_channel) tt
 
-  get-hears : (at : ℕ) (c : Chan) (r : Amount) (next : CodeId) → At accepted typed there (code.Get at c r next) → IsFor c
-      → Received (code.Get at c r next)
+  get-hears : (at : ℕ) (c : Chan) (r : Amount) (next : CodeId) → At accepted typed there (code.Get at c r next)
+      → IsFor c → Received (code.Get at c r next)
   get-hears at c r next stands is_for =
       let n : CodeNode = code.Get at c r next in
       let (after, row) = own-row typed there accepted in
@@ -201,16 +204,20 @@ module _ {a : Acceptance} (accepted : IsAccepted a) {s : State} (typed : IsTyped
       let (is_close, no_gas, no_goes) = received-end brings in
       subst (λ (brought : Payload). Receives a n brought m.purse) (sym is_close) tt
 
-  take-hears : (at : ℕ) (c : Chan) (v : VarId) (next : CodeId) → At accepted typed there (code.Take at c v next) → IsFor c
-      → Received (code.Take at c v next)
+  take-hears : (at : ℕ) (c : Chan) (v : VarId) (next : CodeId) → At accepted typed there (code.Take at c v next)
+      → IsFor c → Received (code.Take at c v next)
   take-hears at c v next stands is_for =
       let n : CodeNode = code.Take at c v next in
       let (after, row) = own-row typed there accepted in
       let (kind, t, receives_it, goes_on_so) = row-inverted n (own-stands typed there n stands) row in
-      let (goes, brings) = brings-at c (by_side c (node.ValueIn kind t) (node.ValueOut kind t)) receives_it.channel is_for in
+      let (goes, brings) =
+      brings-at c (by_side c (node.ValueIn kind t) (node.ValueOut kind t)) receives_it.channel is_for
+      in
       let (x, is_value, no_gas, goes_so, of_kind) = received-one_value c kind t brings in
       let k : Judgement = binds_value (goes_on own c t next) v kind in
-      let among : Contains after k = subst (λ (js : List Judgement). Contains js k) (sym goes_on_so) (0, omega arith, refl) in
+      let among : Contains after k =
+      subst (λ (js : List Judgement). Contains js k) (sym goes_on_so) (0, omega arith, refl)
+      in
       let (place, is_place, beside) = next-place accepted (process-typed typed there) after k row among in
       let bound = bound-after_bind v kind (goes_on own c t next).kinds in
       let has : HasKindAt a next v kind = record {
