@@ -1,4 +1,4 @@
--- The judgement at the place of a process, with the types of the state: it derives, and through it the process is typed.
+-- The judgement at the place of a process with the types of the state: it derives, and through it the process is typed.
 use Rattle.std.proofs.Common.{◌+◌, inr, inl, cond, ◌≡◌, ◌∙◌, ◌≤◌, ◌<◌, ◌==◌, ℕ, Bool, true, false, List, [], ◌∷◌, map, Option, Some, None, refl, sym, subst, ap, eq-eqb, eqb-true, arith}
 use Rattle.std.specs.Option.{option_map, option_or}
 use Rattle.std.specs.Map.{keys_of}
