@@ -42,3 +42,8 @@ pub mod SharingDeeds
 pub mod ForwardLaws
 pub mod DeedLaws
 pub mod PreservationLaws
+pub mod SpeakerLaws
+pub mod UnexpectedLaws
+pub mod NotWrongLaws
+pub mod OwnerLaws
+pub mod OwnJudgementLaws

@@ -164,3 +164,30 @@ module _ {a : Acceptance} (accepted : IsAccepted a) where
         offered = offers-own_mode (place-suits_mode place) fits;
         has_base = base;
       }
+
+  -- ---- where it goes on
+
+  -- Each judgement with which the rule of a process's judgement goes on is that of a place, but for potential and types
+  -- that are alike.
+  pub next-place : {types : NameTypes} {accounts : ℕ} {p : Process} → (t : ProcessTyped a types accounts p)
+      → (after : List Judgement) (k : Judgement) → Row a.program a.annotations (own_judgement p t) after
+      → Contains after k
+      → (place : Judgement) × IsPlace a.program a.annotations place × AlikeAside a.program a.annotations k place
+  next-place {types} {accounts} {p} t after k row among =
+      let first = start_of a.program a.annotations t.is_place.declaration in
+      let begins : Derives a.program a.annotations first =
+      All-at (λ d. Derives a.program a.annotations (start_of a.program a.annotations d)) a.program.procs
+      t.is_place.number t.is_place.declaration accepted.typed.procs t.is_place.declared
+      in
+      let h = place-is_judgement t.is_place in
+      let (next, follows, alike) = follow-beside accepted.typed.formed begins t.is_place.follows
+      (potential-is_judgement (free_purse p) h)
+      (aside-itself accepted.typed.formed (free_purse p) h (place-suits_mode t.is_place).offers) row among
+      in
+      let place : IsPlace a.program a.annotations next = record {
+        number = t.is_place.number;
+        declaration = t.is_place.declaration;
+        declared = t.is_place.declared;
+        follows = follows;
+      } in
+      (next, place, alike)
