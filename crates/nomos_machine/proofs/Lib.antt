@@ -39,3 +39,5 @@ pub mod SharingDeeds
 pub mod ForwardLaws
 pub mod DeedLaws
 pub mod PreservationLaws
+mod TalkExamples
+mod StepExamples
