@@ -41,3 +41,5 @@ pub mod DeedLaws
 pub mod PreservationLaws
 mod TalkExamples
 mod StepExamples
+mod RunExamples
+mod QuietExamples
