@@ -71,8 +71,8 @@ list_parameter v = record { var = var_id v; kind = int_kind; amount = Some (Writ
 
 -- A declaration of resources without parameters or potential, by what it offers and its first instruction; one of
 -- transactions, whose `me` is variable 9.
-abbrev pub resource : ℕ → ℕ → ProcDecl
-resource offers first = record {
+abbrev pub resource_decl : ℕ → ℕ → ProcDecl
+resource_decl offers first = record {
   name = codes "p";
   mode = mode.R;
   me = None;
@@ -83,8 +83,8 @@ resource offers first = record {
   first = code_id first;
 }
 
-abbrev pub transaction : ℕ → ℕ → ProcDecl
-transaction offers first = record (resource offers first) { mode = mode.T; me = Some (var_id 9) }
+abbrev pub transaction_decl : ℕ → ℕ → ProcDecl
+transaction_decl offers first = record (resource_decl offers first) { mode = mode.T; me = Some (var_id 9) }
 
 -- ---- every instruction
 
@@ -104,20 +104,25 @@ each_type =
     ∷ type_of (node.Named (record { 0 = 0 }))
     ∷ []
 
--- With one number, one list and one channel, and a potential of 1: by resources, and by transactions. With a reference.
+-- with one number, one list and one channel, and a potential of 1
 abbrev pub helper : ProcDecl
-helper = record (resource 0 0) {
+helper = record (resource_decl 0 0) {
   values = number_parameter 0 ∷ list_parameter 1 ∷ [];
   channels = (var_id 2, type_id 0) ∷ [];
   amount = Written 1;
 }
 
+-- a shared one, with a reference
 abbrev pub asker : ProcDecl
-asker = record (resource 0 0) { mode = mode.S; offers = type_id 23; channels = (var_id 2, type_id 24) ∷ [] }
+asker = record (resource_decl 0 0) { mode = mode.S; offers = type_id 23; channels = (var_id 2, type_id 24) ∷ [] }
 
--- Each goes on at instruction 0, and where there is another way, at instruction 1. Its channel is variable 1 and the second
--- one is 2; what is received or opened, variable 3; a list is variable 4, and a longer one or a rest 5; a value is
--- variable 6. The term is 7 divided by variable 0, and the test is whether that is less than 7.
+-- with two numbers
+abbrev pub two_numbers : ProcDecl
+two_numbers = record (resource_decl 0 0) { values = number_parameter 0 ∷ number_parameter 1 ∷ [] }
+
+-- Each goes on at instruction 0, and where there is another way, at instruction 1. Its channel is variable 1, and a second
+-- one is variable 2; what it gets as a channel is variable 3; its list is variable 4, and one that comes of it is variable 5;
+-- what it gets as a value is variable 6. Its term is 7 divided by variable 0, and its test whether that is less than 7.
 abbrev pub every_row : Acceptance
 every_row =
     acceptance
@@ -129,6 +134,8 @@ every_row =
           ∷ term.Var 0 (var_id 0)
           ∷ term.Div 0 (term_id 0) (term_id 1)
           ∷ term.Less 0 (term_id 2) (term_id 0)
+          ∷ term.Var 0 (var_id 6)
+          ∷ term.Add 0 (term_id 4) (term_id 0)
           ∷ [];
       code =
           code.Close 0
@@ -168,9 +175,13 @@ every_row =
           ∷ code.Empty 0 (var_id 5) (Written 2) int_kind (code_id 0)
           ∷ code.Add 0 (var_id 5) (term_id 2) (var_id 4) (code_id 0)
           ∷ code.Match 0 (var_id 4) (code_id 0) (var_id 6) (var_id 5) (code_id 1)
+          ∷ code.Call
+          0
+          (proc_id 3)
+          (record { values = arg.Term (term_id 5) ∷ arg.Term (term_id 2) ∷ []; channels = [] })
           ∷ [];
       fns = [];
-      procs = helper ∷ transaction 0 0 ∷ asker ∷ [];
+      procs = helper ∷ transaction_decl 0 0 ∷ asker ∷ two_numbers ∷ [];
       labels = codes "a" ∷ codes "b" ∷ [];
     })
     []
@@ -180,18 +191,18 @@ every_row =
 
 -- proc R source(;) : +{ last : 1 } = self.last; close;
 -- proc R front(; x : +{ last : 1 }) : +{ first : +{ last : 1 } } = self.first; fwd x;
--- proc T hears(;) = spawn x = source(;); spawn y = front(; x); case y { first => case y { last => wait y; close } };
+-- proc T hearer(;) = spawn x = source(;); spawn y = front(; x); case y { first => case y { last => wait y; close } };
 -- proc R sink(;) : &{ first : &{ last : 1 } } = case self { first => case self { last => close } };
 -- proc R back(; x : &{ first : &{ last : 1 } }) : &{ last : 1 } = x.first; fwd x;
--- proc T tells(;) = spawn x = sink(;); spawn y = back(; x); y.last; wait y; close;
-abbrev pub hears : ProcDecl
-hears = transaction 7 9
+-- proc T teller(;) = spawn x = sink(;); spawn y = back(; x); y.last; wait y; close;
+abbrev pub hearer : ProcDecl
+hearer = transaction_decl 7 9
 
-abbrev pub tells : ProcDecl
-tells = transaction 16 19
+abbrev pub teller : ProcDecl
+teller = transaction_decl 16 19
 
-abbrev pub forwards : Acceptance
-forwards =
+abbrev pub forwarding : Acceptance
+forwarding =
     acceptance
     (record {
       defs = [];
@@ -230,12 +241,12 @@ forwards =
           ∷ [];
       fns = [];
       procs =
-          resource 1 1
-          ∷ record (resource 6 3) { channels = (var_id 0, type_id 3) ∷ [] }
-          ∷ hears
-          ∷ resource 10 12
-          ∷ record (resource 15 14) { channels = (var_id 0, type_id 13) ∷ [] }
-          ∷ tells
+          resource_decl 1 1
+          ∷ record (resource_decl 6 3) { channels = (var_id 0, type_id 3) ∷ [] }
+          ∷ hearer
+          ∷ resource_decl 10 12
+          ∷ record (resource_decl 15 14) { channels = (var_id 0, type_id 13) ∷ [] }
+          ∷ teller
           ∷ [];
       labels = codes "last" ∷ codes "first" ∷ [];
     })
@@ -245,14 +256,14 @@ forwards =
 -- ---- two contracts that are acquired in this order and in that
 
 -- type S cell = up down cell;
--- proc S hold(;) : cell = accept; detach; call hold(;);
--- proc T both(; a : cell, b : cell) =
+-- proc S cell_holder(;) : cell = accept; detach; call cell_holder(;);
+-- proc T takes_both(; a : cell, b : cell) =
 --     acquire a as x; acquire b as y; release x as c; release y as d; close;
-abbrev pub hold : ProcDecl
-hold = record (resource 3 2) { mode = mode.S }
+abbrev pub cell_holder : ProcDecl
+cell_holder = record (resource_decl 3 2) { mode = mode.S }
 
-abbrev pub both : ProcDecl
-both = record (transaction 6 7) { channels = (var_id 1, type_id 4) ∷ (var_id 2, type_id 5) ∷ [] }
+abbrev pub takes_both : ProcDecl
+takes_both = record (transaction_decl 6 7) { channels = (var_id 1, type_id 4) ∷ (var_id 2, type_id 5) ∷ [] }
 
 abbrev pub cells : Acceptance
 cells =
@@ -277,7 +288,7 @@ cells =
           ∷ code.Acquire 0 (var_id 1) (var_id 3) (code_id 6)
           ∷ [];
       fns = [];
-      procs = hold ∷ both ∷ [];
+      procs = cell_holder ∷ takes_both ∷ [];
       labels = [];
     })
     []
@@ -286,13 +297,13 @@ cells =
 -- ---- a list each of whose elements pays for its turn
 
 -- proc T pays_all(xs : list {2} int;) = match xs { nil => close | h :: t => work {2}; emit h; call pays_all(t;) };
--- proc T three(;) {6} =
+-- proc T pays_three(;) {6} =
 --     let a = list {2} int; let b = list 5, a; let c = list 7, b; let d = list 9, c; call pays_all(d;);
 abbrev pub pays_all : ProcDecl
-pays_all = record (transaction 0 4) { values = list_parameter 0 ∷ [] }
+pays_all = record (transaction_decl 0 4) { values = list_parameter 0 ∷ [] }
 
-abbrev pub three : ProcDecl
-three = record (transaction 1 9) { amount = Written 6 }
+abbrev pub pays_three : ProcDecl
+pays_three = record (transaction_decl 1 9) { amount = Written 6 }
 
 abbrev pub payments : Acceptance
 payments =
@@ -314,7 +325,7 @@ payments =
           ∷ code.Empty 0 (var_id 3) (Written 2) int_kind (code_id 8)
           ∷ [];
       fns = [];
-      procs = pays_all ∷ three ∷ [];
+      procs = pays_all ∷ pays_three ∷ [];
       labels = [];
     })
     []

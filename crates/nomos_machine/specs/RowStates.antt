@@ -12,9 +12,9 @@ use Rattle.nomos_machine.specs.declared.object.Payload.TheVariants as payload
 use Rattle.nomos_machine.specs.declared.object.PotentialList.{PotentialList}
 use Rattle.nomos_machine.specs.declared.object.Process.{Process}
 
--- a process with number 1 at an instruction, which offers name 1, has nothing, and has the second account as payer
-abbrev pub at : ℕ → Process
-at n = record {
+-- a process with the number 1 at an instruction, which offers name 1 and has nothing; the second account is its payer
+abbrev pub stands_at : ℕ → Process
+stands_at n = record {
   pid = 1;
   mode = mode.R;
   code = code_id n;
@@ -27,30 +27,33 @@ at n = record {
   payer = 1;
 }
 
--- with so many Dths; with name 2 as its channel, and name 3 as a second one; with a number; with a list
-abbrev pub rich : ℕ → Process → Process
-rich gas p = record p { purse = gas }
+-- with so many Dths
+abbrev pub having : ℕ → Process → Process
+having gas p = record p { purse = gas }
 
-abbrev pub holding : Process → Process
-holding p = record p { channels = (var_id 1, 2) ∷ [] }
+-- with name 2 as its channel, and with name 3 as a second one
+abbrev pub using_one : Process → Process
+using_one p = record p { channels = (var_id 1, 2) ∷ [] }
 
-abbrev pub holding_two : Process → Process
-holding_two p = record p { channels = (var_id 1, 2) ∷ (var_id 2, 3) ∷ [] }
+abbrev pub using_two : Process → Process
+using_two p = record p { channels = (var_id 1, 2) ∷ (var_id 2, 3) ∷ [] }
 
-abbrev pub knowing : ℕ → Process → Process
-knowing n p = record p { values = (var_id 0, int (pos n)) ∷ [] }
+-- with a number
+abbrev pub given_number : ℕ → Process → Process
+given_number n p = record p { values = (var_id 0, int (pos n)) ∷ [] }
 
--- the list of 5, and one with a number in front of that, each element of which carries 2
+-- the list of 5, and one with a number in front of that; each element carries 2
 abbrev pub five : PotentialList
 five = record { amount = 2; items = int (pos 5) ∷ [] }
 
 abbrev pub before_five : ℕ → PotentialList
 before_five n = record { amount = 2; items = int (pos n) ∷ int (pos 5) ∷ [] }
 
-abbrev pub listing : ℕ → PotentialList → Process → Process
-listing v l p = record p { lists = (var_id v, l) ∷ [] }
+-- with a list as this variable
+abbrev pub given_list : ℕ → PotentialList → Process → Process
+given_list v l p = record p { lists = (var_id v, l) ∷ [] }
 
--- a message with a number, which is read on a name and goes on under the next one
+-- a message with this number, which is read on one name, goes on under the next, and brings something
 abbrev pub for_client : ℕ → ℕ → ℕ → Payload → Message
 for_client number from next brought =
     record { number = number; to_client = true; from = from; next = Some next; payload = brought; purse = 0 }
@@ -62,8 +65,8 @@ abbrev pub closing : ℕ → ℕ → Message
 closing number from = record (for_client number from 0 payload.Close) { next = None }
 
 -- a state of two accounts, in which the next object has the number 10, and the next name the number 20
-abbrev pub among : NameTypes → List Object → State
-among types objects = record {
+abbrev pub small_state : NameTypes → List Object → State
+small_state types objects = record {
   objects = objects;
   next_object = 10;
   next_name = 20;
@@ -75,16 +78,16 @@ among types objects = record {
 }
 
 -- one in which one more object and one more name were numbered
-abbrev pub later : NameTypes → List Object → State
-later types objects = record (among types objects) { next_object = 11; next_name = 21 }
+abbrev pub small_state_after : NameTypes → List Object → State
+small_state_after types objects = record (small_state types objects) { next_object = 11; next_name = 21 }
 
--- name 1 with a type, and name 2 with the closed one; name 1 alone
-abbrev pub own : ℕ → NameTypes
-own t = (1, type_id t) ∷ []
+-- name 1 with its type; with name 2 besides
+abbrev pub one_name : ℕ → NameTypes
+one_name t = (1, type_id t) ∷ []
 
-abbrev pub own_and : ℕ → ℕ → NameTypes
-own_and t u = (1, type_id t) ∷ (2, type_id u) ∷ []
+abbrev pub two_names : ℕ → ℕ → NameTypes
+two_names t u = (1, type_id t) ∷ (2, type_id u) ∷ []
 
--- the process alone
+-- the process alone, with the type of its name
 abbrev pub by_itself : ℕ → Process → State
-by_itself t p = among (own t) (object.Process p ∷ [])
+by_itself t p = small_state (one_name t) (object.Process p ∷ [])
