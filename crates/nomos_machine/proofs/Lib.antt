@@ -47,3 +47,7 @@ pub mod UnexpectedLaws
 pub mod NotWrongLaws
 pub mod OwnerLaws
 pub mod OwnJudgementLaws
+mod TalkExamples
+mod StepExamples
+mod RunExamples
+mod QuietExamples

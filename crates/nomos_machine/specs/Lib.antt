@@ -16,3 +16,5 @@ pub mod TypedMessage
 pub mod Outside
 pub mod TypedState
 pub mod Wrong
+pub mod RowPrograms
+pub mod RowStates
