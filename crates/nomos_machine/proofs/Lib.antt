@@ -41,3 +41,5 @@ pub mod SharingDeeds
 pub mod ForwardLaws
 pub mod DeedLaws
 pub mod PreservationLaws
+pub mod FiringLaws
+pub mod ContractLaws
