@@ -1,5 +1,6 @@
--- Names of contracts are never taken away: they keep their types through every change that fits, every step and every run.
-use Rattle.std.proofs.Common.{◌≡◌, ◌∙◌, ◌≤◌, ◌⊎◌, ℕ, ◌+◌, List, map, Some, slice_get, subst, ap, arith, append-nil}
+-- Names of contracts are never taken away: they keep their types through every change that fits, and so through every
+-- step and every run.
+use Rattle.std.proofs.Common.{◌≡◌, ◌∙◌, ◌≤◌, ◌⊎◌, ℕ, List, map, Some, slice_get, subst, ap, arith, append-nil}
 use Rattle.std.specs.Option.{option_to_list}
 use Rattle.nomos_ir.specs.Value.{Value}
 use Rattle.nomos_ir.specs.declared.declaration.ProcDecl.{ProcDecl}
@@ -17,7 +18,7 @@ use Rattle.nomos_machine.specs.State.{State, NameTypes, type_of}
 use Rattle.nomos_machine.specs.Step.{step}
 use Rattle.nomos_machine.specs.TypedState.{IsTyped, IsContractName}
 use Rattle.nomos_machine.proofs.BirthLaws.{stands-mentioned}
-use Rattle.nomos_machine.proofs.FiringLaws.{Fires, step-fires, run-by_steps}
+use Rattle.nomos_machine.proofs.FiringLaws.{FiringChange, step-fires, run-by_steps}
 use Rattle.nomos_machine.proofs.FitLaws.{Fits, kept-mentioned}
 use Rattle.nomos_machine.proofs.NameLaws.{mentioned-sum, type_of-kept}
 use Rattle.nomos_machine.proofs.StartingLaws.{CanStart, starts-fits, opens_talk-fits}
@@ -50,19 +51,20 @@ changed-keeps_contracts {a} {s} c typed fits name u found at_s =
 
 -- ---- steps and runs
 
+pub firing-keeps_contracts : {a : Acceptance} {s t : State} → IsTyped a s → FiringChange a s t → KeepsContracts a s t
+firing-keeps_contracts {a} {s} typed firing =
+    subst (KeepsContracts a s) firing.after (changed-keeps_contracts firing.c typed firing.fits)
+
 pub step-keeps_contracts : {a : Acceptance} → IsAccepted a → {s : State} → IsTyped a s → (pid : ℕ) (t : State)
     → step a s pid ≡ Some t → KeepsContracts a s t
-step-keeps_contracts {a} accepted {s} typed pid t is =
-    let firing = step-fires accepted typed pid t is in
-    subst (KeepsContracts a s) firing.after (changed-keeps_contracts firing.c typed firing.fits)
+step-keeps_contracts accepted typed pid t is = firing-keeps_contracts typed (step-fires accepted typed pid t is)
 
 pub run-keeps_contracts : {a : Acceptance} → IsAccepted a → (s t : State) (pids : List ℕ) → IsTyped a s
     → run a s pids ≡ Some t → KeepsContracts a s t
 run-keeps_contracts {a} accepted s t pids typed is =
     run-by_steps accepted (λ n s t. KeepsContracts a s t) (λ s name u found at_s. found)
     (λ n s u t typed firing rest name v found at_s.
-    rest name v
-    (subst (KeepsContracts a s) firing.after (changed-keeps_contracts firing.c typed firing.fits) name v found at_s) at_s)
+    rest name v (firing-keeps_contracts typed firing name v found at_s) at_s)
     s t pids typed is
 
 -- ---- starts

@@ -1,5 +1,5 @@
 -- What a process of a typed state does, whatever its instruction.
-use Rattle.std.proofs.Common.{◌≡◌, ◌∙◌, Bool, Contains, Option, Some, slice_get, refl, sym, subst, ap}
+use Rattle.std.proofs.Common.{◌∙◌, Contains, Option, slice_get, sym, subst, ap}
 use Rattle.nomos_ir.specs.CodeParts.{code_terms}
 use Rattle.nomos_ir.specs.declared.code_node.CodeNode.{CodeNode}
 use Rattle.nomos_ir.specs.declared.code_node.CodeNode.TheVariants as code

@@ -20,7 +20,7 @@ use Rattle.nomos_machine.proofs.GoesLaws.{Goes, acts, faulty, waits}
 use Rattle.nomos_machine.proofs.PreservationLaws.{process_at-there, step-keeps}
 
 -- The process that fires, the change that it makes, and the objects that are replaced.
-pub record Fires (a : Acceptance) (s t : State) : Type 0 where
+pub record FiringChange (a : Acceptance) (s t : State) : Type 0 where
   pub p : Process
   pub there : Contains s.objects (object.Process p)
   pub c : Change
@@ -33,7 +33,7 @@ pub record Fires (a : Acceptance) (s t : State) : Type 0 where
 
 module _ {a : Acceptance} (accepted : IsAccepted a) {s : State} (typed : IsTyped a s) where
   goes-fires : (p : Process) → Contains s.objects (object.Process p) → (ready : Bool) (d : Option Deed) → deed a s p ≡ d
-      → Goes a s ready d → (t : State) → (d >>= state_after s) ≡ Some t → Fires a s t
+      → Goes a s ready d → (t : State) → (d >>= state_after s) ≡ Some t → FiringChange a s t
   goes-fires p there _ _ does (acts c olds replaces fits keeps) t is = record {
     p = p;
     there = there;
@@ -52,10 +52,11 @@ module _ {a : Acceptance} (accepted : IsAccepted a) {s : State} (typed : IsTyped
   goes-fires p there _ _ does waits t is = absurd cc
 
   -- every step is one
-  pub step-fires : (pid : ℕ) (t : State) → step a s pid ≡ Some t → Fires a s t
+  pub step-fires : (pid : ℕ) (t : State) → step a s pid ≡ Some t → FiringChange a s t
   step-fires pid t is = at (process_at s pid) refl is
     where
-      at : (o : Option Process) → process_at s pid ≡ o → ((o >>= deed a s) >>= state_after s) ≡ Some t → Fires a s t
+      at : (o : Option Process) → process_at s pid ≡ o → ((o >>= deed a s) >>= state_after s) ≡ Some t
+          → FiringChange a s t
       at (Some p) found steps =
           let (there, number) = process_at-there s pid p found in
           goes-fires p there (looks_ready a s p) (deed a s p) refl (deed-goes accepted typed there) t steps
@@ -63,10 +64,10 @@ module _ {a : Acceptance} (accepted : IsAccepted a) {s : State} (typed : IsTyped
 
 -- ---- runs
 
--- What holds of a state and itself, and goes on through each step from a typed state, holds from the first state of a run
--- to its last one.
+-- What holds of a state and itself, and goes on through each step from a typed state, holds from the first state of a
+-- run to its last one.
 pub run-by_steps : {a : Acceptance} → IsAccepted a → (P : ℕ → State → State → Type 0) → ((s : State) → P 0 s s)
-    → ((n : ℕ) (s u t : State) → IsTyped a s → Fires a s u → P n u t → P (suc n) s t)
+    → ((n : ℕ) (s u t : State) → IsTyped a s → FiringChange a s u → P n u t → P (suc n) s t)
     → (s t : State) (pids : List ℕ) → IsTyped a s → run a s pids ≡ Some t → P (length pids) s t
 run-by_steps {a} accepted P same goes s t [] typed is = subst (P 0 s) (one-state is) (same s)
   where

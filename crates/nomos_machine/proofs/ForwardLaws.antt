@@ -1,5 +1,5 @@
 -- A process that forwards: it leaves its place to the one channel that it has to use.
-use Rattle.std.proofs.Common.{if◌then◌else◌, ◌≡◌, ◌≢◌, ◌∙◌, ◌≤◌, ◌<◌, ◌⊎◌, inl, inr, ℕ, ◌+◌, ◌==◌, cond, Bool, true, false, List, [], ◌∷◌, ◌++◌, map, find, length, All, Contains, Option, Some, None, IsSome, slice_get, option_and_then, refl, sym, subst, ap, arith, append-nil, ne_eqb, eq-eqb, sum_by}
+use Rattle.std.proofs.Common.{if◌then◌else◌, ◌≡◌, ◌≢◌, ◌∙◌, ◌≤◌, ◌⊎◌, inl, inr, ℕ, ◌+◌, ◌==◌, cond, Bool, true, false, List, [], ◌∷◌, ◌++◌, map, length, All, Contains, Option, Some, None, IsSome, slice_get, refl, sym, subst, ap, arith, append-nil, ne_eqb, eq-eqb, sum_by}
 use Rattle.std.proofs.lemmas.Bool.{cases_eq}
 use Rattle.std.proofs.lemmas.List.Elements.{All-nil, All-cons, All-contains, All-weaker, Contains-append_left, Contains-append_right}
 use Rattle.std.proofs.lemmas.List.Sums.{sum_by-cons}
@@ -23,7 +23,7 @@ use Rattle.nomos_types.proofs.ModeLaws.{mode-unique}
 use Rattle.nomos_types.proofs.OccurrenceLaws.{count-here, count-elsewhere, counted, contained, contains-map}
 use Rattle.nomos_types.proofs.RowLaws.{row-inverted}
 use Rattle.nomos_machine.specs.Change.{Change, put_at, made}
-use Rattle.nomos_machine.specs.Deeds.{Deed, changes, leaves, forwards, does}
+use Rattle.nomos_machine.specs.Deeds.{changes, leaves, forwards, does}
 use Rattle.nomos_machine.specs.Matching.{NameHasType, ProcessTyped}
 use Rattle.nomos_machine.specs.Objects.{object_number, purse_of, provided, used, based, shared_names, shared_of, mentioned, times, talk_end, object_at}
 use Rattle.nomos_machine.specs.Optional.{◌>>=◌}
@@ -35,19 +35,18 @@ use Rattle.nomos_machine.specs.declared.object.Message.{Message}
 use Rattle.nomos_machine.specs.declared.object.Object.{Object}
 use Rattle.nomos_machine.specs.declared.object.Object.TheVariants as object
 use Rattle.nomos_machine.specs.declared.object.Process.{Process}
-use Rattle.nomos_machine.proofs.ApartLaws.{one-object, times-two, leads-own, leads-further}
+use Rattle.nomos_machine.proofs.ApartLaws.{one-object, leads-own, leads-further}
 use Rattle.nomos_machine.proofs.ChangeLaws.{Replaces, done, further as replaced, made-kept, news}
 use Rattle.nomos_machine.proofs.FitLaws.{Fits}
-use Rattle.nomos_machine.proofs.GasLaws.{KeepsGas}
-use Rattle.nomos_machine.proofs.GoesLaws.{Goes, acts, process-typed, process-variables, own-is_judgement, own-row, own-stands}
+use Rattle.nomos_machine.proofs.GoesLaws.{Goes, acts, process-typed, process-variables, own-row, own-stands}
 use Rattle.nomos_machine.proofs.HeldLaws.{linear-name, based-shared}
 use Rattle.nomos_machine.proofs.MeetingLaws.{linear-alone}
 use Rattle.nomos_machine.proofs.NameLaws.{mentioned-sum, times-one, names-told}
 use Rattle.nomos_machine.proofs.ObjectLaws.{bound-somewhere, bound-among, object-kept}
 use Rattle.nomos_machine.proofs.OwnedLaws.{made-times}
-use Rattle.nomos_machine.proofs.ProcessLaws.{own_judgement, place-is_judgement, place-suits_mode}
+use Rattle.nomos_machine.proofs.ProcessLaws.{own_judgement, place-is_judgement}
 use Rattle.nomos_machine.proofs.PutLaws.{object_at-own, object_at-other, object_at-put, put-new, put-kept}
-use Rattle.nomos_machine.proofs.RenameLaws.{renamed-old, renamed-other, renamed-third, renamed-gone, renamed-new, renamed-itself, instead-number, instead-uses, instead-provides, instead-based, instead-stands, instead-end, renamed-typed, renamed-differ}
+use Rattle.nomos_machine.proofs.RenameLaws.{renamed-other, renamed-third, renamed-gone, renamed-new, renamed-itself, instead-number, instead-uses, instead-provides, instead-based, instead-stands, instead-end, renamed-typed, renamed-differ}
 
 -- ---- the user of a name
 

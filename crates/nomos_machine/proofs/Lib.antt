@@ -43,3 +43,6 @@ pub mod DeedLaws
 pub mod PreservationLaws
 pub mod FiringLaws
 pub mod ContractLaws
+pub mod IdleLaws
+pub mod ChargeDeeds
+pub mod CostLaws

@@ -1,9 +1,9 @@
 -- Typing is kept by every firing, no gas appears or is lost, and readiness is told by one look.
-use Rattle.std.proofs.Common.{◌≡◌, ◌≢◌, ◌∙◌, ◌↔◌, ◌≤◌, ◌<◌, ℕ, ◌+◌, Bool, true, false, List, [], ◌∷◌, length, Contains, Option, Some, None, IsSome, refl, sym, subst, ap, arith}
+use Rattle.std.proofs.Common.{◌≡◌, ◌∙◌, ◌↔◌, ◌≤◌, ℕ, ◌+◌, Bool, true, List, [], ◌∷◌, length, Contains, Option, Some, None, IsSome, refl, sym, subst, ap, arith}
 use Rattle.std.specs.Option.{option_to_list}
 use Rattle.nomos_ir.specs.declared.fault.Fault.{Fault}
 use Rattle.nomos_types.specs.Acceptance.{Acceptance, IsAccepted}
-use Rattle.nomos_machine.specs.Change.{Change, made, changed}
+use Rattle.nomos_machine.specs.Change.{changed}
 use Rattle.nomos_machine.specs.Deeds.{Deed, changes, has_fault}
 use Rattle.nomos_machine.specs.Objects.{object_at, process_of}
 use Rattle.nomos_machine.specs.Optional.{◌>>=◌}

@@ -1,5 +1,5 @@
 -- An object that uses one name instead of another, whose types are alike, stays typed.
-use Rattle.std.proofs.Common.{◌≡◌, ◌≢◌, ◌∙◌, ◌≤◌, ◌<◌, ◌⊎◌, inl, inr, ℕ, ◌+◌, ◌==◌, cond, if◌then◌else◌, Bool, true, false, List, [], ◌∷◌, ◌++◌, map, length, All, Contains, Option, Some, None, refl, sym, subst, ap, arith, eq-eqb, ne_eqb}
+use Rattle.std.proofs.Common.{◌≡◌, ◌≢◌, ◌∙◌, inl, inr, ℕ, ◌+◌, cond, if◌then◌else◌, Bool, true, false, List, [], ◌∷◌, ◌++◌, map, Option, Some, None, refl, sym, subst, ap, arith, eq-eqb, ne_eqb}
 use Rattle.std.proofs.lemmas.Bool.{cases_eq}
 use Rattle.std.proofs.lemmas.List.{map-append}
 use Rattle.std.specs.Option.{option_map, option_to_list}
@@ -24,9 +24,9 @@ use Rattle.nomos_ir.specs.declared.ids.Label.{Label}
 use Rattle.nomos_types.proofs.AlikeLaws.{alike_types-through, alike_types-back, alike_types-unfolded}
 use Rattle.nomos_machine.specs.TypedMessage.{Brings, GoesOnAt, MessageTyped, own_label, other_label, own_channel, other_channel, own_value, other_value, own_potential, other_potential, end}
 use Rattle.nomos_types.proofs.EqualityLaws.{equal-unfolded}
-use Rattle.nomos_types.proofs.OccurrenceLaws.{count-here, count-elsewhere, count-append}
-use Rattle.nomos_machine.specs.Matching.{NameHasType, Matches, ProcessTyped}
-use Rattle.nomos_machine.specs.Objects.{object_number, provided, used, based, shared_names, talk_end, carried}
+use Rattle.nomos_types.proofs.OccurrenceLaws.{count-here, count-elsewhere}
+use Rattle.nomos_machine.specs.Matching.{NameHasType, ProcessTyped}
+use Rattle.nomos_machine.specs.Objects.{object_number, provided, used, based, shared_names, carried}
 use Rattle.nomos_machine.specs.Revised.{renamed, renamed_payload, uses_instead}
 use Rattle.nomos_machine.specs.State.{NameTypes, type_of}
 use Rattle.nomos_machine.specs.TypedState.{VariablesDiffer, HasVariables, ObjectTyped}
