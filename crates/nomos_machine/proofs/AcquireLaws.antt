@@ -167,6 +167,7 @@ module _ {a : Acceptance} (accepted : IsAccepted a) {s : State} (typed : IsTyped
         (All-cons HasVariables contract [] contract_differs (All-nil HasVariables));
     typed = All-cons Here client (contract ∷ []) client_typed (All-cons Here contract [] contract_typed (All-nil Here));
     owned = λ name t m is at_m some. owned-by name t m is at_m (cases_eq name s.next_name);
+    keeps_shared = λ name t is at_shared. (earlier-counts name t mode.S is at_shared).shared refl;
     outside = λ name some.
         let (t, is, at_r) = typed.outside name some in
         (t, both-keep typed there there_other apart k name t is, at_r, still-mentioned name t is at_r);

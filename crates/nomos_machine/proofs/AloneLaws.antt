@@ -131,6 +131,7 @@ module _ {a : Acceptance} {s : State} {p : Process} (typed : IsTyped a s) (there
     owned = λ name t m found mode some.
         let before = sym (same-type name) ∙ found in
         owned-as_before m s (made s goes_alone) name (counts-same name t m before mode) (typed.owned name t m before mode);
+    keeps_shared = λ name t found at_s. (counts-same name t mode.S found at_s).shared refl;
     outside = λ name some.
         let (t, found, at_r) = typed.outside name some in
         (t, same-type name ∙ found, at_r, provided-mentioned name t found at_r);

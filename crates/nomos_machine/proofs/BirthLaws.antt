@@ -1,5 +1,5 @@
 -- A process that comes, and offers the next name, leaves a typed state typed.
-use Rattle.std.proofs.Common.{◌≡◌, ◌≢◌, ◌∙◌, ◌≤◌, inl, inr, ℕ, ◌+◌, true, false, List, [], ◌∷◌, ◌++◌, length, All, Option, Some, None, refl, sym, subst, ap, arith, ne_eqb}
+use Rattle.std.proofs.Common.{◌≡◌, ◌≢◌, ◌∙◌, ◌≤◌, ◌<◌, inl, inr, ℕ, ◌+◌, true, false, List, [], ◌∷◌, ◌++◌, length, All, Contains, Option, Some, None, refl, sym, subst, ap, arith, ne_eqb}
 use Rattle.std.proofs.lemmas.Bool.{cases_eq}
 use Rattle.std.proofs.lemmas.List.Sums.{sum_by-cons}
 use Rattle.std.specs.Option.{option_to_list}
@@ -59,7 +59,7 @@ stands-object : (name : ℕ) (o : Object)
 stands-object name (object.Process p) = stands-one name p.mode p.offers p.base
 stands-object name (object.Message m) = omega arith
 
-stands-mentioned : (objects : List Object) (name : ℕ)
+pub stands-mentioned : (objects : List Object) (name : ℕ)
     → times shared_names objects name ≤ times provided objects name + times based objects name
 stands-mentioned [] name = omega arith
 stands-mentioned (o ∷ objects) name =
@@ -286,6 +286,9 @@ module _ {a : Acceptance} (accepted : IsAccepted a) {s : State} (typed : IsTyped
               let before = sym (born-type name other) ∙ found in
               owned-as_before m s born name (born-counts name u m other before at) (typed.owned name u m before at)
         ];
+    keeps_shared = λ name u found at_s.
+        let below : name < s.next_name = type_of-below s.types name s.next_name u typed.numbered.names found in
+        (born-counts name u mode.S (λ same. omega arith) found at_s).shared refl;
     outside = λ name some.
         elim (cases_eq name s.next_name) [
           | inl same ↦ outside-as name same some

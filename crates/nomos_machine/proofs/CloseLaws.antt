@@ -181,6 +181,7 @@ module _ {a : Acceptance} (accepted : IsAccepted a) {s : State} (typed : IsTyped
     owned = λ name t m found at_m some.
         let before = sym (same-type (Some (object.Message close-message)) name) ∙ found in
         owned-as_before m s (made s told) name (told-counts ends at_r name t m before at_m) (typed.owned name t m before at_m);
+    keeps_shared = λ name t found at_s. (told-counts ends at_r name t mode.S found at_s).shared refl;
     outside = λ name some.
         let (t, found, at_outside) = typed.outside name some in
         let counts = told-counts ends at_r name t mode.R found at_outside in
@@ -250,14 +251,30 @@ module _ {a : Acceptance} (accepted : IsAccepted a) {s : State} (typed : IsTyped
       counted-once : (n k : ℕ) → k ≡ n → count_of n (k ∷ []) ≡ 1
       counted-once n k is = count-here n k [] is ∙ (omega arith)
 
+  -- as many objects stand for each name as before
+  silent-stands : p.mode ≡ mode.T → (name : ℕ)
+      → times shared_names (made s silent).objects name ≡ times shared_names s.objects name
+  silent-stands at_t name =
+      let none : shared_names (object.Process p) ≡ [] =
+      stands-for_none (λ is. differ-l (sym at_t ∙ is)) (λ is. differ-s (sym at_t ∙ is))
+      in
+      omega (
+        arith,
+        made-times shared_names name s silent (object.Process p ∷ []) (leaves-replaces None),
+        ap (count_of name) none,
+      )
+    where
+      differ-l : mode.T ≡ mode.L → ⊥
+      differ-l is = cc
+
+      differ-s : mode.T ≡ mode.S → ⊥
+      differ-s is = cc
+
   silent-counts : Closes a.program (own_judgement p (process-typed typed there)) → p.mode ≡ mode.T → (name : ℕ) (t : TypeId) (m : Mode)
       → type_of s.types name ≡ Some t → HasMode a.program t m → 1 ≤ times mentioned (made s silent).objects name
       → CountsAsBefore m s (made s silent) name
   silent-counts ends at_t name t m found at_m some =
       let replaces = leaves-replaces None in
-      let none : shared_names (object.Process p) ≡ [] =
-      stands-for_none (λ is. differ-l (sym at_t ∙ is)) (λ is. differ-s (sym at_t ∙ is))
-      in
       record {
         provided = λ other. omega (
           arith,
@@ -269,19 +286,9 @@ module _ {a : Acceptance} (accepted : IsAccepted a) {s : State} (typed : IsTyped
           made-times used name s silent (object.Process p ∷ []) replaces,
           uses-none accepted typed there ends.nothing_held name t m found at_m other,
         );
-        shared = λ at_s. omega (
-          arith,
-          made-times shared_names name s silent (object.Process p ∷ []) replaces,
-          ap (count_of name) none,
-        );
+        shared = λ at_s. silent-stands at_t name;
         outside = refl;
       }
-    where
-      differ-l : mode.T ≡ mode.L → ⊥
-      differ-l is = cc
-
-      differ-s : mode.T ≡ mode.S → ⊥
-      differ-s is = cc
 
   pub silent-fits : Closes a.program (own_judgement p (process-typed typed there)) → p.mode ≡ mode.T → Fits a s silent
   silent-fits ends at_t = record {
@@ -294,6 +301,7 @@ module _ {a : Acceptance} (accepted : IsAccepted a) {s : State} (typed : IsTyped
         let before = sym (same-type None name) ∙ found in
         owned-as_before m s (made s silent) name (silent-counts ends at_t name t m before at_m some)
         (typed.owned name t m before at_m);
+    keeps_shared = λ name t found at_s. silent-stands at_t name;
     outside = λ name some.
         let (t, found, at_r) = typed.outside name some in
         (t, same-type None name ∙ found, at_r, still-there name t found at_r);

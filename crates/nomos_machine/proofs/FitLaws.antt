@@ -17,11 +17,17 @@ use Rattle.nomos_machine.proofs.NameLaws.{mentioned-told, times-contains, contai
 use Rattle.nomos_machine.proofs.ObjectLaws.{object-kept, object-typed, mentions-base}
 use Rattle.nomos_machine.proofs.PutLaws.{InOrder, push-order}
 use Rattle.nomos_machine.specs.Change.{Change, put_all, paid_out, is_mentioned, made, changed}
-use Rattle.nomos_machine.specs.Objects.{object_number, mentioned, times}
+use Rattle.nomos_machine.specs.Objects.{object_number, shared_names, mentioned, times}
 use Rattle.nomos_machine.specs.State.{State, NameTypes, type_of}
 use Rattle.nomos_machine.specs.TypedState.{HasVariables, Numbered, IsOwned, ObjectTyped, LeadsToBase, at_base, further, InSection, IsTyped}
 use Rattle.nomos_machine.specs.declared.object.Object.{Object}
 use Rattle.nomos_machine.specs.declared.object.Object.TheVariants as object
+
+-- as many objects stand for each name of mode S afterwards as before
+abbrev pub KeepsShared : Acceptance → State → Change → Type 0
+KeepsShared a s c =
+    (name : ℕ) (t : TypeId) → type_of s.types name ≡ Some t → HasMode a.program t mode.S
+    → times shared_names (made s c).objects name ≡ times shared_names s.objects name
 
 -- What a change has to be so that a typed state stays typed. All is said of the state as it is made, before names that
 -- nobody mentions leave the table of types.
@@ -36,6 +42,8 @@ pub record Fits (a : Acceptance) (s : State) (c : Change) : Type 0 where
   -- each name that is mentioned afterwards has the providers and users that its mode asks for
   pub owned : (name : ℕ) (t : TypeId) (m : Mode) → type_of (made s c).types name ≡ Some t → HasMode a.program t m
       → 1 ≤ times mentioned (made s c).objects name → IsOwned m (made s c) name
+  -- no shared name is taken away
+  pub keeps_shared : KeepsShared a s c
   -- outside names have mode R, and are mentioned
   pub outside : (name : ℕ) → 1 ≤ count_of name c.outside
       → (t : TypeId) × (type_of (made s c).types name ≡ Some t) × HasMode a.program t mode.R
@@ -124,7 +132,7 @@ table-filtered keeps types n table = record {
 -- ---- what is said of the state as it is made holds of it tidied
 
 -- a name that is mentioned keeps its type
-kept-mentioned : (s : State) (c : Change) (name : ℕ) → 1 ≤ times mentioned (made s c).objects name
+pub kept-mentioned : (s : State) (c : Change) (name : ℕ) → 1 ≤ times mentioned (made s c).objects name
     → type_of (changed s c).types name ≡ type_of (made s c).types name
 kept-mentioned s c name some = told (is_mentioned (made s c).objects name) refl
   where

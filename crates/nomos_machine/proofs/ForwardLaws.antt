@@ -635,6 +635,7 @@ module _ {a : Acceptance} (accepted : IsAccepted a) {s : State} (typed : IsTyped
         variables = is.variables;
         typed = All-weaker Before Here stays_typed (news (moves user).places ++ []) is.typed_news;
         owned = λ k t m found at_m some. owned-after k t m (sym (same-type k) ∙ found) at_m some;
+        keeps_shared = λ k t found at_s. is.stands k;
         outside = outside-after;
         sections = λ k t found at_l some.
             let section = typed.sections k t (sym (same-type k) ∙ found) at_l in

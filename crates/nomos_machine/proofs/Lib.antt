@@ -51,3 +51,8 @@ mod TalkExamples
 mod StepExamples
 mod RunExamples
 mod QuietExamples
+pub mod FiringLaws
+pub mod ContractLaws
+pub mod IdleLaws
+pub mod ChargeDeeds
+pub mod CostLaws

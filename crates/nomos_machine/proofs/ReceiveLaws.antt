@@ -336,6 +336,7 @@ module _ {a : Acceptance} (accepted : IsAccepted a) {s : State} (typed : IsTyped
     variables = All-cons HasVariables (object.Process q) [] h.differ (All-nil HasVariables);
     typed = All-cons Here (object.Process q) [] here (All-nil Here);
     owned = owned-after;
+    keeps_shared = λ name t found at_s. shared-same name;
     outside = λ name some.
         let (t, found, at_r) = typed.outside name some in
         (t, same-type name ∙ found, at_r, still-mentioned name t some found at_r);

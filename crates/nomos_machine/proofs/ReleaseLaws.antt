@@ -204,6 +204,9 @@ module _ {a : Acceptance} (accepted : IsAccepted a) {s : State} (typed : IsTyped
         let before = sym (same-type name) ∙ is in
         owned-as_before m s (made s released) name (others-count name t m before at_m (not-released name some))
         (typed.owned name t m before at_m);
+    keeps_shared = λ name t is at_s.
+        let not_it = names-apart name other.offers t own mode.S mode.L is at_s found own-mode (λ same. cc) in
+        (others-count name t mode.S is at_s not_it).shared refl;
     outside = λ name some.
         let (t, is, at_r) = typed.outside name some in
         (t, same-type name ∙ is, at_r, still-mentioned name t is at_r);

@@ -394,6 +394,7 @@ module _ {a : Acceptance} (accepted : IsAccepted a) {s : State} (typed : IsTyped
     typed = All-cons Typed (object.Process onward) (object.Message message ∷ []) onward-typed
         (All-cons Typed (object.Message message) [] message-typed (All-nil Typed));
     owned = λ name t m found has some. owned-after name t m found has;
+    keeps_shared = λ name t found at_s. shared-same name;
     outside = λ name some.
         let (t, found, at_r) = typed.outside name some in
         (t, type-kept name t found, at_r, still-mentioned name t found at_r);
