@@ -43,3 +43,4 @@ mod TalkExamples
 mod StepExamples
 mod RunExamples
 mod QuietExamples
+mod OutsideExamples
