@@ -56,3 +56,4 @@ pub mod ContractLaws
 pub mod IdleLaws
 pub mod ChargeDeeds
 pub mod CostLaws
+mod OutsideExamples

@@ -64,8 +64,8 @@ hears_1 =
     ((1, type_id 7) ∷ (2, type_id 1) ∷ [])
     (talking 8 ((var_id 1, 2) ∷ []) ∷ first_spawned 1 2 ∷ [])
 
-source_spawned : step forwarding (started forwarding (opened empty 10) hearer [] [] 0) 1 ≡ Some hears_1
-source_spawned = refl
+speaker_spawned : step forwarding (started forwarding (opened empty 10) hearer [] [] 0) 1 ≡ Some hears_1
+speaker_spawned = refl
 
 -- here the first process waits, and the two others are ready
 abbrev pub hears_2 : State
@@ -168,8 +168,8 @@ tells_2 =
     ((1, type_id 16) ∷ (2, type_id 10) ∷ (3, type_id 15) ∷ [])
     (talking 17 ((var_id 2, 3) ∷ []) ∷ first_spawned 12 2 ∷ second_spawned 14 3 2 ∷ [])
 
-sink_and_back_spawned : run forwarding tells_0 (1 ∷ 1 ∷ []) ≡ Some tells_2
-sink_and_back_spawned = refl
+listener_and_back_spawned : run forwarding tells_0 (1 ∷ 1 ∷ []) ≡ Some tells_2
+listener_and_back_spawned = refl
 
 abbrev tells_3 : State
 tells_3 =
@@ -254,8 +254,8 @@ tells_8 =
     ((1, type_id 16) ∷ (5, type_id 14) ∷ [])
     (talking 16 ((var_id 2, 5) ∷ []) ∷ object.Message (closing 6 5) ∷ [])
 
-sink_closed : step forwarding tells_7 2 ≡ Some tells_8
-sink_closed = refl
+listener_closed : step forwarding tells_7 2 ≡ Some tells_8
+listener_closed = refl
 
 close_read : step forwarding tells_8 1 ≡ Some (run_state 7 6 ((1, type_id 16) ∷ []) (talking 15 [] ∷ []))
 close_read = refl

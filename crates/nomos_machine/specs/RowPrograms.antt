@@ -189,12 +189,18 @@ every_row =
 
 -- ---- forwards: what is said on both of their channels comes in the order in which it was said
 
--- proc R source(;) : +{ last : 1 } = self.last; close;
+-- proc R speaker(;) : +{ last : 1 } = self.last; close;
 -- proc R front(; x : +{ last : 1 }) : +{ first : +{ last : 1 } } = self.first; fwd x;
--- proc T hearer(;) = spawn x = source(;); spawn y = front(; x); case y { first => case y { last => wait y; close } };
--- proc R sink(;) : &{ first : &{ last : 1 } } = case self { first => case self { last => close } };
+-- proc T hearer(;) = spawn x = speaker(;); spawn y = front(; x); case y { first => case y { last => wait y; close } };
+-- proc R listener(;) : &{ first : &{ last : 1 } } = case self { first => case self { last => close } };
 -- proc R back(; x : &{ first : &{ last : 1 } }) : &{ last : 1 } = x.first; fwd x;
--- proc T teller(;) = spawn x = sink(;); spawn y = back(; x); y.last; wait y; close;
+-- proc T teller(;) = spawn x = listener(;); spawn y = back(; x); y.last; wait y; close;
+abbrev pub speaker : ProcDecl
+speaker = resource_decl 1 1
+
+abbrev pub listener : ProcDecl
+listener = resource_decl 10 12
+
 abbrev pub hearer : ProcDecl
 hearer = transaction_decl 7 9
 
@@ -241,10 +247,10 @@ forwarding =
           ∷ [];
       fns = [];
       procs =
-          resource_decl 1 1
+          speaker
           ∷ record (resource_decl 6 3) { channels = (var_id 0, type_id 3) ∷ [] }
           ∷ hearer
-          ∷ resource_decl 10 12
+          ∷ listener
           ∷ record (resource_decl 15 14) { channels = (var_id 0, type_id 13) ∷ [] }
           ∷ teller
           ∷ [];
