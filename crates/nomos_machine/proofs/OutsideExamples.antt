@@ -1,5 +1,5 @@
 -- Talks of an outside party: it opens one, says something, pays, and hears what is said to it.
-use Rattle.std.proofs.Common.{◌≡◌, ℕ, List, [], ◌∷◌, Some, None, refl}
+use Rattle.std.proofs.Common.{◌≡◌, ℕ, [], ◌∷◌, Some, None, refl}
 use Rattle.nomos_ir.specs.Unfold.{constructor}
 use Rattle.nomos_ir.specs.declared.type_node.TypeNode.TheVariants as node
 use Rattle.nomos_machine.specs.Change.{changed}

@@ -1,5 +1,5 @@
 -- Opposite acquires that block each other, and which process a policy chooses.
-use Rattle.std.proofs.Common.{◌≡◌, ◌≢◌, ◌∙◌, ◌<◌, inl, inr, ℕ, zero, suc, true, false, true≢false, List, [], ◌∷◌, Option, Some, None, is_some, option_and_then, pos, refl, sym, ap, subst, arith}
+use Rattle.std.proofs.Common.{◌≡◌, ◌≢◌, ◌∙◌, ◌<◌, inl, inr, ℕ, zero, suc, true, false, true≢false, List, [], ◌∷◌, Option, Some, None, is_some, option_and_then, pos, refl, sym, subst, arith}
 use Rattle.std.specs.List.{AllByRecursion}
 use Rattle.nomos_ir.specs.Value.{int}
 use Rattle.nomos_ir.specs.declared.ids.VarId.{VarId}

@@ -1,4 +1,4 @@
--- Runs, state by state: forwards while messages wait on both of their channels, and a list of three that is paid through.
+-- Runs, state by state: forwards while messages wait on both of their channels, and a list that is paid through.
 use Rattle.std.proofs.Common.{◌≡◌, ℕ, zero, suc, List, [], ◌∷◌, map, replicate, Option, Some, None, option_map, pos, refl}
 use Rattle.nomos_ir.specs.Evaluation.{evaluation, term_evaluation}
 use Rattle.nomos_ir.specs.Value.{Value, int}

@@ -1,11 +1,11 @@
 -- All other instructions, each on a small state in which it fires, and on one in which it does not.
-use Rattle.std.proofs.Common.{◌≡◌, ℕ, List, [], ◌∷◌, replicate, Some, None, pos, true, false, refl}
+use Rattle.std.proofs.Common.{◌≡◌, ℕ, [], ◌∷◌, replicate, Some, None, pos, refl}
 use Rattle.nomos_ir.specs.Value.{int}
 use Rattle.nomos_ir.specs.Evaluation.{evaluation, term_evaluation}
 use Rattle.nomos_ir.specs.declared.fault.Fault.TheVariants as fault
 use Rattle.nomos_ir.specs.declared.mode.Mode.TheVariants as mode
-use Rattle.nomos_machine.specs.RowPrograms.{type_id, var_id, label_id, every_row}
-use Rattle.nomos_machine.specs.RowStates.{stands_at, having, using_one, using_two, given_number, five, before_five, given_list, for_client, for_provider, closing, small_state, small_state_after, one_name, two_names, by_itself}
+use Rattle.nomos_machine.specs.RowPrograms.{type_id, var_id, every_row}
+use Rattle.nomos_machine.specs.RowStates.{stands_at, having, using_one, given_number, five, before_five, given_list, for_client, closing, small_state, small_state_after, one_name, two_names, by_itself}
 use Rattle.nomos_machine.specs.State.{State}
 use Rattle.nomos_machine.specs.Step.{step, fault as fault_at}
 use Rattle.nomos_machine.specs.declared.object.Object.TheVariants as object
@@ -51,7 +51,9 @@ forwarded : step every_row
 forwarded = refl
 
 forwarded_outside : step every_row
-    (record (small_state (two_names 0 0) (object.Process (using_one (stands_at 1)) ∷ object.Message (closing 3 2) ∷ [])) {
+    (record (small_state
+    (two_names 0 0)
+    (object.Process (using_one (stands_at 1)) ∷ object.Message (closing 3 2) ∷ [])) {
       outside = 7 ∷ 1 ∷ [];
     })
     1
@@ -148,7 +150,8 @@ not_at_detach = refl
 -- a caller with a number, a list and a channel for the helper
 abbrev with_all : ℕ → ℕ → ℕ → State
 with_all n gas number =
-    small_state (two_names 0 0) (object.Process (having gas (given_number number (given_list 4 five (using_one (stands_at n))))) ∷ [])
+    let p : Process = given_number number (given_list 4 five (using_one (stands_at n))) in
+    small_state (two_names 0 0) (object.Process (having gas p) ∷ [])
 
 -- the helper has the number, the list and the channel, and the potential of both; the caller keeps the number alone
 abbrev helping : Process
@@ -192,7 +195,8 @@ spawned_with_reference : step every_row
 spawned_with_reference = refl
 
 -- the parameters alone are there, and the whole purse; at mode T `me` is, which is the payer's number
-called : step every_row (with_all 24 4 7) 1 ≡ Some (small_state (two_names 0 0) (object.Process (having 4 helping) ∷ []))
+called : step every_row (with_all 24 4 7) 1
+    ≡ Some (small_state (two_names 0 0) (object.Process (having 4 helping) ∷ []))
 unfolding term_evaluation evaluation
 called = refl
 
@@ -255,11 +259,13 @@ unfolding term_evaluation evaluation
 fault_at_emit = refl
 
 -- 7 divided by 7 is less than 7, and 7 divided by 1 is not
-where_true : step every_row (by_itself 0 (given_number 7 (stands_at 23))) 1 ≡ Some (by_itself 0 (given_number 7 (stands_at 0)))
+where_true : step every_row (by_itself 0 (given_number 7 (stands_at 23))) 1
+    ≡ Some (by_itself 0 (given_number 7 (stands_at 0)))
 unfolding term_evaluation evaluation
 where_true = refl
 
-where_false : step every_row (by_itself 0 (given_number 1 (stands_at 23))) 1 ≡ Some (by_itself 0 (given_number 1 (stands_at 1)))
+where_false : step every_row (by_itself 0 (given_number 1 (stands_at 23))) 1
+    ≡ Some (by_itself 0 (given_number 1 (stands_at 1)))
 unfolding term_evaluation evaluation
 where_false = refl
 
@@ -277,39 +283,48 @@ empty_list : step every_row (by_itself 0 (stands_at 26)) 1
     ≡ Some (by_itself 0 (given_list 5 (record { amount = 2; items = [] }) (stands_at 0)))
 empty_list = refl
 
+-- a process that adds a number to a list, and has so many Dths
+abbrev adding : ℕ → PotentialList → ℕ → State
+adding n l gas = by_itself 0 (given_number n (given_list 4 l (having gas (stands_at 27))))
+
 -- the purse stays, and more of it is the potential of the list
-added : step every_row (by_itself 0 (given_number 7 (given_list 4 five (having 4 (stands_at 27))))) 1
+added : step every_row (adding 7 five 4) 1
     ≡ Some (by_itself 0 (given_number 7 (given_list 5 (before_five 1) (having 4 (stands_at 0)))))
 unfolding term_evaluation evaluation
 added = refl
 
-not_added : step every_row (by_itself 0 (given_number 7 (given_list 4 five (having 3 (stands_at 27))))) 1 ≡ None
+not_added : step every_row (adding 7 five 3) 1 ≡ None
 unfolding term_evaluation evaluation
 not_added = refl
 
-fault_at_add : fault_at every_row (by_itself 0 (given_number 0 (given_list 4 five (having 3 (stands_at 27))))) 1
-    ≡ Some fault.DivideByZero
+fault_at_add : fault_at every_row (adding 0 five 3) 1 ≡ Some fault.DivideByZero
 unfolding term_evaluation evaluation
 fault_at_add = refl
 
--- a list of so many numbers; with 10,000 there is no room for one more, and a fault whatever the purse is
+-- a list of so many numbers; after 10,000 there is no room for one more, which is a fault whatever is free in the purse
 abbrev fives : ℕ → PotentialList
 fives n = record { amount = 2; items = replicate n (int (pos 5)) }
 
-too_heavy : fault_at every_row (by_itself 0 (given_number 7 (given_list 4 (fives 10000) (having 0 (stands_at 27))))) 1
-    ≡ Some fault.ListLength
+too_heavy : fault_at every_row (adding 7 (fives 10000) 20000) 1 ≡ Some fault.ListLength
 unfolding term_evaluation evaluation
 too_heavy = refl
 
-too_heavy_stays : step every_row (by_itself 0 (given_number 7 (given_list 4 (fives 10000) (having 20002 (stands_at 27))))) 1 ≡ None
+too_heavy_stays : step every_row (adding 7 (fives 10000) 20002) 1 ≡ None
 unfolding term_evaluation evaluation
 too_heavy_stays = refl
 
-just_light : fault_at every_row (by_itself 0 (given_number 7 (given_list 4 (fives 9999) (having 20000 (stands_at 27))))) 1 ≡ None
+just_light : step every_row (adding 7 (fives 9999) 20000) 1
+    ≡ Some (by_itself
+    0
+    (given_number
+    7
+    (given_list 5 (record (fives 9999) { items = int (pos 1) ∷ (fives 9999).items }) (having 20000 (stands_at 0)))))
 unfolding term_evaluation evaluation
 just_light = refl
 
-matched_empty : step every_row (by_itself 0 (given_list 4 (record { amount = 2; items = [] }) (having 3 (stands_at 28)))) 1
+matched_empty : step every_row
+    (by_itself 0 (given_list 4 (record { amount = 2; items = [] }) (having 3 (stands_at 28))))
+    1
     ≡ Some (by_itself 0 (having 3 (stands_at 0)))
 matched_empty = refl
 
@@ -321,7 +336,10 @@ matched : step every_row (by_itself 0 (given_list 4 (before_five 9) (having 4 (s
 matched = refl
 
 -- a process that is not there does nothing, nor does a message
-nobody : step every_row (small_state (two_names 0 0) (object.Process (stands_at 0) ∷ object.Message (closing 3 2) ∷ [])) 2 ≡ None
+nobody : step every_row
+    (small_state (two_names 0 0) (object.Process (using_one (stands_at 14)) ∷ object.Message (closing 3 2) ∷ []))
+    2
+    ≡ None
 nobody = refl
 
 no_step_of_message : step every_row

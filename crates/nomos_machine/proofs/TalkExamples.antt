@@ -1,17 +1,13 @@
 -- Each instruction that sends, receives or waits, on a small state in which it fires, and on one in which it does not.
-use Rattle.std.proofs.Common.{◌≡◌, ℕ, List, [], ◌∷◌, Some, None, pos, true, false, refl}
+use Rattle.std.proofs.Common.{◌≡◌, [], ◌∷◌, Some, None, pos, refl}
 use Rattle.nomos_ir.specs.Value.{int}
 use Rattle.nomos_ir.specs.Evaluation.{evaluation, term_evaluation}
 use Rattle.nomos_ir.specs.declared.fault.Fault.TheVariants as fault
-use Rattle.nomos_ir.specs.declared.mode.Mode.TheVariants as mode
 use Rattle.nomos_machine.specs.RowPrograms.{type_id, var_id, label_id, every_row}
-use Rattle.nomos_machine.specs.RowStates.{stands_at, having, using_one, using_two, given_number, five, before_five, given_list, for_client, for_provider, closing, small_state, small_state_after, one_name, two_names, by_itself}
-use Rattle.nomos_machine.specs.State.{State}
+use Rattle.nomos_machine.specs.RowStates.{stands_at, having, using_one, using_two, given_number, five, given_list, for_client, for_provider, closing, small_state, small_state_after, two_names, by_itself}
 use Rattle.nomos_machine.specs.Step.{step, fault as fault_at}
 use Rattle.nomos_machine.specs.declared.object.Object.TheVariants as object
 use Rattle.nomos_machine.specs.declared.object.Payload.TheVariants as payload
-use Rattle.nomos_machine.specs.declared.object.PotentialList.{PotentialList}
-use Rattle.nomos_machine.specs.declared.object.Process.{Process}
 
 -- ---- sends
 
@@ -147,7 +143,9 @@ no_channel = refl
 value_taken : step every_row
     (small_state
     ((1, type_id 15) ∷ (4, type_id 16) ∷ [])
-    (object.Process (given_number 7 (stands_at 10)) ∷ object.Message (for_provider 3 1 4 (payload.Value (int (pos 9)))) ∷ []))
+    (object.Process (given_number 7 (stands_at 10))
+    ∷ object.Message (for_provider 3 1 4 (payload.Value (int (pos 9))))
+    ∷ []))
     1
     ≡ Some (small_state
     ((4, type_id 16) ∷ [])
@@ -185,7 +183,7 @@ close_heard = refl
 no_close : step every_row (small_state (two_names 0 0) (object.Process (using_one (stands_at 14)) ∷ [])) 1 ≡ None
 no_close = refl
 
--- what is there does not fit: there is no branch for the label, a value is no label, a label is no end, an end no channel
+-- What is there does not fit: there is no branch for a label, a value is no label, a label no end, an end no channel.
 label_unknown : step every_row
     (small_state
     ((1, type_id 0) ∷ (2, type_id 1) ∷ (4, type_id 2) ∷ [])

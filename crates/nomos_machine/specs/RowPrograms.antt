@@ -1,7 +1,6 @@
 -- Small programs by which the machine is tried: one that has every instruction, and three short contracts.
-use Rattle.std.specs.Prelude.{ℕ, List, [], ◌∷◌, Option, Some, None, codes}
+use Rattle.std.specs.Prelude.{ℕ, List, [], ◌∷◌, Some, None, codes}
 use Rattle.nomos_ir.specs.TermKind.{int_kind}
-use Rattle.nomos_ir.specs.declared.amount.Amount.{Amount}
 use Rattle.nomos_ir.specs.declared.amount.Amount.TheVariants.{Written}
 use Rattle.nomos_ir.specs.declared.code_node.Arm.{Arm}
 use Rattle.nomos_ir.specs.declared.code_node.Args.{Args}
@@ -16,7 +15,6 @@ use Rattle.nomos_ir.specs.declared.ids.ProcId.{ProcId}
 use Rattle.nomos_ir.specs.declared.ids.TermId.{TermId}
 use Rattle.nomos_ir.specs.declared.ids.TypeId.{TypeId}
 use Rattle.nomos_ir.specs.declared.ids.VarId.{VarId}
-use Rattle.nomos_ir.specs.declared.mode.Mode.{Mode}
 use Rattle.nomos_ir.specs.declared.mode.Mode.TheVariants as mode
 use Rattle.nomos_ir.specs.declared.term_node.TermNode.TheVariants as term
 use Rattle.nomos_ir.specs.declared.type_node.Branch.{Branch}
@@ -120,9 +118,10 @@ asker = record (resource_decl 0 0) { mode = mode.S; offers = type_id 23; channel
 abbrev pub two_numbers : ProcDecl
 two_numbers = record (resource_decl 0 0) { values = number_parameter 0 ∷ number_parameter 1 ∷ [] }
 
--- Each goes on at instruction 0, and where there is another way, at instruction 1. Its channel is variable 1, and a second
--- one is variable 2; what it gets as a channel is variable 3; its list is variable 4, and one that comes of it is variable 5;
--- what it gets as a value is variable 6. Its term is 7 divided by variable 0, and its test whether that is less than 7.
+-- Each goes on at instruction 0, and where there is another way, at instruction 1. Its channel is variable 1, and a
+-- second one is variable 2; what it gets as a channel is variable 3; its list is variable 4, and one that comes of it
+-- is variable 5; what it gets as a value is variable 6. Its term is 7 divided by variable 0, and its test whether that
+-- is less than 7.
 abbrev pub every_row : Acceptance
 every_row =
     acceptance
