@@ -1,0 +1,199 @@
+"""What to do where an instruction is stuck: other instructions before it or in its place are tried on the program."""
+import itertools
+from typing import NamedTuple
+
+from .names import Names, unused
+from .syntax import distance
+
+# How often the program is asked at most, how many instructions are put before a stuck one, and how long a text is.
+ASKED = 100
+DEEP = 3
+LONGEST = 65_536
+LINEAR = ("recv", "acquire", "spawn")
+TAKEN_OUT = ("label", "put", "take", "recv", "pay", "get", "wait", "accept", "detach", "work")
+
+
+class Try(NamedTuple):
+    """An edit, and what it is in words."""
+
+    edit: tuple
+    mend: str
+
+
+class Stuck:
+    def __init__(self, text, answer, program, names):
+        self.text, self.program, self.names, self.form = text, program, names, answer.words[3]
+        self.tokens, self.at = text.tokens, answer.offset
+        self.index = text.index_at(self.at)
+        self.asked = 0
+        self.new = unused(text)
+        heads = [at for at in range(self.index) if self.tokens[at].text in ("proc", "fn", "type")]
+        self.head = heads[-1]
+
+    def reach(self, it):
+        """Gives the offset up to which the program is content with the instructions of the text with an edit, or one past
+        its end; less than the offset here where the edit does not do; and none where the program is not asked any more.
+        """
+        if self.asked >= ASKED:
+            return None
+        self.asked += 1
+        after = self.program.check(self.text.edited(it.edit))
+        if after.is_accepted or after.is_cause("NoPotential") or after.words[:1] == ["unsolved"]:
+            return self.text.size + 1
+        if not after.is_cause("ProcType") and not after.is_cause("TermType"):
+            return -1
+        start, end, new = it.edit
+        if start == self.at and after.offset < start + len(new):
+            return -1
+        return after.offset - (len(new) - (end - start) if start < after.offset else 0)
+
+    def channels(self):
+        """Gives the channels that are bound on the way here, those of shared contracts among them, the last ones first."""
+        found = [
+            self.tokens[at].text
+            for at in range(self.head, self.index)
+            if self.names.declared(at) == "channel" and self.names.leads(at, self.index)
+        ]
+        return ["self", *dict.fromkeys(found[::-1])]
+
+    def labels(self):
+        """Gives the labels of types, the nearest to the one that is written first, if one is."""
+        found = [it.text for at, it in enumerate(self.tokens) if self.names.key(at) == ("lab", 0)]
+        written = self.tokens[self.index + 2].text if self.form == "label" else ""
+        return sorted(dict.fromkeys(found), key=lambda it: distance(it, written) if written else 0)[:12]
+
+    def put_before(self, before):
+        """Gives the instructions that may be put before the stuck one, behind those that are put there already."""
+        new = f"{self.new}{'x' * before.count(';')}"
+        channels = self.channels()
+        for it in channels[1:]:
+            yield f"wait {it};", f"wait {it};"
+        for it in channels:
+            for label in self.labels():
+                yield f"{it}.{label};", f"{it}.{label};"
+        for it in channels:
+            for word in ("pay", "get"):
+                yield f"{word} {it} {{*}};", f"{word} {it} {{..}};"
+            for word, name in (("take", "a new name"), ("recv", "a new name")):
+                yield f"{word} {it} {new};", f"{word} {it} ..;"
+            for term in ("0", "true"):
+                yield f"put {it} {term};", f"put {it} ..;"
+        yield from (("accept;", "accept;"), ("detach;", "detach;"))
+        for it in channels[1:]:
+            yield f"release {it} as {new};", f"release {it} as ..;"
+            yield f"acquire {it} as {new};", f"acquire {it} as ..;"
+        for it in channels:
+            for other in channels[1:]:
+                if it != other:
+                    yield f"send {it} {other};", f"send {it} {other};"
+
+    def instructions(self):
+        """Goes through rows of instructions put before the stuck one, short ones first, and gives those with which the
+        check goes on past it."""
+        waiting = [("", "")]
+        for _ in range(DEEP):
+            further = []
+            for code, said in waiting:
+                for more, words in self.put_before(code):
+                    edit = f"{code}{more} "
+                    it = Try((self.at, self.at, edit), f"write `{said}{words}` before it")
+                    reached = self.reach(it)
+                    if reached is None:
+                        return
+                    if reached > self.at:
+                        yield reached, it
+                    elif reached == self.at and not words.startswith(("acquire", "accept")):
+                        further.append((edit, f"{said}{words} "))
+            waiting = further
+
+    def end(self):
+        """Gives where the stuck instruction ends, if it is one that others follow: before its ;"""
+        depth = 0
+        for it in self.tokens[self.index :]:
+            if it.text == ";" and depth == 0:
+                return it.at
+            depth += (it.text in "({") - (it.text in ")}")
+        return None
+
+    def others(self):
+        """Gives what may stand in the place of the stuck instruction."""
+        token = self.tokens[self.index]
+        if self.form == "label":
+            label = self.tokens[self.index + 2]
+            for it in self.labels():
+                yield Try((label.at, label.end, it), f"write `{it}` in place of `{label.text}`")
+        if self.form == "case":
+            yield from self.branches()
+        if self.form == "close" and self.tokens[self.index - 1].text != "=":
+            call = self.call_again()
+            yield Try((token.at, token.end, call), f"write `{call}` in place of `close`")
+
+    def call_again(self):
+        """Gives the call by which the process goes on as what it is, with the parameters under their names."""
+        name, values, channels = self.tokens[self.head + 2].text, [], []
+        for at in range(self.head, self.index):
+            rule = self.names.key(at)
+            if rule in (("vpar", 0), ("par", 0)):
+                values.append(self.tokens[at].text)
+            elif rule == ("cpar", 0):
+                channels.append(self.tokens[at].text)
+        return f"call {name}({', '.join(values)}; {', '.join(channels)})".replace("; )", ";)")
+
+    def branches(self):
+        """Gives further branches of a case, one or two, each of which closes."""
+        opening = self.index + 2
+        depth, has, close = 0, [], None
+        for at in range(opening, len(self.tokens)):
+            depth += (self.tokens[at].text == "{") - (self.tokens[at].text == "}")
+            if self.names.key(at) == ("branch", 0) and depth == 1:
+                has.append(self.tokens[at].text)
+            if depth == 0:
+                close = self.tokens[at].at
+                break
+        lacking = [it for it in self.labels() if it not in has]
+        sets = [[it] for it in lacking] + [[it, other] for at, it in enumerate(lacking) for other in lacking[at + 1 :]]
+        for labels in sets:
+            new = "".join(f" | {it} => close" for it in labels)
+            words = " and ".join(f"`{it} => ..`" for it in labels)
+            yield Try((close, close, new), f"write a branch {words} too")
+
+    def taken_out(self):
+        """Gives the text without the stuck instruction, where the one behind it is not stuck then."""
+        end = self.end()
+        if self.form in TAKEN_OUT and end is not None:
+            it = Try((self.at, end + 1, ""), "take it out")
+            reached = self.reach(it)
+            if reached is not None and reached > self.tokens[self.text.index_at(end) + 1].at:
+                yield reached, it
+
+    def find(self):
+        """Gives what lets the check go on past the stuck instruction, the furthest ones, three at most."""
+        asked = ((self.reach(it), it) for it in self.others())
+        found = [(reached, it) for reached, it in asked if reached is not None and reached > self.at]
+        if not found or self.form == "close":
+            found = [*itertools.islice(self.instructions(), 3), *found]
+        found = found or list(self.taken_out())
+        furthest = max((reached for reached, _ in found), default=0)
+        return list(dict.fromkeys(it.mend for reached, it in found if reached == furthest))[:3]
+
+    def declaration(self):
+        """Gives the place and the head of the process that a spawn or a call names."""
+        at = next((at for at in range(self.index, len(self.tokens)) if self.names.used(at) == "process"), None)
+        name = self.tokens[at].text
+        for place, kind in self.names.places(name):
+            if kind == "process":
+                start = self.tokens[place - 2].at
+                end = next(it.at for it in self.tokens[place:] if it.text == "=")
+                head = " ".join(self.text.text[start:end].split())
+                return [f"see: `{name}` is declared at {self.text.place(self.tokens[place].at)}, as {head[:200]}"]
+        return []
+
+
+def explained(text, answer, program, grammar):
+    """Gives lines on what to do where an instruction is stuck."""
+    names = Names(text, grammar)
+    if names.leaves is None or text.size > LONGEST:
+        return []
+    stuck = Stuck(text, answer, program, names)
+    lines = [f"mend: {it}" for it in stuck.find()]
+    return [*lines, *(stuck.declaration() if stuck.form in ("spawn", "call") else [])]
