@@ -103,6 +103,8 @@ class Mends:
         for kinds in LEVELS:
             opened = [it for it in self.all if it.kind in kinds]
             if self.stars + len(opened) > STARS:
+                opened = [it for it in opened if not it.is_missing]
+            if self.stars + len(opened) > STARS:
                 return None
             if opened and self.accepts(dict.fromkeys(opened, "*")):
                 return self.settled(opened)
@@ -163,12 +165,13 @@ def mend(amount, value):
 
 
 def explained(text, program):
-    """Gives the row that fits a text whose amounts do not do, and places with what to write there."""
+    """Gives the row that fits a text whose amounts do not do, and places with a line on what to write there."""
     mends = Mends(text, program)
     values = mends.find()
     if values is None:
-        return "NoPotential many", []
+        return "NoPotential", []
     if values:
-        return "NoPotential amount", [(it.at, mend(it, values[it])) for it in sorted(values, key=lambda it: it.at)]
-    works = [(it.at, f"nothing brings the {it.value} that are spent here") for it in mends.unpaid()]
+        places = sorted(values, key=lambda it: it.at)
+        return "NoPotential amount", [(it.at, f"mend: {mend(it, values[it])}") for it in places]
+    works = [(it.at, f"see: {it.value} spent here, and nothing brings it") for it in mends.unpaid()]
     return "NoPotential none", works

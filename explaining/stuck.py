@@ -5,11 +5,11 @@ from typing import NamedTuple
 from .names import Names, unused
 from .syntax import distance
 
-# How often the program is asked at most, how many instructions are put before a stuck one, and how long a text is.
-ASKED = 100
+# How often the program is asked at most, how many instructions are put before a stuck one, and how long a
+# text is for which all that is done.
+ASKED = 200
 DEEP = 3
 LONGEST = 65_536
-LINEAR = ("recv", "acquire", "spawn")
 TAKEN_OUT = ("label", "put", "take", "recv", "pay", "get", "wait", "accept", "detach", "work")
 
 
@@ -62,39 +62,38 @@ class Stuck:
         written = self.tokens[self.index + 2].text if self.form == "label" else ""
         return sorted(dict.fromkeys(found), key=lambda it: distance(it, written) if written else 0)[:12]
 
-    def put_before(self, before):
-        """Gives the instructions that may be put before the stuck one, behind those that are put there already."""
-        new = f"{self.new}{'x' * before.count(';')}"
-        channels = self.channels()
-        for it in channels[1:]:
-            yield f"wait {it};", f"wait {it};"
+    def put_before(self, new, only):
+        """Gives the instructions on a channel, or on each where none is named, that may be put before the stuck one: the
+        channel, the code, in which a name that is bound is new, and how that is said."""
+        channels = [only] if only else self.channels()
         for it in channels:
+            if it != "self":
+                yield it, f"wait {it};", f"wait {it};"
             for label in self.labels():
-                yield f"{it}.{label};", f"{it}.{label};"
+                yield it, f"{it}.{label};", f"{it}.{label};"
         for it in channels:
             for word in ("pay", "get"):
-                yield f"{word} {it} {{*}};", f"{word} {it} {{..}};"
-            for word, name in (("take", "a new name"), ("recv", "a new name")):
-                yield f"{word} {it} {new};", f"{word} {it} ..;"
+                yield it, f"{word} {it} {{*}};", f"{word} {it} {{..}};"
+            for word in ("take", "recv"):
+                yield it, f"{word} {it} {new};", f"{word} {it} ..;"
             for term in ("0", "true"):
-                yield f"put {it} {term};", f"put {it} ..;"
-        yield from (("accept;", "accept;"), ("detach;", "detach;"))
-        for it in channels[1:]:
-            yield f"release {it} as {new};", f"release {it} as ..;"
-            yield f"acquire {it} as {new};", f"acquire {it} as ..;"
-        for it in channels:
-            for other in channels[1:]:
+                yield it, f"put {it} {term};", f"put {it} ..;"
+            for word in ("release", "acquire") if it != "self" else ():
+                yield it, f"{word} {it} as {new};", f"{word} {it} as ..;"
+            for other in self.channels()[1:]:
                 if it != other:
-                    yield f"send {it} {other};", f"send {it} {other};"
+                    yield it, f"send {it} {other};", f"send {it} {other};"
+        for word in ("accept", "detach") if "self" in channels else ():
+            yield "self", f"{word};", f"{word};"
 
     def instructions(self):
-        """Goes through rows of instructions put before the stuck one, short ones first, and gives those with which the
-        check goes on past it."""
-        waiting = [("", "")]
-        for _ in range(DEEP):
+        """Goes through rows of instructions on one channel put before the stuck one, short ones first, and gives those
+        with which the check goes on past it."""
+        waiting = [(None, "", "")]
+        for depth in range(DEEP):
             further = []
-            for code, said in waiting:
-                for more, words in self.put_before(code):
+            for only, code, said in waiting:
+                for channel, more, words in self.put_before(self.new + "x" * depth, only):
                     edit = f"{code}{more} "
                     it = Try((self.at, self.at, edit), f"write `{said}{words}` before it")
                     reached = self.reach(it)
@@ -102,8 +101,8 @@ class Stuck:
                         return
                     if reached > self.at:
                         yield reached, it
-                    elif reached == self.at and not words.startswith(("acquire", "accept")):
-                        further.append((edit, f"{said}{words} "))
+                    elif reached == self.at:
+                        further.append((channel, edit, f"{said}{words} "))
             waiting = further
 
     def end(self):
