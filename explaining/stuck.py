@@ -10,6 +10,8 @@ from .syntax import distance
 ASKED = 200
 DEEP = 3
 LONGEST = 65_536
+# The leaves as which a channel is passed on or ended: by send, wait and release, and as an argument.
+ENDING = (("step", 1), ("step", 4), ("step", 7), ("args", 0), ("args", 1))
 TAKEN_OUT = ("label", "put", "take", "recv", "pay", "get", "wait", "accept", "detach", "work")
 
 
@@ -123,6 +125,10 @@ class Stuck:
                 yield Try((label.at, label.end, it), f"write `{it}` in place of `{label.text}`")
         if self.form == "case":
             yield from self.branches()
+        if self.form == "send":
+            via, sent = self.tokens[self.index + 1 : self.index + 3]
+            it = f"{sent.text} {via.text}"
+            yield Try((via.at, sent.end, it), f"write `send {it}` in place of `send {via.text} {sent.text}`")
         if self.form == "close" and self.tokens[self.index - 1].text != "=":
             call = self.call_again()
             yield Try((token.at, token.end, call), f"write `{call}` in place of `close`")
@@ -188,6 +194,25 @@ class Stuck:
         return []
 
 
+    def given_away(self):
+        """Gives where a channel of this instruction was passed on or ended on the way here."""
+        end = self.end() or self.tokens[self.index].end
+        lines = []
+        for at in range(self.index, self.text.index_at(end)):
+            name = self.tokens[at].text
+            uses = [
+                before
+                for before in range(self.head, self.index)
+                if self.tokens[before].text == name
+                and self.names.used(at) == "channel"
+                and self.names.key(before) in ENDING
+                and self.names.leads(before, self.index)
+            ]
+            if uses:
+                lines.append(f"see: `{name}` was passed on or ended at {self.text.place(self.tokens[uses[-1]].at)}")
+        return list(dict.fromkeys(lines))
+
+
 def explained(text, answer, program, grammar):
     """Gives lines on what to do where an instruction is stuck."""
     names = Names(text, grammar)
@@ -195,4 +220,6 @@ def explained(text, answer, program, grammar):
         return []
     stuck = Stuck(text, answer, program, names)
     lines = [f"mend: {it}" for it in stuck.find()]
+    if not lines:
+        lines = stuck.given_away()
     return [*lines, *(stuck.declaration() if stuck.form in ("spawn", "call") else [])]

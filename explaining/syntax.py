@@ -87,7 +87,7 @@ class Slips:
         """Gives the first slip whose edit lets the text be read further."""
         if not self.is_sure:
             return None
-        for slip in [*self.of_symbols(), *self.of_words(), *self.of_places()]:
+        for slip in [*self.of_symbols(), *self.of_words(), *self.of_places(), *self.of_heads()]:
             if self.goes_on(slip, 1):
                 return slip
         found = [it for it in self.of_any() if self.goes_on(it, 6) or self.ends_declaration(it)]
@@ -155,6 +155,27 @@ class Slips:
             yield Slip("Syntax value", f"write `{before.text} /\\ 1`, or what else is meant", (mark.at, mark.at, " /\\ 1 "))
         if "proc" in self.wanted and self.index and self.begins_instruction():
             yield Slip("Syntax behind", "", (mark.at, mark.at, "proc T x(;) = "))
+
+    def of_heads(self):
+        """Slips at the head of a declaration, and in the two ways to make a process."""
+        mark, before, first, third = self.marked, self.token(-1), self.token(-2).text, self.token(-3)
+        if third.text == "proc" and self.wanted == {"("}:
+            mend = f"write `(;)` behind `{before.text}`, where its parameters go, values before the `;`"
+            yield Slip("Syntax", mend, (before.end, before.end, "(;)"))
+        if before.text in ("proc", "type") and mark.kind == "word":
+            modes = ", ".join(f"`{it}`" for it in sorted(self.wanted))
+            yield Slip("Syntax", f"write a mode before `{mark.text}`, one of {modes}", (mark.at, mark.at, "R "))
+        equal = next((it for it in self.tokens[self.index :] if it.text == "="), None)
+        if mark.text == ":" and equal and {"=", "{"} & self.wanted and self.tokens[1].text == "T":
+            offered = self.text.text[mark.at : equal.at].strip()
+            mend = f"take `{offered}` out, since a transaction offers nothing"
+            yield Slip("Syntax", mend, (mark.at, equal.at, ""))
+        if mark.text == "spawn" and third.text == "let" and before.text == "=":
+            mend = f"write `spawn {first} =` in place of `let {first} = spawn`"
+            yield Slip("Syntax", mend, (third.at, mark.end, f"spawn {first} ="))
+        if mark.text == "(" and before.kind == "word" and self.wanted == {"."}:
+            mend = f"write `spawn .. =` before `{before.text}`, with a new name for its channel"
+            yield Slip("Syntax", mend, (before.at, before.at, "spawn x = "))
 
     def begins_instruction(self):
         word = self.marked.text
