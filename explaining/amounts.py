@@ -83,7 +83,7 @@ class Mends:
         return self.program.check(self.text.edited(*(it.edit(new) for it, new in values.items()))).is_accepted
 
     def found(self, values):
-        """Gives what is found for amounts that are left open, each a number of units or a * where it is no whole one."""
+        """Gives what is found for amounts that are left open, a number of units or a * where it is no whole one."""
         answer = self.program.least(self.text.edited(*(it.edit(new) for it, new in values.items())))
         stars = [it[3] for it in answer.lines if it[:1] == ["star"]]
         places = sorted([*values, *self.open_places()], key=lambda it: it if isinstance(it, int) else it.at)

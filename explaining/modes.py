@@ -1,4 +1,4 @@
-"""What to do with a type that may not stand at its place: another word before it, or another mode of its declaration."""
+"""What to do with a type that may not stand at its place: a word before it, or another mode of its declaration."""
 HEADS = ("type", "fn", "proc")
 
 
@@ -14,9 +14,10 @@ def tries(text, at):
     head = next((it for it in range(at, -1, -1) if text.tokens[it].text in HEADS), None)
     if head is not None and text.tokens[head].text != "fn":
         mode = text.tokens[head + 1]
+        behind = f"in place of `{mode.text}` at {text.place(mode.at)}"
         for letter in "RSLT":
             if letter != mode.text:
-                yield (mode.at, mode.end, letter), f"write `{letter}` in place of `{mode.text}` at {text.place(mode.at)}"
+                yield (mode.at, mode.end, letter), f"write `{letter}` {behind}"
 
 
 def explained(text, answer, program):

@@ -51,15 +51,13 @@ class Names:
 
     def leads(self, start, end):
         """Whether the way from one token to another leaves no branch and no declaration that the first one is in."""
-        depth = 0
+        depth, in_braces = 0, self.opening(start) is not None
         for it in self.tokens[start + 1 : end]:
             depth += (it.text == "{") - (it.text == "}")
-            if depth < 0 or it.text in ("type", "fn", "proc") or it.text == "|" and depth == 0 and self.in_braces(start):
+            is_left = depth < 0 or it.text == "|" and depth == 0 and in_braces
+            if is_left or it.text in ("type", "fn", "proc"):
                 return False
         return True
-
-    def in_braces(self, at):
-        return self.opening(at) is not None
 
     def opening(self, at):
         """Gives the number of the { that is open at a token of its declaration, if one is."""

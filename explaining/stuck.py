@@ -33,9 +33,8 @@ class Stuck:
         self.head = heads[-1]
 
     def reach(self, it):
-        """Gives the offset up to which the program is content with the instructions of the text with an edit, or one past
-        its end; less than the offset here where the edit does not do; and none where the program is not asked any more.
-        """
+        """Gives the offset up to which the program is content with the instructions of the text with an edit, or one
+        past its end; less than the offset here where the edit does not do; none where it is not asked any more."""
         if self.asked >= ASKED:
             return None
         self.asked += 1
@@ -50,7 +49,7 @@ class Stuck:
         return after.offset - (len(new) - (end - start) if start < after.offset else 0)
 
     def channels(self):
-        """Gives the channels that are bound on the way here, those of shared contracts among them, the last ones first."""
+        """Gives the channels that are bound on the way here, shared contracts among them, the last ones first."""
         found = [
             self.tokens[at].text
             for at in range(self.head, self.index)
@@ -65,8 +64,8 @@ class Stuck:
         return sorted(dict.fromkeys(found), key=lambda it: distance(it, written) if written else 0)[:12]
 
     def put_before(self, new, only):
-        """Gives the instructions on a channel, or on each where none is named, that may be put before the stuck one: the
-        channel, the code, in which a name that is bound is new, and how that is said."""
+        """Gives the instructions on a channel, or on each where none is named, that may be put before the stuck one:
+        the channel, the code, in which a name that is bound is new, and how that is said."""
         channels = [only] if only else self.channels()
         for it in channels:
             if it != "self":

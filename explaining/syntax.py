@@ -8,6 +8,9 @@ LETTERS = re.compile(r"[A-Za-z_0-9]")
 PARTED = {"==": "=", "&&": " and ", "||": " or ", "!=": "=", "<=": "<", ">=": "<"}
 LASTS = ("close", "fwd", "call", "if", "case", "match")
 KINDS = ("int", "bool", "list")
+# How many tokens are looked at: of the declaration before the offence, and behind it.
+BEFORE = 5_000
+BEHIND = 400
 
 
 class Slip(NamedTuple):
@@ -49,8 +52,10 @@ class Slips:
         self.start = text.tokens[heads[-1]].at if heads else 0
         self.tokens = text.tokens[heads[-1] if heads else 0 :]
         self.index = marked - (heads[-1] if heads else 0)
-        count, self.ways = grammar.read(self.tokens)
+        count, self.ways = grammar.read(self.tokens[: self.index + 1]) if self.index < BEFORE else (-1, [])
         self.is_sure = count == self.index
+        self.tokens = self.tokens[: self.index + BEHIND]
+        self.end = self.tokens[-1].end if self.index + BEHIND == len(self.tokens) else text.size
         self.wanted = grammar.wanted(self.ways) if self.is_sure else set()
         self.marked = self.token(0)
 
@@ -62,13 +67,14 @@ class Slips:
     def reach(self, edit):
         """Gives the offset up to which the text is read with an edit, or one past its end where all of it is."""
         start, end, new = edit
-        edited = self.text.text[self.start : start] + new + self.text.text[end:]
+        edited = self.text.text[self.start : start] + new + self.text.text[end : self.end]
         tokens = tokens_of(edited)
         count, ways = self.grammar.read(tokens)
         moved = len(new) - (end - start)
         if count < len(tokens):
             return max(self.start + tokens[count].at - moved, start)
-        return self.text.size + 1 if any(not it.rest or self.may_end(it.rest) for it in ways) else self.text.size
+        is_whole = self.end < self.text.size or any(not it.rest or self.may_end(it.rest) for it in ways)
+        return self.text.size + 1 if is_whole else self.text.size
 
     def may_end(self, rest):
         while rest:
@@ -131,8 +137,11 @@ class Slips:
         for token in (self.marked, self.token(-1)):
             if token.kind != "word":
                 continue
-            near = [it for it in self.grammar.reserved if token.text not in self.grammar.reserved or it in self.wanted]
-            for word in sorted(filter(lambda it: is_near(token.text, it), near), key=lambda it: distance(token.text, it)):
+            reserved = self.grammar.reserved
+            if token.text in reserved:
+                reserved = reserved & self.wanted
+            near = [it for it in sorted(reserved) if is_near(token.text, it)]
+            for word in sorted(near, key=lambda it: distance(token.text, it)):
                 row = "Syntax case" if word.lower() == token.text.lower() else "Syntax spelling"
                 mend = f"write `{word}` in place of `{token.text}` at {self.text.place(token.at)}"
                 yield Slip(row, mend, (token.at, token.end, word))
@@ -152,7 +161,8 @@ class Slips:
                     row = "Syntax label" if sign != "=" else "Syntax"
                     yield Slip(row, f"write `{sign}` in place of `{mark.text}`", (mark.at, mark.end, sign))
         if "/\\" in self.wanted and "->" in self.wanted and before.text in KINDS:
-            yield Slip("Syntax value", f"write `{before.text} /\\ 1`, or what else is meant", (mark.at, mark.at, " /\\ 1 "))
+            mend = f"write `{before.text} /\\ 1`, or what else is meant"
+            yield Slip("Syntax value", mend, (mark.at, mark.at, " /\\ 1 "))
         if "proc" in self.wanted and self.index and self.begins_instruction():
             yield Slip("Syntax behind", "", (mark.at, mark.at, "proc T x(;) = "))
 
