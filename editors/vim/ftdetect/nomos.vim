@@ -1,0 +1,2 @@
+" Files of contracts.
+autocmd BufNewFile,BufRead *.nomos setfiletype nomos

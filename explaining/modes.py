@@ -1,0 +1,30 @@
+"""What to do with a type that may not stand at its place: a word before it, or another mode of its declaration."""
+HEADS = ("type", "fn", "proc")
+
+
+def tries(text, at):
+    """Gives edits, each with what it is in words."""
+    token = text.tokens[at]
+    if token.kind == "word" or token.text in "&+1":
+        for word in ("down", "up"):
+            yield (token.at, token.at, f"{word} "), f"write `{word}` before `{token.text}`"
+        before = text.tokens[at - 1]
+        if before.text in ("down", "up"):
+            yield (before.at, token.at, ""), f"take `{before.text}` out"
+    head = next((it for it in range(at, -1, -1) if text.tokens[it].text in HEADS), None)
+    if head is not None and text.tokens[head].text != "fn":
+        mode = text.tokens[head + 1]
+        behind = f"in place of `{mode.text}` at {text.place(mode.at)}"
+        for letter in "RSLT":
+            if letter != mode.text:
+                yield (mode.at, mode.end, letter), f"write `{letter}` {behind}"
+
+
+def explained(text, answer, program):
+    """Gives lines on what to do: what makes the program accept the contract, or else nothing."""
+    found = []
+    for edit, mend in tries(text, text.index_at(answer.offset)):
+        after = program.check(text.edited(edit))
+        if after.is_accepted or after.is_cause("NoPotential"):
+            found.append(f"mend: {mend}")
+    return found[:3]

@@ -1,0 +1,145 @@
+"""What is wrong with a name that breaks a rule of "Names" in docs/LANGUAGE.md."""
+from .syntax import distance, is_near
+
+# What a leaf NAME of the grammar is, by its rule and by which NAME of that rule it is.
+DECLARED = {
+    "definition": (("decl", 0),),
+    "function": (("decl", 1),),
+    "process": (("decl", 2), ("decl", 3)),
+    "value": (("vpar", 0), ("step", 3), ("step", 11), ("last", 3), ("term", 0), ("term", 1)),
+    "list": (("par", 0), ("last", 4)),
+    "channel": (("cpar", 0), ("step", 2), ("step", 6), ("step", 8), ("step", 9)),
+    "label": (("lab", 0), ("branch", 0)),
+}
+USED = {
+    "definition": (("atom", 0),),
+    "process": (("step", 10), ("last", 1)),
+    "list": (("bound", 0), ("last", 2)),
+    "value": (("prim", 0),),
+    "channel": (("chan", 0), ("args", 0), ("args", 1), ("step", 1), ("step", 4), ("step", 5), ("step", 7), ("last", 0)),
+}
+SPACES = ("definition", "function", "process")
+SHOWN = {"list": "a list that carries potential"}
+MOST_TOKENS = 20_000
+
+
+def said(kind):
+    return SHOWN.get(kind, f"a {kind}")
+
+
+class Names:
+    """The names of a text that the grammar reads, with the leaves that its tokens are read as."""
+
+    def __init__(self, text, grammar):
+        self.text, self.tokens = text, text.tokens
+        self.leaves = grammar.leaves(text.tokens) if len(text.tokens) <= MOST_TOKENS else None
+
+    def key(self, at):
+        return (self.leaves[at].rule, self.leaves[at].number) if self.leaves[at].text == "NAME" else None
+
+    def declared(self, at):
+        """Gives as what a token declares or binds its name, if it does."""
+        kind = next((kind for kind, keys in DECLARED.items() if self.key(at) in keys), None)
+        made_by_list = self.key(at) == ("step", 11) and self.tokens[at + 2].text == "list"
+        return "list" if made_by_list else kind
+
+    def used(self, at):
+        """Gives as what a token uses its name, if it does."""
+        if self.key(at) == ("prim", 0) and self.tokens[at + 1 : at + 2] and self.tokens[at + 1].text == "(":
+            return "function"
+        return next((kind for kind, keys in USED.items() if self.key(at) in keys), None)
+
+    def leads(self, start, end):
+        """Whether the way from one token to another leaves no branch and no declaration that the first one is in."""
+        depth, in_braces = 0, self.opening(start) is not None
+        for it in self.tokens[start + 1 : end]:
+            depth += (it.text == "{") - (it.text == "}")
+            is_left = depth < 0 or it.text == "|" and depth == 0 and in_braces
+            if is_left or it.text in ("type", "fn", "proc"):
+                return False
+        return True
+
+    def opening(self, at):
+        """Gives the number of the { that is open at a token of its declaration, if one is."""
+        depth = 0
+        for before in range(at - 1, -1, -1):
+            text = self.tokens[before].text
+            if text in ("type", "fn", "proc"):
+                return None
+            depth += (text == "}") - (text == "{")
+            if depth < 0:
+                return before
+        return None
+
+    def places(self, name):
+        """Gives where a name is declared or bound, with as what."""
+        here = [at for at, it in enumerate(self.tokens) if it.text == name]
+        return [(at, self.declared(at)) for at in here if self.declared(at)]
+
+    def known_before(self, at):
+        """Gives the token by which the name that this one declares is known already, if it is found."""
+        kind = self.declared(at)
+        for before, other in reversed(self.places(self.tokens[at].text)):
+            if before >= at:
+                continue
+            if kind == "label":
+                fits = other == kind and self.opening(before) == self.opening(at)
+            elif kind in SPACES:
+                fits = other == kind
+            else:
+                fits = other not in (*SPACES, "label") and self.leads(before, at)
+            if fits:
+                return before
+        return None
+
+    def known_otherwise(self, at):
+        """Gives the token that declares or binds the name of this one, and does not count here, with as what."""
+        found = [it for it in self.places(self.tokens[at].text) if it[1] != "label"]
+        near = [it for it in found if it[0] < at and self.leads(it[0], at)]
+        return near[-1] if near else found[0] if found else None
+
+    def near(self, at):
+        """Gives the names that are used like this one's, and spelt nearly so, the nearest first."""
+        kinds = {self.used(at), "list"} if self.used(at) == "value" else {self.used(at)}
+        name = self.tokens[at].text
+        known = {it.text for place, it in enumerate(self.tokens) if self.declared(place) in kinds}
+        return sorted((it for it in known if is_near(name, it)), key=lambda it: (distance(name, it), it))
+
+
+def unused(text):
+    """Gives a name that does not stand in a text."""
+    taken = {it.text for it in text.tokens}
+    return next(it for it in (f"n{number}" for number in range(len(taken) + 1)) if it not in taken)
+
+
+def explained(text, answer, program, grammar):
+    """Gives the row that fits a text with such a name, and lines on what to do."""
+    at = text.index_at(answer.offset)
+    token = text.tokens[at]
+    if token.text == "me":
+        return "Name me", []
+
+    def moves_on(name):
+        after = program.check(text.edited((token.at, token.end, name)))
+        return not after.is_cause("Name") or after.offset > answer.offset
+
+    is_new = moves_on(unused(text))
+    names = Names(text, grammar)
+    if names.leaves is None:
+        return "Name", []
+    if is_new:
+        before = names.known_before(at)
+        see = [] if before is None else [f"see: `{token.text}` is known since {text.place(text.tokens[before].at)}"]
+        return "Name twice", [f"mend: take another name than `{token.text}`", *see]
+    wanted, other = names.used(at), names.known_otherwise(at)
+    if wanted is None:
+        return "Name", []
+    if other:
+        place, kind = text.place(text.tokens[other[0]].at), other[1]
+        if kind == wanted:
+            return "Name scope", [f"see: `{token.text}` is bound at {place}"]
+        return "Name other", [f"see: `{token.text}` is {said(kind)}, by {place}, and {said(wanted)} is wanted here"]
+    for name in names.near(at):
+        if moves_on(name):
+            return "Name near", [f"mend: did you mean `{name}`?"]
+    return "Name unknown", [f"see: {said(wanted)} is wanted here, and none has the name `{token.text}`"]

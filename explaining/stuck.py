@@ -1,0 +1,224 @@
+"""What to do where an instruction is stuck: other instructions before it or in its place are tried on the program."""
+import itertools
+from typing import NamedTuple
+
+from .names import Names, unused
+from .syntax import distance
+
+# How often the program is asked at most, how many instructions are put before a stuck one, and how long a
+# text is for which all that is done.
+ASKED = 200
+DEEP = 3
+LONGEST = 65_536
+# The leaves as which a channel is passed on or ended: by send, wait and release, and as an argument.
+ENDING = (("step", 1), ("step", 4), ("step", 7), ("args", 0), ("args", 1))
+TAKEN_OUT = ("label", "put", "take", "recv", "pay", "get", "wait", "accept", "detach", "work")
+
+
+class Try(NamedTuple):
+    """An edit, and what it is in words."""
+
+    edit: tuple
+    mend: str
+
+
+class Stuck:
+    def __init__(self, text, answer, program, names):
+        self.text, self.program, self.names, self.form = text, program, names, answer.words[3]
+        self.tokens, self.at = text.tokens, answer.offset
+        self.index = text.index_at(self.at)
+        self.asked = 0
+        self.new = unused(text)
+        heads = [at for at in range(self.index) if self.tokens[at].text in ("proc", "fn", "type")]
+        self.head = heads[-1]
+
+    def reach(self, it):
+        """Gives the offset up to which the program is content with the instructions of the text with an edit, or one
+        past its end; less than the offset here where the edit does not do; none where it is not asked any more."""
+        if self.asked >= ASKED:
+            return None
+        self.asked += 1
+        after = self.program.check(self.text.edited(it.edit))
+        if after.is_accepted or after.is_cause("NoPotential") or after.words[:1] == ["unsolved"]:
+            return self.text.size + 1
+        if not after.is_cause("ProcType") and not after.is_cause("TermType"):
+            return -1
+        start, end, new = it.edit
+        if start == self.at and after.offset < start + len(new):
+            return -1
+        return after.offset - (len(new) - (end - start) if start < after.offset else 0)
+
+    def channels(self):
+        """Gives the channels that are bound on the way here, shared contracts among them, the last ones first."""
+        found = [
+            self.tokens[at].text
+            for at in range(self.head, self.index)
+            if self.names.declared(at) == "channel" and self.names.leads(at, self.index)
+        ]
+        return ["self", *dict.fromkeys(found[::-1])]
+
+    def labels(self):
+        """Gives the labels of types, the nearest to the one that is written first, if one is."""
+        found = [it.text for at, it in enumerate(self.tokens) if self.names.key(at) == ("lab", 0)]
+        written = self.tokens[self.index + 2].text if self.form == "label" else ""
+        return sorted(dict.fromkeys(found), key=lambda it: distance(it, written) if written else 0)[:12]
+
+    def put_before(self, new, only):
+        """Gives the instructions on a channel, or on each where none is named, that may be put before the stuck one:
+        the channel, the code, in which a name that is bound is new, and how that is said."""
+        channels = [only] if only else self.channels()
+        for it in channels:
+            if it != "self":
+                yield it, f"wait {it};", f"wait {it};"
+            for label in self.labels():
+                yield it, f"{it}.{label};", f"{it}.{label};"
+        for it in channels:
+            for word in ("pay", "get"):
+                yield it, f"{word} {it} {{*}};", f"{word} {it} {{..}};"
+            for word in ("take", "recv"):
+                yield it, f"{word} {it} {new};", f"{word} {it} ..;"
+            for term in ("0", "true"):
+                yield it, f"put {it} {term};", f"put {it} ..;"
+            for word in ("release", "acquire") if it != "self" else ():
+                yield it, f"{word} {it} as {new};", f"{word} {it} as ..;"
+            for other in self.channels()[1:]:
+                if it != other:
+                    yield it, f"send {it} {other};", f"send {it} {other};"
+        for word in ("accept", "detach") if "self" in channels else ():
+            yield "self", f"{word};", f"{word};"
+
+    def instructions(self):
+        """Goes through rows of instructions on one channel put before the stuck one, short ones first, and gives those
+        with which the check goes on past it."""
+        waiting = [(None, "", "")]
+        for depth in range(DEEP):
+            further = []
+            for only, code, said in waiting:
+                for channel, more, words in self.put_before(self.new + "x" * depth, only):
+                    edit = f"{code}{more} "
+                    it = Try((self.at, self.at, edit), f"write `{said}{words}` before it")
+                    reached = self.reach(it)
+                    if reached is None:
+                        return
+                    if reached > self.at:
+                        yield reached, it
+                    elif reached == self.at:
+                        further.append((channel, edit, f"{said}{words} "))
+            waiting = further
+
+    def end(self):
+        """Gives where the stuck instruction ends, if it is one that others follow: before its ;"""
+        depth = 0
+        for it in self.tokens[self.index :]:
+            if it.text == ";" and depth == 0:
+                return it.at
+            depth += (it.text in "({") - (it.text in ")}")
+        return None
+
+    def others(self):
+        """Gives what may stand in the place of the stuck instruction."""
+        token = self.tokens[self.index]
+        if self.form == "label":
+            label = self.tokens[self.index + 2]
+            for it in self.labels():
+                yield Try((label.at, label.end, it), f"write `{it}` in place of `{label.text}`")
+        if self.form == "case":
+            yield from self.branches()
+        if self.form == "send":
+            via, sent = self.tokens[self.index + 1 : self.index + 3]
+            it = f"{sent.text} {via.text}"
+            yield Try((via.at, sent.end, it), f"write `send {it}` in place of `send {via.text} {sent.text}`")
+        if self.form == "close" and self.tokens[self.index - 1].text != "=":
+            call = self.call_again()
+            yield Try((token.at, token.end, call), f"write `{call}` in place of `close`")
+
+    def call_again(self):
+        """Gives the call by which the process goes on as what it is, with the parameters under their names."""
+        name, values, channels = self.tokens[self.head + 2].text, [], []
+        for at in range(self.head, self.index):
+            rule = self.names.key(at)
+            if rule in (("vpar", 0), ("par", 0)):
+                values.append(self.tokens[at].text)
+            elif rule == ("cpar", 0):
+                channels.append(self.tokens[at].text)
+        return f"call {name}({', '.join(values)}; {', '.join(channels)})".replace("; )", ";)")
+
+    def branches(self):
+        """Gives further branches of a case, one or two, each of which closes."""
+        opening = self.index + 2
+        depth, has, close = 0, [], None
+        for at in range(opening, len(self.tokens)):
+            depth += (self.tokens[at].text == "{") - (self.tokens[at].text == "}")
+            if self.names.key(at) == ("branch", 0) and depth == 1:
+                has.append(self.tokens[at].text)
+            if depth == 0:
+                close = self.tokens[at].at
+                break
+        lacking = [it for it in self.labels() if it not in has]
+        sets = [[it] for it in lacking] + [[it, other] for at, it in enumerate(lacking) for other in lacking[at + 1 :]]
+        for labels in sets:
+            new = "".join(f" | {it} => close" for it in labels)
+            words = " and ".join(f"`{it} => ..`" for it in labels)
+            yield Try((close, close, new), f"write a branch {words} too")
+
+    def taken_out(self):
+        """Gives the text without the stuck instruction, where the one behind it is not stuck then."""
+        end = self.end()
+        if self.form in TAKEN_OUT and end is not None:
+            it = Try((self.at, end + 1, ""), "take it out")
+            reached = self.reach(it)
+            if reached is not None and reached > self.tokens[self.text.index_at(end) + 1].at:
+                yield reached, it
+
+    def find(self):
+        """Gives what lets the check go on past the stuck instruction, the furthest ones, three at most."""
+        asked = ((self.reach(it), it) for it in self.others())
+        found = [(reached, it) for reached, it in asked if reached is not None and reached > self.at]
+        if not found or self.form == "close":
+            found = [*itertools.islice(self.instructions(), 3), *found]
+        found = found or list(self.taken_out())
+        furthest = max((reached for reached, _ in found), default=0)
+        return list(dict.fromkeys(it.mend for reached, it in found if reached == furthest))[:3]
+
+    def declaration(self):
+        """Gives the place and the head of the process that a spawn or a call names."""
+        at = next((at for at in range(self.index, len(self.tokens)) if self.names.used(at) == "process"), None)
+        name = self.tokens[at].text
+        for place, kind in self.names.places(name):
+            if kind == "process":
+                start = self.tokens[place - 2].at
+                end = next(it.at for it in self.tokens[place:] if it.text == "=")
+                head = " ".join(self.text.text[start:end].split())
+                return [f"see: `{name}` is declared at {self.text.place(self.tokens[place].at)}, as {head[:200]}"]
+        return []
+
+
+    def given_away(self):
+        """Gives where a channel of this instruction was passed on or ended on the way here."""
+        end = self.end() or self.tokens[self.index].end
+        lines = []
+        for at in range(self.index, self.text.index_at(end)):
+            name = self.tokens[at].text
+            uses = [
+                before
+                for before in range(self.head, self.index)
+                if self.tokens[before].text == name
+                and self.names.used(at) == "channel"
+                and self.names.key(before) in ENDING
+                and self.names.leads(before, self.index)
+            ]
+            if uses:
+                lines.append(f"see: `{name}` was passed on or ended at {self.text.place(self.tokens[uses[-1]].at)}")
+        return list(dict.fromkeys(lines))
+
+
+def explained(text, answer, program, grammar):
+    """Gives lines on what to do where an instruction is stuck."""
+    names = Names(text, grammar)
+    if names.leaves is None or text.size > LONGEST:
+        return []
+    stuck = Stuck(text, answer, program, names)
+    lines = [f"mend: {it}" for it in stuck.find()]
+    if not lines:
+        lines = stuck.given_away()
+    return [*lines, *(stuck.declaration() if stuck.form in ("spawn", "call") else [])]

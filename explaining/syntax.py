@@ -1,0 +1,225 @@
+"""What is wrong where no contract goes on: the slip that was made, and an edit with which the text is read further."""
+import re
+from typing import NamedTuple
+
+from .texts import Token, tokens_of
+
+LETTERS = re.compile(r"[A-Za-z_0-9]")
+PARTED = {"==": "=", "&&": " and ", "||": " or ", "!=": "=", "<=": "<", ">=": "<"}
+LASTS = ("close", "fwd", "call", "if", "case", "match")
+KINDS = ("int", "bool", "list")
+# How many tokens are looked at: of the declaration before the offence, and behind it.
+BEFORE = 5_000
+BEHIND = 400
+
+
+class Slip(NamedTuple):
+    """A row of docs/CAUSES.md, what to do, or nothing, and an edit that the text is read further with."""
+
+    row: str
+    mend: str
+    edit: tuple
+
+
+def distance(one, other):
+    """Gives how many letters are to be put in, taken out, changed, or changed with the next one."""
+    rows = [list(range(len(other) + 1))]
+    for i, letter in enumerate(one, 1):
+        rows.append([i])
+        for j, wanted in enumerate(other, 1):
+            least = min(rows[i - 1][j] + 1, rows[i][j - 1] + 1, rows[i - 1][j - 1] + (letter != wanted))
+            if i > 1 and j > 1 and letter == other[j - 2] and one[i - 2] == wanted:
+                least = min(least, rows[i - 2][j - 2] + 1)
+            rows[i].append(least)
+    return rows[-1][-1]
+
+
+def is_near(one, other):
+    """Whether two words are one letter apart, or two where they are long enough for that."""
+    if one.lower() == other.lower():
+        return one != other
+    least = min(len(one), len(other))
+    return 0 < distance(one, other) <= (0 if least < 2 else 1 if least < 5 else 2)
+
+
+class Slips:
+    """The text behind the head of the declaration that the offence stands in, and what was read of it."""
+
+    def __init__(self, text, at, grammar):
+        self.text, self.at, self.grammar = text, at, grammar
+        marked = text.index_at(at)
+        heads = [it for it in range(marked) if text.tokens[it].text in ("type", "fn", "proc")]
+        self.start = text.tokens[heads[-1]].at if heads else 0
+        self.tokens = text.tokens[heads[-1] if heads else 0 :]
+        self.index = marked - (heads[-1] if heads else 0)
+        count, self.ways = grammar.read(self.tokens[: self.index + 1]) if self.index < BEFORE else (-1, [])
+        self.is_sure = count == self.index
+        self.tokens = self.tokens[: self.index + BEHIND]
+        self.end = self.tokens[-1].end if self.index + BEHIND == len(self.tokens) else text.size
+        self.wanted = grammar.wanted(self.ways) if self.is_sure else set()
+        self.marked = self.token(0)
+
+    def token(self, step):
+        """Gives the token so many behind the offence, or an empty one."""
+        at = self.index + step
+        return self.tokens[at] if 0 <= at < len(self.tokens) else Token("", "", self.text.size)
+
+    def reach(self, edit):
+        """Gives the offset up to which the text is read with an edit, or one past its end where all of it is."""
+        start, end, new = edit
+        edited = self.text.text[self.start : start] + new + self.text.text[end : self.end]
+        tokens = tokens_of(edited)
+        count, ways = self.grammar.read(tokens)
+        moved = len(new) - (end - start)
+        if count < len(tokens):
+            return max(self.start + tokens[count].at - moved, start)
+        is_whole = self.end < self.text.size or any(not it.rest or self.may_end(it.rest) for it in ways)
+        return self.text.size + 1 if is_whole else self.text.size
+
+    def may_end(self, rest):
+        while rest:
+            (top, rest) = rest
+            if not (isinstance(top, tuple) and top[0] in ("may", "many")):
+                return False
+        return True
+
+    def goes_on(self, slip, tokens):
+        """Whether the text is read with an edit, from the offence on, for more than so many tokens or to its end."""
+        reached = self.reach(slip.edit)
+        behind = self.token(tokens)
+        return reached > (behind.at if behind.kind else self.text.size)
+
+    def find(self):
+        """Gives the first slip whose edit lets the text be read further."""
+        if not self.is_sure:
+            return None
+        for slip in [*self.of_symbols(), *self.of_words(), *self.of_places(), *self.of_heads()]:
+            if self.goes_on(slip, 1):
+                return slip
+        found = [it for it in self.of_any() if self.goes_on(it, 6) or self.ends_declaration(it)]
+        furthest = max((self.reach(it.edit) for it in found), default=0)
+        best = [it for it in found if self.reach(it.edit) == furthest]
+        return best[0] if len(best) == 1 or best and "`;`" in best[0].mend else None
+
+    def ends_declaration(self, slip):
+        heads = [it.at for it in self.tokens[self.index + 1 :] if it.text in ("type", "fn", "proc")]
+        return self.reach(slip.edit) > (heads[0] if heads else self.text.size)
+
+    def of_symbols(self):
+        """Slips of which the symbols say what was meant."""
+        mark, before, behind = self.marked, self.token(-1), self.token(1)
+        pair = before.text + mark.text if before.end == mark.at else ""
+        ahead = mark.text + behind.text if mark.end == behind.at else ""
+        for signs, at in ((pair, before.at), (ahead, mark.at)):
+            if signs in ("==", "&&", "||"):
+                row = "Syntax equality" if signs == "==" else "Syntax logic"
+                yield Slip(row, f"write `{PARTED[signs].strip()}` in place of `{signs}`", (at, at + 2, PARTED[signs]))
+            if signs in ("!=", "<=", ">="):
+                yield Slip("Syntax comparison", "", (at, at + 2, PARTED[signs]))
+            if signs in ("/*", "--"):
+                yield from self.of_comment(signs, at)
+        if mark.text == ">":
+            yield Slip("Syntax comparison", "", (mark.at, mark.end, "<"))
+        if mark.text == "!":
+            yield Slip("Syntax logic", "write `not` in place of `!`", (mark.at, mark.end, " not "))
+        if mark.text == "#":
+            yield from self.of_comment("#", mark.at)
+        if mark.text == "-" and behind.kind == "number":
+            yield Slip("Syntax minus", f"write `0 - {behind.text}`", (mark.at, mark.end, "0 -"))
+
+    def of_comment(self, sign, at):
+        end = self.text.text.find("*/" if sign == "/*" else "\n", at + len(sign))
+        end = self.text.size if end < 0 else end + 2 if sign == "/*" else end
+        yield Slip("Syntax comment", f"begin each line of it with `//` in place of `{sign}`", (at, end, " "))
+
+    def of_words(self):
+        """Slips in words: one of other letters, and a reserved one in the place of a name."""
+        for token in (self.marked, self.token(-1)):
+            if token.kind != "word":
+                continue
+            reserved = self.grammar.reserved
+            if token.text in reserved:
+                reserved = reserved & self.wanted
+            near = [it for it in sorted(reserved) if is_near(token.text, it)]
+            for word in sorted(near, key=lambda it: distance(token.text, it)):
+                row = "Syntax case" if word.lower() == token.text.lower() else "Syntax spelling"
+                mend = f"write `{word}` in place of `{token.text}` at {self.text.place(token.at)}"
+                yield Slip(row, mend, (token.at, token.end, word))
+        mark = self.marked
+        if mark.text in self.grammar.reserved and "NAME" in self.wanted:
+            name = "x" * len(mark.text)
+            yield Slip("Syntax word", f"take another name than `{mark.text}`", (mark.at, mark.end, name))
+
+    def of_places(self):
+        """Slips of which the place says what was meant."""
+        mark, before, behind = self.marked, self.token(-1), self.token(1)
+        if mark.text == ";" and behind.text in ("}", "|"):
+            yield Slip("Syntax last", "take this `;` out", (mark.at, mark.end, ""))
+        if mark.text in ("=", "=>", "->", ":") and before.kind == "word":
+            for sign in (":", "=>", "="):
+                if sign in self.wanted:
+                    row = "Syntax label" if sign != "=" else "Syntax"
+                    yield Slip(row, f"write `{sign}` in place of `{mark.text}`", (mark.at, mark.end, sign))
+        if "/\\" in self.wanted and "->" in self.wanted and before.text in KINDS:
+            mend = f"write `{before.text} /\\ 1`, or what else is meant"
+            yield Slip("Syntax value", mend, (mark.at, mark.at, " /\\ 1 "))
+        if "proc" in self.wanted and self.index and self.begins_instruction():
+            yield Slip("Syntax behind", "", (mark.at, mark.at, "proc T x(;) = "))
+
+    def of_heads(self):
+        """Slips at the head of a declaration, and in the two ways to make a process."""
+        mark, before, first, third = self.marked, self.token(-1), self.token(-2).text, self.token(-3)
+        if third.text == "proc" and self.wanted == {"("}:
+            mend = f"write `(;)` behind `{before.text}`, where its parameters go, values before the `;`"
+            yield Slip("Syntax", mend, (before.end, before.end, "(;)"))
+        if before.text in ("proc", "type") and mark.kind == "word":
+            modes = ", ".join(f"`{it}`" for it in sorted(self.wanted))
+            yield Slip("Syntax", f"write a mode before `{mark.text}`, one of {modes}", (mark.at, mark.at, "R "))
+        equal = next((it for it in self.tokens[self.index :] if it.text == "="), None)
+        if mark.text == ":" and equal and {"=", "{"} & self.wanted and self.tokens[1].text == "T":
+            offered = self.text.text[mark.at : equal.at].strip()
+            mend = f"take `{offered}` out, since a transaction offers nothing"
+            yield Slip("Syntax", mend, (mark.at, equal.at, ""))
+        if mark.text == "spawn" and third.text == "let" and before.text == "=":
+            mend = f"write `spawn {first} =` in place of `let {first} = spawn`"
+            yield Slip("Syntax", mend, (third.at, mark.end, f"spawn {first} ="))
+        if mark.text == "(" and before.kind == "word" and self.wanted == {"."}:
+            mend = f"write `spawn .. =` before `{before.text}`, with a new name for its channel"
+            yield Slip("Syntax", mend, (before.at, before.at, "spawn x = "))
+
+    def begins_instruction(self):
+        word = self.marked.text
+        return word in self.grammar.firsts["code"] or self.marked.kind == "word" and self.token(1).text == "."
+
+    def of_any(self):
+        """Each token that may stand, put in before the offence or in its place, and the offence taken out."""
+        mark, before = self.marked, self.token(-1)
+        row = "Syntax" if mark.kind else "Syntax end"
+        signs = sorted((it for it in self.wanted if not it[0].isalnum()), key=lambda it: (it != ";", it))
+        for sign in signs:
+            edit = (before.end, before.end, sign) if self.index else (mark.at, mark.at, sign)
+            yield Slip(row, f"write `{sign}` behind `{before.text}` at {self.text.place(before.at)}", edit)
+        for sign in signs:
+            if mark.kind and mark.kind != "word":
+                yield Slip(row, f"write `{sign}` in place of `{mark.text}`", (mark.at, mark.end, sign))
+        if mark.kind and mark.text not in self.grammar.reserved:
+            yield Slip(row, f"take `{mark.text}` out", (mark.at, mark.end, ""))
+
+
+def explained(text, answer, program, grammar):
+    """Gives the row that fits a text that is no text of the grammar, and lines on what to do."""
+    at, row, lines = answer.offset, "Syntax end" if answer.offset == text.size else "Syntax", []
+    slips = Slips(text, at, grammar)
+    slip = slips.find()
+    if slip:
+        start, end, new = slip.edit
+        after = program.check(text.edited(slip.edit))
+        if after.is_cause("Syntax") and after.offset <= at + len(new) - (end - start if end <= at else 0):
+            slip = None
+    if slip:
+        row = slip.row
+        lines += [f"mend: {slip.mend}"] if slip.mend else []
+    words = grammar.said(slips.wanted)
+    if words:
+        lines.append(f"here may stand: {', '.join(words)}")
+    return row, lines
