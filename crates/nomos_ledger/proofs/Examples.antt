@@ -4,7 +4,6 @@ use Rattle.nomos_ir.specs.declared.amount.Amount.TheVariants as amount
 use Rattle.nomos_ir.specs.declared.declaration.ProcDecl.{ProcDecl}
 use Rattle.nomos_ir.specs.declared.mode.Mode.TheVariants as mode
 use Rattle.nomos_types.specs.Acceptance.{Acceptance, acceptance}
-use Rattle.nomos_script.specs.Item.{exec_start}
 use Rattle.nomos_script.specs.declared.item.Start.{Start}
 use Rattle.nomos_config.specs.State.{empty}
 use Rattle.nomos_ledger.specs.Ledger.{LedgerState, deposited, empty_ledger}
@@ -33,6 +32,11 @@ program =
     (record { defs = []; types = []; terms = []; code = []; fns = []; procs = transaction ∷ []; labels = [] })
     []
     3
+
+-- a line that runs a transaction without arguments
+abbrev exec_start : ℕ → List ℕ → List ℕ → Start
+exec_start line sender proc =
+    record { line = line; sender = sender; proc = proc; values = []; names = []; contract = None }
 
 abbrev run_t : ℕ → Start
 run_t line = exec_start line (codes "u") (codes "t")

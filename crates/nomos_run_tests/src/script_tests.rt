@@ -1,118 +1,154 @@
-//! Small scripts, scripts cut at every length, and the limits.
-use nomos_script::item::ScriptItem;
-use nomos_script::name::ScriptName;
+//! Small scripts, scripts cut at every length, refusals, and the limits.
+use nomos_script::item::{ScriptItem, Start};
+use nomos_script::name::ScriptNames;
 use nomos_script::parsing::{ScriptError, TEXT_LIMIT, parse_script};
+use std::alloc::Global;
 use std::process::Abort;
 use std::test::Fail;
 
-/// What an item of a script has to be: a deposit, or one transaction without arguments.
-#[derive(Clone, Copy)]
-enum Wanted {
-    Deposit(u32, &'static str, u64),
-    Exec(u32, &'static str, &'static str),
+// Names with a blank before each.
+fn names_text(alloc: Global, names: &ScriptNames) -> Result<String, Fail> {
+    let mut text = String::new(alloc);
+    for name in names.as_slice() {
+        text.push_str(" ")?;
+        text.push_str(name.as_str())?;
+    }
+    Ok(text)
 }
 
-fn is_name(name: &ScriptName, wanted: &str) -> bool {
-    name.as_str() == wanted
+// A start: its line, who pays, what, the contract's name, the values, and the names.
+fn start_text(alloc: Global, start: &Start) -> Result<String, Fail> {
+    let contract = match &start.contract {
+        Some(name) => name.as_str(),
+        None => "-",
+    };
+    let names = names_text(alloc, &start.names)?;
+    Ok(format!(in alloc;
+        " {} {} {} {} {:?};{}",
+        start.line,
+        start.sender.as_str(),
+        start.proc.as_str(),
+        contract,
+        start.values.as_slice(),
+        names.as_str()
+    )?)
 }
 
-/// Whether the item is the wanted one.
-fn is_wanted(item: &ScriptItem, wanted: Wanted) -> bool {
-    match (item, wanted) {
-        (ScriptItem::Deposit { line, name, units }, Wanted::Deposit(at, account, amount)) => {
-            *line == at && is_name(name, account) && *units == amount
+// Starts, one behind the other.
+fn starts_text(alloc: Global, starts: &[Start]) -> Result<String, Fail> {
+    let mut text = String::new(alloc);
+    for start in starts {
+        text.push_str(start_text(alloc, start)?.as_str())?;
+    }
+    Ok(text)
+}
+
+// An item, which begins with its line.
+fn item_text(alloc: Global, item: &ScriptItem) -> Result<String, Fail> {
+    match item {
+        ScriptItem::Deposit { line, name, units } => {
+            Ok(format!(in alloc; "{line} deposit {} {units}\n", name.as_str())?)
         }
-        (ScriptItem::Batch(batch), Wanted::Exec(at, sender, proc)) => {
-            let [start] = batch.starts.as_slice() else {
-                return false;
-            };
-            batch.line == at
-                && start.line == at
-                && is_name(&start.sender, sender)
-                && is_name(&start.proc, proc)
-                && start.values.as_slice().is_empty()
-                && start.names.is_empty()
-                && start.contract.is_none()
+        ScriptItem::Batch(batch) => {
+            let starts = starts_text(alloc, batch.starts.as_slice())?;
+            Ok(format!(in alloc; "{} batch{}\n", batch.line, starts.as_str())?)
         }
-        _ => false,
+        ScriptItem::Show { line } => Ok(format!(in alloc; "{line} show\n")?),
     }
 }
 
-/// Looks at the items of a text.
-fn expect(rt: &(impl Abort + AllocGlobal), text: &[u8], wanted: &[Wanted]) -> Result<(), Fail> {
-    let script = parse_script(rt.alloc(), text)?;
-    let items = script.items().as_slice();
-    assert_eq!(rt; items.len(), wanted.len(), "in {text:?}");
-    for (item, wanted) in items.iter().zip(wanted) {
-        assert!(rt; is_wanted(item, *wanted), "in {text:?}");
+// Items, a line for each.
+fn items_text(alloc: Global, items: &[ScriptItem]) -> Result<String, Fail> {
+    let mut text = String::new(alloc);
+    for item in items {
+        text.push_str(item_text(alloc, item)?.as_str())?;
     }
-    Ok(())
+    Ok(text)
 }
 
-/// Looks at the refusal of a text.
-fn refuse(rt: &(impl Abort + AllocGlobal), text: &[u8], wanted: ScriptError) {
-    let refusal = parse_script(rt.alloc(), text).err();
-    assert_eq!(rt; refusal, Some(wanted), "in {text:?}");
-}
-
-#[test]
-fn scripts(rt: HostRuntime) -> Result<(), Fail> {
-    let both = [Wanted::Deposit(1, "u", 7), Wanted::Exec(3, "u", "t")];
-    expect(&rt, b"deposit u 7\n\nexec u t(;)", &both)?;
-    expect(&rt, b"deposit u 7\r\n\r\nexec u t(;)\r\n", &both)?;
-    expect(
-        &rt,
-        b"deposit u 007//\xff\r\n// \xc3\xa9\n\texec  u t ( ;)//",
-        &both,
-    )?;
-    expect(&rt, b" \t//\n\n", &[])?;
-    expect(&rt, b"deposit exec 0", &[Wanted::Deposit(1, "exec", 0)])?;
-    expect(&rt, b"exec self _9(;)", &[Wanted::Exec(1, "self", "_9")])?;
-    let name = "aaaaaaaaaaaaaaaaaaaaaaaaaaaaaaaaaaaaaaaaaaaaaaaaaaaaaaaaaaaaaaaa";
-    let text = format!(in rt.alloc(); "deposit {name} 1")?;
-    expect(&rt, text.as_bytes(), &[Wanted::Deposit(1, name, 1)])?;
-    let text = format!(in rt.alloc(); "exec u {name}a(;)")?;
-    refuse(&rt, text.as_bytes(), ScriptError::NotYet(1));
-    let text = format!(in rt.alloc(); "deposit {name}a 1")?;
-    refuse(&rt, text.as_bytes(), ScriptError::Syntax(1));
-    Ok(())
-}
-
-#[test]
-fn largest_deposits(rt: HostRuntime) -> Result<(), Fail> {
-    let mut text = Vec::new(rt.alloc());
-    let mut wanted = Vec::new(rt.alloc());
-    for line in 1..20u32 {
-        text.extend_from_slice(b"deposit u 01000000000000000000\n")?;
-        wanted.push(Wanted::Deposit(line, "u", 1_000_000_000_000_000_000))?;
-    }
-    expect(&rt, &text, &wanted)?;
-    text.extend_from_slice(b"deposit u 1000000000000000001")?;
-    refuse(&rt, &text, ScriptError::Syntax(20));
-    Ok(())
-}
-
-#[test]
-fn cut_scripts(rt: HostRuntime) -> Result<(), Fail> {
-    let text = b"deposit u 7\r\n\nexec u t(;)".as_slice();
-    let both = [Wanted::Deposit(1, "u", 7), Wanted::Exec(3, "u", "t")];
-    for length in 0..=text.len() {
-        let front = &text[..length];
-        match length {
-            0 => expect(&rt, front, &[])?,
-            1..=10 | 12 => refuse(&rt, front, ScriptError::Syntax(1)),
-            11 | 13 | 14 => expect(&rt, front, &both[..1])?,
-            15..=17 => refuse(&rt, front, ScriptError::Syntax(3)),
-            18..=24 => refuse(&rt, front, ScriptError::NotYet(3)),
-            _ => expect(&rt, front, &both)?,
+// What a text reads as, or why it is refused.
+fn read_as(alloc: Global, text: &[u8]) -> Result<String, Fail> {
+    match parse_script(alloc, text) {
+        Ok(script) => {
+            let items = items_text(alloc, script.items().as_slice());
+            drop(script);
+            items
         }
+        Err(error) => Ok(format!(in alloc; "{error:?}")?),
+    }
+}
+
+// Fails unless the text reads as this, or is refused so.
+fn expect(rt: &(impl Abort + AllocGlobal), text: &[u8], wanted: &str) -> Result<(), Fail> {
+    let found = read_as(rt.alloc(), text)?;
+    assert!(rt; found.as_str() == wanted, "{text:?} is {found}");
+    Ok(())
+}
+
+#[test]
+fn forms_of_lines(rt: HostRuntime) -> Result<(), Fail> {
+    let table: [(&[u8], &str); 14] = [
+        (b"", ""),
+        (b" \t//\n\n", ""),
+        (
+            b"deposit u 007//\xff\r\n// \xc3\xa9\n\texec  u t ( ;)//",
+            "1 deposit u 7\n3 batch 3 u t - [];\n",
+        ),
+        (b"deposit u 7\r\n\r\nshow\r\n", "1 deposit u 7\n3 show\n"),
+        (
+            b"deposit deposit 5\nlet let = new new begin(;)",
+            "1 deposit deposit 5\n2 batch 2 new begin let [];\n",
+        ),
+        (
+            b"exec u t(1 , - 07,-0,true,false;)",
+            "1 batch 1 u t - [Int(1), Int(-7), Int(0), Bool(true), Bool(false)];\n",
+        ),
+        (
+            b"exec u t([],[[],[1,true]];a ,b)",
+            "1 batch 1 u t - [List([]), List([List([]), List([Int(1), Bool(true)])])]; a b\n",
+        ),
+        (
+            b"exec self _9(;true,false,new)",
+            "1 batch 1 self _9 - []; true false new\n",
+        ),
+        (b"let p=new u c(;)", "1 batch 1 u c p [];\n"),
+        (b"begin\nend", "1 batch\n"),
+        (
+            b"\nbegin // here\nexec u t(1;)\n\nlet c = new v d(;e)\nend //",
+            "2 batch 3 u t - [Int(1)]; 5 v d c []; e\n",
+        ),
+        (
+            b"begin\nend\nbegin\nexec u t(;)\nend\nexec u t(;)",
+            "1 batch\n3 batch 4 u t - [];\n6 batch 6 u t - [];\n",
+        ),
+        (
+            b"exec u t(9223372036854775807,-9223372036854775808;)",
+            "1 batch 1 u t - [Int(9223372036854775807), Int(-9223372036854775808)];\n",
+        ),
+        (
+            b"deposit u 01000000000000000000",
+            "1 deposit u 1000000000000000000\n",
+        ),
+    ];
+    for (text, wanted) in table {
+        expect(&rt, text, wanted)?;
     }
     Ok(())
 }
 
 #[test]
-fn refused_scripts(rt: HostRuntime) {
-    let bad: [&[u8]; 19] = [
+fn names_among_arguments(rt: HostRuntime) -> Result<(), Fail> {
+    let text = b"exec v two(; p, q)\ndeposit u 0\nexec u nope(;)\nexec u c(;)\nlet p = new u c(;)\n\
+        let p = new u c(;)\nexec u two(; p)";
+    let wanted =
+        "1 batch 1 v two - []; p q\n2 deposit u 0\n3 batch 3 u nope - [];\n4 batch 4 u c - [];\n\
+        5 batch 5 u c p [];\n6 batch 6 u c p [];\n7 batch 7 u two - []; p\n";
+    expect(&rt, text, wanted)
+}
+
+#[test]
+fn refused_lines(rt: HostRuntime) -> Result<(), Fail> {
+    let first: [&[u8]; 52] = [
         b"deposit u 1000000000000000001",
         b"deposit u +1",
         b"deposit u -1",
@@ -131,35 +167,145 @@ fn refused_scripts(rt: HostRuntime) {
         b"DEPOSIT u 1",
         b"execute u t(;)",
         b"letx",
+        b"7",
+        b"(",
         b"/ /\nlet",
-    ];
-    for text in bad {
-        refuse(&rt, text, ScriptError::Syntax(1));
-    }
-    let unbuilt: [&[u8]; 10] = [
-        b"let c = new u f(;)",
         b"let//",
-        b"begin",
-        b"end\nfoo",
-        b"show",
+        b"let c new u f(;)",
+        b"let c = u f(;)",
+        b"let c = old u f(;)",
+        b"let 1 = new u f(;)",
+        b"let c = new u f",
         b"exec",
-        b"exec u t(1;)",
-        b"exec u t(;a)",
+        b"exec u",
+        b"exec u t",
         b"exec u t(;) x",
         b"exec u t();",
+        b"exec u t(;a,)",
+        b"exec u t(;,a)",
+        b"exec u t(;1)",
+        b"exec u t(;a b)",
+        b"exec u t(1,;)",
+        b"exec u t(,1;)",
+        b"exec u t(1 2;)",
+        b"exec u t(- -1;)",
+        b"exec u t(-true;)",
+        b"exec u t(-;)",
+        b"exec u t(True;)",
+        b"exec u t([;)",
+        b"exec u t(];)",
+        b"exec u t([1,];)",
+        b"exec u t([,1];)",
+        b"exec u t([1;2];)",
+        b"exec u t(9223372036854775808;)",
+        b"exec u t(-9223372036854775809;)",
+        b"end\nfoo",
+        b"begin",
     ];
-    for text in unbuilt {
-        refuse(&rt, text, ScriptError::NotYet(1));
+    for text in first {
+        expect(&rt, text, "Syntax(1)")?;
     }
-    refuse(&rt, b"exec u t(;)//\nfoo\nlet", ScriptError::Syntax(2));
-    refuse(&rt, b"\r\n\n  begin", ScriptError::NotYet(3));
+    Ok(())
+}
+
+#[test]
+fn refused_batches(rt: HostRuntime) -> Result<(), Fail> {
+    let table: [(&[u8], &str); 10] = [
+        (b"exec u t(;)//\nfoo\nbar", "Syntax(2)"),
+        (b"begin\nexec u t(;)\n", "Syntax(1)"),
+        (b"begin\nend\n\nbegin\n\n", "Syntax(4)"),
+        (b"begin\ndeposit u 1\nend", "Syntax(2)"),
+        (b"begin\nshow\nend", "Syntax(2)"),
+        (b"begin\nbegin\nend\nend", "Syntax(2)"),
+        (b"begin\nend\nend", "Syntax(3)"),
+        (b"begin x\nend", "Syntax(1)"),
+        (b"begin\nend x", "Syntax(2)"),
+        (b"show x", "Syntax(1)"),
+    ];
+    for (text, wanted) in table {
+        expect(&rt, text, wanted)?;
+    }
+    Ok(())
+}
+
+#[test]
+fn cut_scripts(rt: HostRuntime) -> Result<(), Fail> {
+    let text = b"deposit u 7\r\n\nexec u t(-1;)".as_slice();
+    for length in 0..=text.len() {
+        let front = &text[..length];
+        match length {
+            0 => expect(&rt, front, "")?,
+            1..=10 | 12 => expect(&rt, front, "Syntax(1)")?,
+            11 | 13 | 14 => expect(&rt, front, "1 deposit u 7\n")?,
+            15..=26 => expect(&rt, front, "Syntax(3)")?,
+            _ => expect(&rt, front, "1 deposit u 7\n3 batch 3 u t - [Int(-1)];\n")?,
+        }
+    }
+    Ok(())
+}
+
+// A text of a front, a part so many times, and a back.
+fn repeated(alloc: Global, parts: [&str; 3], times: usize) -> Result<String, Fail> {
+    let [front, part, back] = parts;
+    let mut text = String::from_str(alloc, front)?;
+    for _ in 0..times {
+        text.push_str(part)?;
+    }
+    text.push_str(back)?;
+    Ok(text)
+}
+
+// Fails unless a text with so many parts is refused at its line, or not at all.
+fn expect_limit(
+    rt: &(impl Abort + AllocGlobal),
+    parts: [&str; 3],
+    times: usize,
+    wanted: Option<ScriptError>,
+) -> Result<(), Fail> {
+    let text = repeated(rt.alloc(), parts, times)?;
+    let error = parse_script(rt.alloc(), text.as_bytes()).err();
+    assert!(rt; error == wanted, "{times} times in {}", parts[0]);
+    Ok(())
+}
+
+// A list in lists, so deep.
+fn nested(alloc: Global, depth: usize) -> Result<String, Fail> {
+    let open = repeated(alloc, ["exec u t(", "[", ""], depth)?;
+    Ok(repeated(alloc, [open.as_str(), "]", ";)"], depth)?)
+}
+
+// Fails unless a list in lists, so deep, is refused at its line, or not at all.
+fn expect_nested(
+    rt: &(impl Abort + AllocGlobal),
+    depth: usize,
+    wanted: Option<ScriptError>,
+) -> Result<(), Fail> {
+    let text = nested(rt.alloc(), depth)?;
+    let error = parse_script(rt.alloc(), text.as_bytes()).err();
+    assert!(rt; error == wanted, "{depth} deep");
+    Ok(())
+}
+
+#[test]
+fn limits_of_lines(rt: HostRuntime) -> Result<(), Fail> {
+    let refused = Some(ScriptError::Syntax(1));
+    expect_limit(&rt, ["exec ", "a", " t(;)"], 64, None)?;
+    expect_limit(&rt, ["exec ", "a", " t(;)"], 65, refused)?;
+    expect_limit(&rt, ["exec u t(;", "a", ")"], 64, None)?;
+    expect_limit(&rt, ["exec u t(;", "a", ")"], 65, refused)?;
+    expect_limit(&rt, ["exec u t([1", ",1", "];)"], 9_999, None)?;
+    expect_limit(&rt, ["exec u t([1", ",1", "];)"], 10_000, refused)?;
+    expect_limit(&rt, ["exec u t([[1", ",1", "]];)"], 9_998, None)?;
+    expect_limit(&rt, ["exec u t([[1", ",1", "]];)"], 9_999, refused)?;
+    expect_limit(&rt, ["exec u t(1", ",1", ";)"], 10_001, None)?;
+    expect_nested(&rt, 64, None)?;
+    expect_nested(&rt, 65, refused)
 }
 
 #[test]
 fn longest_scripts(rt: HostRuntime) -> Result<(), Fail> {
     let mut text = vec![in rt.alloc(); b' '; TEXT_LIMIT]?;
-    expect(&rt, &text, &[])?;
+    expect(&rt, &text, "")?;
     text.push(b' ')?;
-    refuse(&rt, &text, ScriptError::TooLong);
-    Ok(())
+    expect(&rt, &text, "TooLong")
 }

@@ -1,10 +1,14 @@
 -- The lines, the tokens and the reading of small texts.
-use Rattle.std.proofs.Common.{◌≡◌, [], ◌∷◌, ◌++◌, codes, refl}
+use Rattle.std.proofs.Common.{◌≡◌, pos, negsuc, true, [], ◌∷◌, ◌++◌, Some, None, codes, refl}
+use Rattle.nomos_ir.specs.Value.{int, truth, list, value_list}
+use Rattle.nomos_ir.specs.Weight.{weight}
 use Rattle.nomos_script.specs.declared.item.ScriptItem.TheVariants as item
-use Rattle.nomos_script.specs.Form.{blank, deposit, exec, print_form}
-use Rattle.nomos_script.specs.Item.{exec_start, batch_of, items_of}
+use Rattle.nomos_script.specs.Form.{Invocation, blank, deposit, create, exec, begin, end, show, print_form}
+use Rattle.nomos_script.specs.Item.{start_at, batch_of, items_of}
 use Rattle.nomos_script.specs.Lines.{lines_of}
+use Rattle.nomos_script.specs.Paragraph.{single, several, forms_of}
 use Rattle.nomos_script.specs.ScriptScan.{word, number, mark, piece_at, tokens_from, tokens_of}
+use Rattle.nomos_script.specs.ValueTree.{ValueTree, written_number, written_truth, written_list, ValueTrees, no_trees, tree, value_at, nesting}
 
 -- a line feed ends a line; a carriage return before it is dropped, and one at the very end stays
 pub ends_of_lines : lines_of (codes "a" ++ 13 ∷ 10 ∷ 13 ∷ 13 ∷ 10 ∷ 10 ∷ codes "b" ++ 13 ∷ [])
@@ -28,9 +32,50 @@ pub comment_behind_number : tokens_of (codes "deposit u 007//" ++ 255 ∷ [])
 unfolding tokens_from piece_at
 comment_behind_number = refl
 
-pub transaction : tokens_of (9 ∷ codes "exec  u t ( ;)") ≡ print_form (exec (codes "u") (codes "t"))
+-- a transaction without arguments
+abbrev bare : Invocation
+bare = record { sender = codes "u"; proc = codes "t"; values = no_trees; names = [] }
+
+pub transaction : tokens_of (9 ∷ codes "exec  u t ( ;)") ≡ print_form (exec bare)
 unfolding tokens_from piece_at
 transaction = refl
+
+-- no word is reserved
+pub no_reserved_word : tokens_of (codes "let let = new new begin(;)")
+    ≡ print_form (create (codes "let")
+    (record { sender = codes "new"; proc = codes "begin"; values = no_trees; names = [] }))
+unfolding tokens_from piece_at
+no_reserved_word = refl
+
+-- the list [true,[],-7] and -0
+abbrev some_values : ValueTrees
+some_values =
+    tree (written_list (tree (written_truth true) (tree (written_list no_trees)
+    (tree (written_number true (codes "007")) no_trees))))
+    (tree (written_number true (codes "0")) no_trees)
+
+pub arguments : tokens_of (codes "exec u t([true, [],- 007],-0;a ,b)//;")
+    ≡ print_form (exec (record bare { values = some_values; names = codes "a" ∷ codes "b" ∷ [] }))
+unfolding tokens_from piece_at
+arguments = refl
+
+-- what a list is, its weight, and how deep it is
+abbrev nested : ValueTree
+nested = written_list (tree (written_truth true) (tree (written_list no_trees)
+    (tree (written_number true (codes "007")) no_trees)))
+
+pub list_written : value_at nested
+    ≡ list (value_list (truth true ∷ list (value_list []) ∷ int (negsuc 6) ∷ []))
+list_written = refl
+
+pub list_weighs : weight (value_at nested) ≡ 3
+list_weighs = refl
+
+pub list_nests : nesting nested ≡ 2
+list_nests = refl
+
+pub minus_nought : value_at (written_number true (codes "0")) ≡ int (pos 0)
+minus_nought = refl
 
 pub comment_alone : tokens_of (codes " // deposit u 1") ≡ print_form blank
 unfolding tokens_from piece_at
@@ -48,6 +93,17 @@ unfolding tokens_from piece_at
 number_and_word = refl
 
 -- lines are counted from 1, blank ones too
-pub items_of_lines : items_of 1 (deposit (codes "u") (codes "007") ∷ blank ∷ exec (codes "u") (codes "t") ∷ [])
-    ≡ item.Deposit 1 (codes "u") 7 ∷ item.Batch (batch_of (exec_start 3 (codes "u") (codes "t"))) ∷ []
+pub items_of_lines : items_of 1 (single (deposit (codes "u") (codes "007")) ∷ single blank ∷ single (exec bare) ∷ [])
+    ≡ item.Deposit 1 (codes "u") 7 ∷ batch_of (start_at 3 None bare) ∷ []
 items_of_lines = refl
+
+-- a batch has the line of its `begin`, and each start its own
+pub items_of_batch :
+    items_of 1 (single show ∷ several (exec bare ∷ blank ∷ create (codes "c") bare ∷ []) ∷ several [] ∷ single show ∷ [])
+    ≡ item.Show 1
+    ∷ item.Batch (record { line = 2; starts = start_at 3 None bare ∷ start_at 5 (Some (codes "c")) bare ∷ [] })
+    ∷ item.Batch (record { line = 7; starts = [] }) ∷ item.Show 9 ∷ []
+items_of_batch = refl
+
+pub lines_of_batch : forms_of (several (exec bare ∷ []) ∷ single show ∷ []) ≡ begin ∷ exec bare ∷ end ∷ show ∷ []
+lines_of_batch = refl

@@ -1,132 +1,259 @@
--- A text reads as one list of items at most; it reads, or has one first line without a form.
-use Rattle.std.proofs.Common.{◌≡◌, ℕ, Bool, true, false, cond, ◌⊎◌, inl, inr, List, [], ◌∷◌, ◌++◌, length, All, refl, sym, ◌∙◌, ap, arith}
-use Rattle.std.proofs.lemmas.List.Elements.{All-head, All-tail}
+-- A text reads as one list of items at most; it reads, or is refused at one line.
+use Rattle.std.proofs.Common.{◌≡◌, ℕ, ◌+◌, ◌<◌, ◌⊎◌, inl, inr, List, [], ◌∷◌, ◌++◌, length, Option, Some, None, All, codes, refl, sym, ◌∙◌, ap, append_assoc, arith}
+use Rattle.std.proofs.lemmas.List.{append-nil}
+use Rattle.std.proofs.lemmas.List.Elements.{All-nil, All-cons, All-append}
 use Rattle.nomos_script.specs.declared.item.ScriptItem.{ScriptItem}
 use Rattle.nomos_script.specs.declared.parsing.ScriptError.{ScriptError}
 use Rattle.nomos_script.specs.declared.parsing.ScriptError.TheVariants as error
-use Rattle.nomos_script.specs.Form.{Form, blank, deposit, exec, print_form, HasForm}
+use Rattle.nomos_script.specs.Form.{Form, begin, end, LineReadsAs}
 use Rattle.nomos_script.specs.Item.{items_of}
 use Rattle.nomos_script.specs.Lines.{lines_of}
-use Rattle.nomos_script.specs.ScriptReading.{LinesReadAs, ReadsAs, IsFirstBad, IsSyntaxAt, IsNotYetAt, begins_unbuilt}
-use Rattle.nomos_script.specs.ScriptScan.{tokens_of}
+use Rattle.nomos_script.specs.Paragraph.{Paragraph, several, forms_of, StandsInside, IsParagraph}
+use Rattle.nomos_script.specs.ScriptReading.{LinesReadAs, AreLinesOf, ReadsAs, BeginScript, IsBadAt, IsOpenAt, IsSyntaxAt}
+use Rattle.nomos_script.specs.ScriptScan.{piece_at, tokens_from, tokens_of}
+use Rattle.nomos_script.specs.mirror.Assembling.{Assembled, nothing_assembled, line_said, add_line}
+use Rattle.nomos_script.specs.mirror.ValueReading.{and_then}
+use Rattle.nomos_script.proofs.AssemblyLemmas.{assemble, assembled, and_then-same, assemble-append, assemble-inside, assemble-paragraphs, forms_of-push}
+use Rattle.nomos_script.proofs.FormLemmas.{said_once}
 
--- what is answered to the first line without a form says its cause
-pub syntax_found : (text line : List ℕ) (number k : ℕ) (answer : ScriptError) → IsFirstBad text number line
-    → (begins : Bool) → begins_unbuilt (tokens_of line) ≡ begins
-    → answer ≡ cond begins (error.NotYet number) (error.Syntax number) → answer ≡ error.Syntax k → IsSyntaxAt text k
-syntax_found text line number k answer first true is chosen wanted = absurd (cc)
-syntax_found text line number k answer first false is chosen wanted =
-    let here : number ≡ k = cc in
-    (line, rw (← here) first, is)
+-- lines that are read in two ways come to the same
+pub assemble-once : (n : ℕ) (lines : List (List ℕ)) (fs gs : List Form) (a : Assembled) → LinesReadAs lines fs
+    → LinesReadAs lines gs → assemble n fs a ≡ assemble n gs a
+assemble-once n [] [] [] a h k = refl
+assemble-once n [] [] (g ∷ gs) a h k = absurd k
+assemble-once n [] (f ∷ fs) gs a h k = absurd h
+assemble-once n (l ∷ lines) [] gs a h k = absurd h
+assemble-once n (l ∷ lines) (f ∷ fs) [] a h k = absurd k
+assemble-once n (l ∷ lines) (f ∷ fs) (g ∷ gs) a h k =
+    ap (λ said. and_then (add_line n said a) (λ b. assemble (n + 1) fs b))
+    (said_once n (tokens_of l) f g h.0 k.0)
+    ∙ and_then-same (add_line n (line_said n g) a) (λ b. assemble (n + 1) fs b) (λ b. assemble (n + 1) gs b)
+    (λ b. assemble-once (n + 1) lines fs gs b h.1 k.1)
 
-pub not_yet_found : (text line : List ℕ) (number k : ℕ) (answer : ScriptError) → IsFirstBad text number line
-    → (begins : Bool) → begins_unbuilt (tokens_of line) ≡ begins
-    → answer ≡ cond begins (error.NotYet number) (error.Syntax number) → answer ≡ error.NotYet k → IsNotYetAt text k
-not_yet_found text line number k answer first true is chosen wanted =
-    let here : number ≡ k = cc in
-    (line, rw (← here) first, is)
-not_yet_found text line number k answer first false is chosen wanted = absurd (cc)
+-- lines have as many forms
+pub LinesReadAs-length : (lines : List (List ℕ)) (forms : List Form) → LinesReadAs lines forms
+    → length forms ≡ length lines
+LinesReadAs-length [] [] h = refl
+LinesReadAs-length [] (f ∷ forms) h = absurd h
+LinesReadAs-length (l ∷ lines) [] h = absurd h
+LinesReadAs-length (l ∷ lines) (f ∷ forms) h = let rest = LinesReadAs-length lines forms h.1 in omega (arith, rest)
 
--- a form is printed as no other is
-print_form-once : (f g : Form) → print_form f ≡ print_form g → f ≡ g
-print_form-once blank blank same = refl
-print_form-once blank (deposit n d) same = absurd (cc)
-print_form-once blank (exec s p) same = absurd (cc)
-print_form-once (deposit n d) blank same = absurd (cc)
-print_form-once (deposit n d) (deposit m e) same = cc
-print_form-once (deposit n d) (exec s p) same = absurd (cc)
-print_form-once (exec s p) blank same = absurd (cc)
-print_form-once (exec s p) (deposit n d) same = absurd (cc)
-print_form-once (exec s p) (exec t q) same = cc
+pub LinesReadAs-append : (xs ys : List (List ℕ)) (fs gs : List Form) → LinesReadAs xs fs → LinesReadAs ys gs
+    → LinesReadAs (xs ++ ys) (fs ++ gs)
+LinesReadAs-append [] ys [] gs h k = k
+LinesReadAs-append [] ys (f ∷ fs) gs h k = absurd h
+LinesReadAs-append (x ∷ xs) ys [] gs h k = absurd h
+LinesReadAs-append (x ∷ xs) ys (f ∷ fs) gs h k = (h.0, LinesReadAs-append xs ys fs gs h.1 k)
 
--- lines have one list of forms at most
-forms_once : (lines : List (List ℕ)) (fs gs : List Form) → LinesReadAs lines fs → LinesReadAs lines gs → fs ≡ gs
-forms_once [] [] [] h k = refl
-forms_once [] [] (g ∷ gs) h k = absurd k
-forms_once [] (f ∷ fs) gs h k = absurd h
-forms_once (l ∷ lines) [] gs h k = absurd h
-forms_once (l ∷ lines) (f ∷ fs) [] h k = absurd k
-forms_once (l ∷ lines) (f ∷ fs) (g ∷ gs) h k =
-    let here : f ≡ g = print_form-once f g (sym h.0.printed ∙ k.0.printed) in
-    let there : fs ≡ gs = forms_once lines fs gs h.1 k.1 in
-    cc
+-- the forms of lines that are put together
+pub record Parted (xs ys : List (List ℕ)) (forms : List Form) : Type 0 where
+  pub front : List Form
+  pub back : List Form
+  pub split : forms ≡ front ++ back
+  pub first : LinesReadAs xs front
+  pub second : LinesReadAs ys back
+
+pub part_forms : (xs ys : List (List ℕ)) (forms : List Form) → LinesReadAs (xs ++ ys) forms → Parted xs ys forms
+part_forms [] ys forms h = record { front = []; back = forms; split = refl; first = tt; second = h }
+part_forms (x ∷ xs) ys [] h = absurd h
+part_forms (x ∷ xs) ys (f ∷ forms) h =
+    let p = part_forms xs ys forms h.1 in
+    record {
+      front = f ∷ p.front;
+      back = p.back;
+      split = ap (λ fs. f ∷ fs) p.split;
+      first = (h.0, p.first);
+      second = p.second;
+    }
+
+-- the lines of forms that are put together
+pub record Cut (lines : List (List ℕ)) (fs gs : List Form) : Type 0 where
+  pub front : List (List ℕ)
+  pub back : List (List ℕ)
+  pub split : lines ≡ front ++ back
+  pub first : LinesReadAs front fs
+  pub second : LinesReadAs back gs
+
+pub cut_lines : (lines : List (List ℕ)) (fs gs : List Form) → LinesReadAs lines (fs ++ gs) → Cut lines fs gs
+cut_lines lines [] gs h = record { front = []; back = lines; split = refl; first = tt; second = h }
+cut_lines [] (f ∷ fs) gs h = absurd h
+cut_lines (l ∷ lines) (f ∷ fs) gs h =
+    let p = cut_lines lines fs gs h.1 in
+    record {
+      front = l ∷ p.front;
+      back = p.back;
+      split = ap (λ ls. l ∷ ls) p.split;
+      first = (h.0, p.first);
+      second = p.second;
+    }
+
+-- the line `end`
+pub end_line : LineReadsAs (codes "end") end
+unfolding tokens_from piece_at
+end_line = record { printed = refl; valid = tt }
+
+-- lines of paragraphs and of a batch that is open begin a script
+pub open_begins : (lines : List (List ℕ)) (forms inside : List Form) (paragraphs : List Paragraph)
+    → LinesReadAs lines forms → forms ≡ forms_of paragraphs ++ begin ∷ inside → All IsParagraph paragraphs
+    → All StandsInside inside → BeginScript lines
+open_begins lines forms inside paragraphs h split each stand = (
+  codes "end" ∷ [],
+  paragraphs ++ several inside ∷ [],
+  record {
+    forms =
+        let whole : forms ++ end ∷ [] ≡ forms_of (paragraphs ++ several inside ∷ []) =
+        ap (λ fs. fs ++ end ∷ []) split
+        ∙ append_assoc (forms_of paragraphs) (begin ∷ inside) (end ∷ [])
+        ∙ sym (forms_of-push paragraphs (several inside)) in
+        rw (← whole) (LinesReadAs-append lines (codes "end" ∷ []) forms (end ∷ []) h (end_line, tt));
+    each =
+        All-append IsParagraph paragraphs (several inside ∷ []) each
+        (All-cons IsParagraph (several inside) [] stand (All-nil IsParagraph));
+  },
+)
+
+pub closed_begins : (lines : List (List ℕ)) (paragraphs : List Paragraph) → AreLinesOf lines paragraphs
+    → BeginScript lines
+closed_begins lines paragraphs h =
+    let whole = append-nil lines in ([], paragraphs, rw whole h)
+
+-- the front of lines that begin a script begins one
+begins-front : (xs ys : List (List ℕ)) → BeginScript (xs ++ ys) → BeginScript xs
+begins-front xs ys (more, paragraphs, h) = (ys ++ more, paragraphs, rw (append_assoc xs ys more) at h)
+
+-- what the lines of a text come to
+whole_of : (lines : List (List ℕ)) (paragraphs : List Paragraph) → AreLinesOf lines paragraphs
+    → assemble 1 (forms_of paragraphs) nothing_assembled ≡ Some (assembled (items_of 1 paragraphs) None [])
+whole_of lines paragraphs h = assemble-paragraphs 1 paragraphs [] h.each
+
+items_in : Option Assembled → List ScriptItem
+items_in None = []
+items_in (Some a) = a.items
+
+opened_in : Option Assembled → Option ℕ
+opened_in None = None
+opened_in (Some a) = a.opened
 
 -- a text reads as one list of items at most
 pub reads_once : (text : List ℕ) (items others : List ScriptItem) → ReadsAs text items → ReadsAs text others
     → items ≡ others
+unfolding items_in
 reads_once text items others h k =
-    sym h.stand_for ∙ ap (items_of 1) (forms_once (lines_of text) h.forms k.forms h.lines k.lines) ∙ k.stand_for
+    sym h.stand_for
+    ∙ ap items_in (sym (whole_of (lines_of text) h.paragraphs h.lines)
+    ∙ assemble-once 1 (lines_of text) (forms_of h.paragraphs) (forms_of k.paragraphs) nothing_assembled h.lines.forms
+    k.lines.forms
+    ∙ whole_of (lines_of text) k.paragraphs k.lines)
+    ∙ k.stand_for
 
--- a line without a form is not among lines that have forms
-bad_among : (before after : List (List ℕ)) (line : List ℕ) (forms : List Form)
-    → LinesReadAs (before ++ line ∷ after) forms → HasForm line
-bad_among [] after line [] h = absurd h
-bad_among [] after line (f ∷ forms) h = (f, h.0)
-bad_among (l ∷ before) after line [] h = absurd h
-bad_among (l ∷ before) after line (f ∷ forms) h = bad_among before after line forms h.1
+-- the forms of a text with an open batch, and what they come to
+open_forms : (text : List ℕ) (k : ℕ) → IsOpenAt text k → List Form
+open_forms text k h = forms_of h.paragraphs ++ begin ∷ h.inside
 
--- a text that reads has no line without a form
-pub reads_without_bad : (text line : List ℕ) (k : ℕ) (items : List ScriptItem) → ReadsAs text items
-    → ¬ IsFirstBad text k line
-reads_without_bad text line k items h = λ bad.
-    bad.bad (bad_among bad.before bad.after line h.forms (rw bad.split at h.lines))
+open-reads : (text : List ℕ) (k : ℕ) (h : IsOpenAt text k) → LinesReadAs (lines_of text) (open_forms text k h)
+unfolding open_forms
+open-reads text k h =
+    rw h.here.split (LinesReadAs-append h.before (h.line ∷ h.after) (forms_of h.paragraphs) (begin ∷ h.inside)
+    h.closed.forms (h.opens, h.reads))
 
--- two places that split lines at the first one without a form are one
-split_once : (fore front back behind : List (List ℕ)) (line other : List ℕ)
-    → fore ++ line ∷ back ≡ front ++ other ∷ behind → All HasForm fore → All HasForm front → ¬ HasForm line
-    → ¬ HasForm other → (length fore ≡ length front) × (line ≡ other)
-split_once [] [] back behind line other same h k bad worse = (refl, cc)
-split_once [] (l ∷ front) back behind line other same h k bad worse =
-    let here : l ≡ line = cc in
-    absurd (bad (rw here at (All-head HasForm l front k)))
-split_once (l ∷ fore) [] back behind line other same h k bad worse =
-    let here : l ≡ other = cc in
-    absurd (worse (rw here at (All-head HasForm l fore h)))
-split_once (l ∷ fore) (m ∷ front) back behind line other same h k bad worse =
-    let rest : fore ++ line ∷ back ≡ front ++ other ∷ behind = cc in
-    let both = split_once fore front back behind line other rest (All-tail HasForm l fore h)
-    (All-tail HasForm m front k) bad worse in
-    (omega (arith, both.0), both.1)
+open-comes : (text : List ℕ) (k : ℕ) (h : IsOpenAt text k)
+    → opened_in (assemble 1 (open_forms text k h) nothing_assembled) ≡ Some k
+unfolding open_forms opened_in
+open-comes text k h =
+    let items = items_of 1 h.paragraphs in
+    let n = 1 + length (forms_of h.paragraphs) in
+    let here : 1 + length (forms_of h.paragraphs) ≡ k =
+    omega (arith, LinesReadAs-length h.before (forms_of h.paragraphs) h.closed.forms, h.here.numbered) in
+    ap opened_in (assemble-append 1 (forms_of h.paragraphs) (begin ∷ h.inside) nothing_assembled
+    ∙ ap (λ o. and_then o (λ b. assemble (1 + length (forms_of h.paragraphs)) (begin ∷ h.inside) b))
+    (whole_of h.before h.paragraphs h.closed)
+    ∙ assemble-inside (1 + length (forms_of h.paragraphs) + 1) (1 + length (forms_of h.paragraphs)) h.inside items []
+    h.stand)
+    ∙ ap Some here
 
--- a text has one first line without a form at most
-first_bad_once : (text line other : List ℕ) (k j : ℕ) → IsFirstBad text k line → IsFirstBad text j other
-    → (k ≡ j) × (line ≡ other)
-first_bad_once text line other k j h g =
-    let both = split_once h.before g.before h.after g.after line other (sym h.split ∙ g.split) h.have_forms g.have_forms
-    h.bad g.bad in
-    (omega (arith, h.numbered, g.numbered, both.0), both.1)
+open-starts : (text : List ℕ) (k : ℕ) → IsOpenAt text k → BeginScript (lines_of text)
+unfolding open_forms
+open-starts text k h =
+    open_begins (lines_of text) (open_forms text k h) h.inside h.paragraphs (open-reads text k h) refl h.closed.each
+    h.stand
 
--- the causes exclude one another
-syntax_once : (text : List ℕ) (k j : ℕ) → IsSyntaxAt text k → IsSyntaxAt text j → k ≡ j
-syntax_once text k j h g = (first_bad_once text h.0 g.0 k j h.1 g.1).0
+-- a text of which all lines begin a script has no bad line
+begins-not_bad : (text : List ℕ) (k : ℕ) → BeginScript (lines_of text) → ¬ IsBadAt text k
+begins-not_bad text k h = λ bad.
+    let split : lines_of text ≡ (bad.before ++ bad.line ∷ []) ++ bad.after =
+    bad.here.split ∙ sym (append_assoc bad.before (bad.line ∷ []) bad.after) in
+    bad.bad (begins-front (bad.before ++ bad.line ∷ []) bad.after (rw split at h))
 
-not_yet_once : (text : List ℕ) (k j : ℕ) → IsNotYetAt text k → IsNotYetAt text j → k ≡ j
-not_yet_once text k j h g = (first_bad_once text h.0 g.0 k j h.1 g.1).0
+-- a text that reads is not refused
+pub reads_without_syntax : (text : List ℕ) (k : ℕ) (items : List ScriptItem) → ReadsAs text items
+    → ¬ IsSyntaxAt text k
+unfolding opened_in
+reads_without_syntax text k items h = λ refused. elim refused [
+  | inl bad ↦ begins-not_bad text k (closed_begins (lines_of text) h.paragraphs h.lines) bad
+  | inr left ↦
+      let some = ap opened_in (sym (whole_of (lines_of text) h.paragraphs h.lines)
+      ∙ assemble-once 1 (lines_of text) (forms_of h.paragraphs) (open_forms text k left) nothing_assembled
+      h.lines.forms (open-reads text k left))
+      ∙ open-comes text k left in
+      cc some
+]
 
-syntax_or_not_yet : (text : List ℕ) (k j : ℕ) → IsSyntaxAt text k → ¬ IsNotYetAt text j
-syntax_or_not_yet text k j h = λ g.
-    let same = (first_bad_once text h.0 g.0 k j h.1 g.1).1 in
-    let other = h.2 in
-    let begins : begins_unbuilt (tokens_of h.0) ≡ true = rw same g.2 in
-    cc
+-- of two places in a list the earlier one, with what stands at it, is in front of the later one
+earlier : {X : Type 0} (xs ys zs ws : List X) (x y : X) → xs ++ x ∷ ys ≡ zs ++ y ∷ ws → length xs < length zs
+    → (rest : List X) × (zs ≡ (xs ++ x ∷ []) ++ rest)
+earlier xs ys [] ws x y same less = absurd (omega (arith, less))
+earlier [] ys (z ∷ zs) ws x y same less = let here : x ≡ z = cc same in (zs, rw here refl)
+earlier (v ∷ xs) ys (z ∷ zs) ws x y same less =
+    let here : v ≡ z = cc same in
+    let rest = earlier xs ys zs ws x y (cc same) (omega (arith, less)) in
+    (rest.0, rw here (ap (λ l. z ∷ l) rest.1))
 
--- what an error says of the text
-pub record SaysCause (text : List ℕ) (e : ScriptError) : Type 0 where
-  pub fits : e ≡ error.TooLong → ⊥
-  pub syntax : (k : ℕ) → e ≡ error.Syntax k → IsSyntaxAt text k
-  pub not_yet : (k : ℕ) → e ≡ error.NotYet k → IsNotYetAt text k
+-- no bad line stands before another
+bad-first : (text : List ℕ) (k j : ℕ) (h : IsBadAt text k) (g : IsBadAt text j)
+    → length h.before < length g.before → ⊥
+bad-first text k j h g less =
+    let e = earlier h.before h.after g.before g.after h.line g.line (sym h.here.split ∙ g.here.split) less in
+    h.bad (begins-front (h.before ++ h.line ∷ []) e.0 (rw e.1 at g.begins))
+
+compare_lengths : (m n : ℕ) → (m < n) ⊎ ((n < m) ⊎ (m ≡ n))
+compare_lengths m n = grind arith
+
+-- a text is refused at one line at most
+bad_once : (text : List ℕ) (k j : ℕ) → IsBadAt text k → IsBadAt text j → k ≡ j
+bad_once text k j h g = elim (compare_lengths (length h.before) (length g.before)) [
+  | inl less ↦ absurd (bad-first text k j h g less)
+  | inr other ↦ elim other [
+    | inl more ↦ absurd (bad-first text j k g h more)
+    | inr same ↦ omega (arith, same, h.here.numbered, g.here.numbered)
+  ]
+]
+
+open_once : (text : List ℕ) (k j : ℕ) → IsOpenAt text k → IsOpenAt text j → k ≡ j
+unfolding opened_in
+open_once text k j h g =
+    let same = sym (open-comes text k h)
+    ∙ ap opened_in (assemble-once 1 (lines_of text) (open_forms text k h) (open_forms text j g) nothing_assembled
+    (open-reads text k h) (open-reads text j g))
+    ∙ open-comes text j g in
+    cc same
+
+pub syntax_once : (text : List ℕ) (k j : ℕ) → IsSyntaxAt text k → IsSyntaxAt text j → k ≡ j
+syntax_once text k j (inl h) (inl g) = bad_once text k j h g
+syntax_once text k j (inl h) (inr g) = absurd (begins-not_bad text k (open-starts text j g) h)
+syntax_once text k j (inr h) (inl g) = absurd (begins-not_bad text j (open-starts text k h) g)
+syntax_once text k j (inr h) (inr g) = open_once text k j h g
 
 -- so the error is that of the text's cause, or memory ran out
-pub syntax_answered : (text : List ℕ) (k : ℕ) (e : ScriptError) → SaysCause text e → IsSyntaxAt text k
+pub syntax_answered : (text : List ℕ) (k : ℕ) (e : ScriptError) → (e ≡ error.TooLong → ⊥)
+    → ((j : ℕ) → e ≡ error.Syntax j → IsSyntaxAt text j) → IsSyntaxAt text k
     → (e ≡ error.Syntax k) ⊎ (e ≡ error.NoMemory)
-syntax_answered text k error.TooLong says h = absurd (says.fits refl)
-syntax_answered text k (error.Syntax j) says h = inl (ap error.Syntax (syntax_once text j k (says.syntax j refl) h))
-syntax_answered text k (error.NotYet j) says h = absurd (syntax_or_not_yet text k j h (says.not_yet j refl))
-syntax_answered text k error.NoMemory says h = inr refl
+syntax_answered text k error.TooLong fits says h = absurd (fits refl)
+syntax_answered text k (error.Syntax j) fits says h = inl (ap error.Syntax (syntax_once text j k (says j refl) h))
+syntax_answered text k error.NoMemory fits says h = inr refl
 
-pub not_yet_answered : (text : List ℕ) (k : ℕ) (e : ScriptError) → SaysCause text e → IsNotYetAt text k
-    → (e ≡ error.NotYet k) ⊎ (e ≡ error.NoMemory)
-not_yet_answered text k error.TooLong says h = absurd (says.fits refl)
-not_yet_answered text k (error.Syntax j) says h = absurd (syntax_or_not_yet text j k (says.syntax j refl) h)
-not_yet_answered text k (error.NotYet j) says h = inl (ap error.NotYet (not_yet_once text j k (says.not_yet j refl) h))
-not_yet_answered text k error.NoMemory says h = inr refl
+-- a text that reads is refused for want of memory alone
+pub reads_answered : (text : List ℕ) (items : List ScriptItem) (e : ScriptError) → (e ≡ error.TooLong → ⊥)
+    → ((j : ℕ) → e ≡ error.Syntax j → IsSyntaxAt text j) → ReadsAs text items → e ≡ error.NoMemory
+reads_answered text items error.TooLong fits says h = absurd (fits refl)
+reads_answered text items (error.Syntax j) fits says h = absurd (reads_without_syntax text j items h (says j refl))
+reads_answered text items error.NoMemory fits says h = refl

@@ -1,8 +1,11 @@
 pub mod ScriptNames
 pub mod ScriptScan
 pub mod Lines
+pub mod ValueTree
 pub mod Form
+pub mod Paragraph
 pub mod Item
 pub mod Size
 pub mod ScriptReading
+pub mod mirror
 pub mod Seen

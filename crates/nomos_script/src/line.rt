@@ -1,97 +1,131 @@
-//! What a line of a script stands for.
-ghost use Rattle.std.specs.Prelude.{◌≡◌, ◌∷◌, IfOk, IsErrOf, Some, codes};
-ghost use Rattle.nomos_script.specs.Form.{Form, TokensReadAs, HasForm};
-ghost use Rattle.nomos_script.specs.ScriptNames.{IsScriptName};
-ghost use Rattle.nomos_script.specs.ScriptReading.{begins_unbuilt, is_unbuilt_word};
+//! What a line of a script says.
+ghost use Rattle.std.specs.Prelude.{◌≡◌, ◌≢◌, ◌∷◌, [], IfOk, IsErrOf, codes};
+ghost use Rattle.nomos_script.specs.Form.{Form, Invocation, IsValidInvocation, TokensReadAs, HasForm, print_invocation};
 ghost use Rattle.nomos_script.specs.ScriptScan.{word, tokens_of};
-ghost use Rattle.nomos_script.specs.Seen.{StandFor};
+ghost use Rattle.nomos_script.specs.Seen.{SaysLine, Starts};
 
-use crate::item::{Batch, ScriptItem, Start};
+use crate::arguments::{name_of, read_arguments};
+use crate::item::Start;
 use crate::name::ScriptName;
 use crate::stop::Stop;
 use crate::tokens::{Token, Tokens};
-use nomos_ir::items::Items;
-use nomos_ir::value::Values;
-use std::alloc::{AllocError, Global};
+use std::alloc::Global;
 
-/// A name of its own.
-fn name_of(alloc: Global, text: &[u8]) -> Result<ScriptName, AllocError>
-    requires { IsScriptName text.now }
-    ensures { IfOk result (λ name. name ≡ text.now) }
-{
-    Ok(ScriptName::of_vec(Vec::from_slice(alloc, text)?))
+/// What a line says.
+#[derive(Drop)]
+pub(crate) enum Line {
+    Blank,
+    Deposit { name: ScriptName, units: u64 },
+    Start(Start),
+    Begin,
+    End,
+    Show,
 }
 
-/// Reads what stands behind the word `deposit`.
-fn read_deposit(alloc: Global, number: u32, tokens: &mut Tokens<'_>) -> Result<ScriptItem, Stop>
-    ensures read { IfOk result (λ item. StandFor number (word (codes "deposit") ∷ tokens.old) (Some item)) }
+// Reads what stands behind the word `deposit`.
+fn read_deposit(alloc: Global, number: u32, tokens: &mut Tokens<'_>) -> Result<Line, Stop>
+    ensures read { IfOk result (λ line. SaysLine number (word (codes "deposit") ∷ tokens.old) line) }
     ensures none { IsErrOf result Stop.NoForm → (form : Form)
         → ¬ TokensReadAs (word (codes "deposit") ∷ tokens.old) form }
 {
     let name = tokens.name()?;
     let units = tokens.units()?;
     tokens.end()?;
-    Ok(ScriptItem::Deposit {
-        line: number,
+    Ok(Line::Deposit {
         name: name_of(alloc, name)?,
         units,
     })
 }
 
-/// Reads what stands behind the word `exec`.
-fn read_exec(alloc: Global, number: u32, tokens: &mut Tokens<'_>) -> Result<ScriptItem, Stop>
-    ensures read { IfOk result (λ item. StandFor number (word (codes "exec") ∷ tokens.old) (Some item)) }
-    ensures none { IsErrOf result Stop.NoForm → (form : Form) → ¬ TokensReadAs (word (codes "exec") ∷ tokens.old) form }
+// Reads what is started, and by whom, up to the end of the line.
+fn read_start(
+    alloc: Global,
+    number: u32,
+    contract: Option<ScriptName>,
+    tokens: &mut Tokens<'_>,
+) -> Result<Start, Stop>
+    ensures read { IfOk result (λ start. Starts tokens.old number contract start) }
+    ensures none { IsErrOf result Stop.NoForm → (i : Invocation) → IsValidInvocation i
+        → tokens.old ≢ print_invocation i }
 {
     let sender = tokens.name()?;
     let proc = tokens.name()?;
-    tokens.no_arguments()?;
-    let mut starts = Vec::new(alloc);
-    starts.push(Start {
+    let arguments = read_arguments(alloc, tokens)?;
+    Ok(Start {
         line: number,
         sender: name_of(alloc, sender)?,
         proc: name_of(alloc, proc)?,
-        values: Values::of_vec(Vec::new(alloc)),
-        names: Items::of_vec(Vec::new(alloc)),
-        contract: None,
-    })?;
-    Ok(ScriptItem::Batch(Batch {
-        line: number,
-        starts: Items::of_vec(starts),
-    }))
+        values: arguments.values,
+        names: arguments.names,
+        contract,
+    })
 }
 
-/// What the line with this number stands for; a blank line and a comment stand for nothing.
-pub(crate) fn read_line(alloc: Global, number: u32, line: &[u8]) -> Result<Option<ScriptItem>, Stop>
-    ensures read { IfOk result (λ item. StandFor number (tokens_of line.now) item) }
+// Reads what stands behind the word `exec`.
+fn read_exec(alloc: Global, number: u32, tokens: &mut Tokens<'_>) -> Result<Line, Stop>
+    ensures read { IfOk result (λ line. SaysLine number (word (codes "exec") ∷ tokens.old) line) }
+    ensures none { IsErrOf result Stop.NoForm → (form : Form) → ¬ TokensReadAs (word (codes "exec") ∷ tokens.old) form }
+{
+    Ok(Line::Start(read_start(alloc, number, None, tokens)?))
+}
+
+// Reads what stands behind the word `let`.
+fn read_create(alloc: Global, number: u32, tokens: &mut Tokens<'_>) -> Result<Line, Stop>
+    ensures read { IfOk result (λ line. SaysLine number (word (codes "let") ∷ tokens.old) line) }
+    ensures none { IsErrOf result Stop.NoForm → (form : Form) → ¬ TokensReadAs (word (codes "let") ∷ tokens.old) form }
+{
+    let contract = tokens.name()?;
+    tokens.expect(b'=')?;
+    tokens.word(b"new")?;
+    let contract = name_of(alloc, contract)?;
+    Ok(Line::Start(read_start(alloc, number, Some(contract), tokens)?))
+}
+
+// Reads nothing behind the word of a line that says this.
+fn read_end(tokens: &mut Tokens<'_>, line: Line) -> Result<Line, Stop>
+    ensures read { IfOk result (λ said. (tokens.old ≡ []) × (said ≡ line)) }
+    ensures none { IsErrOf result Stop.NoForm → tokens.old ≢ [] }
+{
+    tokens.end()?;
+    Ok(line)
+}
+
+// Reads what stands behind the first word of a line.
+fn read_behind(
+    alloc: Global,
+    number: u32,
+    first: &[u8],
+    tokens: &mut Tokens<'_>,
+) -> Result<Line, Stop>
+    ensures read { IfOk result (λ said. SaysLine number (word first.now ∷ tokens.old) said) }
+    ensures none { IsErrOf result Stop.NoForm → (form : Form) → ¬ TokensReadAs (word first.now ∷ tokens.old) form }
+{
+    if first == b"deposit".as_slice() {
+        read_deposit(alloc, number, tokens)
+    } else if first == b"let".as_slice() {
+        read_create(alloc, number, tokens)
+    } else if first == b"exec".as_slice() {
+        read_exec(alloc, number, tokens)
+    } else if first == b"begin".as_slice() {
+        read_end(tokens, Line::Begin)
+    } else if first == b"end".as_slice() {
+        read_end(tokens, Line::End)
+    } else if first == b"show".as_slice() {
+        read_end(tokens, Line::Show)
+    } else {
+        Err(Stop::NoForm)
+    }
+}
+
+/// What the line with this number says.
+pub(crate) fn read_line(alloc: Global, number: u32, line: &[u8]) -> Result<Line, Stop>
+    ensures read { IfOk result (λ said. SaysLine number (tokens_of line.now) said) }
     ensures none { IsErrOf result Stop.NoForm → ¬ HasForm line.now }
 {
     let mut tokens = Tokens::new(line);
     match tokens.next() {
-        None => Ok(None),
-        Some(Token::Word(b"deposit")) => Ok(Some(read_deposit(alloc, number, &mut tokens)?)),
-        Some(Token::Word(b"exec")) => Ok(Some(read_exec(alloc, number, &mut tokens)?)),
+        None => Ok(Line::Blank),
+        Some(Token::Word(first)) => read_behind(alloc, number, first, &mut tokens),
         Some(_) => Err(Stop::NoForm),
-    }
-}
-
-/// Whether this word begins lines that are not built yet, or are built in one form only.
-fn is_unbuilt_word(text: &[u8]) -> bool
-    ensures { result ≡ is_unbuilt_word text.now }
-{
-    text == b"let".as_slice()
-        || text == b"begin".as_slice()
-        || text == b"end".as_slice()
-        || text == b"show".as_slice()
-        || text == b"exec".as_slice()
-}
-
-/// Whether the line begins with such a word.
-pub(crate) fn begins_unbuilt(line: &[u8]) -> bool
-    ensures { result ≡ begins_unbuilt (tokens_of line.now) }
-{
-    match Tokens::new(line).next() {
-        Some(Token::Word(text)) => is_unbuilt_word(text),
-        _ => false,
     }
 }

@@ -1,20 +1,16 @@
 //! The tokens of a line that are left to read.
-ghost use Rattle.std.specs.Prelude.{◌≡◌, ◌≢◌, ◌<◌, ◌≤◌, ℕ, MatchOption, IfSome, SomeIff, IfOk, OnOk, IsErrOf, false, List, [], ◌∷◌, length, drop, slice_index, codes};
+ghost use Rattle.std.specs.Prelude.{◌≡◌, ◌≢◌, ◌<◌, ◌≤◌, ℕ, MatchOption, IfSome, IfOk, OnOk, IsErrOf, false, List, [], ◌∷◌, length, drop, slice_index};
 ghost use Rattle.std.specs.List.{prefix_len};
-ghost use Rattle.std.specs.Str.Parse.{IsNumeral};
-ghost use Rattle.nomos_script.specs.Form.{units_of, max_units};
 ghost use Rattle.nomos_script.specs.ScriptNames.{IsScriptName};
 ghost use Rattle.nomos_script.specs.ScriptScan.{Token as Lexeme, word, mark, is_blank, begins_comment, tokens_of};
 ghost use Rattle.nomos_script.specs.Seen.{token_seen, HasDigits, BeginsWithName, BeginsWithUnits};
 
 use crate::bytes::is_blank;
 use crate::name::is_script_name;
+use crate::number::units_of;
 use crate::stop::Stop;
 use nomos_ir::letters::{digits_length, is_digit, is_letter, word_length};
 use std::marker::Model;
-
-/// The most units of one deposit.
-const MAX_UNITS: u64 = 1_000_000_000_000_000_000;
 
 /// What a token says: a word, a number, or any other byte.
 #[derive(Clone, Copy, Debug)]
@@ -99,20 +95,6 @@ fn split_token(line: &[u8]) -> (Option<Token<'_>>, &[u8])
     (Some(token), &text[length..])
 }
 
-/// The units that a numeral writes, unless they are too many for one deposit.
-fn units_of(digits: &[u8]) -> Option<u64>
-    requires { IsNumeral 10 digits.now }
-    ensures { SomeIff result (units_of digits.now ≤ max_units) (units_of digits.now) }
-{
-    let Ok(text) = str::from_utf8(digits) else {
-        return None;
-    };
-    match text.parse::<u64>() {
-        Ok(units) if units <= MAX_UNITS => Some(units),
-        _ => None,
-    }
-}
-
 impl<'a> Tokens<'a> {
     /// The tokens of a line.
     pub(crate) fn new(line: &'a [u8]) -> Tokens<'a>
@@ -154,20 +136,19 @@ impl<'a> Tokens<'a> {
         }
     }
 
-    /// Takes the tokens `(`, `;` and `)`, which have to be the last.
-    pub(crate) fn no_arguments(&mut self) -> Result<(), Stop>
-        ensures marks { OnOk result (self.old ≡ mark (codes "(") ∷ mark (codes ";") ∷ mark (codes ")") ∷ []) }
-        ensures none { IsErrOf result Stop.NoForm
-            → self.old ≢ mark (codes "(") ∷ mark (codes ";") ∷ mark (codes ")") ∷ [] }
+    /// Takes the next token, which has to be this word.
+    pub(crate) fn word(&mut self, text: &[u8]) -> Result<(), Stop>
+        ensures word { OnOk result (self.old ≡ word text.now ∷ self.new) }
+        ensures none { IsErrOf result Stop.NoForm → (rest : List Lexeme) → self.old ≢ word text.now ∷ rest }
     {
-        self.expect(b'(')?;
-        self.expect(b';')?;
-        self.expect(b')')?;
-        self.end()
+        match self.next() {
+            Some(Token::Word(found)) if found == text => Ok(()),
+            _ => Err(Stop::NoForm),
+        }
     }
 
     /// Takes the next token, which has to be this byte.
-    fn expect(&mut self, byte: u8) -> Result<(), Stop>
+    pub(crate) fn expect(&mut self, byte: u8) -> Result<(), Stop>
         ensures mark { OnOk result (self.old ≡ mark (byte ∷ []) ∷ self.new) }
         ensures none { IsErrOf result Stop.NoForm → (rest : List Lexeme) → self.old ≢ mark (byte ∷ []) ∷ rest }
     {

@@ -11,7 +11,6 @@ use Rattle.nomos_base.specs.Source.{TakesAll, TakesExactly}
 use Rattle.nomos_least.specs.LeastBounds.{IsLeastAs}
 use Rattle.nomos_least.specs.declared.least.LeastBounds.{LeastBounds}
 use Rattle.nomos_ledger.specs.declared.journal.Journal.{Journal}
-use Rattle.nomos_script.specs.ScriptReading.{ReadsAs}
 use Rattle.nomos_script.specs.declared.item.ScriptItem.{ScriptItem}
 use Rattle.nomos_simplex.specs.declared.solved.Stop.{Stop}
 use Rattle.nomos_syntax.specs.Limits.{text_limit}
@@ -22,6 +21,7 @@ use Rattle.nomos_top.specs.LeastBlock.{least_block}
 use Rattle.nomos_top.specs.Progress.{HasCome}
 use Rattle.nomos_top.specs.Refusal.{refusal, unsolved_line, not_yet_line}
 use Rattle.nomos_top.specs.Runnable.{is_runnable}
+use Rattle.nomos_top.specs.Taken.{IsTakenAs}
 use Rattle.nomos_top.specs.Words.{Task, task_of}
 use Rattle.nomos_top.specs.declared.due.Due.{Due}
 use Rattle.nomos_top.specs.declared.due.Part.{Part}
@@ -234,7 +234,7 @@ due_of-line a left counts text due code bytes runnable told is_due parts = (
 pub due_of-run : (a : Acceptance) (left : Option (List ℕ)) (counts : FaultCounts) (text : List ℕ)
     (items : List ScriptItem)
     (code : ℕ) (bytes : List ℕ) (given : Option Acceptance) (kept : Journal) → is_runnable a.program ≡ true
-    → IsTextOf left text → ReadsAs text items → HasRunAs a items code bytes given kept
+    → IsTextOf left text → IsTakenAs text items → HasRunAs a items code bytes given kept
     → IsDueOf a left counts code bytes given kept
 due_of-run a left counts text items code bytes given kept runnable told reads run = (
   text,
@@ -260,7 +260,7 @@ part_of-line a left part parts = rw (parts.accepted, parts.journal) not_run
 -- what was done of a script that is run in part
 pub part_of-run : (a : Acceptance) (left : Option (List ℕ)) (text : List ℕ) (items : List ScriptItem)
     (given : Option Acceptance) (kept : Journal) → is_runnable a.program ≡ true → IsTextOf left text
-    → ReadsAs text items → HasRunPart a items given kept → IsPartOf a left given kept
+    → IsTakenAs text items → HasRunPart a items given kept → IsPartOf a left given kept
 part_of-run a left text items given kept runnable told reads part =
     let so_far = part.so_far in
     rw part.given (run_so_far text items so_far.count kept runnable told reads (record {

@@ -12,7 +12,7 @@ use Rattle.nomos_ledger.specs.Legal.{Leads}
 use Rattle.nomos_ledger.specs.Standing.{StandsFor}
 use Rattle.nomos_ledger.specs.declared.journal.Entry.{Entry}
 use Rattle.nomos_ledger.specs.declared.journal.Journal.{Journal}
-use Rattle.nomos_script.specs.ScriptReading.{ReadsAs, IsSyntaxAt, IsNotYetAt, text_limit}
+use Rattle.nomos_script.specs.ScriptReading.{IsSyntaxAt, text_limit}
 use Rattle.nomos_script.specs.declared.item.ScriptItem.{ScriptItem}
 use Rattle.nomos_top.specs.Outcome.{FaultCounts, HaveRisen, Input, SourceState, IsTextOf, IsRun, HasStopped, HasLeastStopped, HasRun, IsDue, IsDueFor, IsPart, no_journal, steps}
 use Rattle.nomos_top.specs.Progress.{IsSoFar}
@@ -20,6 +20,7 @@ use Rattle.nomos_top.specs.Block.{read_fault_line}
 use Rattle.nomos_top.specs.Refusal.{refusal, unsolved_line}
 use Rattle.nomos_top.specs.Report.{report, run_status, AllFollowFirst}
 use Rattle.nomos_top.specs.Runnable.{is_runnable}
+use Rattle.nomos_top.specs.Taken.{IsNotYetAt, IsTakenAs}
 use Rattle.nomos_top.specs.declared.due.Due.{Due}
 use Rattle.nomos_top.specs.declared.due.Part.{Part}
 use Rattle.nomos_top.specs.declared.judging.Unaccepted.{Unaccepted}
@@ -64,7 +65,7 @@ JudgesLeast left counts (Err u) =
 
 -- what is found of the text of a script
 abbrev pub FindsText : List ℕ → Found → Type 0
-FindsText text (found.Script items) = ReadsAs text items
+FindsText text (found.Script items) = IsTakenAs text items
 FindsText text found.TooLong = text_limit < length text
 FindsText text (found.Syntax k) = IsSyntaxAt text k
 FindsText text (found.NotYet k) = IsNotYetAt text k
@@ -149,5 +150,5 @@ IsDueOf a left counts status bytes accepted journal =
 pub data IsPartOf (a : Acceptance) (left : Option (List ℕ)) : Option Acceptance → Journal → Type 0 where
   not_run : IsPartOf a left (Some a) no_journal
   run_so_far : (text : List ℕ) (items : List ScriptItem) (count : ℕ) (journal : Journal) → is_runnable a.program ≡ true
-      → IsTextOf left text → ReadsAs text items → HasRun a (take count items) journal
+      → IsTextOf left text → IsTakenAs text items → HasRun a (take count items) journal
       → IsPartOf a left (Some a) journal

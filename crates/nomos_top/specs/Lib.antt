@@ -4,6 +4,7 @@ pub mod Block
 pub mod Refusal
 pub mod Report
 pub mod Runnable
+pub mod Taken
 pub mod Outcome
 pub mod Progress
 pub mod Judging

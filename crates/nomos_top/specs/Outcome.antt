@@ -10,7 +10,7 @@ use Rattle.nomos_ledger.specs.Ledger.{LedgerState, empty_ledger}
 use Rattle.nomos_ledger.specs.Legal.{IsLegal}
 use Rattle.nomos_ledger.specs.Standing.{StandsFor}
 use Rattle.nomos_ledger.specs.declared.journal.Journal.{Journal}
-use Rattle.nomos_script.specs.ScriptReading.{ReadsAs, IsSyntaxAt, IsNotYetAt, text_limit}
+use Rattle.nomos_script.specs.ScriptReading.{IsSyntaxAt, text_limit}
 use Rattle.nomos_script.specs.declared.item.ScriptItem.{ScriptItem}
 use Rattle.nomos_simplex.specs.declared.solved.Stop.{Stop}
 use Rattle.nomos_top.specs.Block.{line, accepted_block, usage_line, read_fault_line}
@@ -18,6 +18,7 @@ use Rattle.nomos_top.specs.LeastBlock.{least_block}
 use Rattle.nomos_top.specs.Refusal.{refusal, unsolved_line, not_yet_line}
 use Rattle.nomos_top.specs.Report.{report, run_status, AllFollowFirst}
 use Rattle.nomos_top.specs.Runnable.{is_runnable}
+use Rattle.nomos_top.specs.Taken.{IsNotYetAt, IsTakenAs}
 use Rattle.nomos_top.specs.Words.{check, run, least, task_of}
 use Rattle.nomos_types.specs.Acceptance.{Acceptance}
 
@@ -122,7 +123,7 @@ pub data IsDue (words : List (List ℕ)) (contract script : Input)
       → IsDue words contract script 2 (script_refusal (codes "NotYet " ++ decimal k)) (Some a) no_journal
   -- status 0 where each entry was carried out, 3 where one was not
   ran : (a : Acceptance) (items : List ScriptItem) (journal : Journal) → IsRunOn words contract.text a
-      → ReadsAs script.text items → HasRun a items journal
+      → IsTakenAs script.text items → HasRun a items journal
       → IsDue words contract script (run_status journal.entries) (report a items journal) (Some a) journal
 
 -- the text is what the source has left, where it tells that
@@ -160,7 +161,7 @@ pub data IsPart (words : List (List ℕ)) (contract script : SourceState) : Opti
       → IsPart words contract script (Some a) no_journal
   run_part : (a : Acceptance) (text script_text : List ℕ) (items : List ScriptItem) (count : ℕ) (journal : Journal)
       → IsTextOf contract.left text → IsRunOn words text a → IsTextOf script.left script_text
-      → ReadsAs script_text items → HasRun a (take count items) journal
+      → IsTakenAs script_text items → HasRun a (take count items) journal
       → IsPart words contract script (Some a) journal
 
 -- All that is due was written, or the sink failed and a part of it was.

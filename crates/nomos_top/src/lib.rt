@@ -11,6 +11,7 @@ mod report;
 mod runnable;
 mod running;
 mod scripts;
+mod taken;
 mod top;
 
 pub use job::{Job, words};

@@ -1,7 +1,8 @@
 //! What is due for the script of a run.
 
-ghost use Rattle.std.specs.Prelude.{◌≡◌, ◌++◌, Some, IfOk, IfErr, codes, decimal, true};
+ghost use Rattle.std.specs.Prelude.{◌≡◌, ℕ, List, ◌++◌, Some, IfOk, IfErr, codes, decimal, true};
 ghost use Rattle.std.specs.List.{list_all};
+ghost use Rattle.nomos_script.specs.ScriptReading.{ReadsAs};
 ghost use Rattle.nomos_top.specs.Block.{accepted_block};
 ghost use Rattle.nomos_top.specs.Outcome.{no_journal};
 ghost use Rattle.nomos_top.specs.Judging.{HasEachStar, Finds, FindsText, IsDueAs, IsPartAs, IsDueOf, IsPartOf, HasRunAs, HasRunPart, given_of, journal_of};
@@ -12,6 +13,7 @@ use crate::block::accepted_block;
 use crate::due::{Due, Part, bare_part, journal, line_due};
 use crate::report::push_number;
 use crate::running::{Running, STEPS, run_items};
+use crate::taken::line_not_taken;
 use nomos_base::{ReadError, Source, read_all};
 use nomos_ir::items::Items;
 use nomos_ledger::journal::{End, Entry};
@@ -48,11 +50,20 @@ fn read_script_text(alloc: Global, text: &[u8]) -> Found
     ensures { FindsText text.now result }
 {
     match parse_script(alloc, text) {
-        Ok(script) => Found::Script(script),
+        Ok(script) => found_script(script),
         Err(ScriptError::TooLong) => Found::TooLong,
         Err(ScriptError::Syntax(line)) => Found::Syntax(line),
-        Err(ScriptError::NotYet(line)) => Found::NotYet(line),
         Err(ScriptError::NoMemory) => Found::NoMemory,
+    }
+}
+
+// What is found of a script that reads.
+fn found_script(script: Script) -> Found
+    ensures { (text : List ℕ) → ReadsAs text script → FindsText text result }
+{
+    match line_not_taken(script.items().as_slice()) {
+        Some(line) => Found::NotYet(line),
+        None => Found::Script(script),
     }
 }
 

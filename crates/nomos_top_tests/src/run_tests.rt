@@ -54,7 +54,24 @@ fn runs_scripts(rt: HostRuntime) -> Result<(), Fail> {
             "deposit u 1\nhello\n",
             "2 true 0 (0, 0, 0)\nscript refused Syntax 2\n",
         ),
-        ("begin\n", "2 true 0 (0, 0, 0)\nscript refused NotYet 1\n"),
+        ("begin\n", "2 true 0 (0, 0, 0)\nscript refused Syntax 1\n"),
+        (
+            "deposit u 1\nbegin\nexec u t(;)\nend\n",
+            "2 true 0 (0, 0, 0)\nscript refused NotYet 2\n",
+        ),
+        ("show\n", "2 true 0 (0, 0, 0)\nscript refused NotYet 1\n"),
+        (
+            "let c = new u mk(;)\n",
+            "2 true 0 (0, 0, 0)\nscript refused NotYet 1\n",
+        ),
+        (
+            "exec u t(;p)\n",
+            "2 true 0 (0, 0, 0)\nscript refused NotYet 1\n",
+        ),
+        (
+            "show\nhello\n",
+            "2 true 0 (0, 0, 0)\nscript refused Syntax 2\n",
+        ),
         (
             "\n\nexec u t(5;)\n",
             "2 true 0 (0, 0, 0)\nscript refused NotYet 3\n",

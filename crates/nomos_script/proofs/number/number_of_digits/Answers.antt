@@ -1,7 +1,7 @@
 -- Digits are text.
 use Rattle.std.proofs.lemmas.Fmt.{IsAscii-from_digits}
 use Rattle.std.proofs.lemmas.Str.{IsUtf8-from_ascii}
-use Rattle.nomos_script.proofs.tokens.units_of.Goals as goal
+use Rattle.nomos_script.proofs.number.number_of_digits.Goals as goal
 
 pub returns-in_default : goal.returns-in_default
 returns-in_default c = λ _.

@@ -1,0 +1,3 @@
+-- Mirrors of the code, step by step. No promise stands on them.
+pub mod ValueReading
+pub mod Assembling

@@ -1,0 +1,223 @@
+//! How the values of a line are read, token by token.
+ghost use Rattle.std.specs.Prelude.{◌≡◌, ◌∷◌, ◌++◌, [], ℕ, true, false, nat_le, IfOk, OnOk, IsErrOf, Some, None};
+ghost use Rattle.nomos_ir.specs.Value.{int, truth, list, value_list};
+ghost use Rattle.nomos_ir.specs.Weight.{list_weight, max_weight};
+ghost use Rattle.nomos_script.specs.mirror.ValueReading.{nothing_read, awaits_value, may_end, put, put_number, take_digits, take_word, open_list, close_list, take_mark, take_token, ends_values, read_values};
+ghost use Rattle.nomos_script.specs.Seen.{token_seen, HasDigits};
+ghost use Rattle.std.specs.Str.Parse.{IsNumeral};
+
+use crate::number::signed_number;
+use crate::stop::Stop;
+use crate::tokens::{Token, Tokens};
+use crate::weighed::{OpenList, WeighedValue};
+use nomos_ir::stack::Stack;
+use nomos_ir::value::Values;
+use nomos_ir::value_node::ValueNode;
+use std::alloc::Global;
+use std::marker::Model;
+
+/// The most lists of a value that stand in one another.
+const MAX_NESTING: usize = 64;
+
+/// What may come next among values.
+#[derive(Clone, Copy, PartialEq, Eq, Debug)]
+pub(crate) enum Awaited {
+    /// A value, or the end of the list or of all values: behind the begin.
+    FirstValue,
+    /// A value: behind a comma.
+    NextValue,
+    /// The digits of a number: behind `-`.
+    Digits,
+    /// A comma, or the end: behind a value.
+    Separator,
+}
+
+impl Awaited {
+    /// Whether a value may begin here.
+    fn awaits_value(self) -> bool
+        ensures { result ≡ awaits_value self }
+    {
+        matches!(self, Awaited::FirstValue | Awaited::NextValue)
+    }
+
+    /// Whether the values, or a list, may end here.
+    fn may_end(self) -> bool
+        ensures { result ≡ may_end self }
+    {
+        matches!(self, Awaited::FirstValue | Awaited::Separator)
+    }
+}
+
+/// The values that were read to their end, the lists that are open, and what may come next.
+#[derive(Drop)]
+struct ValueReader {
+    values: Vec<ValueNode>,
+    open_lists: Stack<OpenList>,
+    next: Awaited,
+}
+
+impl Model for ValueReader {
+    ghost use Rattle.std.specs.Prelude.{map};
+    ghost use Rattle.nomos_ir.specs.ValueNode.{value_of};
+    ghost use Rattle.nomos_ir.specs.ValueCode.{value_code};
+    ghost use Rattle.std.specs.Coded.{codes};
+    ghost use Rattle.nomos_script.specs.mirror.ValueReading.{ReadValues};
+
+    ghost Value = { ReadValues };
+
+    ghost coded = { Prim.hlevel (codes, value_code) };
+
+    ghost view = { λ r. record {
+      values = map value_of r.values.items;
+      open_lists = r.open_lists;
+      next = r.next;
+    } };
+}
+
+impl ValueReader {
+    // Nothing was read yet.
+    fn new(alloc: Global) -> ValueReader
+        ensures { result ≡ nothing_read }
+    {
+        ValueReader {
+            values: Vec::new(alloc),
+            open_lists: Stack::new(alloc),
+            next: Awaited::FirstValue,
+        }
+    }
+
+    // Puts a value to the innermost open list, or behind the values.
+    fn put(&mut self, value: WeighedValue) -> Result<(), Stop>
+        ensures ok { OnOk result (put value self.old ≡ Some self.new) }
+        ensures none { IsErrOf result Stop.NoForm → put value self.old ≡ None }
+    {
+        match self.open_lists.pop() {
+            None => self.values.push(value.into_node())?,
+            Some(mut list) => {
+                list.put(value)?;
+                self.open_lists.push(list)?;
+            }
+        }
+        self.next = Awaited::Separator;
+        Ok(())
+    }
+
+    // Puts the number that digits write, with `-` before them or without it.
+    fn put_number(&mut self, minus: bool, digits: &[u8]) -> Result<(), Stop>
+        requires { IsNumeral 10 digits.now }
+        ensures ok { OnOk result (put_number minus digits.now self.old ≡ Some self.new) }
+        ensures none { IsErrOf result Stop.NoForm → put_number minus digits.now self.old ≡ None }
+    {
+        match signed_number(minus, digits) {
+            Some(n) => self.put(WeighedValue::int(n)),
+            None => Err(Stop::NoForm),
+        }
+    }
+
+    // Takes digits.
+    fn take_digits(&mut self, digits: &[u8]) -> Result<(), Stop>
+        requires { IsNumeral 10 digits.now }
+        ensures ok { OnOk result (take_digits self.old.next digits.now self.old ≡ Some self.new) }
+        ensures none { IsErrOf result Stop.NoForm → take_digits self.old.next digits.now self.old ≡ None }
+    {
+        match self.next {
+            Awaited::FirstValue | Awaited::NextValue => self.put_number(false, digits),
+            Awaited::Digits => self.put_number(true, digits),
+            Awaited::Separator => Err(Stop::NoForm),
+        }
+    }
+
+    // Takes a word, where a value may begin.
+    fn take_word(&mut self, text: &[u8]) -> Result<(), Stop>
+        ensures ok { OnOk result (take_word text.now self.old ≡ Some self.new) }
+        ensures none { IsErrOf result Stop.NoForm → take_word text.now self.old ≡ None }
+    {
+        if text == b"true".as_slice() {
+            self.put(WeighedValue::truth(true))
+        } else if text == b"false".as_slice() {
+            self.put(WeighedValue::truth(false))
+        } else {
+            Err(Stop::NoForm)
+        }
+    }
+
+    // Opens a list.
+    fn open_list(&mut self, alloc: Global) -> Result<(), Stop>
+        ensures ok { OnOk result (open_list self.old ≡ Some self.new) }
+        ensures none { IsErrOf result Stop.NoForm → open_list self.old ≡ None }
+    {
+        if self.open_lists.len() >= MAX_NESTING {
+            return Err(Stop::NoForm);
+        }
+        self.open_lists.push(OpenList::new(alloc))?;
+        self.next = Awaited::FirstValue;
+        Ok(())
+    }
+
+    // Closes the innermost list.
+    fn close_list(&mut self) -> Result<(), Stop>
+        ensures ok { OnOk result (close_list self.old.values self.old.open_lists ≡ Some self.new) }
+        ensures none { IsErrOf result Stop.NoForm → close_list self.old.values self.old.open_lists ≡ None }
+    {
+        match self.open_lists.pop() {
+            Some(list) => self.put(list.into_value()),
+            None => Err(Stop::NoForm),
+        }
+    }
+
+    // Takes a byte that belongs to no word and no number.
+    fn take_mark(&mut self, alloc: Global, byte: u8) -> Result<(), Stop>
+        ensures ok { OnOk result (take_mark byte self.old ≡ Some self.new) }
+        ensures none { IsErrOf result Stop.NoForm → take_mark byte self.old ≡ None }
+    {
+        match byte {
+            b'[' if self.next.awaits_value() => self.open_list(alloc),
+            b'-' if self.next.awaits_value() => {
+                self.next = Awaited::Digits;
+                Ok(())
+            }
+            b']' if self.next.may_end() => self.close_list(),
+            b',' if self.next == Awaited::Separator => {
+                self.next = Awaited::NextValue;
+                Ok(())
+            }
+            _ => Err(Stop::NoForm),
+        }
+    }
+
+    // Takes a token.
+    fn take(&mut self, alloc: Global, token: Token<'_>) -> Result<(), Stop>
+        requires { HasDigits token }
+        ensures ok { OnOk result (take_token (token_seen token.entry) self.old ≡ Some self.new) }
+        ensures none { IsErrOf result Stop.NoForm → take_token (token_seen token.entry) self.old ≡ None }
+    {
+        match token {
+            Token::Word(text) if self.next.awaits_value() => self.take_word(text),
+            Token::Word(_) => Err(Stop::NoForm),
+            Token::Number(digits) => self.take_digits(digits),
+            Token::Mark(byte) => self.take_mark(alloc, byte),
+        }
+    }
+
+    // Whether the token ends the values.
+    fn ends_at(&self, token: Token<'_>) -> bool
+        ensures { result ≡ ends_values (token_seen token.entry) self.now }
+    {
+        matches!(token, Token::Mark(b';')) && self.open_lists.len() == 0 && self.next.may_end()
+    }
+}
+
+/// Takes values with commas between them, and the `;` behind them.
+pub(crate) fn read_values(alloc: Global, tokens: &mut Tokens<'_>) -> Result<Values, Stop>
+    ensures ok { IfOk result (λ values. read_values nothing_read tokens.old ≡ Some (values, tokens.new)) }
+    ensures none { IsErrOf result Stop.NoForm → read_values nothing_read tokens.old ≡ None }
+{
+    let mut reader = ValueReader::new(alloc);
+    while let Some(token) = tokens.next() {
+        if reader.ends_at(token) {
+            return Ok(Values::of_vec(reader.values));
+        }
+        reader.take(alloc, token)?;
+    }
+    Err(Stop::NoForm)
+}
