@@ -13,8 +13,9 @@ use Rattle.nomos_eval.specs.declared.datum.Datum.{Datum}
 use Rattle.nomos_eval.specs.declared.datum.Datum.TheVariants as datum
 use Rattle.nomos_eval.specs.declared.machine.Machine.{Machine}
 use Rattle.nomos_eval.specs.declared.numbers.Operator.{Operator}
-use Rattle.nomos_eval.specs.declared.stop.Stop.{Stop}
-use Rattle.nomos_eval.specs.declared.stop.Stop.TheVariants as stop
+use Rattle.nomos_ir.specs.declared.fault.Fault.{Fault}
+use Rattle.nomos_ir.specs.declared.or_no_memory.OrNoMemory.{OrNoMemory}
+use Rattle.nomos_ir.specs.declared.or_no_memory.OrNoMemory.TheVariants as stop
 use Rattle.nomos_eval.specs.mirror.Machine.{held, scopes_held, IsSound, IsDone, Stops, Operated, top_datum, below_top}
 use Rattle.nomos_eval.specs.mirror.Operation.{operation}
 use Rattle.nomos_eval.specs.mirror.Rest.{rest, top, below}
@@ -100,10 +101,10 @@ numbers-done operator old mid others values x y d sound last mid_is first others
       less = omega arith;
     })
 
-pub numbers-fault : (operator : Operator) (old : Machine) (mid others : List Datum) (x y : Datum) (why : Stop)
-    → y ≡ top_datum old.values → mid ≡ below_top old.values → x ≡ top_datum mid → others ≡ below_top mid
-    → Operated operator x y (Err why) → Stops (act.Numbers operator) old why
-numbers-fault operator old mid others x y (stop.Fault f) last mid_is first others_is gave =
+pub numbers-fault : (operator : Operator) (old : Machine) (mid others : List Datum) (x y : Datum)
+    (why : OrNoMemory Fault) → y ≡ top_datum old.values → mid ≡ below_top old.values → x ≡ top_datum mid
+    → others ≡ below_top mid → Operated operator x y (Err why) → Stops (act.Numbers operator) old why
+numbers-fault operator old mid others x y (stop.Answer f) last mid_is first others_is gave =
     λ program n. numbers-step program old.lists (scopes_held old) old.todo operator old.values others x y n
     (taken old.values mid others x y last mid_is first others_is)
     ∙ ap (λ e. go_on e (λ v. rest (evaluation_from program) program (scopes_held old) old.todo

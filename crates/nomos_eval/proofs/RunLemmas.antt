@@ -12,26 +12,27 @@ use Rattle.nomos_eval.specs.declared.act.Scope.{Scope}
 use Rattle.nomos_eval.specs.declared.datum.Datum.{Datum}
 use Rattle.nomos_eval.specs.declared.datum.Datum.TheVariants as datum
 use Rattle.nomos_eval.specs.declared.machine.Machine.{Machine}
-use Rattle.nomos_eval.specs.declared.stop.Stop.{Stop}
-use Rattle.nomos_eval.specs.declared.stop.Stop.TheVariants as stop
+use Rattle.nomos_ir.specs.declared.fault.Fault.{Fault}
+use Rattle.nomos_ir.specs.declared.or_no_memory.OrNoMemory.{OrNoMemory}
+use Rattle.nomos_ir.specs.declared.or_no_memory.OrNoMemory.TheVariants as stop
 use Rattle.nomos_eval.specs.mirror.Machine.{scopes_held, left_of, left_with, IsSound, IsEntered, IsDoneFor, Does, DoesFor, StopsFor}
 use Rattle.nomos_eval.specs.mirror.Rest.{variables_at}
 use Rattle.nomos_eval.specs.mirror.EvalRun.{IsEnteredAt, IsStep, StepStops}
 
 -- what holds of every program holds of one
-pub for-one : (program : ProgramLists) (a : Act) (old new : Machine) (r : Result (Unit {0}) Stop) → Does a old new r
-    → DoesFor program a old new r
+pub for-one : (program : ProgramLists) (a : Act) (old new : Machine) (r : Result (Unit {0}) (OrNoMemory Fault))
+    → Does a old new r → DoesFor program a old new r
 for-one program a old new (Ok done) does = record { sound = does.sound; same = does.same program; less = does.less }
-for-one program a old new (Err (stop.Fault f)) does = does program
+for-one program a old new (Err (stop.Answer f)) does = does program
 for-one program a old new (Err stop.NoMemory) does = tt
 
-pub for-act : (program : ProgramLists) (a b : Act) (old new : Machine) (r : Result (Unit {0}) Stop) → a ≡ b
-    → Does b old new r → DoesFor program a old new r
+pub for-act : (program : ProgramLists) (a b : Act) (old new : Machine) (r : Result (Unit {0}) (OrNoMemory Fault))
+    → a ≡ b → Does b old new r → DoesFor program a old new r
 for-act program a b old new r same does =
     let P : Act → Type 0 = λ x. DoesFor program x old new r in subst P (sym same) (for-one program b old new r does)
 
-pub for-call : (program : ProgramLists) (a b : Act) (old new : Machine) (r : Result (Unit {0}) Stop) → a ≡ b
-    → DoesFor program b old new r → DoesFor program a old new r
+pub for-call : (program : ProgramLists) (a b : Act) (old new : Machine) (r : Result (Unit {0}) (OrNoMemory Fault))
+    → a ≡ b → DoesFor program b old new r → DoesFor program a old new r
 for-call program a b old new r same does =
     let P : Act → Type 0 = λ x. DoesFor program x old new r in subst P (sym same) does
 
@@ -104,7 +105,7 @@ pub step-done : (program : ProgramLists) (a : Act) (old new : Machine) (n : ℕ)
 step-done program a old new n few done =
     record { sound = done.sound; same = done.same n; few = few; less = omega (arith, done.less) }
 
-pub step-stops : (program : ProgramLists) (a : Act) (old : Machine) (n : ℕ) (why : Stop) → StopsFor program a old why
-    → StepStops program a old n why
-step-stops program a old n (stop.Fault f) stops = stops n
+pub step-stops : (program : ProgramLists) (a : Act) (old : Machine) (n : ℕ) (why : OrNoMemory Fault)
+    → StopsFor program a old why → StepStops program a old n why
+step-stops program a old n (stop.Answer f) stops = stops n
 step-stops program a old n stop.NoMemory stops = tt

@@ -7,9 +7,9 @@ use crate::act::{Act, Scope};
 use crate::datum::Datum;
 use crate::machine::{Machine, plan};
 use crate::numbers::{Given, Operator, operate};
-use crate::stop::Stop;
 use nomos_ir::fault::Fault;
 use nomos_ir::ids::TermId;
+use nomos_ir::or_no_memory::OrNoMemory;
 use nomos_ir::stack::Stack;
 
 /// The greatest weight of a list that a term makes.
@@ -27,7 +27,7 @@ pub(crate) fn take(values: &mut Stack<Datum>) -> Datum
 }
 
 /// An operator takes the two topmost values.
-pub(crate) fn numbers(machine: &mut Machine, operator: Operator) -> Result<(), Stop>
+pub(crate) fn numbers(machine: &mut Machine, operator: Operator) -> Result<(), OrNoMemory<Fault>>
     requires { IsSound machine.old }
     ensures { Does (act.Numbers operator) machine.old machine.new result }
 {
@@ -39,7 +39,7 @@ pub(crate) fn numbers(machine: &mut Machine, operator: Operator) -> Result<(), S
 }
 
 // What an operator gives of two values: 0 where they are no numbers.
-fn number_of(operator: Operator, left: Datum, right: Datum) -> Result<Datum, Stop>
+fn number_of(operator: Operator, left: Datum, right: Datum) -> Result<Datum, OrNoMemory<Fault>>
     ensures { Operated operator left right result }
 {
     match (left, right) {
@@ -49,18 +49,18 @@ fn number_of(operator: Operator, left: Datum, right: Datum) -> Result<Datum, Sto
 }
 
 // What an operator gave, as a value or a fault.
-fn given(what: Given) -> Result<Datum, Stop>
+fn given(what: Given) -> Result<Datum, OrNoMemory<Fault>>
     ensures { IsGiven what result }
 {
     match what {
         Given::Int(z) => Ok(Datum::Int(z)),
         Given::Bool(b) => Ok(Datum::Bool(b)),
-        Given::Fault(fault) => Err(Stop::Fault(fault)),
+        Given::Fault(fault) => Err(OrNoMemory::Answer(fault)),
     }
 }
 
 /// The topmost value is to be a truth value.
-pub(crate) fn truth(machine: &mut Machine) -> Result<(), Stop>
+pub(crate) fn truth(machine: &mut Machine) -> Result<(), OrNoMemory<Fault>>
     requires { IsSound machine.old }
     ensures { Does act.Truth machine.old machine.new result }
 {
@@ -73,7 +73,7 @@ pub(crate) fn truth(machine: &mut Machine) -> Result<(), Stop>
 }
 
 /// The topmost value is turned round.
-pub(crate) fn turn_round(machine: &mut Machine) -> Result<(), Stop>
+pub(crate) fn turn_round(machine: &mut Machine) -> Result<(), OrNoMemory<Fault>>
     requires { IsSound machine.old }
     ensures { Does act.Not machine.old machine.new result }
 {
@@ -91,7 +91,7 @@ pub(crate) fn choose(
     scope: Scope,
     right: TermId,
     wrong: TermId,
-) -> Result<(), Stop>
+) -> Result<(), OrNoMemory<Fault>>
     requires sound { IsSound machine.old }
     requires inside { scope.variables < length machine.old.scopes }
     ensures { Does (act.Choose scope right wrong) machine.old machine.new result }
@@ -105,7 +105,11 @@ pub(crate) fn choose(
 }
 
 /// The topmost value is the left part of an `and`: the right one follows after true.
-pub(crate) fn both(machine: &mut Machine, scope: Scope, right: TermId) -> Result<(), Stop>
+pub(crate) fn both(
+    machine: &mut Machine,
+    scope: Scope,
+    right: TermId,
+) -> Result<(), OrNoMemory<Fault>>
     requires sound { IsSound machine.old }
     requires inside { scope.variables < length machine.old.scopes }
     ensures { Does (act.Both scope right) machine.old machine.new result }
@@ -118,7 +122,11 @@ pub(crate) fn both(machine: &mut Machine, scope: Scope, right: TermId) -> Result
 }
 
 /// The topmost value is the left part of an `or`: the right one follows after false.
-pub(crate) fn either(machine: &mut Machine, scope: Scope, right: TermId) -> Result<(), Stop>
+pub(crate) fn either(
+    machine: &mut Machine,
+    scope: Scope,
+    right: TermId,
+) -> Result<(), OrNoMemory<Fault>>
     requires sound { IsSound machine.old }
     requires inside { scope.variables < length machine.old.scopes }
     ensures { Does (act.Either scope right) machine.old machine.new result }
@@ -131,7 +139,7 @@ pub(crate) fn either(machine: &mut Machine, scope: Scope, right: TermId) -> Resu
 }
 
 /// The value before the topmost one is put before the topmost one, a list.
-pub(crate) fn put_before(machine: &mut Machine) -> Result<(), Stop>
+pub(crate) fn put_before(machine: &mut Machine) -> Result<(), OrNoMemory<Fault>>
     requires { IsSound machine.old }
     ensures { Does act.PutBefore machine.old machine.new result }
 {
@@ -141,7 +149,7 @@ pub(crate) fn put_before(machine: &mut Machine) -> Result<(), Stop>
         return Ok(machine.values.push(Datum::Int(0))?);
     };
     if machine.lists.weight(value) + machine.lists.weight(list) >= MAX_WEIGHT {
-        return Err(Stop::Fault(Fault::ListLength));
+        return Err(OrNoMemory::Answer(Fault::ListLength));
     }
     let joined = machine.lists.add_more(value, place)?;
     Ok(machine.values.push(Datum::List(joined))?)

@@ -7,19 +7,23 @@ use crate::act::{Act, Cases, Scope};
 use crate::acts::take;
 use crate::datum::Datum;
 use crate::machine::Machine;
-use crate::stop::Stop;
 use nomos_ir::fault::Fault;
 use nomos_ir::find::find_function;
 use nomos_ir::ids::{FnId, VarId};
 use nomos_ir::kind::Kind;
 use nomos_ir::lists::ProgramLists;
+use nomos_ir::or_no_memory::OrNoMemory;
 use std::alloc::AllocError;
 
 /// How many calls may be open.
 const MAX_CALLS: u32 = 1000;
 
 /// The topmost value is taken apart.
-pub(crate) fn open(machine: &mut Machine, scope: Scope, cases: Cases) -> Result<(), Stop>
+pub(crate) fn open(
+    machine: &mut Machine,
+    scope: Scope,
+    cases: Cases,
+) -> Result<(), OrNoMemory<Fault>>
     requires sound { IsSound machine.old }
     requires inside { scope.variables < length machine.old.scopes }
     ensures { Does (act.Open scope cases) machine.old machine.new result }
@@ -76,7 +80,7 @@ pub(crate) fn enter_function(
     calls: u32,
     f: FnId,
     count: usize,
-) -> Result<(), Stop>
+) -> Result<(), OrNoMemory<Fault>>
     requires { IsSound machine.old }
     ensures { DoesFor lists.now (act.Enter calls f count) machine.old machine.new result }
 {
@@ -85,7 +89,7 @@ pub(crate) fn enter_function(
         return Ok(machine.values.push(Datum::Int(0))?);
     };
     if calls >= MAX_CALLS {
-        return Err(Stop::Fault(Fault::Depth));
+        return Err(OrNoMemory::Answer(Fault::Depth));
     }
     let variables = bind(machine, function.pars.as_slice(), count)?;
     let inner = Scope {

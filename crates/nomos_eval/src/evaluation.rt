@@ -10,11 +10,11 @@ use crate::lists::Lists;
 use crate::machine::Machine;
 use crate::run::run;
 use crate::scopes::Scopes;
-use crate::stop::Stop;
 use crate::values::{load, unload};
 use nomos_ir::fault::Fault;
 use nomos_ir::ids::{TermId, VarId};
 use nomos_ir::items::Items;
+use nomos_ir::or_no_memory::OrNoMemory;
 use nomos_ir::program::Program;
 use nomos_ir::stack::Stack;
 use nomos_ir::value::{Value, Values};
@@ -83,7 +83,7 @@ pub fn eval(alloc: Global, program: &Program, t: TermId, env: &Env) -> Result<Ev
             let node = unload(alloc, &machine.lists, found)?;
             Ok(Evaluated::Value(value_from(node)))
         }
-        Err(Stop::Fault(fault)) => Ok(Evaluated::Fault(fault)),
-        Err(Stop::NoMemory) => Err(AllocError),
+        Err(OrNoMemory::Answer(fault)) => Ok(Evaluated::Fault(fault)),
+        Err(OrNoMemory::NoMemory) => Err(AllocError),
     }
 }

@@ -11,5 +11,4 @@ mod machine;
 mod numbers;
 mod run;
 mod scopes;
-mod stop;
 mod values;

@@ -9,11 +9,11 @@ use crate::acts::{both, choose, either, numbers, put_before, take, truth, turn_r
 use crate::calls::{enter_function, open};
 use crate::datum::Datum;
 use crate::machine::{Machine, enter_node};
-use crate::stop::Stop;
 use nomos_ir::fault::Fault;
 use nomos_ir::find::find_term;
 use nomos_ir::ids::TermId;
 use nomos_ir::lists::ProgramLists;
+use nomos_ir::or_no_memory::OrNoMemory;
 use std::alloc::AllocError;
 
 /// How many nodes one evaluation may enter.
@@ -37,7 +37,7 @@ fn enter(
 }
 
 // Does what is left to do, other than to enter a term.
-fn do_act(lists: &ProgramLists, machine: &mut Machine, act: Act) -> Result<(), Stop>
+fn do_act(lists: &ProgramLists, machine: &mut Machine, act: Act) -> Result<(), OrNoMemory<Fault>>
     requires sound { IsSound machine.old }
     requires inside { ScopeIn (length machine.old.scopes) act }
     requires other { IsOther act }
@@ -58,7 +58,12 @@ fn do_act(lists: &ProgramLists, machine: &mut Machine, act: Act) -> Result<(), S
 }
 
 // One step, after so many entered nodes. Gives how many are entered then.
-fn step(lists: &ProgramLists, machine: &mut Machine, act: Act, entered: u32) -> Result<u32, Stop>
+fn step(
+    lists: &ProgramLists,
+    machine: &mut Machine,
+    act: Act,
+    entered: u32,
+) -> Result<u32, OrNoMemory<Fault>>
     requires sound { IsSound machine.old }
     requires inside { ScopeIn (length machine.old.scopes) act }
     requires few { entered ≤ 100000 }
@@ -66,7 +71,7 @@ fn step(lists: &ProgramLists, machine: &mut Machine, act: Act, entered: u32) -> 
 {
     if let Act::Term(scope, t) = act {
         if entered >= MAX_NODES {
-            return Err(Stop::Fault(Fault::TermSteps));
+            return Err(OrNoMemory::Answer(Fault::TermSteps));
         }
         enter(lists, machine, scope, t)?;
         return Ok(entered + 1);
@@ -76,7 +81,7 @@ fn step(lists: &ProgramLists, machine: &mut Machine, act: Act, entered: u32) -> 
 }
 
 /// Does all that is left to do, and gives the value that was found.
-pub(crate) fn run(lists: &ProgramLists, machine: &mut Machine) -> Result<Datum, Stop>
+pub(crate) fn run(lists: &ProgramLists, machine: &mut Machine) -> Result<Datum, OrNoMemory<Fault>>
     requires { IsSound machine.old }
     ensures { Ran lists.now machine.old machine.new result }
 {

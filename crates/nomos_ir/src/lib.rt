@@ -15,6 +15,7 @@ pub mod letters;
 pub mod lists;
 pub mod mode;
 pub mod name;
+pub mod or_no_memory;
 pub mod program;
 pub mod stack;
 mod stars;

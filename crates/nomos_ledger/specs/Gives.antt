@@ -18,23 +18,23 @@ use Rattle.nomos_script.specs.declared.item.Start.{Start}
 use Rattle.nomos_ledger.specs.declared.resolved.Resolved.{Resolved}
 use Rattle.nomos_ledger.specs.Starting.{Outcome, after_start, after_starts, resolve, resolve_batch}
 use Rattle.nomos_ledger.specs.declared.refusal.Refusal.{Refusal}
-use Rattle.nomos_ledger.specs.declared.stop.Stop.{Stop}
-use Rattle.nomos_ledger.specs.declared.stop.Stop.TheVariants as stop
+use Rattle.nomos_ir.specs.declared.or_no_memory.OrNoMemory.{OrNoMemory}
+use Rattle.nomos_ir.specs.declared.or_no_memory.OrNoMemory.TheVariants as stop
 
 -- why nothing was returned: the line is refused, or memory ran out
-abbrev pub Stops : {Y : Type 0} → Stop → Outcome Y → Type 0
-Stops (stop.Refused r) outcome = outcome ≡ Err r
+abbrev pub Stops : {Y : Type 0} → OrNoMemory Refusal → Outcome Y → Type 0
+Stops (stop.Answer r) outcome = outcome ≡ Err r
 Stops stop.NoMemory outcome = Unit {0}
 
 -- what a function returned is the outcome, unless memory ran out
-abbrev pub Gives : {X Y : Type 0} → (X → Y) → Result X Stop → Outcome Y → Type 0
+abbrev pub Gives : {X Y : Type 0} → (X → Y) → Result X (OrNoMemory Refusal) → Outcome Y → Type 0
 Gives view (Ok x) outcome = outcome ≡ Ok (view x)
 Gives view (Err e) outcome = Stops e outcome
 
 -- what a function returned says that there is no refusal, or which, unless memory ran out
-abbrev pub Passes : Result (Unit {0}) Stop → Option Refusal → Type 0
+abbrev pub Passes : Result (Unit {0}) (OrNoMemory Refusal) → Option Refusal → Type 0
 Passes (Ok x) refusal = refusal ≡ None
-Passes (Err (stop.Refused r)) refusal = refusal ≡ Some r
+Passes (Err (stop.Answer r)) refusal = refusal ≡ Some r
 Passes (Err stop.NoMemory) refusal = Unit {0}
 
 -- the ledger as the lines so far left it
@@ -59,11 +59,11 @@ pub record Lined (a : Acceptance) (l : LedgerState) (lines : Lines) : Type 0 whe
   pub names : lines.state.next_name ≡ l.state.next_name + length lines.starts.items
 
 -- What the start of a line answers and does. Where memory ran out, anything may be left.
-abbrev pub StartsLine : Acceptance → LedgerState → Lines → Start → Result (Unit {0}) Stop → Lines → Type 0
+abbrev pub StartsLine : Acceptance → LedgerState → Lines → Start → Result (Unit {0}) (OrNoMemory Refusal) → Lines → Type 0
 StartsLine a l before start (Ok x) after =
     (r : Resolved) × (resolve a (left l before) start ≡ Ok r) × (after.starts.items ≡ before.starts.items ++ r ∷ [])
     × Lined a l after × (left l after ≡ after_start a (left l before) r)
-StartsLine a l before start (Err (stop.Refused r)) after = resolve a (left l before) start ≡ Err r
+StartsLine a l before start (Err (stop.Answer r)) after = resolve a (left l before) start ≡ Err r
 StartsLine a l before start (Err stop.NoMemory) after = Unit {0}
 
 -- what the start of all lines answers

@@ -13,5 +13,4 @@ pub mod refusal;
 pub mod resolved;
 mod resolving;
 mod rest;
-mod stop;
 pub mod world;

@@ -13,11 +13,11 @@ use crate::ledger::Ledger;
 use crate::refusal::Refusal;
 use crate::resolved::Resolved;
 use crate::resolving::resolve;
-use crate::stop::Stop;
 use crate::world::World;
 use nomos_config::machine::Machine;
 use nomos_config::plain::PlainState;
 use nomos_ir::items::Items;
+use nomos_ir::or_no_memory::OrNoMemory;
 use nomos_script::item::Start;
 use nomos_script::name::ScriptName;
 use nomos_types::accepted::Accepted;
@@ -60,7 +60,12 @@ impl Lines {
     }
 
     // Starts a line.
-    fn start(&mut self, ledger: &Ledger, accepted: &Accepted, start: &Start) -> Result<(), Stop>
+    fn start(
+        &mut self,
+        ledger: &Ledger,
+        accepted: &Accepted,
+        start: &Start,
+    ) -> Result<(), OrNoMemory<Refusal>>
         requires lined { Lined accepted.now ledger.now self.old }
         requires room { HasRoom self.old.state }
         ensures { StartsLine accepted.now ledger.now self.old start.now result self.new }
@@ -117,8 +122,8 @@ pub(crate) fn start_lines(
     for start in starts {
         match lines.start(ledger, accepted, start) {
             Ok(()) => {}
-            Err(Stop::Refused(refusal)) => return Ok(Started::Refused(start.line, refusal)),
-            Err(Stop::NoMemory) => return Err(AllocError),
+            Err(OrNoMemory::Answer(refusal)) => return Ok(Started::Refused(start.line, refusal)),
+            Err(OrNoMemory::NoMemory) => return Err(AllocError),
         }
     }
     Ok(Started::All(lines))

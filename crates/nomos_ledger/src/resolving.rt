@@ -11,12 +11,12 @@ use crate::ledger::Ledger;
 use crate::lines::Lines;
 use crate::refusal::Refusal;
 use crate::resolved::Resolved;
-use crate::stop::Stop;
 use nomos_config::machine::Machine;
 use nomos_ir::declaration::ProcDecl;
 use nomos_ir::ids::ProcId;
 use nomos_ir::items::Items;
 use nomos_ir::mode::Mode;
+use nomos_ir::or_no_memory::OrNoMemory;
 use nomos_ir::value::Values;
 use nomos_script::item::Start;
 use nomos_script::name::ScriptName;
@@ -24,13 +24,17 @@ use nomos_types::accepted::Accepted;
 use std::alloc::Global;
 
 // The account that pays.
-fn payer_of(alloc: Global, accounts: &AccountNames, start: &Start) -> Result<u32, Stop>
+fn payer_of(
+    alloc: Global,
+    accounts: &AccountNames,
+    start: &Start,
+) -> Result<u32, OrNoMemory<Refusal>>
     requires { length accounts.now < 2 ^ 32 }
     ensures { Gives (λ n. n) result (payer_of accounts.now start.now) }
 {
     match accounts.number_of(&start.sender) {
         Some(account) => Ok(account),
-        None => Err(Stop::Refused(Refusal::NoAccount(copy_name(alloc, &start.sender)?))),
+        None => Err(OrNoMemory::Answer(Refusal::NoAccount(copy_name(alloc, &start.sender)?))),
     }
 }
 
@@ -60,13 +64,17 @@ fn declaration_place(procs: &[ProcDecl], start: &Start) -> Option<usize>
 }
 
 // The declaration that a start wants.
-fn declaration_of(alloc: Global, procs: &[ProcDecl], start: &Start) -> Result<u32, Stop>
+fn declaration_of(
+    alloc: Global,
+    procs: &[ProcDecl],
+    start: &Start,
+) -> Result<u32, OrNoMemory<Refusal>>
     requires { length procs.now < 2 ^ 32 }
     ensures { Gives (λ n. n) result (declaration_of procs.now start.now) }
 {
     match declaration_place(procs, start) {
         Some(place) => Ok(place as u32),
-        None => Err(Stop::Refused(Refusal::NoProcess(copy_name(alloc, &start.proc)?))),
+        None => Err(OrNoMemory::Answer(Refusal::NoProcess(copy_name(alloc, &start.proc)?))),
     }
 }
 
@@ -81,13 +89,13 @@ fn fits(d: &ProcDecl, start: &Start) -> bool
 }
 
 // Refuses arguments that do not fit.
-fn check_arguments(alloc: Global, d: &ProcDecl, start: &Start) -> Result<(), Stop>
+fn check_arguments(alloc: Global, d: &ProcDecl, start: &Start) -> Result<(), OrNoMemory<Refusal>>
     ensures { Passes result (argument_refusal start.now d.now) }
 {
     if fits(d, start) {
         return Ok(());
     }
-    Err(Stop::Refused(Refusal::BadArguments(copy_name(alloc, &start.proc)?)))
+    Err(OrNoMemory::Answer(Refusal::BadArguments(copy_name(alloc, &start.proc)?)))
 }
 
 // Refuses the name of a contract that is taken.
@@ -95,26 +103,31 @@ fn check_name(
     alloc: Global,
     contracts: &[(ScriptName, u32)],
     contract: &Option<ScriptName>,
-) -> Result<(), Stop>
+) -> Result<(), OrNoMemory<Refusal>>
     ensures { Passes result (name_refusal contracts.now contract.now) }
 {
     match contract {
         Some(name) if is_taken(contracts, name) => {
-            Err(Stop::Refused(Refusal::NameTaken(copy_name(alloc, name)?)))
+            Err(OrNoMemory::Answer(Refusal::NameTaken(copy_name(alloc, name)?)))
         }
         _ => Ok(()),
     }
 }
 
 // Refuses an account that has less than is needed, both in Dths.
-fn check_gas(alloc: Global, start: &Start, has: u128, needs: u128) -> Result<(), Stop>
+fn check_gas(
+    alloc: Global,
+    start: &Start,
+    has: u128,
+    needs: u128,
+) -> Result<(), OrNoMemory<Refusal>>
     ensures { Passes result (gas_refusal start.now has needs) }
 {
     if needs <= has {
         return Ok(());
     }
     let name = copy_name(alloc, &start.sender)?;
-    Err(Stop::Refused(Refusal::NoGas { name, has, needs }))
+    Err(OrNoMemory::Answer(Refusal::NoGas { name, has, needs }))
 }
 
 // The start by this declaration, of this number, that an account pays.
@@ -125,7 +138,7 @@ fn resolve_at(
     start: &Start,
     payer: u32,
     proc: ProcId,
-) -> Result<Resolved, Stop>
+) -> Result<Resolved, OrNoMemory<Refusal>>
     requires payer { payer < length lines.now.state.balances }
     requires declared { proc.0 < length accepted.now.program.procs }
     ensures { Gives (λ r. r) result
@@ -151,7 +164,7 @@ pub(crate) fn resolve(
     accepted: &Accepted,
     lines: &Lines,
     start: &Start,
-) -> Result<Resolved, Stop>
+) -> Result<Resolved, OrNoMemory<Refusal>>
     requires { AreNamed ledger.now.accounts lines.now.contracts.items lines.now.state.balances }
     ensures { Gives (λ r. r) result (resolve accepted.now (left ledger.now lines.now) start.now) }
 {

@@ -17,8 +17,9 @@ use Rattle.nomos_eval.specs.declared.machine.Machine.{Machine}
 use Rattle.nomos_eval.specs.declared.numbers.Given.{Given}
 use Rattle.nomos_eval.specs.declared.numbers.Given.TheVariants as give
 use Rattle.nomos_eval.specs.declared.numbers.Operator.{Operator}
-use Rattle.nomos_eval.specs.declared.stop.Stop.{Stop}
-use Rattle.nomos_eval.specs.declared.stop.Stop.TheVariants as stop
+use Rattle.nomos_ir.specs.declared.fault.Fault.{Fault}
+use Rattle.nomos_ir.specs.declared.or_no_memory.OrNoMemory.{OrNoMemory}
+use Rattle.nomos_ir.specs.declared.or_no_memory.OrNoMemory.TheVariants as stop
 use Rattle.nomos_eval.specs.mirror.Operation.{operation}
 use Rattle.nomos_eval.specs.mirror.Rest.{rest, variables_at, act_work, work, ScopeIn}
 use Rattle.nomos_eval.specs.mirror.EvalTable.{datum_value, reach}
@@ -66,12 +67,12 @@ pub record IsDone (a : Act) (old new : Machine) : Type 0 where
   pub less : work new.todo < act_work a + work old.todo
 
 -- an act leads to a fault
-abbrev pub Stops : Act → Machine → Stop → Type 0
-Stops a old (stop.Fault f) = (program : ProgramLists) (n : ℕ) → left_of program a old n ≡ faults f
+abbrev pub Stops : Act → Machine → OrNoMemory Fault → Type 0
+Stops a old (stop.Answer f) = (program : ProgramLists) (n : ℕ) → left_of program a old n ≡ faults f
 Stops a old stop.NoMemory = Unit {0}
 
 -- an act was done, or it leads to a fault
-abbrev pub Does : Act → Machine → Machine → Result (Unit {0}) Stop → Type 0
+abbrev pub Does : Act → Machine → Machine → Result (Unit {0}) (OrNoMemory Fault) → Type 0
 Does a old new (Ok done) = IsDone a old new
 Does a old new (Err why) = Stops a old why
 
@@ -85,17 +86,17 @@ below_top [] = []
 below_top (d ∷ ds) = ds
 
 -- what an operator gave
-abbrev pub IsGiven : Given → Result Datum Stop → Type 0
+abbrev pub IsGiven : Given → Result Datum (OrNoMemory Fault) → Type 0
 IsGiven (give.Int z) r = r ≡ Ok (datum.Int z)
 IsGiven (give.Bool b) r = r ≡ Ok (datum.Bool b)
-IsGiven (give.Fault f) r = r ≡ Err (stop.Fault f)
+IsGiven (give.Fault f) r = r ≡ Err (stop.Answer f)
 
 -- what an operator gives of two values
-abbrev pub Operated : Operator → Datum → Datum → Result Datum Stop → Type 0
+abbrev pub Operated : Operator → Datum → Datum → Result Datum (OrNoMemory Fault) → Type 0
 Operated operator x y (Ok d) =
     ((lists : List ValueList) (n : ℕ) → on_numbers (operation operator) (datum_value lists x) (datum_value lists y) n
     ≡ ends (datum_value lists d) n) × (reach d ≡ 0)
-Operated operator x y (Err (stop.Fault f)) =
+Operated operator x y (Err (stop.Answer f)) =
     (lists : List ValueList) (n : ℕ) → on_numbers (operation operator) (datum_value lists x) (datum_value lists y) n
     ≡ faults f
 Operated operator x y (Err stop.NoMemory) = ⊥
@@ -106,11 +107,11 @@ pub record IsDoneFor (program : ProgramLists) (a : Act) (old new : Machine) : Ty
   pub same : (n : ℕ) → left_of program a old n ≡ left program new n
   pub less : work new.todo < act_work a + work old.todo
 
-abbrev pub StopsFor : ProgramLists → Act → Machine → Stop → Type 0
-StopsFor program a old (stop.Fault f) = (n : ℕ) → left_of program a old n ≡ faults f
+abbrev pub StopsFor : ProgramLists → Act → Machine → OrNoMemory Fault → Type 0
+StopsFor program a old (stop.Answer f) = (n : ℕ) → left_of program a old n ≡ faults f
 StopsFor program a old stop.NoMemory = Unit {0}
 
-abbrev pub DoesFor : ProgramLists → Act → Machine → Machine → Result (Unit {0}) Stop → Type 0
+abbrev pub DoesFor : ProgramLists → Act → Machine → Machine → Result (Unit {0}) (OrNoMemory Fault) → Type 0
 DoesFor program a old new (Ok done) = IsDoneFor program a old new
 DoesFor program a old new (Err why) = StopsFor program a old why
 
