@@ -1,10 +1,10 @@
 -- A text reads as one program at most, and a text that is typed is refused for no cause.
 use Rattle.std.proofs.Common.{◌≡◌, ℕ, List, ap, sym, subst, ◌∙◌}
-use Rattle.nomos_accept.specs.AcceptedText.{IsReadAs, IsTypedAs, IsNeverTyped, PivotRunEndsWith, IsProgramWith, IsRefused, IsUnsolved}
+use Rattle.nomos_accept.specs.AcceptedText.{IsReadAs, IsTypedAs, IsNeverTypedText, PivotRunEndsWith, IsProgramWith, IsRefused, IsUnsolved}
 use Rattle.nomos_accept.specs.declared.refusal.Why.{Why}
 use Rattle.nomos_elaborate.specs.FileBuild.{program_of}
 use Rattle.nomos_ir.specs.declared.lists.ProgramLists.{ProgramLists}
-use Rattle.nomos_rows.specs.PartFaults.{IsNeverTyped as IsNeverTypedProgram}
+use Rattle.nomos_rows.specs.PartFaults.{IsNeverTyped}
 use Rattle.nomos_simplex.specs.declared.solved.Solved.TheVariants as solved
 use Rattle.nomos_simplex.specs.declared.solved.Stop.{Stop}
 use Rattle.nomos_reader.proofs.FoundLaws.{printed-unique}
@@ -26,8 +26,8 @@ one-program text a b read other =
     ∙ sym other.elaborates.program
 
 -- a text that reads as a program that is typed under no amounts is typed under none
-pub never-typed : (text : List ℕ) (lists : ProgramLists) → IsReadAs text lists → IsNeverTypedProgram lists →
-    IsNeverTyped text
+pub never-typed : (text : List ℕ) (lists : ProgramLists) → IsReadAs text lists → IsNeverTyped lists →
+    IsNeverTypedText text
 never-typed text lists read never = λ other x typed.
     never x (subst (λ (l : ProgramLists). IsTypedProgram l x) (one-program text other lists typed.read read)
     typed.typed)

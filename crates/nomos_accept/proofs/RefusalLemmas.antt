@@ -2,7 +2,7 @@
 use Rattle.std.proofs.Common.{◌≡◌, ℕ, List, All, Some, None, IsTrue, ◌≢◌, sym, subst, ◌∙◌}
 use Rattle.std.proofs.lemmas.List.Elements.{All-contains}
 use Rattle.nomos_accept.proofs.AcceptLaws.{one-tree}
-use Rattle.nomos_accept.specs.AcceptedText.{IsNeverTyped}
+use Rattle.nomos_accept.specs.AcceptedText.{IsNeverTypedText}
 use Rattle.nomos_program.specs.Elaborated.{BreaksCosts}
 use Rattle.nomos_elaborate.specs.NameClaim.{first_broken}
 use Rattle.nomos_elaborate.specs.FileClaims.{claims_of}
@@ -15,7 +15,7 @@ use Rattle.nomos_ir.specs.declared.lists.ProgramLists.{ProgramLists}
 use Rattle.nomos_ir.specs.declared.type_node.Def.{Def}
 use Rattle.nomos_ir.specs.declared.type_node.TypeNode.{TypeNode}
 use Rattle.nomos_ir.specs.declared.type_node.TypeNode.TheVariants as node
-use Rattle.nomos_rows.specs.PartFaults.{IsNeverTyped as IsNeverTypedProgram}
+use Rattle.nomos_rows.specs.PartFaults.{IsNeverTyped}
 use Rattle.nomos_parse.specs.Parsing.{ReadsAsNone}
 use Rattle.nomos_surface.specs.TreeReading.{ReadsAs}
 use Rattle.nomos_surface.specs.Tree.{FileTree}
@@ -26,12 +26,12 @@ use Rattle.nomos_ir.specs.declared.ids.VarId.{VarId}
 use Rattle.nomos_ir.specs.declared.mode.Mode.TheVariants as mode
 
 -- a text that reads as no tree is typed under no amounts
-pub unread-never : (text : List ℕ) → ReadsAsNone text → IsNeverTyped text
+pub unread-never : (text : List ℕ) → ReadsAsNone text → IsNeverTypedText text
 unread-never text none = λ lists x typed. none typed.read.tree typed.read.reads
 
 -- nor is one with a name that breaks a rule, or with a `work` where none may stand
 pub name-never : (text : List ℕ) (tree : FileTree) (at : ℕ) → ReadsAs text tree →
-    first_broken (claims_of tree) ≡ Some at → IsNeverTyped text
+    first_broken (claims_of tree) ≡ Some at → IsNeverTypedText text
 name-never text tree at reads broken = λ lists x typed.
     let same : typed.read.tree ≡ tree = one-tree text typed.read.tree tree typed.read.reads reads in
     let obeys : first_broken (claims_of tree) ≡ None =
@@ -40,7 +40,7 @@ name-never text tree at reads broken = λ lists x typed.
     absurd cc
 
 pub cost-never : (text : List ℕ) (tree : FileTree) (at : ℕ) → ReadsAs text tree → BreaksCosts tree at →
-    IsNeverTyped text
+    IsNeverTypedText text
 cost-never text tree at reads breaks = λ lists x typed.
     let same : typed.read.tree ≡ tree = one-tree text typed.read.tree tree typed.read.reads reads in
     let obeys : written_work tree ≡ None =
@@ -68,8 +68,8 @@ offends-not_obeying lists _ (of_transactions d within is) obeys =
 pub offence-not_obeying : (lists : ProgramLists) (at : ℕ) → IsFirstOffence lists at → ¬ ObeysModes lists
 offence-not_obeying lists at offence = let (t, offends, stands) = offence.there in offends-not_obeying lists t offends
 
-pub bare-never : (lists : ProgramLists) (at : ℕ) → IsFirstBareName lists at → IsNeverTypedProgram lists
+pub bare-never : (lists : ProgramLists) (at : ℕ) → IsFirstBareName lists at → IsNeverTyped lists
 bare-never lists at bare = λ x typed. bare-not_contractive lists at bare typed.formed.contractive
 
-pub offence-never : (lists : ProgramLists) (at : ℕ) → IsFirstOffence lists at → IsNeverTypedProgram lists
+pub offence-never : (lists : ProgramLists) (at : ℕ) → IsFirstOffence lists at → IsNeverTyped lists
 offence-never lists at offence = λ x typed. offence-not_obeying lists at offence typed.formed.modes

@@ -49,8 +49,8 @@ pub record IsTypedAs (text : List ℕ) (lists : ProgramLists) (x : Annotations) 
   pub typed : IsTypedProgram lists x
 
 -- the text is typed under no amounts over any unit
-abbrev pub IsNeverTyped : List ℕ → Type 0
-IsNeverTyped text = (lists : ProgramLists) (x : Annotations) → ¬ (IsTypedAs text lists x)
+abbrev pub IsNeverTypedText : List ℕ → Type 0
+IsNeverTypedText text = (lists : ProgramLists) (x : Annotations) → ¬ (IsTypedAs text lists x)
 
 -- the rows of the program, over its stars
 pub record AreRowsFor (lists : ProgramLists) (rows : RowList) : Type 0 where
@@ -118,7 +118,7 @@ IsCauseOf text (why.NoPotential verdict) = IsProgramWith text (λ lists. IsRefut
 -- The text is refused for this cause, and is typed under no amounts at all.
 pub record IsRefused (text : List ℕ) (why : Why) : Type 0 where
   pub cause : IsCauseOf text why
-  pub never : IsNeverTyped text
+  pub never : IsNeverTypedText text
 
 -- What is answered of a text. Where it is refused, it is typed under no amounts at all.
 abbrev pub Answers : List ℕ → Result Acceptance AcceptError → Type 0

@@ -11,7 +11,7 @@ use Rattle.nomos_ir.specs.declared.ids.ProcId.{ProcId}
 use Rattle.nomos_ir.specs.declared.ids.TypeId.{TypeId}
 use Rattle.nomos_ir.specs.declared.ids.VarId.{VarId}
 use Rattle.nomos_ir.specs.declared.lists.ProgramLists.{ProgramLists}
-use Rattle.nomos_ir.specs.Bindings.{bound_to}
+use Rattle.nomos_ir.specs.Bindings.{bound_to, each_bound}
 use Rattle.nomos_ir.specs.Ids.{ProcInRange}
 use Rattle.nomos_ir.specs.Program.{IsProgram}
 use Rattle.nomos_ir.proofs.NodeLaws.{All-at}
@@ -21,14 +21,14 @@ use Rattle.nomos_types.specs.Arguments.{term, list, PassesValues, value, PassesC
 use Rattle.nomos_types.specs.Equality.{no_amounts}
 use Rattle.nomos_types.specs.Judgement.{Judgement, IsJudgement}
 use Rattle.nomos_types.specs.Premises.{Calls, Spawns}
-use Rattle.nomos_types.specs.Row.{StandsAtCode}
+use Rattle.nomos_types.specs.TypingRule.{StandsAtCode}
 use Rattle.nomos_types.proofs.ArgumentsLaws.{arguments-left}
 use Rattle.nomos_check.specs.Account.{Account}
 use Rattle.nomos_check.specs.Asking.{AsksPair, IsOfType}
 use Rattle.nomos_check.specs.declared.asked.Asked.{Asked}
 use Rattle.nomos_check.specs.declared.standing.Standing.{Standing}
 use Rattle.nomos_check.specs.mirror.Passing.{ValuesPassed, TellsChannels, TellsArguments, PairOfValues, PairOfChannels, carried_by_all}
-use Rattle.nomos_check.specs.mirror.StandingData.{amount_of, each_bound, shape_of, Joins, NoRow}
+use Rattle.nomos_check.specs.mirror.StandingData.{amount_of, shape_of, Joins, NoRow}
 use Rattle.nomos_check.proofs.AskingLaws.{ArgumentsAsk, asks-at, asked-at}
 use Rattle.nomos_check.proofs.GivingSteps.{values-same}
 use Rattle.nomos_check.proofs.PassingSteps.{channels-one}

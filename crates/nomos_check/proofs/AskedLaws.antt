@@ -21,7 +21,7 @@ use Rattle.nomos_types.specs.Arguments.{ArgumentsFit}
 use Rattle.nomos_types.specs.Equality.{EqualTypes}
 use Rattle.nomos_types.specs.Judgement.{Judgement, IsJudgement}
 use Rattle.nomos_types.specs.Premises.{HasType, by_side}
-use Rattle.nomos_types.specs.Row.{Row, StandsAtCode}
+use Rattle.nomos_types.specs.TypingRule.{TypingRule, StandsAtCode}
 use Rattle.nomos_types.proofs.RowLaws.{RowAt, row-inverted}
 use Rattle.nomos_check.specs.Account.{Account, spends, Affords}
 use Rattle.nomos_check.specs.Asking.{IsOfType, Invokes, spawns, calls, ComparesTypes, sent, passed, called, forwarded, AsksPair, paid, got, carried, compared}
@@ -54,7 +54,7 @@ got-amount chan.Own q r a b same = cc
 got-amount (chan.Var v) q r a b same = cc
 
 module _ {lists : ProgramLists} {x y : Annotations} {j k : Judgement} {a : Account} {after : List Judgement}
-    (is_judgement : IsJudgement lists j) (beside : Beside x y j k a) (row : Row lists x j after) where
+    (is_judgement : IsJudgement lists j) (beside : Beside x y j k a) (row : TypingRule lists x j after) where
   -- what holds on the second side, of the first one's parts
   back : (P : Judgement → Type 0) → P k → P (record j { lists = k.lists; q = k.q })
   back P holds = subst P beside.same holds

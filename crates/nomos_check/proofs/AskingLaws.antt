@@ -16,7 +16,7 @@ use Rattle.nomos_ir.specs.Bindings.{bound_to}
 use Rattle.nomos_equality.specs.Paths.{StandAtEqualPaths}
 use Rattle.nomos_types.specs.Judgement.{Judgement}
 use Rattle.nomos_types.specs.Premises.{HasType, by_side}
-use Rattle.nomos_types.specs.Row.{StandsAtCode}
+use Rattle.nomos_types.specs.TypingRule.{StandsAtCode}
 use Rattle.nomos_check.specs.Account.{Account}
 use Rattle.nomos_check.specs.Asking.{IsOfType, Invokes, spawns, calls, ComparesTypes, sent, passed, called, forwarded, AsksPair, paid, got, carried, compared}
 

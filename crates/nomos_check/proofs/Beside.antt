@@ -18,7 +18,7 @@ use Rattle.nomos_ir.specs.Bindings.{bind, unbind}
 use Rattle.nomos_types.specs.Amount.{Annotations, dths}
 use Rattle.nomos_types.specs.Judgement.{Judgement, ListType, IsFree, channel_type, at_code, goes_on, with_potential, binds_value, binds_list, binds_channel}
 use Rattle.nomos_types.specs.Premises.{HasType}
-use Rattle.nomos_types.specs.Row.{StandsAtCode, gives_up}
+use Rattle.nomos_types.specs.TypingRule.{StandsAtCode, gives_up}
 use Rattle.nomos_check.specs.Account.{Account, gains, spends, with_lists, worth_of, Affords}
 use Rattle.nomos_check.proofs.ListAmounts.{CarryBoth, list_at, counted-both, bind-both, unbind-both, second-both, both-back}
 

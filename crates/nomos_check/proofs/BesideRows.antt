@@ -24,7 +24,7 @@ use Rattle.nomos_types.specs.Amount.{Annotations, dths}
 use Rattle.nomos_types.specs.Judgement.{Judgement, ListType, IsJudgement, at_code, goes_on, with_potential, binds_value, binds_list, binds_channel}
 use Rattle.nomos_types.specs.Modes.{HasMode, may_spawn}
 use Rattle.nomos_types.specs.Premises.{ArmsGoOn, none, arm, Spawns, Calls, Adds, TakesApart}
-use Rattle.nomos_types.specs.Row.{StandsAtCode, gives_up, without_list, takes_parts}
+use Rattle.nomos_types.specs.TypingRule.{StandsAtCode, gives_up, without_list, takes_parts}
 use Rattle.nomos_types.proofs.RowLaws.{RowAt}
 use Rattle.nomos_check.specs.Account.{Account, spends, gains, with_lists, Affords}
 use Rattle.nomos_check.specs.Accounting.{accounts_after, spends_for, without_passed, grows_list, parts_list}

@@ -15,7 +15,7 @@ use Rattle.nomos_types.specs.Derivation.{Derives, by_row}
 use Rattle.nomos_types.specs.Equality.{no_amounts}
 use Rattle.nomos_types.specs.Judgement.{Judgement, IsJudgement, start_of}
 use Rattle.nomos_types.specs.Modes.{HasMode}
-use Rattle.nomos_types.specs.Row.{Row, StandsAtCode}
+use Rattle.nomos_types.specs.TypingRule.{TypingRule, StandsAtCode}
 use Rattle.nomos_types.specs.Typed.{IsWellFormed}
 use Rattle.nomos_types.proofs.AlikeLaws.{alike-same}
 use Rattle.nomos_types.proofs.DerivationLaws.{derives-next}
@@ -74,21 +74,21 @@ start-beside lists x y d =
 
 -- what a row goes on with are judgements
 pub next-is_judgement : {lists : ProgramLists} {x : Annotations} {j k : Judgement} {after : List Judgement}
-    → IsWellFormed lists → IsJudgement lists j → Row lists x j after → Contains after k → IsJudgement lists k
+    → IsWellFormed lists → IsJudgement lists j → TypingRule lists x j after → Contains after k → IsJudgement lists k
 next-is_judgement {lists} {k = k} {after = after} formed is_judgement row among =
     All-contains (IsJudgement lists) after k (row-keeps_judgement formed is_judgement row) among
 
 -- rows of judgements that stand side by side go on side by side, where amounts are ignored on the second side
 pub each-beside : {lists : ProgramLists} {x : Annotations} {i j : Judgement} {a : Account} {n : CodeNode}
     {before after : List Judgement} → IsWellFormed lists → IsJudgement lists i → Beside x no_amounts i j a
-    → Row lists x i before → StandsAtCode lists j n → Row lists no_amounts j after
+    → TypingRule lists x i before → StandsAtCode lists j n → TypingRule lists no_amounts j after
     → EachBeside x no_amounts before after (accounts_after lists n a)
 each-beside {lists} {x} {i} {j} {a} {n} {before} {after} formed own beside row there other =
     let (m, at_row, says) = row-at row in
     let at_other = stands beside lists m at_row in
     let same : m ≡ n = cc in
     let carried = row-carried m own beside at_row says (no-needs i a m before) in
-    let made : Row lists no_amounts j carried.later = row-made m at_other carried.row in
+    let made : TypingRule lists no_amounts j carried.later = row-made m at_other carried.row in
     let later_same : carried.later ≡ after = row-unique no_amounts formed.program made other in
     let each : EachBeside x no_amounts before after (accounts_after lists m a) =
     subst (λ (ks : List Judgement). EachBeside x no_amounts before ks (accounts_after lists m a)) later_same
@@ -101,7 +101,7 @@ each-beside {lists} {x} {i} {j} {a} {n} {before} {after} formed own beside row t
 -- A property of judgements and accounts that rows keep, and under which what is needed is met.
 pub record Provides (lists : ProgramLists) (x y : Annotations) (Good : Judgement → Account → Type 0) : Type 0 where
   pub next : (j k : Judgement) (a b : Account) (n : CodeNode) (after : List Judgement) → Good j a
-      → StandsAtCode lists j n → Row lists x j after → Contains (zip after (accounts_after lists n a)) (k, b) → Good k b
+      → StandsAtCode lists j n → TypingRule lists x j after → Contains (zip after (accounts_after lists n a)) (k, b) → Good k b
   pub afforded : (j : Judgement) (a : Account) → Good j a → Affords y a
   pub call : (j : Judgement) (a : Account) (at : ℕ) (f : ProcId) (args : Args) (d : ProcDecl) → Good j a
       → StandsAtCode lists j (code.Call at f args) → slice_get lists.procs f.0 ≡ Some d → Affords y (spends d.amount a)
@@ -112,7 +112,7 @@ module _ {lists : ProgramLists} (formed : IsWellFormed lists) (x y : Annotations
     → Type 0) (provides : Provides lists x y Good) where
   -- a row of a good judgement has its needs met
   needs-met : (j : Judgement) (a : Account) (n : CodeNode) (after : List Judgement) → Good j a → StandsAtCode lists j n
-      → Row lists x j after → MeetsNeeds lists y j a n after
+      → TypingRule lists x j after → MeetsNeeds lists y j a n after
   needs-met j a n after good there row =
       record {
         onward = λ k b among. provides.afforded k b (provides.next j k a b n after good there row among);
@@ -129,7 +129,7 @@ module _ {lists : ProgramLists} (formed : IsWellFormed lists) (x y : Annotations
       let (after, row) = derives-row formed derivation in
       let (n, there, says) = row-at row in
       let carried = row-carried n own beside there says (needs-met j a n after good there row) in
-      let row_there : Row lists y k carried.later = row-made n (stands beside lists n there) carried.row in
+      let row_there : TypingRule lists y k carried.later = row-made n (stands beside lists n there) carried.row in
       let (mode, offers) = derives-offers_mode derivation in
       let its_mode = subst (λ (l : Judgement). HasMode lists l.offers mode) (sym beside.same) offers in
       let alike = alike-same y formed.program formed.contractive other its_mode in

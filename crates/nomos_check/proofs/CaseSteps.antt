@@ -18,7 +18,7 @@ use Rattle.nomos_ir.specs.declared.type_node.TypeNode.TheVariants as node
 use Rattle.nomos_types.specs.Branches.{goes_by}
 use Rattle.nomos_types.specs.Judgement.{Judgement}
 use Rattle.nomos_types.specs.Premises.{HasType, by_side, ArmsGoOn, AwaitsLabel}
-use Rattle.nomos_types.specs.Row.{StandsAtCode}
+use Rattle.nomos_types.specs.TypingRule.{StandsAtCode}
 use Rattle.nomos_check.specs.Account.{Account}
 use Rattle.nomos_check.specs.declared.standing.Standing.{Standing}
 use Rattle.nomos_check.specs.declared.standing.Way.{Way}
@@ -28,7 +28,7 @@ use Rattle.nomos_check.specs.mirror.StandingData.{IsWayOf, LeadsAlong, NoRow, sh
 use Rattle.nomos_check.proofs.ChannelLaws.{head-unique}
 use Rattle.nomos_check.proofs.LeadLemmas.{leads-along}
 use Rattle.nomos_check.proofs.StepRows.{case-stuck}
-use Rattle.nomos_types.specs.Row as row
+use Rattle.nomos_types.specs.TypingRule as row
 use Rattle.nomos_check.proofs.SideLaws.{awaited_choice-same}
 
 module _ {X Y : Type 0} (f : X → Y) where

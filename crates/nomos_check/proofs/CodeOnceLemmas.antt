@@ -10,7 +10,7 @@ use Rattle.nomos_ir.specs.Order.{count_of}
 use Rattle.nomos_ir.specs.Program.{IsProgram}
 use Rattle.nomos_types.specs.Amount.{Annotations}
 use Rattle.nomos_types.specs.Judgement.{Judgement}
-use Rattle.nomos_types.specs.Row.{Row, StandsAtCode}
+use Rattle.nomos_types.specs.TypingRule.{TypingRule, StandsAtCode}
 use Rattle.nomos_types.proofs.FollowingLaws.{place, row-places}
 use Rattle.nomos_types.proofs.OccurrenceLaws.{count-append, count-part, counted, one-part, one-place}
 use Rattle.nomos_types.proofs.RowLaws.{row-at}
@@ -22,7 +22,7 @@ record LedBy (lists : ProgramLists) (j k : Judgement) : Type 0 where
   there : StandsAtCode lists j node
   among : Contains (code_next node) (place k)
 
-led-by : {lists : ProgramLists} {x : Annotations} {j k : Judgement} (after : List Judgement) → Row lists x j after
+led-by : {lists : ProgramLists} {x : Annotations} {j k : Judgement} (after : List Judgement) → TypingRule lists x j after
     → Contains after k → LedBy lists j k
 led-by {lists} {x} {j} {k} after row among =
     let (n, there, says) = row-at row in
@@ -46,8 +46,8 @@ module _ {lists : ProgramLists} (is_program : IsProgram lists) where
       omega (arith, is_program.code c)
 
   -- rows that go on to one place stand at one place
-  pub one-behind : {x : Annotations} {i j k l : Judgement} {after later : List Judgement} → Row lists x i after
-      → Contains after k → Row lists x j later → Contains later l → k.code ≡ l.code → i.code ≡ j.code
+  pub one-behind : {x : Annotations} {i j k l : Judgement} {after later : List Judgement} → TypingRule lists x i after
+      → Contains after k → TypingRule lists x j later → Contains later l → k.code ≡ l.code → i.code ≡ j.code
   one-behind {x} {i} {j} {k} {l} {after} {later} row among row_too among_too same =
       let led = led-by after row among in
       let led_too = led-by later row_too among_too in
@@ -63,7 +63,7 @@ module _ {lists : ProgramLists} (is_program : IsProgram lists) where
 
   -- what is said of the judgements with which a row goes on, one thing of each, is one thing at a place
   pub one-at_place : {X : Type 0} {x : Annotations} {j : Judgement} (f : X → Judgement) (said : List X)
-      (after : List Judgement) (s t : X) → Row lists x j after → map f said ≡ after → Contains said s → Contains said t
+      (after : List Judgement) (s t : X) → TypingRule lists x j after → map f said ≡ after → Contains said s → Contains said t
       → (f s).code ≡ (f t).code → s ≡ t
   one-at_place {X} {x} {j} f said after s t row is among among_too same =
       let (n, there, says) = row-at row in

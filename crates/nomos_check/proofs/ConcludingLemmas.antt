@@ -18,7 +18,7 @@ use Rattle.nomos_check.proofs.RowsLaws.{needs-rows-law, derives-skeleton}
 use Rattle.nomos_check.proofs.SizeLaws.{start-count, point-is_form}
 use Rattle.nomos_check.proofs.StuckLaws.{rows-skeleton, rowless-stuck, stuck-rowless, stuck-no_skeleton}
 use Rattle.nomos_check.specs.Asking.{IsAsked}
-use Rattle.nomos_check.specs.Checking.{IsFirstStuck, NeedsRows, NeedsChecked, NeedsBeside, AnswersProcess, AnswersBeside}
+use Rattle.nomos_check.specs.Checking.{IsFirstStuck, NeedsRows, NeedsChecked, NeedsBeside, AnswersProcess, AnswersProcessBeside}
 use Rattle.nomos_ir.specs.Instruction.{code_offset}
 use Rattle.nomos_check.specs.Reaching.{Outset, outset_of, GetsTo, IsFormOf}
 use Rattle.nomos_check.specs.declared.checking.Checked.{Checked}
@@ -173,11 +173,11 @@ module _ {lists : ProgramLists} (p : ℕ) (d : ProcDecl) (formed : IsWellFormed 
     pub answers-by : (stuck : Option Stuck) → w.stuck ≡ stuck → (r : Result Checked ProcError)
         → MatchOption stuck (r ≡ Ok (record { forms = w.forms.items; pairs = w.asked.pairs.items }))
         (λ t. r ≡ Err (error.ProcType t.at t.form))
-        → AnswersBeside lists (star_count lists) d known w.asked.equalities r
+        → AnswersProcessBeside lists (star_count lists) d known w.asked.equalities r
     answers-by None free r is =
-        subst (AnswersBeside lists (star_count lists) d known w.asked.equalities) (sym is) (needs-beside free)
+        subst (AnswersProcessBeside lists (star_count lists) d known w.asked.equalities) (sym is) (needs-beside free)
     answers-by (Some t) at r is =
-        subst (AnswersBeside lists (star_count lists) d known w.asked.equalities) (sym is) (first-stuck t at)
+        subst (AnswersProcessBeside lists (star_count lists) d known w.asked.equalities) (sym is) (first-stuck t at)
 
   -- with all pairs
   needs-checked : (new : Compared) (forms : List Form) (pairs all : List (Amount × Amount)) → all ≡ new.amounts ++ pairs

@@ -13,13 +13,13 @@ use Rattle.nomos_ir.specs.Program.{IsProgram}
 use Rattle.nomos_ir.specs.TermKind.{HasKind, VariableKinds}
 use Rattle.nomos_ir.proofs.NodeLaws.{All-at}
 use Rattle.nomos_ir.proofs.TermKindLaws.{HasKind-unique}
+use Rattle.nomos_ir.proofs.MappedLaws.{each-bound}
 use Rattle.nomos_types.specs.Judgement.{Judgement, count_one, IsFree}
-use Rattle.nomos_types.specs.Row.{StandsAtCode}
+use Rattle.nomos_types.specs.TypingRule.{StandsAtCode}
 use Rattle.nomos_check.specs.declared.standing.Carried.{Carried}
 use Rattle.nomos_check.specs.declared.standing.Standing.{Standing}
 use Rattle.nomos_check.specs.mirror.Finding.{IsFound}
 use Rattle.nomos_check.specs.mirror.StandingData.{shape_of, shape_of_list}
-use Rattle.nomos_check.proofs.StandingLemmas.{each-bound}
 
 -- what was found has the property
 pub found-some : {X : Type 0} (P : X → Type 0) (o : Option X) (x : X) → IsFound P o → o ≡ Some x → P x

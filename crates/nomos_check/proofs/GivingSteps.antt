@@ -18,9 +18,10 @@ use Rattle.nomos_ir.specs.declared.ids.TermId.{TermId}
 use Rattle.nomos_ir.specs.declared.ids.VarId.{VarId}
 use Rattle.nomos_ir.specs.declared.kind.Kind.{Kind}
 use Rattle.nomos_ir.specs.declared.lists.ProgramLists.{ProgramLists}
-use Rattle.nomos_ir.specs.Bindings.{bound_to, unbind, by_number, IsAscending}
+use Rattle.nomos_ir.specs.Bindings.{bound_to, unbind, by_number, IsAscending, each_bound}
 use Rattle.nomos_ir.specs.TermKind.{HasKind}
 use Rattle.nomos_ir.proofs.BindingLaws.{bound-after_unbind, unbind-ascending}
+use Rattle.nomos_ir.proofs.MappedLaws.{each-bound, each-unbind}
 use Rattle.nomos_types.specs.Amount.{Annotations, dths}
 use Rattle.nomos_types.specs.Arguments.{PassesValue, term, list, PassesValues, none, value}
 use Rattle.nomos_types.specs.Equality.{no_amounts}
@@ -30,11 +31,11 @@ use Rattle.nomos_check.specs.declared.asked.Asked.{Asked}
 use Rattle.nomos_check.specs.declared.standing.Carried.{Carried}
 use Rattle.nomos_check.specs.declared.standing.Standing.{Standing}
 use Rattle.nomos_check.specs.mirror.Passing.{TellsList, ValuePassed, TellsValue, ValuesPassed, PairOfValues, carried_by_all}
-use Rattle.nomos_check.specs.mirror.StandingData.{amount_of, each_bound, shape_of, shape_of_list, HasPair, Joins}
+use Rattle.nomos_check.specs.mirror.StandingData.{amount_of, shape_of, shape_of_list, HasPair, Joins}
 use Rattle.nomos_check.proofs.ListSteps.{list-bound}
 use Rattle.nomos_check.proofs.PairLemmas.{joins-none, joins-same}
 use Rattle.nomos_check.proofs.PassingSteps.{unbound-back}
-use Rattle.nomos_check.proofs.StandingLemmas.{dths-none, each-bound, each-unbind}
+use Rattle.nomos_check.proofs.StandingLemmas.{dths-none}
 
 -- ---- lists that are bound
 

@@ -6,7 +6,7 @@ use Rattle.nomos_ir.specs.Amounts.{star_count}
 use Rattle.nomos_types.proofs.InversionLaws.{row-descends}
 use Rattle.nomos_types.specs.Equality.{no_amounts}
 use Rattle.nomos_types.specs.Judgement.{Judgement}
-use Rattle.nomos_types.specs.Row.{Row}
+use Rattle.nomos_types.specs.TypingRule.{TypingRule}
 use Rattle.nomos_types.specs.Typed.{IsWellFormed}
 use Rattle.nomos_check.proofs.GatherLemmas.{grows-same, grows-through, done-grows, gathers-none, gathers-through}
 use Rattle.nomos_check.proofs.LeavingLemmas.{leaves-none, leaves-next, leaves-along, reached-next, open-along}
@@ -64,7 +64,7 @@ module _ (lists : ProgramLists) where
     }
 
     -- to the end
-    pub goes-end : ((after : List Judgement) → Row lists no_amounts (shape_of s) after → after ≡ [])
+    pub goes-end : ((after : List Judgement) → TypingRule lists no_amounts (shape_of s) after → after ≡ [])
         → Goes lists stars first old new
     goes-end ends = record {
       added = [];

@@ -21,8 +21,8 @@ use Rattle.nomos_forms.specs.Linear.{form_value}
 use Rattle.nomos_types.specs.Amount.{Annotations}
 use Rattle.nomos_types.specs.Equality.{no_amounts}
 use Rattle.nomos_types.specs.Judgement.{Judgement, start_of, at_code, goes_on, with_potential}
-use Rattle.nomos_types.specs.Row as row
-use Rattle.nomos_types.specs.Row.{Row, gives_up}
+use Rattle.nomos_types.specs.TypingRule as row
+use Rattle.nomos_types.specs.TypingRule.{TypingRule, gives_up}
 use Rattle.nomos_check.specs.Account.{Account, start_account, gains, spends, Affords, form_of}
 use Rattle.nomos_check.specs.Asking.{IsAsked, paid, got}
 use Rattle.nomos_check.specs.Reaching.{outset_of, GetsTo, IsPoint}
@@ -130,7 +130,7 @@ abbrev after_work : Account
 after_work = spends (Written 1) after_two
 
 -- it gets from the first source
-row-one : Row halves no_amounts taker_start (taker_one ∷ [])
+row-one : TypingRule halves no_amounts taker_start (taker_one ∷ [])
 row-one =
     row.get refl (type_id 0)
     (record { amount = Star 1; channel = (type_id 2, refl, source-unfolds 2 refl); same = refl })
@@ -141,7 +141,7 @@ reaches-one =
     (0, omega arith, refl)
 
 -- and from the second
-row-two : Row halves no_amounts taker_one (taker_two ∷ [])
+row-two : TypingRule halves no_amounts taker_one (taker_two ∷ [])
 row-two =
     row.get refl (type_id 0)
     (record { amount = Star 1; channel = (type_id 3, refl, source-unfolds 3 refl); same = refl })
@@ -152,7 +152,7 @@ reaches-two =
     (0, omega arith, refl)
 
 -- then it works
-row-work : Row halves no_amounts taker_two (taker_worked ∷ [])
+row-work : TypingRule halves no_amounts taker_two (taker_worked ∷ [])
 row-work = row.work refl (omega arith)
 
 reaches-work : GetsTo halves (outset_of halves taker) taker_worked after_work
@@ -199,7 +199,7 @@ giver_paid = with_potential (goes_on giver_start chan.Own (type_id 0) (code_id 6
 abbrev after_pay : Account
 after_pay = spends (Star 5) (start_account giver)
 
-row-pay : Row halves no_amounts giver_start (giver_paid ∷ [])
+row-pay : TypingRule halves no_amounts giver_start (giver_paid ∷ [])
 row-pay =
     row.pay refl (type_id 0)
     (record {

@@ -5,16 +5,17 @@ use Rattle.nomos_ir.specs.declared.code_node.CodeNode.{CodeNode}
 use Rattle.nomos_ir.specs.declared.ids.VarId.{VarId}
 use Rattle.nomos_ir.specs.declared.lists.ProgramLists.{ProgramLists}
 use Rattle.nomos_ir.specs.Amounts.{star_count}
+use Rattle.nomos_ir.specs.Bindings.{each_bound}
 use Rattle.nomos_types.specs.Equality.{no_amounts}
 use Rattle.nomos_types.specs.Judgement.{Judgement}
-use Rattle.nomos_types.specs.Row.{Row, StandsAtCode}
+use Rattle.nomos_types.specs.TypingRule.{TypingRule, StandsAtCode}
 use Rattle.nomos_check.specs.Account.{Account}
 use Rattle.nomos_check.specs.Accounting.{accounts_after}
 use Rattle.nomos_check.specs.declared.standing.Carried.{Carried}
 use Rattle.nomos_check.specs.declared.standing.Standing.{Standing}
 use Rattle.nomos_check.specs.declared.standing.Way.{Way}
 use Rattle.nomos_check.specs.mirror.StepMoves.{KeepsAmounts}
-use Rattle.nomos_check.specs.mirror.StandingData.{shape_of, each_bound, amount_of, HasAccount, IsWayOf, LeadsAlong, LeadsTo, way_account, way_shape}
+use Rattle.nomos_check.specs.mirror.StandingData.{shape_of, amount_of, HasAccount, IsWayOf, LeadsAlong, LeadsTo, way_account, way_shape}
 
 -- a standing with the same lists and potential has the same accounts
 pub keeps-account : {n : ℕ} {s next : Standing} {a : Account} → KeepsAmounts s next → HasAccount n s a
@@ -26,12 +27,12 @@ keeps-account keeps has = record {
 
 -- the one way on, where the account of the next standing is known for each account
 pub leads-with : {lists : ProgramLists} (s next : Standing) (k : Judgement) (n : CodeNode)
-    → StandsAtCode lists (shape_of s) n → Row lists no_amounts (shape_of s) (k ∷ []) → shape_of next ≡ k
+    → StandsAtCode lists (shape_of s) n → TypingRule lists no_amounts (shape_of s) (k ∷ []) → shape_of next ≡ k
     → ((a : Account) → HasAccount (star_count lists) s a
     → (b : Account) × (accounts_after lists n a ≡ b ∷ []) × HasAccount (star_count lists) next b)
     → LeadsTo lists s next
 leads-with {lists} s next k n stands steps shape account = record {
-  row = subst (λ (i : Judgement). Row lists no_amounts (shape_of s) (i ∷ [])) (sym shape) steps;
+  row = subst (λ (i : Judgement). TypingRule lists no_amounts (shape_of s) (i ∷ [])) (sym shape) steps;
   account =
       λ m a there has.
       let same : n ≡ m = cc in
@@ -44,13 +45,13 @@ leads-with {lists} s next k n stands steps shape account = record {
 -- the one way on, where lists and potential stay the same
 pub leads-on : {lists : ProgramLists} (s next : Standing) (k : Judgement) (n : CodeNode)
     → StandsAtCode lists (shape_of s) n → ((a : Account) → accounts_after lists n a ≡ a ∷ [])
-    → Row lists no_amounts (shape_of s) (k ∷ []) → shape_of next ≡ k → KeepsAmounts s next → LeadsTo lists s next
+    → TypingRule lists no_amounts (shape_of s) (k ∷ []) → shape_of next ≡ k → KeepsAmounts s next → LeadsTo lists s next
 leads-on s next k n stands same steps shape keeps =
     leads-with s next k n stands steps shape (λ a has. (a, same a, keeps-account keeps has))
 
 -- several ways on
 pub leads-along : {lists : ProgramLists} (s : Standing) (n : CodeNode) (made ways : List Way) → made ≡ ways
-    → StandsAtCode lists (shape_of s) n → Row lists no_amounts (shape_of s) (map (way_shape (shape_of s)) ways)
+    → StandsAtCode lists (shape_of s) n → TypingRule lists no_amounts (shape_of s) (map (way_shape (shape_of s)) ways)
     → ((a : Account) → HasAccount (star_count lists) s a → accounts_after lists n a ≡ map (way_account a) ways)
     → All (IsWayOf s) ways → LeadsAlong lists s made
 leads-along {lists} s n made ways same stands steps account there =

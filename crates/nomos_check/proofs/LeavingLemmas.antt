@@ -8,7 +8,7 @@ use Rattle.nomos_types.proofs.RowLaws.{row-at}
 use Rattle.nomos_types.proofs.UniqueRowLaws.{row-unique}
 use Rattle.nomos_types.specs.Equality.{no_amounts}
 use Rattle.nomos_types.specs.Judgement.{Judgement}
-use Rattle.nomos_types.specs.Row.{Row, StandsAtCode}
+use Rattle.nomos_types.specs.TypingRule.{TypingRule, StandsAtCode}
 use Rattle.nomos_check.proofs.MemberLemmas.{contains-head, contains-none, contains-one, contains-map, contains-unmap, zip-maps}
 use Rattle.nomos_check.proofs.VisitLemmas.{visits-done}
 use Rattle.nomos_check.specs.Account.{Account}
@@ -26,7 +26,7 @@ record LeadsOver (lists : ProgramLists) (j : Judgement) (a : Account) (i : Judge
   node : CodeNode
   after : List Judgement
   stands : StandsAtCode lists j node
-  row : Row lists no_amounts j after
+  row : TypingRule lists no_amounts j after
   judgement : Judgement
   account : Account
   among : Contains (zip after (accounts_after lists node a)) (judgement, account)
@@ -76,7 +76,7 @@ module _ {lists : ProgramLists} (is_program : IsProgram lists) {s : Standing} {o
       subst (λ (k : Judgement). Done k a) shape (subst (Done (shape_of s)) account (visits-done visits b has))
 
   -- an instruction without a rule, or at whose end nothing follows
-  pub leaves-none : ((after : List Judgement) → Row lists no_amounts (shape_of s) after → after ≡ []) → (j : Judgement)
+  pub leaves-none : ((after : List Judgement) → TypingRule lists no_amounts (shape_of s) after → after ≡ []) → (j : Judgement)
       (a : Account) → AtStanding lists (star_count lists) s j a → IsDone lists (star_count lists) new j a
   leaves-none ends j a at =
       ⊎_elim (λ here. done-there at.has here.0 here.1)

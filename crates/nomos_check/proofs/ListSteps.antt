@@ -7,10 +7,11 @@ use Rattle.nomos_ir.specs.declared.ids.CodeId.{CodeId}
 use Rattle.nomos_ir.specs.declared.ids.VarId.{VarId}
 use Rattle.nomos_ir.specs.declared.lists.ProgramLists.{ProgramLists}
 use Rattle.nomos_ir.specs.Amounts.{star_count}
-use Rattle.nomos_ir.specs.Bindings.{bound_to, bind, unbind}
+use Rattle.nomos_ir.specs.Bindings.{bound_to, bind, unbind, each_bound}
+use Rattle.nomos_ir.proofs.MappedLaws.{each-bind, each-bound, each-unbind}
 use Rattle.nomos_types.specs.Judgement.{Judgement, ListType, IsFree, at_code, binds_list}
 use Rattle.nomos_types.specs.Premises.{Adds, TakesApart}
-use Rattle.nomos_types.specs.Row.{StandsAtCode, without_list}
+use Rattle.nomos_types.specs.TypingRule.{StandsAtCode, without_list}
 use Rattle.nomos_check.specs.Account.{Account, spends, with_lists, form_of}
 use Rattle.nomos_check.specs.Accounting.{grows_list, parts_list}
 use Rattle.nomos_check.specs.declared.operands.Adding.{Adding}
@@ -21,9 +22,8 @@ use Rattle.nomos_check.specs.declared.standing.Way.TheVariants as way
 use Rattle.nomos_check.specs.declared.standing.Carried.{Carried}
 use Rattle.nomos_check.specs.declared.standing.Standing.{Standing}
 use Rattle.nomos_check.specs.mirror.Finding.{FindsList}
-use Rattle.nomos_check.specs.mirror.StandingData.{shape_of, shape_of_list, amount_of, each_bound, HasAccount, LeadsTo, LeadsAlong}
+use Rattle.nomos_check.specs.mirror.StandingData.{shape_of, shape_of_list, amount_of, HasAccount, LeadsTo, LeadsAlong}
 use Rattle.nomos_check.proofs.LeadLemmas.{leads-with, leads-along, both-ways}
-use Rattle.nomos_check.proofs.StandingLemmas.{each-bind, each-bound, each-unbind}
 use Rattle.nomos_check.proofs.StepRows.{empty-steps, add-steps, match-steps}
 
 -- the shape of a list that is bound

@@ -7,7 +7,7 @@ use Rattle.nomos_ir.specs.declared.declaration.ProcDecl.{ProcDecl}
 use Rattle.nomos_ir.specs.declared.ids.ProcId.{ProcId}
 use Rattle.nomos_ir.specs.declared.lists.ProgramLists.{ProgramLists}
 use Rattle.nomos_forms.specs.declared.form.Form.{Form}
-use Rattle.nomos_types.specs.Row.{StandsAtCode}
+use Rattle.nomos_types.specs.TypingRule.{StandsAtCode}
 use Rattle.nomos_check.specs.Account.{Account, spends, form_of}
 use Rattle.nomos_check.specs.Reaching.{IsPointAt}
 use Rattle.nomos_check.specs.declared.standing.Standing.{Standing}

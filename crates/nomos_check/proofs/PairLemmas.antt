@@ -14,7 +14,7 @@ use Rattle.nomos_ir.specs.declared.lists.ProgramLists.{ProgramLists}
 use Rattle.nomos_ir.specs.declared.type_node.TypeNode.TheVariants as node
 use Rattle.nomos_types.specs.Judgement.{Judgement}
 use Rattle.nomos_types.specs.Premises.{HasType, by_side}
-use Rattle.nomos_types.specs.Row.{StandsAtCode}
+use Rattle.nomos_types.specs.TypingRule.{StandsAtCode}
 use Rattle.nomos_check.specs.Account.{Account}
 use Rattle.nomos_check.specs.Asking.{AsksPair}
 use Rattle.nomos_check.specs.declared.asked.Asked.{Asked}

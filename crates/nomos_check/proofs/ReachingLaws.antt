@@ -10,7 +10,7 @@ use Rattle.nomos_types.specs.Derivation.{Follows}
 use Rattle.nomos_types.specs.Derivation as following
 use Rattle.nomos_types.specs.Equality.{no_amounts}
 use Rattle.nomos_types.specs.Judgement.{Judgement, IsJudgement, SuitsMode, start_of}
-use Rattle.nomos_types.specs.Row.{Row}
+use Rattle.nomos_types.specs.TypingRule.{TypingRule}
 use Rattle.nomos_types.specs.Typed.{IsWellFormed}
 use Rattle.nomos_types.proofs.InversionLaws.{row-descends}
 use Rattle.nomos_types.proofs.RowLaws.{row-at}
@@ -99,7 +99,7 @@ module _ {lists : ProgramLists} {o : Outset} (formed : IsWellFormed lists)
 
   -- so none leads to it
   not-first : (k : Judgement) (b : Account) {j : Judgement} {a : Account} (n : CodeNode) (after : List Judgement)
-      → GetsTo lists o j a → Row lists no_amounts j after → Contains (zip after (accounts_after lists n a)) (k, b)
+      → GetsTo lists o j a → TypingRule lists no_amounts j after → Contains (zip after (accounts_after lists n a)) (k, b)
       → k.code ≡ o.judgement.code → ⊥
   not-first k b {j} {a} n after before row among first =
       let lower = row-descends formed row (paired-first after (accounts_after lists n a) k b among) in
@@ -121,8 +121,8 @@ module _ {lists : ProgramLists} {o : Outset} (formed : IsWellFormed lists)
       in
       let (judgements, accounts) = reaches-unique i l c e before before_too at_one in
       let node : m ≡ n = cc in
-      let row_here : Row lists no_amounts i later =
-      subst (λ (s : Judgement). Row lists no_amounts s later) (sym judgements) row_too
+      let row_here : TypingRule lists no_amounts i later =
+      subst (λ (s : Judgement). TypingRule lists no_amounts s later) (sym judgements) row_too
       in
       let afters : later ≡ after = row-unique no_amounts formed.program row_here row in
       let Paired : List Judgement → List Account → Type 0 = λ js bs. Contains (zip js bs) (k, b) in

@@ -16,7 +16,7 @@ use Rattle.nomos_types.specs.Arguments.{PassesChannel}
 use Rattle.nomos_types.specs.Equality.{no_amounts}
 use Rattle.nomos_types.specs.Judgement.{Judgement, IsJudgement}
 use Rattle.nomos_types.specs.Premises.{HasType, by_side, Forwards, SendsChannel}
-use Rattle.nomos_types.specs.Row.{StandsAtCode}
+use Rattle.nomos_types.specs.TypingRule.{StandsAtCode}
 use Rattle.nomos_check.specs.Account.{Account}
 use Rattle.nomos_check.specs.Asking.{AsksPair, IsOfType}
 use Rattle.nomos_check.proofs.AskingLaws.{asks-at, asked-at}

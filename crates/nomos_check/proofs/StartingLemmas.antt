@@ -12,7 +12,8 @@ use Rattle.nomos_ir.specs.declared.ids.VarId.{VarId}
 use Rattle.nomos_ir.specs.declared.kind.Kind.{Kind}
 use Rattle.nomos_ir.specs.declared.lists.ProgramLists.{ProgramLists}
 use Rattle.nomos_ir.specs.Amounts.{star_count}
-use Rattle.nomos_ir.specs.Bindings.{bind, bindings_of}
+use Rattle.nomos_ir.specs.Bindings.{bind, bindings_of, each_bound}
+use Rattle.nomos_ir.proofs.MappedLaws.{each-bind, each-bindings}
 use Rattle.nomos_forms.specs.declared.form.Form.{Form}
 use Rattle.nomos_forms.specs.Bounds.{IsSmall}
 use Rattle.nomos_types.proofs.ModeLaws.{parameter-has_mode}
@@ -20,12 +21,12 @@ use Rattle.nomos_types.specs.Equality.{no_amounts}
 use Rattle.nomos_types.specs.Judgement.{Judgement, ListType, list_par, is_shared}
 use Rattle.nomos_types.specs.Modes.{HasMode, parameter_mode}
 use Rattle.nomos_check.proofs.FormLemmas.{coef_of}
-use Rattle.nomos_check.proofs.StandingLemmas.{each-bind, dths-none}
+use Rattle.nomos_check.proofs.StandingLemmas.{dths-none}
 use Rattle.nomos_check.specs.Account.{Account, gains, form_of, carried_by, no_account}
 use Rattle.nomos_check.specs.declared.standing.Carried.{Carried}
 use Rattle.nomos_check.specs.Room.{HasRoom}
 use Rattle.nomos_check.specs.mirror.FormLimits.{IsAmountOf}
-use Rattle.nomos_check.specs.mirror.StandingData.{each_bound, shape_of_list, amount_of}
+use Rattle.nomos_check.specs.mirror.StandingData.{shape_of_list, amount_of}
 use Rattle.nomos_check.specs.Reaching.{outset_of}
 use Rattle.nomos_check.specs.mirror.StartingWalk.{carried_par, kinds_of, lists_of, picks, IsStartOf}
 
@@ -61,12 +62,6 @@ none-room n f r lists is amount count =
       small = amount.small;
       star = omega (arith, amount.star);
     })
-
-module _ {X Y : Type 0} (f : X → Y) where
-  -- a map of pairs, each changed
-  each-bindings : (ps : List (VarId × X)) → each_bound f (bindings_of ps) ≡ bindings_of (each_bound f ps)
-  each-bindings [] = refl
-  each-bindings (p ∷ ps) = each-bind f p.0 p.1 (bindings_of ps) ∙ ap (bind p.0 (f p.1)) (each-bindings ps)
 
 par-shape : (v : VarId) (kind : Kind) (amount : Option Amount)
     → each_bound shape_of_list (carried_par v kind amount) ≡ list_par no_amounts v kind amount

@@ -25,8 +25,8 @@ use Rattle.nomos_types.specs.Equality.{no_amounts}
 use Rattle.nomos_types.specs.Judgement.{Judgement, ListType, IsFree, at_code, goes_on, with_potential, binds_list, binds_channel}
 use Rattle.nomos_types.specs.Modes.{may_spawn}
 use Rattle.nomos_types.specs.Premises.{HasType, by_side, SendsLabel, AwaitsLabel, SendsChannel, ReceivesChannel, SendsValue, ReceivesValue, Pays, Gets, Accepts, Detaches, Acquires, Releases, Spawns, Closes, Forwards, Calls, Adds, TakesApart}
-use Rattle.nomos_types.specs.Row.{StandsAtCode, gives_up, without_list, takes_parts, Row}
-use Rattle.nomos_types.specs.Row as row
+use Rattle.nomos_types.specs.TypingRule.{StandsAtCode, gives_up, without_list, takes_parts, TypingRule}
+use Rattle.nomos_types.specs.TypingRule as row
 use Rattle.nomos_types.proofs.RowLaws.{row-inverted}
 use Rattle.nomos_check.specs.mirror.StandingData.{NoRow}
 
@@ -78,7 +78,7 @@ module _ {lists : ProgramLists} {j : Judgement} where
 
   pub pay-steps : {at : ℕ} {c : Chan} {r : Amount} {next : CodeId} → StandsAtCode lists j (code.Pay at c r next)
       → (s : Amount) (t : TypeId) → HasType lists j c (by_side c (node.PotOut s t) (node.PotIn s t))
-      → Row lists no_amounts j (goes_on j c t next ∷ [])
+      → TypingRule lists no_amounts j (goes_on j c t next ∷ [])
   pay-steps {at} {c} {r} {next} stands s t channel =
       let paid = worth-nothing r in
       let said = worth-nothing s in
@@ -87,7 +87,7 @@ module _ {lists : ProgramLists} {j : Judgement} where
       let says : Pays lists no_amounts j c r t =
       record { amount = s; channel = channel; same = omega arith; enough = omega arith }
       in
-      let After : ℕ → Type 0 = λ q. Row lists no_amounts j (with_potential (goes_on j c t next) q ∷ []) in
+      let After : ℕ → Type 0 = λ q. TypingRule lists no_amounts j (with_potential (goes_on j c t next) q ∷ []) in
       subst After rest (row.pay stands t says)
 
   pub pay-stuck : {at : ℕ} {c : Chan} {r : Amount} {next : CodeId} → StandsAtCode lists j (code.Pay at c r next)
@@ -98,14 +98,14 @@ module _ {lists : ProgramLists} {j : Judgement} where
 
   pub get-steps : {at : ℕ} {c : Chan} {r : Amount} {next : CodeId} → StandsAtCode lists j (code.Get at c r next)
       → (s : Amount) (t : TypeId) → HasType lists j c (by_side c (node.PotIn s t) (node.PotOut s t))
-      → Row lists no_amounts j (goes_on j c t next ∷ [])
+      → TypingRule lists no_amounts j (goes_on j c t next ∷ [])
   get-steps {at} {c} {r} {next} stands s t channel =
       let got = worth-nothing r in
       let said = worth-nothing s in
       let kept = gone-keeps_q j c t next in
       let rest : j.q + dths no_amounts r ≡ (goes_on j c t next).q = omega arith in
       let says : Gets lists no_amounts j c r t = record { amount = s; channel = channel; same = omega arith } in
-      let After : ℕ → Type 0 = λ q. Row lists no_amounts j (with_potential (goes_on j c t next) q ∷ []) in
+      let After : ℕ → Type 0 = λ q. TypingRule lists no_amounts j (with_potential (goes_on j c t next) q ∷ []) in
       subst After rest (row.get stands t says)
 
   pub get-stuck : {at : ℕ} {c : Chan} {r : Amount} {next : CodeId} → StandsAtCode lists j (code.Get at c r next)
@@ -115,12 +115,12 @@ module _ {lists : ProgramLists} {j : Judgement} where
       let (t, says, same) = row-inverted (code.Get at c r next) stands steps in none says.amount t says.channel
 
   pub work-steps : {at : ℕ} {r : Amount} {next : CodeId} → StandsAtCode lists j (code.Work at r next)
-      → Row lists no_amounts j (at_code j next ∷ [])
+      → TypingRule lists no_amounts j (at_code j next ∷ [])
   work-steps {at} {r} {next} stands =
       let spent = worth-nothing r in
       let rest : j.q - dths no_amounts r ≡ j.q = omega arith in
       let enough : dths no_amounts r ≤ j.q = omega arith in
-      let After : ℕ → Type 0 = λ q. Row lists no_amounts j (with_potential (at_code j next) q ∷ []) in
+      let After : ℕ → Type 0 = λ q. TypingRule lists no_amounts j (with_potential (at_code j next) q ∷ []) in
       subst After rest (row.work stands enough)
 
   -- ---- shared contracts
@@ -151,7 +151,7 @@ module _ {lists : ProgramLists} {j : Judgement} where
       → StandsAtCode lists j (code.Spawn at v f args next) → (d : ProcDecl) (left : Judgement)
       → slice_get lists.procs f.0 ≡ Some d → IsTrue (may_spawn j.mode d.mode)
       → ArgumentsFit lists no_amounts j d args left → IsFree j v → left.q ≡ j.q
-      → Row lists no_amounts j (binds_channel (at_code left next) v d.mode d.offers ∷ [])
+      → TypingRule lists no_amounts j (binds_channel (at_code left next) v d.mode d.offers ∷ [])
   spawn-steps {at} {v} {f} {args} {next} stands d left declared may arguments free kept =
       let spent = worth-nothing d.amount in
       let rest : j.q - dths no_amounts d.amount ≡ left.q = omega arith in
@@ -159,7 +159,7 @@ module _ {lists : ProgramLists} {j : Judgement} where
       record { declared = declared; mode = may; arguments = arguments; enough = omega arith; free = free }
       in
       let After : ℕ → Type 0 =
-      λ q. Row lists no_amounts j (binds_channel (with_potential (at_code left next) q) v d.mode d.offers ∷ [])
+      λ q. TypingRule lists no_amounts j (binds_channel (with_potential (at_code left next) q) v d.mode d.offers ∷ [])
       in
       subst After rest (row.spawn stands d left says)
 
@@ -205,10 +205,10 @@ module _ {lists : ProgramLists} {j : Judgement} where
 
   pub empty-steps : {at : ℕ} {v : VarId} {r : Amount} {kind : Kind} {next : CodeId}
       → StandsAtCode lists j (code.Empty at v r kind next) → IsFree j v
-      → Row lists no_amounts j (binds_list (at_code j next) v (record { kind = kind; amount = 0 }) ∷ [])
+      → TypingRule lists no_amounts j (binds_list (at_code j next) v (record { kind = kind; amount = 0 }) ∷ [])
   empty-steps {at} {v} {r} {kind} {next} stands free =
       let After : ℕ → Type 0 =
-      λ q. Row lists no_amounts j (binds_list (at_code j next) v (record { kind = kind; amount = q }) ∷ [])
+      λ q. TypingRule lists no_amounts j (binds_list (at_code j next) v (record { kind = kind; amount = q }) ∷ [])
       in
       subst After (worth-nothing r) (row.empty stands free)
 
@@ -219,11 +219,11 @@ module _ {lists : ProgramLists} {j : Judgement} where
 
   pub add-steps : {at : ℕ} {v : VarId} {e : TermId} {w : VarId} {next : CodeId}
       → StandsAtCode lists j (code.Add at v e w next) → (list : ListType) → Adds lists j v e w list → list.amount ≡ 0
-      → Row lists no_amounts j (binds_list (without_list j w next) v list ∷ [])
+      → TypingRule lists no_amounts j (binds_list (without_list j w next) v list ∷ [])
   add-steps {at} {v} {e} {w} {next} stands list says nothing =
       let rest : j.q - list.amount ≡ j.q = omega arith in
       let After : ℕ → Type 0 =
-      λ q. Row lists no_amounts j (with_potential (binds_list (without_list j w next) v list) q ∷ [])
+      λ q. TypingRule lists no_amounts j (with_potential (binds_list (without_list j w next) v list) q ∷ [])
       in
       subst After rest (row.add stands list says)
 
@@ -236,12 +236,12 @@ module _ {lists : ProgramLists} {j : Judgement} where
   pub match-steps : {at : ℕ} {w head tail : VarId} {empty_next full_next : CodeId}
       → StandsAtCode lists j (code.Match at w empty_next head tail full_next) → (list : ListType)
       → TakesApart j w head tail list → list.amount ≡ 0
-      → Row lists no_amounts j (without_list j w empty_next ∷ takes_parts j w head tail list full_next ∷ [])
+      → TypingRule lists no_amounts j (without_list j w empty_next ∷ takes_parts j w head tail list full_next ∷ [])
   match-steps {at} {w} {head} {tail} {empty_next} {full_next} stands list says nothing =
       let rest : j.q + list.amount ≡ j.q = omega arith in
       let full = takes_parts j w head tail list full_next in
       let After : ℕ → Type 0 =
-      λ q. Row lists no_amounts j (without_list j w empty_next ∷ with_potential full q ∷ [])
+      λ q. TypingRule lists no_amounts j (without_list j w empty_next ∷ with_potential full q ∷ [])
       in
       subst After rest (row.match stands list says)
 

@@ -6,7 +6,7 @@ use Rattle.nomos_ir.specs.Amounts.{star_count}
 use Rattle.nomos_types.proofs.InversionLaws.{row-descends}
 use Rattle.nomos_types.proofs.UniqueRowLaws.{row-unique}
 use Rattle.nomos_types.specs.Equality.{no_amounts}
-use Rattle.nomos_types.specs.Row.{Row, StandsAtCode}
+use Rattle.nomos_types.specs.TypingRule.{TypingRule, StandsAtCode}
 use Rattle.nomos_types.specs.Typed.{IsWellFormed}
 use Rattle.nomos_check.proofs.GatherLemmas.{first-some}
 use Rattle.nomos_check.proofs.GoingLemmas.{going-next, goes-end, goes-along}
@@ -63,7 +63,7 @@ module _ (lists : ProgramLists) (formed : IsWellFormed lists) (first s next : St
   -- the code ends
   pub stride-ends : found ≡ step.Done → Goes lists (star_count lists) first old (record noted { asked = asked })
   stride-ends is =
-      let row : Row lists no_amounts (shape_of s) [] = subst (StepTells lists s next) is tells in
+      let row : TypingRule lists no_amounts (shape_of s) [] = subst (StepTells lists s next) is tells in
       let joins : JoinsAsked lists s noted.asked asked = subst (StepAsks lists s noted.asked asked) is asks in
       let visits = visits-row lists s between noted notes asked noted.todo joins ([], row) in
       goes-end lists formed first s old between (record noted { asked = asked }) going visits notes.todo

@@ -17,7 +17,7 @@ use Rattle.nomos_types.specs.Amount.{Annotations, dths}
 use Rattle.nomos_types.specs.Derivation.{Derives, Follows}
 use Rattle.nomos_types.specs.Equality.{no_amounts}
 use Rattle.nomos_types.specs.Judgement.{Judgement, ListType, IsJudgement, start_of}
-use Rattle.nomos_types.specs.Row.{Row}
+use Rattle.nomos_types.specs.TypingRule.{TypingRule}
 use Rattle.nomos_types.specs.Typed.{IsWellFormed}
 use Rattle.nomos_types.proofs.RowLaws.{row-at}
 use Rattle.nomos_check.specs.Account.{Account}
@@ -163,7 +163,7 @@ module _ {lists : ProgramLists} {x : Annotations} {o : Outset} {first : Judgemen
       let (n, there, says) = row-at row in
       let carried = row-carried n f.own f.beside there says (no-needs j f.account n after) in
       let there_too = stands f.beside lists n there in
-      let made : Row lists no_amounts f.judgement carried.later = row-made n there_too carried.row in
+      let made : TypingRule lists no_amounts f.judgement carried.later = row-made n there_too carried.row in
       let b = behind k (each-back carried.each) among in
       record {
         judgement = b.judgement;

@@ -4,7 +4,7 @@ use Rattle.nomos_ir.specs.declared.code_node.CodeNode.{CodeNode}
 use Rattle.nomos_ir.specs.declared.lists.ProgramLists.{ProgramLists}
 use Rattle.nomos_ir.specs.Amounts.{star_count}
 use Rattle.nomos_forms.specs.declared.form.Form.{Form}
-use Rattle.nomos_types.specs.Row.{StandsAtCode}
+use Rattle.nomos_types.specs.TypingRule.{StandsAtCode}
 use Rattle.nomos_check.proofs.GatherLemmas.{first-keeps, first-here, first-some, first-one}
 use Rattle.nomos_check.specs.Account.{Account}
 use Rattle.nomos_ir.specs.Instruction.{code_offset, code_form}

@@ -3,16 +3,16 @@ use Rattle.std.proofs.Common.{◌≡◌, ℕ, List, ap, ap₂, ◌∙◌}
 use Rattle.nomos_ir.specs.declared.ids.CodeId.{CodeId}
 use Rattle.nomos_ir.specs.declared.ids.VarId.{VarId}
 use Rattle.nomos_ir.specs.declared.kind.Kind.{Kind}
-use Rattle.nomos_ir.specs.Bindings.{bind, unbind}
+use Rattle.nomos_ir.specs.Bindings.{bind, unbind, each_bound}
+use Rattle.nomos_ir.proofs.MappedLaws.{each-bind, each-unbind}
 use Rattle.nomos_forms.specs.declared.form.Form.{Form}
 use Rattle.nomos_types.specs.Judgement.{Judgement, ListType}
-use Rattle.nomos_check.proofs.StandingLemmas.{each-bind, each-unbind}
 use Rattle.nomos_check.specs.Account.{Account, gains, form_of}
 use Rattle.nomos_check.specs.declared.standing.Carried.{Carried}
 use Rattle.nomos_check.specs.declared.standing.Parts.{Parts}
 use Rattle.nomos_check.specs.declared.standing.Standing.{Standing}
 use Rattle.nomos_check.specs.declared.standing.Way.TheVariants as way
-use Rattle.nomos_check.specs.mirror.StandingData.{shape_of, shape_of_list, amount_of, each_bound}
+use Rattle.nomos_check.specs.mirror.StandingData.{shape_of, shape_of_list, amount_of}
 use Rattle.nomos_check.specs.mirror.Ways.{GoesWay}
 
 -- a list is taken apart

@@ -9,6 +9,7 @@ use Rattle.nomos_ir.specs.declared.ids.VarId.{VarId}
 use Rattle.nomos_ir.specs.declared.lists.ProgramLists.{ProgramLists}
 use Rattle.nomos_ir.specs.Amounts.{star_count, amounts_of}
 use Rattle.nomos_ir.specs.Ids.{ProcInRange}
+use Rattle.nomos_ir.specs.Bindings.{each_bound}
 use Rattle.nomos_forms.specs.declared.form.Form.{Form}
 use Rattle.nomos_forms.specs.Bounds.{IsForm}
 use Rattle.nomos_types.proofs.InversionLaws.{row-descends}
@@ -26,7 +27,7 @@ use Rattle.nomos_check.specs.Accounting.{accounts_after}
 use Rattle.nomos_check.specs.Reaching.{Outset, outset_of, GetsTo, IsPointAt, IsPoint}
 use Rattle.nomos_check.specs.declared.standing.Carried.{Carried}
 use Rattle.nomos_check.specs.declared.standing.Standing.{Standing}
-use Rattle.nomos_check.specs.mirror.StandingData.{shape_of, each_bound, amount_of, HasAccount, IsWithin}
+use Rattle.nomos_check.specs.mirror.StandingData.{shape_of, amount_of, HasAccount, IsWithin}
 use Rattle.nomos_check.specs.mirror.Walking.{StaysWithin, IsOnWay}
 use Rattle.nomos_check.specs.mirror.FormLimits.{IsAmountOf}
 

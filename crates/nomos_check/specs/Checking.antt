@@ -16,7 +16,7 @@ use Rattle.nomos_forms.specs.Linear.{form_value}
 use Rattle.nomos_types.specs.Amount.{Annotations}
 use Rattle.nomos_types.specs.Derivation.{Derives, HasSkeleton, IsStuck}
 use Rattle.nomos_types.specs.Judgement.{Judgement, start_of}
-use Rattle.nomos_types.specs.Row.{StandsAtCode}
+use Rattle.nomos_types.specs.TypingRule.{StandsAtCode}
 use Rattle.nomos_check.specs.Asking.{IsAsked}
 use Rattle.nomos_check.specs.Reaching.{outset_of, IsFormOf}
 use Rattle.nomos_check.specs.declared.checking.Checked.{Checked}
@@ -83,7 +83,7 @@ pub record NeedsBeside (lists : ProgramLists) (n : ℕ) (d : ProcDecl) (old new 
   pub small : All (IsForm n) forms
 
 -- what it answers beside what was compared before
-abbrev pub AnswersBeside : ProgramLists → ℕ → ProcDecl → Compared → Compared → Result Checked ProcError → Type 0
-AnswersBeside lists n d old new (Ok checked) = NeedsBeside lists n d old new checked.forms checked.pairs
-AnswersBeside lists n d old new (Err (error.ProcType at form)) = IsFirstStuck lists d at form
-AnswersBeside lists n d old new (Err error.NoMemory) = Unit {0}
+abbrev pub AnswersProcessBeside : ProgramLists → ℕ → ProcDecl → Compared → Compared → Result Checked ProcError → Type 0
+AnswersProcessBeside lists n d old new (Ok checked) = NeedsBeside lists n d old new checked.forms checked.pairs
+AnswersProcessBeside lists n d old new (Err (error.ProcType at form)) = IsFirstStuck lists d at form
+AnswersProcessBeside lists n d old new (Err error.NoMemory) = Unit {0}

@@ -10,7 +10,7 @@ use Rattle.nomos_ir.specs.declared.lists.ProgramLists.{ProgramLists}
 use Rattle.nomos_forms.specs.declared.form.Form.{Form}
 use Rattle.nomos_types.specs.Equality.{no_amounts}
 use Rattle.nomos_types.specs.Judgement.{Judgement, start_of}
-use Rattle.nomos_types.specs.Row.{Row, StandsAtCode}
+use Rattle.nomos_types.specs.TypingRule.{TypingRule, StandsAtCode}
 use Rattle.nomos_check.specs.Account.{Account, start_account, spends, form_of}
 use Rattle.nomos_check.specs.Accounting.{accounts_after}
 
@@ -27,7 +27,7 @@ outset_of lists d = record { judgement = start_of lists no_amounts d; account = 
 pub data GetsTo (lists : ProgramLists) (o : Outset) : Judgement → Account → Type 0 where
   start : GetsTo lists o o.judgement o.account
   next : {j k : Judgement} {a b : Account} → (n : CodeNode) (after : List Judgement) → GetsTo lists o j a
-      → StandsAtCode lists j n → Row lists no_amounts j after
+      → StandsAtCode lists j n → TypingRule lists no_amounts j after
       → Contains (zip after (accounts_after lists n a)) (k, b)
       → GetsTo lists o k b
 

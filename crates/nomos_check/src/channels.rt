@@ -3,7 +3,7 @@ ghost use Rattle.std.specs.Prelude.{◌≡◌, ◌<◌, OnOk, length, option_cop
 ghost use Rattle.nomos_ir.specs.declared.code_node.Chan.{Chan};
 ghost use Rattle.nomos_types.specs.Judgement.{at_code, channel_type, goes_on};
 ghost use Rattle.nomos_types.specs.Premises.{HasType};
-ghost use Rattle.nomos_types.specs.Row.{gives_up};
+ghost use Rattle.nomos_types.specs.TypingRule.{gives_up};
 ghost use Rattle.nomos_types.specs.Typed.{IsWellFormed};
 ghost use Rattle.nomos_check.specs.mirror.Finding.{IsFound};
 ghost use Rattle.nomos_check.specs.mirror.StepMoves.{KeepsAmounts};

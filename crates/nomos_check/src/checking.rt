@@ -6,7 +6,7 @@ ghost use Rattle.nomos_ir.specs.Amounts.{star_count};
 ghost use Rattle.nomos_equality.specs.Comparing.{HasCompared};
 ghost use Rattle.nomos_types.specs.Typed.{IsWellFormed};
 ghost use Rattle.nomos_check.specs.Checker.{IsCheckerOf};
-ghost use Rattle.nomos_check.specs.Checking.{AnswersProcess, AnswersBeside};
+ghost use Rattle.nomos_check.specs.Checking.{AnswersProcess, AnswersProcessBeside};
 ghost use Rattle.nomos_check.specs.mirror.ProcessAnswers.{GathersAll, JoinsPairs};
 ghost use Rattle.nomos_check.specs.mirror.Fresh.{IsFresh};
 ghost use Rattle.nomos_check.specs.mirror.StandingData.{IsReady};
@@ -101,7 +101,7 @@ pub fn check_process_with(
     requires compared { HasCompared program.now equalities.old }
     ensures compared { HasCompared program.now equalities.new }
     ensures answers { (d : ProcDecl) → slice_get program.now.procs p.0 ≡ Some d →
-        AnswersBeside program.now (star_count program.now) d equalities.old equalities.new result }
+        AnswersProcessBeside program.now (star_count program.now) d equalities.old equalities.new result }
 {
     let alloc = checker.alloc;
     let known = mem::replace(equalities, Equalities::new(alloc));

@@ -1,7 +1,7 @@
 //! The rules of `wait` and `close`.
 ghost use Rattle.std.specs.Prelude.{◌≡◌, ℕ};
 ghost use Rattle.nomos_ir.specs.declared.code_node.CodeNode.{CodeNode};
-ghost use Rattle.nomos_types.specs.Row.{StandsAtCode};
+ghost use Rattle.nomos_types.specs.TypingRule.{StandsAtCode};
 ghost use Rattle.nomos_types.specs.Typed.{IsWellFormed};
 ghost use Rattle.nomos_check.specs.mirror.StandingData.{shape_of, IsWithin, StepTells};
 

@@ -1,7 +1,7 @@
 //! The rules of instructions on potential: `work`, `pay` and `get`.
 ghost use Rattle.std.specs.Prelude.{◌≡◌, ℕ, IfOk};
 ghost use Rattle.nomos_ir.specs.declared.code_node.CodeNode.{CodeNode};
-ghost use Rattle.nomos_types.specs.Row.{StandsAtCode};
+ghost use Rattle.nomos_types.specs.TypingRule.{StandsAtCode};
 ghost use Rattle.nomos_types.specs.Typed.{IsWellFormed};
 ghost use Rattle.nomos_check.specs.mirror.StandingData.{shape_of, IsReady, IsWithin, StepAsks, StepTells};
 

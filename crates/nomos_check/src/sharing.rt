@@ -9,7 +9,7 @@ ghost use Rattle.nomos_ir.specs.Unfold.{Unfolds};
 ghost use Rattle.nomos_types.specs.ModeTable.{AreModesOf};
 ghost use Rattle.nomos_types.specs.Modes.{HasMode};
 ghost use Rattle.nomos_types.specs.Premises.{Accepts, Acquires, Detaches, Releases};
-ghost use Rattle.nomos_types.specs.Row.{StandsAtCode};
+ghost use Rattle.nomos_types.specs.TypingRule.{StandsAtCode};
 ghost use Rattle.nomos_types.specs.Typed.{IsWellFormed};
 ghost use Rattle.nomos_check.specs.mirror.Finding.{IsFound};
 ghost use Rattle.nomos_check.specs.mirror.StandingData.{shape_of, IsWithin, StepTells};

@@ -4,7 +4,7 @@ ghost use Rattle.nomos_ir.specs.declared.code_node.CodeNode.{CodeNode};
 ghost use Rattle.nomos_ir.specs.TermKind.{HasKind};
 ghost use Rattle.nomos_types.specs.Judgement.{IsFree};
 ghost use Rattle.nomos_types.specs.Premises.{ReceivesValue, SendsValue};
-ghost use Rattle.nomos_types.specs.Row.{StandsAtCode};
+ghost use Rattle.nomos_types.specs.TypingRule.{StandsAtCode};
 ghost use Rattle.nomos_types.specs.Typed.{IsWellFormed};
 ghost use Rattle.nomos_check.specs.mirror.Finding.{IsFound};
 ghost use Rattle.nomos_check.specs.mirror.StandingData.{shape_of, IsWithin, StepTells};

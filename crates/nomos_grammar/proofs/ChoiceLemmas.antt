@@ -27,7 +27,7 @@ use Rattle.nomos_grammar.specs.declared.part.Terminal.TheVariants as terminal
 use Rattle.nomos_grammar.specs.declared.part.Nonterminal.{Nonterminal}
 use Rattle.nomos_grammar.specs.declared.part.Part.{Part}
 use Rattle.nomos_grammar.specs.declared.part.Part.TheVariants as part
-use Rattle.nomos_grammar.specs.Deriving.{
+use Rattle.nomos_grammar.specs.Producing.{
   terminal_of,
   Fits,
   Event,
@@ -35,7 +35,7 @@ use Rattle.nomos_grammar.specs.Deriving.{
   IsAmong,
   first,
   later,
-  Derives,
+  Produces,
   nothing,
   read,
   counted,
@@ -112,7 +112,7 @@ vanishing_side n (p ∷ side) m v =
     cc
 
 -- parts that derive no token may vanish
-no_tokens : {parts : List Part} {events : List Event} → Derives parts events → tokens_in events ≡ [] →
+no_tokens : {parts : List Part} {events : List Event} → Produces parts events → tokens_in events ≡ [] →
     may_vanish parts ≡ true
 no_tokens nothing e = refl
 no_tokens (read f d) e = cc
@@ -165,7 +165,7 @@ starts_production n side rest t m s = elim (starts_joined side rest t s) [
 ]
 
 -- the first token that parts derive is one with which they may begin
-begins_with : {parts : List Part} {events : List Event} (t : Terminal) → Derives parts events →
+begins_with : {parts : List Part} {events : List Event} (t : Terminal) → Produces parts events →
     next_in events ≡ Some t → IsAmong t (starts parts)
 begins_with t nothing e = cc
 begins_with t (read {t = u} {x} f d) e = fits_among u x.lexeme t f e
@@ -173,7 +173,7 @@ begins_with t (counted d) e = begins_with t d e
 begins_with t (replaced {n} {rest} side m d) e = starts_production n side rest t m (begins_with t d e)
 
 -- only a bad byte is nothing to the grammar, and none is derived
-next_none : {parts : List Part} {events : List Event} → Derives parts events → next_in events ≡ None →
+next_none : {parts : List Part} {events : List Event} → Produces parts events → next_in events ≡ None →
     tokens_in events ≡ []
 next_none nothing e = refl
 next_none (read {t = u} {x} (inl f) d) e = cc
@@ -318,7 +318,7 @@ taken_side n side rest t m behind a = elim (starts_joined side rest t a) [
 -- an alternative of which the events derive is the one that their first token chooses
 pub side_chosen : (n : Nonterminal) (side rest : List Part) (events : List Event) (next : Option Terminal) →
     next_in events ≡ next → AreWithin (starts rest) (follow n) → IsAmong side (alternatives n) →
-    Derives (side ++ rest) events → chosen n next ≡ side
+    Produces (side ++ rest) events → chosen n next ≡ side
 unfolding chosen
 side_chosen n side rest events None e behind m d =
     vanish_row n (alternatives n) side (all_choose_well n) m ((vanish_parts side rest (no_tokens d (next_none d e))).0)

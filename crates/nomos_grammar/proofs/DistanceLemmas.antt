@@ -33,7 +33,7 @@ use Rattle.nomos_grammar.specs.declared.part.Nonterminal.{Nonterminal}
 use Rattle.nomos_grammar.specs.declared.part.Mark.{Mark}
 use Rattle.nomos_grammar.specs.declared.part.Part.{Part}
 use Rattle.nomos_grammar.specs.declared.part.Part.TheVariants as part
-use Rattle.nomos_grammar.specs.Deriving.{IsAmong, file}
+use Rattle.nomos_grammar.specs.Producing.{IsAmong, file}
 use Rattle.nomos_grammar.specs.Grammar.{alternatives}
 use Rattle.nomos_grammar.specs.mirror.Table.{vanishes}
 use Rattle.nomos_grammar.specs.mirror.Stacks.{may_vanish, rises, rank, distance, IsLow}

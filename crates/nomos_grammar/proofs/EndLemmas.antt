@@ -28,7 +28,7 @@ use Rattle.nomos_grammar.specs.declared.part.Mark.{Mark}
 use Rattle.nomos_grammar.specs.declared.part.Part.{Part}
 use Rattle.nomos_grammar.specs.declared.part.Part.TheVariants as part
 use Rattle.nomos_grammar.specs.Counting.{Counts}
-use Rattle.nomos_grammar.specs.Deriving.{Event, token, mark, tokens_in, Derives, nothing, read, IsFile}
+use Rattle.nomos_grammar.specs.Producing.{Event, token, mark, tokens_in, Produces, nothing, read, IsFile}
 use Rattle.nomos_grammar.specs.mirror.Stacks.{next_in}
 use Rattle.nomos_grammar.specs.mirror.ReaderStates.{events_of, Leads, Settles, HasRead}
 use Rattle.nomos_grammar.proofs.ReadingLemmas.{tokens_joined, no_tokens_in_marks}
@@ -39,7 +39,7 @@ next_of_none [] e = refl
 next_of_none (token x ∷ events) e = cc
 next_of_none (mark m ∷ events) e = next_of_none events e
 
-a_token : {t : Terminal} {rest : List Part} {events : List Event} → Derives (part.Terminal t ∷ rest) events →
+a_token : {t : Terminal} {rest : List Part} {events : List Event} → Produces (part.Terminal t ∷ rest) events →
     tokens_in events ≡ [] → ⊥
 a_token (read f d) e = cc
 

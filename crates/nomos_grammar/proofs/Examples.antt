@@ -7,7 +7,7 @@ use Rattle.nomos_syntax.specs.declared.symbol.Symbol.TheVariants as sym
 use Rattle.nomos_syntax.specs.Lexeme.{Lexeme, name, reserved, number, symbol}
 use Rattle.nomos_grammar.specs.declared.part.Mark.TheVariants as mark
 use Rattle.nomos_grammar.specs.Counting.{depth, counts}
-use Rattle.nomos_grammar.specs.Deriving.{
+use Rattle.nomos_grammar.specs.Producing.{
   Event,
   token,
   mark as marked,
@@ -17,7 +17,7 @@ use Rattle.nomos_grammar.specs.Deriving.{
   replaced,
   first,
   later,
-  Derives,
+  Produces,
   file,
 }
 
@@ -38,7 +38,7 @@ definition =
     marked mark.OpenPart ∷ marked mark.Node ∷ says (number (codes "1")) ∷ marked mark.ClosePart ∷
     sign_said sym.Semicolon ∷ []
 
-pub definition_derived : Derives file definition
+pub definition_derived : Produces file definition
 definition_derived =
     replaced _ (later first) (replaced _ first (counted (read (inl refl)
     (replaced _ first (read (inl refl) (read (inl refl) (read (inl refl)

@@ -5,14 +5,14 @@ use Rattle.nomos_grammar.specs.declared.part.Terminal.{Terminal}
 use Rattle.nomos_grammar.specs.declared.part.Nonterminal.{Nonterminal}
 use Rattle.nomos_grammar.specs.declared.part.Part.{Part}
 use Rattle.nomos_grammar.specs.declared.part.Part.TheVariants as part
-use Rattle.nomos_grammar.specs.Deriving.{
+use Rattle.nomos_grammar.specs.Producing.{
   terminal_of,
   Event,
   token,
   mark,
   tokens_in,
   IsAmong,
-  Derives,
+  Produces,
   nothing,
   read,
   counted,
@@ -33,8 +33,8 @@ chosen_among n next = pick_among n (alternatives n) next (all_choose_well n)
 -- Where a production stands before parts behind which stands what may stand there, what the parts derive they derive
 -- with the alternative that the first token chooses.
 pub chosen_derives : {n : Nonterminal} {rest : List Part} {events : List Event} →
-    IsStack (part.Nonterminal n ∷ rest) → Derives (part.Nonterminal n ∷ rest) events →
-    Derives (chosen n (next_in events) ++ rest) events
+    IsStack (part.Nonterminal n ∷ rest) → Produces (part.Nonterminal n ∷ rest) events →
+    Produces (chosen n (next_in events) ++ rest) events
 chosen_derives {n} {rest} {events} s (replaced side m d) =
     rw (side_chosen n side rest events (next_in events) refl s.0 m d) d
 
@@ -60,8 +60,8 @@ next_of_tokens (token x ∷ events) = refl
 next_of_tokens (mark m ∷ events) = next_of_tokens events
 
 -- The tokens fix the events.
-pub events_once : {parts : List Part} {events others : List Event} → IsStack parts → Derives parts events →
-    Derives parts others → tokens_in events ≡ tokens_in others → events ≡ others
+pub events_once : {parts : List Part} {events others : List Event} → IsStack parts → Produces parts events →
+    Produces parts others → tokens_in events ≡ tokens_in others → events ≡ others
 events_once s nothing nothing e = refl
 events_once s (read {x = x} {events = more} f d) (read {x = y} {events = rest} g b) e =
     let same : x ≡ y = cc in
@@ -75,9 +75,9 @@ events_once {events = events} {others = others} s (replaced {n = n} {rest = rest
     let same : other ≡ side = sym (side_chosen n other rest others (next_in events) next s.0 k b)
     ∙ side_chosen n side rest events (next_in events) refl s.0 m d in
     events_once (stack_replaced n side rest m s) d
-    (subst (λ (parts : List Part). Derives (parts ++ rest) others) same b) e
+    (subst (λ (parts : List Part). Produces (parts ++ rest) others) same b) e
 
 -- so a file has its tokens in one way
-pub file_once : {events others : List Event} → Derives file events → Derives file others →
+pub file_once : {events others : List Event} → Produces file events → Produces file others →
     tokens_in events ≡ tokens_in others → events ≡ others
 file_once d b e = events_once stack_file d b e

@@ -4,12 +4,12 @@ use Rattle.nomos_syntax.specs.Lexeme.{Placed}
 use Rattle.nomos_syntax.specs.Limits.{nesting_limit, node_limit}
 use Rattle.nomos_grammar.specs.declared.part.Part.{Part}
 use Rattle.nomos_grammar.specs.Counting.{Counts, depth, counts}
-use Rattle.nomos_grammar.specs.Deriving.{
+use Rattle.nomos_grammar.specs.Producing.{
   Event,
   token,
   mark,
   tokens_in,
-  Derives,
+  Produces,
   nothing,
   read,
   counted,
@@ -43,8 +43,8 @@ next_same events earlier later others before behind x e f t =
     (next_alike (tokens_in earlier) x (tokens_in behind) (tokens_in later) ∙ sym (next_cut events earlier later x e)))
 
 -- The tokens up to one fix the events before it.
-before_once : {parts : List Part} {events others : List Event} → IsStack parts → Derives parts events →
-    Derives parts others → (earlier later before behind : List Event) (x : Placed) →
+before_once : {parts : List Part} {events others : List Event} → IsStack parts → Produces parts events →
+    Produces parts others → (earlier later before behind : List Event) (x : Placed) →
     events ≡ earlier ++ token x ∷ later → others ≡ before ++ token x ∷ behind →
     tokens_in earlier ≡ tokens_in before → earlier ≡ before
 before_once s nothing b [] later before behind x e f t = cc
@@ -78,11 +78,11 @@ before_once {events = events} {others = others} s (replaced {n = n} {rest = rest
     let same : side' ≡ side = sym (side_chosen n side' rest others (next_in events) next s.0 k b)
     ∙ side_chosen n side rest events (next_in events) refl s.0 m d in
     before_once (stack_replaced n side rest m s) d
-    (subst (λ (parts : List Part). Derives (parts ++ rest) others) same b) earlier later before behind x e f t
+    (subst (λ (parts : List Part). Produces (parts ++ rest) others) same b) earlier later before behind x e f t
 
 -- Where a token may stand so that what counts at it is such, it counts so in each file in which the token stands there.
 pub counts_so : (P : Counts → Type 0) (front : List Placed) (x : Placed) → MayStand P front x →
-    (earlier later : List Event) → Derives file (earlier ++ token x ∷ later) → tokens_in earlier ≡ front →
+    (earlier later : List Event) → Produces file (earlier ++ token x ∷ later) → tokens_in earlier ≡ front →
     P (counts earlier)
 counts_so P front x s earlier later d t =
     let same = before_once stack_file s.2 d s.0 s.1 earlier later x refl refl (s.3 ∙ sym t) in
@@ -95,7 +95,7 @@ pub record IsWithinLimits (c : Counts) : Type 0 where
   pub stars : c.stars ≤ star_limit
 
 pub kept_within : (tokens : List Placed) (earlier later : List Event) (x : Placed) → AllKeep [] tokens →
-    Derives file (earlier ++ token x ∷ later) → tokens_in (earlier ++ token x ∷ later) ≡ tokens →
+    Produces file (earlier ++ token x ∷ later) → tokens_in (earlier ++ token x ∷ later) ≡ tokens →
     IsWithinLimits (counts earlier)
 kept_within tokens earlier later x kept d t =
     let split : tokens_in earlier ++ x ∷ tokens_in later ≡ tokens = sym (tokens_joined earlier (token x ∷ later)) ∙ t in

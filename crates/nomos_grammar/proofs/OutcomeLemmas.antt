@@ -38,7 +38,7 @@ use Rattle.nomos_grammar.specs.declared.part.Terminal.TheVariants as terminal
 use Rattle.nomos_grammar.specs.declared.part.Part.{Part}
 use Rattle.nomos_grammar.specs.declared.part.Part.TheVariants as part
 use Rattle.nomos_grammar.specs.Counting.{Counts, nothing_counted, depth, after_token}
-use Rattle.nomos_grammar.specs.Deriving.{terminal_of, Fits, file}
+use Rattle.nomos_grammar.specs.Producing.{terminal_of, Fits, file}
 use Rattle.nomos_grammar.specs.Offence.{
   star_limit,
   MayBecome,

@@ -27,7 +27,7 @@ use Rattle.nomos_grammar.specs.declared.part.Nonterminal.{Nonterminal}
 use Rattle.nomos_grammar.specs.declared.part.Nonterminal.TheVariants as n
 use Rattle.nomos_grammar.specs.declared.part.Part.{Part}
 use Rattle.nomos_grammar.specs.declared.part.Part.TheVariants as part
-use Rattle.nomos_grammar.specs.Deriving.{
+use Rattle.nomos_grammar.specs.Producing.{
   Fits,
   Event,
   token,
@@ -35,7 +35,7 @@ use Rattle.nomos_grammar.specs.Deriving.{
   IsAmong,
   first,
   later,
-  Derives,
+  Produces,
   nothing,
   read,
   counted,
@@ -45,8 +45,8 @@ use Rattle.nomos_grammar.specs.Grammar.{alternatives}
 use Rattle.nomos_grammar.proofs.TableLemmas.{is_nil}
 
 -- joined parts derive joined events
-pub derives_joined : {parts more : List Part} {events others : List Event} → Derives parts events →
-    Derives more others → Derives (parts ++ more) (events ++ others)
+pub derives_joined : {parts more : List Part} {events others : List Event} → Produces parts events →
+    Produces more others → Produces (parts ++ more) (events ++ others)
 derives_joined nothing b = b
 derives_joined (read f d) b = read f (derives_joined d b)
 derives_joined (counted d) b = counted (derives_joined d b)
@@ -96,7 +96,7 @@ simplest_among m = last_of (alternatives m) refl
 -- what parts derive
 record Product (parts : List Part) : Type 0 where
   events : List Event
-  derived : Derives parts events
+  derived : Produces parts events
 
 -- what they derive in so many steps
 produced : ℕ → (parts : List Part) → Option (Product parts)
@@ -126,7 +126,7 @@ from_some None h = cc
 from_some (Some x) h = x
 
 -- any parts derive some events
-pub productive : (parts : List Part) → (events : List Event) × Derives parts events
+pub productive : (parts : List Part) → (events : List Event) × Produces parts events
 productive [] = ([], nothing)
 productive (part.Terminal t ∷ rest) =
     let p = productive rest in (token (example_token t) ∷ p.0, read (example_fits t) p.1)

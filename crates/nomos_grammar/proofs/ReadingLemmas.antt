@@ -15,7 +15,7 @@ use Rattle.nomos_grammar.specs.Counting.{
   after_token,
   counts_from,
 }
-use Rattle.nomos_grammar.specs.Deriving.{Event, token, mark as marked, tokens_in, Derives, counted, replaced}
+use Rattle.nomos_grammar.specs.Producing.{Event, token, mark as marked, tokens_in, Produces, counted, replaced}
 use Rattle.nomos_grammar.specs.mirror.Table.{chosen}
 use Rattle.nomos_grammar.specs.mirror.Stacks.{next_in, rises, distance}
 use Rattle.nomos_grammar.specs.mirror.ReaderStates.{events_of, HasRoom, IsReady, Leads}
@@ -140,8 +140,8 @@ leads_start next parts c ready = record {
 }
 
 -- a mark is counted
-behind_mark : {m : Mark} {rest : List Part} {events : List Event} → Derives (part.Mark m ∷ rest) events →
-    (more : List Event) × (events ≡ marked m ∷ more) × Derives rest more
+behind_mark : {m : Mark} {rest : List Part} {events : List Event} → Produces (part.Mark m ∷ rest) events →
+    (more : List Event) × (events ≡ marked m ∷ more) × Produces rest more
 behind_mark (counted {events = more} d) = (more, refl, d)
 
 pub leads_mark : (next : Option Terminal) (parts : List Part) (c : Counts) (marks : List Mark) (m : Mark)

@@ -6,14 +6,14 @@ use Rattle.nomos_grammar.specs.declared.part.Mark.{Mark}
 use Rattle.nomos_grammar.specs.declared.part.Part.{Part}
 use Rattle.nomos_grammar.specs.declared.part.Part.TheVariants as part
 use Rattle.nomos_grammar.specs.Counting.{Counts, nothing_counted, after_token, counts_from, counts}
-use Rattle.nomos_grammar.specs.Deriving.{
+use Rattle.nomos_grammar.specs.Producing.{
   terminal_of,
   Fits,
   Event,
   token,
   mark,
   tokens_in,
-  Derives,
+  Produces,
   nothing,
   read,
   file,
@@ -59,15 +59,15 @@ pub record Comes (front : List Placed) (x : Placed) (rest : List Part) (d : Coun
   pub earlier : List Event
   pub tokens : tokens_in earlier ≡ front
   pub counted : counts earlier ≡ d
-  pub sound : (more : List Event) → Derives rest more → Derives file (earlier ++ more)
-  pub complete : (all : List Event) (others : List Placed) → Derives file all →
+  pub sound : (more : List Event) → Produces rest more → Produces file (earlier ++ more)
+  pub complete : (all : List Event) (others : List Placed) → Produces file all →
       tokens_in all ≡ front ++ x ∷ others →
-      (more : List Event) × (all ≡ earlier ++ more) × Derives rest more × (tokens_in more ≡ x ∷ others)
+      (more : List Event) × (all ≡ earlier ++ more) × Produces rest more × (tokens_in more ≡ x ∷ others)
 
 completes : (front : List Placed) (parts rest : List Part) (c d : Counts) (next : Option Terminal) (marks : List Mark)
     (x : Placed) (has : HasRead front parts c) → Leads next parts c marks rest d → terminal_of x.lexeme ≡ next
-    → (all : List Event) (others : List Placed) → Derives file all → tokens_in all ≡ front ++ x ∷ others
-    → (more : List Event) × (all ≡ (has.events ++ events_of marks) ++ more) × Derives rest more
+    → (all : List Event) (others : List Placed) → Produces file all → tokens_in all ≡ front ++ x ∷ others
+    → (more : List Event) × (all ≡ (has.events ++ events_of marks) ++ more) × Produces rest more
     × (tokens_in more ≡ x ∷ others)
 completes front parts rest c d next marks x has way sees all others derived e =
     let behind = has.complete all (x ∷ others) derived e in
@@ -108,10 +108,10 @@ record Reads (t : Terminal) (rest : List Part) (events : List Event) (x : Placed
   more : List Event
   begins : events ≡ token x ∷ more
   fits : Fits t x.lexeme
-  derived : Derives rest more
+  derived : Produces rest more
 
 reads : {t : Terminal} {rest : List Part} {events : List Event} (x : Placed) (others : List Placed) →
-    Derives (part.Terminal t ∷ rest) events → tokens_in events ≡ x ∷ others → Reads t rest events x
+    Produces (part.Terminal t ∷ rest) events → tokens_in events ≡ x ∷ others → Reads t rest events x
 reads {t} x others (read {x = y} {events = more} f d) e =
     let same : y ≡ x = cc in
     record {
@@ -124,7 +124,7 @@ reads {t} x others (read {x = y} {events = more} f d) e =
 -- it may stand there
 pub stands : (front : List Placed) (x : Placed) (t : Terminal) (rest : List Part) (d : Counts)
     (c : Comes front x (part.Terminal t ∷ rest) d) → Fits t x.lexeme
-    → (later : List Event) × Derives file (c.earlier ++ token x ∷ later)
+    → (later : List Event) × Produces file (c.earlier ++ token x ∷ later)
 stands front x t rest d c f = let p = productive rest in (p.0, c.sound (token x ∷ p.0) (read f p.1))
 
 pub may_stand : (P : Counts →
@@ -167,7 +167,7 @@ never_fits front x t rest d c misfit m =
     misfit one.fits
 
 -- nor may any token where nothing has to follow
-nothing_left : {events : List Event} → Derives [] events → events ≡ []
+nothing_left : {events : List Event} → Produces [] events → events ≡ []
 nothing_left nothing = refl
 
 pub never_more : (front : List Placed) (x : Placed) (d : Counts) → Comes front x [] d → ¬ MayBecome (front ++ x ∷ [])

@@ -21,9 +21,9 @@ use Rattle.nomos_grammar.specs.declared.part.Nonterminal.{Nonterminal}
 use Rattle.nomos_grammar.specs.declared.part.Nonterminal.TheVariants as n
 use Rattle.nomos_grammar.specs.declared.part.Part.{Part}
 use Rattle.nomos_grammar.specs.declared.part.Part.TheVariants as part
-use Rattle.nomos_grammar.specs.Deriving.{IsAmong, first, later}
+use Rattle.nomos_grammar.specs.Producing.{IsAmong, first, later}
 use Rattle.nomos_grammar.specs.Grammar.{alternatives}
-use Rattle.nomos_grammar.specs.mirror.Table.{Row, rows}
+use Rattle.nomos_grammar.specs.mirror.Table.{TableRow, rows}
 use Rattle.nomos_grammar.specs.mirror.Stacks.{firsts, starts, may_vanish, follow, rises, rank, distance}
 use Rattle.nomos_grammar.proofs.TerminalLemmas.{and_first, and_second, all_in, none_in}
 
@@ -78,12 +78,12 @@ taken_with n [] = follow n
 taken_with n (p ∷ side) = starts (p ∷ side)
 
 -- no later row is taken with one of these
-abbrev pub no_later : List Terminal → Nonterminal → List Row → Bool
+abbrev pub no_later : List Terminal → Nonterminal → List TableRow → Bool
 no_later begins n [] = true
 no_later begins n (r ∷ rows) = none_in (taken_with n r.side) begins && no_later begins n rows
 
 -- each row but the last is chosen by just those tokens with which it is taken
-abbrev pub chooses_well : Nonterminal → List Row → Bool
+abbrev pub chooses_well : Nonterminal → List TableRow → Bool
 chooses_well n [] = false
 chooses_well n (r ∷ []) = is_nil r.begins
 chooses_well n (r ∷ other ∷ rows) =

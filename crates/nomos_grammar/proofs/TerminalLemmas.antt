@@ -23,7 +23,7 @@ use Rattle.nomos_ir.specs.contracts.word.Word.{the_type as word_type}
 use Rattle.nomos_syntax.specs.contracts.symbol.Symbol.{the_type as symbol_type}
 use Rattle.nomos_grammar.specs.declared.part.Terminal.{Terminal}
 use Rattle.nomos_grammar.specs.declared.part.Terminal.TheVariants as t
-use Rattle.nomos_grammar.specs.Deriving.{IsAmong, first, later}
+use Rattle.nomos_grammar.specs.Producing.{IsAmong, first, later}
 use Rattle.nomos_grammar.specs.mirror.Table.{same, is_in}
 
 pub and_first : (a b : Bool) → (a && b) ≡ true → a ≡ true

@@ -2,7 +2,7 @@
 use Rattle.std.specs.Prelude.{ℕ, ◌+◌, ◌-◌, List, [], ◌∷◌}
 use Rattle.nomos_grammar.specs.declared.part.Mark.{Mark}
 use Rattle.nomos_grammar.specs.declared.part.Mark.TheVariants as mark
-use Rattle.nomos_grammar.specs.Deriving.{Event, token, mark as marked}
+use Rattle.nomos_grammar.specs.Producing.{Event, token, mark as marked}
 
 pub record Counts : Type 0 where
   -- how many productions `type`, `vtype` and `notx`, branches and braced codes are open

@@ -1,5 +1,5 @@
-pub mod Grammar
-pub mod Deriving
 pub mod Counting
+pub mod Grammar
 pub mod Offence
+pub mod Producing
 pub mod mirror

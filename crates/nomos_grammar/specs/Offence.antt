@@ -8,7 +8,7 @@ use Rattle.nomos_grammar.specs.declared.offence.GrammarError.TheVariants.{Syntax
 use Rattle.nomos_grammar.specs.declared.offence.Which.{Which}
 use Rattle.nomos_grammar.specs.declared.offence.Which.TheVariants as which
 use Rattle.nomos_grammar.specs.Counting.{Counts, depth, counts}
-use Rattle.nomos_grammar.specs.Deriving.{Event, token, tokens_in, Derives, file, IsFile}
+use Rattle.nomos_grammar.specs.Producing.{Event, token, tokens_in, Produces, file, IsFile}
 
 -- the most stars of a text, and the largest number
 abbrev pub star_limit : ℕ
@@ -33,7 +33,7 @@ MayBecome front = (more : List Placed) × IsFile (front ++ more)
 abbrev pub MayStand : (Counts → Type 0) → List Placed → Placed → Type 0
 MayStand P front x =
     (earlier later : List Event) ×
-    Derives file (earlier ++ token x ∷ later) × (tokens_in earlier ≡ front) × P (counts earlier)
+    Produces file (earlier ++ token x ∷ later) × (tokens_in earlier ≡ front) × P (counts earlier)
 
 -- What a token has to keep to. The word `list` may turn out to be a node only with the token behind it: that the nodes
 -- up to the token before are not too many is a rule of its own.

@@ -2,7 +2,7 @@
 ghost use Rattle.std.specs.Prelude.{◌≡◌, ◌≤◌, ◌↔◌, IsTrue};
 ghost use Rattle.std.specs.Str.Parse.{IsNumeral, digits_value};
 ghost use Rattle.nomos_syntax.specs.Spans.{lexeme_of, placed_of, LiesIn};
-ghost use Rattle.nomos_grammar.specs.Deriving.{terminal_of};
+ghost use Rattle.nomos_grammar.specs.Producing.{terminal_of};
 ghost use Rattle.nomos_grammar.specs.Offence.{number_limit};
 ghost use Rattle.nomos_grammar.specs.mirror.ReaderStates.{IsWritten, PassesItself};
 ghost use Rattle.nomos_grammar.specs.mirror.Sights.{IsSeen};

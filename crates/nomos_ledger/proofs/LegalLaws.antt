@@ -14,7 +14,7 @@ use Rattle.nomos_config.specs.Step.{step}
 use Rattle.nomos_ledger.specs.Ending.{EndsAs, IsAllowed}
 use Rattle.nomos_ledger.specs.Ledger.{LedgerState, FitsDeposits}
 use Rattle.nomos_ledger.specs.Legal.{Leads, done, deposit, no_deposit, refused, stays, undone, shown, RunsTo, Undoes, IsFirst, no_firing, firing, bare, batch_limit, firings_in}
-use Rattle.nomos_ledger.specs.Standing.{Deposits, WorldStandsFor}
+use Rattle.nomos_ledger.specs.StandsFor.{Deposits, WorldStandsFor}
 use Rattle.nomos_ledger.specs.Starting.{after_declared, after_start, after_starts, resolve_batch}
 use Rattle.nomos_ledger.specs.World.{WorldState, committed, pids_of, start_of}
 use Rattle.nomos_ledger.specs.declared.journal.End.{End}

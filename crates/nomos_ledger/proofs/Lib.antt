@@ -1,11 +1,11 @@
 pub mod AccountLemmas
-pub mod NumberLaws
-pub mod StandingLaws
-pub mod ResolveLaws
-pub mod LineLaws
+mod Examples
 pub mod LegalLaws
 pub mod LegalUnique
-pub mod RoomLaws
-mod Examples
-mod RestLemmas
+pub mod LineLaws
 mod NameLemmas
+pub mod NumberLaws
+pub mod ResolveLaws
+mod RestLemmas
+pub mod RoomLaws
+pub mod StandsForLaws

@@ -15,7 +15,7 @@ use Rattle.nomos_ledger.specs.declared.refusal.Refusal.{Refusal}
 use Rattle.nomos_ledger.specs.declared.resolved.Resolved.{Resolved}
 use Rattle.nomos_ledger.proofs.NameLemmas.{contracts-differ}
 use Rattle.nomos_ledger.proofs.ResolveLaws.{MayMake}
-use Rattle.nomos_ledger.proofs.StandingLaws.{IsClosedWith, closed-started}
+use Rattle.nomos_ledger.proofs.StandsForLaws.{IsClosedWith, closed-started}
 
 -- one more start comes after the others
 pub after-push : (a : Acceptance) (l : LedgerState) (rs : List Resolved) (r : Resolved)

@@ -17,7 +17,7 @@ use Rattle.nomos_ledger.specs.Starting.{Outcome, and_then, unless, payer_of, has
 use Rattle.nomos_ledger.specs.declared.refusal.Refusal.{Refusal}
 use Rattle.nomos_ledger.specs.declared.refusal.Refusal.TheVariants as refusal
 use Rattle.nomos_ledger.specs.declared.resolved.Resolved.{Resolved}
-use Rattle.nomos_ledger.proofs.StandingLaws.{account-within}
+use Rattle.nomos_ledger.proofs.StandsForLaws.{account-within}
 
 and_then-Ok : {A B : Type 0} (o : Outcome A) (f : A → Outcome B) (y : B) → and_then o f ≡ Ok y
     → (x : A) × (o ≡ Ok x) × (f x ≡ Ok y)

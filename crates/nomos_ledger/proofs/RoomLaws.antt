@@ -7,7 +7,7 @@ use Rattle.nomos_script.specs.declared.item.Start.{Start}
 use Rattle.nomos_config.specs.State.{State}
 use Rattle.nomos_config.proofs.KeepLaws.{RunKeeps, run-keeps}
 use Rattle.nomos_ledger.specs.Ledger.{LedgerState, account_of, accounts_with, deposited, state_with}
-use Rattle.nomos_ledger.specs.Standing.{WorldStandsFor}
+use Rattle.nomos_ledger.specs.StandsFor.{WorldStandsFor}
 use Rattle.nomos_ledger.specs.Starting.{BatchOutcome, Outcome, after_declared, after_start, after_starts, before_others, resolve, resolve_batch, resolve_line}
 use Rattle.nomos_ledger.specs.World.{WorldState, pids_of, start_of}
 use Rattle.nomos_ledger.specs.declared.resolved.Resolved.{Resolved}

@@ -10,7 +10,7 @@ use Rattle.nomos_config.specs.declared.object.Object.{Object}
 use Rattle.nomos_config.specs.declared.object.Object.TheVariants as object
 use Rattle.nomos_ledger.specs.Ending.{IsTransaction}
 use Rattle.nomos_ledger.specs.Ledger.{LedgerState, AreNamed}
-use Rattle.nomos_ledger.specs.Standing.{IsClosed}
+use Rattle.nomos_ledger.specs.StandsFor.{IsClosed}
 use Rattle.nomos_ledger.specs.declared.lines.Lines.{Lines}
 use Rattle.nomos_ledger.specs.declared.lines.Started.{Started}
 use Rattle.nomos_ledger.specs.declared.lines.Started.TheVariants as started

@@ -1,7 +1,7 @@
+pub mod Ending
+pub mod Gives
 pub mod Ledger
+pub mod Legal
+pub mod StandsFor
 pub mod Starting
 pub mod World
-pub mod Standing
-pub mod Ending
-pub mod Legal
-pub mod Gives

@@ -1,6 +1,6 @@
 //! The begin of a batch.
 ghost use Rattle.std.specs.Prelude.{◌≡◌, ◌+◌, ◌<◌, ◌^◌, length};
-ghost use Rattle.nomos_ledger.specs.Standing.{StandsFor, Begins, BegunStandsFor};
+ghost use Rattle.nomos_ledger.specs.StandsFor.{StandsFor, Begins, BegunStandsFor};
 
 use crate::ledger::Ledger;
 use crate::lines::{Lines, Started, start_lines};

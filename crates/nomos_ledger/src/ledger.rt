@@ -5,7 +5,7 @@ ghost use Rattle.nomos_types.specs.Acceptance.{Acceptance};
 ghost use Rattle.nomos_config.specs.Start.{opened};
 ghost use Rattle.nomos_config.specs.State.{gas_of};
 ghost use Rattle.nomos_ledger.specs.Ledger.{empty_ledger, account_of, accounts_with, state_with};
-ghost use Rattle.nomos_ledger.specs.Standing.{StandsFor, Deposits};
+ghost use Rattle.nomos_ledger.specs.StandsFor.{StandsFor, Deposits};
 
 use crate::account_names::AccountNames;
 use crate::journal::End;

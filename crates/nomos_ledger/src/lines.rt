@@ -5,7 +5,7 @@ ghost use Rattle.nomos_config.specs.Start.{started};
 ghost use Rattle.nomos_config.specs.Keeping.{HasRoom, HasLittleGas};
 ghost use Rattle.nomos_ledger.specs.Gives.{MayStart, Lined, StartsLine, StartsAll};
 ghost use Rattle.nomos_ledger.specs.Ledger.{AreNamed};
-ghost use Rattle.nomos_ledger.specs.Standing.{IsClosed};
+ghost use Rattle.nomos_ledger.specs.StandsFor.{IsClosed};
 ghost use Rattle.nomos_ledger.specs.Starting.{named};
 
 use crate::copies::{copy_contracts, copy_name};

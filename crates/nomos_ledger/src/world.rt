@@ -4,7 +4,7 @@ ghost use Rattle.nomos_types.specs.Acceptance.{Acceptance};
 ghost use Rattle.nomos_config.specs.Run.{IsReady, IsNextReady, NoneReady};
 ghost use Rattle.nomos_config.specs.Keeping.{HasRoom};
 ghost use Rattle.nomos_ledger.specs.Ending.{EndsAs, GoesOn};
-ghost use Rattle.nomos_ledger.specs.Standing.{StandsFor, WorldStandsFor, FiresIn};
+ghost use Rattle.nomos_ledger.specs.StandsFor.{StandsFor, WorldStandsFor, FiresIn};
 ghost use Rattle.nomos_ledger.specs.World.{committed};
 
 use crate::journal::{End, Firing, Firings};

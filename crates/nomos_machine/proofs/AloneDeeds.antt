@@ -27,7 +27,7 @@ use Rattle.nomos_machine.specs.declared.object.PotentialList.{PotentialList}
 use Rattle.nomos_types.specs.Acceptance.{Acceptance, IsAccepted}
 use Rattle.nomos_types.specs.Amount.{dths}
 use Rattle.nomos_types.specs.Judgement.{Judgement, ListType, IsFree, count_one, at_code, binds_value, binds_list, with_potential}
-use Rattle.nomos_types.specs.Row.{Row}
+use Rattle.nomos_types.specs.TypingRule.{TypingRule}
 use Rattle.nomos_types.proofs.RowLaws.{row-inverted}
 use Rattle.nomos_machine.specs.Deeds.{changes, alone, does, where_it_has, truth_in, empty_list, has_fault, lengthened, is_light, takes_apart}
 use Rattle.nomos_machine.specs.Change.{Change}
@@ -70,7 +70,7 @@ module _ {a : Acceptance} (accepted : IsAccepted a) {s : State} (typed : IsTyped
 
   -- its channels stay as they are, and what else it has is what the rule goes on with
   goes-by_row : (q : Process) (burnt : ℕ) (emitted : List (ℕ × Value)) (after : List Judgement) (k : Judgement)
-      → Row a.program a.annotations own after → Contains after k → Matches a.program a.annotations s.types q k
+      → TypingRule a.program a.annotations own after → Contains after k → Matches a.program a.annotations s.types q k
       → q.pid ≡ p.pid → q.offers ≡ p.offers → q.channels ≡ p.channels → q.base ≡ p.base → q.payer ≡ p.payer
       → q.mode ≡ p.mode → IsAscending q.values → IsAscending q.lists → potential_of q ≤ q.purse → free_purse q ≡ k.q
       → burnt + q.purse ≡ p.purse
@@ -305,7 +305,7 @@ module _ {a : Acceptance} (accepted : IsAccepted a) {s : State} (typed : IsTyped
       n = code.Add at v e w next
 
       weighed : (x : Value) (l : PotentialList) (list : ListType) (after : List Judgement)
-          → (row : Row a.program a.annotations own after) → Adds a.program own v e w list
+          → (row : TypingRule a.program a.annotations own after) → Adds a.program own v e w list
           → after ≡ with_potential (binds_list (record (at_code own next) { lists = unbind w.0 own.lists }) v list)
           (own.q - list.amount) ∷ []
           → bound_to w.0 p.lists ≡ Some l → IsListOf l list → ValueHasKind x list.kind → (b : Bool)
@@ -384,7 +384,7 @@ module _ {a : Acceptance} (accepted : IsAccepted a) {s : State} (typed : IsTyped
       n : CodeNode
       n = code.Match at w empty_next head tail full_next
 
-      parts : (l : PotentialList) (list : ListType) (after : List Judgement) → Row a.program a.annotations own after
+      parts : (l : PotentialList) (list : ListType) (after : List Judgement) → TypingRule a.program a.annotations own after
           → TakesApart own w head tail list
           → after ≡ record (at_code own empty_next) { lists = unbind w.0 own.lists } ∷
           with_potential (binds_value (binds_list (record (at_code own full_next) { lists = unbind w.0 own.lists }) tail list)

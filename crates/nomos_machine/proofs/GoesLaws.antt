@@ -15,7 +15,7 @@ use Rattle.nomos_ir.proofs.PairedLaws.{paired-has_kinds}
 use Rattle.nomos_ir.proofs.TypedLaws.{evaluation-kind}
 use Rattle.nomos_types.specs.Acceptance.{Acceptance, IsAccepted}
 use Rattle.nomos_types.specs.Judgement.{Judgement, IsJudgement}
-use Rattle.nomos_types.specs.Row.{Row, StandsAtCode}
+use Rattle.nomos_types.specs.TypingRule.{TypingRule, StandsAtCode}
 use Rattle.nomos_types.proofs.InversionLaws.{derives-row}
 use Rattle.nomos_types.proofs.JudgementLaws.{row-keeps_judgement}
 use Rattle.nomos_machine.specs.Change.{Change}
@@ -58,12 +58,12 @@ module _ {a : Acceptance} {s : State} (typed : IsTyped a s) {p : Process} (there
     own-is_judgement accepted =
         potential-is_judgement accepted (free_purse p) (place-is_judgement accepted process-typed.is_place)
 
-    pub own-row : IsAccepted a → (after : List Judgement) × Row a.program a.annotations (own_judgement p process-typed) after
+    pub own-row : IsAccepted a → (after : List Judgement) × TypingRule a.program a.annotations (own_judgement p process-typed) after
     own-row accepted = derives-row accepted.typed.formed process-typed.derives
 
     -- each judgement with which the rule goes on is one
     pub next-is_judgement : (accepted : IsAccepted a) {after : List Judgement} (k : Judgement)
-        → Row a.program a.annotations (own_judgement p process-typed) after → Contains after k → IsJudgement a.program k
+        → TypingRule a.program a.annotations (own_judgement p process-typed) after → Contains after k → IsJudgement a.program k
     next-is_judgement accepted {after} k row among =
         All-contains (IsJudgement a.program) after k
         (row-keeps_judgement accepted.typed.formed (own-is_judgement accepted) row) among

@@ -18,7 +18,7 @@ use Rattle.nomos_types.specs.Equality.{SameHead, up, down}
 use Rattle.nomos_types.specs.Judgement.{Judgement, IsJudgement, IsFree, count_one, type_held, at_code, binds_channel}
 use Rattle.nomos_types.specs.Modes.{HasMode}
 use Rattle.nomos_types.specs.Premises.{HasType}
-use Rattle.nomos_types.specs.Row.{Row, gives_up}
+use Rattle.nomos_types.specs.TypingRule.{TypingRule, gives_up}
 use Rattle.nomos_types.proofs.AlikeLaws.{alike_types-back, alike_types-unfolded}
 use Rattle.nomos_types.proofs.EqualityLaws.{equal-unfolded}
 use Rattle.nomos_machine.specs.Matching.{NameHasType, Matches, HasBase, ProcessTyped}
@@ -144,7 +144,7 @@ module _ {a : Acceptance} (accepted : IsAccepted a) {s : State} (typed : IsTyped
 
     -- it goes on with one channel more, which it has to use
     pub acquires-typed : (v : VarId) (next : CodeId) (after : List Judgement) (t body : TypeId)
-        → Row a.program a.annotations own after → after ≡ binds_channel (at_code own next) v mode.L t ∷ []
+        → TypingRule a.program a.annotations own after → after ≡ binds_channel (at_code own next) v mode.L t ∷ []
         → IsFree own v → type_of later s.next_name ≡ Some body → AlikeTypes a.program a.annotations body t
         → ProcessTyped a later (length s.balances) (record p { code = next; channels = bind v s.next_name p.channels })
         × VariablesDiffer (record p { code = next; channels = bind v s.next_name p.channels })
@@ -175,7 +175,7 @@ module _ {a : Acceptance} (accepted : IsAccepted a) {s : State} (typed : IsTyped
         )
 
     -- it goes on at mode L under another name, with its own one as base
-    pub accepts-typed : (next : CodeId) (after : List Judgement) (t : TypeId) → Row a.program a.annotations own after
+    pub accepts-typed : (next : CodeId) (after : List Judgement) (t : TypeId) → TypingRule a.program a.annotations own after
         → after ≡ record own { mode = mode.L; offers = t; code = next } ∷ [] → (name : ℕ) (body : TypeId) (base : ℕ)
         (shared : TypeId) → type_of later name ≡ Some body → AlikeTypes a.program a.annotations body t
         → type_of s.types base ≡ Some shared → HasMode a.program shared mode.S
@@ -207,7 +207,7 @@ module _ {a : Acceptance} (accepted : IsAccepted a) {s : State} (typed : IsTyped
 
     -- it goes on without a channel that it had to use, and with a reference
     pub releases-typed : (v r : VarId) (next : CodeId) (after : List Judgement) (t held : TypeId)
-        → Row a.program a.annotations own after
+        → TypingRule a.program a.annotations own after
         → after ≡ binds_channel (at_code (gives_up own v) next) r mode.S t ∷ []
         → bound_to v.0 own.linear ≡ Some held → (shared : ℕ) → NameHasType a.program a.annotations later shared t
         → ProcessTyped a later (length s.balances)
@@ -241,7 +241,7 @@ module _ {a : Acceptance} (accepted : IsAccepted a) {s : State} (typed : IsTyped
         )
 
     -- it goes on at mode S under another name, and has no base
-    pub detaches-typed : (next : CodeId) (after : List Judgement) (t : TypeId) → Row a.program a.annotations own after
+    pub detaches-typed : (next : CodeId) (after : List Judgement) (t : TypeId) → TypingRule a.program a.annotations own after
         → after ≡ record own { mode = mode.S; offers = t; code = next } ∷ [] → (name : ℕ)
         → NameHasType a.program a.annotations later name t
         → ProcessTyped a later (length s.balances)

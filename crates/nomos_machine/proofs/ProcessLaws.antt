@@ -16,7 +16,7 @@ use Rattle.nomos_types.specs.Derivation.{Derives}
 use Rattle.nomos_types.specs.Judgement.{Judgement, ListType, IsJudgement, SuitsMode, start_of, with_potential}
 use Rattle.nomos_types.specs.Modes.{HasMode}
 use Rattle.nomos_types.specs.Places.{IsPlace}
-use Rattle.nomos_types.specs.Row.{Row}
+use Rattle.nomos_types.specs.TypingRule.{TypingRule}
 use Rattle.nomos_types.specs.Typed.{IsWellFormed}
 use Rattle.nomos_types.proofs.AlikeLaws.{alike_channels-bound, alike_channels-free, alike_channels-back, alike_types-back, alike_types-through}
 use Rattle.nomos_types.proofs.AsideLaws.{AlikeAside, aside-itself, follow-beside}
@@ -119,7 +119,7 @@ module _ {a : Acceptance} (accepted : IsAccepted a) where
   -- A process that goes on by a rule of its judgement stays typed, where it has what that rule goes on with.
   pub process-next : {types later : NameTypes} {accounts : ℕ} {p q : Process}
       → (t : ProcessTyped a types accounts p) (after : List Judgement) (k : Judgement)
-      → Row a.program a.annotations (own_judgement p t) after → Contains after k
+      → TypingRule a.program a.annotations (own_judgement p t) after → Contains after k
       → Matches a.program a.annotations later q k → potential_of q ≤ q.purse → free_purse q ≡ k.q → q.payer ≡ p.payer
       → HasBase a.program later q → ProcessTyped a later accounts q
   process-next {types} {later} {accounts} {p} {q} t after k row among matches covered exact payer base =
@@ -170,7 +170,7 @@ module _ {a : Acceptance} (accepted : IsAccepted a) where
   -- Each judgement with which the rule of a process's judgement goes on is that of a place, but for potential and types
   -- that are alike.
   pub next-place : {types : NameTypes} {accounts : ℕ} {p : Process} → (t : ProcessTyped a types accounts p)
-      → (after : List Judgement) (k : Judgement) → Row a.program a.annotations (own_judgement p t) after
+      → (after : List Judgement) (k : Judgement) → TypingRule a.program a.annotations (own_judgement p t) after
       → Contains after k
       → (place : Judgement) × IsPlace a.program a.annotations place × AlikeAside a.program a.annotations k place
   next-place {types} {accounts} {p} t after k row among =

@@ -30,7 +30,7 @@ use Rattle.nomos_types.specs.Branches.{goes_by}
 use Rattle.nomos_types.specs.Judgement.{Judgement, IsJudgement, channel_type, goes_on, with_potential, binds_value, binds_channel, at_code, type_held, IsFree}
 use Rattle.nomos_types.specs.Modes.{HasMode, IsLinearMode}
 use Rattle.nomos_types.specs.Premises.{by_side, ArmsGoOn, none, arm}
-use Rattle.nomos_types.specs.Row.{Row, gives_up}
+use Rattle.nomos_types.specs.TypingRule.{TypingRule, gives_up}
 use Rattle.nomos_types.proofs.ModeLaws.{mode-unique}
 use Rattle.nomos_types.proofs.RowLaws.{row-inverted}
 use Rattle.nomos_machine.specs.Change.{Change}
@@ -187,7 +187,7 @@ module _ {a : Acceptance} (accepted : IsAccepted a) {s : State} (typed : IsTyped
     where
       value-received : (d : Chan) (m : Message) (name : ℕ) (held t : TypeId) (goes_to : CodeId) (w : VarId) (x : Value)
           (kind : Kind)
-          (after : List Judgement) → Row a.program a.annotations own after
+          (after : List Judgement) → TypingRule a.program a.annotations own after
           → Contains after (binds_value (goes_on own d t goes_to) w kind) → channel_type own d ≡ Some held
           → NameHasType a.program a.annotations s.types name t → ValueHasKind x kind → carried m.payload ≡ []
           → m.purse ≡ 0
@@ -255,7 +255,7 @@ module _ {a : Acceptance} (accepted : IsAccepted a) {s : State} (typed : IsTyped
     where
       channel-received : (d : Chan) (m : Message) (name : ℕ) (held t : TypeId) (goes_to : CodeId) (mode : Mode)
           (sent : TypeId)
-          (carries : ℕ) (after : List Judgement) → Row a.program a.annotations own after
+          (carries : ℕ) (after : List Judgement) → TypingRule a.program a.annotations own after
           → Contains after (binds_channel (goes_on own d t goes_to) y mode sent) → channel_type own d ≡ Some held
           → NameHasType a.program a.annotations s.types name t
           → NameHasType a.program a.annotations s.types carries sent
@@ -351,7 +351,7 @@ module _ {a : Acceptance} (accepted : IsAccepted a) {s : State} (typed : IsTyped
       makes : Message → Option Change
       makes m = option_and_then (λ closed. Some (takes a s p m q)) (close_in m.payload)
 
-      ended : (m : Message) (held : TypeId) (after : List Judgement) → Row a.program a.annotations own after
+      ended : (m : Message) (held : TypeId) (after : List Judgement) → TypingRule a.program a.annotations own after
           → Contains after (at_code (gives_up own v) next) → bound_to v.0 own.linear ≡ Some held
           → bound_to v.0 own.shared ≡ None → bound_to v.0 p.channels ≡ Some m.from
           → Contains s.objects (object.Message m) → m.to_client ≡ true → BringsTo a s m held node.One

@@ -15,7 +15,7 @@ use Rattle.nomos_ir.proofs.SumLaws.{count-after_unbind, count-first}
 use Rattle.nomos_types.specs.Acceptance.{Acceptance, IsAccepted}
 use Rattle.nomos_types.specs.Judgement.{Judgement, channel_type, goes_on, with_potential}
 use Rattle.nomos_types.specs.Modes.{IsLinearMode}
-use Rattle.nomos_types.specs.Row.{Row}
+use Rattle.nomos_types.specs.TypingRule.{TypingRule}
 use Rattle.nomos_machine.specs.Change.{Change}
 use Rattle.nomos_machine.specs.Deeds.{does, takes, receives}
 use Rattle.nomos_machine.specs.Matching.{NameHasType, Matches}
@@ -109,7 +109,7 @@ module _ {a : Acceptance} (accepted : IsAccepted a) {s : State} (typed : IsTyped
   pub record Received (c : Chan) (m : Message) (name : ℕ) (q : Process) : Type 0 where
     pub after : List Judgement
     pub k : Judgement
-    pub row : Row a.program a.annotations own after
+    pub row : TypingRule a.program a.annotations own after
     pub among : Contains after k
     pub matches : Matches a.program a.annotations s.types q k
     pub pid : q.pid ≡ (under_name c name p).pid
@@ -218,7 +218,7 @@ module _ {a : Acceptance} (accepted : IsAccepted a) {s : State} (typed : IsTyped
   -- it goes on under the message's next name, and has besides only the message's gas
   pub plain-received : (c : Chan) (m : Message) (name : ℕ) (held t : TypeId) (next : CodeId) (after : List Judgement)
       (gas : ℕ)
-      → Row a.program a.annotations own after → Contains after (with_potential (goes_on own c t next) gas)
+      → TypingRule a.program a.annotations own after → Contains after (with_potential (goes_on own c t next) gas)
       → channel_type own c ≡ Some held → NameHasType a.program a.annotations s.types name t → carried m.payload ≡ []
       → gas ≡ own.q + m.purse → Received c m name (richer m.purse (standing_at next (under_name c name p)))
   plain-received c m name held t next after gas row among holds has nothing exact =

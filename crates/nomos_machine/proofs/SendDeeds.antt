@@ -30,7 +30,7 @@ use Rattle.nomos_types.specs.Amount.{dths}
 use Rattle.nomos_types.specs.Arguments.{PassesChannel, shared, linear}
 use Rattle.nomos_types.specs.Judgement.{Judgement, IsJudgement, channel_type, goes_on, with_potential, type_held}
 use Rattle.nomos_types.specs.Modes.{HasMode, IsLinearMode}
-use Rattle.nomos_types.specs.Row.{Row}
+use Rattle.nomos_types.specs.TypingRule.{TypingRule}
 use Rattle.nomos_types.specs.Premises.{by_side}
 use Rattle.nomos_types.proofs.ModeLaws.{mode-unique}
 use Rattle.nomos_types.proofs.OccurrenceLaws.{count-elsewhere}
@@ -104,7 +104,7 @@ module _ {a : Acceptance} (accepted : IsAccepted a) {s : State} (typed : IsTyped
   -- It sends what is no channel, or a reference, and keeps all that it has but for gas.
   own-sending : (c : Chan) (brought : Payload) (gas purse : ℕ) (next : CodeId) (held : TypeId) (head : TypeNode)
       (goes : TypeId)
-      (after : List Judgement) → Row a.program a.annotations own after
+      (after : List Judgement) → TypingRule a.program a.annotations own after
       → Contains after (goes_on (with_potential own (purse - potential_of p)) c goes next)
       → channel_type own c ≡ Some held
       → Unfolds a.program held.0 head
@@ -294,7 +294,7 @@ module _ {a : Acceptance} (accepted : IsAccepted a) {s : State} (typed : IsTyped
       apart : c ≢ chan.Var y → (v : VarId) → c ≡ chan.Var v → v.0 ≢ y.0
       apart other v is same = other (is ∙ ap (λ (k : ℕ). chan.Var (record { 0 = k })) same)
 
-      passed : (after : List Judgement) → Row a.program a.annotations own after
+      passed : (after : List Judgement) → TypingRule a.program a.annotations own after
           → (left : Judgement) (t sent held : TypeId)
           → Contains after (goes_on left c t next) → channel_type own c ≡ Some held
           → Unfolds a.program held.0 (by_side c (node.Tensor sent t) (node.Lolli sent t)) → c ≢ chan.Var y

@@ -14,7 +14,7 @@ use Rattle.nomos_types.specs.Acceptance.{Acceptance, IsAccepted}
 use Rattle.nomos_types.specs.Alike.{AlikeTypes}
 use Rattle.nomos_types.specs.Judgement.{Judgement, channel_type, goes_on}
 use Rattle.nomos_types.specs.Modes.{HasMode}
-use Rattle.nomos_types.specs.Row.{Row}
+use Rattle.nomos_types.specs.TypingRule.{TypingRule}
 use Rattle.nomos_types.proofs.AlikeLaws.{alike_types-back}
 use Rattle.nomos_types.proofs.EqualityLaws.{equal-unfolded, equal-back}
 use Rattle.nomos_machine.specs.Matching.{Matches, ProcessTyped}
@@ -38,7 +38,7 @@ pub record Sending (a : Acceptance) (s : State) (p : Process) (t : ProcessTyped 
   pub head : TypeNode
   pub goes : TypeId
   pub after : List Judgement
-  pub row : Row a.program a.annotations (own_judgement p t) after
+  pub row : TypingRule a.program a.annotations (own_judgement p t) after
   pub among : Contains after (goes_on left c goes next)
   pub unshared : IsUnshared left.shared c
   pub holds : channel_type left c ≡ Some held

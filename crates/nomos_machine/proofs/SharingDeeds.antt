@@ -20,7 +20,7 @@ use Rattle.nomos_types.specs.Alike.{AlikeTypes}
 use Rattle.nomos_types.specs.Judgement.{Judgement, IsFree, type_held, at_code, binds_channel}
 use Rattle.nomos_types.specs.Modes.{HasMode}
 use Rattle.nomos_types.specs.Premises.{Acquires}
-use Rattle.nomos_types.specs.Row.{Row, gives_up}
+use Rattle.nomos_types.specs.TypingRule.{TypingRule, gives_up}
 use Rattle.nomos_types.proofs.AlikeLaws.{alike_types-through}
 use Rattle.nomos_types.proofs.EqualityLaws.{equal-back}
 use Rattle.nomos_types.proofs.HeadLaws.{up-rest, down-rest}
@@ -113,7 +113,7 @@ module _ {a : Acceptance} (accepted : IsAccepted a) {s : State} (typed : IsTyped
     acquires-by v next shared other (slice_get a.program.code other.code.0)
 
   module _ (at : ℕ) (r v : VarId) (next : CodeId) (stands : At (code.Acquire at r v next)) (after : List Judgement)
-      (t : TypeId) (acquires : Acquires a.program own r v t) (row : Row a.program a.annotations own after)
+      (t : TypeId) (acquires : Acquires a.program own r v t) (row : TypingRule a.program a.annotations own after)
       (goes_on : after ≡ binds_channel (at_code own next) v mode.L t ∷ []) where
     -- the contract stands at `accept`
     acquire-meets : (other : Process) → Contains s.objects (object.Process other) → p.pid ≢ other.pid → (at_other : ℕ)
@@ -228,7 +228,7 @@ module _ {a : Acceptance} (accepted : IsAccepted a) {s : State} (typed : IsTyped
     releases-by v r next other (slice_get a.program.code other.code.0)
 
   module _ (at : ℕ) (v r : VarId) (next : CodeId) (stands : At (code.Release at v r next)) (after : List Judgement)
-      (t : TypeId) (free : IsFree own r) (row : Row a.program a.annotations own after)
+      (t : TypeId) (free : IsFree own r) (row : TypingRule a.program a.annotations own after)
       (goes_on : after ≡ binds_channel (at_code (gives_up own v) next) r mode.S t ∷ []) (ends : TypeId)
       (linear : bound_to v.0 own.linear ≡ Some ends) (unfolds : Unfolds a.program ends.0 (node.Down t)) where
     -- the contract stands at `detach`, and has this base

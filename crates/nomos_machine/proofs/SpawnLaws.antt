@@ -21,7 +21,7 @@ use Rattle.nomos_types.specs.Amount.{dths}
 use Rattle.nomos_types.specs.Judgement.{Judgement, count_one, at_code, with_potential, binds_channel}
 use Rattle.nomos_types.specs.Modes.{HasMode}
 use Rattle.nomos_types.specs.Premises.{Spawns}
-use Rattle.nomos_types.specs.Row.{Row}
+use Rattle.nomos_types.specs.TypingRule.{TypingRule}
 use Rattle.nomos_types.proofs.AlikeLaws.{alike_types-same}
 use Rattle.nomos_types.proofs.ArgumentsLaws.{arguments-left}
 use Rattle.nomos_types.proofs.JudgementLaws.{spawned-carried}
@@ -92,7 +92,7 @@ module _ {a : Acceptance} (accepted : IsAccepted a) {s : State} (typed : IsTyped
 
   module _ {v : VarId} {f : ProcId} {args : Args} (next : CodeId) {d : ProcDecl} {left : Judgement} {vs : List Value}
       (says : Spawns a.program a.annotations own v f args d left) (handed : Handed accepted typed there d args vs left)
-      {after : List Judgement} (row : Row a.program a.annotations own after)
+      {after : List Judgement} (row : TypingRule a.program a.annotations own after)
       (goes_on : after ≡ binds_channel (left_on d left next) v d.mode d.offers ∷ []) where
     -- the process that comes, and what is left
     abbrev pub child : Process

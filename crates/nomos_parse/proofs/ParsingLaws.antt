@@ -8,7 +8,7 @@ use Rattle.nomos_grammar.proofs.NumeralLaws.{numbers_are_numerals}
 use Rattle.nomos_grammar.proofs.OffenceLaws.{passed_once}
 use Rattle.nomos_grammar.specs.declared.offence.GrammarError.{GrammarError}
 use Rattle.nomos_grammar.specs.declared.offence.GrammarError.TheVariants as grammar
-use Rattle.nomos_grammar.specs.Deriving.{IsFile}
+use Rattle.nomos_grammar.specs.Producing.{IsFile}
 use Rattle.nomos_grammar.specs.mirror.ReaderStates.{IsWritten}
 use Rattle.nomos_grammar.specs.Offence.{AllKeep, Answers, IsSmall}
 use Rattle.nomos_surface.proofs.PrintLaws.{printed-is-file}

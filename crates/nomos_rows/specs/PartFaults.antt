@@ -11,7 +11,7 @@ use Rattle.nomos_ir.specs.declared.type_node.TypeNode.TheVariants as node
 use Rattle.nomos_ir.specs.Nodes.{type_node}
 use Rattle.nomos_ir.specs.TermKind.{HasKind}
 use Rattle.nomos_equality.specs.declared.hop.Hop.{Hop}
-use Rattle.nomos_sync.specs.SyncAnswer.{OffendsAt}
+use Rattle.nomos_sync.specs.SyncAnswer.{StraysAt}
 use Rattle.nomos_types.specs.Amount.{Annotations}
 use Rattle.nomos_types.specs.Equality.{no_amounts}
 use Rattle.nomos_types.specs.Forming.{StandsAtOffset}
@@ -27,7 +27,7 @@ pub record LeadsAstray (lists : ProgramLists) (at : ℕ) (path : List Hop) : Typ
   pub body : TypeId
   pub is_up : type_node lists shared.0 ≡ Some (node.Up body)
   pub offset : StandsAtOffset lists shared at
-  pub offends : OffendsAt lists body shared path
+  pub offends : StraysAt lists body shared path
 
 -- the body of the function whose name stands at this offset does not have the declared kind
 pub record HasOtherKind (lists : ProgramLists) (at : ℕ) : Type 0 where

@@ -5,7 +5,7 @@ use Rattle.nomos_ir.specs.Value.{Value}
 use Rattle.nomos_script.specs.declared.item.Start.{Start}
 use Rattle.nomos_script.specs.declared.line.Line.{Line}
 use Rattle.nomos_script.specs.declared.line.Line.TheVariants as line
-use Rattle.nomos_script.specs.declared.stop.Stop.{Stop}
+use Rattle.nomos_script.specs.declared.stop.LineStop.{LineStop}
 use Rattle.nomos_script.specs.Form.{Form, Invocation, blank, deposit, create, exec, begin, end, show, TokensReadAs, IsValid, IsValidInvocation, print_form, print_invocation, print_names, units_of}
 use Rattle.nomos_script.specs.Item.{start_at}
 use Rattle.nomos_script.specs.ScriptNames.{IsScriptName}
@@ -246,7 +246,7 @@ create_bare contract tokens behind after rest first second third none = λ h.
     let is = h.is in none h.i h.valid (cc)
 
 -- a line of one word says what its form says
-pub bare_read : (n : ℕ) (text : List ℕ) (tokens : List Token) (f : Form) (r : Result Line Stop) → IsValid f
+pub bare_read : (n : ℕ) (text : List ℕ) (tokens : List Token) (f : Form) (r : Result Line LineStop) → IsValid f
     → word text ∷ [] ≡ print_form f → IfOk r (λ said. (tokens ≡ []) × (said ≡ line_said n f))
     → IfOk r (λ said. SaysLine n (word text ∷ tokens) said)
 bare_read n text tokens f (Ok said) valid printed h =

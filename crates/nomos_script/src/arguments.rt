@@ -7,7 +7,7 @@ ghost use Rattle.nomos_script.specs.ScriptScan.{Token as Lexeme, word, mark};
 ghost use Rattle.nomos_script.specs.Seen.{AreNames, AreMoreNames, AreArguments};
 
 use crate::name::{ScriptName, ScriptNames, is_script_name};
-use crate::stop::Stop;
+use crate::stop::LineStop;
 use crate::tokens::{Token, Tokens};
 use crate::value_reader::read_values;
 use nomos_ir::items::Items;
@@ -39,15 +39,15 @@ fn push_name(alloc: Global, names: &mut Vec<ScriptName>, text: &[u8]) -> Result<
 }
 
 // Takes a comma, or the `)` behind names. Whether it is a comma.
-fn takes_comma(tokens: &mut Tokens<'_>) -> Result<bool, Stop>
+fn takes_comma(tokens: &mut Tokens<'_>) -> Result<bool, LineStop>
     ensures read { IfOk result (λ comma. tokens.old ≡ mark (if comma then codes "," else codes ")") ∷ tokens.new) }
-    ensures none { IsErrOf result Stop.NoForm → (rest : List Lexeme)
+    ensures none { IsErrOf result LineStop.NoForm → (rest : List Lexeme)
         → (tokens.old ≢ mark (codes ",") ∷ rest) × (tokens.old ≢ mark (codes ")") ∷ rest) }
 {
     match tokens.next() {
         Some(Token::Mark(b',')) => Ok(true),
         Some(Token::Mark(b')')) => Ok(false),
-        _ => Err(Stop::NoForm),
+        _ => Err(LineStop::NoForm),
     }
 }
 
@@ -56,10 +56,10 @@ fn read_more_names(
     alloc: Global,
     tokens: &mut Tokens<'_>,
     names: &mut Vec<ScriptName>,
-) -> Result<(), Stop>
+) -> Result<(), LineStop>
     ensures read { OnOk result (AreMoreNames tokens.old (mark (codes ")") ∷ tokens.new) names.old.items
         names.new.items) }
-    ensures none { IsErrOf result Stop.NoForm → (more : List (List ℕ)) (rest : List Lexeme) → All IsScriptName more
+    ensures none { IsErrOf result LineStop.NoForm → (more : List (List ℕ)) (rest : List Lexeme) → All IsScriptName more
         → tokens.old ≢ print_more_names more (mark (codes ")") ∷ rest) }
 {
     'names: while takes_comma(tokens)? {
@@ -69,9 +69,9 @@ fn read_more_names(
 }
 
 // Takes names with commas between them, and the `)` behind them.
-fn read_names(alloc: Global, tokens: &mut Tokens<'_>) -> Result<ScriptNames, Stop>
+fn read_names(alloc: Global, tokens: &mut Tokens<'_>) -> Result<ScriptNames, LineStop>
     ensures read { IfOk result (λ names. AreNames tokens.old names tokens.new) }
-    ensures none { IsErrOf result Stop.NoForm → (names : List (List ℕ)) (rest : List Lexeme)
+    ensures none { IsErrOf result LineStop.NoForm → (names : List (List ℕ)) (rest : List Lexeme)
         → ¬ AreNames tokens.old names rest }
 {
     let mut names = Vec::new(alloc);
@@ -81,15 +81,15 @@ fn read_names(alloc: Global, tokens: &mut Tokens<'_>) -> Result<ScriptNames, Sto
             push_name(alloc, &mut names, text)?;
             read_more_names(alloc, tokens, &mut names)?;
         }
-        _ => return Err(Stop::NoForm),
+        _ => return Err(LineStop::NoForm),
     }
     Ok(Items::of_vec(names))
 }
 
 /// Takes the arguments, which have to be the last of the line.
-pub(crate) fn read_arguments(alloc: Global, tokens: &mut Tokens<'_>) -> Result<Arguments, Stop>
+pub(crate) fn read_arguments(alloc: Global, tokens: &mut Tokens<'_>) -> Result<Arguments, LineStop>
     ensures read { IfOk result (λ a. AreArguments tokens.old a.values a.names) }
-    ensures none { IsErrOf result Stop.NoForm → (values : List Value) (names : List (List ℕ))
+    ensures none { IsErrOf result LineStop.NoForm → (values : List Value) (names : List (List ℕ))
         → ¬ AreArguments tokens.old values names }
 {
     tokens.expect(b'(')?;

@@ -6,7 +6,7 @@ ghost use Rattle.nomos_script.specs.mirror.Assembling.{add_line, add_outside, ad
 
 use crate::item::{Batch, ScriptItem, ScriptItems, Start};
 use crate::line::{Line, read_line};
-use crate::stop::Stop;
+use crate::stop::LineStop;
 use nomos_ir::items::Items;
 use std::alloc::{AllocFailed, Global};
 use std::marker::Model;
@@ -62,18 +62,18 @@ impl Assembly {
     }
 
     // Puts an item at the end.
-    fn push(&mut self, item: ScriptItem) -> Result<(), Stop>
+    fn push(&mut self, item: ScriptItem) -> Result<(), LineStop>
         ensures ok { OnOk result (self.new ≡ with_item self.old item) }
-        ensures memory { ¬ IsErrOf result Stop.NoForm }
+        ensures memory { ¬ IsErrOf result LineStop.NoForm }
     {
         self.items.push(item)?;
         Ok(())
     }
 
     // Closes the batch that began at this line.
-    fn close(&mut self, alloc: Global, first: u32) -> Result<(), Stop>
+    fn close(&mut self, alloc: Global, first: u32) -> Result<(), LineStop>
         ensures ok { OnOk result (add_inside first Line.End self.old ≡ Some self.new) }
-        ensures memory { ¬ IsErrOf result Stop.NoForm }
+        ensures memory { ¬ IsErrOf result LineStop.NoForm }
     {
         let starts = mem::replace(&mut self.starts, Vec::new(alloc));
         self.opened = None;
@@ -84,9 +84,9 @@ impl Assembly {
     }
 
     // Adds a line where a batch is open that began at this line.
-    fn add_inside(&mut self, alloc: Global, first: u32, line: Line) -> Result<(), Stop>
+    fn add_inside(&mut self, alloc: Global, first: u32, line: Line) -> Result<(), LineStop>
         ensures ok { OnOk result (add_inside first line self.old ≡ Some self.new) }
-        ensures none { IsErrOf result Stop.NoForm → add_inside first line self.old ≡ None }
+        ensures none { IsErrOf result LineStop.NoForm → add_inside first line self.old ≡ None }
     {
         match line {
             Line::Blank => Ok(()),
@@ -95,14 +95,14 @@ impl Assembly {
                 Ok(())
             }
             Line::End => self.close(alloc, first),
-            _ => Err(Stop::NoForm),
+            _ => Err(LineStop::NoForm),
         }
     }
 
     // Adds a line where no batch is open.
-    fn add_outside(&mut self, alloc: Global, number: u32, line: Line) -> Result<(), Stop>
+    fn add_outside(&mut self, alloc: Global, number: u32, line: Line) -> Result<(), LineStop>
         ensures ok { OnOk result (add_outside number line self.old ≡ Some self.new) }
-        ensures none { IsErrOf result Stop.NoForm → add_outside number line self.old ≡ None }
+        ensures none { IsErrOf result LineStop.NoForm → add_outside number line self.old ≡ None }
     {
         match line {
             Line::Blank => Ok(()),
@@ -116,15 +116,15 @@ impl Assembly {
                 self.opened = Some(number);
                 Ok(())
             }
-            Line::End => Err(Stop::NoForm),
+            Line::End => Err(LineStop::NoForm),
             Line::Show => self.push(ScriptItem::Show { line: number }),
         }
     }
 
     // Adds a line.
-    fn add(&mut self, alloc: Global, number: u32, line: Line) -> Result<(), Stop>
+    fn add(&mut self, alloc: Global, number: u32, line: Line) -> Result<(), LineStop>
         ensures ok { OnOk result (add_line number line self.old ≡ Some self.new) }
-        ensures none { IsErrOf result Stop.NoForm → add_line number line self.old ≡ None }
+        ensures none { IsErrOf result LineStop.NoForm → add_line number line self.old ≡ None }
     {
         match self.opened {
             Some(first) => self.add_inside(alloc, first, line),
@@ -133,9 +133,9 @@ impl Assembly {
     }
 
     /// Reads a line, and adds it.
-    pub(crate) fn read(&mut self, alloc: Global, number: u32, line: &[u8]) -> Result<(), Stop>
+    pub(crate) fn read(&mut self, alloc: Global, number: u32, line: &[u8]) -> Result<(), LineStop>
         ensures ok { OnOk result (AddsLine number line.now self.old self.new) }
-        ensures none { IsErrOf result Stop.NoForm → (form : Form) → LineReadsAs line.now form
+        ensures none { IsErrOf result LineStop.NoForm → (form : Form) → LineReadsAs line.now form
             → add_line number (line_said number form) self.old ≡ None }
     {
         let line = read_line(alloc, number, line)?;

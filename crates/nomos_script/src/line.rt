@@ -7,7 +7,7 @@ ghost use Rattle.nomos_script.specs.Seen.{SaysLine, Starts};
 use crate::arguments::{name_of, read_arguments};
 use crate::item::Start;
 use crate::name::ScriptName;
-use crate::stop::Stop;
+use crate::stop::LineStop;
 use crate::tokens::{Token, Tokens};
 use std::alloc::Global;
 
@@ -23,9 +23,9 @@ pub(crate) enum Line {
 }
 
 // Reads what stands behind the word `deposit`.
-fn read_deposit(alloc: Global, number: u32, tokens: &mut Tokens<'_>) -> Result<Line, Stop>
+fn read_deposit(alloc: Global, number: u32, tokens: &mut Tokens<'_>) -> Result<Line, LineStop>
     ensures read { IfOk result (λ line. SaysLine number (word (codes "deposit") ∷ tokens.old) line) }
-    ensures none { IsErrOf result Stop.NoForm → (form : Form)
+    ensures none { IsErrOf result LineStop.NoForm → (form : Form)
         → ¬ TokensReadAs (word (codes "deposit") ∷ tokens.old) form }
 {
     let name = tokens.name()?;
@@ -43,9 +43,9 @@ fn read_start(
     number: u32,
     contract: Option<ScriptName>,
     tokens: &mut Tokens<'_>,
-) -> Result<Start, Stop>
+) -> Result<Start, LineStop>
     ensures read { IfOk result (λ start. Starts tokens.old number contract start) }
-    ensures none { IsErrOf result Stop.NoForm → (i : Invocation) → IsValidInvocation i
+    ensures none { IsErrOf result LineStop.NoForm → (i : Invocation) → IsValidInvocation i
         → tokens.old ≢ print_invocation i }
 {
     let sender = tokens.name()?;
@@ -62,17 +62,17 @@ fn read_start(
 }
 
 // Reads what stands behind the word `exec`.
-fn read_exec(alloc: Global, number: u32, tokens: &mut Tokens<'_>) -> Result<Line, Stop>
+fn read_exec(alloc: Global, number: u32, tokens: &mut Tokens<'_>) -> Result<Line, LineStop>
     ensures read { IfOk result (λ line. SaysLine number (word (codes "exec") ∷ tokens.old) line) }
-    ensures none { IsErrOf result Stop.NoForm → (form : Form) → ¬ TokensReadAs (word (codes "exec") ∷ tokens.old) form }
+    ensures none { IsErrOf result LineStop.NoForm → (form : Form) → ¬ TokensReadAs (word (codes "exec") ∷ tokens.old) form }
 {
     Ok(Line::Start(read_start(alloc, number, None, tokens)?))
 }
 
 // Reads what stands behind the word `let`.
-fn read_create(alloc: Global, number: u32, tokens: &mut Tokens<'_>) -> Result<Line, Stop>
+fn read_create(alloc: Global, number: u32, tokens: &mut Tokens<'_>) -> Result<Line, LineStop>
     ensures read { IfOk result (λ line. SaysLine number (word (codes "let") ∷ tokens.old) line) }
-    ensures none { IsErrOf result Stop.NoForm → (form : Form) → ¬ TokensReadAs (word (codes "let") ∷ tokens.old) form }
+    ensures none { IsErrOf result LineStop.NoForm → (form : Form) → ¬ TokensReadAs (word (codes "let") ∷ tokens.old) form }
 {
     let contract = tokens.name()?;
     tokens.expect(b'=')?;
@@ -82,9 +82,9 @@ fn read_create(alloc: Global, number: u32, tokens: &mut Tokens<'_>) -> Result<Li
 }
 
 // Reads nothing behind the word of a line that says this.
-fn read_end(tokens: &mut Tokens<'_>, line: Line) -> Result<Line, Stop>
+fn read_end(tokens: &mut Tokens<'_>, line: Line) -> Result<Line, LineStop>
     ensures read { IfOk result (λ said. (tokens.old ≡ []) × (said ≡ line)) }
-    ensures none { IsErrOf result Stop.NoForm → tokens.old ≢ [] }
+    ensures none { IsErrOf result LineStop.NoForm → tokens.old ≢ [] }
 {
     tokens.end()?;
     Ok(line)
@@ -96,9 +96,9 @@ fn read_behind(
     number: u32,
     first: &[u8],
     tokens: &mut Tokens<'_>,
-) -> Result<Line, Stop>
+) -> Result<Line, LineStop>
     ensures read { IfOk result (λ said. SaysLine number (word first.now ∷ tokens.old) said) }
-    ensures none { IsErrOf result Stop.NoForm → (form : Form) → ¬ TokensReadAs (word first.now ∷ tokens.old) form }
+    ensures none { IsErrOf result LineStop.NoForm → (form : Form) → ¬ TokensReadAs (word first.now ∷ tokens.old) form }
 {
     if first == b"deposit".as_slice() {
         read_deposit(alloc, number, tokens)
@@ -113,19 +113,19 @@ fn read_behind(
     } else if first == b"show".as_slice() {
         read_end(tokens, Line::Show)
     } else {
-        Err(Stop::NoForm)
+        Err(LineStop::NoForm)
     }
 }
 
 /// What the line with this number says.
-pub(crate) fn read_line(alloc: Global, number: u32, line: &[u8]) -> Result<Line, Stop>
+pub(crate) fn read_line(alloc: Global, number: u32, line: &[u8]) -> Result<Line, LineStop>
     ensures read { IfOk result (λ said. SaysLine number (tokens_of line.now) said) }
-    ensures none { IsErrOf result Stop.NoForm → ¬ HasForm line.now }
+    ensures none { IsErrOf result LineStop.NoForm → ¬ HasForm line.now }
 {
     let mut tokens = Tokens::new(line);
     match tokens.next() {
         None => Ok(Line::Blank),
         Some(Token::Word(first)) => read_behind(alloc, number, first, &mut tokens),
-        Some(_) => Err(Stop::NoForm),
+        Some(_) => Err(LineStop::NoForm),
     }
 }

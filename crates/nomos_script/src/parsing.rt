@@ -7,7 +7,7 @@ use crate::assembly::Assembly;
 use crate::item::ScriptItems;
 use crate::lines::split_line;
 use crate::script::Script;
-use crate::stop::Stop;
+use crate::stop::LineStop;
 use std::alloc::{AllocFailed, Global};
 use thiserror::Error;
 
@@ -51,8 +51,8 @@ fn read_items(alloc: Global, text: &[u8]) -> Result<ScriptItems, ScriptError>
         let (line, after) = split_line(rest);
         match assembly.read(alloc, number, line) {
             Ok(()) => {}
-            Err(Stop::NoForm) => return Err(ScriptError::Syntax(number)),
-            Err(Stop::NoMemory) => return Err(ScriptError::NoMemory),
+            Err(LineStop::NoForm) => return Err(ScriptError::Syntax(number)),
+            Err(LineStop::NoMemory) => return Err(ScriptError::NoMemory),
         }
         rest = after;
         number += 1;

@@ -8,7 +8,7 @@ ghost use Rattle.nomos_script.specs.Seen.{token_seen, HasDigits, BeginsWithName,
 use crate::bytes::is_blank;
 use crate::name::is_script_name;
 use crate::number::units_of;
-use crate::stop::Stop;
+use crate::stop::LineStop;
 use nomos_ir::letters::{digits_length, is_digit, is_letter, word_length};
 use std::marker::Model;
 
@@ -115,57 +115,57 @@ impl<'a> Tokens<'a> {
     }
 
     /// Takes the next token, which has to be a name.
-    pub(crate) fn name(&mut self) -> Result<&'a [u8], Stop>
+    pub(crate) fn name(&mut self) -> Result<&'a [u8], LineStop>
         ensures name { IfOk result (λ n. (self.old ≡ word n.now ∷ self.new) × IsScriptName n.now) }
-        ensures none { IsErrOf result Stop.NoForm → ¬ BeginsWithName self.old }
+        ensures none { IsErrOf result LineStop.NoForm → ¬ BeginsWithName self.old }
     {
         match self.next() {
             Some(Token::Word(text)) if is_script_name(text) => Ok(text),
-            _ => Err(Stop::NoForm),
+            _ => Err(LineStop::NoForm),
         }
     }
 
     /// Takes the next token, which has to be the number of units of a deposit.
-    pub(crate) fn units(&mut self) -> Result<u64, Stop>
+    pub(crate) fn units(&mut self) -> Result<u64, LineStop>
         ensures units { IfOk result (λ n. BeginsWithUnits n self.old self.new) }
-        ensures none { IsErrOf result Stop.NoForm → (n : ℕ) (rest : List Lexeme) → ¬ BeginsWithUnits n self.old rest }
+        ensures none { IsErrOf result LineStop.NoForm → (n : ℕ) (rest : List Lexeme) → ¬ BeginsWithUnits n self.old rest }
     {
         match self.next() {
-            Some(Token::Number(digits)) => units_of(digits).ok_or(Stop::NoForm),
-            _ => Err(Stop::NoForm),
+            Some(Token::Number(digits)) => units_of(digits).ok_or(LineStop::NoForm),
+            _ => Err(LineStop::NoForm),
         }
     }
 
     /// Takes the next token, which has to be this word.
-    pub(crate) fn word(&mut self, text: &[u8]) -> Result<(), Stop>
+    pub(crate) fn word(&mut self, text: &[u8]) -> Result<(), LineStop>
         ensures word { OnOk result (self.old ≡ word text.now ∷ self.new) }
-        ensures none { IsErrOf result Stop.NoForm → (rest : List Lexeme) → self.old ≢ word text.now ∷ rest }
+        ensures none { IsErrOf result LineStop.NoForm → (rest : List Lexeme) → self.old ≢ word text.now ∷ rest }
     {
         match self.next() {
             Some(Token::Word(found)) if found == text => Ok(()),
-            _ => Err(Stop::NoForm),
+            _ => Err(LineStop::NoForm),
         }
     }
 
     /// Takes the next token, which has to be this byte.
-    pub(crate) fn expect(&mut self, byte: u8) -> Result<(), Stop>
+    pub(crate) fn expect(&mut self, byte: u8) -> Result<(), LineStop>
         ensures mark { OnOk result (self.old ≡ mark (byte ∷ []) ∷ self.new) }
-        ensures none { IsErrOf result Stop.NoForm → (rest : List Lexeme) → self.old ≢ mark (byte ∷ []) ∷ rest }
+        ensures none { IsErrOf result LineStop.NoForm → (rest : List Lexeme) → self.old ≢ mark (byte ∷ []) ∷ rest }
     {
         match self.next() {
             Some(Token::Mark(found)) if found == byte => Ok(()),
-            _ => Err(Stop::NoForm),
+            _ => Err(LineStop::NoForm),
         }
     }
 
     /// Sees that no token is left.
-    pub(crate) fn end(&mut self) -> Result<(), Stop>
+    pub(crate) fn end(&mut self) -> Result<(), LineStop>
         ensures end { OnOk result (self.old ≡ []) }
-        ensures none { IsErrOf result Stop.NoForm → self.old ≢ [] }
+        ensures none { IsErrOf result LineStop.NoForm → self.old ≢ [] }
     {
         match self.next() {
             None => Ok(()),
-            Some(_) => Err(Stop::NoForm),
+            Some(_) => Err(LineStop::NoForm),
         }
     }
 }

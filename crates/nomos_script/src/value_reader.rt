@@ -7,7 +7,7 @@ ghost use Rattle.nomos_script.specs.Seen.{token_seen, HasDigits};
 ghost use Rattle.std.specs.Str.Parse.{IsNumeral};
 
 use crate::number::signed_number;
-use crate::stop::Stop;
+use crate::stop::LineStop;
 use crate::tokens::{Token, Tokens};
 use crate::weighed::{OpenList, WeighedValue};
 use nomos_ir::stack::Stack;
@@ -87,9 +87,9 @@ impl ValueReader {
     }
 
     // Puts a value to the innermost open list, or behind the values.
-    fn put(&mut self, value: WeighedValue) -> Result<(), Stop>
+    fn put(&mut self, value: WeighedValue) -> Result<(), LineStop>
         ensures ok { OnOk result (put value self.old ≡ Some self.new) }
-        ensures none { IsErrOf result Stop.NoForm → put value self.old ≡ None }
+        ensures none { IsErrOf result LineStop.NoForm → put value self.old ≡ None }
     {
         match self.open_lists.pop() {
             None => self.values.push(value.into_node())?,
@@ -103,51 +103,51 @@ impl ValueReader {
     }
 
     // Puts the number that digits write, with `-` before them or without it.
-    fn put_number(&mut self, minus: bool, digits: &[u8]) -> Result<(), Stop>
+    fn put_number(&mut self, minus: bool, digits: &[u8]) -> Result<(), LineStop>
         requires { IsNumeral 10 digits.now }
         ensures ok { OnOk result (put_number minus digits.now self.old ≡ Some self.new) }
-        ensures none { IsErrOf result Stop.NoForm → put_number minus digits.now self.old ≡ None }
+        ensures none { IsErrOf result LineStop.NoForm → put_number minus digits.now self.old ≡ None }
     {
         match signed_number(minus, digits) {
             Some(n) => self.put(WeighedValue::int(n)),
-            None => Err(Stop::NoForm),
+            None => Err(LineStop::NoForm),
         }
     }
 
     // Takes digits.
-    fn take_digits(&mut self, digits: &[u8]) -> Result<(), Stop>
+    fn take_digits(&mut self, digits: &[u8]) -> Result<(), LineStop>
         requires { IsNumeral 10 digits.now }
         ensures ok { OnOk result (take_digits self.old.next digits.now self.old ≡ Some self.new) }
-        ensures none { IsErrOf result Stop.NoForm → take_digits self.old.next digits.now self.old ≡ None }
+        ensures none { IsErrOf result LineStop.NoForm → take_digits self.old.next digits.now self.old ≡ None }
     {
         match self.next {
             Awaited::FirstValue | Awaited::NextValue => self.put_number(false, digits),
             Awaited::Digits => self.put_number(true, digits),
-            Awaited::Separator => Err(Stop::NoForm),
+            Awaited::Separator => Err(LineStop::NoForm),
         }
     }
 
     // Takes a word, where a value may begin.
-    fn take_word(&mut self, text: &[u8]) -> Result<(), Stop>
+    fn take_word(&mut self, text: &[u8]) -> Result<(), LineStop>
         ensures ok { OnOk result (take_word text.now self.old ≡ Some self.new) }
-        ensures none { IsErrOf result Stop.NoForm → take_word text.now self.old ≡ None }
+        ensures none { IsErrOf result LineStop.NoForm → take_word text.now self.old ≡ None }
     {
         if text == b"true".as_slice() {
             self.put(WeighedValue::truth(true))
         } else if text == b"false".as_slice() {
             self.put(WeighedValue::truth(false))
         } else {
-            Err(Stop::NoForm)
+            Err(LineStop::NoForm)
         }
     }
 
     // Opens a list.
-    fn open_list(&mut self, alloc: Global) -> Result<(), Stop>
+    fn open_list(&mut self, alloc: Global) -> Result<(), LineStop>
         ensures ok { OnOk result (open_list self.old ≡ Some self.new) }
-        ensures none { IsErrOf result Stop.NoForm → open_list self.old ≡ None }
+        ensures none { IsErrOf result LineStop.NoForm → open_list self.old ≡ None }
     {
         if self.open_lists.len() >= MAX_NESTING {
-            return Err(Stop::NoForm);
+            return Err(LineStop::NoForm);
         }
         self.open_lists.push(OpenList::new(alloc))?;
         self.next = Awaited::FirstValue;
@@ -155,20 +155,20 @@ impl ValueReader {
     }
 
     // Closes the innermost list.
-    fn close_list(&mut self) -> Result<(), Stop>
+    fn close_list(&mut self) -> Result<(), LineStop>
         ensures ok { OnOk result (close_list self.old.values self.old.open_lists ≡ Some self.new) }
-        ensures none { IsErrOf result Stop.NoForm → close_list self.old.values self.old.open_lists ≡ None }
+        ensures none { IsErrOf result LineStop.NoForm → close_list self.old.values self.old.open_lists ≡ None }
     {
         match self.open_lists.pop() {
             Some(list) => self.put(list.into_value()),
-            None => Err(Stop::NoForm),
+            None => Err(LineStop::NoForm),
         }
     }
 
     // Takes a byte that belongs to no word and no number.
-    fn take_mark(&mut self, alloc: Global, byte: u8) -> Result<(), Stop>
+    fn take_mark(&mut self, alloc: Global, byte: u8) -> Result<(), LineStop>
         ensures ok { OnOk result (take_mark byte self.old ≡ Some self.new) }
-        ensures none { IsErrOf result Stop.NoForm → take_mark byte self.old ≡ None }
+        ensures none { IsErrOf result LineStop.NoForm → take_mark byte self.old ≡ None }
     {
         match byte {
             b'[' if self.next.awaits_value() => self.open_list(alloc),
@@ -181,19 +181,19 @@ impl ValueReader {
                 self.next = Awaited::NextValue;
                 Ok(())
             }
-            _ => Err(Stop::NoForm),
+            _ => Err(LineStop::NoForm),
         }
     }
 
     // Takes a token.
-    fn take(&mut self, alloc: Global, token: Token<'_>) -> Result<(), Stop>
+    fn take(&mut self, alloc: Global, token: Token<'_>) -> Result<(), LineStop>
         requires { HasDigits token }
         ensures ok { OnOk result (take_token (token_seen token.entry) self.old ≡ Some self.new) }
-        ensures none { IsErrOf result Stop.NoForm → take_token (token_seen token.entry) self.old ≡ None }
+        ensures none { IsErrOf result LineStop.NoForm → take_token (token_seen token.entry) self.old ≡ None }
     {
         match token {
             Token::Word(text) if self.next.awaits_value() => self.take_word(text),
-            Token::Word(_) => Err(Stop::NoForm),
+            Token::Word(_) => Err(LineStop::NoForm),
             Token::Number(digits) => self.take_digits(digits),
             Token::Mark(byte) => self.take_mark(alloc, byte),
         }
@@ -208,9 +208,9 @@ impl ValueReader {
 }
 
 /// Takes values with commas between them, and the `;` behind them.
-pub(crate) fn read_values(alloc: Global, tokens: &mut Tokens<'_>) -> Result<Values, Stop>
+pub(crate) fn read_values(alloc: Global, tokens: &mut Tokens<'_>) -> Result<Values, LineStop>
     ensures ok { IfOk result (λ values. read_values nothing_read tokens.old ≡ Some (values, tokens.new)) }
-    ensures none { IsErrOf result Stop.NoForm → read_values nothing_read tokens.old ≡ None }
+    ensures none { IsErrOf result LineStop.NoForm → read_values nothing_read tokens.old ≡ None }
 {
     let mut reader = ValueReader::new(alloc);
     while let Some(token) = tokens.next() {
@@ -219,5 +219,5 @@ pub(crate) fn read_values(alloc: Global, tokens: &mut Tokens<'_>) -> Result<Valu
         }
         reader.take(alloc, token)?;
     }
-    Err(Stop::NoForm)
+    Err(LineStop::NoForm)
 }

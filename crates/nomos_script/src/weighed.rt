@@ -4,7 +4,7 @@ ghost use Rattle.nomos_ir.specs.Value.{int, truth, list, value_list};
 ghost use Rattle.nomos_ir.specs.ValueNode.{value_of};
 ghost use Rattle.nomos_ir.specs.Weight.{list_weight, max_weight};
 
-use crate::stop::Stop;
+use crate::stop::LineStop;
 use nomos_ir::value_node::ValueNode;
 use std::alloc::Global;
 use std::marker::Model;
@@ -101,15 +101,15 @@ impl OpenList {
     }
 
     /// Puts a value at the end, unless the list gets too heavy.
-    pub(crate) fn put(&mut self, value: WeighedValue) -> Result<(), Stop>
+    pub(crate) fn put(&mut self, value: WeighedValue) -> Result<(), LineStop>
         ensures put { OnOk result (self.new ≡ self.old ++ value ∷ []) }
         ensures light { OnOk result (nat_le (list_weight (value_list (self.old ++ value ∷ []))) max_weight ≡ true) }
-        ensures none { IsErrOf result Stop.NoForm
+        ensures none { IsErrOf result LineStop.NoForm
             → nat_le (list_weight (value_list (self.old ++ value ∷ []))) max_weight ≡ false }
     {
         let weight = self.weight + value.weight + 1;
         if weight > MAX_WEIGHT {
-            return Err(Stop::NoForm);
+            return Err(LineStop::NoForm);
         }
         self.nodes.push(value.into_node())?;
         self.weight = weight;

@@ -10,7 +10,7 @@ use Rattle.nomos_forms.specs.Bounds.{IsForm}
 use Rattle.nomos_forms.specs.declared.form.Form.{Form}
 use Rattle.nomos_forms.specs.declared.row_list.RowList.{RowList}
 use Rattle.nomos_simplex.specs.Exchange.{coef_at, put_into, exchanged, is_large_line, is_large_table}
-use Rattle.nomos_simplex.specs.LeastRun.{Reaches, Exchanges, Lowers, line_exchanged, is_large_with}
+use Rattle.nomos_simplex.specs.LeastRun.{PivotsTo, Exchanges, Lowers, line_exchanged, is_large_with}
 use Rattle.nomos_simplex.specs.Nearest.{lowering, nearest, is_nearer, line_at}
 use Rattle.nomos_simplex.specs.Sizes.{IsLine}
 use Rattle.nomos_simplex.specs.Tables.{sum_at, HoldsAt, Holds, first_table}
@@ -28,10 +28,10 @@ use Rattle.nomos_simplex.proofs.RunLaws.{turn-goes_on}
 use Rattle.nomos_simplex.proofs.TableLaws.{IsTableOfRows, first-is_table, exchanged-is_table, table-is_table, small_line}
 
 -- ---- the pivot run
-pub reached-is_table : (rows : RowList) (pivots : ℕ) (table : Table) → Reaches rows pivots table
+pub reached-is_table : (rows : RowList) (pivots : ℕ) (table : Table) → PivotsTo rows pivots table
     → IsTableOfRows rows table
-reached-is_table rows pivots table Reaches.at_first = first-is_table rows
-reached-is_table rows pivots table (Reaches.goes_on {pivots = before} {table = earlier} after r e) =
+reached-is_table rows pivots table PivotsTo.at_first = first-is_table rows
+reached-is_table rows pivots table (PivotsTo.goes_on {pivots = before} {table = earlier} after r e) =
     turn-goes_on (2000 - before) before rows earlier after (reached-is_table rows before earlier r) e
 
 -- ---- the least run

@@ -9,7 +9,7 @@ use Rattle.nomos_forms.specs.declared.found.Found.{Found}
 use Rattle.nomos_forms.specs.declared.row_list.RowList.{RowList}
 use Rattle.nomos_simplex.specs.Exits.{fractions, fraction_of, found_or_large}
 use Rattle.nomos_simplex.specs.GoalLine.{goal_from, no_goal}
-use Rattle.nomos_simplex.specs.LeastRun.{Reaches, Lowers, LeastRun, is_total, least_or_large}
+use Rattle.nomos_simplex.specs.LeastRun.{PivotsTo, Lowers, LeastRun, is_total, least_or_large}
 use Rattle.nomos_simplex.specs.Lowest.{leaving, entering, lowest_place}
 use Rattle.nomos_simplex.specs.Nearest.{lowering}
 use Rattle.nomos_simplex.specs.PivotRun.{turn, turn_at, turn_on, turn_from, end_of, run, answer_to}
@@ -79,10 +79,10 @@ goes-nowhere (Ends answer) after h e = absurd cc
 goes-nowhere (Goes table) after h e = absurd h
 
 -- the pivot run stays at the first table
-reached-first : (rows : RowList) (n : ℕ) (t : Table) → rows.stars ≡ 0 → Reaches rows n t
+reached-first : (rows : RowList) (n : ℕ) (t : Table) → rows.stars ≡ 0 → PivotsTo rows n t
     → (n ≡ 0) × (t ≡ first_table rows)
-reached-first rows n t none Reaches.at_first = (refl, refl)
-reached-first rows n t none (Reaches.goes_on {pivots = p} {table = earlier} after r is) =
+reached-first rows n t none PivotsTo.at_first = (refl, refl)
+reached-first rows n t none (PivotsTo.goes_on {pivots = p} {table = earlier} after r is) =
     let before = reached-first rows p earlier none r in
     let goes : turn 2000 0 rows (first_table rows) ≡ Goes after =
     ap (λ k. turn (2000 - k) k rows (first_table rows)) (sym before.0)

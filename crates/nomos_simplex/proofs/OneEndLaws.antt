@@ -8,7 +8,7 @@ use Rattle.nomos_forms.specs.declared.verdict.Verdict.{Verdict}
 use Rattle.nomos_simplex.specs.Exchange.{exchanged}
 use Rattle.nomos_simplex.specs.Exits.{fractions, found_or_large}
 use Rattle.nomos_simplex.specs.GoalLine.{goal_line}
-use Rattle.nomos_simplex.specs.LeastRun.{Reaches, EndsFound, Exchanges, Lowers, LeastRun, line_exchanged, is_large_with, least_or_large}
+use Rattle.nomos_simplex.specs.LeastRun.{PivotsTo, EndsFound, Exchanges, Lowers, LeastRun, line_exchanged, is_large_with, least_or_large}
 use Rattle.nomos_simplex.specs.Lowest.{leaving}
 use Rattle.nomos_simplex.specs.Nearest.{lowering, nearest}
 use Rattle.nomos_simplex.specs.PivotRun.{turn, turn_from, answer_to}
@@ -34,12 +34,12 @@ same_goes : (a b : Table) → Goes a ≡ Goes b → a ≡ b
 same_goes a b e = cc
 
 -- after so many pivots it has come to one table
-reached-once : (rows : RowList) (n m : ℕ) (t u : Table) → n ≡ m → Reaches rows n t → Reaches rows m u → t ≡ u
-reached-once rows n m t u e Reaches.at_first Reaches.at_first = refl
-reached-once rows n m t u e Reaches.at_first (Reaches.goes_on after r is) = absurd (omega (arith, e))
-reached-once rows n m t u e (Reaches.goes_on after r is) Reaches.at_first = absurd (omega (arith, e))
-reached-once rows n m t u e (Reaches.goes_on {pivots = p} {table = earlier} after r is)
-    (Reaches.goes_on {pivots = q} {table = own} other s gives) =
+reached-once : (rows : RowList) (n m : ℕ) (t u : Table) → n ≡ m → PivotsTo rows n t → PivotsTo rows m u → t ≡ u
+reached-once rows n m t u e PivotsTo.at_first PivotsTo.at_first = refl
+reached-once rows n m t u e PivotsTo.at_first (PivotsTo.goes_on after r is) = absurd (omega (arith, e))
+reached-once rows n m t u e (PivotsTo.goes_on after r is) PivotsTo.at_first = absurd (omega (arith, e))
+reached-once rows n m t u e (PivotsTo.goes_on {pivots = p} {table = earlier} after r is)
+    (PivotsTo.goes_on {pivots = q} {table = own} other s gives) =
     let same : p ≡ q = omega (arith, e) in
     let at_one : earlier ≡ own = reached-once rows p q earlier own same r s in
     same_goes after other
@@ -49,9 +49,9 @@ reached-once rows n m t u e (Reaches.goes_on {pivots = p} {table = earlier} afte
 abbrev GoesOn : RowList → ℕ → Table → Type 0
 GoesOn rows n t = (after : Table) × (turn (2000 - n) n rows t ≡ Goes after)
 
-reached-before : (rows : RowList) (n m : ℕ) (t u : Table) → n < m → Reaches rows n t → Reaches rows m u → GoesOn rows n t
-reached-before rows n m t u less r Reaches.at_first = absurd (omega (arith, less))
-reached-before rows n m t u less r (Reaches.goes_on {pivots = q} {table = own} after s gives) =
+reached-before : (rows : RowList) (n m : ℕ) (t u : Table) → n < m → PivotsTo rows n t → PivotsTo rows m u → GoesOn rows n t
+reached-before rows n m t u less r PivotsTo.at_first = absurd (omega (arith, less))
+reached-before rows n m t u less r (PivotsTo.goes_on {pivots = q} {table = own} after s gives) =
     elim (cases_lt n q) [
       | inl below ↦ reached-before rows n q t own below r s
       | inr above ↦

@@ -26,14 +26,14 @@ use Rattle.nomos_simplex.specs.declared.turn.Turn.TheVariants.{Goes}
 
 -- ---- the runs, table by table
 -- the pivot run comes to a table, after so many pivots
-pub data Reaches (rows : RowList) : ℕ → Table → Type 0 where
-  at_first : Reaches rows 0 (first_table rows)
-  goes_on : {pivots : ℕ} {table : Table} (after : Table) → Reaches rows pivots table →
-      turn (2000 - pivots) pivots rows table ≡ Goes after → Reaches rows (pivots + 1) after
+pub data PivotsTo (rows : RowList) : ℕ → Table → Type 0 where
+  at_first : PivotsTo rows 0 (first_table rows)
+  goes_on : {pivots : ℕ} {table : Table} (after : Table) → PivotsTo rows pivots table →
+      turn (2000 - pivots) pivots rows table ≡ Goes after → PivotsTo rows (pivots + 1) after
 
 -- it ends there, since no basic variable is below its bound, and what it answers is found
 pub record EndsFound (rows : RowList) (pivots : ℕ) (table : Table) : Type 0 where
-  pub reaches : Reaches rows pivots table
+  pub reaches : PivotsTo rows pivots table
   pub none_below : leaving rows table ≡ None
   pub found : Found
   pub answer : answer_to rows ≡ solved.Found found

@@ -3,7 +3,7 @@ use Rattle.std.proofs.Common.{◌≡◌, List, [], ◌∷◌, refl, ap, subst}
 use Rattle.nomos_grammar.specs.declared.part.Nonterminal.TheVariants as the_production
 use Rattle.nomos_grammar.specs.declared.part.Part.{Part}
 use Rattle.nomos_grammar.specs.Counting.{Counts, after_token}
-use Rattle.nomos_grammar.specs.Deriving.{first, later}
+use Rattle.nomos_grammar.specs.Producing.{first, later}
 use Rattle.nomos_grammar.specs.Grammar.{the, NAME}
 use Rattle.nomos_surface.proofs.ListsWalked.{list_walks, each_mapped_walks, each_kept_walks}
 use Rattle.nomos_surface.proofs.PrintLaws.{StandsFor, more_stand, parted_stand, chan_stands, named_stands, is_term_stands, arguments_stand, args_stand, potential_behind, name_behind, name_as_name, bound_stands, step_stands, steps_stand, braced_stands, arm_stands, arms_parted, code_stands, last_stands, each_arm}

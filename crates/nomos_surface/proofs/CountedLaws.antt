@@ -3,7 +3,7 @@ use Rattle.std.proofs.Common.{◌≤◌, ◌+◌, ℕ, List, [], ◌∷◌, leng
 use Rattle.nomos_grammar.specs.declared.part.Nonterminal.TheVariants as the_production
 use Rattle.nomos_grammar.specs.declared.part.Part.{Part}
 use Rattle.nomos_grammar.specs.Counting.{Counts, nothing_counted, after_token}
-use Rattle.nomos_grammar.specs.Deriving.{first, later}
+use Rattle.nomos_grammar.specs.Producing.{first, later}
 use Rattle.nomos_grammar.specs.Grammar.{the}
 use Rattle.nomos_grammar.specs.Offence.{AllKeep, star_limit}
 use Rattle.nomos_grammar.proofs.LimitLaws.{IsWithinLimits}

@@ -5,7 +5,7 @@ use Rattle.std.specs.Str.{bytes_eq}
 use Rattle.std.specs.Str.Parse.{digits_value}
 use Rattle.std.proofs.lemmas.Slice.Eq.{bytes_eq-Decides}
 use Rattle.nomos_grammar.specs.declared.part.Terminal.TheVariants as terminal
-use Rattle.nomos_grammar.specs.Deriving.{Fits, terminal_of}
+use Rattle.nomos_grammar.specs.Producing.{Fits, terminal_of}
 use Rattle.nomos_ir.specs.declared.word.Word.{Word}
 use Rattle.nomos_surface.specs.declared.name_at.NameAt.{NameAt}
 use Rattle.nomos_surface.specs.Shown.{at_offset, number_at, HasValue, Meets, sign, sign_at, keyword, keyword_at, print_name}

@@ -2,7 +2,7 @@
 use Rattle.std.proofs.Common.{List, [], ◌∷◌, map}
 use Rattle.nomos_grammar.specs.declared.part.Nonterminal.{Nonterminal}
 use Rattle.nomos_grammar.specs.declared.part.Part.{Part}
-use Rattle.nomos_grammar.specs.Deriving.{IsAmong}
+use Rattle.nomos_grammar.specs.Producing.{IsAmong}
 use Rattle.nomos_grammar.specs.Grammar.{alternatives, the, sign as sign_part}
 use Rattle.nomos_surface.proofs.PrintLaws.{StandsFor, more_stand, parted_stand, list_stand, each_mapped, each_kept}
 use Rattle.nomos_surface.proofs.Walked.{none, joined, WalksFor}

@@ -5,7 +5,7 @@ use Rattle.nomos_grammar.specs.declared.part.Nonterminal.{Nonterminal}
 use Rattle.nomos_grammar.specs.declared.part.Part.{Part}
 use Rattle.nomos_grammar.specs.declared.part.Part.TheVariants as part
 use Rattle.nomos_grammar.specs.declared.part.Terminal.{Terminal}
-use Rattle.nomos_grammar.specs.Deriving.{Fits, Event, token, mark, tokens_in, IsAmong, Derives, nothing, read, counted, replaced}
+use Rattle.nomos_grammar.specs.Producing.{Fits, Event, token, mark, tokens_in, IsAmong, Produces, nothing, read, counted, replaced}
 use Rattle.nomos_grammar.specs.Grammar.{alternatives}
 use Rattle.nomos_syntax.specs.Lexeme.{Placed}
 
@@ -24,7 +24,7 @@ mutual
         Makes p tokens between → MakesAll parts between others → MakesAll (p ∷ parts) tokens others
 
 -- how many rules a derivation has
-abbrev pub rules_in : {parts : List Part} {events : List Event} → Derives parts events → ℕ
+abbrev pub rules_in : {parts : List Part} {events : List Event} → Produces parts events → ℕ
 rules_in nothing = 0
 rules_in (read f d) = suc (rules_in d)
 rules_in (counted d) = suc (rules_in d)
@@ -34,14 +34,14 @@ rules_in (replaced side among d) = suc (rules_in d)
 pub record Front (parts rest : List Part) (events : List Event) (n : ℕ) : Type 0 where
   pub others : List Event
   pub made : MakesAll parts (tokens_in events) (tokens_in others)
-  pub derived : Derives rest others
+  pub derived : Produces rest others
   pub fewer : rules_in derived ≤ n
 
 more_rules : {parts rest : List Part} {events : List Event} {m n : ℕ} → m ≤ n → Front parts rest events m
     → Front parts rest events n
 more_rules le f = record { others = f.others; made = f.made; derived = f.derived; fewer = omega (arith, f.fewer) }
 
-pub front_of : (n : ℕ) (parts rest : List Part) (events : List Event) (d : Derives (parts ++ rest) events)
+pub front_of : (n : ℕ) (parts rest : List Part) (events : List Event) (d : Produces (parts ++ rest) events)
     → rules_in d ≤ n →
     Front parts rest events n
 front_of n [] rest events d le = record { others = events; made = made_none; derived = d; fewer = le }

@@ -3,7 +3,7 @@ use Rattle.std.proofs.Common.{ℕ, Bool, true, false, List, [], ◌∷◌, ◌++
 use Rattle.nomos_grammar.specs.declared.part.Nonterminal.{Nonterminal}
 use Rattle.nomos_grammar.specs.declared.part.Nonterminal.TheVariants as the_production
 use Rattle.nomos_grammar.specs.declared.part.Part.{Part}
-use Rattle.nomos_grammar.specs.Deriving.{IsAmong, first, later, IsFile, file}
+use Rattle.nomos_grammar.specs.Producing.{IsAmong, first, later, IsFile, file}
 use Rattle.nomos_grammar.specs.Grammar.{alternatives, the, NAME, CLOSE, keyword as keyword_part, sign as sign_part}
 use Rattle.nomos_ir.specs.declared.kind.Base.{Base}
 use Rattle.nomos_ir.specs.declared.kind.Base.TheVariants as base

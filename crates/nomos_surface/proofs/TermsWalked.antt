@@ -4,7 +4,7 @@ use Rattle.nomos_grammar.specs.declared.part.Nonterminal.{Nonterminal}
 use Rattle.nomos_grammar.specs.declared.part.Nonterminal.TheVariants as the_production
 use Rattle.nomos_grammar.specs.declared.part.Part.{Part}
 use Rattle.nomos_grammar.specs.Counting.{Counts}
-use Rattle.nomos_grammar.specs.Deriving.{first, later}
+use Rattle.nomos_grammar.specs.Producing.{first, later}
 use Rattle.nomos_grammar.specs.Grammar.{the}
 use Rattle.nomos_surface.proofs.PrintLaws.{more_stand, parted_stand, list_stand, behind, truth_stands, heading_stands, arguments_stand, term_stands, each_term}
 use Rattle.nomos_surface.proofs.TypesWalked.{value_type_walks}

@@ -2,7 +2,7 @@
 use Rattle.std.proofs.Common.{◌≡◌, List, [], ◌∷◌, map, Option, Some, None, refl, ap, sym, subst, arith}
 use Rattle.nomos_grammar.specs.declared.part.Nonterminal.TheVariants as the_production
 use Rattle.nomos_grammar.specs.declared.part.Terminal.TheVariants as terminal
-use Rattle.nomos_grammar.specs.Deriving.{Fits, first, later, IsFile, file, Event, tokens_in, Derives, nothing}
+use Rattle.nomos_grammar.specs.Producing.{Fits, first, later, IsFile, file, Event, tokens_in, Produces, nothing}
 use Rattle.nomos_grammar.specs.Grammar.{the}
 use Rattle.nomos_ir.specs.declared.kind.Base.TheVariants as base
 use Rattle.nomos_ir.specs.declared.word.Word.TheVariants as word
@@ -386,7 +386,7 @@ whole_made none (made_more whole made_none) =
     (r.tree, r.is, r.reads [] (subst (λ (ts : List Placed). Spells [] ts) (sym none) tt))
 
 -- nothing derives no event alone
-nothing_left : {events : List Event} → Derives [] events → events ≡ []
+nothing_left : {events : List Event} → Produces [] events → events ≡ []
 nothing_left nothing = refl
 
 -- Every file of the grammar is what a tree that stands for a text prints.

@@ -2,7 +2,7 @@
 use Rattle.std.proofs.Common.{◌≡◌, ◌+◌, List, [], ◌∷◌, ◌++◌, refl, sym, ap, subst, ◌∙◌, arith}
 use Rattle.nomos_grammar.specs.declared.part.Part.{Part}
 use Rattle.nomos_grammar.specs.Counting.{Counts, nothing_counted, after_mark, after_token, counts_from}
-use Rattle.nomos_grammar.specs.Deriving.{Event, token, mark, tokens_in, Derives, file}
+use Rattle.nomos_grammar.specs.Producing.{Event, token, mark, tokens_in, Produces, file}
 use Rattle.nomos_grammar.specs.Offence.{AllKeep}
 use Rattle.nomos_grammar.proofs.LimitLaws.{IsWithinLimits, kept_within}
 use Rattle.nomos_surface.proofs.PrintLaws.{StandsFor}
@@ -42,7 +42,7 @@ pub file_keeps : {shown : List Shown} (y : Yields file shown) (tokens : List Pla
 file_keeps y tokens spelled kept =
     let d = yields-derives y tokens spelled in
     keeps_from y tokens spelled nothing_counted (λ earlier later x e.
-    kept_within tokens earlier later x kept (subst (λ (es : List Event). Derives file es) e d.1)
+    kept_within tokens earlier later x kept (subst (λ (es : List Event). Produces file es) e d.1)
     (ap tokens_in (sym e) ∙ d.2))
 
 -- the nodes and the stars that count at a place

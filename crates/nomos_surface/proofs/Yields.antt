@@ -8,7 +8,7 @@ use Rattle.nomos_grammar.specs.declared.part.Part.{Part}
 use Rattle.nomos_grammar.specs.declared.part.Part.TheVariants as part
 use Rattle.nomos_grammar.specs.declared.part.Terminal.{Terminal}
 use Rattle.nomos_grammar.specs.declared.part.Terminal.TheVariants as terminal
-use Rattle.nomos_grammar.specs.Deriving.{Fits, terminal_of, Event, token, mark, tokens_in, IsAmong, Derives, nothing, read, counted, replaced}
+use Rattle.nomos_grammar.specs.Producing.{Fits, terminal_of, Event, token, mark, tokens_in, IsAmong, Produces, nothing, read, counted, replaced}
 use Rattle.nomos_grammar.specs.Grammar.{alternatives}
 use Rattle.nomos_ir.specs.declared.word.Word.{Word}
 use Rattle.nomos_surface.specs.declared.name_at.NameAt.{NameAt}
@@ -31,7 +31,7 @@ pub data Yields : List Part → List Shown → Type 0 where
 -- what parts yield they derive, whichever tokens spell it
 unfoldable pub yields-derives : {parts : List Part} {after : List Shown} → Yields parts after → (tokens : List Placed)
     → Spells after tokens →
-    (events : List Event) × Derives parts events × (tokens_in events ≡ tokens)
+    (events : List Event) × Produces parts events × (tokens_in events ≡ tokens)
 yields-derives ends [] h = ([], nothing, refl)
 yields-derives ends (x ∷ tokens) h = absurd h
 yields-derives (shows suits y) [] h = absurd h

@@ -19,7 +19,7 @@ use Rattle.nomos_equality.specs.declared.hop.Hop.{Hop}
 use Rattle.nomos_equality.proofs.PathLaws.{node-behind}
 use Rattle.nomos_sync.specs.declared.walk.Arrival.{Arrival}
 use Rattle.nomos_sync.specs.Continuing.{StandAtDown}
-use Rattle.nomos_sync.specs.SyncAnswer.{OffendsAt, FindsSynchronizing}
+use Rattle.nomos_sync.specs.SyncAnswer.{StraysAt, FindsSynchronizing}
 use Rattle.nomos_sync.specs.mirror.Walk.{Visits, IsVisited, MeetsType, WalksTo, FollowsAll, WayTo, AgreesBehind, no_down, down, DiffersBehind}
 use Rattle.nomos_sync.proofs.ContinuationLemmas.{labels-differ, continuation-hop, continues-reaches}
 use Rattle.nomos_sync.proofs.WalkLemmas.{AreReached, reached-begins, reached-walks, begins-visited, visited-walks, walks-get, one-visit, follows-walks, way-reached, visit-reached}
@@ -210,7 +210,7 @@ module _ (lists : ProgramLists) (start shared : TypeId) (old e : Compared) (s : 
 -- a visit behind which another type stands
 pub passing-offends : (lists : ProgramLists) (start shared at : TypeId) (s : Visits) (i : ℕ) (from : Option Arrival)
     (path : List Hop) → AreReached lists start s → slice_get s i ≡ Some (at.0, from) → WayTo s i path
-    → DiffersBehind lists at shared → OffendsAt lists start shared path
+    → DiffersBehind lists at shared → StraysAt lists start shared path
 passing-offends lists start shared at s i from path reached there way differs =
     let r = way-reached lists start s i at.0 from path reached way there in
     record {

@@ -11,7 +11,7 @@ use Rattle.nomos_equality.specs.Answer.{SameWorth}
 use Rattle.nomos_equality.specs.Comparing.{Compared, nothing_compared, HasCompared}
 use Rattle.nomos_equality.specs.declared.hop.Hop.{Hop}
 use Rattle.nomos_equality.proofs.PathLaws.{equal-worth, equal-from_worth}
-use Rattle.nomos_sync.specs.SyncAnswer.{OffendsAt, FindsSynchronizing, SynchronizesWith, AnswersSynchronizing, SaysSynchronizing}
+use Rattle.nomos_sync.specs.SyncAnswer.{StraysAt, FindsSynchronizing, SynchronizesWith, AnswersSynchronizing, SaysSynchronizing}
 use Rattle.nomos_sync.specs.declared.synchronizing.Synced.{Synced}
 use Rattle.nomos_sync.specs.declared.synchronizing.Synced.TheVariants as synced
 use Rattle.nomos_sync.proofs.ContinuationLemmas.{continues-reaches}
@@ -38,7 +38,7 @@ synchronizes_with-exact lists from shared pairs x answer = (
 
 -- a type with an offending `down` is synchronizing under no amounts
 pub offends-not_synchronizing : (lists : ProgramLists) (x : Annotations) (from shared : TypeId) (path : List Hop)
-    → OffendsAt lists from shared path → IsSynchronizingAt lists x from shared → ⊥
+    → StraysAt lists from shared path → IsSynchronizingAt lists x from shared → ⊥
 offends-not_synchronizing lists x from shared path offends synchronizing =
     offends.unequal
     (equal-shapes lists x offends.behind shared

@@ -19,7 +19,7 @@ use Rattle.nomos_sync.specs.declared.synchronizing.Synced.{Synced}
 use Rattle.nomos_sync.specs.declared.synchronizing.Synced.TheVariants as synced
 
 -- at the end of the path of continuations stands a `down` behind which the type has another shape than the shared one
-pub record OffendsAt (lists : ProgramLists) (from shared : TypeId) (path : List Hop) : Type 0 where
+pub record StraysAt (lists : ProgramLists) (from shared : TypeId) (path : List Hop) : Type 0 where
   pub at : TypeId
   pub behind : TypeId
   pub leads : Continues lists path from at
@@ -37,7 +37,7 @@ pub record SynchronizesWith (lists : ProgramLists) (from shared : TypeId) (given
 -- the answer, for the body of the shared type
 abbrev pub AnswersSynchronizing : ProgramLists → TypeId → TypeId → Synced → Type 0
 AnswersSynchronizing lists from shared (synced.Yes pairs) = SynchronizesWith lists from shared pairs
-AnswersSynchronizing lists from shared (synced.No path) = OffendsAt lists from shared path
+AnswersSynchronizing lists from shared (synced.No path) = StraysAt lists from shared path
 
 -- the answer says that the type is synchronizing under these amounts
 abbrev pub SaysSynchronizing : Annotations → Synced → Type 0
@@ -58,7 +58,7 @@ pub record FindsSynchronizing (lists : ProgramLists) (from shared : TypeId) (old
 -- the answer beside what was compared
 abbrev pub AnswersBeside : ProgramLists → TypeId → TypeId → Compared → Compared → Comparison → Type 0
 AnswersBeside lists from shared old new comparison.Equal = FindsSynchronizing lists from shared old new
-AnswersBeside lists from shared old new (comparison.Different path) = OffendsAt lists from shared path
+AnswersBeside lists from shared old new (comparison.Different path) = StraysAt lists from shared path
 
 -- the same, of a shared type with its body
 abbrev pub AnswersShared : ProgramLists → TypeId → Synced → Type 0

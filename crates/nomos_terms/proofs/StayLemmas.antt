@@ -7,8 +7,8 @@ use Rattle.nomos_ir.specs.TermKind.{VariableKinds, HasKind}
 use Rattle.nomos_terms.specs.declared.search.Search.{Search}
 use Rattle.nomos_terms.specs.declared.search.Task.{Task}
 use Rattle.nomos_terms.specs.declared.search.Task.TheVariants as task
-use Rattle.nomos_terms.specs.declared.stop.Stop.{Stop}
-use Rattle.nomos_terms.specs.declared.stop.Stop.TheVariants as stop
+use Rattle.nomos_terms.specs.declared.stop.KindStop.{KindStop}
+use Rattle.nomos_terms.specs.declared.stop.KindStop.TheVariants as stop
 use Rattle.nomos_terms.specs.mirror.Left.{IsDone, IsVain, IsKind, Stays}
 
 -- a search is its parts
@@ -74,7 +74,7 @@ module _ (lists : ProgramLists) (outer : VariableKinds) (t : TermId) where
       let same : s ≡ last = same_search s [] [] s.bound todo top refl in λ kind has. (subst P same stays).to kind has
 
   -- a search that stops
-  pub stopped : (why : Stop) → (why ≡ stop.NoKind → (kind : Kind) → HasKind lists outer t kind → ⊥)
+  pub stopped : (why : KindStop) → (why ≡ stop.NoKind → (kind : Kind) → HasKind lists outer t kind → ⊥)
       → IsKind lists outer t (Err why)
   stopped stop.NoKind none = none refl
   stopped stop.NoMemory none = tt

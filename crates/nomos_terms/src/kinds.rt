@@ -6,7 +6,7 @@ ghost use Rattle.nomos_terms.specs.mirror.Left.{IsDone, IsVain, IsKind};
 
 use crate::enter::enter;
 use crate::search::{Search, Task};
-use crate::stop::Stop;
+use crate::stop::KindStop;
 use crate::tasks::{compare, expect, put_before, take_apart, unbind};
 use nomos_ir::declaration::Kinds;
 use nomos_ir::ids::{TermId, VarId};
@@ -32,9 +32,9 @@ fn do_task(
     outer: &[(VarId, Kind)],
     search: &mut Search,
     task: Task,
-) -> Result<(), Stop>
+) -> Result<(), KindStop>
     ensures done { OnOk result (IsDone program.now outer.now task search.old search.new) }
-    ensures vain { IsErrOf result Stop.NoKind → IsVain program.now outer.now task search.old }
+    ensures vain { IsErrOf result KindStop.NoKind → IsVain program.now outer.now task search.old }
 {
     match task {
         Task::Term(t) => enter(program, outer, search, t),
@@ -53,7 +53,7 @@ fn find_kind(
     program: &Program,
     t: TermId,
     outer: &[(VarId, Kind)],
-) -> Result<Kind, Stop>
+) -> Result<Kind, KindStop>
     ensures { IsKind program.now outer.now t result }
 {
     let mut search = Search {
@@ -67,7 +67,7 @@ fn find_kind(
     }
     match search.kinds.pop() {
         Some(kind) => Ok(kind),
-        None => Err(Stop::NoKind),
+        None => Err(KindStop::NoKind),
     }
 }
 
@@ -85,7 +85,7 @@ pub fn term_kind(
 {
     match find_kind(alloc, program, t, vars.as_slice()) {
         Ok(kind) => Ok(kind),
-        Err(Stop::NoKind) => Err(TermError::TermType(program.term(t).offset())),
-        Err(Stop::NoMemory) => Err(TermError::NoMemory),
+        Err(KindStop::NoKind) => Err(TermError::TermType(program.term(t).offset())),
+        Err(KindStop::NoMemory) => Err(TermError::NoMemory),
     }
 }

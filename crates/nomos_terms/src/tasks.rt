@@ -3,11 +3,11 @@ ghost use Rattle.std.specs.Prelude.{◌≡◌, IsSome, OnOk, IsErrOf, MatchOptio
 ghost use Rattle.nomos_ir.specs.declared.lists.ProgramLists.{ProgramLists};
 ghost use Rattle.nomos_ir.specs.TermKind.{VariableKinds, list_kind};
 ghost use Rattle.nomos_terms.specs.declared.search.Task.TheVariants as task;
-ghost use Rattle.nomos_terms.specs.declared.stop.Stop.TheVariants.{NoKind};
+ghost use Rattle.nomos_terms.specs.declared.stop.KindStop.TheVariants.{NoKind};
 ghost use Rattle.nomos_terms.specs.mirror.Left.{IsDone, IsVain};
 
 use crate::search::{Search, Task, plan};
-use crate::stop::Stop;
+use crate::stop::KindStop;
 use nomos_ir::ids::{TermId, VarId};
 use nomos_ir::kind::Kind;
 
@@ -26,76 +26,76 @@ fn element_of(kind: Kind) -> Option<Kind>
 }
 
 /// The kind found last is to be this one.
-pub(crate) fn expect(search: &mut Search, wanted: Kind) -> Result<(), Stop>
+pub(crate) fn expect(search: &mut Search, wanted: Kind) -> Result<(), KindStop>
     ensures done { (lists : ProgramLists) (outer : VariableKinds)
         → OnOk result (IsDone lists outer (task.Expect wanted) search.old search.new) }
     ensures vain { (lists : ProgramLists) (outer : VariableKinds) → IsErrOf result NoKind
         → IsVain lists outer (task.Expect wanted) search.old }
 {
     let Some(kind) = search.kinds.pop() else {
-        return Err(Stop::NoKind);
+        return Err(KindStop::NoKind);
     };
     if kind != wanted {
-        return Err(Stop::NoKind);
+        return Err(KindStop::NoKind);
     }
     Ok(())
 }
 
 /// The kind found last is to be that of lists of the kind found before it.
-pub(crate) fn put_before(search: &mut Search) -> Result<(), Stop>
+pub(crate) fn put_before(search: &mut Search) -> Result<(), KindStop>
     ensures done { (lists : ProgramLists) (outer : VariableKinds)
         → OnOk result (IsDone lists outer task.Cons search.old search.new) }
     ensures vain { (lists : ProgramLists) (outer : VariableKinds) → IsErrOf result NoKind
         → IsVain lists outer task.Cons search.old }
 {
     let Some(list) = search.kinds.pop() else {
-        return Err(Stop::NoKind);
+        return Err(KindStop::NoKind);
     };
     let Some(element) = search.kinds.pop() else {
-        return Err(Stop::NoKind);
+        return Err(KindStop::NoKind);
     };
     let Some(wanted) = element_of(list) else {
-        return Err(Stop::NoKind);
+        return Err(KindStop::NoKind);
     };
     if element != wanted {
-        return Err(Stop::NoKind);
+        return Err(KindStop::NoKind);
     }
     search.kinds.push(list)?;
     Ok(())
 }
 
 /// The two kinds found last are to be the same one.
-pub(crate) fn compare(search: &mut Search) -> Result<(), Stop>
+pub(crate) fn compare(search: &mut Search) -> Result<(), KindStop>
     ensures done { (lists : ProgramLists) (outer : VariableKinds)
         → OnOk result (IsDone lists outer task.Same search.old search.new) }
     ensures vain { (lists : ProgramLists) (outer : VariableKinds) → IsErrOf result NoKind
         → IsVain lists outer task.Same search.old }
 {
     let Some(second) = search.kinds.pop() else {
-        return Err(Stop::NoKind);
+        return Err(KindStop::NoKind);
     };
     let Some(first) = search.kinds.pop() else {
-        return Err(Stop::NoKind);
+        return Err(KindStop::NoKind);
     };
     if second != first {
-        return Err(Stop::NoKind);
+        return Err(KindStop::NoKind);
     }
     search.kinds.push(second)?;
     Ok(())
 }
 
 /// The two variables bound last are no longer in scope.
-pub(crate) fn unbind(search: &mut Search) -> Result<(), Stop>
+pub(crate) fn unbind(search: &mut Search) -> Result<(), KindStop>
     ensures done { (lists : ProgramLists) (outer : VariableKinds)
         → OnOk result (IsDone lists outer task.Unbind search.old search.new) }
     ensures vain { (lists : ProgramLists) (outer : VariableKinds) → IsErrOf result NoKind
         → IsVain lists outer task.Unbind search.old }
 {
     if search.bound.pop().is_none() {
-        return Err(Stop::NoKind);
+        return Err(KindStop::NoKind);
     }
     if search.bound.pop().is_none() {
-        return Err(Stop::NoKind);
+        return Err(KindStop::NoKind);
     }
     Ok(())
 }
@@ -107,17 +107,17 @@ pub(crate) fn take_apart(
     head: VarId,
     tail: VarId,
     full: TermId,
-) -> Result<(), Stop>
+) -> Result<(), KindStop>
     ensures done { (lists : ProgramLists) (outer : VariableKinds)
         → OnOk result (IsDone lists outer (task.Part empty head tail full) search.old search.new) }
     ensures vain { (lists : ProgramLists) (outer : VariableKinds) → IsErrOf result NoKind
         → IsVain lists outer (task.Part empty head tail full) search.old }
 {
     let Some(list) = search.kinds.pop() else {
-        return Err(Stop::NoKind);
+        return Err(KindStop::NoKind);
     };
     let Some(element) = element_of(list) else {
-        return Err(Stop::NoKind);
+        return Err(KindStop::NoKind);
     };
     search.bound.push((head, element))?;
     search.bound.push((tail, list))?;

@@ -24,7 +24,7 @@ use Rattle.nomos_top.specs.Runnable.{is_runnable}
 use Rattle.nomos_top.specs.Taken.{IsTakenAs}
 use Rattle.nomos_top.specs.Words.{Task, task_of}
 use Rattle.nomos_top.specs.declared.due.Due.{Due}
-use Rattle.nomos_top.specs.declared.due.Part.{Part}
+use Rattle.nomos_top.specs.declared.due.DoneSoFar.{DoneSoFar}
 use Rattle.nomos_top.specs.declared.judging.Unaccepted.{Unaccepted}
 use Rattle.nomos_top.specs.declared.judging.Unaccepted.TheVariants as unaccepted
 use Rattle.nomos_top.specs.declared.running.Running.{Running}
@@ -177,7 +177,7 @@ due-of words contract script text a code bytes given kept runs told is_accepted 
 }
 
 -- nothing was done
-pub part-nothing : (words : List (List ℕ)) (contract script : SourceState) (part : Part) → IsPartAs part None no_journal
+pub part-nothing : (words : List (List ℕ)) (contract script : SourceState) (part : DoneSoFar) → IsPartAs part None no_journal
     → IsPart words contract script part.accepted part.journal
 part-nothing words contract script part parts = rw (parts.accepted, parts.journal) nothing
 
@@ -253,7 +253,7 @@ due_of-run a left counts text items code bytes given kept runnable told reads ru
 )
 
 -- what was done of a script that is not run
-pub part_of-line : (a : Acceptance) (left : Option (List ℕ)) (part : Part) → IsPartAs part (Some a) no_journal
+pub part_of-line : (a : Acceptance) (left : Option (List ℕ)) (part : DoneSoFar) → IsPartAs part (Some a) no_journal
     → IsPartOf a left part.accepted part.journal
 part_of-line a left part parts = rw (parts.accepted, parts.journal) not_run
 
@@ -276,7 +276,7 @@ part_of-run a left text items given kept runnable told reads part =
     }))
 
 -- what was done of a script that was run to its end
-pub ran-part : (a : Acceptance) (items : List ScriptItem) (running : Running) (part : Part)
+pub ran-part : (a : Acceptance) (items : List ScriptItem) (running : Running) (part : DoneSoFar)
     → HasCome a steps items running → IsPartAs part (Some a) (journal_of running.entries.items)
     → HasRunPart a items part.accepted part.journal
 ran-part a items running part come parts = record {

@@ -13,7 +13,7 @@ use Rattle.nomos_ledger.proofs.LegalLaws.{firings-append, leads-append, one-depo
 use Rattle.nomos_ledger.specs.Ending.{EndsAs, IsAllowed}
 use Rattle.nomos_ledger.specs.Ledger.{LedgerState, FitsDeposits, empty_ledger}
 use Rattle.nomos_ledger.specs.Legal.{Leads, IsFirst, Undoes, batch_limit, firings_in, max_firings, done, shown, no_firing}
-use Rattle.nomos_ledger.specs.Standing.{Deposits, StandsFor, WorldStandsFor}
+use Rattle.nomos_ledger.specs.StandsFor.{Deposits, StandsFor, WorldStandsFor}
 use Rattle.nomos_ledger.specs.Starting.{resolve_batch}
 use Rattle.nomos_ledger.specs.World.{WorldState, committed, pids_of, start_of}
 use Rattle.nomos_ledger.specs.declared.journal.End.{End}

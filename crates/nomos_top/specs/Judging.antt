@@ -9,7 +9,7 @@ use Rattle.nomos_least.specs.LeastBounds.{IsLeastAs}
 use Rattle.nomos_least.specs.declared.least.LeastBounds.{LeastBounds}
 use Rattle.nomos_ledger.specs.Ledger.{LedgerState, empty_ledger}
 use Rattle.nomos_ledger.specs.Legal.{Leads}
-use Rattle.nomos_ledger.specs.Standing.{StandsFor}
+use Rattle.nomos_ledger.specs.StandsFor.{StandsFor}
 use Rattle.nomos_ledger.specs.declared.journal.Entry.{Entry}
 use Rattle.nomos_ledger.specs.declared.journal.Journal.{Journal}
 use Rattle.nomos_script.specs.ScriptReading.{IsSyntaxAt, text_limit}
@@ -22,7 +22,7 @@ use Rattle.nomos_top.specs.Report.{report, run_status, AllFollowFirst}
 use Rattle.nomos_top.specs.Runnable.{is_runnable}
 use Rattle.nomos_top.specs.Taken.{IsNotYetAt, IsTakenAs}
 use Rattle.nomos_top.specs.declared.due.Due.{Due}
-use Rattle.nomos_top.specs.declared.due.Part.{Part}
+use Rattle.nomos_top.specs.declared.due.DoneSoFar.{DoneSoFar}
 use Rattle.nomos_top.specs.declared.judging.Unaccepted.{Unaccepted}
 use Rattle.nomos_top.specs.declared.judging.Unaccepted.TheVariants as unaccepted
 use Rattle.nomos_top.specs.declared.scripts.Found.{Found}
@@ -88,12 +88,12 @@ pub record IsDueAs (due : Due) (code : ℕ) (bytes : List ℕ) (given : Option A
   pub journal : due.journal ≡ kept
 
 -- what was done before memory ran out
-pub record IsPartAs (part : Part) (given : Option Acceptance) (kept : Journal) : Type 0 where
+pub record IsPartAs (part : DoneSoFar) (given : Option Acceptance) (kept : Journal) : Type 0 where
   pub accepted : part.accepted ≡ given
   pub journal : part.journal ≡ kept
 
 -- the program that is given with what is due, or with what was done before memory ran out
-abbrev pub given_of : Result Due Part → Option Acceptance
+abbrev pub given_of : Result Due DoneSoFar → Option Acceptance
 given_of (Ok due) = due.accepted
 given_of (Err part) = part.accepted
 
@@ -111,7 +111,7 @@ IsDueWhere Asks contract due =
     → IsDueFor words contract script due.status due.text.items due.accepted due.journal
 
 -- this was done before memory ran out
-abbrev pub IsPartWhere : (List (List ℕ) → Type 0) → SourceState → Part → Type 0
+abbrev pub IsPartWhere : (List (List ℕ) → Type 0) → SourceState → DoneSoFar → Type 0
 IsPartWhere Asks contract part =
     (words : List (List ℕ)) (script : SourceState) → Asks words
     → IsPart words contract script part.accepted part.journal

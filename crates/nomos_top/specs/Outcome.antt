@@ -8,7 +8,7 @@ use Rattle.nomos_least.specs.LeastBounds.{IsLeastAs, IsLeastUnsolved}
 use Rattle.nomos_least.specs.declared.least.LeastBounds.{LeastBounds}
 use Rattle.nomos_ledger.specs.Ledger.{LedgerState, empty_ledger}
 use Rattle.nomos_ledger.specs.Legal.{IsLegal}
-use Rattle.nomos_ledger.specs.Standing.{StandsFor}
+use Rattle.nomos_ledger.specs.StandsFor.{StandsFor}
 use Rattle.nomos_ledger.specs.declared.journal.Journal.{Journal}
 use Rattle.nomos_script.specs.ScriptReading.{IsSyntaxAt, text_limit}
 use Rattle.nomos_script.specs.declared.item.ScriptItem.{ScriptItem}

@@ -6,7 +6,7 @@ use Rattle.nomos_script.specs.Size.{entry_count, start_count}
 use Rattle.nomos_config.specs.Run.{IsQuiet}
 use Rattle.nomos_ledger.specs.Ledger.{LedgerState, empty_ledger}
 use Rattle.nomos_ledger.specs.Legal.{Leads, IsFirst, firings_in, max_firings}
-use Rattle.nomos_ledger.specs.Standing.{StandsFor, WorldStandsFor}
+use Rattle.nomos_ledger.specs.StandsFor.{StandsFor, WorldStandsFor}
 use Rattle.nomos_ledger.specs.World.{WorldState, start_of, pids_of}
 use Rattle.nomos_ledger.specs.declared.journal.End.{End}
 use Rattle.nomos_ledger.specs.declared.journal.End.TheVariants as end

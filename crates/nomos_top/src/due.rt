@@ -21,7 +21,7 @@ pub(crate) struct Due {
 
 /// What was done before memory ran out.
 #[derive(Drop)]
-pub(crate) struct Part {
+pub(crate) struct DoneSoFar {
     pub(crate) accepted: Option<Accepted>,
     pub(crate) journal: Journal,
 }
@@ -37,11 +37,11 @@ pub(crate) fn journal(entries: Entries) -> Journal
 }
 
 /// What was done before a script was run.
-pub(crate) fn bare_part(alloc: Global, accepted: Option<Accepted>) -> Part
+pub(crate) fn bare_part(alloc: Global, accepted: Option<Accepted>) -> DoneSoFar
     ensures accepted { result.accepted ≡ accepted }
     ensures journal { result.journal ≡ no_journal }
 {
-    Part {
+    DoneSoFar {
         accepted,
         journal: journal(Items::of_vec(Vec::new(alloc))),
     }
@@ -65,7 +65,7 @@ pub(crate) fn line_due(
     status: u8,
     line: &[u8],
     accepted: Option<Accepted>,
-) -> Result<Due, Part>
+) -> Result<Due, DoneSoFar>
     ensures ok { IfOk result (λ due. IsDueAs due status line.now accepted no_journal) }
     ensures err { IfErr result (λ part. IsPartAs part accepted no_journal) }
 {

@@ -3,7 +3,7 @@
 ghost use Rattle.std.specs.Prelude.{◌≡◌, ℕ, ◌+◌, ◌-◌, ◌<◌, ◌≤◌, ◌^◌, [], ◌∷◌, ◌++◌, IfOk, IfErr, Ok, OnOk, OnErr, length, if◌then◌else◌};
 ghost use Rattle.nomos_ledger.specs.Ending.{EndsAs};
 ghost use Rattle.nomos_ledger.specs.Legal.{batch_limit, max_firings};
-ghost use Rattle.nomos_ledger.specs.Standing.{StandsFor, WorldStandsFor};
+ghost use Rattle.nomos_ledger.specs.StandsFor.{StandsFor, WorldStandsFor};
 ghost use Rattle.nomos_ledger.specs.World.{committed, pids_of};
 ghost use Rattle.nomos_ledger.specs.Starting.{resolve_batch};
 ghost use Rattle.nomos_script.specs.Size.{IsScriptSize, start_count};

@@ -10,7 +10,7 @@ ghost use Rattle.nomos_top.specs.Report.{run_status, is_well};
 ghost use Rattle.nomos_top.specs.Runnable.{is_runnable};
 
 use crate::block::accepted_block;
-use crate::due::{Due, Part, bare_part, journal, line_due};
+use crate::due::{DoneSoFar, Due, bare_part, journal, line_due};
 use crate::report::push_number;
 use crate::running::{Running, STEPS, run_items};
 use crate::taken::line_not_taken;
@@ -72,7 +72,7 @@ pub(crate) fn script_due<S: Source>(
     alloc: Global,
     accepted: Accepted,
     script: &mut S,
-) -> Result<Due, Part>
+) -> Result<Due, DoneSoFar>
     requires runnable { is_runnable accepted.program ≡ true }
     requires each_star { HasEachStar accepted }
     ensures ok { IfOk result (λ due. IsDueOf accepted (S.left script.old)
@@ -92,7 +92,7 @@ pub(crate) fn script_due<S: Source>(
 }
 
 // The line of a script's refusal at a line, with status 2.
-fn refused_due(alloc: Global, accepted: Accepted, cause: &[u8], line: u32) -> Result<Due, Part>
+fn refused_due(alloc: Global, accepted: Accepted, cause: &[u8], line: u32) -> Result<Due, DoneSoFar>
     ensures ok { IfOk result (λ due.
         IsDueAs due 2 (cause.now ++ decimal line ++ codes "\n") (Some accepted) no_journal) }
     ensures err { IfErr result (λ part. IsPartAs part (Some accepted) no_journal) }
@@ -114,7 +114,7 @@ fn numbered(alloc: Global, cause: &[u8], line: u32) -> Result<Vec<u8>, AllocErro
 }
 
 // What is due for a script that reads.
-fn ran_due(alloc: Global, accepted: Accepted, script: &Script) -> Result<Due, Part>
+fn ran_due(alloc: Global, accepted: Accepted, script: &Script) -> Result<Due, DoneSoFar>
     requires each_star { HasEachStar accepted }
     ensures ok { IfOk result (λ due. HasRunAs accepted script.now
         due.status due.text.items due.accepted due.journal) }
@@ -122,7 +122,7 @@ fn ran_due(alloc: Global, accepted: Accepted, script: &Script) -> Result<Due, Pa
 {
     match run_items(alloc, &accepted, STEPS, script.items().as_slice()) {
         Ok(running) => report_due(alloc, accepted, running),
-        Err(entries) => Err(Part {
+        Err(entries) => Err(DoneSoFar {
             accepted: Some(accepted),
             journal: journal(entries),
         }),
@@ -130,7 +130,7 @@ fn ran_due(alloc: Global, accepted: Accepted, script: &Script) -> Result<Due, Pa
 }
 
 // The report of a run.
-fn report_due(alloc: Global, accepted: Accepted, running: Running) -> Result<Due, Part>
+fn report_due(alloc: Global, accepted: Accepted, running: Running) -> Result<Due, DoneSoFar>
     requires each_star { HasEachStar accepted }
     ensures ok { IfOk result (λ due. IsDueAs due (run_status running.entries.items)
         (accepted_block accepted ++ running.text.items) (Some accepted) (journal_of running.entries.items)) }
@@ -146,7 +146,7 @@ fn report_due(alloc: Global, accepted: Accepted, running: Running) -> Result<Due
             accepted: Some(accepted),
             journal,
         }),
-        Err(_) => Err(Part {
+        Err(_) => Err(DoneSoFar {
             accepted: Some(accepted),
             journal,
         }),

@@ -11,7 +11,7 @@ ghost use Rattle.nomos_top.specs.Refusal.{refusal, unsolved_line};
 ghost use Rattle.nomos_top.specs.Words.{task_of};
 
 use crate::block::accepted_block;
-use crate::due::{Due, Part, bare_part, line_due, text_due};
+use crate::due::{DoneSoFar, Due, bare_part, line_due, text_due};
 use crate::job::{self, Job};
 use crate::judging::{Unaccepted, judge, judge_least};
 use crate::least_block::least_block;
@@ -110,7 +110,7 @@ fn job_due<S: Source>(
     words: &[String],
     contract: &mut S,
     script: &mut S,
-) -> Result<Due, Part>
+) -> Result<Due, DoneSoFar>
     ensures ok { IfOk result (λ due. IsDueFor (map string_bytes words.now)
         (source_state (S.left contract.old) (S.faults contract.old) (S.faults contract.new))
         (source_state (S.left script.old) (S.faults script.old) (S.faults script.new))
@@ -134,7 +134,7 @@ fn work_due<S: Source>(
     job: Job,
     contract: &mut S,
     script: &mut S,
-) -> Result<Due, Part>
+) -> Result<Due, DoneSoFar>
     ensures ok { (words : List (List ℕ)) → Some (task job.entry) ≡ task_of words → IfOk result (λ due. IsDueFor words
         (source_state (S.left contract.old) (S.faults contract.old) (S.faults contract.new))
         (source_state (S.left script.old) (S.faults script.old) (S.faults script.new))
@@ -154,7 +154,7 @@ fn work_due<S: Source>(
 }
 
 // What is due for a check.
-fn check_due<S: Source>(alloc: Global, contract: &mut S) -> Result<Due, Part>
+fn check_due<S: Source>(alloc: Global, contract: &mut S) -> Result<Due, DoneSoFar>
     ensures ok { IfOk result (IsDueWhere IsCheck
         (source_state (S.left contract.old) (S.faults contract.old) (S.faults contract.new))) }
     ensures err { IfErr result (IsPartWhere IsCheck
@@ -167,7 +167,7 @@ fn check_due<S: Source>(alloc: Global, contract: &mut S) -> Result<Due, Part>
 }
 
 // What is due for a search for least bounds.
-fn least_due<S: Source>(alloc: Global, contract: &mut S) -> Result<Due, Part>
+fn least_due<S: Source>(alloc: Global, contract: &mut S) -> Result<Due, DoneSoFar>
     ensures ok { IfOk result (IsDueWhere IsLeast
         (source_state (S.left contract.old) (S.faults contract.old) (S.faults contract.new))) }
     ensures err { IfErr result (IsPartWhere IsLeast
@@ -180,7 +180,7 @@ fn least_due<S: Source>(alloc: Global, contract: &mut S) -> Result<Due, Part>
 }
 
 // What is due for a run.
-fn run_due<S: Source>(alloc: Global, contract: &mut S, script: &mut S) -> Result<Due, Part>
+fn run_due<S: Source>(alloc: Global, contract: &mut S, script: &mut S) -> Result<Due, DoneSoFar>
     ensures ok { (words : List (List ℕ)) → IsRun words → IfOk result (λ due. IsDueFor words
         (source_state (S.left contract.old) (S.faults contract.old) (S.faults contract.new))
         (source_state (S.left script.old) (S.faults script.old) (S.faults script.new))
@@ -198,7 +198,7 @@ fn run_due<S: Source>(alloc: Global, contract: &mut S, script: &mut S) -> Result
 }
 
 // What is due where a contract is not accepted.
-fn unaccepted_due(alloc: Global, unaccepted: Unaccepted) -> Result<Due, Part>
+fn unaccepted_due(alloc: Global, unaccepted: Unaccepted) -> Result<Due, DoneSoFar>
     ensures ok { IfOk result (IsDueOut unaccepted) }
     ensures err { IfErr result (λ part. IsPartAs part None no_journal) }
 {
@@ -211,7 +211,7 @@ fn unaccepted_due(alloc: Global, unaccepted: Unaccepted) -> Result<Due, Part>
 }
 
 // The lines of a refusal, with status 1.
-fn refusal_due(alloc: Global, why: &Why) -> Result<Due, Part>
+fn refusal_due(alloc: Global, why: &Why) -> Result<Due, DoneSoFar>
     ensures ok { IfOk result (λ due. IsDueAs due 1 (refusal why.now) None no_journal) }
     ensures err { IfErr result (λ part. IsPartAs part None no_journal) }
 {
@@ -222,7 +222,7 @@ fn refusal_due(alloc: Global, why: &Why) -> Result<Due, Part>
 }
 
 // The line of a run of the solver that stopped, with status 8.
-fn unsolved_due(alloc: Global, stop: Stop) -> Result<Due, Part>
+fn unsolved_due(alloc: Global, stop: Stop) -> Result<Due, DoneSoFar>
     ensures ok { IfOk result (λ due. IsDueAs due 8 (unsolved_line stop) None no_journal) }
     ensures err { IfErr result (λ part. IsPartAs part None no_journal) }
 {
@@ -233,7 +233,7 @@ fn unsolved_due(alloc: Global, stop: Stop) -> Result<Due, Part>
 }
 
 // The block of an accepted program, with status 0.
-fn accepted_due(alloc: Global, accepted: Accepted) -> Result<Due, Part>
+fn accepted_due(alloc: Global, accepted: Accepted) -> Result<Due, DoneSoFar>
     requires each_star { HasEachStar accepted }
     ensures ok { IfOk result (λ due. IsDueAs due 0 (accepted_block accepted) (Some accepted) no_journal) }
     ensures err { IfErr result (λ part. IsPartAs part None no_journal) }
@@ -245,7 +245,7 @@ fn accepted_due(alloc: Global, accepted: Accepted) -> Result<Due, Part>
 }
 
 // The lines of least bounds, with status 0.
-fn bounds_due(alloc: Global, bounds: LeastBounds) -> Result<Due, Part>
+fn bounds_due(alloc: Global, bounds: LeastBounds) -> Result<Due, DoneSoFar>
     requires each_star { HasEachStar bounds.accepted }
     ensures ok { IfOk result (λ due. IsDueAs due 0 (least_block bounds) (Some bounds.accepted) no_journal) }
     ensures err { IfErr result (λ part. IsPartAs part None no_journal) }
@@ -261,7 +261,7 @@ fn accepted_run_due<S: Source>(
     alloc: Global,
     accepted: Accepted,
     script: &mut S,
-) -> Result<Due, Part>
+) -> Result<Due, DoneSoFar>
     requires each_star { HasEachStar accepted }
     ensures ok { IfOk result (λ due. IsDueOf accepted (S.left script.old)
         (record { before = S.faults script.old; after = S.faults script.new })

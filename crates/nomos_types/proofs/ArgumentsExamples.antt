@@ -18,7 +18,7 @@ use Rattle.nomos_types.specs.Arguments.{PassesChannel, PassesChannels, PassesVal
 use Rattle.nomos_types.specs.Arguments as passes
 use Rattle.nomos_types.specs.Judgement.{Judgement, ListType}
 use Rattle.nomos_types.specs.Modes.{whole}
-use Rattle.nomos_types.specs.Row as row
+use Rattle.nomos_types.specs.TypingRule as row
 use Rattle.nomos_types.proofs.RowExampleProgram.{type_id, var_id, one_channel, two_references, two_channels, two_lists, tried, units, empty_handed, holding, referring, two_each, listing}
 use Rattle.nomos_types.proofs.RowExamples.{LineApplies, NoLineApplies, end-unfolds, seven, not-equal, ended-alike, shared-alike, no-channels}
 use Rattle.nomos_types.proofs.RowLaws.{row-inverted}

@@ -26,7 +26,7 @@ use Rattle.nomos_types.specs.Amount.{Annotations}
 use Rattle.nomos_types.specs.Derivation.{Derives, Follows}
 use Rattle.nomos_types.specs.Judgement.{Judgement, ListType, IsJudgement, SuitsMode, count_one, parts_with, with_potential}
 use Rattle.nomos_types.specs.Modes.{HasMode, IsLinearMode, may_hold}
-use Rattle.nomos_types.specs.Row.{Row, StandsAtCode}
+use Rattle.nomos_types.specs.TypingRule.{TypingRule, StandsAtCode}
 use Rattle.nomos_types.specs.Typed.{IsWellFormed}
 
 -- the judgements are alike but for their potential
@@ -161,7 +161,7 @@ module _ {lists : ProgramLists} {x : Annotations} (formed : IsWellFormed lists) 
 
   -- judgements that are alike but for their potential go on so
   pub next-aside : {j k : Judgement} {after later : List Judgement} → IsJudgement lists j → AlikeAside lists x j k
-      → Row lists x j after → Row lists x k later → AsideEach lists x after later
+      → TypingRule lists x j after → TypingRule lists x k later → AsideEach lists x after later
   next-aside {j} {k} {after} {later} is_judgement aside own other =
       let m = j.q + k.q in
       let covers_own : Covers lists x (with_potential j m) j =
@@ -176,7 +176,7 @@ module _ {lists : ProgramLists} {x : Annotations} (formed : IsWellFormed lists) 
 
   -- beside a judgement that follows from one with a derivation, a row leads beside those that follow
   pub follow-beside : {first at j k : Judgement} {after : List Judgement} → Derives lists x first
-      → Follows lists x first at → IsJudgement lists j → AlikeAside lists x j at → Row lists x j after
+      → Follows lists x first at → IsJudgement lists j → AlikeAside lists x j at → TypingRule lists x j after
       → Contains after k → (next : Judgement) × Follows lists x first next × AlikeAside lists x k next
   follow-beside {k = k} derivation follows is_judgement aside row among =
       let (own, own_row) = derives-row formed (derives-following formed derivation follows) in

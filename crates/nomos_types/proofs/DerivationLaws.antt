@@ -11,7 +11,7 @@ use Rattle.nomos_types.specs.Alike.{Alike}
 use Rattle.nomos_types.specs.Amount.{Annotations}
 use Rattle.nomos_types.specs.Derivation.{Derives, by_row, Follows}
 use Rattle.nomos_types.specs.Judgement.{Judgement, with_potential}
-use Rattle.nomos_types.specs.Row.{Row, StandsAtCode}
+use Rattle.nomos_types.specs.TypingRule.{TypingRule, StandsAtCode}
 use Rattle.nomos_types.specs.Typed.{IsWellFormed}
 
 module _ {lists : ProgramLists} {x : Annotations} where
@@ -68,7 +68,7 @@ module _ {lists : ProgramLists} {x : Annotations} where
 
   -- a judgement that has a derivation goes on by each row to judgements that have one
   pub derives-next : {j k : Judgement} {after : List Judgement} → IsWellFormed lists → Derives lists x j
-      → Row lists x j after → Contains after k → Derives lists x k
+      → TypingRule lists x j after → Contains after k → Derives lists x k
   derives-next {j} {k} {after} formed (by_row other q later alike enough row each) own among =
       let covers : Covers lists x j (with_potential other q) =
       record {

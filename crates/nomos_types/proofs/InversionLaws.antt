@@ -17,7 +17,7 @@ use Rattle.nomos_types.specs.Amount.{Annotations}
 use Rattle.nomos_types.specs.Derivation.{Derives, by_row}
 use Rattle.nomos_types.specs.Judgement.{Judgement, IsJudgement, with_potential}
 use Rattle.nomos_types.specs.Modes.{HasMode}
-use Rattle.nomos_types.specs.Row.{Row}
+use Rattle.nomos_types.specs.TypingRule.{TypingRule}
 use Rattle.nomos_types.specs.Typed.{IsWellFormed}
 
 -- judgements that are alike cover one another
@@ -36,7 +36,7 @@ alike-covers alike =
 
 -- a row leads to instructions with lower numbers
 pub row-descends : {lists : ProgramLists} {x : Annotations} {j k : Judgement} {after : List Judgement}
-    → IsWellFormed lists → Row lists x j after → Contains after k → place k < place j
+    → IsWellFormed lists → TypingRule lists x j after → Contains after k → place k < place j
 row-descends {lists} {x} {j} {k} {after} formed row among =
     let (n, there, says) = row-at row in
     let to : Contains (map place after) (place k) = contains-map place after k (place k) among refl in
@@ -68,7 +68,7 @@ module _ {lists : ProgramLists} {x : Annotations} {j : Judgement} (formed : IsWe
   -- what has a derivation begins with a row of its own, and what a row of its own begins has one
   pub derives-exact : {m : Mode} → IsJudgement lists j → HasMode lists j.offers m
       → Derives lists x j
-      ↔ ((after : List Judgement) × Row lists x j after × ((k : Judgement) → Contains after k → Derives lists x k))
+      ↔ ((after : List Judgement) × TypingRule lists x j after × ((k : Judgement) → Contains after k → Derives lists x k))
   derives-exact is_judgement its_mode = (
     λ derivation.
         let (after, row) = derives-row derivation in

@@ -24,7 +24,7 @@ use Rattle.nomos_types.specs.Derivation as derivation
 use Rattle.nomos_types.specs.Judgement.{Judgement, start_of, count_one, IsFree, IsJudgement, channel_type, ListType, at_code, goes_on, with_potential, binds_value, binds_list, binds_channel}
 use Rattle.nomos_types.specs.Premises.{by_side, HasType, ArmsGoOn, none, arm}
 use Rattle.nomos_types.specs.Modes.{HasMode, may_spawn, part_modes, carried_mode}
-use Rattle.nomos_types.specs.Row.{gives_up, Row, label, case, send, recv, put, take, pay, get, work, wait, accept, detach, acquire, release, spawn, «let», emit, choose, close, fwd, call, empty, add, match}
+use Rattle.nomos_types.specs.TypingRule.{gives_up, TypingRule, label, case, send, recv, put, take, pay, get, work, wait, accept, detach, acquire, release, spawn, «let», emit, choose, close, fwd, call, empty, add, match}
 use Rattle.nomos_types.specs.Typed.{IsWellFormed}
 use Rattle.nomos_types.proofs.AlikeLaws.{IsCarriedMode, carried-is_carried}
 use Rattle.nomos_types.proofs.ArgumentsLaws.{passes-channel_left, arguments-left, left-goes_on}
@@ -132,7 +132,7 @@ module _ {lists : ProgramLists} (formed : IsWellFormed lists) where
 
   -- each judgement with which a row goes on is one
   pub row-keeps_judgement : {x : Annotations} {j : Judgement} {after : List Judgement} → IsJudgement lists j
-      → Row lists x j after → All (IsJudgement lists) after
+      → TypingRule lists x j after → All (IsJudgement lists) after
   row-keeps_judgement {j = j} h (label {c = c} {l = l} {next = next} stands t says) =
       let bs = says.branches in
       let among = λ (m : Mode). branch-among m bs l t says.goes in

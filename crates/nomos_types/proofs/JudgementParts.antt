@@ -12,7 +12,7 @@ use Rattle.nomos_ir.specs.declared.lists.ProgramLists.{ProgramLists}
 use Rattle.nomos_ir.specs.declared.mode.Mode.{Mode}
 use Rattle.nomos_ir.specs.declared.mode.Mode.TheVariants as mode
 use Rattle.nomos_ir.specs.Bindings.{bound_to, bind, unbind, IsAscending}
-use Rattle.nomos_ir.proofs.BindingLaws.{bound-after_bind, bound-after_bind_other, bound-after_unbind, bound-after_unbind_other, bind-ascending, unbind-ascending, all-bound, all-after_bind, all-after_unbind}
+use Rattle.nomos_ir.proofs.BindingLaws.{bound-after_bind, bound-after_bind_other, bound-after_unbind, bound-after_unbind_other, bind-ascending, unbind-ascending, all-bound, all-after_bind, all-after_unbind, by-variable}
 use Rattle.nomos_types.specs.Judgement.{Judgement, ListType, count_one, parts_with, IsFree, IsJudgement, SuitsMode, channel_type, goes_on, binds_value, binds_list, binds_channel}
 use Rattle.nomos_types.specs.Modes.{HasMode, IsLinearMode, may_hold}
 
@@ -40,11 +40,6 @@ count-unbind {X = X} w v b ascending =
           omega (arith, ap (λ (o : Option X). count_one o) none)
       | inr other ↦ omega (arith, ap (λ (o : Option X). count_one o) (bound-after_unbind_other w v b other))
     ]
-
--- what holds at one variable and at all other ones holds
-by-variable : (P : ℕ → Type 0) (v : ℕ) → P v → ((w : ℕ) → w ≢ v → P w) → (w : ℕ) → P w
-by-variable P v here others w =
-    elim (cases_eq w v) [ inl same ↦ subst P (sym same) here | inr other ↦ others w other ]
 
 -- ---- modes of channels
 

@@ -34,8 +34,8 @@ use Rattle.nomos_types.specs.Amount.{dths}
 use Rattle.nomos_ir.specs.declared.amount.Amount.TheVariants.{Written}
 use Rattle.nomos_ir.specs.TypeParts.{type_parts}
 use Rattle.std.proofs.lemmas.List.Elements.{All-cons, All-nil}
-use Rattle.nomos_types.specs.Row.{Row}
-use Rattle.nomos_types.specs.Row as row
+use Rattle.nomos_types.specs.TypingRule.{TypingRule}
+use Rattle.nomos_types.specs.TypingRule as row
 use Rattle.nomos_types.proofs.EqualityLaws.{equal-from_unfolded, equal-unfolded}
 use Rattle.nomos_types.proofs.RowExampleProgram.{type_id, var_id, label_id, plus_branches, tried, units, empty_handed, holding, referring, knowing}
 use Rattle.nomos_types.proofs.ModeLaws.{part-number, node_parts}
@@ -44,10 +44,10 @@ use Rattle.nomos_types.proofs.RowLaws.{row-inverted}
 
 -- a line applies to the judgement; no line does
 abbrev pub LineApplies : Judgement → Type 0
-LineApplies j = (after : List Judgement) × Row tried units j after
+LineApplies j = (after : List Judgement) × TypingRule tried units j after
 
 abbrev pub NoLineApplies : Judgement → Type 0
-NoLineApplies j = (after : List Judgement) → ¬ (Row tried units j after)
+NoLineApplies j = (after : List Judgement) → ¬ (TypingRule tried units j after)
 
 -- ---- types and terms
 

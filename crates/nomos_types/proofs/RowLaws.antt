@@ -15,7 +15,7 @@ use Rattle.nomos_ir.specs.TermKind.{HasKind, bool_kind}
 use Rattle.nomos_types.specs.Amount.{Annotations, dths}
 use Rattle.nomos_types.specs.Judgement.{Judgement, ListType, IsFree, at_code, goes_on, with_potential, binds_value, binds_list, binds_channel}
 use Rattle.nomos_types.specs.Premises.{HasType, SendsLabel, AwaitsLabel, SendsChannel, ReceivesChannel, SendsValue, ReceivesValue, Pays, Gets, Accepts, Detaches, Acquires, Releases, Spawns, Closes, Forwards, Calls, Adds, TakesApart}
-use Rattle.nomos_types.specs.Row.{StandsAtCode, gives_up, Row, label, case, send, recv, put, take, pay, get, work, wait, accept, detach, acquire, release, spawn, «let», emit, choose, close, fwd, call, empty, add, match}
+use Rattle.nomos_types.specs.TypingRule.{StandsAtCode, gives_up, TypingRule, label, case, send, recv, put, take, pay, get, work, wait, accept, detach, acquire, release, spawn, «let», emit, choose, close, fwd, call, empty, add, match}
 
 -- what a row says where this node stands
 abbrev pub RowAt : ProgramLists → Annotations → Judgement → CodeNode → List Judgement → Type 0
@@ -73,7 +73,7 @@ RowAt lists x j (code.Match at w empty_next head tail full_next) after =
     head list.kind) (j.q + list.amount) ∷ [])
 
 -- a row says that of the node that stands there
-pub row-at : {lists : ProgramLists} {x : Annotations} {j : Judgement} {after : List Judgement} → Row lists x j after
+pub row-at : {lists : ProgramLists} {x : Annotations} {j : Judgement} {after : List Judgement} → TypingRule lists x j after
     → (n : CodeNode) × StandsAtCode lists j n × RowAt lists x j n after
 row-at (label stands t h) = (_, stands, (t, h, refl))
 row-at (case stands after h) = (_, stands, h)
@@ -102,7 +102,7 @@ row-at (match stands list h) = (_, stands, (list, h, refl))
 
 -- the node that stands there fixes the line and its parts
 pub row-inverted : {lists : ProgramLists} {x : Annotations} {j : Judgement} {after : List Judgement} → (n : CodeNode)
-    → StandsAtCode lists j n → Row lists x j after → RowAt lists x j n after
+    → StandsAtCode lists j n → TypingRule lists x j after → RowAt lists x j n after
 row-inverted {lists} {x} {j} {after} n stands row =
     let (m, there, says) = row-at row in
     let same : m ≡ n = cc in

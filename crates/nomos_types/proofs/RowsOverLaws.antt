@@ -22,7 +22,7 @@ use Rattle.nomos_types.specs.Amount.{Annotations}
 use Rattle.nomos_types.specs.Branches.{goes_by}
 use Rattle.nomos_types.specs.Judgement.{Judgement}
 use Rattle.nomos_types.specs.Modes.{HasMode, may_spawn}
-use Rattle.nomos_types.specs.Row.{StandsAtCode, Row, label, case, send, recv, put, take, pay, get, work, wait, accept, detach, acquire, release, spawn, «let», emit, choose, close, fwd, call, empty, add, match}
+use Rattle.nomos_types.specs.TypingRule.{StandsAtCode, TypingRule, label, case, send, recv, put, take, pay, get, work, wait, accept, detach, acquire, release, spawn, «let», emit, choose, close, fwd, call, empty, add, match}
 use Rattle.nomos_types.specs.Typed.{IsWellFormed}
 use Rattle.nomos_types.proofs.HeadsOverLaws.{both-over, both-under, sent-choice, awaited-choice, sent-channel, received-channel, sent-of_kind, received-of_kind, paid-amount, got-amount, closed-node, shared-node, ended-node}
 use Rattle.nomos_types.proofs.PremisesOverLaws.{type-as, reference-over, unfolds-over, node-over, free-over, kind-over, list-over, none-over, modes-over, passing-over, arguments-over, arms-over}
@@ -34,7 +34,7 @@ held same (inr is) = inr (same ∙ is)
 
 -- a row applies to the judgement
 abbrev pub HasRow : ProgramLists → Annotations → Judgement → Type 0
-HasRow lists x j = (after : List Judgement) × Row lists x j after
+HasRow lists x j = (after : List Judgement) × TypingRule lists x j after
 
 module _ {lists : ProgramLists} {x : Annotations} (formed : IsWellFormed lists) where
   -- the one channel that is held
@@ -259,7 +259,7 @@ module _ {lists : ProgramLists} {x : Annotations} (formed : IsWellFormed lists) 
   )
 
   -- where a row applies to a judgement, one applies to each that covers it
-  pub row-covers : {j k : Judgement} {after : List Judgement} → Covers lists x j k → Row lists x k after
+  pub row-covers : {j k : Judgement} {after : List Judgement} → Covers lists x j k → TypingRule lists x k after
       → HasRow lists x j
   row-covers {j} {k} covers row =
       let (n, there, says) = row-at row in

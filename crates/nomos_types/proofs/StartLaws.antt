@@ -13,7 +13,7 @@ use Rattle.nomos_ir.specs.declared.kind.Kind.{Kind}
 use Rattle.nomos_ir.specs.declared.lists.ProgramLists.{ProgramLists}
 use Rattle.nomos_ir.specs.declared.mode.Mode.{Mode}
 use Rattle.nomos_ir.specs.declared.mode.Mode.TheVariants as mode
-use Rattle.nomos_ir.specs.Bindings.{bound_to, bindings_of}
+use Rattle.nomos_ir.specs.Bindings.{bound_to, bindings_of, variables_of}
 use Rattle.nomos_ir.specs.Naming.{AllDiffer}
 use Rattle.nomos_ir.specs.Nodes.{type_node}
 use Rattle.nomos_ir.specs.Order.{count_of}
@@ -29,10 +29,6 @@ use Rattle.nomos_types.proofs.ModeLaws.{parameter-has_mode, offered-has_mode}
 use Rattle.nomos_types.proofs.OccurrenceLaws.{one_at, count-here, count-elsewhere, count-append, differ-once}
 
 -- ---- the variables of pairs
-
--- the variables of pairs, in their order
-abbrev variables_of : {X : Type 0} → List (VarId × X) → List ℕ
-variables_of ps = map (λ e. e.0.0) ps
 
 -- a variable that is bound occurs, where the test of the first one is known
 bound-once_at : {X : Type 0} (v : ℕ) (e : VarId × X) (ps : List (VarId × X)) (t : Bool) → (e.0.0 == v) ≡ t

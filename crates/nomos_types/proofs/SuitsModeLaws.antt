@@ -25,7 +25,7 @@ use Rattle.nomos_types.specs.Derivation as derivation
 use Rattle.nomos_types.specs.Judgement.{Judgement, start_of, IsJudgement, SuitsMode, at_code, goes_on, with_potential, binds_value, binds_channel}
 use Rattle.nomos_types.specs.Modes.{HasMode, IsLinearMode, may_hold, may_spawn, part_modes}
 use Rattle.nomos_types.specs.Premises.{by_side, HasType, ArmsGoOn, none, arm}
-use Rattle.nomos_types.specs.Row.{gives_up, without_list, takes_parts, Row, label, case, send, recv, put, take, pay, get, work, wait, accept, detach, acquire, release, spawn, «let», emit, choose, close, fwd, call, empty, add, match}
+use Rattle.nomos_types.specs.TypingRule.{gives_up, without_list, takes_parts, TypingRule, label, case, send, recv, put, take, pay, get, work, wait, accept, detach, acquire, release, spawn, «let», emit, choose, close, fwd, call, empty, add, match}
 use Rattle.nomos_types.specs.Typed.{IsWellFormed}
 
 -- ---- modes
@@ -88,7 +88,7 @@ module _ {lists : ProgramLists} (formed : IsWellFormed lists) where
 
   -- each judgement with which a row goes on suits its mode
   pub row-keeps_mode : {x : Annotations} {j : Judgement} {after : List Judgement} → IsJudgement lists j
-      → SuitsMode lists j → Row lists x j after → All (SuitsMode lists) after
+      → SuitsMode lists j → TypingRule lists x j after → All (SuitsMode lists) after
   row-keeps_mode {j = j} h s (label {c = c} {l = l} {next = next} stands t says) =
       let bs = says.branches in
       let among = λ (m : Mode). branch-among m bs l t says.goes in

@@ -33,7 +33,7 @@ use Rattle.nomos_types.specs.Branches.{goes_by}
 use Rattle.nomos_types.specs.Judgement.{Judgement, ListType, at_code, goes_on, with_potential, binds_value, binds_list, binds_channel}
 use Rattle.nomos_types.specs.Premises.{HasType, by_side, ArmsGoOn, Spawns}
 use Rattle.nomos_types.specs.Modes.{HasMode}
-use Rattle.nomos_types.specs.Row.{Row, gives_up}
+use Rattle.nomos_types.specs.TypingRule.{TypingRule, gives_up}
 
 -- a channel's type unfolds to one node
 head-same : (lists : ProgramLists) (j : Judgement) (c : Chan) (p q : TypeNode) → HasType lists j c p
@@ -247,7 +247,7 @@ module _ {lists : ProgramLists} (x : Annotations) (is_program : IsProgram lists)
       ∙ sym f
 
   -- two rows at a judgement lead to the same judgements
-  pub row-unique : {j : Judgement} {after later : List Judgement} → Row lists x j after → Row lists x j later
+  pub row-unique : {j : Judgement} {after later : List Judgement} → TypingRule lists x j after → TypingRule lists x j later
       → after ≡ later
   row-unique {j} left right =
       let (n, there, says) = row-at left in

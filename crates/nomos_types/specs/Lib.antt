@@ -11,8 +11,8 @@ pub mod ModeTable
 pub mod Modes
 pub mod Places
 pub mod Premises
-pub mod Row
 pub mod Synchronizing
 pub mod Typed
+pub mod TypingRule
 pub mod Unfolding
 pub mod mirror

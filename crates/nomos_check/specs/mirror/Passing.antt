@@ -10,7 +10,7 @@ use Rattle.nomos_ir.specs.declared.ids.TypeId.{TypeId}
 use Rattle.nomos_ir.specs.declared.ids.VarId.{VarId}
 use Rattle.nomos_ir.specs.declared.kind.Kind.{Kind}
 use Rattle.nomos_ir.specs.declared.lists.ProgramLists.{ProgramLists}
-use Rattle.nomos_ir.specs.Bindings.{bound_to, unbind}
+use Rattle.nomos_ir.specs.Bindings.{bound_to, unbind, each_bound}
 use Rattle.nomos_equality.specs.Paths.{StandAtEqualPaths}
 use Rattle.nomos_types.specs.Alike.{AlikeTypes}
 use Rattle.nomos_types.specs.Arguments.{PassesChannel, PassesChannels, PassesValue, PassesValues, ArgumentsFit}
@@ -22,7 +22,7 @@ use Rattle.nomos_check.specs.declared.asked.Asked.{Asked}
 use Rattle.nomos_check.specs.declared.standing.Carried.{Carried}
 use Rattle.nomos_check.specs.declared.standing.Standing.{Standing}
 use Rattle.nomos_check.specs.mirror.StepMoves.{KeepsAmounts}
-use Rattle.nomos_check.specs.mirror.StandingData.{shape_of, amount_of, each_bound, Joins}
+use Rattle.nomos_check.specs.mirror.StandingData.{shape_of, amount_of, Joins}
 
 -- the types are alike, and the pairs at their equal paths join; or they are not
 abbrev pub TellsAlike : ProgramLists → TypeId → TypeId → Asked → Asked → Bool → Type 0

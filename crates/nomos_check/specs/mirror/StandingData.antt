@@ -5,12 +5,12 @@ use Rattle.nomos_ir.specs.declared.code_node.CodeNode.{CodeNode}
 use Rattle.nomos_ir.specs.declared.ids.VarId.{VarId}
 use Rattle.nomos_ir.specs.declared.lists.ProgramLists.{ProgramLists}
 use Rattle.nomos_ir.specs.Amounts.{star_count}
-use Rattle.nomos_ir.specs.Bindings.{bound_to, bind, unbind}
+use Rattle.nomos_ir.specs.Bindings.{bound_to, bind, unbind, each_bound}
 use Rattle.nomos_forms.specs.Bounds.{IsForm}
 use Rattle.nomos_types.specs.Equality.{no_amounts}
 use Rattle.nomos_types.specs.Judgement.{Judgement, ListType, IsJudgement, SuitsMode, at_code, goes_on, with_potential}
 use Rattle.nomos_types.specs.ModeTable.{AreModesOf}
-use Rattle.nomos_types.specs.Row.{Row, StandsAtCode, without_list, takes_parts}
+use Rattle.nomos_types.specs.TypingRule.{TypingRule, StandsAtCode, without_list, takes_parts}
 use Rattle.nomos_equality.specs.Comparing.{HasCompared}
 use Rattle.nomos_check.specs.Account.{Account, gains, with_lists, form_of}
 use Rattle.nomos_check.specs.Accounting.{accounts_after}
@@ -23,10 +23,6 @@ use Rattle.nomos_check.specs.declared.standing.Step.TheVariants as step
 use Rattle.nomos_check.specs.declared.standing.Way.{Way}
 use Rattle.nomos_check.specs.declared.standing.Way.TheVariants as way
 use Rattle.nomos_check.specs.mirror.FormLimits.{IsAmountOf}
-
--- what is bound, each changed in the same way
-abbrev pub each_bound : {X Y : Type 0} → (X → Y) → List (VarId × X) → List (VarId × Y)
-each_bound f pairs = map (λ e. (e.0, f e.1)) pairs
 
 -- a list whose amount is ignored
 abbrev pub shape_of_list : Carried → ListType
@@ -88,19 +84,19 @@ IsWayOf s _ = Unit {0}
 
 -- no rule applies to the judgement
 abbrev pub NoRow : ProgramLists → Judgement → Type 0
-NoRow lists j = (after : List Judgement) → ¬ (Row lists no_amounts j after)
+NoRow lists j = (after : List Judgement) → ¬ (TypingRule lists no_amounts j after)
 
 -- The instruction leads from one standing to the next: its rule goes on with the one judgement, and each account
 -- that the first has goes on as an account that the next has.
 pub record LeadsTo (lists : ProgramLists) (s next : Standing) : Type 0 where
-  pub row : Row lists no_amounts (shape_of s) (shape_of next ∷ [])
+  pub row : TypingRule lists no_amounts (shape_of s) (shape_of next ∷ [])
   pub account : (n : CodeNode) (a : Account) → StandsAtCode lists (shape_of s) n → HasAccount (star_count lists) s a
       → (b : Account) × (accounts_after lists n a ≡ b ∷ []) × HasAccount (star_count lists) next b
 
 -- The instruction leads on these ways: its rule goes on with their judgements, and each account that the standing
 -- has goes on as their accounts.
 pub record LeadsAlong (lists : ProgramLists) (s : Standing) (ways : List Way) : Type 0 where
-  pub row : Row lists no_amounts (shape_of s) (map (way_shape (shape_of s)) ways)
+  pub row : TypingRule lists no_amounts (shape_of s) (map (way_shape (shape_of s)) ways)
   pub account : (n : CodeNode) (a : Account) → StandsAtCode lists (shape_of s) n → HasAccount (star_count lists) s a
       → accounts_after lists n a ≡ map (way_account a) ways
   pub there : All (IsWayOf s) ways
@@ -108,7 +104,7 @@ pub record LeadsAlong (lists : ProgramLists) (s : Standing) (ways : List Way) : 
 -- what a step tells from the standing before it to the one after it
 abbrev pub StepTells : ProgramLists → Standing → Standing → Step → Type 0
 StepTells lists s next step.Stuck = NoRow lists (shape_of s)
-StepTells lists s next step.Done = Row lists no_amounts (shape_of s) []
+StepTells lists s next step.Done = TypingRule lists no_amounts (shape_of s) []
 StepTells lists s next step.Next = LeadsTo lists s next
 StepTells lists s next (step.Branches ways) = LeadsAlong lists s ways.items × (next ≡ s)
 

@@ -8,7 +8,7 @@ use Rattle.nomos_ir.specs.CodeParts.{code_next}
 use Rattle.nomos_forms.specs.declared.form.Form.{Form}
 use Rattle.nomos_types.specs.Equality.{no_amounts}
 use Rattle.nomos_types.specs.Judgement.{Judgement}
-use Rattle.nomos_types.specs.Row.{Row, StandsAtCode}
+use Rattle.nomos_types.specs.TypingRule.{TypingRule, StandsAtCode}
 use Rattle.nomos_check.specs.Account.{Account, form_of}
 use Rattle.nomos_check.specs.Asking.{AsksPair, IsAsked}
 use Rattle.nomos_ir.specs.Instruction.{code_offset, code_form}
@@ -43,7 +43,7 @@ IsStuckBy None at = ⊥
 pub record IsDone (lists : ProgramLists) (n : ℕ) (w : Walk) (j : Judgement) (a : Account) : Type 0 where
   pub forms : (f : Form) → IsFormAt lists n j a f → Contains w.forms.items f
   pub pairs : w.stuck ≡ None → (pair : Amount × Amount) → AsksPair lists j a pair → HasPair w.asked pair
-  pub row : w.stuck ≡ None → (after : List Judgement) × Row lists no_amounts j after
+  pub row : w.stuck ≡ None → (after : List Judgement) × TypingRule lists no_amounts j after
   pub stuck : NoRow lists j → (n : CodeNode) → StandsAtCode lists j n → IsStuckBy w.stuck (code_offset n)
 
 -- nothing of what was gathered is lost; pairs count only where nothing is stuck
@@ -75,7 +75,7 @@ pub record Gathers (lists : ProgramLists) (n : ℕ) (o : Outset) (old new : Walk
 
 -- some rule applies
 abbrev pub HasRow : ProgramLists → Judgement → Type 0
-HasRow lists j = (after : List Judgement) × Row lists no_amounts j after
+HasRow lists j = (after : List Judgement) × TypingRule lists no_amounts j after
 
 -- the instruction of the standing is stuck, and counts from now on
 pub record IsFirstStop (lists : ProgramLists) (s : Standing) (old new : Option Stuck) : Type 0 where

@@ -30,7 +30,7 @@ use Rattle.nomos_grammar.specs.declared.part.Mark.{Mark}
 use Rattle.nomos_grammar.specs.declared.part.Part.{Part}
 use Rattle.nomos_grammar.specs.declared.part.Part.TheVariants as part
 use Rattle.nomos_grammar.specs.Counting.{Counts, depth, counts, counts_from}
-use Rattle.nomos_grammar.specs.Deriving.{Event, mark, tokens_in, Derives, file}
+use Rattle.nomos_grammar.specs.Producing.{Event, mark, tokens_in, Produces, file}
 use Rattle.nomos_grammar.specs.Offence.{star_limit, IsSmall, Rule, rules, Keeps, KeepsAll, error_of}
 use Rattle.nomos_grammar.specs.mirror.Table.{same}
 use Rattle.nomos_grammar.specs.mirror.Stacks.{next_in, distance, IsStack, IsLow}
@@ -56,10 +56,10 @@ pub record IsReady (parts : List Part) (c : Counts) : Type 0 where
 pub record Leads (next : Option Terminal) (parts : List Part) (c : Counts) (marks : List Mark)
     (rest : List Part) (d : Counts) : Type 0 where
   pub counted : d ≡ counts_from c (events_of marks)
-  pub sound : (events : List Event) → Derives rest events → Derives parts (events_of marks ++ events)
+  pub sound : (events : List Event) → Produces rest events → Produces parts (events_of marks ++ events)
   pub complete :
-      (events : List Event) → next_in events ≡ next → Derives parts events →
-      (more : List Event) × (events ≡ events_of marks ++ more) × Derives rest more
+      (events : List Event) → next_in events ≡ next → Produces parts events →
+      (more : List Event) × (events ≡ events_of marks ++ more) × Produces rest more
   pub ready : IsReady rest d
 
 -- the parts with the terminal that was taken from them
@@ -79,10 +79,10 @@ pub record HasRead (front : List Placed) (parts : List Part) (c : Counts) : Type
   pub events : List Event
   pub tokens : tokens_in events ≡ front
   pub counted : counts events ≡ c
-  pub sound : (more : List Event) → Derives parts more → Derives file (events ++ more)
+  pub sound : (more : List Event) → Produces parts more → Produces file (events ++ more)
   pub complete :
-      (all : List Event) (others : List Placed) → Derives file all → tokens_in all ≡ front ++ others →
-      (more : List Event) × (all ≡ events ++ more) × Derives parts more
+      (all : List Event) (others : List Placed) → Produces file all → tokens_in all ≡ front ++ others →
+      (more : List Event) × (all ≡ events ++ more) × Produces parts more
 
 -- a number consists of digits
 abbrev pub IsWritten : Lexeme → Type 0

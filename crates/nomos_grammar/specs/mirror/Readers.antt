@@ -5,7 +5,7 @@ use Rattle.nomos_grammar.specs.declared.offence.GrammarError.{GrammarError}
 use Rattle.nomos_grammar.specs.declared.offence.GrammarError.TheVariants.{Syntax, Limit, NoMemory}
 use Rattle.nomos_grammar.specs.declared.reader.Reader.{Reader}
 use Rattle.nomos_grammar.specs.declared.sight.Sight.{Sight}
-use Rattle.nomos_grammar.specs.Deriving.{IsFile}
+use Rattle.nomos_grammar.specs.Producing.{IsFile}
 use Rattle.nomos_grammar.specs.Offence.{last_offset, rules, KeepsAll}
 use Rattle.nomos_grammar.specs.mirror.ReaderStates.{IsReady, HasRead, BreaksBy}
 use Rattle.nomos_grammar.specs.mirror.Sights.{IsSeen}

@@ -2,7 +2,7 @@
 use Rattle.std.specs.Prelude.{◌≡◌}
 use Rattle.nomos_syntax.specs.Lexeme.{Placed}
 use Rattle.nomos_grammar.specs.declared.sight.Sight.{Sight}
-use Rattle.nomos_grammar.specs.Deriving.{terminal_of}
+use Rattle.nomos_grammar.specs.Producing.{terminal_of}
 use Rattle.nomos_grammar.specs.mirror.ReaderStates.{PassesItself}
 
 -- this is seen of the token

@@ -31,7 +31,7 @@ use Rattle.nomos_grammar.specs.declared.part.Mark.{Mark}
 use Rattle.nomos_grammar.specs.declared.part.Mark.TheVariants as mark
 use Rattle.nomos_grammar.specs.declared.part.Part.{Part}
 use Rattle.nomos_grammar.specs.declared.part.Part.TheVariants as part
-use Rattle.nomos_grammar.specs.Deriving.{terminal_of, Event, token, mark as marked, IsAmong}
+use Rattle.nomos_grammar.specs.Producing.{terminal_of, Event, token, mark as marked, IsAmong}
 use Rattle.nomos_grammar.specs.Grammar.{alternatives}
 use Rattle.nomos_grammar.specs.mirror.Table.{vanishes, fitting, starts_within}
 

@@ -66,20 +66,20 @@ abbrev mutual
   one_starts_within (suc k) (side ∷ sides) = starts_within k side ++ one_starts_within k sides
 
 -- an alternative, and the tokens that choose it
-pub record Row : Type 0 where
+pub record TableRow : Type 0 where
   pub begins : List Terminal
   pub side : List Part
 
-abbrev pub row_of : Alternative → Row
+abbrev pub row_of : Alternative → TableRow
 row_of a = record { begins = a.begins.now; side = a.side.now }
 
 -- each alternative but the last is chosen by the tokens with which it may begin
-abbrev pub rows_of : List (List Part) → List Row
+abbrev pub rows_of : List (List Part) → List TableRow
 rows_of [] = []
 rows_of (side ∷ []) = record { begins = []; side = side } ∷ []
 rows_of (side ∷ other ∷ sides) = record { begins = starts_within 60 side; side = side } ∷ rows_of (other ∷ sides)
 
-abbrev pub rows : Nonterminal → List Row
+abbrev pub rows : Nonterminal → List TableRow
 rows n = rows_of (alternatives n)
 
 -- whether what comes next chooses the alternative
@@ -88,7 +88,7 @@ takes [] next = true
 takes (x ∷ begins) None = false
 takes (x ∷ begins) (Some t) = is_in t (x ∷ begins)
 
-abbrev pub pick : List Row → Option Terminal → List Part
+abbrev pub pick : List TableRow → Option Terminal → List Part
 pick [] next = []
 pick (r ∷ more) next = if takes r.begins next then r.side else pick more next
 

@@ -8,7 +8,7 @@ use Rattle.nomos_ir.specs.Nodes.{type_node}
 use Rattle.nomos_equality.specs.Comparing.{Compared}
 use Rattle.nomos_equality.specs.declared.hop.Hop.{Hop}
 use Rattle.nomos_sync.specs.Continuing.{StandAtDown}
-use Rattle.nomos_sync.specs.SyncAnswer.{OffendsAt}
+use Rattle.nomos_sync.specs.SyncAnswer.{StraysAt}
 use Rattle.nomos_types.specs.Equality.{no_amounts}
 use Rattle.nomos_types.specs.Forming.{StandsAtOffset}
 use Rattle.nomos_types.specs.Synchronizing.{IsSynchronizingAt}
@@ -25,7 +25,7 @@ pub record GoesAstray (lists : ProgramLists) (t : ℕ) (at : ℕ) (path : List H
   pub body : TypeId
   pub is_up : type_node lists t ≡ Some (node.Up body)
   pub offset : StandsAtOffset lists (record { 0 = t }) at
-  pub offends : OffendsAt lists body (record { 0 = t }) path
+  pub offends : StraysAt lists body (record { 0 = t }) path
 
 -- the node leads back where amounts are ignored, if it is an `up`
 abbrev pub GoesBack : ProgramLists → ℕ → Type 0

@@ -5,7 +5,7 @@ use Rattle.nomos_forms.specs.declared.form.Form.{Form}
 use Rattle.nomos_forms.specs.declared.row_list.RowList.{RowList}
 use Rattle.nomos_simplex.specs.Exchange.{coef_at}
 use Rattle.nomos_simplex.specs.Exits.{fractions, found_or_large}
-use Rattle.nomos_simplex.specs.LeastRun.{Reaches, Lowers, LeastRun}
+use Rattle.nomos_simplex.specs.LeastRun.{PivotsTo, Lowers, LeastRun}
 use Rattle.nomos_simplex.specs.Lowest.{leaving}
 use Rattle.nomos_simplex.specs.Nearest.{line_at}
 use Rattle.nomos_simplex.specs.PivotRun.{answer_to}
@@ -44,7 +44,7 @@ pub record MayLeave (table : Table) (column place : ℕ) : Type 0 where
 
 -- no basic variable is below its bound, and this is the answer of the pivot run
 pub record StandsAt (rows : RowList) (table : Table) (pivots : ℕ) : Type 0 where
-  pub reaches : Reaches rows pivots table
+  pub reaches : PivotsTo rows pivots table
   pub none_below : leaving rows table ≡ None
   pub answer : found_or_large pivots (fractions rows table) ≡ answer_to rows
   pub most : pivots ≤ 2000

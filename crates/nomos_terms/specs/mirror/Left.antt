@@ -10,8 +10,8 @@ use Rattle.nomos_ir.specs.declared.lists.ProgramLists.{ProgramLists}
 use Rattle.nomos_ir.specs.TermKind.{VariableKinds, HasKind, list_kind, with_parts}
 use Rattle.nomos_ir.specs.TermParts.{term_parts}
 use Rattle.nomos_terms.specs.declared.search.Search.{Search}
-use Rattle.nomos_terms.specs.declared.stop.Stop.{Stop}
-use Rattle.nomos_terms.specs.declared.stop.Stop.TheVariants as stop
+use Rattle.nomos_terms.specs.declared.stop.KindStop.{KindStop}
+use Rattle.nomos_terms.specs.declared.stop.KindStop.TheVariants as stop
 use Rattle.nomos_terms.specs.declared.search.Task.{Task}
 use Rattle.nomos_terms.specs.declared.search.Task.TheVariants as task
 
@@ -91,7 +91,7 @@ IsCalled lists f count (Some d) = (slice_get lists.fns f.0 ≡ Some d) × (count
 IsCalled lists f count None = (d : FnDecl) → slice_get lists.fns f.0 ≡ Some d → count ≡ length d.pars → ⊥
 
 -- the kind that was found, or that there is none
-abbrev pub IsKind : ProgramLists → VariableKinds → TermId → Result Kind Stop → Type 0
+abbrev pub IsKind : ProgramLists → VariableKinds → TermId → Result Kind KindStop → Type 0
 IsKind lists vars t (Ok kind) = HasKind lists vars t kind
 IsKind lists vars t (Err stop.NoKind) = (kind : Kind) → ¬ HasKind lists vars t kind
 IsKind lists vars t (Err stop.NoMemory) = Unit {0}

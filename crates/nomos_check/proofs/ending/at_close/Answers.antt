@@ -1,4 +1,4 @@
-use Rattle.nomos_types.specs.Row as row
+use Rattle.nomos_types.specs.TypingRule as row
 use Rattle.nomos_check.proofs.LeadLemmas.{not-true}
 use Rattle.nomos_check.proofs.StepRows.{close-stuck}
 use Rattle.nomos_check.proofs.ending.at_close.Goals as goal

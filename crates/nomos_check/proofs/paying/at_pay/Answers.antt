@@ -2,10 +2,11 @@ use Rattle.std.proofs.Common.{◌≡◌, ◌∙◌, refl, ap, arith}
 use Rattle.nomos_ir.specs.declared.amount.Amount.{Amount}
 use Rattle.nomos_ir.specs.declared.code_node.CodeNode.TheVariants as code
 use Rattle.nomos_ir.specs.Amounts.{star_count}
+use Rattle.nomos_ir.specs.Bindings.{each_bound}
 use Rattle.nomos_types.specs.Judgement.{goes_on}
 use Rattle.nomos_check.specs.Account.{spends}
 use Rattle.nomos_check.specs.Asking.{AsksPair}
-use Rattle.nomos_check.specs.mirror.StandingData.{shape_of, amount_of, each_bound}
+use Rattle.nomos_check.specs.mirror.StandingData.{shape_of, amount_of}
 use Rattle.nomos_check.proofs.LeadLemmas.{leads-with}
 use Rattle.nomos_check.proofs.LimitLemmas.{room-at, code-amount}
 use Rattle.nomos_check.proofs.PairLemmas.{joins-same, pay-asks}

@@ -1,7 +1,7 @@
 use Rattle.std.proofs.Common.{refl}
 use Rattle.nomos_ir.specs.declared.code_node.CodeNode.TheVariants as code
 use Rattle.nomos_ir.specs.declared.mode.Mode.TheVariants as mode
-use Rattle.nomos_types.specs.Row as row
+use Rattle.nomos_types.specs.TypingRule as row
 use Rattle.nomos_check.specs.mirror.StandingData.{shape_of}
 use Rattle.nomos_check.proofs.LeadLemmas.{leads-on, not-true}
 use Rattle.nomos_check.proofs.StepRows.{accept-stuck}

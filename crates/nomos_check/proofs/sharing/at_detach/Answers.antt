@@ -4,7 +4,7 @@ use Rattle.nomos_ir.specs.declared.ids.VarId.{VarId}
 use Rattle.nomos_ir.specs.declared.code_node.CodeNode.TheVariants as code
 use Rattle.nomos_ir.specs.declared.mode.Mode.TheVariants as mode
 use Rattle.nomos_types.specs.Modes.{HasMode}
-use Rattle.nomos_types.specs.Row as row
+use Rattle.nomos_types.specs.TypingRule as row
 use Rattle.nomos_types.proofs.ModeLaws.{mode-in_range}
 use Rattle.nomos_check.specs.mirror.StandingData.{shape_of}
 use Rattle.nomos_check.proofs.LeadLemmas.{leads-on, not-true}

@@ -3,6 +3,7 @@ use Rattle.nomos_forms.specs.declared.form.Form.{Form}
 use Rattle.nomos_ir.specs.declared.amount.Amount.{Amount}
 use Rattle.nomos_ir.specs.declared.code_node.CodeNode.TheVariants as code
 use Rattle.nomos_ir.specs.Amounts.{star_count}
+use Rattle.nomos_ir.specs.Bindings.{each_bound}
 use Rattle.nomos_types.specs.Judgement.{Judgement, at_code, binds_channel}
 use Rattle.nomos_types.specs.Modes.{may_spawn}
 use Rattle.nomos_check.specs.Account.{spends, with_lists}
@@ -10,7 +11,7 @@ use Rattle.nomos_check.specs.Accounting.{spends_for, without_passed}
 use Rattle.nomos_check.specs.Asking.{AsksPair}
 use Rattle.nomos_check.specs.Room.{HasRoom}
 use Rattle.nomos_check.specs.mirror.Passing.{TellsArguments, PairOfValues, PairOfChannels, carried_by_all}
-use Rattle.nomos_check.specs.mirror.StandingData.{amount_of, each_bound, shape_of}
+use Rattle.nomos_check.specs.mirror.StandingData.{amount_of, shape_of}
 use Rattle.nomos_check.proofs.ArgumentSteps.{arguments-ask, declared-in_range, spawn-asks, spawn-stays}
 use Rattle.nomos_check.proofs.FoundLemmas.{code-in_range}
 use Rattle.nomos_check.proofs.LeadLemmas.{leads-with, keeps-through, not-true}

@@ -1,6 +1,6 @@
 use Rattle.std.proofs.Common.{[], ◌∷◌, refl, arith}
 use Rattle.nomos_ir.specs.declared.code_node.CodeNode.TheVariants as code
-use Rattle.nomos_types.specs.Row as row
+use Rattle.nomos_types.specs.TypingRule as row
 use Rattle.nomos_check.specs.declared.standing.Way.TheVariants as way
 use Rattle.nomos_check.specs.mirror.StandingData.{shape_of}
 use Rattle.nomos_check.proofs.FoundLemmas.{code-in_range}

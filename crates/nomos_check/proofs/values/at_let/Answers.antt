@@ -2,7 +2,7 @@ use Rattle.std.proofs.Common.{◌∙◌, refl, ap, arith}
 use Rattle.nomos_ir.specs.TermKind.{HasKind}
 use Rattle.nomos_ir.specs.declared.code_node.CodeNode.TheVariants as code
 use Rattle.nomos_types.specs.Judgement.{Judgement, at_code, binds_value}
-use Rattle.nomos_types.specs.Row as row
+use Rattle.nomos_types.specs.TypingRule as row
 use Rattle.nomos_check.specs.mirror.StandingData.{shape_of}
 use Rattle.nomos_check.proofs.FoundLemmas.{code-in_range, found-some, found-none}
 use Rattle.nomos_check.proofs.LeadLemmas.{leads-on, keeps-through, not-true}

@@ -3,7 +3,7 @@ use Rattle.std.proofs.lemmas.List.Elements.{All-append}
 use Rattle.nomos_ir.specs.Amounts.{star_count}
 use Rattle.nomos_forms.specs.Bounds.{IsForm}
 use Rattle.nomos_forms.specs.declared.form.Form.{Form}
-use Rattle.nomos_check.specs.Checking.{AnswersBeside}
+use Rattle.nomos_check.specs.Checking.{AnswersProcessBeside}
 use Rattle.nomos_check.specs.declared.checking.ProcError.{ProcError}
 use Rattle.nomos_rows.proofs.ProcessLemmas.{found-at, adds-joined, stuck-told}
 use Rattle.nomos_rows.proofs.processes.process_fault.Goals as goal
@@ -30,6 +30,6 @@ returns-in-Err-ProcType-clause-tells c =
     let lists = c.args.program.now in
     let (d, declared) = found-at lists.procs c.args.p.0 c.requires.p in
     let new = c.check_process_with.new.equalities in
-    let Says : ProcError → Type 0 = λ e. AnswersBeside lists (star_count lists) d c.args.equalities.now new (Err e) in
+    let Says : ProcError → Type 0 = λ e. AnswersProcessBeside lists (star_count lists) d c.args.equalities.now new (Err e) in
     let first = subst Says c.in-Err-ProcType.field-0-is (c.in-Err-ProcType.ensures.answers d declared) in
     stuck-told lists c.args.p.0 c.in-Err-ProcType.at c.in-Err-ProcType.form d declared first

@@ -1,6 +1,6 @@
 -- Arguments are what their tokens say.
 use Rattle.std.proofs.Common.{rules, ◌≡◌, [], ap, Err}
-use Rattle.nomos_script.specs.declared.stop.Stop.TheVariants as stop
+use Rattle.nomos_script.specs.declared.stop.LineStop.TheVariants as stop
 use Rattle.nomos_script.proofs.ArgumentLemmas.{arguments_together, arguments_valueless, arguments_names, arguments_end}
 use Rattle.nomos_script.proofs.arguments.read_arguments.Goals as goal
 

@@ -1,6 +1,6 @@
 -- A comma with a name, or the end, comes next; or nothing that goes on.
 use Rattle.std.proofs.Common.{rules, ◌≡◌, ap, Err}
-use Rattle.nomos_script.specs.declared.stop.Stop.TheVariants as stop
+use Rattle.nomos_script.specs.declared.stop.LineStop.TheVariants as stop
 use Rattle.nomos_script.proofs.NamesLemmas.{one_more_name, more_names_follow, other_follows, comma_follows}
 use Rattle.nomos_script.proofs.arguments.read_more_names.Goals as goal
 

@@ -1,6 +1,6 @@
 -- Behind a first name there are more, or nothing that goes on.
 use Rattle.std.proofs.Common.{rules, ◌≡◌, ap, Err}
-use Rattle.nomos_script.specs.declared.stop.Stop.TheVariants as stop
+use Rattle.nomos_script.specs.declared.stop.LineStop.TheVariants as stop
 use Rattle.nomos_script.proofs.NamesLemmas.{names_tail}
 use Rattle.nomos_script.proofs.arguments.read_names.Goals as goal
 

@@ -1,6 +1,6 @@
 -- A deposit is what its tokens say.
 use Rattle.std.proofs.Common.{rules, ◌≡◌, Err, ap}
-use Rattle.nomos_script.specs.declared.stop.Stop.TheVariants as stop
+use Rattle.nomos_script.specs.declared.stop.LineStop.TheVariants as stop
 use Rattle.nomos_script.proofs.FormLemmas.{deposit_read, deposit_none}
 use Rattle.nomos_script.proofs.line.read_deposit.Goals as goal
 

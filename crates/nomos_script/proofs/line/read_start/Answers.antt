@@ -1,6 +1,6 @@
 -- What is started is what the tokens say.
 use Rattle.std.proofs.Common.{rules, ◌≡◌, Err, ap}
-use Rattle.nomos_script.specs.declared.stop.Stop.TheVariants as stop
+use Rattle.nomos_script.specs.declared.stop.LineStop.TheVariants as stop
 use Rattle.nomos_script.proofs.FormLemmas.{start_read, start_nameless, start_procless, start_bare}
 use Rattle.nomos_script.proofs.line.read_start.Goals as goal
 

@@ -1,5 +1,5 @@
 use Rattle.std.proofs.Common.{◌≡◌, ◌-◌, ap, sym, subst, ◌∙◌, arith}
-use Rattle.nomos_simplex.specs.LeastRun.{Reaches}
+use Rattle.nomos_simplex.specs.LeastRun.{PivotsTo}
 use Rattle.nomos_simplex.specs.PivotRun.{run, answer_to}
 use Rattle.nomos_simplex.proofs.RunLaws.{turn-goes_on}
 use Rattle.nomos_simplex.proofs.SolveLemmas.{run_ends, run_goes_on, run_stands, not_found}
@@ -9,7 +9,7 @@ use Rattle.nomos_simplex.proofs.solving.seek.Goals as goal
 pub loop-pivots-init : goal.loop-pivots-init
 loop-pivots-init c = record {
   answer = ap (run 2000 0 c.args.rows.now) c.in_ok-table.ensures;
-  reaches = subst (Reaches c.args.rows.now 0) (sym c.in_ok-table.ensures) Reaches.at_first;
+  reaches = subst (PivotsTo c.args.rows.now 0) (sym c.in_ok-table.ensures) PivotsTo.at_first;
   table = subst (IsTableOfRows c.args.rows.now) (sym c.in_ok-table.ensures) (first-is_table c.args.rows.now);
 }
 
@@ -48,7 +48,7 @@ loop-pivots-preserved c =
     record {
       answer = run_goes_on 2000 pivots rows table c.in-Goes.after c.loop-pivots-test.true goes
           ∙ c.loop-pivots.invariant.answer;
-      reaches = Reaches.goes_on c.in-Goes.after c.loop-pivots.invariant.reaches (sym goes);
+      reaches = PivotsTo.goes_on c.in-Goes.after c.loop-pivots.invariant.reaches (sym goes);
       table = turn-goes_on (2000 - pivots) pivots rows table c.in-Goes.after c.loop-pivots.invariant.table (sym goes);
     }
 
@@ -61,7 +61,7 @@ returns-in_default-leaving c =
     let answer = subst (λ n. run (2000 - n) n rows table ≡ answer_to rows) all c.loop-pivots.invariant.answer in
     let none = sym c.leaving-2.ensures.choice ∙ c.in_default-leaving.is in
     record {
-      reaches = subst (λ n. Reaches rows n table) all c.loop-pivots.invariant.reaches;
+      reaches = subst (λ n. PivotsTo rows n table) all c.loop-pivots.invariant.reaches;
       none_below = none;
       answer = run_stands 0 2000 rows table none ∙ answer;
       most = omega arith;

@@ -1,5 +1,5 @@
 use Rattle.std.proofs.Common.{◌≡◌, ◌-◌}
-use Rattle.nomos_simplex.specs.LeastRun.{Reaches}
+use Rattle.nomos_simplex.specs.LeastRun.{PivotsTo}
 use Rattle.nomos_simplex.specs.PivotRun.{run, answer_to}
 use Rattle.nomos_simplex.proofs.TableLaws.{IsTableOfRows}
 use Rattle.nomos_simplex.proofs.solving.seek.Given as goal
@@ -8,6 +8,6 @@ use Rattle.nomos_simplex.proofs.solving.seek.Given as goal
 abbrev pub invariant-loop-pivots : goal.invariant-loop-pivots
 invariant-loop-pivots l = record {
   answer : run (2000 - l.pivots) l.pivots l.rows l.table ≡ answer_to l.rows;
-  reaches : Reaches l.rows l.pivots l.table;
+  reaches : PivotsTo l.rows l.pivots l.table;
   table : IsTableOfRows l.rows l.table;
 }

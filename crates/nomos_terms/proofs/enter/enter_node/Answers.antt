@@ -11,13 +11,13 @@ use Rattle.nomos_ir.specs.Kinds.{IsShallow}
 use Rattle.nomos_ir.specs.TermParts.{term_kinds}
 use Rattle.nomos_ir.proofs.NodeLaws.{All-at}
 use Rattle.nomos_terms.specs.declared.search.Task.TheVariants as task
-use Rattle.nomos_terms.specs.declared.stop.Stop.{Stop}
+use Rattle.nomos_terms.specs.declared.stop.KindStop.{KindStop}
 use Rattle.nomos_terms.specs.mirror.Left.{IsDone, argument_tasks}
 use Rattle.nomos_terms.proofs.EnterLemmas.{found, vain, called, put_before, negated, chosen, taken_apart, operated, apart_variable, apart_call, same_length, apart_plus, apart_minus, apart_times, apart_quotient, apart_remainder, apart_less, apart_equal, apart_and, apart_or}
 use Rattle.nomos_terms.proofs.enter.enter_node.Goals as goal
 
 -- what follows from what holds at a success holds there
-on_ok : {A B : Type 0} (result : Result (Unit {0}) Stop) → (A → B) → OnOk result A → OnOk result B
+on_ok : {A B : Type 0} (result : Result (Unit {0}) KindStop) → (A → B) → OnOk result A → OnOk result B
 on_ok (Ok x) h holds = h holds
 on_ok (Err e) h holds = tt
 

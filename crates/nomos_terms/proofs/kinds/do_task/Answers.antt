@@ -2,7 +2,7 @@
 use Rattle.std.proofs.Common.{sym, subst}
 use Rattle.std.specs.Result.{IsErrOf}
 use Rattle.nomos_terms.specs.declared.search.Task.{Task}
-use Rattle.nomos_terms.specs.declared.stop.Stop.TheVariants.{NoKind}
+use Rattle.nomos_terms.specs.declared.stop.KindStop.TheVariants.{NoKind}
 use Rattle.nomos_terms.specs.mirror.Left.{IsVain}
 use Rattle.nomos_terms.proofs.kinds.do_task.Goals as goal
 

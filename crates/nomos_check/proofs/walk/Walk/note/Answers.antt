@@ -6,7 +6,7 @@ use Rattle.nomos_ir.specs.declared.code_node.CodeNode.TheVariants as code
 use Rattle.nomos_ir.specs.Amounts.{star_count}
 use Rattle.nomos_ir.specs.Ids.{CodeInRange}
 use Rattle.nomos_forms.specs.declared.form.Form.{Form}
-use Rattle.nomos_types.specs.Row.{StandsAtCode}
+use Rattle.nomos_types.specs.TypingRule.{StandsAtCode}
 use Rattle.nomos_check.proofs.LimitLemmas.{room-at, proc-amount}
 use Rattle.nomos_check.proofs.NoteLemmas.{plain-notes, call-notes}
 use Rattle.nomos_check.specs.mirror.StandingData.{shape_of}

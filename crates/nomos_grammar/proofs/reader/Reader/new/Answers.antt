@@ -4,7 +4,7 @@ use Rattle.nomos_grammar.specs.declared.part.Nonterminal.TheVariants.{File}
 use Rattle.nomos_grammar.specs.declared.part.Part.{Part}
 use Rattle.nomos_grammar.specs.declared.part.Part.TheVariants as part
 use Rattle.nomos_grammar.specs.Counting.{Counts, nothing_counted}
-use Rattle.nomos_grammar.specs.Deriving.{file}
+use Rattle.nomos_grammar.specs.Producing.{file}
 use Rattle.nomos_grammar.specs.mirror.ReaderStates.{IsReady, HasRead}
 use Rattle.nomos_grammar.specs.mirror.Tallies.{counts_of}
 use Rattle.nomos_grammar.proofs.OutcomeLemmas.{ready_first}

@@ -1,6 +1,6 @@
 use Rattle.std.proofs.Common.{◌*◌, ◌<◌, ◌^◌, arith}
 use Rattle.nomos_ledger.proofs.NameLemmas.{deposit-named}
-use Rattle.nomos_ledger.proofs.StandingLaws.{deposited-stands}
+use Rattle.nomos_ledger.proofs.StandsForLaws.{deposited-stands}
 use Rattle.nomos_ledger.proofs.ledger.Ledger.deposit.Goals as goal
 
 pub invariant_of-self-2 : goal.invariant_of-self-2

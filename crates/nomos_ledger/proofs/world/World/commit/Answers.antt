@@ -1,4 +1,4 @@
-use Rattle.nomos_ledger.proofs.StandingLaws.{commit-stands}
+use Rattle.nomos_ledger.proofs.StandsForLaws.{commit-stands}
 use Rattle.nomos_ledger.proofs.world.World.commit.Goals as goal
 
 pub returns-clause-stands : goal.returns-clause-stands

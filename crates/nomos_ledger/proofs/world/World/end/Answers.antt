@@ -1,5 +1,5 @@
 use Rattle.std.proofs.Common.{◌∙◌, sym, refl}
-use Rattle.nomos_ledger.proofs.StandingLaws.{world-closed}
+use Rattle.nomos_ledger.proofs.StandsForLaws.{world-closed}
 use Rattle.nomos_ledger.proofs.world.World.end.Goals as goal
 
 pub is_quiet-requires : goal.is_quiet-requires

@@ -1,5 +1,5 @@
 use Rattle.nomos_config.proofs.KeepLaws.{paid-sound}
-use Rattle.nomos_ledger.proofs.StandingLaws.{answer-stands, world-closed}
+use Rattle.nomos_ledger.proofs.StandsForLaws.{answer-stands, world-closed}
 use Rattle.nomos_ledger.proofs.world.World.fire.Goals as goal
 use Rattle.nomos_ledger.proofs.world.World.fire.Goals.{in-Ok-Fired, in_default, in_default-2}
 

@@ -20,7 +20,7 @@ use Rattle.nomos_config.proofs.KeepLaws.{SameOutside, step-keeps, step-same_outs
 use Rattle.nomos_config.proofs.ReadyLaws.{ReadyParts, ready-from_parts, ready-is-process}
 use Rattle.nomos_ledger.specs.Ending.{EndsAs}
 use Rattle.nomos_ledger.specs.Ledger.{LedgerState, account_of, accounts_with, deposited, state_with}
-use Rattle.nomos_ledger.specs.Standing.{IsClosed, StandsFor, WorldStandsFor}
+use Rattle.nomos_ledger.specs.StandsFor.{IsClosed, StandsFor, WorldStandsFor}
 use Rattle.nomos_ledger.specs.World.{WorldState, committed, pids_of, start_of}
 use Rattle.nomos_ledger.specs.declared.journal.End.TheVariants as end
 use Rattle.nomos_ledger.specs.declared.journal.Firing.{Firing}

@@ -42,85 +42,85 @@ takes_parts j w head tail list next = binds_value (binds_list (without_list j w 
 abbrev pub gives_up : Judgement → VarId → Judgement
 gives_up j v = record j { linear = unbind v.0 j.linear }
 
-pub data Row (lists : ProgramLists) (x : Annotations) : Judgement → List Judgement → Type 0 where
+pub data TypingRule (lists : ProgramLists) (x : Annotations) : Judgement → List Judgement → Type 0 where
   label : {j : Judgement} {at : ℕ} {c : Chan} {l : Label} {next : CodeId}
       → StandsAtCode lists j (code.Label at c l next)
       → (t : TypeId) → SendsLabel lists j c l t
-      → Row lists x j (goes_on j c t next ∷ [])
+      → TypingRule lists x j (goes_on j c t next ∷ [])
   case : {j : Judgement} {at : ℕ} {c : Chan} {arms : List Arm} → StandsAtCode lists j (code.Case at c arms)
       → (after : List Judgement) → AwaitsLabel lists j c arms after
-      → Row lists x j after
+      → TypingRule lists x j after
   send : {j : Judgement} {at : ℕ} {c : Chan} {y : VarId} {next : CodeId} → StandsAtCode lists j (code.Send at c y next)
       → (left : Judgement) (t : TypeId) → SendsChannel lists x j c y left t
-      → Row lists x j (goes_on left c t next ∷ [])
+      → TypingRule lists x j (goes_on left c t next ∷ [])
   recv : {j : Judgement} {at : ℕ} {c : Chan} {y : VarId} {next : CodeId} → StandsAtCode lists j (code.Recv at c y next)
       → (m : Mode) (carried t : TypeId) → ReceivesChannel lists j c y m carried t
-      → Row lists x j (binds_channel (goes_on j c t next) y m carried ∷ [])
+      → TypingRule lists x j (binds_channel (goes_on j c t next) y m carried ∷ [])
   put : {j : Judgement} {at : ℕ} {c : Chan} {e : TermId} {next : CodeId} → StandsAtCode lists j (code.Put at c e next)
       → (t : TypeId) → SendsValue lists j c e t
-      → Row lists x j (goes_on j c t next ∷ [])
+      → TypingRule lists x j (goes_on j c t next ∷ [])
   take : {j : Judgement} {at : ℕ} {c : Chan} {v : VarId} {next : CodeId} → StandsAtCode lists j (code.Take at c v next)
       → (kind : Kind) (t : TypeId) → ReceivesValue lists j c v kind t
-      → Row lists x j (binds_value (goes_on j c t next) v kind ∷ [])
+      → TypingRule lists x j (binds_value (goes_on j c t next) v kind ∷ [])
   pay : {j : Judgement} {at : ℕ} {c : Chan} {r : Amount} {next : CodeId} → StandsAtCode lists j (code.Pay at c r next)
       → (t : TypeId) → Pays lists x j c r t
-      → Row lists x j (with_potential (goes_on j c t next) (j.q - dths x r) ∷ [])
+      → TypingRule lists x j (with_potential (goes_on j c t next) (j.q - dths x r) ∷ [])
   get : {j : Judgement} {at : ℕ} {c : Chan} {r : Amount} {next : CodeId} → StandsAtCode lists j (code.Get at c r next)
       → (t : TypeId) → Gets lists x j c r t
-      → Row lists x j (with_potential (goes_on j c t next) (j.q + dths x r) ∷ [])
+      → TypingRule lists x j (with_potential (goes_on j c t next) (j.q + dths x r) ∷ [])
   work : {j : Judgement} {at : ℕ} {r : Amount} {next : CodeId} → StandsAtCode lists j (code.Work at r next)
       → dths x r ≤ j.q
-      → Row lists x j (with_potential (at_code j next) (j.q - dths x r) ∷ [])
+      → TypingRule lists x j (with_potential (at_code j next) (j.q - dths x r) ∷ [])
   wait : {j : Judgement} {at : ℕ} {v : VarId} {next : CodeId} → StandsAtCode lists j (code.Wait at v next)
       → HasType lists j (chan.Var v) node.One
-      → Row lists x j (at_code (gives_up j v) next ∷ [])
+      → TypingRule lists x j (at_code (gives_up j v) next ∷ [])
   accept : {j : Judgement} {at : ℕ} {next : CodeId} → StandsAtCode lists j (code.Accept at next)
       → (t : TypeId) → Accepts lists j t
-      → Row lists x j (record j { mode = mode.L; offers = t; code = next } ∷ [])
+      → TypingRule lists x j (record j { mode = mode.L; offers = t; code = next } ∷ [])
   detach : {j : Judgement} {at : ℕ} {next : CodeId} → StandsAtCode lists j (code.Detach at next)
       → (t : TypeId) → Detaches lists j t
-      → Row lists x j (record j { mode = mode.S; offers = t; code = next } ∷ [])
+      → TypingRule lists x j (record j { mode = mode.S; offers = t; code = next } ∷ [])
   acquire : {j : Judgement} {at : ℕ} {a v : VarId} {next : CodeId} → StandsAtCode lists j (code.Acquire at a v next)
       → (t : TypeId) → Acquires lists j a v t
-      → Row lists x j (binds_channel (at_code j next) v mode.L t ∷ [])
+      → TypingRule lists x j (binds_channel (at_code j next) v mode.L t ∷ [])
   release : {j : Judgement} {at : ℕ} {v a : VarId} {next : CodeId} → StandsAtCode lists j (code.Release at v a next)
       → (t : TypeId) → Releases lists j v a t
-      → Row lists x j (binds_channel (at_code (gives_up j v) next) a mode.S t ∷ [])
+      → TypingRule lists x j (binds_channel (at_code (gives_up j v) next) a mode.S t ∷ [])
   spawn : {j : Judgement} {at : ℕ} {v : VarId} {f : ProcId} {args : Args} {next : CodeId}
       → StandsAtCode lists j (code.Spawn at v f args next)
       → (d : ProcDecl) (left : Judgement) → Spawns lists x j v f args d left
-      → Row lists x j (binds_channel (with_potential (at_code left next) (j.q - dths x d.amount)) v d.mode
+      → TypingRule lists x j (binds_channel (with_potential (at_code left next) (j.q - dths x d.amount)) v d.mode
       d.offers ∷ [])
   «let» : {j : Judgement} {at : ℕ} {v : VarId} {e : TermId} {next : CodeId}
       → StandsAtCode lists j (code.Let at v e next)
       → (kind : Kind) → HasKind lists j.kinds e kind → IsFree j v
-      → Row lists x j (binds_value (at_code j next) v kind ∷ [])
+      → TypingRule lists x j (binds_value (at_code j next) v kind ∷ [])
   emit : {j : Judgement} {at : ℕ} {e : TermId} {next : CodeId} → StandsAtCode lists j (code.Emit at e next)
       → (kind : Kind) → HasKind lists j.kinds e kind
-      → Row lists x j (at_code j next ∷ [])
+      → TypingRule lists x j (at_code j next ∷ [])
   choose : {j : Judgement} {at : ℕ} {e : TermId} {then_next else_next : CodeId}
       → StandsAtCode lists j (code.If at e then_next else_next)
       → HasKind lists j.kinds e bool_kind
-      → Row lists x j (at_code j then_next ∷ at_code j else_next ∷ [])
+      → TypingRule lists x j (at_code j then_next ∷ at_code j else_next ∷ [])
   close : {j : Judgement} {at : ℕ} → StandsAtCode lists j (code.Close at)
       → Closes lists j
-      → Row lists x j []
+      → TypingRule lists x j []
   fwd : {j : Judgement} {at : ℕ} {v : VarId} → StandsAtCode lists j (code.Fwd at v)
       → Forwards lists x j v
-      → Row lists x j []
+      → TypingRule lists x j []
   call : {j : Judgement} {at : ℕ} {f : ProcId} {args : Args} → StandsAtCode lists j (code.Call at f args)
       → Calls lists x j f args
-      → Row lists x j []
+      → TypingRule lists x j []
   empty : {j : Judgement} {at : ℕ} {v : VarId} {r : Amount} {kind : Kind} {next : CodeId}
       → StandsAtCode lists j (code.Empty at v r kind next)
       → IsFree j v
-      → Row lists x j (binds_list (at_code j next) v (record { kind = kind; amount = dths x r }) ∷ [])
+      → TypingRule lists x j (binds_list (at_code j next) v (record { kind = kind; amount = dths x r }) ∷ [])
   add : {j : Judgement} {at : ℕ} {v : VarId} {e : TermId} {w : VarId} {next : CodeId}
       → StandsAtCode lists j (code.Add at v e w next)
       → (list : ListType) → Adds lists j v e w list
-      → Row lists x j (with_potential (binds_list (without_list j w next) v list) (j.q - list.amount) ∷ [])
+      → TypingRule lists x j (with_potential (binds_list (without_list j w next) v list) (j.q - list.amount) ∷ [])
   match : {j : Judgement} {at : ℕ} {w head tail : VarId} {empty_next full_next : CodeId}
       → StandsAtCode lists j (code.Match at w empty_next head tail full_next)
       → (list : ListType) → TakesApart j w head tail list
-      → Row lists x j (without_list j w empty_next ∷
+      → TypingRule lists x j (without_list j w empty_next ∷
       with_potential (takes_parts j w head tail list full_next) (j.q + list.amount) ∷ [])

@@ -1,4 +1,4 @@
--- What the grammar derives: tokens, with marks between them that say what counts where.
+-- What the grammar produces: tokens, with marks between them that say what counts where.
 use Rattle.std.specs.Prelude.{◌≡◌, List, [], ◌∷◌, ◌++◌, Option, Some, None, ◌⊎◌, codes, if◌then◌else◌}
 use Rattle.std.specs.Str.{bytes_eq}
 use Rattle.nomos_syntax.specs.Lexeme.{Lexeme, name, reserved, number, symbol, bad, Placed}
@@ -39,16 +39,16 @@ pub data IsAmong {A : Type 0} (x : A) : List A → Type 0 where
   first : {xs : List A} → IsAmong x (x ∷ xs)
   later : {y : A} {xs : List A} → IsAmong x xs → IsAmong x (y ∷ xs)
 
--- The parts derive the events: a terminal a token that fits it, a mark itself, and a production what one of its
--- alternatives derives in its place.
-pub data Derives : List Part → List Event → Type 0 where
-  nothing : Derives [] []
+-- The parts produce the events: a terminal a token that fits it, a mark itself, and a production what one of its
+-- alternatives produces in its place.
+pub data Produces : List Part → List Event → Type 0 where
+  nothing : Produces [] []
   read : {t : Terminal} {x : Placed} {rest : List Part} {events : List Event} →
-      Fits t x.lexeme → Derives rest events → Derives (part.Terminal t ∷ rest) (token x ∷ events)
+      Fits t x.lexeme → Produces rest events → Produces (part.Terminal t ∷ rest) (token x ∷ events)
   counted : {m : Mark} {rest : List Part} {events : List Event} →
-      Derives rest events → Derives (part.Mark m ∷ rest) (mark m ∷ events)
+      Produces rest events → Produces (part.Mark m ∷ rest) (mark m ∷ events)
   replaced : {n : Nonterminal} {rest : List Part} {events : List Event} (side : List Part) →
-      IsAmong side (alternatives n) → Derives (side ++ rest) events → Derives (part.Nonterminal n ∷ rest) events
+      IsAmong side (alternatives n) → Produces (side ++ rest) events → Produces (part.Nonterminal n ∷ rest) events
 
 -- a whole file
 abbrev pub file : List Part
@@ -56,4 +56,4 @@ file = the production.File ∷ []
 
 -- the tokens are a file of the grammar
 abbrev pub IsFile : List Placed → Type 0
-IsFile tokens = (events : List Event) × Derives file events × (tokens_in events ≡ tokens)
+IsFile tokens = (events : List Event) × Produces file events × (tokens_in events ≡ tokens)
