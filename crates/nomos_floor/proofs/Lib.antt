@@ -1,5 +1,6 @@
 pub mod HistoryLaws
-pub mod PlaceLaws
+pub mod CrewLemmas
+pub mod CrewLaws
 pub mod SeatLists
 pub mod TicketParts
 pub mod NumberParts

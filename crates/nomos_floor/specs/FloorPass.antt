@@ -1,5 +1,5 @@
 -- What clauses say of a floor, its passes and its turns.
-use Rattle.std.specs.Prelude.{◌≡◌, ℕ, ◌%◌, ◌^◌, ◌⊎◌, Option, Some, None, IsSomeAnd, ◌+◌, ◌<◌, slice_index_or, List, [], ◌∷◌, ◌++◌, length, if◌then◌else◌, ◌==◌}
+use Rattle.std.specs.Prelude.{◌≡◌, ℕ, ◌%◌, ◌^◌, ◌⊎◌, Some, None, List, [], ◌∷◌, ◌++◌, length, if◌then◌else◌, ◌==◌}
 use Rattle.nomos_floor.specs.OwnEntries.{mine, kept_of}
 use Rattle.nomos_floor.specs.declared.floor.Floor.{Floor}
 use Rattle.nomos_floor.specs.declared.floor.Pass.{Pass}
@@ -83,11 +83,6 @@ module _ {W S E : Type 0} where
     pub out : out_of after ≡ out_of before
     pub ended : ended_of after ≡ ended_of before
 
-  -- a place has the pass of this floor that has this number
-  abbrev pub HoldsPass : Floor W S E → ℕ → Option (Pass W S E) → Type 0
-  HoldsPass floor number place = IsSomeAnd place (λ pass. IsPassOf floor pass × (pass_number pass ≡ number))
-
-  -- the places have passes of this floor, whose numbers ascend by one from this one on
-  abbrev pub HoldPasses : Floor W S E → ℕ → List (Option (Pass W S E)) → Type 0
-  HoldPasses floor first places =
-      (k : ℕ) (d : Option (Pass W S E)) → k < length places → HoldsPass floor (first + k) (slice_index_or places k d)
+  -- a pass of this floor, with the same numbers
+  abbrev pub KeepsPass : Floor W S E → Pass W S E → Pass W S E → Type 0
+  KeepsPass floor before after = IsPassOf floor after × KeepsNumbers before after

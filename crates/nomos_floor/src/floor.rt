@@ -254,3 +254,14 @@ impl<W: Shared> Pass<W> {
         self.number
     }
 }
+
+impl<W: Shared> Turn<W> {
+    ghost use Rattle.nomos_floor.specs.FloorPass.{pass_number, pass_of};
+
+    /// The number of the pass whose turn it is.
+    pub fn number(&self) -> u32
+        ensures { result ≡ pass_number (pass_of self.now) }
+    {
+        self.pass.number
+    }
+}

@@ -1,10 +1,9 @@
 //! Threads that add their numbers to one row, and what the row has then.
-ghost use Rattle.std.specs.Prelude.{◌≡◌, ℕ, ◌+◌, ◌%◌, ◌^◌, ◌<◌, ◌≤◌, List, [], length, vec_len, IfOk, OnOk};
-ghost use Rattle.std.specs.List.{range_with_len};
-ghost use Rattle.nomos_floor.specs.OwnEntries.{without_number};
-ghost use Rattle.nomos_floor.specs.FloorPass.{IsPassOf, IsOpening, KeepsNumbers, AddsAtMostOne};
-ghost use Rattle.nomos_floor.specs.FloorPass.{HoldsPass, HoldPasses, next_of, out_of};
+ghost use Rattle.std.specs.Prelude.{◌≡◌, ℕ, ◌+◌, ◌%◌, ◌^◌, ◌<◌, List, [], All, length, IfOk};
+ghost use Rattle.nomos_floor.specs.FloorPass.{IsPassOf, KeepsPass, AddsAtMostOne};
+ghost use Rattle.nomos_floor.specs.FloorCrew.{IsManned, KeepsStation, KeepStations};
 
+use crate::crew::{Station, join_all, split_all};
 use crate::floor::{Floor, OpenError, Pass};
 use crate::shared::Shared;
 use std::alloc::{AllocError, Global};
@@ -51,72 +50,47 @@ impl<'a> Adds for Row<'a> {
 // Adds so many entries, each in a turn of its own.
 fn add_all<W: Adds, R: Wait>(rt: &R, floor: &Floor<W>, mut pass: Pass<W>, count: u32) -> Pass<W>
     requires { IsPassOf floor.now pass }
-    ensures { IsPassOf floor.now result × KeepsNumbers pass result }
+    ensures { KeepsPass floor.now pass result }
 {
-    let number = pass.number();
     for entry in 0..count {
         let mut turn = floor.take_turn(rt, pass);
+        let number = turn.number();
         turn.work.add(number, entry);
         pass = floor.give_back(turn);
     }
     pass
 }
 
-// The same, for the pass of a place.
-fn work_at<W: Adds, R: Wait>(rt: &R, floor: &Floor<W>, place: &mut Option<Pass<W>>, count: u32)
-    requires { (number : ℕ) × HoldsPass floor.now number place.old }
-    ensures { (number : ℕ) → HoldsPass floor.now number place.old → HoldsPass floor.now number place.new }
+// The same, with the pass of a station, where the count is the answer.
+fn work_at<W: Adds, R: Wait>(rt: &R, floor: &Floor<W>, station: &mut Station<W, u32>, count: u32)
+    requires { IsManned floor.now station.old }
+    ensures { KeepsStation floor.now station.old station.new }
 {
-    if let Some(pass) = place.take() {
-        *place = Some(add_all(rt, floor, pass, count));
+    if let Some(pass) = station.pass.take() {
+        station.pass = Some(add_all(rt, floor, pass, count));
+        station.answer = Some(count);
     }
 }
 
-// Splits a pass off into each place of a new row of places.
-fn split_all<W: Adds>(
-    alloc: Global,
+// The same at all stations, with as many threads.
+fn work_all<W: Adds + Send, R: Threads + Wait + Sync>(
+    rt: &R,
     floor: &Floor<W>,
-    opening: &mut Pass<W>,
+    mut stations: Vec<Station<W, u32>>,
     threads: u32,
-) -> Result<Vec<Option<Pass<W>>>, AllocError>
-    requires floor { IsPassOf floor.now opening.old }
-    requires fresh { IsOpening opening.old × (next_of opening.old ≡ 1) × (out_of opening.old ≡ []) }
-    requires few { threads < 1000 }
-    ensures opening { OnOk result (IsPassOf floor.now opening.new × IsOpening opening.new) }
-    ensures out { OnOk result (out_of opening.new ≡ range_with_len 1 threads) }
-    ensures places { IfOk result (λ places. (vec_len places ≡ threads) × HoldPasses floor.now 1 places.items) }
+    count: u32,
+) -> Vec<Station<W, u32>>
+    requires threads { 0 < threads }
+    requires manned { All (IsManned floor.now) stations.items }
+    ensures { KeepStations floor.now stations.items result.items }
 {
-    let mut places = Vec::with_capacity(alloc, threads as usize)?;
-    for _ in 0..threads {
-        let pass = floor.split(opening);
-        places.push_reserved(Some(pass));
-    }
-    Ok(places)
-}
-
-// Joins the pass of a place.
-fn join_place<W: Adds>(floor: &Floor<W>, opening: &mut Pass<W>, place: Option<Pass<W>>)
-    requires floor { IsPassOf floor.now opening.old × IsOpening opening.old }
-    requires place { (number : ℕ) × HoldsPass floor.now number place }
-    ensures floor { IsPassOf floor.now opening.new × IsOpening opening.new }
-    ensures out { (number : ℕ) → HoldsPass floor.now number place
-        → out_of opening.new ≡ without_number number (out_of opening.old) }
-{
-    if let Some(pass) = place {
-        floor.join(opening, pass);
-    }
-}
-
-// Joins the passes of all places, in their order.
-fn join_all<W: Adds>(floor: &Floor<W>, opening: &mut Pass<W>, mut places: Vec<Option<Pass<W>>>)
-    requires floor { IsPassOf floor.now opening.old × IsOpening opening.old }
-    requires out { out_of opening.old ≡ range_with_len 1 (vec_len places) }
-    requires places { HoldPasses floor.now 1 places.items }
-    ensures { IsPassOf floor.now opening.new × IsOpening opening.new × (out_of opening.new ≡ []) }
-{
-    for i in 0..places.len() {
-        join_place(floor, opening, places[i].take());
-    }
+    thread::for_each_mut(
+        rt,
+        stations.as_mut_slice(),
+        threads as usize,
+        &|_, station| work_at(rt, floor, station, count),
+    );
+    stations
 }
 
 // The work after so many threads, which add so many entries each, and then the opening pass, which adds as many.
@@ -135,15 +109,9 @@ fn after_all<W: Adds + Send, R: Threads + Wait + Sync>(
         Ok(opened) => opened,
         Err(OpenError::NoMemory(_)) => return Err(AllocError),
     };
-    let mut places = split_all(alloc, &floor, &mut opening, threads)?;
-    let shared = &floor;
-    thread::for_each_mut(
-        rt,
-        places.as_mut_slice(),
-        threads as usize,
-        &|_, place| work_at(rt, shared, place, count),
-    );
-    join_all(&floor, &mut opening, places);
+    let stations = split_all(alloc, &floor, &mut opening, threads)?;
+    let stations = work_all(rt, &floor, stations, threads, count);
+    join_all(&floor, &mut opening, stations);
     let opening = add_all(rt, &floor, opening, count);
     Ok(floor.close(opening))
 }
