@@ -6,8 +6,10 @@ use Rattle.nomos_ir.specs.Amounts.{AmountsAreSmall, IsAmount, amounts_of, par_am
 use Rattle.nomos_ir.specs.CodeParts.{code_amounts}
 use Rattle.nomos_ir.specs.TypeParts.{type_amounts}
 use Rattle.nomos_ir.specs.declared.amount.Amount.{Amount}
+use Rattle.nomos_ir.specs.declared.amount.Amount.TheVariants as amount
 use Rattle.nomos_ir.specs.declared.declaration.ProcDecl.{ProcDecl}
 use Rattle.nomos_ir.specs.declared.lists.ProgramLists.{ProgramLists}
+use Rattle.nomos_types.specs.Acceptance.{IsAmountOf}
 use Rattle.nomos_types.proofs.ListLemmas.{greatest-above}
 
 -- what holds of all items of two lists holds of those of the last
@@ -52,13 +54,14 @@ star-within amounts =
     let e : get_or (map star_of amounts) k 0 ≡ star_of (get_or amounts k d) = get_or-map star_of amounts k d 0 inside in
     subst (λ (n : ℕ). n ≤ greatest (map star_of amounts)) e (greatest-above (map star_of amounts) k 0 there)
 
--- the declared amount of a process is an amount
-pub declared-is_amount : (lists : ProgramLists) (p : ℕ) (d : ProcDecl) → AmountsAreSmall lists → p < length lists.procs
-    → IsAmount (get_or lists.procs p d).amount
-declared-is_amount lists p d small inside = declared-all IsAmount lists p d small inside
+-- an amount whose star is among the first so many is written, or has one of their numbers
+amount-of : (lists : ProgramLists) (a : Amount) → IsAmount a → star_of a ≤ star_count lists → IsAmountOf lists a
+amount-of lists (amount.Written units) small within = tt
+amount-of lists (amount.Star star) small within = (small.0, within)
 
--- its star is one of the program's
-pub declared-star : (lists : ProgramLists) (p : ℕ) (d : ProcDecl) → p < length lists.procs
-    → star_of (get_or lists.procs p d).amount ≤ star_count lists
-declared-star lists p d inside =
-    declared-all (λ a. star_of a ≤ star_count lists) lists p d (star-within (amounts_of lists)) inside
+-- the declared amount of a process is one of the program's
+pub declared-is_amount_of : (lists : ProgramLists) (p : ℕ) (d : ProcDecl) → AmountsAreSmall lists
+    → p < length lists.procs → IsAmountOf lists (get_or lists.procs p d).amount
+declared-is_amount_of lists p d small inside =
+    amount-of lists (get_or lists.procs p d).amount (declared-all IsAmount lists p d small inside)
+    (declared-all (λ a. star_of a ≤ star_count lists) lists p d (star-within (amounts_of lists)) inside)

@@ -1,7 +1,6 @@
 //! Accepted programs.
 ghost use Rattle.std.specs.Prelude.{◌≡◌, ◌<◌, ◌≤◌, length, IfSome, slice_get};
-ghost use Rattle.nomos_ir.specs.Amounts.{IsAmount, star_of, star_count};
-ghost use Rattle.nomos_types.specs.Acceptance.{acceptance, IsAccepted};
+ghost use Rattle.nomos_types.specs.Acceptance.{acceptance, IsAccepted, IsAmountOf};
 ghost use Rattle.nomos_types.specs.Amount.{dths};
 ghost use Rattle.nomos_types.specs.Typed.{IsTypedProgram};
 
@@ -34,8 +33,7 @@ impl Model for Accepted {
 fn declared(program: &Program, p: ProcId) -> Amount
     requires { p.0 < length program.now.procs }
     ensures declared { IfSome (slice_get program.now.procs p.0) (λ d. result ≡ d.amount) }
-    ensures amount { IsAmount result }
-    ensures star { star_of result ≤ star_count program.now }
+    ensures amount { IsAmountOf program.now result }
 {
     let lists = program.lists();
     lists.procs.as_slice()[p.0 as usize].amount
@@ -71,8 +69,7 @@ impl Accepted {
 
     /// An amount, in Dths. A star has to be one of the program's.
     pub fn amount(&self, a: Amount) -> u64
-        requires amount { IsAmount a }
-        requires star { star_of a ≤ star_count self.now.program }
+        requires { IsAmountOf self.now.program a }
         ensures { result ≡ dths self.now.annotations a }
     {
         match a {
