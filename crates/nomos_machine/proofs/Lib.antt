@@ -51,6 +51,7 @@ mod TalkExamples
 mod StepExamples
 mod RunExamples
 mod QuietExamples
+pub mod FaultLaws
 pub mod FiringLaws
 pub mod ContractLaws
 pub mod IdleLaws
