@@ -5,7 +5,7 @@ pub mod AsideLaws
 pub mod BranchLaws
 pub mod CoveringLaws
 pub mod CoveringRowLaws
-pub mod Declared
+pub mod AmountLaws
 pub mod DerivationLaws
 pub mod EqualityExamples
 pub mod EqualityLaws

@@ -1,4 +1,4 @@
-use Rattle.nomos_types.proofs.Declared.{declared-is_amount_of}
+use Rattle.nomos_types.proofs.AmountLaws.{declared-is_amount_of}
 use Rattle.nomos_types.proofs.accepted.declared.Goals as goal
 
 pub returns-clause-amount : goal.returns-clause-amount
