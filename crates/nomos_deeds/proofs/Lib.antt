@@ -1,0 +1,4 @@
+mod SightLemmas
+mod ReceivingLemmas
+mod SharingLemmas
+mod DeedLemmas
