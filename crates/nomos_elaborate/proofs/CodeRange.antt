@@ -2,7 +2,7 @@
 use Rattle.std.proofs.Common.{◌≡◌, ℕ, ◌<◌, ◌≤◌, true, List, [], ◌∷◌, ◌++◌, length, map, Option, Some, None, refl, sym, subst, arith}
 use Rattle.std.specs.List.{flat_map}
 use Rattle.std.proofs.lemmas.List.Elements.{All-cons, All-append}
-use Rattle.nomos_elaborate.proofs.BuiltRange.{CodeFits, InRange, CodeFits-more, none_below, one_below, two_below, Made, TermMade, CodeMade, AllBelow-le, Made-then, Made-same, variable_made, amount_made, label_made, label_below, code_put}
+use Rattle.nomos_elaborate.proofs.BuiltRangeLaws.{CodeFits, InRange, CodeFits-more, none_below, one_below, two_below, Made, TermMade, CodeMade, AllBelow-le, Made-then, Made-same, variable_made, amount_made, label_made, label_below, code_put}
 use Rattle.nomos_elaborate.proofs.NameClaimLaws.{AllHold, first_holds, rest_hold, left_hold, right_hold}
 use Rattle.nomos_elaborate.proofs.NumberLaws.{number_of-lt}
 use Rattle.nomos_elaborate.proofs.TypeRange.{term_made}

@@ -1,6 +1,6 @@
 -- The steps of a code and its last instruction, together.
 use Rattle.std.proofs.Common.{◌≡◌, ℕ, List, length, refl, sym, ap, ◌∙◌}
-use Rattle.nomos_elaborate.proofs.Loops.{stops-then}
+use Rattle.nomos_elaborate.proofs.StopLaws.{stops-then}
 use Rattle.nomos_elaborate.specs.declared.elab_error.ElabError.{ElabError}
 use Rattle.nomos_elaborate.specs.declared.elaborator.Elaborator.{Elaborator}
 use Rattle.nomos_elaborate.specs.mirror.Checked.{Stops, found}

@@ -1,6 +1,7 @@
 -- All that is made of a tree within the limits has numbers that fit their types.
 use Rattle.std.proofs.Common.{◌≡◌, ◌+◌, ◌≤◌, List, [], ◌∷◌, length, sym, subst, arith}
 use Rattle.nomos_elaborate.proofs.NameTables.{seen-grows}
+use Rattle.nomos_elaborate.proofs.StopLaws.{found_same}
 use Rattle.nomos_elaborate.specs.Spaces.{declaring, declaring_all, no_names}
 use Rattle.nomos_elaborate.specs.declared.spaces.Spaces.{Spaces}
 use Rattle.nomos_elaborate.specs.mirror.Checked.{found}
@@ -53,9 +54,6 @@ decls-count (d ∷ decls) =
     let rest = decls-count decls in
     let first = decl-counts d in
     omega arith
-
-found_same : {A : Type 0} {x y : A} → found x ≡ found y → x ≡ y
-found_same e = cc
 
 -- where the walk begins, all declarations of a tree within the limits may be made
 pub decls-may_be_made : (tree : FileTree) (decls : List DeclTree) (spaces : Spaces) (model : CostModel) (v : Progress)

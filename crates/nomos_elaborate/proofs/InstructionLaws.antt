@@ -3,7 +3,7 @@
 use Rattle.std.proofs.Common.{◌≡◌, ◌⊎◌, inl, inr, ℕ, Bool, true, false, List, [], ◌∷◌, ◌++◌, length, All, Contains, Option, Some, None, refl, sym, ap, subst, ◌∙◌}
 use Rattle.std.specs.Prelude.{if◌then◌else◌}
 use Rattle.std.proofs.lemmas.List.Elements.{All-nil, All-push, All-contains}
-use Rattle.nomos_elaborate.proofs.NodesKept.{value_pars_kept, process_pars_kept, declared_amount_kept, type_puts_types, chan_pars_put_types, term_puts_terms, values_put_terms, step_puts_terms}
+use Rattle.nomos_elaborate.proofs.KeptNodeLaws.{value_pars_kept, process_pars_kept, declared_amount_kept, type_puts_types, chan_pars_put_types, term_puts_terms, values_put_terms, step_puts_terms}
 use Rattle.nomos_elaborate.proofs.PrintedLemmas.{EndsIn, ends-whole, further, type_passed, heading_passed, term_passed, step_passed, steps_passed, code_passed, head_passed, decl_passed, cost_passed}
 use Rattle.nomos_elaborate.specs.Built.{Built, with_label, with_variable, put_type}
 use Rattle.nomos_elaborate.specs.CodeBuild.{build_value, build_values, build_step, build_steps, build_code, build_last, build_arms}

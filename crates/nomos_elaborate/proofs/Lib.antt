@@ -1,13 +1,14 @@
 pub mod NumberLaws
-pub mod NameTables
-pub mod ScopeTables
-pub mod Loops
-pub mod TermLoops
-pub mod TypeLoops
-pub mod CodeLoops
-pub mod StepLoops
-pub mod CodeSteps
-pub mod Walks
+mod NameTables
+mod ScopeTables
+pub mod StopLaws
+mod Loops
+mod TermLoops
+mod TypeLoops
+mod CodeLoops
+mod StepLoops
+mod CodeSteps
+mod Walks
 pub mod EntryLaws
 pub mod CheckedLaws
 pub mod TermLaws
@@ -16,27 +17,27 @@ pub mod NameClaimLaws
 pub mod StepLaws
 pub mod CodeLaws
 pub mod FileLaws
-pub mod Examples
-pub mod Making
-pub mod TreeMaking
-pub mod DeclMaking
+mod Examples
+mod Making
+mod TreeMaking
+mod DeclMaking
 pub mod SizeLaws
 pub mod AmountLaws
 pub mod KindLaws
 pub mod ShortLaws
-pub mod StandOnce
-pub mod NodesKept
-pub mod TypesOnce
-pub mod CodeOnce
+mod StandOnce
+pub mod KeptNodeLaws
+pub mod TypesOnceLaws
+pub mod CodeOnceLaws
 pub mod OrderLaws
-pub mod BuiltRange
-pub mod TypeRange
-pub mod CodeRange
-pub mod DeclRange
-pub mod DistinctNames
-pub mod KeptLabels
-pub mod TypeLabels
-pub mod CodeLabels
-pub mod ParameterNames
-pub mod PrintedLemmas
+pub mod BuiltRangeLaws
+mod TypeRange
+mod CodeRange
+pub mod DeclaredRangeLaws
+pub mod DistinctNameLaws
+pub mod KeptLabelLaws
+pub mod TypeLabelLaws
+pub mod CodeLabelLaws
+pub mod ParameterNameLaws
+mod PrintedLemmas
 pub mod InstructionLaws

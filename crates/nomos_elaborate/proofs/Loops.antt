@@ -20,12 +20,6 @@ pub items-left : {X : Type 0} (xs : List X) (i : ℕ) (x : X) → i < length xs 
     → drop i xs ≡ x ∷ drop (i + 1) xs
 items-left xs i x below item = drop_more xs i x below ∙ ap (λ v. v ∷ drop (i + 1) xs) (sym item)
 
--- what stops early stops what comes behind it
-pub stops-then : {A B : Type 0} (e : ElabError) (c : Checked A) (f : A → Checked B) → Stops e c → Stops e (c >>= f)
-stops-then (stop.Name at) c f h = ap (λ d. d >>= f) h
-stops-then (stop.Cost at) c f h = absurd h
-stops-then stop.NoMemory c f h = tt
-
 module _ {W X Y : Type 0} (check : W → X → Checked (W × Y)) where
   -- what is given for more items, behind what was given
   abbrev then_each : List X → W × List Y → Checked (W × List Y)

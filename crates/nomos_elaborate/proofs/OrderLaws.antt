@@ -2,10 +2,10 @@
 use Rattle.std.proofs.Common.{◌≡◌, ◌<◌, ◌≤◌, ℕ, List, [], ◌∷◌, length, map, Option, Some, None, refl, sym, subst, ◌∙◌, arith}
 use Rattle.std.proofs.lemmas.List.{length_push}
 use Rattle.std.proofs.lemmas.List.Elements.{All-nil, All-cons}
-use Rattle.nomos_elaborate.proofs.CodeOnce.{program_code}
-use Rattle.nomos_elaborate.proofs.NodesKept.{quantity_kept, process_pars_kept, value_pars_kept, declared_amount_kept, type_puts_types, chan_pars_put_types, put_code_terms}
+use Rattle.nomos_elaborate.proofs.CodeOnceLaws.{program_code}
+use Rattle.nomos_elaborate.proofs.KeptNodeLaws.{quantity_kept, process_pars_kept, value_pars_kept, declared_amount_kept, type_puts_types, chan_pars_put_types, put_code_terms}
 use Rattle.nomos_elaborate.proofs.StandOnce.{Lower, lower_none, lower_more, lower_found}
-use Rattle.nomos_elaborate.proofs.TypesOnce.{parts_at, program_types}
+use Rattle.nomos_elaborate.proofs.TypesOnceLaws.{parts_at, program_types}
 use Rattle.nomos_elaborate.specs.Built.{Built, with_label, with_variable, variable_id, put_type, put_term, kind_of}
 use Rattle.nomos_elaborate.specs.CodeBuild.{build_value, build_unless_list, build_argument, build_values, build_step, build_steps, build_code, build_last, build_arms}
 use Rattle.nomos_elaborate.specs.CodeClaims.{scope_after, matched_list}

@@ -1,5 +1,6 @@
 -- Steps that are put before a code, the last one first.
 use Rattle.std.proofs.Common.{◌≡◌, List, [], ◌∷◌, ◌++◌, refl, sym, ap, ◌∙◌}
+use Rattle.nomos_elaborate.proofs.StopLaws.{found_same}
 use Rattle.nomos_elaborate.specs.Built.{Built}
 use Rattle.nomos_elaborate.specs.CostModel.{put_code}
 use Rattle.nomos_elaborate.specs.mirror.Checked.{found}
@@ -26,6 +27,3 @@ step_next model items front x s next n new total same is put so_far =
     ∙ sym (put_before-push model front x (s, next))
     ∙ ap (λ (xs : List CodeNode). put_before model xs (s, next)) (sym same)
     ∙ so_far
-  where
-    found_same : {A : Type 0} {a b : A} → found a ≡ found b → a ≡ b
-    found_same e = cc

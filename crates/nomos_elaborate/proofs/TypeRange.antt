@@ -1,7 +1,7 @@
 -- The ids in the nodes of a type and of a term are in range, where its claims hold.
 use Rattle.std.proofs.Common.{ℕ, ◌<◌, Bool, List, [], ◌∷◌, ◌++◌, length, map, arith}
 use Rattle.std.proofs.lemmas.List.Elements.{All-cons}
-use Rattle.nomos_elaborate.proofs.BuiltRange.{TypeFits, TermFits, InRange, none_below, one_below, two_below, three_below, Made, TypeMade, TermMade, Made-then, Made-same, variable_made, amount_made, label_made, label_below, type_put, term_put}
+use Rattle.nomos_elaborate.proofs.BuiltRangeLaws.{TypeFits, TermFits, InRange, none_below, one_below, two_below, three_below, Made, TypeMade, TermMade, Made-then, Made-same, variable_made, amount_made, label_made, label_below, type_put, term_put}
 use Rattle.nomos_elaborate.proofs.NameClaimLaws.{AllHold, first_holds, rest_hold, left_hold, right_hold}
 use Rattle.nomos_elaborate.proofs.NumberLaws.{number_of-lt}
 use Rattle.nomos_elaborate.specs.Built.{Built, with_label, with_variable, label_id, variable_id, amount_of, kind_of}

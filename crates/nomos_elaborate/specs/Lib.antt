@@ -7,6 +7,7 @@ pub mod FileBuild
 pub mod FileClaims
 pub mod ListArgument
 pub mod Names
+pub mod Nesting
 pub mod Scope
 pub mod Spaces
 pub mod TermBuild

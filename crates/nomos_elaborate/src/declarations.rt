@@ -3,6 +3,7 @@ ghost use Rattle.std.specs.Prelude.{◌≡◌, ◌+◌, ◌≤◌, [], map, IfOk
 ghost use Rattle.nomos_elaborate.specs.Built.{kind_of};
 ghost use Rattle.nomos_elaborate.specs.FileBuild.{declared_amount, mode_of};
 ghost use Rattle.nomos_elaborate.specs.FileClaims.{par_sort};
+ghost use Rattle.nomos_elaborate.specs.Nesting.{IsNestedWithinLimit};
 ghost use Rattle.nomos_elaborate.specs.mirror.Checked.{Gives, found};
 ghost use Rattle.nomos_elaborate.specs.mirror.Each.{each};
 ghost use Rattle.nomos_elaborate.specs.mirror.FileCheck.{at_head, check_chan_par, check_def, check_fn, check_pars, check_proc, check_process_par, check_transaction, check_value_par, head};
@@ -189,6 +190,7 @@ impl Elaborator {
     #[tactic(auto, unfolding(crate::specs::mirror::FileCheck::check_def))]
     pub fn definition_of(&mut self, tree: &SurfaceDefinition) -> Result<Def, ElabError>
         requires keeps { KeepsDecl (decl_tree (decl.Definition tree.now)) }
+        requires nests { IsNestedWithinLimit (decl_tree (decl.Definition tree.now)) }
         requires room { MayMake self.old (in_decl (decl_tree (decl.Definition tree.now))) }
         ensures gives { Gives (λ d. (self.new, d)) result
             (check_def self.old tree.now.name tree.now.mode (type_tree tree.now.body)) }
@@ -205,6 +207,7 @@ impl Elaborator {
     #[tactic(auto, unfolding(crate::specs::mirror::FileCheck::check_fn))]
     pub fn function_of(&mut self, tree: &SurfaceFunction) -> Result<FnDecl, ElabError>
         requires keeps { KeepsDecl (decl_tree (decl.Function tree.now)) }
+        requires nests { IsNestedWithinLimit (decl_tree (decl.Function tree.now)) }
         requires room { MayMake self.old (in_decl (decl_tree (decl.Function tree.now))) }
         ensures gives { Gives (λ f. (self.new, f)) result
             (check_fn self.old tree.now.name tree.now.pars (kind_of tree.now.gives) (term_tree tree.now.body)) }
@@ -230,6 +233,7 @@ impl Elaborator {
     #[tactic(auto, unfolding(crate::specs::mirror::FileCheck::check_proc))]
     pub fn process_of(&mut self, tree: &SurfaceProcess) -> Result<ProcDecl, ElabError>
         requires keeps { KeepsDecl (decl_tree (decl.Process tree.now)) }
+        requires nests { IsNestedWithinLimit (decl_tree (decl.Process tree.now)) }
         requires room { MayMake self.old (in_decl (decl_tree (decl.Process tree.now))) }
         ensures gives { Gives (λ p. (self.new, p)) result
             (check_proc self.old tree.now.name tree.now.mode (par_trees tree.now.pars) tree.now.potential
@@ -259,6 +263,7 @@ impl Elaborator {
     #[tactic(auto, unfolding(crate::specs::mirror::FileCheck::check_transaction))]
     pub fn transaction_of(&mut self, tree: &SurfaceTransaction) -> Result<ProcDecl, ElabError>
         requires keeps { KeepsDecl (decl_tree (decl.Transaction tree.now)) }
+        requires nests { IsNestedWithinLimit (decl_tree (decl.Transaction tree.now)) }
         requires room { MayMake self.old (in_decl (decl_tree (decl.Transaction tree.now))) }
         ensures gives { Gives (λ p. (self.new, p)) result
             (check_transaction self.old tree.now.at tree.now.name (par_trees tree.now.pars) tree.now.potential

@@ -2,7 +2,7 @@
 use Rattle.std.proofs.Common.{◌≡◌, ℕ, zero, suc, true, false, IsTrue, IsFalse, List, [], ◌∷◌, ◌++◌, length, All, Some, None, slice_get, refl, sym, subst, ◌∙◌}
 use Rattle.std.specs.List.{flat_map}
 use Rattle.std.proofs.lemmas.List.Elements.{All-nil, All-cons, All-push, All-map, All-weaker}
-use Rattle.nomos_elaborate.proofs.NodesKept.{value_pars_kept, process_pars_kept, declared_amount_kept, type_puts_types, chan_pars_put_types, term_puts_terms, values_put_terms, step_puts_terms}
+use Rattle.nomos_elaborate.proofs.KeptNodeLaws.{value_pars_kept, process_pars_kept, declared_amount_kept, type_puts_types, chan_pars_put_types, term_puts_terms, values_put_terms, step_puts_terms}
 use Rattle.nomos_elaborate.specs.Built.{Built, with_label, with_variable, put_type}
 use Rattle.nomos_elaborate.specs.CodeBuild.{build_value, build_values, build_step, build_steps, build_code, build_last, build_arms}
 use Rattle.nomos_elaborate.specs.CodeClaims.{scope_after, matched_list}
@@ -209,7 +209,9 @@ module _ (spaces : Spaces) where
         let h : IsBuilt t a =
         code-charged scope t holds (front-empty (code_works holds) (code_works fails) none) (charged-same s t same all)
         in
-        let i : IsBuilt a.0 b = code-charged scope a.0 fails (back-empty (code_works holds) (code_works fails) none) h.all in
+        let i : IsBuilt a.0 b =
+        code-charged scope a.0 fails (back-empty (code_works holds) (code_works fails) none) h.all
+        in
         put-charged s b.0 _ i.all
         (keeps-then s.code a.0.code b.0.code (keeps-then s.code t.code a.0.code (keeps-same s t same) h.keeps) i.keeps)
         refl
@@ -243,7 +245,9 @@ module _ (spaces : Spaces) where
         let h : IsBuilt (with_label s l) a =
         code-charged scope (with_label s l) goes (front-empty (code_works goes) (arm_works arms) none) all
         in
-        let i : AreBuilt a.0 b = arms-charged scope a.0 arms (back-empty (code_works goes) (arm_works arms) none) h.all in
+        let i : AreBuilt a.0 b =
+        arms-charged scope a.0 arms (back-empty (code_works goes) (arm_works arms) none) h.all
+        in
         record {
           all = i.all;
           roots =

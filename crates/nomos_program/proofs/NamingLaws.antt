@@ -3,11 +3,11 @@ use Rattle.std.proofs.Common.{◌≡◌, ◌≢◌, ◌↔◌, ℕ, true, false,
 use Rattle.std.proofs.lemmas.List.{map-append}
 use Rattle.std.proofs.lemmas.List.Elements.{All-nil, All-push}
 use Rattle.nomos_elaborate.proofs.NameClaimLaws.{AllHold, rest_hold, left_hold, right_hold}
-use Rattle.nomos_elaborate.proofs.CodeLabels.{code-keeps}
-use Rattle.nomos_elaborate.proofs.DistinctNames.{AllNamesDiffer, pairs_of, none_differ, no_names_differ, seen-new, seen-differ}
-use Rattle.nomos_elaborate.proofs.KeptLabels.{labelled, LabelsHold, KeepsLabels, keeps-none, keeps-then, keeps-same, keeps-put_type, amount-labelled, term-labelled}
-use Rattle.nomos_elaborate.proofs.ParameterNames.{value_pars-differ, pars-differ, payer-differs}
-use Rattle.nomos_elaborate.proofs.TypeLabels.{new_is_out, type-keeps}
+use Rattle.nomos_elaborate.proofs.CodeLabelLaws.{code-keeps}
+use Rattle.nomos_elaborate.proofs.DistinctNameLaws.{AllNamesDiffer, pairs_of, none_differ, no_names_differ, seen-new, seen-differ}
+use Rattle.nomos_elaborate.proofs.KeptLabelLaws.{labelled, LabelsHold, KeepsLabels, keeps-none, keeps-then, keeps-same, keeps-put_type, amount-labelled, term-labelled}
+use Rattle.nomos_elaborate.proofs.ParameterNameLaws.{value_pars-differ, pars-differ, payer-differs}
+use Rattle.nomos_elaborate.proofs.TypeLabelLaws.{new_is_out, type-keeps}
 use Rattle.nomos_program.specs.Elaborated.{ObeysNames}
 use Rattle.nomos_elaborate.specs.Built.{Built, nothing_built, with_variable, put_type}
 use Rattle.nomos_elaborate.specs.NameClaim.{NameClaim, new_among, new_on_way}

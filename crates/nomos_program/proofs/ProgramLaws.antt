@@ -1,13 +1,13 @@
 -- The program of a tree that is within the limits and obeys the rules of names is a program.
 use Rattle.nomos_elaborate.proofs.AmountLaws.{amounts-small}
-use Rattle.nomos_elaborate.proofs.CodeOnce.{code-once}
+use Rattle.nomos_elaborate.proofs.CodeOnceLaws.{code-once}
 use Rattle.nomos_elaborate.proofs.KindLaws.{kinds-shallow}
 use Rattle.nomos_program.proofs.NamingLaws.{names-differ, labels-differ, parameters-differ, payers}
 use Rattle.nomos_elaborate.proofs.OrderLaws.{parts-lower}
 use Rattle.nomos_program.proofs.RangeLaws.{ids-in-range}
 use Rattle.nomos_elaborate.proofs.ShortLaws.{names-short}
 use Rattle.nomos_elaborate.proofs.SizeLaws.{small}
-use Rattle.nomos_elaborate.proofs.TypesOnce.{types-once}
+use Rattle.nomos_elaborate.proofs.TypesOnceLaws.{types-once}
 use Rattle.nomos_program.specs.Elaborated.{ObeysNames}
 use Rattle.nomos_elaborate.specs.FileBuild.{program_of}
 use Rattle.nomos_ir.specs.Program.{IsProgram}

@@ -1,8 +1,8 @@
 -- The ids of the program of a tree whose names obey the rules are in range.
 use Rattle.std.proofs.Common.{◌≡◌, ◌+◌, Bool, true, false, not, List, [], ◌∷◌, ◌++◌, length, get_or, refl, sym, subst, arith}
-use Rattle.nomos_elaborate.proofs.BuiltRange.{TypeFits, TermFits, CodeFits}
+use Rattle.nomos_elaborate.proofs.BuiltRangeLaws.{TypeFits, TermFits, CodeFits}
 use Rattle.nomos_elaborate.proofs.NameClaimLaws.{AllHold, first_holds, left_hold, right_hold}
-use Rattle.nomos_elaborate.proofs.DeclRange.{ProcFits, DeclaredInRange, DeclaredInRange-none, decls_made}
+use Rattle.nomos_elaborate.proofs.DeclaredRangeLaws.{ProcFits, DeclaredInRange, DeclaredInRange-none, decls_made}
 use Rattle.nomos_program.specs.Elaborated.{ObeysNames}
 use Rattle.nomos_elaborate.specs.NameClaim.{new_among}
 use Rattle.nomos_elaborate.specs.CodeClaims.{code_claims}

@@ -3,6 +3,7 @@ ghost use Rattle.std.specs.Prelude.{◌≡◌, ◌≤◌, length, IfOk};
 ghost use Rattle.nomos_ir.specs.CostAll.{IsUnderCostAll};
 ghost use Rattle.nomos_program.specs.Elaborated.{Answers};
 ghost use Rattle.nomos_elaborate.specs.CostModel.{model_of};
+ghost use Rattle.nomos_elaborate.specs.Nesting.{NestsWithinLimit};
 ghost use Rattle.nomos_elaborate.specs.Spaces.{declaring_all, no_names};
 ghost use Rattle.nomos_elaborate.specs.mirror.Checked.{Gives, found};
 ghost use Rattle.nomos_elaborate.specs.mirror.FileCheck.{begun, check_lists, lists_made};
@@ -70,7 +71,8 @@ fn walk_over(alloc: Global, surface: &Surface) -> Result<Walk, ElabError>
 
 /// The lists of the program of a tree whose names obey the rules.
 fn named_lists(alloc: Global, surface: &Surface) -> Result<ProgramLists, ElabError>
-    requires { IsWithinLimits (file_tree surface.now) }
+    requires limits { IsWithinLimits (file_tree surface.now) }
+    requires nests { NestsWithinLimit (file_tree surface.now) }
     ensures { Gives (λ l. l) result (check_lists (file_tree surface.now)) }
 {
     let mut walk = walk_over(alloc, surface)?;
@@ -85,7 +87,8 @@ fn named_lists(alloc: Global, surface: &Surface) -> Result<ProgramLists, ElabErr
 
 /// The lists of the program of a tree, or why it has none.
 fn program_lists(alloc: Global, surface: &Surface) -> Result<ProgramLists, ElabError>
-    requires { IsWithinLimits (file_tree surface.now) }
+    requires limits { IsWithinLimits (file_tree surface.now) }
+    requires nests { NestsWithinLimit (file_tree surface.now) }
     ensures { Answers (file_tree surface.now) result }
 {
     let lists = named_lists(alloc, surface)?;
@@ -97,9 +100,11 @@ fn program_lists(alloc: Global, surface: &Surface) -> Result<ProgramLists, ElabE
 
 /// The program of a tree, or why it has none: the first name in order of text that breaks a rule of names, or else the
 /// first written `work` where the cost model allows none. `docs/LANGUAGE.md` has the rules, and how nodes are numbered.
-/// The tree has to be within the limits of texts.
+/// The tree has to be within the limits of texts and nested at most 64 deep, parentheses counted, as each tree is that
+/// `parse` gives.
 pub fn elaborate(alloc: Global, surface: &Surface) -> Result<Program, ElabError>
-    requires { IsWithinLimits (file_tree surface.now) }
+    requires limits { IsWithinLimits (file_tree surface.now) }
+    requires nests { NestsWithinLimit (file_tree surface.now) }
     ensures answer { Answers (file_tree surface.now) result }
     ensures few { IfOk result (λ program. length program.types ≤ node_limit) }
     ensures cost_all { IfOk result (λ program. model_of surface.now.cost ≡ cost.All → IsUnderCostAll program) }

@@ -1,5 +1,6 @@
 //! The walk over the declarations of a text.
 ghost use Rattle.std.specs.Prelude.{◌≡◌, map, IfOk};
+ghost use Rattle.nomos_elaborate.specs.Nesting.{IsNestedWithinLimit};
 ghost use Rattle.nomos_elaborate.specs.mirror.Checked.{Gives, found};
 ghost use Rattle.nomos_elaborate.specs.mirror.FileCheck.{check_body, check_decl, check_decls, begun};
 ghost use Rattle.nomos_elaborate.specs.mirror.Entries.{MakesAtMost, MayMake};
@@ -77,6 +78,7 @@ impl Walk {
     #[tactic(auto, unfolding(nomos_elaborate::specs::mirror::FileCheck::check_body))]
     fn body(&mut self, decl: &SurfaceDecl) -> Result<(), ElabError>
         requires keeps { KeepsDecl (decl_tree decl.now) }
+        requires nests { IsNestedWithinLimit (decl_tree decl.now) }
         requires room { MayMake self.old.work (in_decl (decl_tree decl.now)) }
         ensures gives { Gives (λ _. self.new) result (check_body self.old (decl_tree decl.now)) }
         ensures grows { IfOk result (λ _. MakesAtMost self.old.work (in_decl (decl_tree decl.now)) self.new.work) }
@@ -112,6 +114,7 @@ impl Walk {
     /// A declaration, whose name is declared from then on.
     fn declare(&mut self, decl: &SurfaceDecl) -> Result<(), ElabError>
         requires keeps { KeepsDecl (decl_tree decl.now) }
+        requires nests { IsNestedWithinLimit (decl_tree decl.now) }
         requires room { MayMake self.old.work (in_decl (decl_tree decl.now)) }
         ensures gives { Gives (λ _. self.new) result (check_decl self.old (decl_tree decl.now)) }
         ensures grows { IfOk result (λ _. MakesAtMost self.old.work (in_decl (decl_tree decl.now)) self.new.work) }
@@ -123,6 +126,7 @@ impl Walk {
     /// Declarations, in order of text.
     pub(crate) fn declare_all(&mut self, decls: &[SurfaceDecl]) -> Result<(), ElabError>
         requires keeps { Each KeepsDecl (map decl_tree decls.now) }
+        requires nests { Each IsNestedWithinLimit (map decl_tree decls.now) }
         requires room { MayMake self.old.work (in_each in_decl (map decl_tree decls.now)) }
         ensures { Gives (λ _. self.new) result (check_decls self.old (map decl_tree decls.now)) }
     {

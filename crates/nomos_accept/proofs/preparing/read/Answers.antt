@@ -1,5 +1,12 @@
 use Rattle.nomos_accept.proofs.preparing.read.Goals as goal
+use Rattle.nomos_program.proofs.NestingLaws.{reads-nested}
 use Rattle.nomos_surface.specs.FileView.{file_tree}
+
+pub elaborate-requires : goal.elaborate-requires
+elaborate-requires c = record {
+  limits = c.in-Ok.ensures.limits;
+  nests = reads-nested c.args.text.now (file_tree c.in-Ok.surface) c.in-Ok.ensures.answer.reads;
+}
 
 pub returns-in-Err-clause-answer : goal.returns-in-Err-clause-answer
 returns-in-Err-clause-answer c = c.of_parse.ensures c.args.text.now c.in-Err.ensures.answer

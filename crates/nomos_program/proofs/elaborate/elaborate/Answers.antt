@@ -13,13 +13,13 @@ use Rattle.nomos_program.proofs.elaborate.elaborate.Goals as goal
 pub of_lists-requires : goal.of_lists-requires
 of_lists-requires c =
     let e = c.in_ok-lists.ensures in
-    subst IsProgram (sym e.program) (is-program (file_tree c.args.surface.now) c.requires e.names)
+    subst IsProgram (sym e.program) (is-program (file_tree c.args.surface.now) c.requires.limits e.names)
 
 pub returns-clause-few : goal.returns-clause-few
 returns-clause-few c =
     let tree = file_tree c.args.surface.now in
     let e = c.in_ok-lists.ensures in
-    let few : length (program_of tree).types ≤ node_limit = omega (arith, few_types tree, c.requires.nodes) in
+    let few : length (program_of tree).types ≤ node_limit = omega (arith, few_types tree, c.requires.limits.nodes) in
     subst (λ (p : ProgramLists). length p.types ≤ node_limit) (sym (c.of_lists.ensures ∙ e.program)) few
 
 pub returns-clause-cost_all : goal.returns-clause-cost_all

@@ -1,5 +1,5 @@
 use Rattle.std.proofs.lemmas.Result.{err_from_is_err_and}
-use Rattle.nomos_elaborate.proofs.Walks.{stops-found}
+use Rattle.nomos_elaborate.proofs.StopLaws.{stops-found}
 use Rattle.nomos_program.proofs.elaborate.lists_of.Goals as goal
 
 pub returns-in_err-types : goal.returns-in_err-types

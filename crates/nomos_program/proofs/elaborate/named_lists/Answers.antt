@@ -1,7 +1,10 @@
 use Rattle.std.proofs.Common.{List, map, refl, sym, ap, subst}
 use Rattle.nomos_elaborate.proofs.EntryLaws.{decls-may_be_made}
-use Rattle.nomos_elaborate.proofs.Walks.{found_same, lists_stop}
+use Rattle.nomos_elaborate.proofs.StopLaws.{found_same}
+use Rattle.nomos_program.proofs.DeclaringLemmas.{lists_stop}
+use Rattle.nomos_program.proofs.NestingLaws.{decls-nested}
 use Rattle.nomos_elaborate.specs.CostModel.{model_of}
+use Rattle.nomos_elaborate.specs.Nesting.{IsNestedWithinLimit}
 use Rattle.nomos_elaborate.specs.Spaces.{declaring_all, no_names}
 use Rattle.nomos_elaborate.specs.mirror.Checked.{found}
 use Rattle.nomos_program.proofs.elaborate.named_lists.Goals as goal
@@ -23,9 +26,11 @@ declare_all-requires c =
     let tree = file_tree c.args.surface.now in
     let same = ap (map decl_tree) c.as_slice.ensures in
     record {
-      keeps = subst (λ (xs : List DeclTree). Each KeepsDecl xs) (sym same) c.requires.decls;
+      keeps = subst (λ (xs : List DeclTree). Each KeepsDecl xs) (sym same) c.requires.limits.decls;
+      nests =
+          subst (λ (xs : List DeclTree). Each IsNestedWithinLimit xs) (sym same) (decls-nested tree c.requires.nests);
       room =
           decls-may_be_made tree (map decl_tree c.as_slice.result.now) (declaring_all no_names tree.decls)
-          (model_of tree.cost) c.in_ok-walk.walk c.requires same
+          (model_of tree.cost) c.in_ok-walk.walk c.requires.limits same
           (ap (λ decls. found (declaring_all no_names decls)) same) (sym (found_same c.in_ok-walk.ensures));
     }

@@ -6,7 +6,8 @@ use Rattle.nomos_elaborate.specs.mirror.CodeCheck.{arms_alone, check_arm, check_
 use Rattle.nomos_surface.specs.CodeView.{arm_tree, arm_trees, code_tree, last_tree}
 use Rattle.nomos_surface.specs.StepView.{step_tree}
 use Rattle.nomos_surface.specs.Tree.{code}
-use Rattle.nomos_elaborate.proofs.Loops.{items-left, each-more, each-stops, each-all, stops-then}
+use Rattle.nomos_elaborate.proofs.Loops.{items-left, each-more, each-stops, each-all}
+use Rattle.nomos_elaborate.proofs.StopLaws.{stops-then}
 use Rattle.nomos_elaborate.proofs.CodeSteps.{code_stops, whole_code}
 use Rattle.nomos_surface.specs.declared.codes.SurfaceLast.{the_lemmas}
 use Rattle.nomos_elaborate.proofs.CodeLoops.{arms_are_each}

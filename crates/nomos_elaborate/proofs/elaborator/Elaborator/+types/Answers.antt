@@ -5,7 +5,8 @@ use Rattle.nomos_elaborate.specs.mirror.Each.{each}
 use Rattle.nomos_elaborate.specs.mirror.TypeCheck.{branches_alone, check_branch, check_type}
 use Rattle.nomos_surface.specs.TypeView.{branch_tree, branch_trees}
 use Rattle.nomos_elaborate.proofs.EntryLaws.{type_counts}
-use Rattle.nomos_elaborate.proofs.Loops.{items-left, each-more, each-stops, each-all, stops-then}
+use Rattle.nomos_elaborate.proofs.Loops.{items-left, each-more, each-stops, each-all}
+use Rattle.nomos_elaborate.proofs.StopLaws.{stops-then}
 use Rattle.nomos_elaborate.proofs.TypeLoops.{branches_are_each}
 use Rattle.nomos_elaborate.specs.mirror.Entries.{most_of}
 use Rattle.nomos_surface.specs.TreeBounds.{KeepsBranches}

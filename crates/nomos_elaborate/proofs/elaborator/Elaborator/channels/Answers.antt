@@ -3,7 +3,8 @@ use Rattle.std.proofs.lemmas.Result.{err_from_is_err_and}
 use Rattle.nomos_elaborate.specs.mirror.Checked.{found}
 use Rattle.nomos_elaborate.specs.mirror.CodeCheck.{check_passed, check_channel, passing}
 use Rattle.nomos_elaborate.specs.mirror.Each.{each}
-use Rattle.nomos_elaborate.proofs.Loops.{each-more, each-stops, stops-then}
+use Rattle.nomos_elaborate.proofs.Loops.{each-more, each-stops}
+use Rattle.nomos_elaborate.proofs.StopLaws.{stops-then}
 use Rattle.nomos_elaborate.proofs.elaborator.Elaborator.channels.Goals as goal
 
 pub loop-name-init : goal.loop-name-init

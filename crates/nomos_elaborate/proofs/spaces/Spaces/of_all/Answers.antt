@@ -1,7 +1,8 @@
 use Rattle.std.proofs.Common.{map, ap}
 use Rattle.std.proofs.lemmas.Result.{err_from_is_err_and}
 use Rattle.nomos_elaborate.specs.Spaces.{declaring_all}
-use Rattle.nomos_elaborate.proofs.Walks.{names_all, names_next, stops-found}
+use Rattle.nomos_elaborate.proofs.StopLaws.{stops-found}
+use Rattle.nomos_elaborate.proofs.Walks.{names_all, names_next}
 use Rattle.nomos_surface.specs.FileView.{decl_tree}
 use Rattle.nomos_elaborate.proofs.spaces.Spaces.of_all.Goals as goal
 

@@ -1,7 +1,7 @@
 use Rattle.std.proofs.Common.{map, ap, subst, arith}
 use Rattle.std.proofs.lemmas.Result.{err_from_is_err_and}
-use Rattle.nomos_elaborate.proofs.Loops.{items-left}
-use Rattle.nomos_elaborate.proofs.Walks.{decls_all, decls_next, decls_stop}
+use Rattle.nomos_program.proofs.DeclaringLemmas.{items-left, decls_all, decls_next, decls_stop}
+use Rattle.nomos_elaborate.specs.Nesting.{IsNestedWithinLimit}
 use Rattle.nomos_elaborate.specs.mirror.Entries.{most_of}
 use Rattle.nomos_surface.specs.TreeBounds.{KeepsDecl}
 use Rattle.nomos_surface.specs.Counts.{in_decl, in_each}
@@ -20,6 +20,7 @@ loop-decl-preserved c =
           c.decl-item.result c.loop-decl-test.true c.decl-item.is c.in_ok-declare.ensures.gives
           c.loop-decl.invariant.gives;
       keeps = (subst (λ xs. Each KeepsDecl (map decl_tree xs)) left c.loop-decl.invariant.keeps).1;
+      nests = (subst (λ xs. Each IsNestedWithinLimit (map decl_tree xs)) left c.loop-decl.invariant.nests).1;
       room = omega (arith, c.in_ok-declare.ensures.grows);
     }
 
@@ -30,6 +31,7 @@ declare-requires c =
     let rest = ap (λ xs. most_of (in_each in_decl (map decl_tree xs))) left in
     record {
       keeps = (subst (λ xs. Each KeepsDecl (map decl_tree xs)) left c.loop-decl.invariant.keeps).0;
+      nests = (subst (λ xs. Each IsNestedWithinLimit (map decl_tree xs)) left c.loop-decl.invariant.nests).0;
       room = omega arith;
     }
 

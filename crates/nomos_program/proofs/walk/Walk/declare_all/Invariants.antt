@@ -1,4 +1,5 @@
 use Rattle.std.proofs.Common.{◌≡◌, map, drop}
+use Rattle.nomos_elaborate.specs.Nesting.{IsNestedWithinLimit}
 use Rattle.nomos_elaborate.specs.mirror.FileCheck.{check_decls}
 use Rattle.nomos_elaborate.specs.mirror.Entries.{MayMake}
 use Rattle.nomos_surface.specs.TreeBounds.{KeepsDecl}
@@ -13,5 +14,6 @@ invariant-loop-decl l = record {
   gives : check_decls l.self (map decl_tree (drop l.decl-index l.decls))
       ≡ check_decls l.fn.self (map decl_tree l.decls);
   keeps : Each KeepsDecl (map decl_tree (drop l.decl-index l.decls));
+  nests : Each IsNestedWithinLimit (map decl_tree (drop l.decl-index l.decls));
   room : MayMake l.self.work (in_each in_decl (map decl_tree (drop l.decl-index l.decls)));
 }

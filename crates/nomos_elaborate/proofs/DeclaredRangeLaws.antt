@@ -1,7 +1,7 @@
 -- The ids in the declarations of a text are in range, where its claims hold.
 use Rattle.std.proofs.Common.{ℕ, ◌<◌, ◌≤◌, true, false, List, [], ◌∷◌, ◌++◌, length, get_or, All, Option, Some, None, arith}
 use Rattle.std.proofs.lemmas.List.Elements.{All-nil, All-cons, All-push}
-use Rattle.nomos_elaborate.proofs.BuiltRange.{InRange, InRange-nothing, none_below, Made, Made-then, Made-same, aside_made, variable_made, amount_made, type_put}
+use Rattle.nomos_elaborate.proofs.BuiltRangeLaws.{InRange, InRange-nothing, none_below, Made, Made-then, Made-same, aside_made, variable_made, amount_made, type_put}
 use Rattle.nomos_elaborate.proofs.NameClaimLaws.{AllHold, rest_hold, left_hold, right_hold}
 use Rattle.nomos_elaborate.proofs.CodeRange.{code_made}
 use Rattle.nomos_elaborate.proofs.TypeRange.{type_made, term_made}

@@ -1,6 +1,6 @@
 -- Each type node of a program stands after its parts, and in one place.
 use Rattle.std.proofs.Common.{◌≡◌, ℕ, ◌+◌, List, [], ◌∷◌, ◌++◌, length, map, flat_map, refl, sym, subst, ◌∙◌, arith}
-use Rattle.nomos_elaborate.proofs.NodesKept.{quantity_kept, process_pars_kept, value_pars_kept, declared_amount_kept, term_puts_terms, code_types}
+use Rattle.nomos_elaborate.proofs.KeptNodeLaws.{quantity_kept, process_pars_kept, value_pars_kept, declared_amount_kept, term_puts_terms, code_types}
 use Rattle.nomos_elaborate.proofs.StandOnce.{Placed, placed_none, placed_same, placed_front, placed_more, count_of-append, count_of-cons, count_of-map_push, count_of-flat_map_push}
 use Rattle.nomos_elaborate.specs.Built.{Built, with_label, with_variable, put_type, amount_of, kind_of}
 use Rattle.nomos_elaborate.specs.CostModel.{model_of}

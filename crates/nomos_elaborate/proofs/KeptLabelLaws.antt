@@ -2,7 +2,7 @@
 use Rattle.std.proofs.Common.{◌≡◌, ℕ, Bool, true, false, List, All, refl, sym, ap, subst, ◌∙◌}
 use Rattle.std.specs.Prelude.{if◌then◌else◌}
 use Rattle.std.proofs.lemmas.List.Elements.{All-push}
-use Rattle.nomos_elaborate.proofs.DistinctNames.{AllNamesDiffer, none_differ, seen-differ}
+use Rattle.nomos_elaborate.proofs.DistinctNameLaws.{AllNamesDiffer, none_differ, seen-differ}
 use Rattle.nomos_elaborate.proofs.NumberLaws.{Grows, Grows-same, Grows-then, Grows-seen}
 use Rattle.nomos_elaborate.specs.Built.{Built, with_label, with_variable, put_type, quantity_amount}
 use Rattle.nomos_elaborate.specs.CostModel.{is_charged, put_node, put_work, put_code}

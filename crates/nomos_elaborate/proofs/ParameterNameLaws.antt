@@ -5,9 +5,9 @@ use Rattle.std.specs.Str.{bytes_eq}
 use Rattle.std.proofs.lemmas.List.Elements.{All-nil, All-cons, All-append}
 use Rattle.std.proofs.lemmas.List.Kept.{AllPairs-cons}
 use Rattle.nomos_elaborate.proofs.NameClaimLaws.{AllHold, first_holds, rest_hold, right_hold}
-use Rattle.nomos_elaborate.proofs.DistinctNames.{AreNew, new-differ, AllNamesDiffer, Numbered, none, Numbered-grows, Numbered-append, Numbered-seen, Numbered-differ}
+use Rattle.nomos_elaborate.proofs.DistinctNameLaws.{AreNew, new-differ, AllNamesDiffer, Numbered, none, Numbered-grows, Numbered-append, Numbered-seen, Numbered-differ}
 use Rattle.nomos_elaborate.proofs.NumberLaws.{Grows, Grows-same, Grows-then, Grows-seen}
-use Rattle.nomos_elaborate.proofs.TypeLabels.{amount-variables, type-variables}
+use Rattle.nomos_elaborate.proofs.TypeLabelLaws.{amount-variables, type-variables}
 use Rattle.nomos_elaborate.specs.Built.{Built, with_variable}
 use Rattle.nomos_elaborate.specs.NameClaim.{NameClaim, new_on_way}
 use Rattle.nomos_elaborate.specs.FileBuild.{build_value_pars, par_amount, build_process_pars, build_chan_pars, with_payer}

@@ -1,8 +1,8 @@
 -- The labels of each choice of a type differ.
 use Rattle.std.proofs.Common.{◌≡◌, Bool, true, false, not, List, [], ◌∷◌, ◌++◌, map, refl, sym, ◌∙◌}
 use Rattle.nomos_elaborate.proofs.NameClaimLaws.{AllHold, first_holds, rest_hold, left_hold, right_hold}
-use Rattle.nomos_elaborate.proofs.DistinctNames.{AreNew, new-differ, none_differ, Numbered, none, Numbered-seen, Numbered-differ}
-use Rattle.nomos_elaborate.proofs.KeptLabels.{KeepsLabels, keeps-none, keeps-then, keeps-same, keeps-label, keeps-put_type, amount-labelled}
+use Rattle.nomos_elaborate.proofs.DistinctNameLaws.{AreNew, new-differ, none_differ, Numbered, none, Numbered-seen, Numbered-differ}
+use Rattle.nomos_elaborate.proofs.KeptLabelLaws.{KeepsLabels, keeps-none, keeps-then, keeps-same, keeps-label, keeps-put_type, amount-labelled}
 use Rattle.nomos_elaborate.proofs.NumberLaws.{Grows-then}
 use Rattle.nomos_elaborate.specs.Built.{Built, with_label, amount_of, kind_of, quantity_amount}
 use Rattle.nomos_elaborate.specs.NameClaim.{NameClaim, new_among}

@@ -1,10 +1,10 @@
 -- The labels of each `case` of a code differ.
 use Rattle.std.proofs.Common.{◌≡◌, ℕ, List, [], ◌∷◌, ◌++◌, map, Option, Some, None, refl, ◌∙◌}
 use Rattle.nomos_elaborate.proofs.NameClaimLaws.{AllHold, rest_hold, left_hold, right_hold}
-use Rattle.nomos_elaborate.proofs.DistinctNames.{AreNew, new-differ, none_differ, one_differs, Numbered, none, Numbered-seen, Numbered-differ}
-use Rattle.nomos_elaborate.proofs.KeptLabels.{labelled, KeepsLabels, keeps-none, keeps-then, keeps-same, keeps-label, keeps-put_code, amount-labelled, term-labelled}
+use Rattle.nomos_elaborate.proofs.DistinctNameLaws.{AreNew, new-differ, none_differ, one_differs, Numbered, none, Numbered-seen, Numbered-differ}
+use Rattle.nomos_elaborate.proofs.KeptLabelLaws.{labelled, KeepsLabels, keeps-none, keeps-then, keeps-same, keeps-label, keeps-put_code, amount-labelled, term-labelled}
 use Rattle.nomos_elaborate.proofs.NumberLaws.{Grows-then}
-use Rattle.nomos_elaborate.proofs.TypeLabels.{new_is_out}
+use Rattle.nomos_elaborate.proofs.TypeLabelLaws.{new_is_out}
 use Rattle.nomos_elaborate.specs.Built.{Built, with_label, with_variable, label_id, variable_id, amount_of}
 use Rattle.nomos_elaborate.specs.NameClaim.{new_among, new_on_way, bound_list, chan_claims}
 use Rattle.nomos_elaborate.specs.CodeBuild.{chan_of, process_id, build_value, build_unless_list, build_argument, build_values, build_arguments, build_step, build_steps, build_code, build_last, build_arms}

@@ -2,7 +2,7 @@
 use Rattle.std.proofs.Common.{◌≡◌, ◌≤◌, inl, inr, ℕ, Bool, true, false, List, [], ◌∷◌, ◌++◌, length, map, flat_map, refl, sym, subst, ◌∙◌, arith}
 use Rattle.std.proofs.lemmas.Bool.{cases_lt}
 use Rattle.std.specs.Prelude.{if◌then◌else◌}
-use Rattle.nomos_elaborate.proofs.NodesKept.{process_pars_kept, value_pars_kept, declared_amount_kept, type_puts_types, chan_pars_put_types, term_puts_terms, values_put_terms, step_puts_terms}
+use Rattle.nomos_elaborate.proofs.KeptNodeLaws.{process_pars_kept, value_pars_kept, declared_amount_kept, type_puts_types, chan_pars_put_types, term_puts_terms, values_put_terms, step_puts_terms}
 use Rattle.nomos_elaborate.proofs.StandOnce.{Placed, placed_none, placed_same, placed_front, placed_more, count_of-append, count_of-cons, count_of-map_push}
 use Rattle.nomos_elaborate.specs.Built.{Built, with_label, with_variable, variable_id, put_type}
 use Rattle.nomos_elaborate.specs.CodeBuild.{build_value, build_arguments, build_step, build_steps, build_code, build_last, build_arms, chan_of, process_id}
