@@ -57,7 +57,7 @@ abbrev pub node_steps : (ℕ → ℕ) → Option TermNode → ℕ
 node_steps part_steps None = 4
 node_steps part_steps (Some n) = 4 + sum_by (λ p. 1 + part_steps p) (term_parts n)
 
--- the sum over the tree of a term down to a depth: each node counts as often as it stands in the tree, and no more often
+-- the sum over the tree of a term down to a depth: each node counts as often as it stands in the tree
 abbrev pub tree_steps : ProgramLists → ℕ → ℕ → ℕ
 tree_steps lists zero t = 4
 tree_steps lists (suc depth) t = node_steps (tree_steps lists depth) (slice_get lists.terms t)
