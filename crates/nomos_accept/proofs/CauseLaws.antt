@@ -11,18 +11,19 @@ use Rattle.nomos_elaborate.proofs.InstructionLaws.{Tells}
 use Rattle.nomos_elaborate.specs.NameClaim.{first_broken}
 use Rattle.nomos_elaborate.specs.FileClaims.{claims_of}
 use Rattle.nomos_program.specs.WrittenWork.{written_work}
-use Rattle.nomos_equality.specs.declared.hop.Hop.{Hop}
 use Rattle.nomos_grammar.proofs.OffenceLaws.{error_once}
 use Rattle.nomos_grammar.specs.declared.offence.GrammarError.{GrammarError}
 use Rattle.nomos_grammar.specs.declared.offence.GrammarError.TheVariants as grammar
 use Rattle.nomos_grammar.specs.declared.offence.Which.{Which}
+use Rattle.nomos_ir.proofs.FirstOffsetLaws.{first-once}
+use Rattle.nomos_ir.specs.FirstOffset.{IsFirstAt}
 use Rattle.nomos_ir.specs.declared.lists.ProgramLists.{ProgramLists}
-use Rattle.nomos_rows.specs.PartFaults.{LeadsAstray, IsFaulty, IsFirstFault}
+use Rattle.nomos_rows.specs.PartFaults.{IsAstray, IsFaulty}
 use Rattle.nomos_surface.specs.Tree.{FileTree}
 use Rattle.nomos_syntax.specs.Scan.{tokens_of}
 use Rattle.nomos_syntax.specs.Spans.{IsFirstNotAscii}
 use Rattle.nomos_ir.specs.declared.type_node.Def.{Def}
-use Rattle.nomos_types.specs.Forming.{StandsAtOffset, IsFirstBareName, IsFirstOffence}
+use Rattle.nomos_types.specs.Forming.{StandsAtOffset, OffendsAt, IsFirstBareName}
 
 -- what an error of the grammar names
 abbrev offset_in : GrammarError → Option ℕ
@@ -39,16 +40,9 @@ limit_in grammar.NoMemory = None
 abbrev IsPlaced : (ProgramLists → ℕ → Type 0) → List ℕ → Option ℕ → Type 0
 IsPlaced P text o = (lists : ProgramLists) × (at : ℕ) × IsReadAs text lists × P lists at × (o ≡ Some at)
 
--- the first `up` that leads astray
-pub record IsFirstAstray (lists : ProgramLists) (at : ℕ) : Type 0 where
-  path : List Hop
-  astray : LeadsAstray lists at path
-  first : (other : ℕ) (p : List Hop) → LeadsAstray lists other p → at ≤ other
-
--- the first fault of a function or a process
-pub record IsFault (lists : ProgramLists) (at : ℕ) : Type 0 where
-  faulty : IsFaulty lists at
-  first : IsFirstFault lists at
+-- the text reads as a program in which this is the first that stands in some way
+abbrev IsFirstPlaced : (ProgramLists → ℕ → Type 0) → List ℕ → Option ℕ → Type 0
+IsFirstPlaced Stands = IsPlaced (λ lists. IsFirstAt (Stands lists))
 
 -- the offset and the limit that a step finds
 abbrev Finds : ℕ → List ℕ → Option ℕ → Option Which → Type 0
@@ -59,9 +53,9 @@ Finds (suc (suc zero)) text o l =
 Finds (suc (suc (suc zero))) text o l = ReadsWith text (λ tree. first_broken (claims_of tree) ≡ o) × (l ≡ None)
 Finds (suc (suc (suc (suc zero)))) text o l = ReadsWith text (λ tree. written_work tree ≡ o) × (l ≡ None)
 Finds (suc (suc (suc (suc (suc zero))))) text o l = IsPlaced IsFirstBareName text o × (l ≡ None)
-Finds (suc (suc (suc (suc (suc (suc zero)))))) text o l = IsPlaced IsFirstOffence text o × (l ≡ None)
-Finds (suc (suc (suc (suc (suc (suc (suc zero))))))) text o l = IsPlaced IsFirstAstray text o × (l ≡ None)
-Finds (suc (suc (suc (suc (suc (suc (suc (suc zero)))))))) text o l = IsPlaced IsFault text o × (l ≡ None)
+Finds (suc (suc (suc (suc (suc (suc zero)))))) text o l = IsFirstPlaced OffendsAt text o × (l ≡ None)
+Finds (suc (suc (suc (suc (suc (suc (suc zero))))))) text o l = IsFirstPlaced IsAstray text o × (l ≡ None)
+Finds (suc (suc (suc (suc (suc (suc (suc (suc zero)))))))) text o l = IsFirstPlaced IsFaulty text o × (l ≡ None)
 Finds _ text o l = (o ≡ None) × (l ≡ None)
 
 -- what the cause names is what its step finds
@@ -76,13 +70,13 @@ finds text (why.Contractive at) (lists, read, bare) = ((lists, at, read, bare, r
 finds text (why.Mode at) (lists, read, both) = ((lists, at, read, both.1, refl), refl)
 finds text (why.NotSync at path) (lists, read, both) =
     let (astray, first, never) = both.1 in
-    ((lists, at, read, record { path = path; astray = astray; first = first }, refl), refl)
+    ((lists, at, read, record { there = (path, astray); first = first }, refl), refl)
 finds text (why.TermType at) (lists, read, both) =
     let (back, other, first, never) = both.1 in
-    ((lists, at, read, record { faulty = inl other; first = first }, refl), refl)
+    ((lists, at, read, record { there = inl other; first = first }, refl), refl)
 finds text (why.ProcType at form) (lists, read, both) =
     let (back, stuck, first, never) = both.1 in
-    ((lists, at, read, record { faulty = inr (form, stuck); first = first }, refl), refl)
+    ((lists, at, read, record { there = inr (form, stuck); first = first }, refl), refl)
 finds text (why.NoPotential verdict) cause = (refl, refl)
 
 -- the first bare name is one
@@ -102,16 +96,6 @@ bare-once lists a b first other =
     let both : Some a ≡ Some b = sym first.offset ∙ offset in
     cc
 
-offence-once : (lists : ProgramLists) (a b : ℕ) → IsFirstOffence lists a → IsFirstOffence lists b → a ≡ b
-offence-once lists a b first other = omega (arith, first.first b other.there, other.first a first.there)
-
-astray-once : (lists : ProgramLists) (a b : ℕ) → IsFirstAstray lists a → IsFirstAstray lists b → a ≡ b
-astray-once lists a b first other =
-    omega (arith, first.first b other.path other.astray, other.first a first.path first.astray)
-
-fault-once : (lists : ProgramLists) (a b : ℕ) → IsFault lists a → IsFault lists b → a ≡ b
-fault-once lists a b first other = omega (arith, first.first b other.faulty, other.first a first.faulty)
-
 -- what is at one place of each program is at one place of a text
 placed-once : (P : ProgramLists → ℕ → Type 0) → ((lists : ProgramLists) (a b : ℕ) → P lists a → P lists b → a ≡ b)
     → (text : List ℕ) (o p : Option ℕ) → IsPlaced P text o → IsPlaced P text p → o ≡ p
@@ -119,6 +103,11 @@ placed-once P once text o p (lists, at, read, is, e) (other, to, again, is_too, 
     let same : other ≡ lists = one-program text other lists again read in
     let one : at ≡ to = once lists at to is (subst (λ (l : ProgramLists). P l to) same is_too) in
     e ∙ (ap Some one ∙ sym f)
+
+first-placed-once : (Stands : ProgramLists → ℕ → Type 0) (text : List ℕ) (o p : Option ℕ)
+    → IsFirstPlaced Stands text o → IsFirstPlaced Stands text p → o ≡ p
+first-placed-once Stands =
+    placed-once (λ lists. IsFirstAt (Stands lists)) (λ lists a b. first-once (Stands lists) a b)
 
 -- a step finds one place
 finds-once : (k : ℕ) (text : List ℕ) (o p : Option ℕ) (l m : Option Which) → Finds k text o l → Finds k text p m
@@ -139,11 +128,11 @@ finds-once (suc (suc (suc (suc zero)))) text o p l m ((tree, reads, e), f) ((oth
 finds-once (suc (suc (suc (suc (suc zero))))) text o p l m (a, f) (b, h) =
     (placed-once IsFirstBareName bare-once text o p a b, f ∙ sym h)
 finds-once (suc (suc (suc (suc (suc (suc zero)))))) text o p l m (a, f) (b, h) =
-    (placed-once IsFirstOffence offence-once text o p a b, f ∙ sym h)
+    (first-placed-once OffendsAt text o p a b, f ∙ sym h)
 finds-once (suc (suc (suc (suc (suc (suc (suc zero))))))) text o p l m (a, f) (b, h) =
-    (placed-once IsFirstAstray astray-once text o p a b, f ∙ sym h)
+    (first-placed-once IsAstray text o p a b, f ∙ sym h)
 finds-once (suc (suc (suc (suc (suc (suc (suc (suc zero)))))))) text o p l m (a, f) (b, h) =
-    (placed-once IsFault fault-once text o p a b, f ∙ sym h)
+    (first-placed-once IsFaulty text o p a b, f ∙ sym h)
 finds-once (suc (suc (suc (suc (suc (suc (suc (suc (suc k))))))))) text o p l m a b = (a.0 ∙ sym b.0, a.1 ∙ sym b.1)
 
 -- What a step finds of a form: of a fault, what the tokens tell from its offset on; of all else nothing.

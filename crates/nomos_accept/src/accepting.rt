@@ -20,8 +20,7 @@ use nomos_simplex::solving::solve;
 use nomos_types::accepted::Accepted;
 use std::alloc::Global;
 
-/// The acceptance of a program under amounts that meet its rows. They are put back into the rows before they are
-/// believed.
+/// The acceptance of a program under amounts that meet its rows. They are put back into the rows, and proved to pass.
 pub fn accepted(program: Program, rows: &RowList, found: Found) -> Accepted
     requires rows { HasRows program rows.now }
     requires found { IsFound rows.now.stars found }
@@ -35,7 +34,8 @@ pub fn accepted(program: Program, rows: &RowList, found: Found) -> Accepted
     Accepted::of_typed(program, found.stars, found.unit)
 }
 
-/// The refusal of a program whose rows are refuted. That the verdict refutes them is looked at before it is given.
+/// The refusal of a program whose rows are refuted. From `refutes`, which the verdict is proved to pass, comes that no
+/// amounts meet them.
 pub fn refuted(rows: &RowList, verdict: Verdict) -> AcceptError
     requires verdict { IsVerdict verdict }
     requires refutes { Refutes rows.now.stars rows.now.rows verdict }

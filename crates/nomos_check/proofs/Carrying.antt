@@ -101,7 +101,8 @@ each-beside {lists} {x} {i} {j} {a} {n} {before} {after} formed own beside row t
 -- A property of judgements and accounts that rows keep, and under which what is needed is met.
 pub record Provides (lists : ProgramLists) (x y : Annotations) (Good : Judgement → Account → Type 0) : Type 0 where
   pub next : (j k : Judgement) (a b : Account) (n : CodeNode) (after : List Judgement) → Good j a
-      → StandsAtCode lists j n → TypingRule lists x j after → Contains (zip after (accounts_after lists n a)) (k, b) → Good k b
+      → StandsAtCode lists j n → TypingRule lists x j after → Contains (zip after (accounts_after lists n a)) (k, b)
+      → Good k b
   pub afforded : (j : Judgement) (a : Account) → Good j a → Affords y a
   pub call : (j : Judgement) (a : Account) (at : ℕ) (f : ProcId) (args : Args) (d : ProcDecl) → Good j a
       → StandsAtCode lists j (code.Call at f args) → slice_get lists.procs f.0 ≡ Some d → Affords y (spends d.amount a)

@@ -22,7 +22,8 @@ record LedBy (lists : ProgramLists) (j k : Judgement) : Type 0 where
   there : StandsAtCode lists j node
   among : Contains (code_next node) (place k)
 
-led-by : {lists : ProgramLists} {x : Annotations} {j k : Judgement} (after : List Judgement) → TypingRule lists x j after
+led-by : {lists : ProgramLists} {x : Annotations} {j k : Judgement} (after : List Judgement)
+    → TypingRule lists x j after
     → Contains after k → LedBy lists j k
 led-by {lists} {x} {j} {k} after row among =
     let (n, there, says) = row-at row in
@@ -63,7 +64,8 @@ module _ {lists : ProgramLists} (is_program : IsProgram lists) where
 
   -- what is said of the judgements with which a row goes on, one thing of each, is one thing at a place
   pub one-at_place : {X : Type 0} {x : Annotations} {j : Judgement} (f : X → Judgement) (said : List X)
-      (after : List Judgement) (s t : X) → TypingRule lists x j after → map f said ≡ after → Contains said s → Contains said t
+      (after : List Judgement) (s t : X) → TypingRule lists x j after → map f said ≡ after → Contains said s
+      → Contains said t
       → (f s).code ≡ (f t).code → s ≡ t
   one-at_place {X} {x} {j} f said after s t row is among among_too same =
       let (n, there, says) = row-at row in

@@ -155,7 +155,7 @@ module _ {lists : ProgramLists} (p : ℕ) (d : ProcDecl) (formed : IsWellFormed 
             is_form = of.is_form;
           };
           first =
-              λ at form other.
+              λ at (form, other).
               let (a, reached) = follows-reaches formed begins other.judgement other.stuck.follows in
               let done = gathered.done other.judgement a reached in
               let by : IsStuckBy w.stuck (code_offset other.node) =

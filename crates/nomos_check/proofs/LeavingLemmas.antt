@@ -76,7 +76,8 @@ module _ {lists : ProgramLists} (is_program : IsProgram lists) {s : Standing} {o
       subst (λ (k : Judgement). Done k a) shape (subst (Done (shape_of s)) account (visits-done visits b has))
 
   -- an instruction without a rule, or at whose end nothing follows
-  pub leaves-none : ((after : List Judgement) → TypingRule lists no_amounts (shape_of s) after → after ≡ []) → (j : Judgement)
+  pub leaves-none : ((after : List Judgement) → TypingRule lists no_amounts (shape_of s) after → after ≡ [])
+      → (j : Judgement)
       (a : Account) → AtStanding lists (star_count lists) s j a → IsDone lists (star_count lists) new j a
   leaves-none ends j a at =
       ⊎_elim (λ here. done-there at.has here.0 here.1)

@@ -61,12 +61,14 @@ module _ {lists : ProgramLists} {o : Outset} (formed : IsWellFormed lists)
       }
 
   -- and suits its mode, where the first one does
-  pub suits-reached : SuitsMode lists o.judgement → (j : Judgement) (a : Account) → GetsTo lists o j a → SuitsMode lists j
+  pub suits-reached : SuitsMode lists o.judgement → (j : Judgement) (a : Account) → GetsTo lists o j a
+      → SuitsMode lists j
   suits-reached first _ _ reaching.start = first
   suits-reached first k b (reaching.next {j} {a = a} n after before there row among) =
       let s = stands-reached j a before in
       let inside = paired-first after (accounts_after lists n a) k b among in
-      All-contains (SuitsMode lists) after k (row-keeps_mode formed s.judgement (suits-reached first j a before) row) inside
+      All-contains (SuitsMode lists) after k (row-keeps_mode formed s.judgement (suits-reached first j a before) row)
+      inside
 
   -- its lists are those of the account
   pub reached-lists : (j : Judgement) (a : Account) → GetsTo lists o j a → keys_of j.lists ≡ keys_of a.lists
@@ -99,7 +101,8 @@ module _ {lists : ProgramLists} {o : Outset} (formed : IsWellFormed lists)
 
   -- so none leads to it
   not-first : (k : Judgement) (b : Account) {j : Judgement} {a : Account} (n : CodeNode) (after : List Judgement)
-      → GetsTo lists o j a → TypingRule lists no_amounts j after → Contains (zip after (accounts_after lists n a)) (k, b)
+      → GetsTo lists o j a → TypingRule lists no_amounts j after
+      → Contains (zip after (accounts_after lists n a)) (k, b)
       → k.code ≡ o.judgement.code → ⊥
   not-first k b {j} {a} n after before row among first =
       let lower = row-descends formed row (paired-first after (accounts_after lists n a) k b among) in

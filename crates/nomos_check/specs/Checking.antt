@@ -1,5 +1,5 @@
 -- What is answered of a process.
-use Rattle.std.specs.Prelude.{◌≡◌, ◌≤◌, ◌↔◌, ℕ, List, Contains, All, pos, ◌≤ℤ◌, length, ◌⊎◌}
+use Rattle.std.specs.Prelude.{◌≡◌, ◌↔◌, ℕ, List, Contains, All, pos, ◌≤ℤ◌, length, ◌⊎◌}
 use Rattle.std.specs.declared.result.Result.{Result}
 use Rattle.std.specs.declared.result.Result.TheVariants.{Ok, Err}
 use Rattle.nomos_ir.specs.declared.amount.Amount.{Amount}
@@ -7,6 +7,7 @@ use Rattle.nomos_ir.specs.declared.code_form.CodeForm.{CodeForm}
 use Rattle.nomos_ir.specs.declared.code_node.CodeNode.{CodeNode}
 use Rattle.nomos_ir.specs.declared.declaration.ProcDecl.{ProcDecl}
 use Rattle.nomos_ir.specs.declared.lists.ProgramLists.{ProgramLists}
+use Rattle.nomos_ir.specs.FirstOffset.{NoneBefore}
 use Rattle.nomos_ir.specs.Instruction.{code_offset, code_form}
 use Rattle.nomos_equality.specs.Answer.{SameWorth}
 use Rattle.nomos_equality.specs.Comparing.{Compared}
@@ -36,7 +37,7 @@ pub record IsStuckAt (lists : ProgramLists) (d : ProcDecl) (at : ℕ) (f : CodeF
 -- under any amounts.
 pub record IsFirstStuck (lists : ProgramLists) (d : ProcDecl) (at : ℕ) (f : CodeForm) : Type 0 where
   pub stuck : IsStuckAt lists d at f
-  pub first : (other_at : ℕ) (other : CodeForm) → IsStuckAt lists d other_at other → at ≤ other_at
+  pub first : NoneBefore (λ other. (g : CodeForm) × IsStuckAt lists d other g) at
   pub no_skeleton : ¬ (HasSkeleton lists d)
   pub no_derivation : (x : Annotations) → ¬ (Derives lists x (start_of lists x d))
 

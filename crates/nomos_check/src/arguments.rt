@@ -6,7 +6,7 @@ ghost use Rattle.nomos_ir.specs.Ids.{AllBelow};
 ghost use Rattle.nomos_types.specs.Judgement.{IsJudgement};
 ghost use Rattle.nomos_types.specs.Typed.{IsWellFormed};
 ghost use Rattle.nomos_check.specs.mirror.Passing.{TellsArguments};
-ghost use Rattle.nomos_check.specs.mirror.StandingData.{shape_of, IsReady};
+ghost use Rattle.nomos_check.specs.mirror.StandingData.{shape_of, IsReady, KeepsCompared};
 
 use crate::asked::Asked;
 use crate::giving::pass_values;
@@ -31,6 +31,7 @@ pub(crate) fn pass_arguments(
     requires terms { AllBelow (length program.now.terms) (flat_map arg_terms args.now.values) }
     requires in_range { All (λ par. par.1.0 < length program.now.types) d.now.channels }
     ensures ready { IsReady program.now asked.new }
+    ensures kept { KeepsCompared asked.old asked.new }
     ensures tells { IfOk result (TellsArguments program.now now.old now.new d.now args.now asked.old asked.new) }
 {
     if !pass_values(

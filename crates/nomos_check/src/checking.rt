@@ -3,13 +3,13 @@ ghost use Rattle.std.specs.Prelude.{◌≡◌, ◌<◌, [], MatchOption, Some, N
 ghost use Rattle.nomos_ir.specs.declared.amount.Amount.{Amount};
 ghost use Rattle.nomos_ir.specs.declared.declaration.ProcDecl.{ProcDecl};
 ghost use Rattle.nomos_ir.specs.Amounts.{star_count};
-ghost use Rattle.nomos_equality.specs.Comparing.{HasCompared};
+ghost use Rattle.nomos_equality.specs.Comparing.{HasCompared, StaysCompared};
 ghost use Rattle.nomos_types.specs.Typed.{IsWellFormed};
 ghost use Rattle.nomos_check.specs.Checker.{IsCheckerOf};
 ghost use Rattle.nomos_check.specs.Checking.{AnswersProcess, AnswersProcessBeside};
 ghost use Rattle.nomos_check.specs.mirror.ProcessAnswers.{GathersAll, JoinsPairs};
 ghost use Rattle.nomos_check.specs.mirror.Fresh.{IsFresh};
-ghost use Rattle.nomos_check.specs.mirror.StandingData.{IsReady};
+ghost use Rattle.nomos_check.specs.mirror.StandingData.{IsReady, KeepsCompared};
 
 use crate::asked::Asked;
 use crate::checker::Checker;
@@ -60,6 +60,7 @@ fn gather(
     requires ready { IsReady program.now walk.old.asked }
     requires fresh { IsFresh walk.old }
     ensures ready { IsReady program.now walk.new.asked }
+    ensures kept { KeepsCompared walk.old.asked walk.new.asked }
     ensures gathers { OnOk result (GathersAll program.now p walk.old walk.new) }
 {
     let first = start(program, checker, p)?;
@@ -86,8 +87,8 @@ fn answer(
 }
 
 /// What the process declaration with this number asks for, in units of gas; `docs/LANGUAGE.md`, "Potential as a sum",
-/// has the rules. The pairs that the equality of types needs join those of `equalities`; the others are given. What
-/// was compared stays there also where the process is refused. `ProcType` comes exactly where some instruction is
+/// has the rules. The pairs that the equality of types needs join those of `equalities`; the others are given. In every
+/// case what was compared stays there, each pair in its place. `ProcType` comes exactly where some instruction is
 /// stuck, and names the first one.
 pub fn check_process_with(
     checker: &Checker,
@@ -100,6 +101,7 @@ pub fn check_process_with(
     requires p { p.0 < length program.now.procs }
     requires compared { HasCompared program.now equalities.old }
     ensures compared { HasCompared program.now equalities.new }
+    ensures kept { StaysCompared equalities.old equalities.new }
     ensures answers { (d : ProcDecl) → slice_get program.now.procs p.0 ≡ Some d →
         AnswersProcessBeside program.now (star_count program.now) d equalities.old equalities.new result }
 {

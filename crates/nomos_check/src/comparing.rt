@@ -2,7 +2,7 @@
 ghost use Rattle.std.specs.Prelude.{◌<◌, IfOk, length};
 ghost use Rattle.nomos_types.specs.Typed.{IsWellFormed};
 ghost use Rattle.nomos_check.specs.mirror.Passing.{TellsAlike};
-ghost use Rattle.nomos_check.specs.mirror.StandingData.{IsReady};
+ghost use Rattle.nomos_check.specs.mirror.StandingData.{IsReady, KeepsCompared};
 
 use crate::asked::Asked;
 use crate::modes::{is_mode, mode_of};
@@ -23,6 +23,7 @@ pub(crate) fn are_alike(
     requires own { own.0 < length program.now.types }
     requires other { t.0 < length program.now.types }
     ensures ready { IsReady program.now asked.new }
+    ensures kept { KeepsCompared asked.old asked.new }
     ensures tells { IfOk result (TellsAlike program.now own t asked.old asked.new) }
 {
     let mode = mode_of(program, asked.modes, own);

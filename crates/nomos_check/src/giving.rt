@@ -5,7 +5,7 @@ ghost use Rattle.nomos_ir.specs.Bindings.{IsAscending};
 ghost use Rattle.nomos_ir.specs.CodeParts.{arg_terms};
 ghost use Rattle.nomos_ir.specs.Ids.{AllBelow};
 ghost use Rattle.nomos_check.specs.mirror.Passing.{TellsList, TellsValue, TellsValues};
-ghost use Rattle.nomos_check.specs.mirror.StandingData.{shape_of, IsReady};
+ghost use Rattle.nomos_check.specs.mirror.StandingData.{shape_of, IsReady, KeepsCompared};
 
 use crate::asked::Asked;
 use crate::standing::Standing;
@@ -53,6 +53,7 @@ fn pass_value(
     requires term { AllBelow (length program.now.terms) (arg_terms arg) }
     requires ready { IsReady program.now asked.old }
     ensures ready { IsReady program.now asked.new }
+    ensures kept { KeepsCompared asked.old asked.new }
     ensures tells { IfOk result (TellsValue program.now now.old now.new arg par asked.old asked.new) }
 {
     match (arg, par.amount) {
@@ -74,6 +75,7 @@ pub(crate) fn pass_values(
     requires ready { IsReady program.now asked.old }
     requires ascends { IsAscending (shape_of now.old).lists }
     ensures ready { IsReady program.now asked.new }
+    ensures kept { KeepsCompared asked.old asked.new }
     ensures tells { IfOk result (TellsValues program.now now.old now.new args.now pars.now asked.old asked.new) }
 {
     if args.len() != pars.len() {

@@ -2,7 +2,7 @@
 ghost use Rattle.std.specs.Prelude.{◌<◌, [], ◌∷◌, OnOk};
 ghost use Rattle.nomos_ir.specs.Amounts.{star_count};
 ghost use Rattle.nomos_types.specs.Typed.{IsWellFormed};
-ghost use Rattle.nomos_check.specs.mirror.StandingData.{IsReady};
+ghost use Rattle.nomos_check.specs.mirror.StandingData.{IsReady, KeepsCompared};
 ghost use Rattle.nomos_check.specs.mirror.Walking.{IsOnWay, Goes, IsWalk, WalksOn, width, work};
 
 use crate::branch::along;
@@ -23,6 +23,7 @@ pub(crate) fn go_along(
     requires on_way { IsOnWay program.now (star_count program.now) now }
     requires ready { IsReady program.now walk.old.asked }
     ensures ready { IsReady program.now walk.new.asked }
+    ensures kept { KeepsCompared walk.old.asked walk.new.asked }
     ensures goes { OnOk result (Goes program.now (star_count program.now) now walk.old walk.new) }
 {
     let mut at = now;
@@ -50,6 +51,7 @@ fn take_way(program: &Program, walk: &mut Walk<'_>, forks: Forks) -> Result<(), 
     requires walk { IsWalk program.now (star_count program.now) (forks ∷ walk.old.todo) walk.old }
     requires ready { IsReady program.now walk.old.asked }
     ensures ready { IsReady program.now walk.new.asked }
+    ensures kept { KeepsCompared walk.old.asked walk.new.asked }
     ensures walks { OnOk result (WalksOn program.now (star_count program.now)
         (forks ∷ walk.old.todo) walk.old walk.new.todo walk.new) }
     ensures light { OnOk result (work (width program.now) walk.new.todo < work (width program.now)
@@ -71,6 +73,7 @@ pub(crate) fn go_all(program: &Program, walk: &mut Walk<'_>) -> Result<(), Alloc
     requires walk { IsWalk program.now (star_count program.now) walk.old.todo walk.old }
     requires ready { IsReady program.now walk.old.asked }
     ensures ready { IsReady program.now walk.new.asked }
+    ensures kept { KeepsCompared walk.old.asked walk.new.asked }
     ensures walks { OnOk result (WalksOn program.now (star_count program.now) walk.old.todo walk.old [] walk.new) }
 {
     while let Some(forks) = walk.todo.pop() {

@@ -3,7 +3,7 @@ ghost use Rattle.std.specs.Prelude.{◌<◌, All, IfOk, length};
 ghost use Rattle.nomos_types.specs.Judgement.{IsJudgement};
 ghost use Rattle.nomos_types.specs.Typed.{IsWellFormed};
 ghost use Rattle.nomos_check.specs.mirror.Passing.{TellsChannel, TellsChannels};
-ghost use Rattle.nomos_check.specs.mirror.StandingData.{shape_of, IsReady};
+ghost use Rattle.nomos_check.specs.mirror.StandingData.{shape_of, IsReady, KeepsCompared};
 
 use crate::asked::Asked;
 use crate::comparing::are_alike;
@@ -25,6 +25,7 @@ pub(crate) fn pass_channel(
     requires judgement { IsJudgement program.now (shape_of now.old) }
     requires in_range { t.0 < length program.now.types }
     ensures ready { IsReady program.now asked.new }
+    ensures kept { KeepsCompared asked.old asked.new }
     ensures tells { IfOk result (TellsChannel program.now now.old now.new v t asked.old asked.new) }
 {
     if let Some(own) = now.shared.get(v) {
@@ -54,6 +55,7 @@ pub(crate) fn pass_channels(
     requires judgement { IsJudgement program.now (shape_of now.old) }
     requires in_range { All (λ par. par.1.0 < length program.now.types) pars.now }
     ensures ready { IsReady program.now asked.new }
+    ensures kept { KeepsCompared asked.old asked.new }
     ensures tells { IfOk result (TellsChannels program.now now.old now.new channels.now pars.now asked.old asked.new) }
 {
     if channels.len() != pars.len() {

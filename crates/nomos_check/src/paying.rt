@@ -3,7 +3,7 @@ ghost use Rattle.std.specs.Prelude.{◌≡◌, ℕ, IfOk};
 ghost use Rattle.nomos_ir.specs.declared.code_node.CodeNode.{CodeNode};
 ghost use Rattle.nomos_types.specs.TypingRule.{StandsAtCode};
 ghost use Rattle.nomos_types.specs.Typed.{IsWellFormed};
-ghost use Rattle.nomos_check.specs.mirror.StandingData.{shape_of, IsReady, IsWithin, StepAsks, StepTells};
+ghost use Rattle.nomos_check.specs.mirror.StandingData.{shape_of, IsReady, KeepsCompared, IsWithin, StepAsks, StepTells};
 
 use crate::asked::Asked;
 use crate::chances::{gets_amount, pays_amount};
@@ -40,6 +40,7 @@ pub(crate) fn at_pay(
     requires stands { (at : ℕ) × StandsAtCode program.now (shape_of now.old)
         (CodeNode.Pay at over.channel over.what over.next) }
     ensures ready { IsReady program.now asked.new }
+    ensures kept { KeepsCompared asked.old asked.new }
     ensures tells { IfOk result (StepTells program.now now.old now.new) }
     ensures asks { IfOk result (StepAsks program.now now.old asked.old asked.new) }
 {
@@ -67,6 +68,7 @@ pub(crate) fn at_get(
     requires stands { (at : ℕ) × StandsAtCode program.now (shape_of now.old)
         (CodeNode.Get at over.channel over.what over.next) }
     ensures ready { IsReady program.now asked.new }
+    ensures kept { KeepsCompared asked.old asked.new }
     ensures tells { IfOk result (StepTells program.now now.old now.new) }
     ensures asks { IfOk result (StepAsks program.now now.old asked.old asked.new) }
 {

@@ -5,7 +5,7 @@ ghost use Rattle.nomos_ir.specs.declared.code_node.CodeNode.{CodeNode};
 ghost use Rattle.nomos_types.specs.TypingRule.{StandsAtCode};
 ghost use Rattle.nomos_types.specs.Typed.{IsWellFormed};
 ghost use Rattle.nomos_check.specs.mirror.Finding.{IsFound};
-ghost use Rattle.nomos_check.specs.mirror.StandingData.{shape_of, IsReady, IsWithin, StepAsks, StepTells};
+ghost use Rattle.nomos_check.specs.mirror.StandingData.{shape_of, IsReady, KeepsCompared, IsWithin, StepAsks, StepTells};
 
 use crate::asked::Asked;
 use crate::chances::sends_channel;
@@ -45,6 +45,7 @@ pub(crate) fn at_send(
     requires stands { (at : ℕ) × StandsAtCode program.now (shape_of now.old)
         (CodeNode.Send at over.channel over.what over.next) }
     ensures ready { IsReady program.now asked.new }
+    ensures kept { KeepsCompared asked.old asked.new }
     ensures tells { IfOk result (StepTells program.now now.old now.new) }
     ensures asks { IfOk result (StepAsks program.now now.old asked.old asked.new) }
 {
@@ -89,6 +90,7 @@ pub(crate) fn at_fwd(
     requires ready { IsReady program.now asked.old }
     requires stands { (at : ℕ) × StandsAtCode program.now (shape_of now.now) (CodeNode.Fwd at v) }
     ensures ready { IsReady program.now asked.new }
+    ensures kept { KeepsCompared asked.old asked.new }
     ensures tells { IfOk result (StepTells program.now now.now now.now) }
     ensures asks { IfOk result (StepAsks program.now now.now asked.old asked.new) }
 {

@@ -3,7 +3,7 @@ ghost use Rattle.std.specs.Prelude.{◌≡◌, ℕ, IfOk};
 ghost use Rattle.nomos_ir.specs.declared.code_node.CodeNode.{CodeNode};
 ghost use Rattle.nomos_types.specs.TypingRule.{StandsAtCode};
 ghost use Rattle.nomos_types.specs.Typed.{IsWellFormed};
-ghost use Rattle.nomos_check.specs.mirror.StandingData.{shape_of, IsReady, IsWithin, StepAsks, StepTells};
+ghost use Rattle.nomos_check.specs.mirror.StandingData.{shape_of, IsReady, KeepsCompared, IsWithin, StepAsks, StepTells};
 
 use crate::arguments::pass_arguments;
 use crate::asked::Asked;
@@ -31,6 +31,7 @@ pub(crate) fn at_spawn(
     requires stands { (at : ℕ) × StandsAtCode program.now (shape_of now.old)
         (CodeNode.Spawn at spawning.name spawning.callee spawning.args.now spawning.next) }
     ensures ready { IsReady program.now asked.new }
+    ensures kept { KeepsCompared asked.old asked.new }
     ensures tells { IfOk result (StepTells program.now now.old now.new) }
     ensures asks { IfOk result (StepAsks program.now now.old asked.old asked.new) }
 {
@@ -63,6 +64,7 @@ pub(crate) fn at_call(
     requires ready { IsReady program.now asked.old }
     requires stands { (at : ℕ) × StandsAtCode program.now (shape_of now.old) (CodeNode.Call at f args.now) }
     ensures ready { IsReady program.now asked.new }
+    ensures kept { KeepsCompared asked.old asked.new }
     ensures tells { IfOk result (StepTells program.now now.old now.new) }
     ensures asks { IfOk result (StepAsks program.now now.old asked.old asked.new) }
 {

@@ -1,7 +1,7 @@
 //! One step along the code of a process.
 ghost use Rattle.std.specs.Prelude.{IfOk};
 ghost use Rattle.nomos_types.specs.Typed.{IsWellFormed};
-ghost use Rattle.nomos_check.specs.mirror.StandingData.{IsReady, IsWithin, StepAsks, StepTells};
+ghost use Rattle.nomos_check.specs.mirror.StandingData.{IsReady, KeepsCompared, IsWithin, StepAsks, StepTells};
 
 use crate::asked::Asked;
 use crate::cases::at_case;
@@ -31,6 +31,7 @@ pub(crate) fn step(
     requires within { IsWithin program.now now.old }
     requires ready { IsReady program.now asked.old }
     ensures ready { IsReady program.now asked.new }
+    ensures kept { KeepsCompared asked.old asked.new }
     ensures tells { IfOk result (StepTells program.now now.old now.new) }
     ensures asks { IfOk result (StepAsks program.now now.old asked.old asked.new) }
 {

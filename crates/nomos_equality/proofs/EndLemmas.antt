@@ -14,9 +14,9 @@ use Rattle.nomos_equality.specs.declared.hop.Hop.{Hop}
 use Rattle.nomos_equality.specs.declared.search.Visit.{Visit}
 use Rattle.nomos_equality.specs.declared.search.Search.{Search}
 use Rattle.nomos_equality.specs.Answer.{EqualWith}
-use Rattle.nomos_equality.specs.Comparing.{Compared, nothing_compared, HasCompared, FindsEqual}
+use Rattle.nomos_equality.specs.Comparing.{Compared, IsFront, nothing_compared, HasCompared, FindsEqual}
 use Rattle.nomos_equality.specs.Paths.{PathLeads, ends, hops, paid_by, StandAtEqualPaths}
-use Rattle.nomos_equality.specs.mirror.Search.{compared_by, IsFront, Grows, IsMet, IsAt, HasNodes, IsCompared, HasSearched}
+use Rattle.nomos_equality.specs.mirror.Search.{compared_by, Grows, IsMet, IsAt, HasNodes, IsCompared, HasSearched}
 use Rattle.nomos_equality.proofs.HeadLaws.{form-head, no_dths}
 use Rattle.nomos_equality.proofs.PathLaws.{agree-behind, leads-behind, stand-here, stand-from_behind}
 

@@ -1,4 +1,5 @@
 pub mod AnswerLaws
+pub mod ComparedLaws
 pub mod EndLemmas
 pub mod HeadLaws
 pub mod ListLemmas

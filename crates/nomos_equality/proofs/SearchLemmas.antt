@@ -22,23 +22,15 @@ use Rattle.nomos_equality.specs.declared.search.Search.{Search}
 use Rattle.nomos_equality.specs.Answer.{StandOnce}
 use Rattle.nomos_equality.specs.Differences.{SameForm, DifferAt}
 use Rattle.nomos_equality.specs.Paths.{PathLeads, ends, hops, choices_of, part_by, paid_by, StandAtEqualPaths}
-use Rattle.nomos_equality.specs.mirror.Search.{IsFront, Grows, IsMet, Meets, known, fresh, IsAt, HasNodes, GoesOn, PaysAt, GoesTo, stays, meets, notes, Follows, NotesPaid, IsCompared, DifferHere, Trail, begins, onward, AreInOrder, HasSearched}
+use Rattle.nomos_equality.specs.Comparing.{IsFront}
+use Rattle.nomos_equality.specs.mirror.Search.{Grows, IsMet, Meets, known, fresh, IsAt, HasNodes, GoesOn, PaysAt, GoesTo, stays, meets, notes, Follows, NotesPaid, IsCompared, DifferHere, Trail, begins, onward, AreInOrder, HasSearched}
 use Rattle.nomos_equality.specs.mirror.PairTables.{PutsOnce}
+use Rattle.nomos_equality.proofs.ComparedLaws.{front-same, front-through}
 use Rattle.nomos_equality.proofs.HeadLaws.{goes-label}
 use Rattle.nomos_equality.proofs.ListLemmas.{contains-unmap}
 use Rattle.nomos_equality.proofs.PathLaws.{node-behind}
 
 -- ---- fronts
-
-pub front-same : {X : Type 0} (xs ys : List X) → ys ≡ xs → IsFront xs ys
-front-same xs ys same = record { more = []; is = same ∙ sym (append-nil xs) }
-
-pub front-through : {X : Type 0} {xs ys zs : List X} → IsFront xs ys → IsFront ys zs → IsFront xs zs
-front-through {xs = xs} first second =
-    record {
-      more = first.more ++ second.more;
-      is = second.is ∙ ap (λ (l : List _). l ++ second.more) first.is ∙ append_assoc xs first.more second.more;
-    }
 
 pub grows-same : (s : Search) → Grows s s
 grows-same s = record { pairs = front-same s.pairs s.pairs refl; amounts = front-same s.amounts s.amounts refl }

@@ -1,5 +1,5 @@
 -- What has been compared so far, in one program.
-use Rattle.std.specs.Prelude.{◌≡◌, ◌↔◌, ◌⊎◌, List, [], All, Contains}
+use Rattle.std.specs.Prelude.{◌≡◌, ◌↔◌, ◌⊎◌, List, [], ◌++◌, All, Contains}
 use Rattle.nomos_ir.specs.declared.amount.Amount.{Amount}
 use Rattle.nomos_ir.specs.declared.ids.TypeId.{TypeId}
 use Rattle.nomos_ir.specs.declared.lists.ProgramLists.{ProgramLists}
@@ -25,6 +25,16 @@ pub record HasCompared (lists : ProgramLists) (c : Compared) : Type 0 where
   pub amounts : (q : Amount × Amount) → Contains c.amounts q ↔
       ((p : TypeId × TypeId) × Contains c.types p × StandAtEqualPaths lists p.0 p.1 q)
   pub once : StandOnce c.amounts
+
+-- what was there stays in front
+pub record IsFront {X : Type 0} (old new : List X) : Type 0 where
+  pub more : List X
+  pub is : new ≡ old ++ more
+
+-- all pairs of types and of amounts that stood stand still, each in its place
+pub record StaysCompared (old new : Compared) : Type 0 where
+  pub types : IsFront old.types new.types
+  pub amounts : IsFront old.amounts new.amounts
 
 -- the two types have equal shapes, and the amounts at their equal paths join those that were there
 pub record FindsEqual (lists : ProgramLists) (a b : TypeId) (old new : Compared) : Type 0 where

@@ -1,7 +1,7 @@
 //! Equalities that were found in one program, kept so that no pair of types is compared twice.
 ghost use Rattle.std.specs.Prelude.{◌≡◌, ◌<◌, length, IfOk, OnErr};
 ghost use Rattle.nomos_ir.specs.Unfold.{IsContractive};
-ghost use Rattle.nomos_equality.specs.Comparing.{nothing_compared, HasCompared, AnswersComparison};
+ghost use Rattle.nomos_equality.specs.Comparing.{nothing_compared, HasCompared, StaysCompared, AnswersComparison};
 
 use crate::equality::Comparison;
 use crate::search::Search;
@@ -38,8 +38,8 @@ impl Equalities {
     }
 
     /// Compares two types of the program of which all that was compared before is. Pairs that were compared
-    /// before are not looked at again. Where the types differ, and where memory runs out, what was compared
-    /// stays as it was.
+    /// before are not looked at again. All of them stay, each in its place; where the types differ, and where
+    /// memory runs out, nothing joins them.
     pub fn compare(
         &mut self,
         program: &Program,
@@ -51,6 +51,7 @@ impl Equalities {
         requires right { right.0 < length program.now.types }
         requires compared { HasCompared program.now self.old }
         ensures compared { HasCompared program.now self.new }
+        ensures kept { StaysCompared self.old self.new }
         ensures answers { IfOk result (AnswersComparison program.now left right self.old self.new) }
         ensures err { OnErr result (self.new ≡ self.old) }
     {

@@ -1,6 +1,6 @@
 //! The search for a difference of two types, along all their paths.
 ghost use Rattle.std.specs.Prelude.{◌≡◌, ◌<◌, [], Contains, length, take, slice_get, Some, OnOk, OnErr, IfOk};
-ghost use Rattle.nomos_equality.specs.Comparing.{nothing_compared, HasCompared, AnswersComparison};
+ghost use Rattle.nomos_equality.specs.Comparing.{nothing_compared, HasCompared, StaysCompared, AnswersComparison};
 ghost use Rattle.nomos_equality.specs.mirror.Search.{compared_by, IsFormed, Grows, Meets, HasNodes, GoesTo};
 ghost use Rattle.nomos_equality.specs.mirror.Search.{Follows, FollowsLabels, NotesPaid, ComparesVisit};
 ghost use Rattle.nomos_equality.specs.mirror.Search.{AreInOrder, Trail, EndsSearch};
@@ -237,6 +237,7 @@ impl Search {
         requires right { right.0 < length program.now.types }
         requires compared { HasCompared program.now (compared_by self.old) }
         ensures compared { HasCompared program.now (compared_by self.new) }
+        ensures kept { StaysCompared (compared_by self.old) (compared_by self.new) }
         ensures answers { IfOk result (AnswersComparison program.now left right (compared_by self.old)
             (compared_by self.new)) }
         ensures err { OnErr result (compared_by self.new ≡ compared_by self.old) }

@@ -39,8 +39,8 @@ pub struct LeastBounds {
     pub proof: Proof,
 }
 
-/// The acceptance of a program under amounts that meet its rows and have the least goal. That the proof shows it is
-/// looked at before it is believed.
+/// The acceptance of a program under amounts that meet its rows and have the least goal. From `shows_least`, which the
+/// proof is proved to pass, comes that no others have a smaller one.
 fn bounded(program: Program, rows: &RowList, goal: &Form, found: Found, proof: &Proof) -> Accepted
     requires rows { HasRows program rows.now }
     requires goal { IsForm rows.now.stars goal.now }

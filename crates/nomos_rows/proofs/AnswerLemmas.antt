@@ -64,7 +64,7 @@ module _ {lists : ProgramLists} where
         offends = astray.offends;
       } in (
         leads,
-        λ other p given.
+        λ other (p, given).
             first given.shared.0 other p (there-below lists given.shared.0 _ given.is_up)
             (record { body = given.body; is_up = given.is_up; offset = given.offset; offends = given.offends }),
         astray-never a.0 a.1 leads,

@@ -15,7 +15,8 @@ use Rattle.nomos_forms.specs.RowsOf.{AreRowsOf}
 use Rattle.nomos_rows.proofs.TellingLemmas.{le_from, lt_from}
 use Rattle.nomos_rows.specs.declared.telling.Fault.{Fault}
 use Rattle.nomos_rows.specs.declared.telling.Fault.TheVariants as fault
-use Rattle.nomos_rows.specs.PartFaults.{HasOtherKind, GetsStuck, IsFirstFault}
+use Rattle.nomos_ir.specs.FirstOffset.{NoneBefore}
+use Rattle.nomos_rows.specs.PartFaults.{HasOtherKind, GetsStuck, IsFaulty}
 use Rattle.nomos_rows.specs.mirror.Declarations.{FunctionFault, FunctionFine, ProcessFault, ProcessFine, IsFaultAt, DeclarationsFine, DeclarationsTell}
 use Rattle.nomos_rows.specs.mirror.Processes.{Gathers, InRows}
 use Rattle.nomos_rows.specs.mirror.Telling.{earliest, TellsBelow}
@@ -101,7 +102,7 @@ module _ (lists : ProgramLists) where
 
   first-of_all : (least : ℕ) → ((k n : ℕ) (f : Fault) → k < length lists.fns → FunctionFault lists k n f
       → least ≤ n) → ((k n : ℕ) (f : Fault) → k < length lists.procs → ProcessFault lists k n f → least ≤ n)
-      → IsFirstFault lists least
+      → NoneBefore (IsFaulty lists) least
   first-of_all least functions processes other faulty =
       elim faulty [
         | inl other_kind ↦ functions-after least other functions other_kind

@@ -50,7 +50,8 @@ module _ (lists : ProgramLists) where
     λ other f given.
         let there = given.declared in
         let same : given.declaration ≡ d = cc in
-        first.first other given.form (subst (λ (e : ProcDecl). IsStuckAt lists e other given.form) same given.stuck),
+        first.first other
+        (given.form, subst (λ (e : ProcDecl). IsStuckAt lists e other given.form) same given.stuck),
   )
 
   -- what is told of one that has a skeleton

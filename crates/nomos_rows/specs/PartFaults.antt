@@ -1,13 +1,14 @@
 -- Why a program does not have a skeleton in every part: a shared type that does not lead back, a function whose body
 -- does not have its kind, an instruction that is stuck. Of these a shared type is named first, and then what comes
 -- first in the text.
-use Rattle.std.specs.Prelude.{◌≡◌, ◌≤◌, ◌⊎◌, ℕ, List, Some, slice_get}
+use Rattle.std.specs.Prelude.{◌≡◌, ◌⊎◌, ℕ, List, Some, slice_get}
 use Rattle.nomos_ir.specs.declared.code_form.CodeForm.{CodeForm}
 use Rattle.nomos_ir.specs.declared.declaration.FnDecl.{FnDecl}
 use Rattle.nomos_ir.specs.declared.declaration.ProcDecl.{ProcDecl}
 use Rattle.nomos_ir.specs.declared.ids.TypeId.{TypeId}
 use Rattle.nomos_ir.specs.declared.lists.ProgramLists.{ProgramLists}
 use Rattle.nomos_ir.specs.declared.type_node.TypeNode.TheVariants as node
+use Rattle.nomos_ir.specs.FirstOffset.{NoneBefore}
 use Rattle.nomos_ir.specs.Nodes.{type_node}
 use Rattle.nomos_ir.specs.TermKind.{HasKind}
 use Rattle.nomos_equality.specs.declared.hop.Hop.{Hop}
@@ -29,6 +30,10 @@ pub record LeadsAstray (lists : ProgramLists) (at : ℕ) (path : List Hop) : Typ
   pub offset : StandsAtOffset lists shared at
   pub offends : StraysAt lists body shared path
 
+-- the `up` at this offset does not lead back, by some path
+abbrev pub IsAstray : ProgramLists → ℕ → Type 0
+IsAstray lists at = (path : List Hop) × LeadsAstray lists at path
+
 -- the body of the function whose name stands at this offset does not have the declared kind
 pub record HasOtherKind (lists : ProgramLists) (at : ℕ) : Type 0 where
   pub place : ℕ
@@ -48,10 +53,6 @@ pub record GetsStuck (lists : ProgramLists) (at : ℕ) (form : CodeForm) : Type 
 abbrev pub IsFaulty : ProgramLists → ℕ → Type 0
 IsFaulty lists at = HasOtherKind lists at ⊎ ((form : CodeForm) × GetsStuck lists at form)
 
--- no fault of a function or a process comes before this offset
-abbrev pub IsFirstFault : ProgramLists → ℕ → Type 0
-IsFirstFault lists at = (other : ℕ) → IsFaulty lists other → at ≤ other
-
 -- the program is typed under no amounts at all
 abbrev pub IsNeverTyped : ProgramLists → Type 0
 IsNeverTyped lists = (x : Annotations) → ¬ (IsTypedProgram lists x)
@@ -59,10 +60,9 @@ IsNeverTyped lists = (x : Annotations) → ¬ (IsTypedProgram lists x)
 -- what the error says is so, and it is what is named first; then the program is typed under no amounts at all
 abbrev pub IsCause : ProgramLists → RowsError → Type 0
 IsCause lists (error.NotSync at path) =
-    LeadsAstray lists at path × ((other : ℕ) (p : List Hop) → LeadsAstray lists other p → at ≤ other)
-    × IsNeverTyped lists
+    LeadsAstray lists at path × NoneBefore (IsAstray lists) at × IsNeverTyped lists
 IsCause lists (error.TermType at) =
-    IsSynchronizing lists no_amounts × HasOtherKind lists at × IsFirstFault lists at × IsNeverTyped lists
+    IsSynchronizing lists no_amounts × HasOtherKind lists at × NoneBefore (IsFaulty lists) at × IsNeverTyped lists
 IsCause lists (error.ProcType at form) =
-    IsSynchronizing lists no_amounts × GetsStuck lists at form × IsFirstFault lists at × IsNeverTyped lists
+    IsSynchronizing lists no_amounts × GetsStuck lists at form × NoneBefore (IsFaulty lists) at × IsNeverTyped lists
 IsCause lists error.NoMemory = Unit {0}

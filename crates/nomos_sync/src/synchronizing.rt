@@ -4,7 +4,7 @@ ghost use Rattle.nomos_ir.specs.declared.ids.TypeId.{TypeId};
 ghost use Rattle.nomos_ir.specs.declared.type_node.TypeNode.TheVariants as node;
 ghost use Rattle.nomos_ir.specs.Nodes.{type_node};
 ghost use Rattle.nomos_ir.specs.Unfold.{IsContractive};
-ghost use Rattle.nomos_equality.specs.Comparing.{HasCompared};
+ghost use Rattle.nomos_equality.specs.Comparing.{HasCompared, StaysCompared};
 ghost use Rattle.nomos_sync.specs.SyncAnswer.{AnswersBeside, LeadsBack, AnswersShared, IsSharedExact};
 ghost use Rattle.nomos_sync.specs.mirror.Walk.{IsWalkable, TellsBehind};
 
@@ -42,6 +42,7 @@ fn agrees_behind(
     requires shared { shared.0 < length program.now.types }
     requires compared { HasCompared program.now equalities.old }
     ensures compared { HasCompared program.now equalities.new }
+    ensures kept { StaysCompared equalities.old equalities.new }
     ensures tells { IfOk result (TellsBehind program.now at shared equalities.old equalities.new) }
 {
     let behind = match behind_down(program.node(at)) {
@@ -68,6 +69,7 @@ fn leads_back(
     requires unused { walk.old.visits.entries ≡ [] }
     requires compared { HasCompared program.now equalities.old }
     ensures compared { HasCompared program.now equalities.new }
+    ensures kept { StaysCompared equalities.old equalities.new }
     ensures answers { IfOk result (AnswersBeside program.now start shared equalities.old equalities.new) }
 {
     walk.meet(program, start, None)?;
@@ -85,7 +87,8 @@ fn leads_back(
 
 /// Whether a shared type is synchronizing, beside what was compared before: where it is, the pairs of amounts
 /// that need to be equal join those that were there; where it is not, a path leads from its body to a `down`
-/// behind which another type stands. What was compared stays sound, and no pair of types is compared twice.
+/// behind which another type stands. In every case what was compared stays, each pair in its place, and what joins
+/// it is sound; no pair of types is compared twice.
 pub fn synchronizing_with(
     alloc: Global,
     equalities: &mut Equalities,
@@ -97,6 +100,7 @@ pub fn synchronizing_with(
     requires up { (body : TypeId) × (type_node program.now shared.0 ≡ Some (node.Up body)) }
     requires compared { HasCompared program.now equalities.old }
     ensures compared { HasCompared program.now equalities.new }
+    ensures kept { StaysCompared equalities.old equalities.new }
     ensures answers { IfOk result (LeadsBack program.now shared equalities.old equalities.new) }
 {
     let _lists = program.lists();

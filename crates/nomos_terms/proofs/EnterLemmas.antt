@@ -1,7 +1,6 @@
 -- What each form of term leads to.
-use Rattle.std.proofs.Common.{◌≡◌, ◌<◌, ℕ, suc, List, [], ◌∷◌, ◌++◌, length, Some, None, slice_get, All, map, append_assoc, refl, sym, ap, subst, arith}
-use Rattle.std.proofs.lemmas.List.Elements.{All-head, All-tail, All-cons, All-nil}
-use Rattle.std.proofs.lemmas.List.{length-map}
+use Rattle.std.proofs.Common.{◌≡◌, ◌+◌, ◌<◌, ℕ, suc, List, [], ◌∷◌, ◌++◌, length, Some, None, slice_get, append_assoc, refl, sym, ap, subst, arith}
+use Rattle.std.specs.List.{sum_by}
 use Rattle.nomos_ir.specs.Bindings.{bound_to}
 use Rattle.nomos_ir.specs.declared.declaration.FnDecl.{FnDecl}
 use Rattle.nomos_ir.specs.declared.ids.FnId.{FnId}
@@ -19,8 +18,8 @@ use Rattle.nomos_ir.proofs.TermKindLaws.{HasKind-unique}
 use Rattle.nomos_terms.specs.declared.search.Search.{Search}
 use Rattle.nomos_terms.specs.declared.search.Task.{Task}
 use Rattle.nomos_terms.specs.declared.search.Task.TheVariants as task
-use Rattle.nomos_terms.specs.mirror.Left.{Leads, IsDone, IsVain, bulk, width, work, argument_tasks}
-use Rattle.nomos_terms.proofs.WorkLemmas.{bulk-part, bulk-wide, width-wide, arguments-less, width-parts, work-append}
+use Rattle.nomos_terms.specs.mirror.Left.{Leads, IsDone, IsVain, term_steps, work, argument_tasks}
+use Rattle.nomos_terms.proofs.WorkLemmas.{steps-some, steps-there, arguments-work, work-append}
 
 -- a kind that a derivation gives is that of its node
 pub node_of : (lists : ProgramLists) (vars : VariableKinds) (t : TermId) (n : TermNode) (k : Kind)
@@ -33,13 +32,6 @@ node_of lists vars t n k found (kind.term _ _ _ m there has) =
 pub no_node : (lists : ProgramLists) (vars : VariableKinds) (t : TermId) (k : Kind) → slice_get lists.terms t.0 ≡ None
     → HasKind lists vars t k → ⊥
 no_node lists vars t k none (kind.term _ _ _ m there has) = cc
-
--- what holds of the images of all holds of all
-All-map-back : {X Y : Type 0} (P : Y → Type 0) (g : X → Y) (xs : List X) → All P (map g xs) → All (λ x. P (g x)) xs
-All-map-back P g [] all = All-nil _
-All-map-back P g (x ∷ xs) all =
-    All-cons (λ y. P (g y)) x xs (All-head P (g x) (map g xs) all)
-    (All-map-back P g xs (All-tail P (g x) (map g xs) all))
 
 -- what the kinds of operators rest on
 module _ (lists : ProgramLists) (vars : VariableKinds) where
@@ -124,7 +116,7 @@ module _ (lists : ProgramLists) (outer : VariableKinds) where
       → IsDone lists outer (task.Term t) old (record { todo = old.todo; kinds = kinds; bound = old.bound })
   found t n k old kinds there has same =
       let whole : HasKind lists (old.bound ++ outer) t k = kind.term _ t k n there has in
-      let wide = bulk-wide (width lists) t.0 (width-wide lists) in
+      let some = steps-some lists t.0 in
       let P : List Kind → Type 0 = λ l.
       IsDone lists outer (task.Term t) old (record { todo = old.todo; kinds = l; bound = old.bound }) in
       subst
@@ -135,7 +127,7 @@ module _ (lists : ProgramLists) (outer : VariableKinds) where
             let Q : Kind → Type 0 = λ m. Leads lists outer old.todo (m ∷ old.kinds) old.bound result in
             subst Q (HasKind-unique lists _ t l k has_too whole) rest;
         from = λ result rest. (k, whole, rest);
-        less = omega (arith, wide, width-wide lists);
+        less = omega (arith, some);
       })
 
   -- a term that has no kind
@@ -152,11 +144,11 @@ module _ (lists : ProgramLists) (outer : VariableKinds) where
       → ((result : Kind) → Leads lists outer (tasks ++ old.todo) old.kinds old.bound result
       → (k : Kind) × NodeHasKind lists (old.bound ++ outer) n k
       × Leads lists outer old.todo (k ∷ old.kinds) old.bound result)
-      → work (width lists) tasks < bulk (width lists) t.0
+      → work lists tasks < term_steps lists t.0
       → todo ≡ tasks ++ old.todo
       → IsDone lists outer (task.Term t) old (record { todo = todo; kinds = old.kinds; bound = old.bound })
   planned t n tasks old todo there to from less same =
-      let sum = work-append (width lists) tasks old.todo in
+      let sum = work-append lists tasks old.todo in
       let P : List Task → Type 0 = λ l.
       IsDone lists outer (task.Term t) old (record { todo = l; kinds = old.kinds; bound = old.bound }) in
       subst
@@ -179,12 +171,8 @@ module _ (lists : ProgramLists) (outer : VariableKinds) where
       → todo ≡ task.Term a ∷ task.Expect takes ∷ task.Term b ∷ task.Expect takes ∷ task.Give gives ∷ old.todo
       → IsDone lists outer (task.Term t) old (record { todo = todo; kinds = old.kinds; bound = old.bound })
   operated t n a b takes gives old todo program there parts apart together same =
-      let P : List ℕ → Type 0 = λ l. All (λ k. k < t.0) l in
-      let lower = subst P parts (program.parts.terms t.0 n there) in
-      let below_a : a.0 < t.0 = All-head (λ k. k < t.0) a.0 (b.0 ∷ []) lower in
-      let below_b : b.0 < t.0 = All-head (λ k. k < t.0) b.0 [] (All-tail (λ k. k < t.0) a.0 (b.0 ∷ []) lower) in
-      let small_a = bulk-part (width lists) a.0 t.0 (width-wide lists) below_a in
-      let small_b = bulk-part (width lists) b.0 t.0 (width-wide lists) below_b in
+      let P : List ℕ → Type 0 = λ l. term_steps lists t.0 ≡ 4 + sum_by (λ p. 1 + term_steps lists p) l in
+      let whole = subst P parts (steps-there lists t.0 n program.parts there) in
       planned t n (task.Term a ∷ task.Expect takes ∷ task.Term b ∷ task.Expect takes ∷ task.Give gives ∷ []) old todo
       there
       (λ result k has rest.
@@ -195,7 +183,7 @@ module _ (lists : ProgramLists) (outer : VariableKinds) where
       let A : Kind → Type 0 = λ m. HasKind lists (old.bound ++ outer) a m in
       let B : Kind → Type 0 = λ m. HasKind lists (old.bound ++ outer) b m in
       (gives, together (subst A is_a has_a) (subst B is_b has_b), rest))
-      (omega (arith, small_a.0, small_a.1, small_b.0, small_b.1))
+      (omega (arith, whole))
       same
 
   -- `::`
@@ -204,10 +192,7 @@ module _ (lists : ProgramLists) (outer : VariableKinds) where
       → todo ≡ task.Term a ∷ task.Term b ∷ task.Cons ∷ old.todo
       → IsDone lists outer (task.Term t) old (record { todo = todo; kinds = old.kinds; bound = old.bound })
   put_before t at a b old todo program there same =
-      let lower = program.parts.terms t.0 (node.Cons at a b) there in
-      let small_a = bulk-part (width lists) a.0 t.0 (width-wide lists) (All-head (λ k. k < t.0) a.0 (b.0 ∷ []) lower) in
-      let small_b = bulk-part (width lists) b.0 t.0 (width-wide lists)
-      (All-head (λ k. k < t.0) b.0 [] (All-tail (λ k. k < t.0) a.0 (b.0 ∷ []) lower)) in
+      let whole = steps-there lists t.0 (node.Cons at a b) program.parts there in
       planned t (node.Cons at a b) (task.Term a ∷ task.Term b ∷ task.Cons ∷ []) old todo there
       (λ result k has rest.
       let sides = apart_cons lists (old.bound ++ outer) at a b k has in
@@ -220,7 +205,7 @@ module _ (lists : ProgramLists) (outer : VariableKinds) where
             (sym is_list) (kind.cons _ at a b e has_a (subst B is_list has_b))),
         rest,
       ))
-      (omega (arith, small_a.0, small_a.1, small_b.0, small_b.1))
+      (omega (arith, whole))
       same
 
   -- `not`
@@ -229,8 +214,7 @@ module _ (lists : ProgramLists) (outer : VariableKinds) where
       → todo ≡ task.Term a ∷ task.Expect bool_kind ∷ task.Give bool_kind ∷ old.todo
       → IsDone lists outer (task.Term t) old (record { todo = todo; kinds = old.kinds; bound = old.bound })
   negated t at a old todo program there same =
-      let lower = program.parts.terms t.0 (node.Not at a) there in
-      let small = bulk-part (width lists) a.0 t.0 (width-wide lists) (All-head (λ k. k < t.0) a.0 [] lower) in
+      let whole = steps-there lists t.0 (node.Not at a) program.parts there in
       planned t (node.Not at a) (task.Term a ∷ task.Expect bool_kind ∷ task.Give bool_kind ∷ []) old todo there
       (λ result k has rest.
       let side = apart_not lists (old.bound ++ outer) at a k has in
@@ -239,7 +223,7 @@ module _ (lists : ProgramLists) (outer : VariableKinds) where
       (λ result (k, has, (is_bool, rest)).
       let A : Kind → Type 0 = λ m. HasKind lists (old.bound ++ outer) a m in
       (bool_kind, kind.not _ at a (subst A is_bool has), rest))
-      (omega (arith, small.0, small.1))
+      (omega (arith, whole))
       same
 
   -- `if`
@@ -248,14 +232,7 @@ module _ (lists : ProgramLists) (outer : VariableKinds) where
       → todo ≡ task.Term test ∷ task.Expect bool_kind ∷ task.Term a ∷ task.Term b ∷ task.Same ∷ old.todo
       → IsDone lists outer (task.Term t) old (record { todo = todo; kinds = old.kinds; bound = old.bound })
   chosen t at test a b old todo program there same =
-      let lower = program.parts.terms t.0 (node.If at test a b) there in
-      let others = All-tail (λ k. k < t.0) test.0 (a.0 ∷ b.0 ∷ []) lower in
-      let small_t = bulk-part (width lists) test.0 t.0 (width-wide lists)
-      (All-head (λ k. k < t.0) test.0 (a.0 ∷ b.0 ∷ []) lower) in
-      let small_a = bulk-part (width lists) a.0 t.0 (width-wide lists)
-      (All-head (λ k. k < t.0) a.0 (b.0 ∷ []) others) in
-      let small_b = bulk-part (width lists) b.0 t.0 (width-wide lists)
-      (All-head (λ k. k < t.0) b.0 [] (All-tail (λ k. k < t.0) a.0 (b.0 ∷ []) others)) in
+      let whole = steps-there lists t.0 (node.If at test a b) program.parts there in
       planned t (node.If at test a b)
       (task.Term test ∷ task.Expect bool_kind ∷ task.Term a ∷ task.Term b ∷ task.Same ∷ []) old todo there
       (λ result k has rest.
@@ -265,7 +242,7 @@ module _ (lists : ProgramLists) (outer : VariableKinds) where
       let T : Kind → Type 0 = λ m. HasKind lists (old.bound ++ outer) test m in
       let A : Kind → Type 0 = λ m. HasKind lists (old.bound ++ outer) a m in
       (kb, kind.choice _ at test a b kb (subst T is_bool has_t) (subst A (sym are_same) has_a) has_b, rest))
-      (omega (arith, small_t.0, small_t.1, small_a.0, small_a.1, small_b.0, small_b.1))
+      (omega (arith, whole))
       same
 
   -- `match`
@@ -274,14 +251,7 @@ module _ (lists : ProgramLists) (outer : VariableKinds) where
       → todo ≡ task.Term taken ∷ task.Part empty head tail full ∷ old.todo
       → IsDone lists outer (task.Term t) old (record { todo = todo; kinds = old.kinds; bound = old.bound })
   taken_apart t at taken empty full head tail old todo program there same =
-      let lower = program.parts.terms t.0 (node.Match at taken empty head tail full) there in
-      let others = All-tail (λ k. k < t.0) taken.0 (empty.0 ∷ full.0 ∷ []) lower in
-      let small_t = bulk-part (width lists) taken.0 t.0 (width-wide lists)
-      (All-head (λ k. k < t.0) taken.0 (empty.0 ∷ full.0 ∷ []) lower) in
-      let small_a = bulk-part (width lists) empty.0 t.0 (width-wide lists)
-      (All-head (λ k. k < t.0) empty.0 (full.0 ∷ []) others) in
-      let small_b = bulk-part (width lists) full.0 t.0 (width-wide lists)
-      (All-head (λ k. k < t.0) full.0 [] (All-tail (λ k. k < t.0) empty.0 (full.0 ∷ []) others)) in
+      let whole = steps-there lists t.0 (node.Match at taken empty head tail full) program.parts there in
       planned t (node.Match at taken empty head tail full) (task.Term taken ∷ task.Part empty head tail full ∷ []) old
       todo there
       (λ result k has rest.
@@ -290,7 +260,7 @@ module _ (lists : ProgramLists) (outer : VariableKinds) where
       (λ result (kt, has_t, (e, is_list, (k, has_full, has_empty, rest))).
       let T : Kind → Type 0 = λ m. HasKind lists (old.bound ++ outer) taken m in
       (k, kind.parts _ at taken empty full head tail e k (subst T is_list has_t) has_empty has_full, rest))
-      (omega (arith, small_t.0, small_t.1, small_a.0, small_a.1, small_b.0, small_b.1))
+      (omega (arith, whole))
       same
 
   -- the arguments of a call
@@ -323,12 +293,9 @@ module _ (lists : ProgramLists) (outer : VariableKinds) where
       → todo ≡ argument_tasks values d.pars ++ task.Give d.gives ∷ old.todo
       → IsDone lists outer (task.Term t) old (record { todo = todo; kinds = old.kinds; bound = old.bound })
   called t at f values d old todo program there declared same_count same =
-      let lower = program.parts.terms t.0 (node.Call at f values) there in
-      let lower_values = All-map-back (λ k. k < t.0) (λ (e : TermId). e.0) values lower in
-      let count = width-parts lists t.0 (node.Call at f values) there in
-      let all_args = length-map values (λ (e : TermId). e.0) in
-      let less = arguments-less (width lists) t.0 values d.pars (omega (arith, count, all_args)) lower_values in
-      let sum = work-append (width lists) (argument_tasks values d.pars) (task.Give d.gives ∷ []) in
+      let whole = steps-there lists t.0 (node.Call at f values) program.parts there in
+      let arguments = arguments-work lists values d.pars in
+      let sum = work-append lists (argument_tasks values d.pars) (task.Give d.gives ∷ []) in
       planned t (node.Call at f values) (argument_tasks values d.pars ++ task.Give d.gives ∷ []) old todo there
       (λ result k has rest.
       let sides = apart_call lists (old.bound ++ outer) at f values k has in
@@ -345,7 +312,7 @@ module _ (lists : ProgramLists) (outer : VariableKinds) where
       let back = arguments_from values d.pars (task.Give d.gives ∷ old.todo) old.kinds old.bound result same_count
       led_on in
       (d.gives, kind.call _ at f values d d.gives declared back.0 refl, back.1))
-      (omega (arith, less, sum))
+      (omega (arith, whole, arguments, sum))
       (rw (append_assoc (argument_tasks values d.pars) (task.Give d.gives ∷ []) old.todo) same)
 
 -- what was planned, under the names of the call

@@ -3,13 +3,14 @@ use Rattle.std.proofs.Common.{◌≡◌, List, [], ◌∷◌, Err, refl, sym, ap
 use Rattle.nomos_ir.specs.declared.ids.TermId.{TermId}
 use Rattle.nomos_ir.specs.declared.kind.Kind.{Kind}
 use Rattle.nomos_ir.specs.declared.lists.ProgramLists.{ProgramLists}
+use Rattle.nomos_ir.specs.declared.or_no_memory.OrNoMemory.{OrNoMemory}
+use Rattle.nomos_ir.specs.declared.or_no_memory.OrNoMemory.TheVariants as stop
 use Rattle.nomos_ir.specs.TermKind.{VariableKinds, HasKind}
+use Rattle.nomos_terms.specs.declared.search.NoKind.{NoKind}
 use Rattle.nomos_terms.specs.declared.search.Search.{Search}
 use Rattle.nomos_terms.specs.declared.search.Task.{Task}
 use Rattle.nomos_terms.specs.declared.search.Task.TheVariants as task
-use Rattle.nomos_terms.specs.declared.stop.KindStop.{KindStop}
-use Rattle.nomos_terms.specs.declared.stop.KindStop.TheVariants as stop
-use Rattle.nomos_terms.specs.mirror.Left.{IsDone, IsVain, IsKind, Stays}
+use Rattle.nomos_terms.specs.mirror.Left.{IsDone, IsVain, IsKind, Stays, no_kind}
 
 -- a search is its parts
 same_search : (s : Search) (todo : List Task) (kinds : List Kind) (bound : VariableKinds) → s.todo ≡ todo
@@ -74,7 +75,7 @@ module _ (lists : ProgramLists) (outer : VariableKinds) (t : TermId) where
       let same : s ≡ last = same_search s [] [] s.bound todo top refl in λ kind has. (subst P same stays).to kind has
 
   -- a search that stops
-  pub stopped : (why : KindStop) → (why ≡ stop.NoKind → (kind : Kind) → HasKind lists outer t kind → ⊥)
+  pub stopped : (why : OrNoMemory NoKind) → (why ≡ no_kind → (kind : Kind) → HasKind lists outer t kind → ⊥)
       → IsKind lists outer t (Err why)
-  stopped stop.NoKind none = none refl
+  stopped (stop.Answer found) none = none refl
   stopped stop.NoMemory none = tt

@@ -6,16 +6,15 @@ ghost use Rattle.nomos_ir.specs.TermKind.{list_kind};
 ghost use Rattle.nomos_ir.specs.declared.declaration.FnDecl.{FnDecl};
 ghost use Rattle.nomos_ir.specs.declared.kind.Kind.{Kind};
 ghost use Rattle.nomos_terms.specs.declared.search.Task.TheVariants as task;
-ghost use Rattle.nomos_terms.specs.declared.stop.KindStop.TheVariants.{NoKind};
-ghost use Rattle.nomos_terms.specs.mirror.Left.{IsDone, IsVain, IsCalled, argument_tasks};
+ghost use Rattle.nomos_terms.specs.mirror.Left.{IsDone, IsVain, IsCalled, argument_tasks, no_kind};
 
-use crate::search::{Search, Task, plan};
-use crate::stop::KindStop;
+use crate::search::{NoKind, Search, Task, plan};
 use nomos_ir::bindings::{bound_first, bound_last};
 use nomos_ir::declaration::FnDecl;
 use nomos_ir::find::{find_function, find_term};
 use nomos_ir::ids::{FnId, TermId, VarId};
 use nomos_ir::kind::{Base, Kind};
+use nomos_ir::or_no_memory::OrNoMemory;
 use nomos_ir::program::Program;
 use nomos_ir::stack::Stack;
 use nomos_ir::term_node::TermNode;
@@ -45,17 +44,17 @@ fn list_of(kind: Kind) -> Kind
 }
 
 /// Puts a kind that is found on the top.
-fn put_kind(kinds: &mut Stack<Kind>, kind: Kind) -> Result<(), KindStop>
+fn put_kind(kinds: &mut Stack<Kind>, kind: Kind) -> Result<(), OrNoMemory<NoKind>>
     ensures found { OnOk result (kinds.new ≡ kind ∷ kinds.old) }
-    ensures memory { ¬ IsErrOf result NoKind }
+    ensures memory { ¬ IsErrOf result no_kind }
 {
     Ok(kinds.push(kind)?)
 }
 
 /// Plans the tasks to which a term leads.
-fn lead_to(todo: &mut Stack<Task>, tasks: &[Task]) -> Result<(), KindStop>
+fn lead_to(todo: &mut Stack<Task>, tasks: &[Task]) -> Result<(), OrNoMemory<NoKind>>
     ensures planned { OnOk result (todo.new ≡ tasks.now ++ todo.old) }
-    ensures memory { ¬ IsErrOf result NoKind }
+    ensures memory { ¬ IsErrOf result no_kind }
 {
     Ok(plan(todo, tasks)?)
 }
@@ -67,10 +66,10 @@ fn operate(
     b: TermId,
     takes: Kind,
     gives: Kind,
-) -> Result<(), KindStop>
+) -> Result<(), OrNoMemory<NoKind>>
     ensures planned { OnOk result
         (todo.new ≡ task.Term a ∷ task.Expect takes ∷ task.Term b ∷ task.Expect takes ∷ task.Give gives ∷ todo.old) }
-    ensures memory { ¬ IsErrOf result NoKind }
+    ensures memory { ¬ IsErrOf result no_kind }
 {
     let tasks = [
         Task::Term(a),
@@ -122,13 +121,17 @@ fn called(program: &Program, f: FnId, count: usize) -> Option<&FnDecl>
 }
 
 /// The kind of a variable is found.
-fn enter_variable(outer: &[(VarId, Kind)], search: &mut Search, v: VarId) -> Result<(), KindStop>
+fn enter_variable(
+    outer: &[(VarId, Kind)],
+    search: &mut Search,
+    v: VarId,
+) -> Result<(), OrNoMemory<NoKind>>
     ensures found { OnOk result ((kind : Kind) × (bound_to v.0 (search.old.bound ++ outer.now) ≡ Some kind) ×
         (search.new ≡ record search.old { kinds = kind ∷ search.old.kinds })) }
-    ensures vain { IsErrOf result NoKind → bound_to v.0 (search.old.bound ++ outer.now) ≡ None }
+    ensures vain { IsErrOf result no_kind → bound_to v.0 (search.old.bound ++ outer.now) ≡ None }
 {
     let Some(kind) = kind_of(outer, &search.bound, v) else {
-        return Err(KindStop::NoKind);
+        return Err(OrNoMemory::Answer(NoKind));
     };
     Ok(search.kinds.push(kind)?)
 }
@@ -139,14 +142,14 @@ fn enter_call(
     todo: &mut Stack<Task>,
     f: FnId,
     values: &[TermId],
-) -> Result<(), KindStop>
+) -> Result<(), OrNoMemory<NoKind>>
     ensures done { OnOk result ((function : FnDecl) × (slice_get program.now.fns f.0 ≡ Some function) ×
         (length values.now ≡ length function.pars) ×
         (todo.new ≡ argument_tasks values.now function.pars ++ task.Give function.gives ∷ todo.old)) }
-    ensures vain { IsErrOf result NoKind → IsCalled program.now f (length values.now) None }
+    ensures vain { IsErrOf result no_kind → IsCalled program.now f (length values.now) None }
 {
     let Some(function) = called(program, f, values.len()) else {
-        return Err(KindStop::NoKind);
+        return Err(OrNoMemory::Answer(NoKind));
     };
     todo.push(Task::Give(function.gives))?;
     Ok(arguments(todo, values, function.pars.as_slice())?)
@@ -158,13 +161,13 @@ pub(crate) fn enter(
     outer: &[(VarId, Kind)],
     search: &mut Search,
     t: TermId,
-) -> Result<(), KindStop>
+) -> Result<(), OrNoMemory<NoKind>>
     ensures done { OnOk result (IsDone program.now outer.now (task.Term t) search.old search.new) }
-    ensures vain { IsErrOf result NoKind → IsVain program.now outer.now (task.Term t) search.old }
+    ensures vain { IsErrOf result no_kind → IsVain program.now outer.now (task.Term t) search.old }
 {
     match find_term(program.lists(), t) {
         Some(node) => enter_node(program, outer, search, t, node),
-        None => Err(KindStop::NoKind),
+        None => Err(OrNoMemory::Answer(NoKind)),
     }
 }
 
@@ -175,11 +178,11 @@ fn enter_node(
     search: &mut Search,
     t: TermId,
     node: &TermNode,
-) -> Result<(), KindStop>
+) -> Result<(), OrNoMemory<NoKind>>
     requires there { slice_get program.now.terms t.0 ≡ Some node.now }
     requires program { IsProgram program.now }
     ensures done { OnOk result (IsDone program.now outer.now (task.Term t) search.old search.new) }
-    ensures vain { IsErrOf result NoKind → IsVain program.now outer.now (task.Term t) search.old }
+    ensures vain { IsErrOf result no_kind → IsVain program.now outer.now (task.Term t) search.old }
 {
     match node {
         TermNode::Number(_, _) => put_kind(&mut search.kinds, INT),

@@ -2,15 +2,15 @@
 ghost use Rattle.std.specs.Prelude.{◌≡◌, ◌<◌, length, OnOk, IsErrOf};
 ghost use Rattle.nomos_ir.specs.declared.kind.Kind.{Kind};
 ghost use Rattle.nomos_terms.specs.KindAnswer.{AnswersKind};
-ghost use Rattle.nomos_terms.specs.mirror.Left.{IsDone, IsVain, IsKind};
+ghost use Rattle.nomos_terms.specs.mirror.Left.{IsDone, IsVain, IsKind, no_kind};
 
 use crate::enter::enter;
-use crate::search::{Search, Task};
-use crate::stop::KindStop;
+use crate::search::{NoKind, Search, Task};
 use crate::tasks::{compare, expect, put_before, take_apart, unbind};
 use nomos_ir::declaration::Kinds;
 use nomos_ir::ids::{TermId, VarId};
 use nomos_ir::kind::Kind;
+use nomos_ir::or_no_memory::OrNoMemory;
 use nomos_ir::program::Program;
 use nomos_ir::stack::Stack;
 use std::alloc::Global;
@@ -32,9 +32,9 @@ fn do_task(
     outer: &[(VarId, Kind)],
     search: &mut Search,
     task: Task,
-) -> Result<(), KindStop>
+) -> Result<(), OrNoMemory<NoKind>>
     ensures done { OnOk result (IsDone program.now outer.now task search.old search.new) }
-    ensures vain { IsErrOf result KindStop.NoKind → IsVain program.now outer.now task search.old }
+    ensures vain { IsErrOf result no_kind → IsVain program.now outer.now task search.old }
 {
     match task {
         Task::Term(t) => enter(program, outer, search, t),
@@ -53,7 +53,7 @@ fn find_kind(
     program: &Program,
     t: TermId,
     outer: &[(VarId, Kind)],
-) -> Result<Kind, KindStop>
+) -> Result<Kind, OrNoMemory<NoKind>>
     ensures { IsKind program.now outer.now t result }
 {
     let mut search = Search {
@@ -67,7 +67,7 @@ fn find_kind(
     }
     match search.kinds.pop() {
         Some(kind) => Ok(kind),
-        None => Err(KindStop::NoKind),
+        None => Err(OrNoMemory::Answer(NoKind)),
     }
 }
 
@@ -85,7 +85,7 @@ pub fn term_kind(
 {
     match find_kind(alloc, program, t, vars.as_slice()) {
         Ok(kind) => Ok(kind),
-        Err(KindStop::NoKind) => Err(TermError::TermType(program.term(t).offset())),
-        Err(KindStop::NoMemory) => Err(TermError::NoMemory),
+        Err(OrNoMemory::Answer(NoKind)) => Err(TermError::TermType(program.term(t).offset())),
+        Err(OrNoMemory::NoMemory) => Err(TermError::NoMemory),
     }
 }

@@ -4,5 +4,4 @@
 mod enter;
 pub mod kinds;
 mod search;
-mod stop;
 mod tasks;

@@ -6,6 +6,10 @@ use nomos_ir::kind::Kind;
 use nomos_ir::stack::Stack;
 use std::alloc::AllocError;
 
+/// The term has no kind.
+#[derive(Clone, Copy, PartialEq, Eq, Debug)]
+pub(crate) struct NoKind;
+
 /// Something that is left to do.
 #[derive(Clone, Copy, PartialEq, Eq, Debug)]
 pub(crate) enum Task {

@@ -11,7 +11,7 @@ use Rattle.nomos_types.specs.Equality.{no_amounts}
 use Rattle.nomos_types.specs.Judgement.{Judgement, ListType, IsJudgement, SuitsMode, at_code, goes_on, with_potential}
 use Rattle.nomos_types.specs.ModeTable.{AreModesOf}
 use Rattle.nomos_types.specs.TypingRule.{TypingRule, StandsAtCode, without_list, takes_parts}
-use Rattle.nomos_equality.specs.Comparing.{HasCompared}
+use Rattle.nomos_equality.specs.Comparing.{Compared, HasCompared, StaysCompared}
 use Rattle.nomos_check.specs.Account.{Account, gains, with_lists, form_of}
 use Rattle.nomos_check.specs.Accounting.{accounts_after}
 use Rattle.nomos_check.specs.Asking.{AsksPair}
@@ -114,6 +114,10 @@ StepTells lists s next (step.Branches ways) = LeadsAlong lists s ways.items × (
 pub record IsReady (lists : ProgramLists) (asked : Asked) : Type 0 where
   pub modes : AreModesOf lists asked.modes.now
   pub compared : HasCompared lists asked.equalities
+
+-- all pairs that stood in front of what was compared stand there still
+abbrev pub KeepsCompared : Asked → Asked → Type 0
+KeepsCompared old new = (c : Compared) → StaysCompared c old.equalities → StaysCompared c new.equalities
 
 -- the pair was asked for
 abbrev pub HasPair : Asked → Amount × Amount → Type 0

@@ -17,7 +17,7 @@ use Rattle.nomos_equality.specs.declared.search.Origin.{Origin}
 use Rattle.nomos_equality.specs.declared.search.Visit.{Visit}
 use Rattle.nomos_equality.specs.declared.search.Search.{Search}
 use Rattle.nomos_equality.specs.Answer.{StandOnce}
-use Rattle.nomos_equality.specs.Comparing.{Compared}
+use Rattle.nomos_equality.specs.Comparing.{Compared, IsFront}
 use Rattle.nomos_equality.specs.Differences.{SameForm, DifferAt}
 use Rattle.nomos_equality.specs.Paths.{part_by, paid_by, StandAtEqualPaths}
 
@@ -29,11 +29,6 @@ compared_by s = record { types = s.pairs; amounts = s.amounts }
 pub record IsFormed (lists : ProgramLists) : Type 0 where
   pub program : IsProgram lists
   pub contractive : IsContractive lists
-
--- what was there stays in front
-pub record IsFront {X : Type 0} (old new : List X) : Type 0 where
-  pub more : List X
-  pub is : new ≡ old ++ more
 
 -- the pairs and the amounts of a search stay in front
 pub record Grows (old new : Search) : Type 0 where

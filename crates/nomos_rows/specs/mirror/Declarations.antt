@@ -4,10 +4,11 @@ use Rattle.nomos_ir.specs.declared.code_form.CodeForm.{CodeForm}
 use Rattle.nomos_ir.specs.declared.declaration.FnDecl.{FnDecl}
 use Rattle.nomos_ir.specs.declared.declaration.ProcDecl.{ProcDecl}
 use Rattle.nomos_ir.specs.declared.lists.ProgramLists.{ProgramLists}
+use Rattle.nomos_ir.specs.FirstOffset.{NoneBefore}
 use Rattle.nomos_ir.specs.TermKind.{HasKind, FunctionsAreTyped}
 use Rattle.nomos_types.specs.Derivation.{HasSkeleton}
 use Rattle.nomos_check.specs.Checking.{IsStuckAt}
-use Rattle.nomos_rows.specs.PartFaults.{HasOtherKind, GetsStuck, IsFirstFault}
+use Rattle.nomos_rows.specs.PartFaults.{HasOtherKind, GetsStuck, IsFaulty}
 use Rattle.nomos_rows.specs.declared.telling.Fault.{Fault}
 use Rattle.nomos_rows.specs.declared.telling.Fault.TheVariants as fault
 
@@ -49,7 +50,7 @@ IsFaultAt lists at (fault.Stuck form) = GetsStuck lists at form
 
 -- it is the first of them
 abbrev pub IsFirstOfAll : ProgramLists → ℕ × Fault → Type 0
-IsFirstOfAll lists a = IsFaultAt lists a.0 a.1 × IsFirstFault lists a.0
+IsFirstOfAll lists a = IsFaultAt lists a.0 a.1 × NoneBefore (IsFaulty lists) a.0
 
 -- the parts of a program but for its shared types have skeletons
 pub record DeclarationsFine (lists : ProgramLists) : Type 0 where

@@ -1,5 +1,5 @@
 -- A mirror of the code: what is left to do to find the kind of a term, and which kinds it can lead to.
-use Rattle.std.specs.Prelude.{◌≡◌, ◌<◌, ◌+◌, ◌*◌, ℕ, zero, suc, List, [], ◌∷◌, ◌++◌, length, sum_by, Option, Some, None, slice_get}
+use Rattle.std.specs.Prelude.{◌≡◌, ◌<◌, ◌+◌, ℕ, zero, suc, List, [], ◌∷◌, ◌++◌, length, sum_by, Option, Some, None, slice_get}
 use Rattle.std.specs.declared.result.Result.{Result}
 use Rattle.std.specs.declared.result.Result.TheVariants.{Ok, Err}
 use Rattle.nomos_ir.specs.declared.declaration.FnDecl.{FnDecl}
@@ -7,11 +7,13 @@ use Rattle.nomos_ir.specs.declared.ids.FnId.{FnId}
 use Rattle.nomos_ir.specs.declared.ids.TermId.{TermId}
 use Rattle.nomos_ir.specs.declared.kind.Kind.{Kind}
 use Rattle.nomos_ir.specs.declared.lists.ProgramLists.{ProgramLists}
+use Rattle.nomos_ir.specs.declared.or_no_memory.OrNoMemory.{OrNoMemory}
+use Rattle.nomos_ir.specs.declared.or_no_memory.OrNoMemory.TheVariants as stop
+use Rattle.nomos_ir.specs.declared.term_node.TermNode.{TermNode}
 use Rattle.nomos_ir.specs.TermKind.{VariableKinds, HasKind, list_kind, with_parts}
 use Rattle.nomos_ir.specs.TermParts.{term_parts}
+use Rattle.nomos_terms.specs.declared.search.NoKind.{NoKind}
 use Rattle.nomos_terms.specs.declared.search.Search.{Search}
-use Rattle.nomos_terms.specs.declared.stop.KindStop.{KindStop}
-use Rattle.nomos_terms.specs.declared.stop.KindStop.TheVariants as stop
 use Rattle.nomos_terms.specs.declared.search.Task.{Task}
 use Rattle.nomos_terms.specs.declared.search.Task.TheVariants as task
 
@@ -50,28 +52,33 @@ argument_tasks [] pars = []
 argument_tasks (t ∷ ts) [] = []
 argument_tasks (t ∷ ts) (par ∷ pars) = task.Term t ∷ task.Expect par.1 ∷ argument_tasks ts pars
 
--- a number above that of all parts of any node
-abbrev pub width : ProgramLists → ℕ
-width lists = 16 + 2 * sum_by (λ n. length (term_parts n)) lists.terms
+-- how many tasks a node leads to at most, where each part leads to so many
+abbrev pub node_steps : (ℕ → ℕ) → Option TermNode → ℕ
+node_steps part_steps None = 4
+node_steps part_steps (Some n) = 4 + sum_by (λ p. 1 + part_steps p) (term_parts n)
 
--- more than so many lower terms have together
-abbrev pub bulk : ℕ → ℕ → ℕ
-bulk w zero = w
-bulk w (suc t) = w * bulk w t
+-- the sum over the tree of a term down to a depth: each node counts as often as it stands in the tree
+abbrev pub tree_steps : ProgramLists → ℕ → ℕ → ℕ
+tree_steps lists zero t = 4
+tree_steps lists (suc depth) t = node_steps (tree_steps lists depth) (slice_get lists.terms t)
 
--- how much is left to do, at most
-abbrev pub task_work : ℕ → Task → ℕ
-task_work w (task.Term t) = bulk w t.0
-task_work w (task.Part empty head tail full) = bulk w empty.0 + bulk w full.0 + 3
-task_work w (task.Expect kind) = 1
-task_work w (task.Give kind) = 1
-task_work w task.Cons = 1
-task_work w task.Same = 1
-task_work w task.Unbind = 1
+-- the sum over the whole tree: parts have lower numbers, so it is no deeper than that
+abbrev pub term_steps : ProgramLists → ℕ → ℕ
+term_steps lists t = tree_steps lists (suc t) t
 
-abbrev pub work : ℕ → List Task → ℕ
-work w [] = 0
-work w (task ∷ todo) = task_work w task + work w todo
+-- how many tasks are left to do, at most
+abbrev pub task_work : ProgramLists → Task → ℕ
+task_work lists (task.Term t) = term_steps lists t.0
+task_work lists (task.Part empty head tail full) = term_steps lists empty.0 + term_steps lists full.0 + 3
+task_work lists (task.Expect kind) = 1
+task_work lists (task.Give kind) = 1
+task_work lists task.Cons = 1
+task_work lists task.Same = 1
+task_work lists task.Unbind = 1
+
+abbrev pub work : ProgramLists → List Task → ℕ
+work lists [] = 0
+work lists (task ∷ todo) = task_work lists task + work lists todo
 
 -- the task is done: what is left leads to the same kinds, and is less
 pub record IsDone (lists : ProgramLists) (outer : VariableKinds) (task : Task) (old new : Search) : Type 0 where
@@ -79,7 +86,11 @@ pub record IsDone (lists : ProgramLists) (outer : VariableKinds) (task : Task) (
       → LeadsTo lists outer new result
   pub from : (result : Kind) → LeadsTo lists outer new result
       → Leads lists outer (task ∷ old.todo) old.kinds old.bound result
-  pub less : work (width lists) new.todo < task_work (width lists) task + work (width lists) old.todo
+  pub less : work lists new.todo < task_work lists task + work lists old.todo
+
+-- the answer that there is no kind
+abbrev pub no_kind : OrNoMemory NoKind
+no_kind = stop.Answer (record {})
 
 -- the task leads to no kind
 abbrev pub IsVain : ProgramLists → VariableKinds → Task → Search → Type 0
@@ -91,9 +102,9 @@ IsCalled lists f count (Some d) = (slice_get lists.fns f.0 ≡ Some d) × (count
 IsCalled lists f count None = (d : FnDecl) → slice_get lists.fns f.0 ≡ Some d → count ≡ length d.pars → ⊥
 
 -- the kind that was found, or that there is none
-abbrev pub IsKind : ProgramLists → VariableKinds → TermId → Result Kind KindStop → Type 0
+abbrev pub IsKind : ProgramLists → VariableKinds → TermId → Result Kind (OrNoMemory NoKind) → Type 0
 IsKind lists vars t (Ok kind) = HasKind lists vars t kind
-IsKind lists vars t (Err stop.NoKind) = (kind : Kind) → ¬ HasKind lists vars t kind
+IsKind lists vars t (Err (stop.Answer none)) = (kind : Kind) → ¬ HasKind lists vars t kind
 IsKind lists vars t (Err stop.NoMemory) = Unit {0}
 
 -- what is left leads to the kinds of the whole term, and to no other

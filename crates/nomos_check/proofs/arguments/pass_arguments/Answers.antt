@@ -48,3 +48,6 @@ returns-clause-tells c =
     let told = subst₂ Told c.as_slice-3.ensures c.as_slice-4.ensures c.pass_channels.ensures.tells in
     IfOk-weaker c.pass_channels.result (TellsChannels lists mid next args.channels d.channels between new) _
     (arguments-pass lists s mid next d args old between new values) told
+
+pub returns-clause-kept : goal.returns-clause-kept
+returns-clause-kept c = λ known front. c.pass_channels.ensures.kept known (c.pass_values.ensures.kept known front)

@@ -40,3 +40,6 @@ returns-clause-gathers c =
     let begun = start-walking o within s is old c.requires.fresh between c.in_ok-go_along.ensures.goes in
     all-gathered o within s is old c.requires.fresh new (walks o old begun))
     c.go_all.ensures.walks
+
+pub returns-clause-kept : goal.returns-clause-kept
+returns-clause-kept c = λ known front. c.go_all.ensures.kept known (c.go_along.ensures.kept known front)

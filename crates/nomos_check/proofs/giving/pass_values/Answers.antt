@@ -36,6 +36,7 @@ loop-i-preserved c =
     in
     record {
       ready = c.pass_value.ensures.ready;
+      kept = λ known front. c.pass_value.ensures.kept known (c.loop-i.invariant.kept known front);
       ascends = value-ascends c.loop-i.invariant.ascends passed.passes;
       whole =
           turn-whole lists c.args.args.now c.args.pars.now c.loop-i.i _ _ (omega arith) c.loop-i-test.true
@@ -59,3 +60,11 @@ returns-clause-tells c =
     in
     c.loop-i.invariant.whole c.loop-i.now c.loop-i.asked
     (subst₂ Passed (sym no_args) (sym no_pars) (values-none lists c.loop-i.now c.loop-i.asked))
+
+pub returns-in_err-pass_value-clause-kept : goal.returns-in_err-pass_value-clause-kept
+returns-in_err-pass_value-clause-kept c = λ known front.
+    c.pass_value.ensures.kept known (c.loop-i.invariant.kept known front)
+
+pub returns-then-not-branch-clause-kept : goal.returns-then-not-branch-clause-kept
+returns-then-not-branch-clause-kept c = λ known front.
+    c.pass_value.ensures.kept known (c.loop-i.invariant.kept known front)

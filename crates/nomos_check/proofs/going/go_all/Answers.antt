@@ -25,6 +25,7 @@ loop-forks-preserved c =
     c.in_ok-take_way.ensures.walks in
     record {
       ready = c.in_ok-take_way.ensures.ready;
+      kept = λ known front. c.take_way.ensures.kept known (c.loop-forks.invariant.kept known front);
       walk = walk-on lists n w.todo w c.take_way.new.walk.todo c.take_way.new.walk step c.loop-forks.invariant.walk;
       walks = walks-through lists n step c.loop-forks.invariant.walks;
     }
@@ -45,3 +46,7 @@ returns-clause-walks c =
     c.loop-forks.invariant.walks
     in
     walks-through lists n (walks-beside lists n [] w c.pop.new.self) none
+
+pub returns-in_err-take_way-clause-kept : goal.returns-in_err-take_way-clause-kept
+returns-in_err-take_way-clause-kept c = λ known front.
+    c.take_way.ensures.kept known (c.loop-forks.invariant.kept known front)

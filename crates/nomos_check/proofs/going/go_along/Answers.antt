@@ -6,7 +6,7 @@ use Rattle.nomos_check.proofs.WithinLemmas.{within-on_way}
 use Rattle.nomos_check.specs.declared.asked.Asked.{Asked}
 use Rattle.nomos_check.specs.declared.standing.Forks.{Forks}
 use Rattle.nomos_check.specs.declared.walk.Walk.{Walk}
-use Rattle.nomos_check.specs.mirror.StandingData.{IsReady}
+use Rattle.nomos_check.specs.mirror.StandingData.{IsReady, KeepsCompared}
 use Rattle.nomos_check.specs.mirror.Walking.{Goes}
 use Rattle.nomos_check.proofs.going.go_along.Goals as goal
 
@@ -48,6 +48,7 @@ returns-in-Done-clause-goes c =
 pub loop-at-init : goal.loop-at-init
 loop-at-init c = record {
   ready = c.requires.ready;
+  kept = λ known front. front;
   on_way = c.requires.on_way;
   going = going-start c.args.program.now c.args.now c.args.walk.now;
 }
@@ -62,6 +63,10 @@ loop-at-smaller c =
 pub loop-at-preserved : goal.loop-at-preserved
 loop-at-preserved c = record {
   ready = c.in_ok-step.ensures.ready;
+  kept =
+      λ known front. c.step.ensures.kept known
+      (subst (λ (a : Asked). KeepsCompared c.args.walk.now.asked a) (sym c.note.ensures.asked)
+      c.loop-at.invariant.kept known front);
   on_way =
       stride-on_way c.args.program.now c.requires.formed c.args.now c.loop-at.at c.step.new.now c.args.walk.now
       c.loop-at.walk c.note.new.self c.step.new.asked c.loop-at.invariant.going c.in_ok-note.ensures.notes
@@ -81,3 +86,34 @@ returns-in-Branches-clause-goes c =
     c.loop-at.walk c.note.new.self c.step.new.asked c.loop-at.invariant.going c.in_ok-note.ensures.notes
     c.loop-at.invariant.on_way c.in_ok-step.field-0 c.in_ok-step.ensures.tells c.in_ok-step.ensures.asks f refl
     c.in-Branches.is c.push.new.self c.in_ok-push-in-Branches.ensures
+
+pub returns-in_err-note-clause-kept : goal.returns-in_err-note-clause-kept
+returns-in_err-note-clause-kept c =
+    subst (λ (a : Asked). KeepsCompared c.args.walk.now.asked a) (sym c.note.ensures.asked) c.loop-at.invariant.kept
+
+pub returns-in_err-step-clause-kept : goal.returns-in_err-step-clause-kept
+returns-in_err-step-clause-kept c = λ known front. c.step.ensures.kept known
+    (subst (λ (a : Asked). KeepsCompared c.args.walk.now.asked a) (sym c.note.ensures.asked)
+    c.loop-at.invariant.kept known front)
+
+pub returns-in-Done-clause-kept : goal.returns-in-Done-clause-kept
+returns-in-Done-clause-kept c = λ known front. c.step.ensures.kept known
+    (subst (λ (a : Asked). KeepsCompared c.args.walk.now.asked a) (sym c.note.ensures.asked)
+    c.loop-at.invariant.kept known front)
+
+pub returns-in_err-push-in-Branches-clause-kept : goal.returns-in_err-push-in-Branches-clause-kept
+returns-in_err-push-in-Branches-clause-kept c = λ known front. c.step.ensures.kept known
+    (subst (λ (a : Asked). KeepsCompared c.args.walk.now.asked a) (sym c.note.ensures.asked)
+    c.loop-at.invariant.kept known front)
+
+pub returns-in-Branches-clause-kept : goal.returns-in-Branches-clause-kept
+returns-in-Branches-clause-kept c = λ known front. c.step.ensures.kept known
+    (subst (λ (a : Asked). KeepsCompared c.args.walk.now.asked a) (sym c.note.ensures.asked)
+    c.loop-at.invariant.kept known front)
+
+pub returns-in-Stuck-clause-kept : goal.returns-in-Stuck-clause-kept
+returns-in-Stuck-clause-kept c =
+    subst (λ (w : Walk). KeepsCompared c.args.walk.now.asked w.asked) (sym c.stop.ensures)
+    (λ known front. c.step.ensures.kept known
+    (subst (λ (a : Asked). KeepsCompared c.args.walk.now.asked a) (sym c.note.ensures.asked)
+    c.loop-at.invariant.kept known front))

@@ -34,6 +34,7 @@ loop-i-preserved c =
     in
     record {
       ready = c.pass_channel.ensures.ready;
+      kept = λ known front. c.pass_channel.ensures.kept known (c.loop-i.invariant.kept known front);
       judgement = (passes-channel_left c.loop-i.invariant.judgement passed.passes).judgement;
       whole =
           turn-whole lists c.args.channels.now c.args.pars.now c.loop-i.i _ _ (omega arith) c.loop-i-test.true
@@ -57,3 +58,11 @@ returns-clause-tells c =
     in
     c.loop-i.invariant.whole c.loop-i.now c.loop-i.asked
     (subst₂ Passed (sym no_vs) (sym no_pars) (channels-none lists c.loop-i.now c.loop-i.asked))
+
+pub returns-in_err-pass_channel-clause-kept : goal.returns-in_err-pass_channel-clause-kept
+returns-in_err-pass_channel-clause-kept c = λ known front.
+    c.pass_channel.ensures.kept known (c.loop-i.invariant.kept known front)
+
+pub returns-then-not-branch-clause-kept : goal.returns-then-not-branch-clause-kept
+returns-then-not-branch-clause-kept c = λ known front.
+    c.pass_channel.ensures.kept known (c.loop-i.invariant.kept known front)

@@ -5,13 +5,14 @@ use Rattle.nomos_types.specs.Judgement.{Judgement, IsJudgement}
 use Rattle.nomos_check.specs.declared.asked.Asked.{Asked}
 use Rattle.nomos_check.specs.declared.standing.Standing.{Standing}
 use Rattle.nomos_check.specs.mirror.Passing.{ChannelsPassed}
-use Rattle.nomos_check.specs.mirror.StandingData.{shape_of, IsReady}
+use Rattle.nomos_check.specs.mirror.StandingData.{shape_of, IsReady, KeepsCompared}
 use Rattle.nomos_check.proofs.passing.pass_channels.Given as goal
 
 -- where the channels from here on pass, all of them pass, and the other way round
 abbrev pub invariant-loop-i : goal.invariant-loop-i
 invariant-loop-i l = record {
   ready : IsReady l.program l.asked;
+  kept : KeepsCompared l.fn.asked l.asked;
   judgement : IsJudgement l.program (shape_of l.now);
   whole : (next : Standing) (new : Asked)
       → ChannelsPassed l.program l.now next (drop l.i l.channels) (drop l.i l.pars) l.asked new

@@ -30,6 +30,8 @@ returns-in-Err-ProcType-clause-tells c =
     let lists = c.args.program.now in
     let (d, declared) = found-at lists.procs c.args.p.0 c.requires.p in
     let new = c.check_process_with.new.equalities in
-    let Says : ProcError → Type 0 = λ e. AnswersProcessBeside lists (star_count lists) d c.args.equalities.now new (Err e) in
+    let Says : ProcError → Type 0 =
+    λ e. AnswersProcessBeside lists (star_count lists) d c.args.equalities.now new (Err e)
+    in
     let first = subst Says c.in-Err-ProcType.field-0-is (c.in-Err-ProcType.ensures.answers d declared) in
     stuck-told lists c.args.p.0 c.in-Err-ProcType.at c.in-Err-ProcType.form d declared first

@@ -1,4 +1,5 @@
-use Rattle.std.proofs.Common.{sym, ◌∙◌}
+use Rattle.std.proofs.Common.{sym, ◌∙◌, refl}
+use Rattle.nomos_equality.proofs.ComparedLaws.{stays-same}
 use Rattle.nomos_equality.proofs.PathLaws.{differ-unequal}
 use Rattle.nomos_sync.specs.mirror.Walk.{down}
 use Rattle.nomos_sync.proofs.ContinuationLemmas.{down-below, down-there}
@@ -26,3 +27,6 @@ returns-clause-tells c =
             unequal = differ-unequal c.args.program.now c.in-Some.behind c.args.shared _ differs.0;
           })
     ]
+
+pub returns-in-None-clause-kept : goal.returns-in-None-clause-kept
+returns-in-None-clause-kept c = stays-same c.args.equalities.now c.args.equalities.now refl

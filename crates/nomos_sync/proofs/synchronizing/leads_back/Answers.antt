@@ -1,5 +1,6 @@
-use Rattle.std.proofs.Common.{Bool, subst, sym, ◌∙◌}
+use Rattle.std.proofs.Common.{Bool, subst, sym, refl, ◌∙◌}
 use Rattle.std.proofs.lemmas.Option.{slice_get_within}
+use Rattle.nomos_equality.proofs.ComparedLaws.{stays-same, stays-through}
 use Rattle.nomos_equality.proofs.PathLaws.{there-below}
 use Rattle.nomos_sync.specs.mirror.Walk.{TellsBehind}
 use Rattle.nomos_sync.proofs.WalkLemmas.{visit-node, reached-order}
@@ -49,6 +50,9 @@ loop-at-preserved c =
           c.loop-at.invariant.passing (sym c.visit.ensures.there ∙ c.in-Some.is) agrees c.in_ok-step.ensures.walks
           c.in_ok-step.ensures.follows;
       compared = c.agrees_behind.ensures.compared;
+      kept =
+          stays-through c.args.equalities.now c.loop-at.equalities c.agrees_behind.new.equalities
+          c.loop-at.invariant.kept c.agrees_behind.ensures.kept;
     }
 
 pub loop-at-init : goal.loop-at-init
@@ -58,6 +62,7 @@ loop-at-init c =
           passing-begins c.args.program.now c.args.start c.args.shared c.args.equalities.now
           c.args.walk.now.visits.entries c.meet.new.self.visits.entries c.requires.unused c.in_ok-meet.ensures;
       compared = c.requires.compared;
+      kept = stays-same c.args.equalities.now c.args.equalities.now refl;
     }
 
 pub returns-clause-answers : goal.returns-clause-answers
@@ -65,3 +70,26 @@ returns-clause-answers c =
     passing-ends c.args.program.now c.args.start c.args.shared c.args.equalities.now c.loop-at.equalities
     c.loop-at.walk.visits.entries c.loop-at.next c.requires.walkable.program c.loop-at.invariant.passing
     (sym c.visit.ensures.there ∙ c.in_default.is)
+
+pub returns-in_err-meet-clause-kept : goal.returns-in_err-meet-clause-kept
+returns-in_err-meet-clause-kept c = stays-same c.args.equalities.now c.args.equalities.now refl
+
+pub returns-in_err-agrees_behind-clause-kept : goal.returns-in_err-agrees_behind-clause-kept
+returns-in_err-agrees_behind-clause-kept c =
+    stays-through c.args.equalities.now c.loop-at.equalities c.agrees_behind.new.equalities c.loop-at.invariant.kept
+    c.agrees_behind.ensures.kept
+
+pub returns-in_err-path_to-clause-kept : goal.returns-in_err-path_to-clause-kept
+returns-in_err-path_to-clause-kept c =
+    stays-through c.args.equalities.now c.loop-at.equalities c.agrees_behind.new.equalities c.loop-at.invariant.kept
+    c.agrees_behind.ensures.kept
+
+pub returns-then-not-branch-clause-kept : goal.returns-then-not-branch-clause-kept
+returns-then-not-branch-clause-kept c =
+    stays-through c.args.equalities.now c.loop-at.equalities c.agrees_behind.new.equalities c.loop-at.invariant.kept
+    c.agrees_behind.ensures.kept
+
+pub returns-in_err-step-clause-kept : goal.returns-in_err-step-clause-kept
+returns-in_err-step-clause-kept c =
+    stays-through c.args.equalities.now c.loop-at.equalities c.agrees_behind.new.equalities c.loop-at.invariant.kept
+    c.agrees_behind.ensures.kept

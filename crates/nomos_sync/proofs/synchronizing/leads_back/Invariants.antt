@@ -1,5 +1,5 @@
 use Rattle.std.proofs.Common.{◌-◌, ◌^◌}
-use Rattle.nomos_equality.specs.Comparing.{HasCompared}
+use Rattle.nomos_equality.specs.Comparing.{HasCompared, StaysCompared}
 use Rattle.nomos_sync.proofs.PassingLemmas.{IsPassing}
 use Rattle.nomos_sync.proofs.synchronizing.leads_back.Given as goal
 
@@ -9,6 +9,7 @@ invariant-loop-at l =
     record {
       passing : IsPassing l.program l.fn.start l.shared l.fn.equalities l.equalities l.walk.visits.entries l.next;
       compared : HasCompared l.program l.equalities;
+      kept : StaysCompared l.fn.equalities l.equalities;
     }
 
 abbrev pub decreases-loop-at : goal.decreases-loop-at

@@ -1,7 +1,8 @@
-use Rattle.std.proofs.Common.{ap}
+use Rattle.std.proofs.Common.{ap, refl}
 use Rattle.nomos_ir.specs.declared.type_node.TypeNode.{TypeNode}
 use Rattle.nomos_equality.specs.declared.hop.Hop.TheVariants as hop
 use Rattle.nomos_equality.specs.Paths.{part_by}
+use Rattle.nomos_equality.proofs.ComparedLaws.{stays-same}
 use Rattle.nomos_equality.proofs.PathLaws.{part-below}
 use Rattle.nomos_sync.proofs.synchronizing.synchronizing_with.Goals as goal
 
@@ -9,3 +10,6 @@ pub leads_back-requires-clause-start : goal.leads_back-requires-clause-start
 leads_back-requires-clause-start c =
     part-below c.args.program.now c.args.shared.0 c.node.result.now hop.Next c.in-Up.body c.lists-lists.ensures.program
     c.node.ensures (ap (λ (n : TypeNode). part_by n hop.Next) c.in-Up.is)
+
+pub returns-clause-kept : goal.returns-clause-kept
+returns-clause-kept c = stays-same c.args.equalities.now c.args.equalities.now refl

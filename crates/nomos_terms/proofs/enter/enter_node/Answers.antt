@@ -4,6 +4,7 @@ use Rattle.std.specs.declared.result.Result.{Result}
 use Rattle.std.specs.declared.result.Result.TheVariants.{Ok, Err}
 use Rattle.std.proofs.lemmas.List.Elements.{All-head}
 use Rattle.std.proofs.lemmas.Option.{none-some}
+use Rattle.nomos_ir.specs.declared.or_no_memory.OrNoMemory.{OrNoMemory}
 use Rattle.nomos_ir.specs.declared.term_node.TermNode.TheVariants as node
 use Rattle.nomos_ir.specs.TermKind.{int_kind, bool_kind, list_kind}
 use Rattle.nomos_ir.specs.TermKind as kind
@@ -11,13 +12,13 @@ use Rattle.nomos_ir.specs.Kinds.{IsShallow}
 use Rattle.nomos_ir.specs.TermParts.{term_kinds}
 use Rattle.nomos_ir.proofs.NodeLaws.{All-at}
 use Rattle.nomos_terms.specs.declared.search.Task.TheVariants as task
-use Rattle.nomos_terms.specs.declared.stop.KindStop.{KindStop}
+use Rattle.nomos_terms.specs.declared.search.NoKind.{NoKind}
 use Rattle.nomos_terms.specs.mirror.Left.{IsDone, argument_tasks}
 use Rattle.nomos_terms.proofs.EnterLemmas.{found, vain, called, put_before, negated, chosen, taken_apart, operated, apart_variable, apart_call, same_length, apart_plus, apart_minus, apart_times, apart_quotient, apart_remainder, apart_less, apart_equal, apart_and, apart_or}
 use Rattle.nomos_terms.proofs.enter.enter_node.Goals as goal
 
 -- what follows from what holds at a success holds there
-on_ok : {A B : Type 0} (result : Result (Unit {0}) KindStop) → (A → B) → OnOk result A → OnOk result B
+on_ok : {A B : Type 0} (result : Result (Unit {0}) (OrNoMemory NoKind)) → (A → B) → OnOk result A → OnOk result B
 on_ok (Ok x) h holds = h holds
 on_ok (Err e) h holds = tt
 

@@ -1,7 +1,8 @@
 -- What is left leads to the kinds of the whole term.
 use Rattle.std.proofs.Common.{Err, refl, ap}
 use Rattle.std.proofs.lemmas.Result.{err_from_is_err_and}
-use Rattle.nomos_terms.specs.declared.stop.KindStop.{KindStop}
+use Rattle.nomos_ir.specs.declared.or_no_memory.OrNoMemory.{OrNoMemory}
+use Rattle.nomos_terms.specs.declared.search.NoKind.{NoKind}
 use Rattle.nomos_terms.proofs.StayLemmas.{stays-first, stays-done, stays-vain, stays-last, stays-none, stopped}
 use Rattle.nomos_terms.proofs.kinds.find_kind.Goals as goal
 
@@ -23,7 +24,7 @@ returns-in_err-do_task c =
     (stopped c.args.program.now c.args.outer.now c.args.t c.in_err-do_task.field-0.0
     (λ none. stays-vain c.args.program.now c.args.outer.now c.args.t c.in-Some.task c.loop-task.search _
     c.in-Some.ensures refl refl c.loop-task.invariant
-    (c.in_err-do_task.ensures.vain (ap (λ (why : KindStop). Err why) none))))
+    (c.in_err-do_task.ensures.vain (ap (λ (why : OrNoMemory NoKind). Err why) none))))
 
 pub returns-in-Some-pop : goal.returns-in-Some-pop
 returns-in-Some-pop c =
