@@ -34,8 +34,8 @@ impl From<AllocError> for ReadError {
 const PIECE: usize = 4096;
 
 /// Reads all the bytes that are left, if they are no more than `limit`. It asks the source for at
-/// most one byte more than that, so that it can tell, and takes that byte only where it answers `TooLong`. Want of memory is the one answer for which no
-/// reason is given.
+/// most one byte more than that, so that it can tell, and takes that byte only where it answers
+/// `TooLong`. Want of memory is the one answer for which no reason is given.
 pub fn read_all<S: Source>(
     alloc: Global,
     source: &mut S,
