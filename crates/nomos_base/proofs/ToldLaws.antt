@@ -54,6 +54,16 @@ TakesAtMost-behind most so_far bytes before mid now counted within first second 
       rw (first, next) (with_front-append bytes second.0 now),
     )
 
+-- a front that was taken, and then no more bytes than were left to take
+pub TakesAtMost-within : (most so_far : ℕ) (bytes : List ℕ) (before mid now : Option (List ℕ)) → so_far ≡ length bytes
+    → so_far ≤ most → before ≡ with_front bytes mid → TakesAtMost (most - so_far) mid now → TakesAtMost most before now
+TakesAtMost-within most so_far bytes before mid now counted within first second =
+    let next : mid ≡ with_front second.0 now = second.2 in (
+      bytes ++ second.0,
+      omega (arith, length-append bytes second.0, second.1),
+      rw (first, next) (with_front-append bytes second.0 now),
+    )
+
 -- a front that was taken, and then just so many bytes more
 pub TakesExactly-behind : (most so_far : ℕ) (bytes : List ℕ) (before mid now : Option (List ℕ)) → so_far ≡ length bytes
     → so_far ≤ most → before ≡ with_front bytes mid → TakesExactly (most - so_far + 1) mid now

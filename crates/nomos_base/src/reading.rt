@@ -34,8 +34,8 @@ impl From<AllocError> for ReadError {
 const PIECE: usize = 4096;
 
 /// Reads all the bytes that are left, if they are no more than `limit`. It asks the source for at
-/// most one byte more than that, so that it can tell. Want of memory is the one answer for which no
-/// reason is given.
+/// most one byte more than that, so that it can tell, and takes that byte only where it answers
+/// `TooLong`. Want of memory is the one answer for which no reason is given.
 pub fn read_all<S: Source>(
     alloc: Global,
     source: &mut S,
@@ -49,8 +49,10 @@ pub fn read_all<S: Source>(
     ensures fault_rose { IsErrOf result ReadError.ReadFault →
         Rose (S.faults source.old) (S.faults source.new) }
 
-    // After every answer the source stands where it was read to.
+    // After every answer the source stands where it was read to. No answer but `TooLong` takes more than `limit` bytes.
     ensures front { TakesAtMost (limit + 1) (S.left source.old) (S.left source.new) }
+    ensures at_most { ¬ IsErrOf result ReadError.TooLong →
+        TakesAtMost limit (S.left source.old) (S.left source.new) }
     ensures never_falls { S.faults source.old ≤ S.faults source.new }
 {
     let mut buffer = [0; PIECE];
@@ -76,6 +78,8 @@ fn read_piece<S: Source>(
     ensures fault_rose { IsErrOf result ReadError.ReadFault →
         Rose (S.faults source.old) (S.faults source.new) }
     ensures front { TakesAtMost (limit - vec_len bytes.old + 1) (S.left source.old) (S.left source.new) }
+    ensures at_most { ¬ IsErrOf result ReadError.TooLong →
+        TakesAtMost (limit - vec_len bytes.old) (S.left source.old) (S.left source.new) }
     ensures never_falls { S.faults source.old ≤ S.faults source.new }
 {
     let room = limit - bytes.len();
