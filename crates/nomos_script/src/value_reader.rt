@@ -6,6 +6,7 @@ ghost use Rattle.nomos_script.specs.mirror.ValueReading.{nothing_read, awaits_va
 ghost use Rattle.nomos_script.specs.Seen.{token_seen, HasDigits};
 ghost use Rattle.std.specs.Str.Parse.{IsNumeral};
 
+use crate::growing;
 use crate::number::signed_number;
 use crate::stop::LineStop;
 use crate::tokens::{Token, Tokens};
@@ -92,7 +93,7 @@ impl ValueReader {
         ensures none { IsErrOf result LineStop.NoForm → put value self.old ≡ None }
     {
         match self.open_lists.pop() {
-            None => self.values.push(value.into_node())?,
+            None => growing::put(&mut self.values, 2, value.into_node())?,
             Some(mut list) => {
                 list.put(value)?;
                 self.open_lists.push(list)?;
@@ -212,6 +213,9 @@ pub(crate) fn read_values(alloc: Global, tokens: &mut Tokens<'_>) -> Result<Valu
     ensures ok { IfOk result (λ values. read_values nothing_read tokens.old ≡ Some (values, tokens.new)) }
     ensures none { IsErrOf result LineStop.NoForm → read_values nothing_read tokens.old ≡ None }
 {
+    if tokens.takes_close(b';') {
+        return Ok(Values::of_vec(Vec::new(alloc)));
+    }
     let mut reader = ValueReader::new(alloc);
     while let Some(token) = tokens.next() {
         if reader.ends_at(token) {
