@@ -1,5 +1,5 @@
 //! How the values of a line are read, token by token.
-ghost use Rattle.std.specs.Prelude.{◌≡◌, ◌∷◌, ◌++◌, [], ℕ, true, false, nat_le, IfOk, OnOk, IsErrOf, Some, None};
+ghost use Rattle.std.specs.Prelude.{◌≡◌, ◌≤◌, length, ◌∷◌, ◌++◌, [], ℕ, true, false, nat_le, IfOk, OnOk, IsErrOf, Some, None};
 ghost use Rattle.nomos_ir.specs.Value.{int, truth, list, value_list};
 ghost use Rattle.nomos_ir.specs.Weight.{list_weight, max_weight};
 ghost use Rattle.nomos_script.specs.mirror.ValueReading.{nothing_read, awaits_value, may_end, put, put_number, take_digits, take_word, open_list, close_list, take_mark, take_token, ends_values, read_values};
@@ -200,6 +200,16 @@ impl ValueReader {
         }
     }
 
+    // Takes a comma that stands right behind a value, if there is one, which changes nothing of what will be read.
+    fn take_comma(&mut self, tokens: &mut Tokens<'_>)
+        ensures same { read_values self.old tokens.old ≡ read_values self.new tokens.new }
+        ensures less { length tokens.new ≤ length tokens.old }
+    {
+        if self.next == Awaited::Separator && tokens.takes_close(b',') {
+            self.next = Awaited::NextValue;
+        }
+    }
+
     // Whether the token ends the values.
     fn ends_at(&self, token: Token<'_>) -> bool
         ensures { result ≡ ends_values (token_seen token.entry) self.now }
@@ -222,6 +232,7 @@ pub(crate) fn read_values(alloc: Global, tokens: &mut Tokens<'_>) -> Result<Valu
             return Ok(Values::of_vec(reader.values));
         }
         reader.take(alloc, token)?;
+        reader.take_comma(tokens);
     }
     Err(LineStop::NoForm)
 }
