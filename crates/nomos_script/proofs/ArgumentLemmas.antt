@@ -23,7 +23,8 @@ arguments_together tokens behind after rest values names begins read named last 
     let w = read_are_written values after behind read in
     record {
       trees = w.trees;
-      printed = begins ∙ ap (λ t. mark (codes "(") ∷ t) (w.printed ∙ ap (λ t. print_values w.trees (mark (codes ";") ∷ t))
+      printed = begins ∙ ap (λ t. mark (codes "(") ∷ t)
+          (w.printed ∙ ap (λ t. print_values w.trees (mark (codes ";") ∷ t))
           (named.printed ∙ ap (λ t. print_names names (mark (codes ")") ∷ t)) last));
       valid = w.valid;
       each = named.each;

@@ -98,7 +98,8 @@ assemble-paragraphs n (several forms ∷ paragraphs) items each =
     (assemble-inside (n + 1) n forms items [] (All-head IsParagraph (several forms) paragraphs each))
     ∙ rw there (assemble-paragraphs (n + length forms + 2) paragraphs (items ++ batch ∷ [])
     (All-tail IsParagraph (several forms) paragraphs each)
-    ∙ ap (λ i. Some (assembled i None [])) (append_assoc items (batch ∷ []) (items_of (n + length forms + 2) paragraphs)))
+    ∙ ap (λ i. Some (assembled i None []))
+    (append_assoc items (batch ∷ []) (items_of (n + length forms + 2) paragraphs)))
 
 -- more paragraphs have more lines, and stand for more items
 pub forms_of-push : (paragraphs : List Paragraph) (p : Paragraph)

@@ -99,7 +99,8 @@ items_of_lines = refl
 
 -- a batch has the line of its `begin`, and each start its own
 pub items_of_batch :
-    items_of 1 (single show ∷ several (exec bare ∷ blank ∷ create (codes "c") bare ∷ []) ∷ several [] ∷ single show ∷ [])
+    items_of 1
+    (single show ∷ several (exec bare ∷ blank ∷ create (codes "c") bare ∷ []) ∷ several [] ∷ single show ∷ [])
     ≡ item.Show 1
     ∷ item.Batch (record { line = 2; starts = start_at 3 None bare ∷ start_at 5 (Some (codes "c")) bare ∷ [] })
     ∷ item.Batch (record { line = 7; starts = [] }) ∷ item.Show 9 ∷ []

@@ -1,6 +1,7 @@
 pub mod LineLemmas
 pub mod ScanLemmas
 pub mod NameLemmas
+pub mod NumberLemmas
 pub mod WeightLemmas
 pub mod StepLemmas
 pub mod GrowLemmas

@@ -1,5 +1,5 @@
 -- The tokens of a line, piece by piece.
-use Rattle.std.proofs.Common.{◌≡◌, ℕ, zero, suc, ◌+◌, ◌-◌, ◌<◌, ◌≤◌, true, false, List, [], ◌∷◌, ◌++◌, length, take, drop, Some, None, inl, inr, refl, ap, ◌∙◌, arith}
+use Rattle.std.proofs.Common.{◌≡◌, ℕ, zero, suc, ◌+◌, ◌-◌, ◌<◌, ◌≤◌, true, false, ◌==◌, List, [], ◌∷◌, ◌++◌, length, take, drop, Some, None, inl, inr, refl, ap, ◌∙◌, arith}
 use Rattle.std.specs.List.{prefix_len}
 use Rattle.std.specs.Option.{option_to_list}
 use Rattle.std.specs.Prelude.{nat_le}
@@ -10,6 +10,7 @@ use Rattle.std.proofs.lemmas.Str.{digit_value_digit}
 use Rattle.std.proofs.lemmas.List.{drop_all, take_rest}
 use Rattle.std.specs.Prelude.{slice_index}
 use Rattle.nomos_ir.specs.Name.{is_letter, is_digit, is_word_byte}
+use Rattle.nomos_script.specs.Seen.{IsPlainMark}
 use Rattle.nomos_script.specs.ScriptScan.{word, number, mark, is_blank, begins_comment, piece_at, tokens_from, tokens_of}
 
 -- inside a piece stands no token
@@ -82,6 +83,11 @@ pub tokens_of-number : (b : ℕ) (bytes : List ℕ) → is_blank b ≡ false →
 tokens_of-number b bytes solid code other digit =
     tokens_of-piece b bytes ∙ rw (piece_at-number b bytes solid code other digit) refl
 
+-- a byte that is no `/` begins no comment
+no_comment : (b : ℕ) (bytes : List ℕ) → (b == 47) ≡ false → begins_comment b bytes ≡ false
+no_comment b [] slashless = refl
+no_comment b (c ∷ bytes) slashless = rw slashless refl
+
 -- with any other byte
 pub piece_at-mark : (b : ℕ) (bytes : List ℕ) → is_blank b ≡ false → begins_comment b bytes ≡ false → is_letter b ≡ false
     → is_digit b ≡ false → piece_at b bytes ≡ record { token = Some (mark (b ∷ [])); more = 0 }
@@ -92,6 +98,14 @@ pub tokens_of-mark : (b : ℕ) (bytes : List ℕ) → is_blank b ≡ false → b
     → is_letter b ≡ false → is_digit b ≡ false → tokens_of (b ∷ bytes) ≡ mark (b ∷ []) ∷ tokens_of bytes
 tokens_of-mark b bytes solid code other rest =
     tokens_of-piece b bytes ∙ rw (piece_at-mark b bytes solid code other rest) refl
+
+-- with a byte that is always one
+pub tokens_of-plain : (text : List ℕ) (b : ℕ) → 1 ≤ length text → slice_index text 0 ≡ b → IsPlainMark b
+    → tokens_of text ≡ mark (b ∷ []) ∷ tokens_of (take (length text - 1) (drop 1 text))
+tokens_of-plain [] b some first plain = absurd (omega (arith, some))
+tokens_of-plain (c ∷ bytes) b some first (solid, slashless, other, rest) =
+    let code : begins_comment b bytes ≡ false = no_comment b bytes slashless in
+    rw (first, take_rest (c ∷ bytes) 1) (tokens_of-mark b bytes solid code other rest)
 
 -- blanks in front change nothing
 pub tokens_of-blanks : (bytes : List ℕ) → tokens_of (drop (prefix_len is_blank bytes) bytes) ≡ tokens_of bytes

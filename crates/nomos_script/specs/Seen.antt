@@ -1,5 +1,5 @@
 -- What the code of the reader returns, against the definitions. Private clauses alone cite it.
-use Rattle.std.specs.Prelude.{◌≡◌, ℕ, ◌≤◌, ◌==◌, List, [], ◌∷◌, ◌++◌, All, Option, Some, codes, if◌then◌else◌}
+use Rattle.std.specs.Prelude.{◌≡◌, ℕ, ◌≤◌, ◌==◌, false, List, [], ◌∷◌, ◌++◌, All, Option, Some, codes, if◌then◌else◌}
 use Rattle.std.specs.Str.Parse.{IsNumeral}
 use Rattle.nomos_ir.specs.Value.{Value}
 use Rattle.nomos_script.specs.declared.item.Start.{Start}
@@ -9,7 +9,8 @@ use Rattle.nomos_script.specs.declared.tokens.Token.TheVariants as found
 use Rattle.nomos_script.specs.Form.{Form, Invocation, TokensReadAs, LineReadsAs, IsValidInvocation, print_invocation, print_names, print_more_names, units_of, max_units}
 use Rattle.nomos_script.specs.Item.{start_at}
 use Rattle.nomos_script.specs.ScriptNames.{IsScriptName}
-use Rattle.nomos_script.specs.ScriptScan.{Token, word, number, mark}
+use Rattle.nomos_ir.specs.Name.{is_letter, is_digit}
+use Rattle.nomos_script.specs.ScriptScan.{Token, word, number, mark, is_blank}
 use Rattle.nomos_script.specs.ValueTree.{ValueTrees, print_values, AreValidValues, values_at}
 use Rattle.nomos_script.specs.mirror.Assembling.{Assembled, line_said, add_line}
 
@@ -24,6 +25,11 @@ abbrev pub HasDigits : Found → Type 0
 HasDigits (found.Word text) = Unit {0}
 HasDigits (found.Number digits) = IsNumeral 10 digits.now
 HasDigits (found.Mark byte) = Unit {0}
+
+-- wherever this byte begins a piece, it is a token by itself
+abbrev pub IsPlainMark : ℕ → Type 0
+IsPlainMark b =
+    (is_blank b ≡ false) × ((b == 47) ≡ false) × (is_letter b ≡ false) × (is_digit b ≡ false)
 
 -- a line that ended with a line feed, without the carriage return at its end
 abbrev pub without_return : List ℕ → List ℕ

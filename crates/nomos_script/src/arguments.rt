@@ -6,6 +6,7 @@ ghost use Rattle.nomos_script.specs.ScriptNames.{IsScriptName};
 ghost use Rattle.nomos_script.specs.ScriptScan.{Token as Lexeme, word, mark};
 ghost use Rattle.nomos_script.specs.Seen.{AreNames, AreMoreNames, AreArguments};
 
+use crate::growing::put;
 use crate::name::{ScriptName, ScriptNames, is_script_name};
 use crate::stop::LineStop;
 use crate::tokens::{Token, Tokens};
@@ -21,21 +22,12 @@ pub(crate) struct Arguments {
     pub(crate) names: ScriptNames,
 }
 
-/// A name of its own.
-pub(crate) fn name_of(alloc: Global, text: &[u8]) -> Result<ScriptName, AllocError>
-    requires { IsScriptName text.now }
-    ensures { IfOk result (λ name. name ≡ text.now) }
-{
-    Ok(ScriptName::of_vec(Vec::from_slice(alloc, text)?))
-}
-
 // Puts a name of its own at the end.
 fn push_name(alloc: Global, names: &mut Vec<ScriptName>, text: &[u8]) -> Result<(), AllocError>
     requires { IsScriptName text.now }
     ensures { OnOk result (names.new.items ≡ names.old.items ++ text.now ∷ []) }
 {
-    names.push(name_of(alloc, text)?)?;
-    Ok(())
+    put(names, 2, ScriptName::copied(alloc, text)?)
 }
 
 // Takes a comma, or the `)` behind names. Whether it is a comma.
@@ -44,6 +36,9 @@ fn takes_comma(tokens: &mut Tokens<'_>) -> Result<bool, LineStop>
     ensures none { IsErrOf result LineStop.NoForm → (rest : List Lexeme)
         → (tokens.old ≢ mark (codes ",") ∷ rest) × (tokens.old ≢ mark (codes ")") ∷ rest) }
 {
+    if tokens.takes_close(b',') {
+        return Ok(true);
+    }
     match tokens.next() {
         Some(Token::Mark(b',')) => Ok(true),
         Some(Token::Mark(b')')) => Ok(false),
@@ -75,6 +70,9 @@ fn read_names(alloc: Global, tokens: &mut Tokens<'_>) -> Result<ScriptNames, Lin
         → ¬ AreNames tokens.old names rest }
 {
     let mut names = Vec::new(alloc);
+    if tokens.takes_close(b')') {
+        return Ok(Items::of_vec(names));
+    }
     match tokens.next() {
         Some(Token::Mark(b')')) => {}
         Some(Token::Word(text)) if is_script_name(text) => {

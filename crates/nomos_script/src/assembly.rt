@@ -4,11 +4,12 @@ ghost use Rattle.nomos_script.specs.Form.{Form, LineReadsAs};
 ghost use Rattle.nomos_script.specs.Seen.{AddsLine};
 ghost use Rattle.nomos_script.specs.mirror.Assembling.{add_line, add_outside, add_inside, with_item, nothing_assembled, line_said};
 
+use crate::growing::put;
 use crate::item::{Batch, ScriptItem, ScriptItems, Start};
 use crate::line::{Line, read_line};
 use crate::stop::LineStop;
 use nomos_ir::items::Items;
-use std::alloc::{AllocFailed, Global};
+use std::alloc::{AllocError, Global};
 use std::marker::Model;
 use std::mem;
 
@@ -37,12 +38,12 @@ impl Model for Assembly {
 }
 
 // A batch of one start.
-fn batch_of(alloc: Global, start: Start) -> Result<Batch, AllocFailed<Start>>
+fn batch_of(alloc: Global, start: Start) -> Result<Batch, AllocError>
     ensures { IfOk result (λ batch. batch ≡ record { line = start.line; starts = start ∷ [] }) }
 {
     let line = start.line;
     let mut starts = Vec::new(alloc);
-    starts.push(start)?;
+    put(&mut starts, 1, start)?;
     Ok(Batch {
         line,
         starts: Items::of_vec(starts),
@@ -91,7 +92,7 @@ impl Assembly {
         match line {
             Line::Blank => Ok(()),
             Line::Start(start) => {
-                self.starts.push(start)?;
+                put(&mut self.starts, 1, start)?;
                 Ok(())
             }
             Line::End => self.close(alloc, first),

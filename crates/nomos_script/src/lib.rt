@@ -4,6 +4,7 @@
 mod arguments;
 mod assembly;
 mod bytes;
+mod growing;
 pub mod item;
 mod line;
 mod lines;

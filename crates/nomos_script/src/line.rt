@@ -4,7 +4,7 @@ ghost use Rattle.nomos_script.specs.Form.{Form, Invocation, IsValidInvocation, T
 ghost use Rattle.nomos_script.specs.ScriptScan.{word, tokens_of};
 ghost use Rattle.nomos_script.specs.Seen.{SaysLine, Starts};
 
-use crate::arguments::{name_of, read_arguments};
+use crate::arguments::read_arguments;
 use crate::item::Start;
 use crate::name::ScriptName;
 use crate::stop::LineStop;
@@ -32,7 +32,7 @@ fn read_deposit(alloc: Global, number: u32, tokens: &mut Tokens<'_>) -> Result<L
     let units = tokens.units()?;
     tokens.end()?;
     Ok(Line::Deposit {
-        name: name_of(alloc, name)?,
+        name: ScriptName::copied(alloc, name)?,
         units,
     })
 }
@@ -53,8 +53,8 @@ fn read_start(
     let arguments = read_arguments(alloc, tokens)?;
     Ok(Start {
         line: number,
-        sender: name_of(alloc, sender)?,
-        proc: name_of(alloc, proc)?,
+        sender: ScriptName::copied(alloc, sender)?,
+        proc: ScriptName::copied(alloc, proc)?,
         values: arguments.values,
         names: arguments.names,
         contract,
@@ -64,7 +64,8 @@ fn read_start(
 // Reads what stands behind the word `exec`.
 fn read_exec(alloc: Global, number: u32, tokens: &mut Tokens<'_>) -> Result<Line, LineStop>
     ensures read { IfOk result (λ line. SaysLine number (word (codes "exec") ∷ tokens.old) line) }
-    ensures none { IsErrOf result LineStop.NoForm → (form : Form) → ¬ TokensReadAs (word (codes "exec") ∷ tokens.old) form }
+    ensures none { IsErrOf result LineStop.NoForm → (form : Form)
+        → ¬ TokensReadAs (word (codes "exec") ∷ tokens.old) form }
 {
     Ok(Line::Start(read_start(alloc, number, None, tokens)?))
 }
@@ -72,12 +73,13 @@ fn read_exec(alloc: Global, number: u32, tokens: &mut Tokens<'_>) -> Result<Line
 // Reads what stands behind the word `let`.
 fn read_create(alloc: Global, number: u32, tokens: &mut Tokens<'_>) -> Result<Line, LineStop>
     ensures read { IfOk result (λ line. SaysLine number (word (codes "let") ∷ tokens.old) line) }
-    ensures none { IsErrOf result LineStop.NoForm → (form : Form) → ¬ TokensReadAs (word (codes "let") ∷ tokens.old) form }
+    ensures none { IsErrOf result LineStop.NoForm → (form : Form)
+        → ¬ TokensReadAs (word (codes "let") ∷ tokens.old) form }
 {
     let contract = tokens.name()?;
     tokens.expect(b'=')?;
     tokens.word(b"new")?;
-    let contract = name_of(alloc, contract)?;
+    let contract = ScriptName::copied(alloc, contract)?;
     Ok(Line::Start(read_start(alloc, number, Some(contract), tokens)?))
 }
 

@@ -1,19 +1,24 @@
 //! Names as they stand in a script.
-ghost use Rattle.std.specs.Prelude.{◌≡◌, ◌↔◌, IsTrue};
+ghost use Rattle.std.specs.Prelude.{◌≡◌, ◌↔◌, IsTrue, IfOk};
 ghost use Rattle.nomos_script.specs.ScriptNames.{IsScriptName};
 
 use nomos_ir::items::Items;
 use nomos_ir::letters::{is_letter, is_word_byte};
+use smallvec::SmallVec;
+use std::alloc::{AllocError, Global};
 use std::marker::Model;
 
 /// The most bytes of a name.
 const NAME_LIMIT: usize = 64;
 
+/// The most bytes of a name that lies in the value itself, which is then no larger than it is for a longer one.
+const INLINE_LIMIT: usize = 16;
+
 /// A name of a script, which contracts see as the list of its bytes: a letter or `_`, then letters, digits and
 /// `_`, at most 64 bytes in all. No word is reserved in scripts.
 #[derive(Drop, Debug)]
 pub struct ScriptName {
-    bytes: Vec<u8>,
+    bytes: SmallVec<u8, INLINE_LIMIT>,
 }
 
 impl Model for ScriptName {
@@ -31,12 +36,24 @@ impl Model for ScriptName {
 pub type ScriptNames = Items<ScriptName>;
 
 impl ScriptName {
-    /// The name with these bytes, in the vector's own memory.
+    /// The name with these bytes. A long one keeps the vector's memory.
     pub fn of_vec(bytes: Vec<u8>) -> ScriptName
         requires { IsScriptName bytes.items }
         ensures { result ≡ bytes.items }
     {
-        ScriptName { bytes }
+        ScriptName {
+            bytes: SmallVec::from_vec(bytes),
+        }
+    }
+
+    // A name of its own with these bytes.
+    pub(crate) fn copied(alloc: Global, text: &[u8]) -> Result<ScriptName, AllocError>
+        requires { IsScriptName text.now }
+        ensures { IfOk result (λ name. name ≡ text.now) }
+    {
+        Ok(ScriptName {
+            bytes: SmallVec::from_slice(alloc, text)?,
+        })
     }
 
     /// The bytes of the name.

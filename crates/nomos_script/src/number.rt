@@ -12,10 +12,15 @@ fn number_of_digits(digits: &[u8]) -> Option<u64>
     requires { IsNumeral 10 digits.now }
     ensures { SomeIff result (digits_value 10 digits.now < 2 ^ 64) (digits_value 10 digits.now) }
 {
-    let Ok(text) = str::from_utf8(digits) else {
-        return None;
-    };
-    text.parse::<u64>().ok()
+    let mut number: u64 = 0;
+    let mut left = digits;
+    while let [digit, after @ ..] = left {
+        number = number
+            .checked_mul(10)?
+            .checked_add(u64::from(*digit - b'0'))?;
+        left = after;
+    }
+    Some(number)
 }
 
 /// The units that a numeral writes, unless they are too many for one deposit.

@@ -1,9 +1,9 @@
 //! The tokens of a line that are left to read.
-ghost use Rattle.std.specs.Prelude.{◌≡◌, ◌≢◌, ◌<◌, ◌≤◌, ℕ, MatchOption, IfSome, IfOk, OnOk, IsErrOf, false, List, [], ◌∷◌, length, drop, slice_index};
+ghost use Rattle.std.specs.Prelude.{◌≡◌, ◌≢◌, ◌<◌, ◌≤◌, ℕ, MatchOption, IfSome, IfOk, OnOk, IsErrOf, true, false, List, [], ◌∷◌, length, drop, slice_index};
 ghost use Rattle.std.specs.List.{prefix_len};
 ghost use Rattle.nomos_script.specs.ScriptNames.{IsScriptName};
 ghost use Rattle.nomos_script.specs.ScriptScan.{Token as Lexeme, word, mark, is_blank, begins_comment, tokens_of};
-ghost use Rattle.nomos_script.specs.Seen.{token_seen, HasDigits, BeginsWithName, BeginsWithUnits};
+ghost use Rattle.nomos_script.specs.Seen.{token_seen, HasDigits, IsPlainMark, BeginsWithName, BeginsWithUnits};
 
 use crate::bytes::is_blank;
 use crate::name::is_script_name;
@@ -95,12 +95,39 @@ fn split_token(line: &[u8]) -> (Option<Token<'_>>, &[u8])
     (Some(token), &text[length..])
 }
 
+// What comes after this byte, where it stands in front.
+fn behind(byte: u8, line: &[u8]) -> Option<&[u8]>
+    requires { IsPlainMark byte }
+    ensures { IfSome result (λ after. tokens_of line.now ≡ mark (byte ∷ []) ∷ tokens_of after.now) }
+{
+    match line {
+        [first, after @ ..] if *first == byte => Some(after),
+        _ => None,
+    }
+}
+
 impl<'a> Tokens<'a> {
     /// The tokens of a line.
     pub(crate) fn new(line: &'a [u8]) -> Tokens<'a>
         ensures { result ≡ tokens_of line.now }
     {
         Tokens { left: line }
+    }
+
+    /// Takes this byte, where it stands next without blanks before it, and says whether it does: most of the bytes
+    /// between names and values stand so, and need no look at what else they could be.
+    pub(crate) fn takes_close(&mut self, byte: u8) -> bool
+        requires { IsPlainMark byte }
+        ensures taken { result ≡ true → self.old ≡ mark (byte ∷ []) ∷ self.new }
+        ensures other { result ≡ false → self.new ≡ self.old }
+    {
+        match behind(byte, self.left) {
+            Some(after) => {
+                self.left = after;
+                true
+            }
+            None => false,
+        }
     }
 
     /// The next token, which is taken.
@@ -128,7 +155,8 @@ impl<'a> Tokens<'a> {
     /// Takes the next token, which has to be the number of units of a deposit.
     pub(crate) fn units(&mut self) -> Result<u64, LineStop>
         ensures units { IfOk result (λ n. BeginsWithUnits n self.old self.new) }
-        ensures none { IsErrOf result LineStop.NoForm → (n : ℕ) (rest : List Lexeme) → ¬ BeginsWithUnits n self.old rest }
+        ensures none { IsErrOf result LineStop.NoForm → (n : ℕ) (rest : List Lexeme)
+            → ¬ BeginsWithUnits n self.old rest }
     {
         match self.next() {
             Some(Token::Number(digits)) => units_of(digits).ok_or(LineStop::NoForm),
@@ -149,9 +177,13 @@ impl<'a> Tokens<'a> {
 
     /// Takes the next token, which has to be this byte.
     pub(crate) fn expect(&mut self, byte: u8) -> Result<(), LineStop>
+        requires { IsPlainMark byte }
         ensures mark { OnOk result (self.old ≡ mark (byte ∷ []) ∷ self.new) }
         ensures none { IsErrOf result LineStop.NoForm → (rest : List Lexeme) → self.old ≢ mark (byte ∷ []) ∷ rest }
     {
+        if self.takes_close(byte) {
+            return Ok(());
+        }
         match self.next() {
             Some(Token::Mark(found)) if found == byte => Ok(()),
             _ => Err(LineStop::NoForm),

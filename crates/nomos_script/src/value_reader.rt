@@ -1,11 +1,12 @@
 //! How the values of a line are read, token by token.
-ghost use Rattle.std.specs.Prelude.{◌≡◌, ◌∷◌, ◌++◌, [], ℕ, true, false, nat_le, IfOk, OnOk, IsErrOf, Some, None};
+ghost use Rattle.std.specs.Prelude.{◌≡◌, ◌≤◌, length, ◌∷◌, ◌++◌, [], ℕ, true, false, nat_le, IfOk, OnOk, IsErrOf, Some, None};
 ghost use Rattle.nomos_ir.specs.Value.{int, truth, list, value_list};
 ghost use Rattle.nomos_ir.specs.Weight.{list_weight, max_weight};
 ghost use Rattle.nomos_script.specs.mirror.ValueReading.{nothing_read, awaits_value, may_end, put, put_number, take_digits, take_word, open_list, close_list, take_mark, take_token, ends_values, read_values};
 ghost use Rattle.nomos_script.specs.Seen.{token_seen, HasDigits};
 ghost use Rattle.std.specs.Str.Parse.{IsNumeral};
 
+use crate::growing;
 use crate::number::signed_number;
 use crate::stop::LineStop;
 use crate::tokens::{Token, Tokens};
@@ -92,7 +93,7 @@ impl ValueReader {
         ensures none { IsErrOf result LineStop.NoForm → put value self.old ≡ None }
     {
         match self.open_lists.pop() {
-            None => self.values.push(value.into_node())?,
+            None => growing::put(&mut self.values, 2, value.into_node())?,
             Some(mut list) => {
                 list.put(value)?;
                 self.open_lists.push(list)?;
@@ -199,6 +200,16 @@ impl ValueReader {
         }
     }
 
+    // Takes a comma that stands right behind a value, if there is one, which changes nothing of what will be read.
+    fn take_comma(&mut self, tokens: &mut Tokens<'_>)
+        ensures same { read_values self.old tokens.old ≡ read_values self.new tokens.new }
+        ensures less { length tokens.new ≤ length tokens.old }
+    {
+        if self.next == Awaited::Separator && tokens.takes_close(b',') {
+            self.next = Awaited::NextValue;
+        }
+    }
+
     // Whether the token ends the values.
     fn ends_at(&self, token: Token<'_>) -> bool
         ensures { result ≡ ends_values (token_seen token.entry) self.now }
@@ -212,12 +223,16 @@ pub(crate) fn read_values(alloc: Global, tokens: &mut Tokens<'_>) -> Result<Valu
     ensures ok { IfOk result (λ values. read_values nothing_read tokens.old ≡ Some (values, tokens.new)) }
     ensures none { IsErrOf result LineStop.NoForm → read_values nothing_read tokens.old ≡ None }
 {
+    if tokens.takes_close(b';') {
+        return Ok(Values::of_vec(Vec::new(alloc)));
+    }
     let mut reader = ValueReader::new(alloc);
     while let Some(token) = tokens.next() {
         if reader.ends_at(token) {
             return Ok(Values::of_vec(reader.values));
         }
         reader.take(alloc, token)?;
+        reader.take_comma(tokens);
     }
     Err(LineStop::NoForm)
 }

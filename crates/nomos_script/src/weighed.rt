@@ -4,6 +4,7 @@ ghost use Rattle.nomos_ir.specs.Value.{int, truth, list, value_list};
 ghost use Rattle.nomos_ir.specs.ValueNode.{value_of};
 ghost use Rattle.nomos_ir.specs.Weight.{list_weight, max_weight};
 
+use crate::growing::put;
 use crate::stop::LineStop;
 use nomos_ir::value_node::ValueNode;
 use std::alloc::Global;
@@ -86,7 +87,8 @@ impl Model for OpenList {
 
     ghost view = { λ l. map value_of l.nodes.items };
 
-    ghost invariant = { λ l. (l.weight ≡ list_weight (value_list (map value_of l.nodes.items))) × (l.weight ≤ max_weight) };
+    ghost invariant = { λ l. (l.weight ≡ list_weight (value_list (map value_of l.nodes.items)))
+        × (l.weight ≤ max_weight) };
 }
 
 impl OpenList {
@@ -111,7 +113,7 @@ impl OpenList {
         if weight > MAX_WEIGHT {
             return Err(LineStop::NoForm);
         }
-        self.nodes.push(value.into_node())?;
+        put(&mut self.nodes, 1, value.into_node())?;
         self.weight = weight;
         Ok(())
     }

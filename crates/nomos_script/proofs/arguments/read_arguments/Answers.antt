@@ -20,8 +20,8 @@ returns-in_err-names-clause-none c = λ e values names h.
 pub returns-in_err-end-clause-none : goal.returns-in_err-end-clause-none
 returns-in_err-end-clause-none c = λ e values names h.
     let same : c.in_err-end.field-0.0 ≡ stop.NoForm = search rules in
-    let named = arguments_names c.args.tokens.now c.expect.new.self c.read_values.new.tokens c.in_ok-values.values values
-    names c.in_ok-expect.ensures.mark c.in_ok-values.ensures.ok h in
+    let named = arguments_names c.args.tokens.now c.expect.new.self c.read_values.new.tokens c.in_ok-values.values
+    values names c.in_ok-expect.ensures.mark c.in_ok-values.ensures.ok h in
     c.in_err-end.ensures.none (ap Err same)
     (arguments_end c.read_values.new.tokens c.read_names.new.tokens names c.in_ok-names.names named
     c.in_ok-names.ensures.read)

@@ -12,6 +12,6 @@ returns-in_err-units-clause-none c = λ e.
 
 pub returns-clause-read : goal.returns-clause-read
 returns-clause-read c =
-    rw c.in_ok-name_of.ensures (deposit_read c.args.number c.in_ok-units.units c.in_ok-name.name.now c.args.tokens.now
+    rw c.in_ok-copied.ensures (deposit_read c.args.number c.in_ok-units.units c.in_ok-name.name.now c.args.tokens.now
     c.name.new.self c.units.new.self c.in_ok-name.ensures.name.0 c.in_ok-name.ensures.name.1
     c.in_ok-units.ensures.units c.in_ok-end.ensures.end)

@@ -23,7 +23,7 @@ returns-in_err-arguments-clause-none c = λ e.
 
 pub returns-clause-read : goal.returns-clause-read
 returns-clause-read c =
-    rw (c.in_ok-name_of.ensures, c.in_ok-name_of-2.ensures)
+    rw (c.in_ok-copied.ensures, c.in_ok-copied-2.ensures)
     (start_read c.args.number c.args.contract c.in_ok-sender.sender.now c.in_ok-proc.proc.now c.args.tokens.now
     c.name.new.self c.name-2.new.self c.in_ok-arguments.arguments.values c.in_ok-arguments.arguments.names
     c.in_ok-sender.ensures.name.0 c.in_ok-sender.ensures.name.1 c.in_ok-proc.ensures.name.0

@@ -10,8 +10,8 @@ returns-then-weight-gt-MAX_WEIGHT-clause-none c = λ _. grind (arith, weight-pus
 
 pub invariant_of-self-2 : goal.invariant_of-self-2
 invariant_of-self-2 c =
-    let grown : map value_of c.push.new.self.items ≡ c.args.self.now ++ c.args.value ∷ [] =
-    rw (c.in_ok-push.ensures.items, map_push, c.into_node.ensures, c.self.view_is) refl in
+    let grown : map value_of c.put.new.items.items ≡ c.args.self.now ++ c.args.value ∷ [] =
+    rw (c.in_ok-put.ensures.put, map_push, c.into_node.ensures, c.self.view_is) refl in
     let sum = weight-push c.args.self.now c.args.value in
     let own = rw c.self.view_is at c.self.invariant.0 in
     let more = rw c.value.view_is at c.value.invariant.0 in
