@@ -9,4 +9,5 @@ pub mod OpenLemmas
 pub mod RestLemmas
 pub mod RunLemmas
 pub mod ScopeLemmas
+pub mod SmallLemmas
 pub mod TableLemmas

@@ -8,3 +8,5 @@ pub mod Rest
 pub mod EvalRun
 pub mod EvalScope
 pub mod EvalTable
+pub mod SmallPart
+pub mod TermsFound

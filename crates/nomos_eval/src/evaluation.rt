@@ -4,6 +4,7 @@ ghost use Rattle.nomos_ir.specs.Evaluation.{term_evaluation};
 ghost use Rattle.nomos_ir.specs.ValueNode.{value_of};
 ghost use Rattle.nomos_eval.specs.EvaluatedAs.{EvaluatedAs};
 ghost use Rattle.nomos_eval.specs.mirror.Begin.{IsBegun};
+ghost use Rattle.nomos_eval.specs.mirror.TermsFound.{IsValue};
 
 use crate::act::{Act, Scope};
 use crate::lists::Lists;
@@ -14,6 +15,7 @@ use crate::values::{load, unload};
 use nomos_ir::fault::Fault;
 use nomos_ir::ids::{TermId, VarId};
 use nomos_ir::items::Items;
+use nomos_ir::lists::ProgramLists;
 use nomos_ir::or_no_memory::OrNoMemory;
 use nomos_ir::program::Program;
 use nomos_ir::stack::Stack;
@@ -77,13 +79,24 @@ fn begin(alloc: Global, t: TermId, env: &[(VarId, Value)]) -> Result<Machine, Al
 pub fn eval(alloc: Global, program: &Program, t: TermId, env: &Env) -> Result<Evaluated, AllocError>
     ensures { IfOk result (λ evaluated. EvaluatedAs (term_evaluation program.now env.now t) evaluated) }
 {
-    let mut machine = begin(alloc, t, env.as_slice())?;
-    match run(program.lists(), &mut machine) {
-        Ok(found) => {
-            let node = unload(alloc, &machine.lists, found)?;
-            Ok(Evaluated::Value(value_from(node)))
-        }
+    match eval_node(alloc, program.lists(), t, env.as_slice()) {
+        Ok(node) => Ok(Evaluated::Value(value_from(node))),
         Err(OrNoMemory::Answer(fault)) => Ok(Evaluated::Fault(fault)),
         Err(OrNoMemory::NoMemory) => Err(AllocError),
     }
+}
+
+/// The value of the term as a node.
+pub(crate) fn eval_node(
+    alloc: Global,
+    lists: &ProgramLists,
+    t: TermId,
+    env: &[(VarId, Value)],
+) -> Result<ValueNode, OrNoMemory<Fault>>
+    ensures { IsValue result (term_evaluation lists.now env.now t) }
+{
+    let mut machine = begin(alloc, t, env)?;
+    let found = run(lists, &mut machine)?;
+    let node = unload(alloc, &machine.lists, found)?;
+    Ok(node)
 }

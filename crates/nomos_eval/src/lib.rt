@@ -11,4 +11,6 @@ mod machine;
 mod numbers;
 mod run;
 mod scopes;
+pub mod small;
 mod values;
+pub mod wanted;
