@@ -1,4 +1,5 @@
 pub mod ActLemmas
+pub mod AroundLemmas
 pub mod BeginLemmas
 pub mod BindLemmas
 pub mod ListLemmas

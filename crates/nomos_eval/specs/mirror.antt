@@ -1,4 +1,5 @@
 -- Mirrors of the code, on which no promise stands.
+pub mod Around
 pub mod Begin
 pub mod ListCell
 pub mod Load

@@ -3,6 +3,7 @@
 
 mod act;
 mod acts;
+mod around;
 mod calls;
 mod datum;
 pub mod evaluation;

@@ -1,10 +1,11 @@
 //! Tests that are decided without memory.
-ghost use Rattle.std.specs.Prelude.{◌≡◌, MatchOption, slice_get, option_copied, unwrap_or};
+ghost use Rattle.std.specs.Prelude.{◌≡◌, MatchOption, slice_get, unwrap_or};
 ghost use Rattle.nomos_ir.specs.Bindings.{bound_to};
 ghost use Rattle.nomos_ir.specs.Evaluation.{nought, term_evaluation};
 ghost use Rattle.nomos_eval.specs.SmallTest.{Decides, IsSmallPart, IsSmallTest, takes_first};
 ghost use Rattle.nomos_eval.specs.mirror.SmallPart.{equal_parts, less_parts, part_of, part_value};
 
+use crate::around::bound_value;
 use nomos_ir::find::find_term;
 use nomos_ir::ids::{TermId, VarId};
 use nomos_ir::lists::ProgramLists;
@@ -39,18 +40,6 @@ pub fn small_truth(program: &Program, t: TermId, env: &[(VarId, Value)]) -> Opti
         }
         _ => None,
     }
-}
-
-// The value of a variable, by the first with its number.
-fn bound_value(env: &[(VarId, Value)], v: VarId) -> Option<&Value>
-    ensures { option_copied result ≡ bound_to v.0 env.now }
-{
-    for pair in env {
-        if pair.0 == v {
-            return Some(&pair.1);
-        }
-    }
-    None
 }
 
 // Whether a variable is true.
