@@ -94,7 +94,13 @@ numbers-done operator old mid others values x y d sound last mid_is first others
     P
     (sym pushed)
     (record {
-      sound = record { todo = sound.todo; values = (omega (arith, gave.1), inside); scopes = sound.scopes; kept = sound.kept };
+      sound = record {
+        todo = sound.todo;
+        values = (omega (arith, gave.1), inside);
+        scopes = sound.scopes;
+        kept =
+            sound.kept;
+      };
       same =
           λ program n. numbers-step program old.lists (scopes_held old) old.todo operator old.values others x y n took
           ∙ ap (λ e. go_on e (λ v. rest (evaluation_from program) program (scopes_held old) old.todo
@@ -142,7 +148,8 @@ added-step : (program : ProgramLists) (old : Machine) (vs : ValueList) (others :
     (map (datum_value (old.lists ++ vs ∷ [])) (datum.List (length old.lists) ∷ others)) n
 added-step program old vs others n sound inside =
     let more = old.lists ++ vs ∷ [] in
-    ap (λ ss. rest (evaluation_from program) program (record { bound = ss; around = old.around.env.now }) old.todo (list vs ∷ map (datum_value old.lists) others) n)
+    ap (λ ss. rest (evaluation_from program) program (record { bound = ss; around = old.around.env.now }) old.todo
+    (list vs ∷ map (datum_value old.lists) others) n)
     (sym (scopes-more old.lists (vs ∷ []) old.scopes sound.scopes))
     ∙ ap (λ ws. rest (evaluation_from program) program
     (record { bound = map (held more) old.scopes; around = old.around.env.now }) old.todo (list vs ∷ ws) n)
@@ -165,7 +172,14 @@ pub put-done : (old : Machine) (mid others values : List Datum) (lists : List Va
     → b ≡ capped (list (get_or old.lists place no_values)) → a + b < max_weight → joined ≡ length old.lists
     → lists ≡ old.lists ++ value (datum_value old.lists x) (get_or old.lists place no_values) ∷ []
     → values ≡ datum.List joined ∷ others
-    → IsDone act.PutBefore old (record { todo = old.todo; values = values; lists = lists; scopes = old.scopes; around = old.around })
+    → IsDone act.PutBefore old (record {
+      todo = old.todo;
+      values = values;
+      lists = lists;
+      scopes = old.scopes;
+      around
+          = old.around;
+    })
 put-done old mid others values lists x y place joined a b sound last mid_is first others_is y_list a_is b_is small
     joined_is added pushed =
     let took = taken old.values mid others x y last mid_is first others_is in
@@ -184,7 +198,8 @@ put-done old mid others values lists x y place joined a b sound last mid_is firs
       scopes = old.scopes;
       around = old.around;
     } in
-    let all : record { todo = old.todo; values = values; lists = lists; scopes = old.scopes; around = old.around } ≡ new =
+    let all : record { todo = old.todo; values = values; lists = lists; scopes = old.scopes; around = old.around } ≡
+    new =
     ap (λ ws. record { todo = old.todo; values = ws; lists = lists; scopes = old.scopes; around = old.around })
     (pushed ∙ ap (λ p. datum.List p ∷ others) joined_is)
     ∙ ap (λ l. record {

@@ -173,7 +173,11 @@ module _ (program : ProgramLists) (calls : ℕ) (f : FnId) (count : ℕ) (old : 
   -- what is left is the same with more scopes
   same_rest : (v : Value) (n : ℕ) → rest (evaluation_from program) program (scopes_held old) old.todo
       (v ∷ below_by count (values_found old)) n
-      ≡ rest (evaluation_from program) program (record { bound = map (held old.lists) scopes; around = old.around.env.now })
+      ≡ rest (evaluation_from program) program (record {
+        bound = map (held old.lists) scopes;
+        around =
+            old.around.env.now;
+      })
       old.todo
       (v ∷ map (datum_value old.lists) ds) n
   same_rest v n =
@@ -254,12 +258,14 @@ module _ (program : ProgramLists) (calls : ℕ) (f : FnId) (count : ℕ) (old : 
             ∙ ap (λ e. go_on (evaluation_from program (calls + 1) e d.body n)
             (λ v. rest (evaluation_from program) program (scopes_held old) old.todo
             (v ∷ below_by count (values_found old)))) (sym env)
-            ∙ go_on-next (evaluation_from program (calls + 1) (variables_at all_held inner) d.body n) _ _ (λ v m. same_rest v m);
+            ∙ go_on-next (evaluation_from program (calls + 1) (variables_at all_held inner) d.body n) _ _ (λ v m.
+            same_rest v m);
         less = omega arith;
       })
 
   pub enter-none-at : (todo : List Act) (values : List Datum) (lists : List ValueList) (around : Around)
-      → todo ≡ old.todo → lists ≡ old.lists → around ≡ old.around → slice_get program.fns f.0 ≡ None → values ≡ datum.Int (pos 0) ∷ ds
+      → todo ≡ old.todo → lists ≡ old.lists → around ≡ old.around → slice_get program.fns f.0 ≡ None → values ≡
+      datum.Int (pos 0) ∷ ds
       → IsDoneFor program (act.Enter calls f count) old
       (record { todo = todo; values = values; lists = lists; scopes = scopes; around = around })
   enter-none-at todo values lists around todo_is lists_are around_is none pushed =
@@ -273,7 +279,8 @@ module _ (program : ProgramLists) (calls : ℕ) (f : FnId) (count : ℕ) (old : 
       subst P (sym todo_is) (subst Q (sym lists_are) (subst R (sym around_is) (enter-none values none pushed)))
 
   pub enter-done-at : (d : FnDecl) (todo bound_todo : List Act) (lists : List ValueList) (around : Around)
-      → bound_todo ≡ old.todo → lists ≡ old.lists → around ≡ old.around → slice_get program.fns f.0 ≡ Some d → names ≡ map (λ par. par.0) d.pars → calls < max_calls
+      → bound_todo ≡ old.todo → lists ≡ old.lists → around ≡ old.around → slice_get program.fns f.0 ≡ Some d → names
+      ≡ map (λ par. par.0) d.pars → calls < max_calls
       → todo ≡ act.Term (record { variables = place; calls = calls + 1 }) d.body ∷ bound_todo
       → IsDoneFor program (act.Enter calls f count) old
       (record { todo = todo; values = ds; lists = lists; scopes = scopes; around = around })

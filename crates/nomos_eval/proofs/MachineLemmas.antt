@@ -237,7 +237,8 @@ nil-entered scope at k old place lists values sound place_is added pushed =
       scopes = old.scopes;
       around = old.around;
     } in
-    let all : record { todo = old.todo; values = values; lists = lists; scopes = old.scopes; around = old.around } ≡ new =
+    let all : record { todo = old.todo; values = values; lists = lists; scopes = old.scopes; around = old.around } ≡
+    new =
     ap (λ vs. record { todo = old.todo; values = vs; lists = lists; scopes = old.scopes; around = old.around })
     (pushed ∙ ap (λ p. datum.List p ∷ old.values) place_is)
     ∙ ap (λ l. record {
@@ -331,18 +332,45 @@ variable-found x scope at v old new is entered =
 pub nil-found : (x : TermNode) (scope : Scope) (at : ℕ) (k : Kind) (old : Machine) (place : ℕ) (lists : List ValueList)
     (values : List Datum) → x ≡ node.Nil at k → IsSound old → place ≡ length old.lists
     → lists ≡ old.lists ++ no_values ∷ [] → values ≡ datum.List place ∷ old.values
-    → IsEntered scope x old (record { todo = old.todo; values = values; lists = lists; scopes = old.scopes; around = old.around })
+    → IsEntered scope x old (record {
+      todo = old.todo;
+      values = values;
+      lists = lists;
+      scopes = old.scopes;
+      around =
+          old.around;
+    })
 nil-found x scope at k old place lists values is sound place_is added pushed =
     let P : TermNode → Type 0 = λ y.
-    IsEntered scope y old (record { todo = old.todo; values = values; lists = lists; scopes = old.scopes; around = old.around }) in
+    IsEntered scope y old (record {
+      todo = old.todo;
+      values = values;
+      lists = lists;
+      scopes = old.scopes;
+      around =
+          old.around;
+    }) in
     subst P (sym is) (nil-entered scope at k old place lists values sound place_is added pushed)
 
 pub call-found : (x : TermNode) (scope : Scope) (at : ℕ) (f : FnId) (ts given : List TermId) (old : Machine)
     (todo : List Act) → x ≡ node.Call at f ts → IsSound old → scope.variables < length old.scopes
     → todo ≡ argument_acts scope given ++ act.Enter scope.calls f (length given) ∷ old.todo → given ≡ ts
-    → IsEntered scope x old (record { todo = todo; values = old.values; lists = old.lists; scopes = old.scopes; around = old.around })
+    → IsEntered scope x old (record {
+      todo = todo;
+      values = old.values;
+      lists = old.lists;
+      scopes = old.scopes;
+      around = old.around;
+    })
 call-found x scope at f ts given old todo is sound inside planned same =
     let P : TermNode → Type 0 = λ y.
-    IsEntered scope y old (record { todo = todo; values = old.values; lists = old.lists; scopes = old.scopes; around = old.around }) in
+    IsEntered scope y old (record {
+      todo = todo;
+      values = old.values;
+      lists = old.lists;
+      scopes = old.scopes;
+      around
+          = old.around;
+    }) in
     subst P (sym is) (call-entered scope at f ts old todo sound inside
     (call-planned scope f ts given old.todo todo planned same))

@@ -79,7 +79,14 @@ pub open-done : (scope : Scope) (c : Cases) (old : Machine) (mid : List Datum)
     → with_head ≡ length old.scopes → first ≡ old.scopes ++ ((c.head, h) ∷ get_or old.scopes scope.variables []) ∷ []
     → with_tail ≡ length first → second ≡ first ++ ((c.tail, datum.List t) ∷ get_or first with_head []) ∷ []
     → todo ≡ act.Term (record { variables = with_tail; calls = scope.calls }) c.full ∷ old.todo
-    → IsDone (act.Open scope c) old (record { todo = todo; values = mid; lists = old.lists; scopes = second; around = old.around })
+    → IsDone (act.Open scope c) old (record {
+      todo = todo;
+      values = mid;
+      lists = old.lists;
+      scopes = second;
+      around =
+          old.around;
+    })
 open-done scope c old mid first second todo place h t with_head with_tail sound inside last mid_is parts head_at
     first_is tail_at second_is planned =
     let s1 = (c.head, h) ∷ get_or old.scopes scope.variables [] in
@@ -109,7 +116,13 @@ open-done scope c old mid first second todo place h t with_head with_tail sound 
     let all : record { todo = todo; values = mid; lists = old.lists; scopes = second; around = old.around } ≡ new =
     ap (λ l. record { todo = l; values = mid; lists = old.lists; scopes = second; around = old.around })
     (planned ∙ ap (λ k. act.Term (record { variables = k; calls = scope.calls }) c.full ∷ old.todo) place_is)
-    ∙ ap (λ l. record { todo = act.Term inner c.full ∷ old.todo; values = l; lists = old.lists; scopes = second; around = old.around })
+    ∙ ap (λ l. record {
+      todo = act.Term inner c.full ∷ old.todo;
+      values = l;
+      lists = old.lists;
+      scopes = second;
+      around = old.around;
+    })
     mid_is
     ∙ ap (λ l. record {
       todo = act.Term inner c.full ∷
@@ -143,7 +156,8 @@ open-done scope c old mid first second todo place h t with_head with_tail sound 
     let held_whole : map (held old.lists) whole
     ≡ map (held old.lists) old.scopes ++ (held old.lists s1 ∷ held old.lists s2 ∷ []) = ap (map (held old.lists))
     (append_assoc old.scopes (s1 ∷ []) (s2 ∷ [])) ∙ map-append (held old.lists) old.scopes (s1 ∷ s2 ∷ []) in
-    let same_count : length (map (held old.lists) old.scopes) ≡ length old.scopes = length-map old.scopes (held old.lists) in
+    let same_count : length (map (held old.lists) old.scopes) ≡ length old.scopes = length-map old.scopes (held
+    old.lists) in
     let todo_in : AllByRecursion (ScopeIn (length (map (held old.lists) old.scopes))) old.todo =
     (let Q : ℕ → Type 0 = λ k. AllByRecursion (ScopeIn k) old.todo in subst Q (sym same_count) sound.todo) in
     subst
@@ -170,9 +184,11 @@ open-done scope c old mid first second todo place h t with_head with_tail sound 
           (λ v. rest (evaluation_from program) program (scopes_held old) old.todo
           (v ∷ map (datum_value old.lists) (below_top old.values)))) (sym env)
           ∙ go_on-next (evaluation_from program scope.calls (variables_at all_held inner) c.full n) _ _
-          (λ v m. sym (ap (λ ss. rest (evaluation_from program) program (record { bound = ss; around = around }) old.todo
+          (λ v m. sym (ap (λ ss. rest (evaluation_from program) program (record { bound = ss; around = around })
+          old.todo
           (v ∷ map (datum_value old.lists) (below_top old.values)) m) held_whole
           ∙ rest-more (evaluation_from program) program (map (held old.lists) old.scopes)
-          (held old.lists s1 ∷ held old.lists s2 ∷ []) around old.todo (v ∷ map (datum_value old.lists) (below_top old.values)) m todo_in));
+          (held old.lists s1 ∷ held old.lists s2 ∷ []) around old.todo (v ∷ map (datum_value old.lists) (below_top
+          old.values)) m todo_in));
       less = omega arith;
     })

@@ -102,16 +102,25 @@ module _ (from : Evaluator) (lists : ProgramLists) (scopes : Variables) where
 -- one more place changes nothing of what is left
 module _ (from : Evaluator) (lists : ProgramLists) (scopes more : List Environment) (env : Environment) where
   follow-more : (s : Scope) (t : TermId) → s.variables < length scopes
-      → follow from lists (record { bound = scopes ++ more; around = env }) s t ≡ follow from lists (record { bound = scopes; around = env }) s t
+      → follow from lists (record { bound = scopes ++ more; around = env }) s t ≡ follow from lists (record {
+        bound =
+            scopes;
+        around = env;
+      }) s t
   follow-more s t inside =
       ap (λ e. from s.calls (e ++ seen_in s.calls env) t) (get_or_append_left scopes more [] s.variables inside)
 
   pub rest-more : (todo : List Act) (values : List Value) (n : ℕ) → AllByRecursion (ScopeIn (length scopes)) todo
-      → rest from lists (record { bound = scopes ++ more; around = env }) todo values n ≡ rest from lists (record { bound = scopes; around = env }) todo values n
+      → rest from lists (record { bound = scopes ++ more; around = env }) todo values n ≡ rest from lists (record {
+        bound = scopes;
+        around = env;
+      }) todo values n
   rest-more [] values n inside = refl
   rest-more (act.Term s t ∷ todo) values n inside =
-      ap (λ f. go_on (f n) (λ v. rest from lists (record { bound = scopes ++ more; around = env }) todo (v ∷ values))) (follow-more s t inside.0)
-      ∙ go_on-next (follow from lists (record { bound = scopes; around = env }) s t n) _ _ (λ v m. rest-more todo (v ∷ values) m inside.1)
+      ap (λ f. go_on (f n) (λ v. rest from lists (record { bound = scopes ++ more; around = env }) todo (v ∷
+      values))) (follow-more s t inside.0)
+      ∙ go_on-next (follow from lists (record { bound = scopes; around = env }) s t n) _ _ (λ v m. rest-more todo (v
+      ∷ values) m inside.1)
   rest-more (act.Numbers operator ∷ todo) values n inside =
       go_on-next (on_numbers (operation operator) (top (below values)) (top values) n) _ _
       (λ v m. rest-more todo (v ∷ below (below values)) m inside.1)
@@ -119,12 +128,16 @@ module _ (from : Evaluator) (lists : ProgramLists) (scopes more : List Environme
       go_on-next (put_before (top (below values)) (top values) n) _ _
       (λ v m. rest-more todo (v ∷ below (below values)) m inside.1)
   rest-more (act.Both s t ∷ todo) values n inside =
-      ap (λ f. go_on (both (top values) f n) (λ v. rest from lists (record { bound = scopes ++ more; around = env }) todo (v ∷ below values)))
+      ap (λ f. go_on (both (top values) f n) (λ v. rest from lists (record { bound = scopes ++ more; around = env })
+      todo (v ∷ below values)))
       (follow-more s t inside.0)
       ∙ go_on-next (both (top values) (follow from lists (record { bound = scopes; around = env }) s t) n) _ _
       (λ v m. rest-more todo (v ∷ below values) m inside.1)
   rest-more (act.Either s t ∷ todo) values n inside =
-      ap (λ f. go_on (either (top values) f n) (λ v. rest from lists (record { bound = scopes ++ more; around = env }) todo (v ∷ below values)))
+      ap (λ f. go_on (either (top values) f n) (λ v. rest from lists (record {
+        bound = scopes ++ more;
+        around = env;
+      }) todo (v ∷ below values)))
       (follow-more s t inside.0)
       ∙ go_on-next (either (top values) (follow from lists (record { bound = scopes; around = env }) s t) n) _ _
       (λ v m. rest-more todo (v ∷ below values) m inside.1)
@@ -132,10 +145,13 @@ module _ (from : Evaluator) (lists : ProgramLists) (scopes more : List Environme
   rest-more (act.Not ∷ todo) values n inside = rest-more todo (opposite (top values) ∷ below values) n inside.1
   rest-more (act.Choose s a b ∷ todo) values n inside =
       ap (λ f. go_on (chosen (top values) f (follow from lists (record { bound = scopes ++ more; around = env }) s b) n)
-      (λ v. rest from lists (record { bound = scopes ++ more; around = env }) todo (v ∷ below values))) (follow-more s a inside.0)
+      (λ v. rest from lists (record { bound = scopes ++ more; around = env }) todo (v ∷ below values))) (follow-more
+      s a inside.0)
       ∙ ap (λ f. go_on (chosen (top values) (follow from lists (record { bound = scopes; around = env }) s a) f n)
-      (λ v. rest from lists (record { bound = scopes ++ more; around = env }) todo (v ∷ below values))) (follow-more s b inside.0)
-      ∙ go_on-next (chosen (top values) (follow from lists (record { bound = scopes; around = env }) s a) (follow from lists (record { bound = scopes; around = env }) s b) n) _ _
+      (λ v. rest from lists (record { bound = scopes ++ more; around = env }) todo (v ∷ below values))) (follow-more
+      s b inside.0)
+      ∙ go_on-next (chosen (top values) (follow from lists (record { bound = scopes; around = env }) s a) (follow
+      from lists (record { bound = scopes; around = env }) s b) n) _ _
       (λ v m. rest-more todo (v ∷ below values) m inside.1)
   rest-more (act.Open s c ∷ todo) values n inside =
       ap (λ e. go_on (taken_apart (top values) (from s.calls (e ++ seen_in s.calls env) c.empty)

@@ -61,7 +61,13 @@ entered-none program scope t old values sound none pushed =
     P
     (sym pushed)
     (record {
-      sound = record { todo = sound.todo; values = (omega arith, sound.values); scopes = sound.scopes; kept = sound.kept };
+      sound = record {
+        todo = sound.todo;
+        values = (omega arith, sound.values);
+        scopes = sound.scopes;
+        kept =
+            sound.kept;
+      };
       same =
           λ n. ap (λ o. go_on (entered program (evaluation_from program) scope.calls
           (variables_at (scopes_held old) scope) o n) (left_with program old)) (sym none);
