@@ -30,8 +30,8 @@ enum Shape {
     If(u32, u32, u32),
 }
 
-// The terms: of numbers, of lists, of functions. 16 is the head of 1 before the list, 17 twice that of the list; 18 calls
-// the function with n, and 18, 25 and 87, behind these, are bodies.
+// The terms: of numbers, of lists, of functions. 16 is the head of 1 before the list, 17 twice that of the list; 18
+// calls the function with n, and 18, 25 and 87, behind these, are bodies.
 const SHAPES: [Shape; 28] = [
     Shape::Number(7),
     Shape::Number(0),
