@@ -3,7 +3,7 @@ use Rattle.std.proofs.Common.{◌≡◌, ◌+◌, ◌<◌, ◌≤◌, ℕ, true,
 use Rattle.std.specs.List.{AllByRecursion}
 use Rattle.nomos_ir.specs.declared.fault.Fault.TheVariants as fault
 use Rattle.nomos_ir.specs.declared.lists.ProgramLists.{ProgramLists}
-use Rattle.nomos_ir.specs.Evaluation.{Environment, ends, faults, go_on, on_numbers, put_before}
+use Rattle.nomos_ir.specs.Evaluation.{ends, faults, go_on, on_numbers, put_before}
 use Rattle.nomos_ir.specs.Value.{Value, list, ValueList, no_values, value}
 use Rattle.nomos_ir.specs.Weight.{weight, list_weight, max_weight}
 use Rattle.nomos_ir.proofs.EvaluationLaws.{evaluation_from}
@@ -18,8 +18,9 @@ use Rattle.nomos_ir.specs.declared.or_no_memory.OrNoMemory.{OrNoMemory}
 use Rattle.nomos_ir.specs.declared.or_no_memory.OrNoMemory.TheVariants as stop
 use Rattle.nomos_eval.specs.mirror.Machine.{held, scopes_held, IsSound, IsDone, Stops, Operated, top_datum, below_top}
 use Rattle.nomos_eval.specs.mirror.Operation.{operation}
-use Rattle.nomos_eval.specs.mirror.Rest.{rest, top, below}
+use Rattle.nomos_eval.specs.mirror.Rest.{Variables, rest, top, below}
 use Rattle.nomos_eval.specs.mirror.EvalTable.{datum_value, reach, capped}
+use Rattle.nomos_eval.proofs.AroundLemmas.{taken-more}
 use Rattle.nomos_eval.proofs.MachineLemmas.{values-more, scopes-more, values-higher, scopes-higher, last-list}
 
 -- the topmost value, and those below it
@@ -54,7 +55,7 @@ taken old mid others x y last mid_is first others_is =
     record { last = last; first = first ∙ ap top_datum mid_is; rest_is = others_is ∙ ap below_top mid_is }
 
 -- an operator, by the two topmost values
-numbers-step : (program : ProgramLists) (lists : List ValueList) (scopes : List Environment) (todo : List Act)
+numbers-step : (program : ProgramLists) (lists : List ValueList) (scopes : Variables) (todo : List Act)
     (operator : Operator) (old others : List Datum) (x y : Datum) (n : ℕ) → AreTaken old x y others
     → rest (evaluation_from program) program scopes (act.Numbers operator ∷ todo) (map (datum_value lists) old) n
     ≡ go_on (on_numbers (operation operator) (datum_value lists x) (datum_value lists y) n)
@@ -80,7 +81,7 @@ pub numbers-done : (operator : Operator) (old : Machine) (mid others values : Li
     → on_numbers (operation operator) (datum_value lists x) (datum_value lists y) n ≡ ends (datum_value lists d) n)
     × (reach d ≡ 0) → values ≡ d ∷ others
     → IsDone (act.Numbers operator) old
-    (record { todo = old.todo; values = values; lists = old.lists; scopes = old.scopes })
+    (record { todo = old.todo; values = values; lists = old.lists; scopes = old.scopes; around = old.around })
 numbers-done operator old mid others values x y d sound last mid_is first others_is gave pushed =
     let took = taken old.values mid others x y last mid_is first others_is in
     let inside : AllByRecursion (λ e. reach e ≤ length old.lists) others =
@@ -88,12 +89,18 @@ numbers-done operator old mid others values x y d sound last mid_is first others
     AllByRecursion (λ e. reach e ≤ length old.lists) l in subst P (sym took.rest_is)
     (below-in (length old.lists) (below_top old.values) (below-in (length old.lists) old.values sound.values))) in
     let P : List Datum → Type 0 = λ l. IsDone (act.Numbers operator) old
-    (record { todo = old.todo; values = l; lists = old.lists; scopes = old.scopes }) in
+    (record { todo = old.todo; values = l; lists = old.lists; scopes = old.scopes; around = old.around }) in
     subst
     P
     (sym pushed)
     (record {
-      sound = record { todo = sound.todo; values = (omega (arith, gave.1), inside); scopes = sound.scopes };
+      sound = record {
+        todo = sound.todo;
+        values = (omega (arith, gave.1), inside);
+        scopes = sound.scopes;
+        kept =
+            sound.kept;
+      };
       same =
           λ program n. numbers-step program old.lists (scopes_held old) old.todo operator old.values others x y n took
           ∙ ap (λ e. go_on e (λ v. rest (evaluation_from program) program (scopes_held old) old.todo
@@ -112,7 +119,7 @@ numbers-fault operator old mid others x y (stop.Answer f) last mid_is first othe
 numbers-fault operator old mid others x y stop.NoMemory last mid_is first others_is gave = tt
 
 -- `::`, by the two topmost values
-put-step : (program : ProgramLists) (lists : List ValueList) (scopes : List Environment) (todo : List Act)
+put-step : (program : ProgramLists) (lists : List ValueList) (scopes : Variables) (todo : List Act)
     (old others : List Datum) (x y : Datum) (n : ℕ) → AreTaken old x y others
     → rest (evaluation_from program) program scopes (act.PutBefore ∷ todo) (map (datum_value lists) old) n
     ≡ go_on (put_before (datum_value lists x) (datum_value lists y) n)
@@ -136,15 +143,19 @@ put-step program lists scopes todo old others x y n took =
 added-step : (program : ProgramLists) (old : Machine) (vs : ValueList) (others : List Datum) (n : ℕ) → IsSound old
     → AllByRecursion (λ e. reach e ≤ length old.lists) others
     → rest (evaluation_from program) program (scopes_held old) old.todo (list vs ∷ map (datum_value old.lists) others) n
-    ≡ rest (evaluation_from program) program (map (held (old.lists ++ vs ∷ [])) old.scopes) old.todo
+    ≡ rest (evaluation_from program) program
+    (record { bound = map (held (old.lists ++ vs ∷ [])) old.scopes; around = old.around.env.now }) old.todo
     (map (datum_value (old.lists ++ vs ∷ [])) (datum.List (length old.lists) ∷ others)) n
 added-step program old vs others n sound inside =
     let more = old.lists ++ vs ∷ [] in
-    ap (λ ss. rest (evaluation_from program) program ss old.todo (list vs ∷ map (datum_value old.lists) others) n)
+    ap (λ ss. rest (evaluation_from program) program (record { bound = ss; around = old.around.env.now }) old.todo
+    (list vs ∷ map (datum_value old.lists) others) n)
     (sym (scopes-more old.lists (vs ∷ []) old.scopes sound.scopes))
-    ∙ ap (λ ws. rest (evaluation_from program) program (map (held more) old.scopes) old.todo (list vs ∷ ws) n)
+    ∙ ap (λ ws. rest (evaluation_from program) program
+    (record { bound = map (held more) old.scopes; around = old.around.env.now }) old.todo (list vs ∷ ws) n)
     (sym (values-more old.lists (vs ∷ []) others inside))
-    ∙ ap (λ v. rest (evaluation_from program) program (map (held more) old.scopes) old.todo
+    ∙ ap (λ v. rest (evaluation_from program) program
+    (record { bound = map (held more) old.scopes; around = old.around.env.now }) old.todo
     (list v ∷ map (datum_value more) others) n) (sym (last-list old.lists vs))
 
 light : (v : Value) (vs : ValueList) (a b : ℕ) (n : ℕ) → a ≡ capped v → b ≡ capped (list vs) → a + b < max_weight
@@ -161,7 +172,14 @@ pub put-done : (old : Machine) (mid others values : List Datum) (lists : List Va
     → b ≡ capped (list (get_or old.lists place no_values)) → a + b < max_weight → joined ≡ length old.lists
     → lists ≡ old.lists ++ value (datum_value old.lists x) (get_or old.lists place no_values) ∷ []
     → values ≡ datum.List joined ∷ others
-    → IsDone act.PutBefore old (record { todo = old.todo; values = values; lists = lists; scopes = old.scopes })
+    → IsDone act.PutBefore old (record {
+      todo = old.todo;
+      values = values;
+      lists = lists;
+      scopes = old.scopes;
+      around
+          = old.around;
+    })
 put-done old mid others values lists x y place joined a b sound last mid_is first others_is y_list a_is b_is small
     joined_is added pushed =
     let took = taken old.values mid others x y last mid_is first others_is in
@@ -178,9 +196,11 @@ put-done old mid others values lists x y place joined a b sound last mid_is firs
           others;
       lists = more;
       scopes = old.scopes;
+      around = old.around;
     } in
-    let all : record { todo = old.todo; values = values; lists = lists; scopes = old.scopes } ≡ new =
-    ap (λ ws. record { todo = old.todo; values = ws; lists = lists; scopes = old.scopes })
+    let all : record { todo = old.todo; values = values; lists = lists; scopes = old.scopes; around = old.around } ≡
+    new =
+    ap (λ ws. record { todo = old.todo; values = ws; lists = lists; scopes = old.scopes; around = old.around })
     (pushed ∙ ap (λ p. datum.List p ∷ others) joined_is)
     ∙ ap (λ l. record {
       todo = old.todo;
@@ -188,6 +208,7 @@ put-done old mid others values lists x y place joined a b sound last mid_is firs
           others;
       lists = l;
       scopes = old.scopes;
+      around = old.around;
     }) added in
     let y_value : datum_value old.lists y
     ≡ list (get_or old.lists place no_values) = ap (datum_value old.lists) y_list in
@@ -205,6 +226,7 @@ put-done old mid others values lists x y place joined a b sound last mid_is firs
                   inside,
             );
             scopes = scopes-higher (length old.lists) (length more) old.scopes (omega (arith, longer)) sound.scopes;
+            kept = taken-more old.lists (vs ∷ []) old.around.env.now old.around.loaded.items sound.kept;
           };
       same = λ program n.
           put-step program old.lists (scopes_held old) old.todo old.values others x y n took

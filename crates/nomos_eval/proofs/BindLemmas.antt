@@ -1,5 +1,5 @@
 -- Arguments are bound to parameters, the last one first.
-use Rattle.std.proofs.Common.{◌≡◌, ◌+◌, ◌-◌, ◌<◌, ◌≤◌, ℕ, zero, suc, pos, true, cond, nat_lt, List, [], ◌∷◌, ◌++◌, length, map, get_or, drop, Some, None, slice_get, refl, sym, ap, ◌∙◌, subst, arith, append_assoc, length-append, tests, rules}
+use Rattle.std.proofs.Common.{◌≡◌, ◌+◌, ◌-◌, ◌<◌, ◌≤◌, ℕ, zero, suc, pos, true, cond, nat_lt, List, [], ◌∷◌, ◌++◌, length, map, get_or, drop, Some, None, slice_get, refl, sym, ap, ◌∙◌, subst, arith, add-one, append_assoc, length-append, tests, rules}
 use Rattle.std.specs.List.{AllByRecursion, zip}
 use Rattle.std.proofs.Math.Seq.{get_or-append_seam}
 use Rattle.std.proofs.lemmas.List.{map-append, length-map, append-nil}
@@ -13,11 +13,13 @@ use Rattle.nomos_ir.specs.Value.{Value, ValueList}
 use Rattle.nomos_ir.proofs.EvaluationLaws.{evaluation_from}
 use Rattle.nomos_eval.specs.declared.act.Act.{Act}
 use Rattle.nomos_eval.specs.declared.act.Act.TheVariants as act
+use Rattle.nomos_eval.specs.declared.act.Scope.{Scope}
+use Rattle.nomos_eval.specs.declared.around.Around.{Around}
 use Rattle.nomos_eval.specs.declared.datum.Datum.{Datum}
 use Rattle.nomos_eval.specs.declared.datum.Datum.TheVariants as datum
 use Rattle.nomos_eval.specs.declared.machine.Machine.{Machine}
 use Rattle.nomos_eval.specs.mirror.Machine.{held, scopes_held, values_found, IsSound, IsDoneFor, IsBinding, arguments_at, below_at, bound_on, with_parameter, top_datum, below_top}
-use Rattle.nomos_eval.specs.mirror.Rest.{rest, top, arguments_on, below_by, ScopeIn}
+use Rattle.nomos_eval.specs.mirror.Rest.{Variables, rest, seen_in, variables_at, top, arguments_on, below_by, ScopeIn}
 use Rattle.nomos_eval.specs.mirror.EvalTable.{datum_value}
 use Rattle.nomos_eval.proofs.ActLemmas.{top-found, below-found, top-in, below-in}
 use Rattle.nomos_eval.proofs.OpenLemmas.{at-held, todo-higher, scopes-in}
@@ -156,13 +158,14 @@ below-by-found lists (suc k) ds = ap (below_by k) (below-found lists ds) ∙ bel
 module _ (program : ProgramLists) (calls : ℕ) (f : FnId) (count : ℕ) (old : Machine) (names : List VarId)
     (ds : List Datum) (scopes : List (List (VarId × Datum))) (place : ℕ) (sound : IsSound old)
     (binding : IsBinding names count old.values old.scopes 0 ds scopes place) where
-  grown_is : map (held old.lists) scopes ≡ scopes_held old ++ map (held old.lists) binding.grown.0
+  grown_is : map (held old.lists) scopes
+      ≡ map (held old.lists) old.scopes ++ map (held old.lists) binding.grown.0
   grown_is = ap (map (held old.lists)) binding.grown.1 ∙ map-append (held old.lists) old.scopes binding.grown.0
 
   longer : length old.scopes ≤ length scopes
   longer = omega (arith, ap length binding.grown.1, length-append old.scopes binding.grown.0)
 
-  in_old : AllByRecursion (ScopeIn (length (scopes_held old))) old.todo
+  in_old : AllByRecursion (ScopeIn (length (map (held old.lists) old.scopes))) old.todo
   in_old =
       let Q : ℕ → Type 0 = λ k. AllByRecursion (ScopeIn k) old.todo in
       subst Q (sym (length-map old.scopes (held old.lists))) sound.todo
@@ -170,22 +173,28 @@ module _ (program : ProgramLists) (calls : ℕ) (f : FnId) (count : ℕ) (old : 
   -- what is left is the same with more scopes
   same_rest : (v : Value) (n : ℕ) → rest (evaluation_from program) program (scopes_held old) old.todo
       (v ∷ below_by count (values_found old)) n
-      ≡ rest (evaluation_from program) program (map (held old.lists) scopes) old.todo
+      ≡ rest (evaluation_from program) program (record {
+        bound = map (held old.lists) scopes;
+        around =
+            old.around.env.now;
+      })
+      old.todo
       (v ∷ map (datum_value old.lists) ds) n
   same_rest v n =
       ap (λ l. rest (evaluation_from program) program (scopes_held old) old.todo (v ∷ l) n)
       (below-by-found old.lists count old.values ∙ ap (map (datum_value old.lists)) (sym binding.under))
-      ∙ sym (ap (λ ss. rest (evaluation_from program) program ss old.todo (v ∷ map (datum_value old.lists) ds) n)
-      grown_is ∙ rest-more (evaluation_from program) program (scopes_held old) (map (held old.lists) binding.grown.0)
-      old.todo (v ∷ map (datum_value old.lists) ds) n in_old)
+      ∙ sym (ap (λ ss. rest (evaluation_from program) program
+      (record { bound = ss; around = old.around.env.now }) old.todo (v ∷ map (datum_value old.lists) ds) n)
+      grown_is ∙ rest-more (evaluation_from program) program (map (held old.lists) old.scopes)
+      (map (held old.lists) binding.grown.0) old.around.env.now old.todo (v ∷ map (datum_value old.lists) ds) n in_old)
 
   -- a function that is not there
   pub enter-none : (values : List Datum) → slice_get program.fns f.0 ≡ None → values ≡ datum.Int (pos 0) ∷ ds
       → IsDoneFor program (act.Enter calls f count) old
-      (record { todo = old.todo; values = values; lists = old.lists; scopes = scopes })
+      (record { todo = old.todo; values = values; lists = old.lists; scopes = scopes; around = old.around })
   enter-none values none pushed =
       let P : List Datum → Type 0 = λ l. IsDoneFor program (act.Enter calls f count) old
-      (record { todo = old.todo; values = l; lists = old.lists; scopes = scopes }) in
+      (record { todo = old.todo; values = l; lists = old.lists; scopes = scopes; around = old.around }) in
       let held_in = binding.sound (length old.lists) sound.values sound.scopes in
       subst
       P
@@ -196,6 +205,7 @@ module _ (program : ProgramLists) (calls : ℕ) (f : FnId) (count : ℕ) (old : 
               todo = todo-higher (length old.scopes) (length scopes) old.todo longer sound.todo;
               values = (omega arith, held_in.0);
               scopes = held_in.1;
+              kept = sound.kept;
             };
         same = λ n.
             ap (λ o. go_on (body_evaluation (evaluation_from program) calls o (arguments_on count (values_found old)) n)
@@ -210,14 +220,17 @@ module _ (program : ProgramLists) (calls : ℕ) (f : FnId) (count : ℕ) (old : 
       → names ≡ map (λ par. par.0) d.pars → calls < max_calls
       → todo ≡ act.Term (record { variables = place; calls = calls + 1 }) d.body ∷ old.todo
       → IsDoneFor program (act.Enter calls f count) old
-      (record { todo = todo; values = ds; lists = old.lists; scopes = scopes })
+      (record { todo = todo; values = ds; lists = old.lists; scopes = scopes; around = old.around })
   enter-done d todo some names_are few planned =
       let P : List Act → Type 0 = λ l. IsDoneFor program (act.Enter calls f count) old
-      (record { todo = l; values = ds; lists = old.lists; scopes = scopes }) in
+      (record { todo = l; values = ds; lists = old.lists; scopes = scopes; around = old.around }) in
       let held_in = binding.sound (length old.lists) sound.values sound.scopes in
-      let env : get_or (map (held old.lists) scopes) place []
-      ≡ bind_arguments d (arguments_on count (values_found old)) =
-      at-held old.lists place scopes
+      let inner : Scope = record { variables = place; calls = calls + 1 } in
+      let all_held : Variables = record { bound = map (held old.lists) scopes; around = old.around.env.now } in
+      let env : variables_at all_held inner ≡ bind_arguments d (arguments_on count (values_found old)) =
+      ap (λ k. get_or (map (held old.lists) scopes) place [] ++ seen_in k old.around.env.now) (add-one calls)
+      ∙ append-nil (get_or (map (held old.lists) scopes) place [])
+      ∙ at-held old.lists place scopes
       ∙ ap (held old.lists) (binding.bound ∙ bound-whole names count old.values)
       ∙ held-zip old.lists names (arguments_at count old.values)
       ∙ ap (λ ns. zip ns (map (datum_value old.lists) (arguments_at count old.values))) names_are
@@ -232,6 +245,7 @@ module _ (program : ProgramLists) (calls : ℕ) (f : FnId) (count : ℕ) (old : 
               todo = (binding.there, todo-higher (length old.scopes) (length scopes) old.todo longer sound.todo);
               values = held_in.0;
               scopes = held_in.1;
+              kept = sound.kept;
             };
         same = λ n.
             ap (λ o. go_on (body_evaluation (evaluation_from program) calls o (arguments_on count (values_found old)) n)
@@ -244,34 +258,40 @@ module _ (program : ProgramLists) (calls : ℕ) (f : FnId) (count : ℕ) (old : 
             ∙ ap (λ e. go_on (evaluation_from program (calls + 1) e d.body n)
             (λ v. rest (evaluation_from program) program (scopes_held old) old.todo
             (v ∷ below_by count (values_found old)))) (sym env)
-            ∙ go_on-next (evaluation_from program (calls + 1) (get_or (map (held old.lists) scopes) place []) d.body n)
-            _ _ (λ v m. same_rest v m);
+            ∙ go_on-next (evaluation_from program (calls + 1) (variables_at all_held inner) d.body n) _ _ (λ v m.
+            same_rest v m);
         less = omega arith;
       })
 
-  pub enter-none-at : (todo : List Act) (values : List Datum) (lists : List ValueList) → todo ≡ old.todo
-      → lists ≡ old.lists → slice_get program.fns f.0 ≡ None → values ≡ datum.Int (pos 0) ∷ ds
+  pub enter-none-at : (todo : List Act) (values : List Datum) (lists : List ValueList) (around : Around)
+      → todo ≡ old.todo → lists ≡ old.lists → around ≡ old.around → slice_get program.fns f.0 ≡ None → values ≡
+      datum.Int (pos 0) ∷ ds
       → IsDoneFor program (act.Enter calls f count) old
-      (record { todo = todo; values = values; lists = lists; scopes = scopes })
-  enter-none-at todo values lists todo_is lists_are none pushed =
+      (record { todo = todo; values = values; lists = lists; scopes = scopes; around = around })
+  enter-none-at todo values lists around todo_is lists_are around_is none pushed =
       let P : List Act → Type 0 = λ l. IsDoneFor program (act.Enter calls f count) old
-      (record { todo = l; values = values; lists = lists; scopes = scopes }) in
+      (record { todo = l; values = values; lists = lists; scopes = scopes; around = around }) in
       let Q : List ValueList → Type 0 = λ l.
       IsDoneFor program (act.Enter calls f count) old
-      (record { todo = old.todo; values = values; lists = l; scopes = scopes }) in
-      subst P (sym todo_is) (subst Q (sym lists_are) (enter-none values none pushed))
+      (record { todo = old.todo; values = values; lists = l; scopes = scopes; around = around }) in
+      let R : Around → Type 0 = λ a. IsDoneFor program (act.Enter calls f count) old
+      (record { todo = old.todo; values = values; lists = old.lists; scopes = scopes; around = a }) in
+      subst P (sym todo_is) (subst Q (sym lists_are) (subst R (sym around_is) (enter-none values none pushed)))
 
-  pub enter-done-at : (d : FnDecl) (todo bound_todo : List Act) (lists : List ValueList) → bound_todo ≡ old.todo
-      → lists ≡ old.lists → slice_get program.fns f.0 ≡ Some d → names ≡ map (λ par. par.0) d.pars → calls < max_calls
+  pub enter-done-at : (d : FnDecl) (todo bound_todo : List Act) (lists : List ValueList) (around : Around)
+      → bound_todo ≡ old.todo → lists ≡ old.lists → around ≡ old.around → slice_get program.fns f.0 ≡ Some d → names
+      ≡ map (λ par. par.0) d.pars → calls < max_calls
       → todo ≡ act.Term (record { variables = place; calls = calls + 1 }) d.body ∷ bound_todo
       → IsDoneFor program (act.Enter calls f count) old
-      (record { todo = todo; values = ds; lists = lists; scopes = scopes })
-  enter-done-at d todo bound_todo lists todo_is lists_are some names_are few planned =
+      (record { todo = todo; values = ds; lists = lists; scopes = scopes; around = around })
+  enter-done-at d todo bound_todo lists around todo_is lists_are around_is some names_are few planned =
       let Q : List ValueList → Type 0 = λ l.
       IsDoneFor program (act.Enter calls f count) old
-      (record { todo = todo; values = ds; lists = l; scopes = scopes }) in
-      subst Q (sym lists_are) (enter-done d todo some names_are few
-      (planned ∙ ap (λ l. act.Term (record { variables = place; calls = calls + 1 }) d.body ∷ l) todo_is))
+      (record { todo = todo; values = ds; lists = l; scopes = scopes; around = around }) in
+      let R : Around → Type 0 = λ a. IsDoneFor program (act.Enter calls f count) old
+      (record { todo = todo; values = ds; lists = old.lists; scopes = scopes; around = a }) in
+      subst Q (sym lists_are) (subst R (sym around_is) (enter-done d todo some names_are few
+      (planned ∙ ap (λ l. act.Term (record { variables = place; calls = calls + 1 }) d.body ∷ l) todo_is)))
 
 -- the count of what is left to bind, as a number after another
 pub turned : (names : List VarId) (count : ℕ) (first : List Datum) (before : List (List (VarId × Datum))) (k : ℕ)

@@ -1,4 +1,5 @@
 pub mod ActLemmas
+pub mod AroundLemmas
 pub mod BeginLemmas
 pub mod BindLemmas
 pub mod ListLemmas
@@ -9,4 +10,5 @@ pub mod OpenLemmas
 pub mod RestLemmas
 pub mod RunLemmas
 pub mod ScopeLemmas
+pub mod SmallLemmas
 pub mod TableLemmas

@@ -1,6 +1,8 @@
 -- What stays where lists and variables are added, and what the forms of terms find.
-use Rattle.std.proofs.Common.{◌≡◌, ◌+◌, ◌<◌, ◌≤◌, ◌==◌, ℕ, zero, suc, pos, Bool, true, false, cond, List, [], ◌∷◌, ◌++◌, length, map, get_or, Option, Some, unwrap_or, refl, sym, ap, ◌∙◌, subst, arith, length-append}
+use Rattle.std.proofs.Common.{◌≡◌, ◌+◌, ◌-◌, ◌<◌, ◌≤◌, ◌==◌, ℕ, zero, suc, pos, Bool, true, false, cond, List, [], ◌∷◌, ◌++◌, length, map, get_or, Option, Some, None, unwrap_or, refl, sym, ap, ◌∙◌, subst, arith, length-append}
 use Rattle.std.specs.List.{AllByRecursion}
+use Rattle.std.proofs.lemmas.List.{append-nil}
+use Rattle.std.proofs.lemmas.Option.{none-some}
 use Rattle.std.proofs.Math.Seq.{get_or-append_seam}
 use Rattle.nomos_ir.specs.declared.ids.FnId.{FnId}
 use Rattle.nomos_ir.specs.declared.ids.TermId.{TermId}
@@ -9,7 +11,7 @@ use Rattle.nomos_ir.specs.declared.kind.Kind.{Kind}
 use Rattle.nomos_ir.specs.declared.term_node.TermNode.{TermNode}
 use Rattle.nomos_ir.specs.declared.term_node.TermNode.TheVariants as node
 use Rattle.nomos_ir.specs.Bindings.{bound_to}
-use Rattle.nomos_ir.specs.Evaluation.{nought}
+use Rattle.nomos_ir.specs.Evaluation.{Environment, nought}
 use Rattle.nomos_ir.specs.Value.{Value, list, ValueList, no_values}
 use Rattle.nomos_ir.proofs.EvaluationLaws.{evaluation_from}
 use Rattle.nomos_eval.specs.declared.act.Act.{Act}
@@ -18,9 +20,12 @@ use Rattle.nomos_eval.specs.declared.act.Scope.{Scope}
 use Rattle.nomos_eval.specs.declared.datum.Datum.{Datum}
 use Rattle.nomos_eval.specs.declared.datum.Datum.TheVariants as datum
 use Rattle.nomos_eval.specs.declared.machine.Machine.{Machine}
-use Rattle.nomos_eval.specs.mirror.Machine.{held, scopes_held, values_found, left_with, IsSound, IsEntered}
-use Rattle.nomos_eval.specs.mirror.Rest.{rest, variables_at, work, ScopeIn, argument_acts}
+use Rattle.nomos_eval.specs.mirror.Machine.{held, scopes_held, values_found, left_with, IsSound, IsFound, IsEntered}
+use Rattle.nomos_eval.specs.mirror.Rest.{rest, seen_in, variables_at, work, ScopeIn, argument_acts}
 use Rattle.nomos_eval.specs.mirror.EvalTable.{datum_value, reach}
+use Rattle.nomos_eval.specs.declared.around.Around.{Around}
+use Rattle.nomos_eval.specs.mirror.Around.{IsKept, IsLookedUp}
+use Rattle.nomos_eval.proofs.AroundLemmas.{taken-more}
 use Rattle.nomos_eval.proofs.ListLemmas.{datum-more}
 use Rattle.nomos_eval.proofs.RestLemmas.{leaves-arguments}
 
@@ -65,28 +70,40 @@ scopes-higher n m [] less inside = tt
 scopes-higher n m (s ∷ ss) less inside = (scope-higher n m s less inside.0, scopes-higher n m ss less inside.1)
 
 -- a variable is looked up in the values as in the data
-step-held : (lists : List ValueList) (c : Bool) (d : Datum) (o : Option Value) (p : Option Datum)
-    → unwrap_or o nought ≡ datum_value lists (unwrap_or p (datum.Int (pos 0)))
-    → unwrap_or (cond c (Some (datum_value lists d)) o) nought
-    ≡ datum_value lists (unwrap_or (cond c (Some d) p) (datum.Int (pos 0)))
-step-held lists true d o p same = refl
-step-held lists false d o p same = same
+module _ (lists : List ValueList) (v : ℕ) (others : Environment) where
+  step-some : (test : Bool) (e d : Datum) (o : Option Datum) (p : Option Value) → Some d ≡ cond test (Some e) o
+      → (Some d ≡ o → p ≡ Some (datum_value lists d)) → cond test (Some (datum_value lists e)) p
+      ≡ Some (datum_value lists d)
+  step-some true e d o p is more = let same : d ≡ e = cc is in ap (λ x. Some (datum_value lists x)) (sym same)
+  step-some false e d o p is more = more is
 
-bound-held : (lists : List ValueList) (v : ℕ) (bs : List (VarId × Datum))
-    → unwrap_or (bound_to v (held lists bs)) nought ≡ datum_value lists (unwrap_or (bound_to v bs) (datum.Int (pos 0)))
-bound-held lists v [] = refl
-bound-held lists v (b ∷ bs) = step-held lists (b.0.0 == v) b.1 _ _ (bound-held lists v bs)
+  bound-some : (bs : List (VarId × Datum)) (d : Datum) → Some d ≡ bound_to v bs
+      → bound_to v (held lists bs ++ others) ≡ Some (datum_value lists d)
+  bound-some [] d is = absurd (none-some d (sym is))
+  bound-some (b ∷ bs) d is = step-some (b.0.0 == v) b.1 d (bound_to v bs) _ is (bound-some bs d)
+
+  step-none : (test : Bool) (e : Datum) (o : Option Datum) (p q : Option Value) → None ≡ cond test (Some e) o
+      → (None ≡ o → p ≡ q) → cond test (Some (datum_value lists e)) p ≡ q
+  step-none true e o p q is more = absurd (none-some e is)
+  step-none false e o p q is more = more is
+
+  bound-none : (bs : List (VarId × Datum)) → None ≡ bound_to v bs
+      → bound_to v (held lists bs ++ others) ≡ bound_to v others
+  bound-none [] is = refl
+  bound-none (b ∷ bs) is = step-none (b.0.0 == v) b.1 (bound_to v bs) _ (bound_to v others) is (bound-none bs)
 
 -- the value of a variable is there
-step-reach : (n : ℕ) (c : Bool) (d : Datum) (p : Option Datum) → reach d ≤ n
-    → reach (unwrap_or p (datum.Int (pos 0))) ≤ n → reach (unwrap_or (cond c (Some d) p) (datum.Int (pos 0))) ≤ n
-step-reach n true d p here there = here
-step-reach n false d p here there = there
+step-reach : (n : ℕ) (test : Bool) (e d : Datum) (o : Option Datum) → Some d ≡ cond test (Some e) o → reach e ≤ n
+    → (Some d ≡ o → reach d ≤ n) → reach d ≤ n
+step-reach n true e d o is here more = let same : d ≡ e = cc is in
+    let P : Datum → Type 0 = λ x. reach x ≤ n in subst P (sym same) here
+step-reach n false e d o is here more = more is
 
-bound-reach : (n v : ℕ) (bs : List (VarId × Datum)) → AllByRecursion (λ b. reach b.1 ≤ n) bs
-    → reach (unwrap_or (bound_to v bs) (datum.Int (pos 0))) ≤ n
-bound-reach n v [] inside = omega arith
-bound-reach n v (b ∷ bs) inside = step-reach n (b.0.0 == v) b.1 (bound_to v bs) inside.0 (bound-reach n v bs inside.1)
+bound-reach : (n v : ℕ) (bs : List (VarId × Datum)) (d : Datum) → AllByRecursion (λ b. reach b.1 ≤ n) bs
+    → Some d ≡ bound_to v bs → reach d ≤ n
+bound-reach n v [] d inside is = absurd (none-some d (sym is))
+bound-reach n v (b ∷ bs) d inside is =
+    step-reach n (b.0.0 == v) b.1 d (bound_to v bs) is inside.0 (bound-reach n v bs d inside.1)
 
 pub at-scope : (n k : ℕ) (ss : List (List (VarId × Datum))) → AllByRecursion (AllByRecursion (λ b. reach b.1 ≤ n)) ss
     → AllByRecursion (λ b. reach b.1 ≤ n) (get_or ss k [])
@@ -100,29 +117,102 @@ at-held lists k [] = refl
 at-held lists zero (s ∷ ss) = refl
 at-held lists (suc k) (s ∷ ss) = at-held lists k ss
 
--- a variable
-pub variable-entered : (scope : Scope) (at : ℕ) (v : VarId) (old : Machine) (d : Datum) (values : List Datum)
-    → IsSound old → d ≡ unwrap_or (bound_to v.0 (get_or old.scopes scope.variables [])) (datum.Int (pos 0))
-    → values ≡ d ∷ old.values → IsEntered scope (node.Var at v) old
-    (record { todo = old.todo; values = values; lists = old.lists; scopes = old.scopes })
-variable-entered scope at v old d values sound found pushed =
-    let looked = get_or old.scopes scope.variables [] in
-    let value_is : unwrap_or (bound_to v.0 (variables_at (scopes_held old) scope.variables)) nought
-    ≡ datum_value old.lists d =
-    ap (λ env. unwrap_or (bound_to v.0 env) nought) (at-held old.lists scope.variables old.scopes)
-    ∙ bound-held old.lists v.0 looked ∙ ap (datum_value old.lists) (sym found) in
-    let R : Datum → Type 0 = λ x. reach x ≤ length old.lists in
-    let here = subst R (sym found)
-    (bound-reach (length old.lists) v.0 looked
-    (at-scope (length old.lists) scope.variables old.scopes sound.scopes)) in
+-- a variable that is bound in the scope
+pub found-bound : (scopes : List (List (VarId × Datum))) (scope : Scope) (v : VarId) (a : Around)
+    (lists : List ValueList) (d : Datum) → IsKept lists a
+    → AllByRecursion (AllByRecursion (λ b. reach b.1 ≤ length lists)) scopes
+    → Some d ≡ bound_to v.0 (get_or scopes scope.variables []) → IsFound scopes scope v a lists a lists d
+found-bound scopes scope v a lists d kept inside is =
+    record {
+      env = refl;
+      grown = ([], sym (append-nil lists));
+      kept = kept;
+      there = bound-reach (length lists) v.0 (get_or scopes scope.variables []) d
+          (at-scope (length lists) scope.variables scopes inside) is;
+      same = sym (ap (λ e. unwrap_or (bound_to v.0 (e ++ seen_in scope.calls a.env.now)) nought)
+          (at-held lists scope.variables scopes)
+          ∙ ap (λ o. unwrap_or o nought)
+          (bound-some lists v.0 (seen_in scope.calls a.env.now) (get_or scopes scope.variables []) d is));
+    }
+
+-- what is not bound in the scope is looked up around it
+around-is : (scopes : List (List (VarId × Datum))) (scope : Scope) (v : VarId) (env : Environment)
+    (lists : List ValueList) → None ≡ bound_to v.0 (get_or scopes scope.variables [])
+    → unwrap_or (bound_to v.0 (seen_in scope.calls env)) nought ≡ unwrap_or (bound_to v.0
+    (variables_at (record { bound = map (held lists) scopes; around = env }) scope)) nought
+around-is scopes scope v env lists none =
+    sym (ap (λ e. unwrap_or (bound_to v.0 (e ++ seen_in scope.calls env)) nought) (at-held lists scope.variables scopes)
+    ∙ ap (λ o. unwrap_or o nought)
+    (bound-none lists v.0 (seen_in scope.calls env) (get_or scopes scope.variables []) none))
+
+-- a function sees no more
+pub found-nothing : (scopes : List (List (VarId × Datum))) (scope : Scope) (v : VarId) (a : Around)
+    (lists : List ValueList) → IsKept lists a → 0 < scope.calls
+    → None ≡ bound_to v.0 (get_or scopes scope.variables [])
+    → IsFound scopes scope v a lists a lists (datum.Int (pos 0))
+found-nothing scopes scope v a lists kept some none =
+    let deeper : scope.calls ≡ suc (scope.calls - 1) = omega arith in
+    record {
+      env = refl;
+      grown = ([], sym (append-nil lists));
+      kept = kept;
+      there = omega arith;
+      same = sym (ap (λ k. unwrap_or (bound_to v.0 (seen_in k a.env.now)) nought) deeper)
+          ∙ around-is scopes scope v a.env.now lists none;
+    }
+
+pub found-around : (scopes : List (List (VarId × Datum))) (scope : Scope) (v : VarId) (a new : Around)
+    (lists after : List ValueList) (d : Datum) → scope.calls ≤ 0
+    → None ≡ bound_to v.0 (get_or scopes scope.variables []) → IsLookedUp a lists v new after d
+    → IsFound scopes scope v a lists new after d
+found-around scopes scope v a new lists after d outermost none looked =
+    let first : scope.calls ≡ 0 = omega arith in
+    record {
+      env = looked.env;
+      grown = looked.grown;
+      kept = looked.kept;
+      there = looked.there;
+      same = looked.same ∙ sym (ap (λ k. unwrap_or (bound_to v.0 (seen_in k a.env.now)) nought) first)
+          ∙ around-is scopes scope v a.env.now lists none;
+    }
+
+-- a variable that was found is the value of its node
+pub variable-entered : (scope : Scope) (v : VarId) (old : Machine) (around : Around) (lists : List ValueList)
+    (d : Datum) (values : List Datum) → IsSound old
+    → IsFound old.scopes scope v old.around old.lists around lists d → values ≡ d ∷ old.values → (at : ℕ)
+    → IsEntered scope (node.Var at v) old
+    (record { todo = old.todo; values = values; lists = lists; scopes = old.scopes; around = around })
+variable-entered scope v old around lists d values sound found pushed at =
+    let longer : length old.lists ≤ length lists = omega
+    (arith, ap length found.grown.1, length-append old.lists found.grown.0) in
+    let scopes_are : map (held lists) old.scopes ≡ map (held old.lists) old.scopes =
+    ap (λ l. map (held l) old.scopes) found.grown.1 ∙ scopes-more old.lists found.grown.0 old.scopes sound.scopes in
+    let values_are : map (datum_value lists) old.values ≡ map (datum_value old.lists) old.values =
+    ap (λ l. map (datum_value l) old.values) found.grown.1
+    ∙ values-more old.lists found.grown.0 old.values sound.values in
     let P : List Datum → Type 0 = λ l. IsEntered scope (node.Var at v) old
-    (record { todo = old.todo; values = l; lists = old.lists; scopes = old.scopes }) in
+    (record { todo = old.todo; values = l; lists = lists; scopes = old.scopes; around = around }) in
     subst
     P
     (sym pushed)
     (record {
-      sound = record { todo = sound.todo; values = (here, sound.values); scopes = sound.scopes };
-      same = λ program n. ap (λ w. left_with program old w n) value_is;
+      sound =
+          record {
+            todo = sound.todo;
+            values = (found.there, values-higher (length old.lists) (length lists) old.values longer sound.values);
+            scopes = scopes-higher (length old.lists) (length lists) old.scopes longer sound.scopes;
+            kept = found.kept;
+          };
+      same = λ program n.
+          ap (λ w. left_with program old w n) (sym found.same)
+          ∙ ap (λ e. rest (evaluation_from program) program
+          (record { bound = map (held old.lists) old.scopes; around = e }) old.todo
+          (datum_value lists d ∷ map (datum_value old.lists) old.values) n) (sym found.env)
+          ∙ ap (λ ss. rest (evaluation_from program) program (record { bound = ss; around = around.env.now }) old.todo
+          (datum_value lists d ∷ map (datum_value old.lists) old.values) n) (sym scopes_are)
+          ∙ ap (λ vs. rest (evaluation_from program) program
+          (record { bound = map (held lists) old.scopes; around = around.env.now }) old.todo
+          (datum_value lists d ∷ vs) n) (sym values_are);
       little = omega arith;
     })
 
@@ -135,7 +225,7 @@ pub nil-entered : (scope : Scope) (at : ℕ) (k : Kind) (old : Machine) (place :
     (values : List Datum) → IsSound old → place ≡ length old.lists → lists ≡ old.lists ++ no_values ∷ []
     → values ≡ datum.List place ∷ old.values
     → IsEntered scope (node.Nil at k) old
-    (record { todo = old.todo; values = values; lists = lists; scopes = old.scopes })
+    (record { todo = old.todo; values = values; lists = lists; scopes = old.scopes; around = old.around })
 nil-entered scope at k old place lists values sound place_is added pushed =
     let more = old.lists ++ no_values ∷ [] in
     let longer : length more ≡ length old.lists + 1 = omega (arith, length-append old.lists (no_values ∷ [])) in
@@ -145,9 +235,11 @@ nil-entered scope at k old place lists values sound place_is added pushed =
           old.values;
       lists = more;
       scopes = old.scopes;
+      around = old.around;
     } in
-    let all : record { todo = old.todo; values = values; lists = lists; scopes = old.scopes } ≡ new =
-    ap (λ vs. record { todo = old.todo; values = vs; lists = lists; scopes = old.scopes })
+    let all : record { todo = old.todo; values = values; lists = lists; scopes = old.scopes; around = old.around } ≡
+    new =
+    ap (λ vs. record { todo = old.todo; values = vs; lists = lists; scopes = old.scopes; around = old.around })
     (pushed ∙ ap (λ p. datum.List p ∷ old.values) place_is)
     ∙ ap (λ l. record {
       todo = old.todo;
@@ -155,6 +247,7 @@ nil-entered scope at k old place lists values sound place_is added pushed =
           old.values;
       lists = l;
       scopes = old.scopes;
+      around = old.around;
     }) added in
     let P : Machine → Type 0 = λ m. IsEntered scope (node.Nil at k) old m in
     subst
@@ -171,13 +264,17 @@ nil-entered scope at k old place lists values sound place_is added pushed =
             );
             scopes = scopes-higher (length old.lists) (length more) old.scopes (omega (arith, longer))
                 sound.scopes;
+            kept = taken-more old.lists (no_values ∷ []) old.around.env.now old.around.loaded.items sound.kept;
           };
       same = λ program n.
-          ap (λ ss. rest (evaluation_from program) program ss old.todo (list no_values ∷ values_found old) n)
+          ap (λ ss. rest (evaluation_from program) program (record { bound = ss; around = old.around.env.now }) old.todo
+          (list no_values ∷ values_found old) n)
           (sym (scopes-more old.lists (no_values ∷ []) old.scopes sound.scopes))
-          ∙ ap (λ vs. rest (evaluation_from program) program (map (held more) old.scopes) old.todo (list no_values ∷ vs)
+          ∙ ap (λ vs. rest (evaluation_from program) program
+          (record { bound = map (held more) old.scopes; around = old.around.env.now }) old.todo (list no_values ∷ vs)
           n) (sym (values-more old.lists (no_values ∷ []) old.values sound.values))
-          ∙ ap (λ v. rest (evaluation_from program) program (map (held more) old.scopes) old.todo
+          ∙ ap (λ v. rest (evaluation_from program) program
+          (record { bound = map (held more) old.scopes; around = old.around.env.now }) old.todo
           (list v ∷ map (datum_value more) old.values) n) (sym (last-list old.lists no_values));
       little = omega arith;
     })
@@ -197,10 +294,10 @@ pub call-entered : (scope : Scope) (at : ℕ) (f : FnId) (ts : List TermId) (old
     → IsSound old → scope.variables < length old.scopes
     → todo ≡ argument_acts scope ts ++ act.Enter scope.calls f (length ts) ∷ old.todo
     → IsEntered scope (node.Call at f ts) old
-    (record { todo = todo; values = old.values; lists = old.lists; scopes = old.scopes })
+    (record { todo = todo; values = old.values; lists = old.lists; scopes = old.scopes; around = old.around })
 call-entered scope at f ts old todo sound inside planned =
     let P : List Act → Type 0 = λ l. IsEntered scope (node.Call at f ts) old
-    (record { todo = l; values = old.values; lists = old.lists; scopes = old.scopes }) in
+    (record { todo = l; values = old.values; lists = old.lists; scopes = old.scopes; around = old.around }) in
     subst
     P
     (sym planned)
@@ -211,6 +308,7 @@ call-entered scope at f ts old todo sound inside planned =
                 inside (tt, sound.todo);
             values = sound.values;
             scopes = sound.scopes;
+            kept = sound.kept;
           };
       same =
           λ program n. leaves-arguments (evaluation_from program) program (scopes_held old) scope f (length ts) ts []
@@ -226,31 +324,53 @@ call-planned scope f ts given old new planned same =
     planned ∙ ap (λ l. argument_acts scope l ++ act.Enter scope.calls f (length l) ∷ old) same
 
 -- the same of a node that is known to be of this form
-pub variable-found : (x : TermNode) (scope : Scope) (at : ℕ) (v : VarId) (old : Machine) (d : Datum) (o : Option Datum)
-    (values : List Datum) → x ≡ node.Var at v → IsSound old → d ≡ unwrap_or o (datum.Int (pos 0))
-    → o ≡ bound_to v.0 (get_or old.scopes scope.variables []) → values ≡ d ∷ old.values
-    → IsEntered scope x old (record { todo = old.todo; values = values; lists = old.lists; scopes = old.scopes })
-variable-found x scope at v old d o values is sound value_is found pushed =
-    let P : TermNode → Type 0 = λ y.
-    IsEntered scope y old (record { todo = old.todo; values = values; lists = old.lists; scopes = old.scopes }) in
-    subst P (sym is) (variable-entered scope at v old d values sound
-    (value_is ∙ ap (λ q. unwrap_or q (datum.Int (pos 0))) found) pushed)
+pub variable-found : (x : TermNode) (scope : Scope) (at : ℕ) (v : VarId) (old new : Machine) → x ≡ node.Var at v
+    → ((at : ℕ) → IsEntered scope (node.Var at v) old new) → IsEntered scope x old new
+variable-found x scope at v old new is entered =
+    let P : TermNode → Type 0 = λ y. IsEntered scope y old new in subst P (sym is) (entered at)
 
 pub nil-found : (x : TermNode) (scope : Scope) (at : ℕ) (k : Kind) (old : Machine) (place : ℕ) (lists : List ValueList)
     (values : List Datum) → x ≡ node.Nil at k → IsSound old → place ≡ length old.lists
     → lists ≡ old.lists ++ no_values ∷ [] → values ≡ datum.List place ∷ old.values
-    → IsEntered scope x old (record { todo = old.todo; values = values; lists = lists; scopes = old.scopes })
+    → IsEntered scope x old (record {
+      todo = old.todo;
+      values = values;
+      lists = lists;
+      scopes = old.scopes;
+      around =
+          old.around;
+    })
 nil-found x scope at k old place lists values is sound place_is added pushed =
     let P : TermNode → Type 0 = λ y.
-    IsEntered scope y old (record { todo = old.todo; values = values; lists = lists; scopes = old.scopes }) in
+    IsEntered scope y old (record {
+      todo = old.todo;
+      values = values;
+      lists = lists;
+      scopes = old.scopes;
+      around =
+          old.around;
+    }) in
     subst P (sym is) (nil-entered scope at k old place lists values sound place_is added pushed)
 
 pub call-found : (x : TermNode) (scope : Scope) (at : ℕ) (f : FnId) (ts given : List TermId) (old : Machine)
     (todo : List Act) → x ≡ node.Call at f ts → IsSound old → scope.variables < length old.scopes
     → todo ≡ argument_acts scope given ++ act.Enter scope.calls f (length given) ∷ old.todo → given ≡ ts
-    → IsEntered scope x old (record { todo = todo; values = old.values; lists = old.lists; scopes = old.scopes })
+    → IsEntered scope x old (record {
+      todo = todo;
+      values = old.values;
+      lists = old.lists;
+      scopes = old.scopes;
+      around = old.around;
+    })
 call-found x scope at f ts given old todo is sound inside planned same =
     let P : TermNode → Type 0 = λ y.
-    IsEntered scope y old (record { todo = todo; values = old.values; lists = old.lists; scopes = old.scopes }) in
+    IsEntered scope y old (record {
+      todo = todo;
+      values = old.values;
+      lists = old.lists;
+      scopes = old.scopes;
+      around
+          = old.around;
+    }) in
     subst P (sym is) (call-entered scope at f ts old todo sound inside
     (call-planned scope f ts given old.todo todo planned same))

@@ -5,7 +5,7 @@ use Rattle.std.proofs.Math.Seq.{get_or-append_seam}
 use Rattle.std.proofs.lemmas.List.{map-append, length-map}
 use Rattle.nomos_ir.specs.declared.ids.VarId.{VarId}
 use Rattle.nomos_ir.specs.declared.lists.ProgramLists.{ProgramLists}
-use Rattle.nomos_ir.specs.Evaluation.{Environment, go_on, taken_apart, bind_parts}
+use Rattle.nomos_ir.specs.Evaluation.{go_on, taken_apart, bind_parts}
 use Rattle.nomos_ir.specs.Value.{Value, list, ValueList, no_values, value}
 use Rattle.nomos_ir.proofs.EvaluationLaws.{evaluation_from}
 use Rattle.nomos_eval.specs.declared.act.Act.{Act}
@@ -16,7 +16,7 @@ use Rattle.nomos_eval.specs.declared.datum.Datum.{Datum}
 use Rattle.nomos_eval.specs.declared.datum.Datum.TheVariants as datum
 use Rattle.nomos_eval.specs.declared.machine.Machine.{Machine}
 use Rattle.nomos_eval.specs.mirror.Machine.{held, scopes_held, IsSound, IsDone, top_datum, below_top}
-use Rattle.nomos_eval.specs.mirror.Rest.{rest, follow, variables_at, below, ScopeIn}
+use Rattle.nomos_eval.specs.mirror.Rest.{Variables, rest, follow, seen_in, variables_at, below, ScopeIn}
 use Rattle.nomos_eval.specs.mirror.EvalTable.{datum_value, reach}
 use Rattle.nomos_eval.proofs.ActLemmas.{top-found, below-found, top-in, below-in}
 use Rattle.nomos_eval.proofs.MachineLemmas.{at-scope}
@@ -52,22 +52,22 @@ at-held lists zero (s ∷ ss) = refl
 at-held lists (suc k) (s ∷ ss) = at-held lists k ss
 
 -- a list that has parts, by the topmost value
-open-step : (program : ProgramLists) (lists : List ValueList) (scopes : List Environment) (todo : List Act)
+open-step : (program : ProgramLists) (lists : List ValueList) (scopes : Variables) (todo : List Act)
     (scope : Scope) (c : Cases) (old : List Datum) (x : Value) (xs : ValueList) (n : ℕ)
     → datum_value lists (top_datum old) ≡ list (value x xs)
     → rest (evaluation_from program) program scopes (act.Open scope c ∷ todo) (map (datum_value lists) old) n
     ≡ go_on (evaluation_from program scope.calls
-    (bind_parts c.head c.tail x (list xs) (variables_at scopes scope.variables)) c.full n)
+    (bind_parts c.head c.tail x (list xs) (variables_at scopes scope)) c.full n)
     (λ v. rest (evaluation_from program) program scopes todo (v ∷ map (datum_value lists) (below_top old)))
 open-step program lists scopes todo scope c old x xs n is =
     ap (λ w. go_on (taken_apart w (follow (evaluation_from program) program scopes scope c.empty)
     (λ y ys. evaluation_from program scope.calls
-    (bind_parts c.head c.tail y ys (variables_at scopes scope.variables)) c.full)
+    (bind_parts c.head c.tail y ys (variables_at scopes scope)) c.full)
     (follow (evaluation_from program) program scopes scope c.full) n)
     (λ v. rest (evaluation_from program) program scopes todo (v ∷ below (map (datum_value lists) old))))
     (top-found lists old ∙ is)
     ∙ ap (λ l. go_on (evaluation_from program scope.calls
-    (bind_parts c.head c.tail x (list xs) (variables_at scopes scope.variables)) c.full n)
+    (bind_parts c.head c.tail x (list xs) (variables_at scopes scope)) c.full n)
     (λ v. rest (evaluation_from program) program scopes todo (v ∷ l))) (below-found lists old)
 
 -- a list is taken apart, with its head and its tail in two more scopes
@@ -79,7 +79,14 @@ pub open-done : (scope : Scope) (c : Cases) (old : Machine) (mid : List Datum)
     → with_head ≡ length old.scopes → first ≡ old.scopes ++ ((c.head, h) ∷ get_or old.scopes scope.variables []) ∷ []
     → with_tail ≡ length first → second ≡ first ++ ((c.tail, datum.List t) ∷ get_or first with_head []) ∷ []
     → todo ≡ act.Term (record { variables = with_tail; calls = scope.calls }) c.full ∷ old.todo
-    → IsDone (act.Open scope c) old (record { todo = todo; values = mid; lists = old.lists; scopes = second })
+    → IsDone (act.Open scope c) old (record {
+      todo = todo;
+      values = mid;
+      lists = old.lists;
+      scopes = second;
+      around =
+          old.around;
+    })
 open-done scope c old mid first second todo place h t with_head with_tail sound inside last mid_is parts head_at
     first_is tail_at second_is planned =
     let s1 = (c.head, h) ∷ get_or old.scopes scope.variables [] in
@@ -104,11 +111,18 @@ open-done scope c old mid first second todo place h t with_head with_tail sound 
       values = below_top old.values;
       lists = old.lists;
       scopes = whole;
+      around = old.around;
     } in
-    let all : record { todo = todo; values = mid; lists = old.lists; scopes = second } ≡ new =
-    ap (λ l. record { todo = l; values = mid; lists = old.lists; scopes = second })
+    let all : record { todo = todo; values = mid; lists = old.lists; scopes = second; around = old.around } ≡ new =
+    ap (λ l. record { todo = l; values = mid; lists = old.lists; scopes = second; around = old.around })
     (planned ∙ ap (λ k. act.Term (record { variables = k; calls = scope.calls }) c.full ∷ old.todo) place_is)
-    ∙ ap (λ l. record { todo = act.Term inner c.full ∷ old.todo; values = l; lists = old.lists; scopes = second })
+    ∙ ap (λ l. record {
+      todo = act.Term inner c.full ∷ old.todo;
+      values = l;
+      lists = old.lists;
+      scopes = second;
+      around = old.around;
+    })
     mid_is
     ∙ ap (λ l. record {
       todo = act.Term inner c.full ∷
@@ -116,6 +130,7 @@ open-done scope c old mid first second todo place h t with_head with_tail sound 
       values = below_top old.values;
       lists = old.lists;
       scopes = l;
+      around = old.around;
     }) second_is' in
     let place_in : reach (datum.List place)
     ≤ length old.lists = (let P : Datum
@@ -127,19 +142,23 @@ open-done scope c old mid first second todo place h t with_head with_tail sound 
     let looked = at-scope (length old.lists) scope.variables old.scopes sound.scopes in
     let s1_in : AllByRecursion (λ b. reach b.1 ≤ length old.lists) s1 = (omega (arith, parts.0, place_in), looked) in
     let s2_in : AllByRecursion (λ b. reach b.1 ≤ length old.lists) s2 = (omega (arith, parts.1, place_in), s1_in) in
-    let env : get_or (map (held old.lists) whole) (length (old.scopes ++ s1 ∷ [])) []
+    let around = old.around.env.now in
+    let all_held : Variables = record { bound = map (held old.lists) whole; around = around } in
+    let env : variables_at all_held inner
     ≡ bind_parts c.head c.tail (datum_value old.lists h) (list (get_or old.lists t no_values))
-    (variables_at (scopes_held old) scope.variables) =
-    at-held old.lists (length (old.scopes ++ s1 ∷ [])) whole
+    (variables_at (scopes_held old) scope) =
+    ap (λ l. l ++ seen_in scope.calls around)
+    (at-held old.lists (length (old.scopes ++ s1 ∷ [])) whole
     ∙ ap (held old.lists) (get_or-append_seam (old.scopes ++ s1 ∷ []) s2 [] [])
     ∙ ap (λ e. (c.tail, list (get_or old.lists t no_values)) ∷ (c.head, datum_value old.lists h) ∷ e)
-    (sym (at-held old.lists scope.variables old.scopes)) in
+    (sym (at-held old.lists scope.variables old.scopes))) in
     let P : Machine → Type 0 = λ m. IsDone (act.Open scope c) old m in
     let held_whole : map (held old.lists) whole
-    ≡ scopes_held old ++ (held old.lists s1 ∷ held old.lists s2 ∷ []) = ap (map (held old.lists))
+    ≡ map (held old.lists) old.scopes ++ (held old.lists s1 ∷ held old.lists s2 ∷ []) = ap (map (held old.lists))
     (append_assoc old.scopes (s1 ∷ []) (s2 ∷ [])) ∙ map-append (held old.lists) old.scopes (s1 ∷ s2 ∷ []) in
-    let same_count : length (scopes_held old) ≡ length old.scopes = length-map old.scopes (held old.lists) in
-    let todo_in : AllByRecursion (ScopeIn (length (scopes_held old))) old.todo =
+    let same_count : length (map (held old.lists) old.scopes) ≡ length old.scopes = length-map old.scopes (held
+    old.lists) in
+    let todo_in : AllByRecursion (ScopeIn (length (map (held old.lists) old.scopes))) old.todo =
     (let Q : ℕ → Type 0 = λ k. AllByRecursion (ScopeIn k) old.todo in subst Q (sym same_count) sound.todo) in
     subst
     P
@@ -156,6 +175,7 @@ open-done scope c old mid first second todo place h t with_head with_tail sound 
             scopes =
                 scopes-in (length old.lists) (old.scopes ++ s1 ∷ []) s2
                 (scopes-in (length old.lists) old.scopes s1 sound.scopes s1_in) s2_in;
+            kept = sound.kept;
           };
       same = λ program n.
           open-step program old.lists (scopes_held old) old.todo scope c old.values (datum_value old.lists h)
@@ -163,11 +183,12 @@ open-done scope c old mid first second todo place h t with_head with_tail sound 
           ∙ ap (λ e. go_on (evaluation_from program scope.calls e c.full n)
           (λ v. rest (evaluation_from program) program (scopes_held old) old.todo
           (v ∷ map (datum_value old.lists) (below_top old.values)))) (sym env)
-          ∙ go_on-next (evaluation_from program scope.calls
-          (get_or (map (held old.lists) whole) (length (old.scopes ++ s1 ∷ [])) []) c.full n) _ _
-          (λ v m. sym (ap (λ ss. rest (evaluation_from program) program ss old.todo
+          ∙ go_on-next (evaluation_from program scope.calls (variables_at all_held inner) c.full n) _ _
+          (λ v m. sym (ap (λ ss. rest (evaluation_from program) program (record { bound = ss; around = around })
+          old.todo
           (v ∷ map (datum_value old.lists) (below_top old.values)) m) held_whole
-          ∙ rest-more (evaluation_from program) program (scopes_held old) (held old.lists s1 ∷ held old.lists s2 ∷ [])
-          old.todo (v ∷ map (datum_value old.lists) (below_top old.values)) m todo_in));
+          ∙ rest-more (evaluation_from program) program (map (held old.lists) old.scopes)
+          (held old.lists s1 ∷ held old.lists s2 ∷ []) around old.todo (v ∷ map (datum_value old.lists) (below_top
+          old.values)) m todo_in));
       less = omega arith;
     })

@@ -12,7 +12,7 @@ use Rattle.nomos_eval.specs.declared.act.Act.TheVariants as act
 use Rattle.nomos_eval.specs.declared.act.Scope.{Scope}
 use Rattle.nomos_eval.specs.declared.numbers.Operator.{Operator}
 use Rattle.nomos_eval.specs.mirror.Operation.{operation}
-use Rattle.nomos_eval.specs.mirror.Rest.{top, below, arguments_on, below_by, follow, rest, argument_acts, ScopeIn}
+use Rattle.nomos_eval.specs.mirror.Rest.{Variables, seen_in, top, below, arguments_on, below_by, follow, rest, argument_acts, ScopeIn}
 
 -- one thing after another
 pub go_on-assoc : (e : Evaluation) (f g : Value → Counted) → go_on (go_on e f) g ≡ go_on e (λ v n. go_on (f v n) g)
@@ -50,7 +50,7 @@ each_of-next part (t ∷ ts) f g n same =
     go_on-next (part t n) _ _ (λ v m.
     each_of-next part ts (λ vs. f (v ∷ vs)) (λ vs. g (v ∷ vs)) m (λ vs. same (v ∷ vs)))
 
-module _ (from : Evaluator) (lists : ProgramLists) (scopes : List Environment) where
+module _ (from : Evaluator) (lists : ProgramLists) (scopes : Variables) where
   -- an operator
   pub leaves-numbers : (s : Scope) (a b : TermId) (operator : Operator) (todo : List Act) (values : List Value) (n : ℕ)
       → go_on (two_of (follow from lists scopes s) a b (on_numbers (operation operator)) n)
@@ -100,17 +100,27 @@ module _ (from : Evaluator) (lists : ProgramLists) (scopes : List Environment) w
       ∙ leaves-arguments s f count ts (v ∷ before) todo values m (omega arith))
 
 -- one more place changes nothing of what is left
-module _ (from : Evaluator) (lists : ProgramLists) (scopes more : List Environment) where
+module _ (from : Evaluator) (lists : ProgramLists) (scopes more : List Environment) (env : Environment) where
   follow-more : (s : Scope) (t : TermId) → s.variables < length scopes
-      → follow from lists (scopes ++ more) s t ≡ follow from lists scopes s t
-  follow-more s t inside = ap (λ env. from s.calls env t) (get_or_append_left scopes more [] s.variables inside)
+      → follow from lists (record { bound = scopes ++ more; around = env }) s t ≡ follow from lists (record {
+        bound =
+            scopes;
+        around = env;
+      }) s t
+  follow-more s t inside =
+      ap (λ e. from s.calls (e ++ seen_in s.calls env) t) (get_or_append_left scopes more [] s.variables inside)
 
   pub rest-more : (todo : List Act) (values : List Value) (n : ℕ) → AllByRecursion (ScopeIn (length scopes)) todo
-      → rest from lists (scopes ++ more) todo values n ≡ rest from lists scopes todo values n
+      → rest from lists (record { bound = scopes ++ more; around = env }) todo values n ≡ rest from lists (record {
+        bound = scopes;
+        around = env;
+      }) todo values n
   rest-more [] values n inside = refl
   rest-more (act.Term s t ∷ todo) values n inside =
-      ap (λ f. go_on (f n) (λ v. rest from lists (scopes ++ more) todo (v ∷ values))) (follow-more s t inside.0)
-      ∙ go_on-next (follow from lists scopes s t n) _ _ (λ v m. rest-more todo (v ∷ values) m inside.1)
+      ap (λ f. go_on (f n) (λ v. rest from lists (record { bound = scopes ++ more; around = env }) todo (v ∷
+      values))) (follow-more s t inside.0)
+      ∙ go_on-next (follow from lists (record { bound = scopes; around = env }) s t n) _ _ (λ v m. rest-more todo (v
+      ∷ values) m inside.1)
   rest-more (act.Numbers operator ∷ todo) values n inside =
       go_on-next (on_numbers (operation operator) (top (below values)) (top values) n) _ _
       (λ v m. rest-more todo (v ∷ below (below values)) m inside.1)
@@ -118,28 +128,36 @@ module _ (from : Evaluator) (lists : ProgramLists) (scopes more : List Environme
       go_on-next (put_before (top (below values)) (top values) n) _ _
       (λ v m. rest-more todo (v ∷ below (below values)) m inside.1)
   rest-more (act.Both s t ∷ todo) values n inside =
-      ap (λ f. go_on (both (top values) f n) (λ v. rest from lists (scopes ++ more) todo (v ∷ below values)))
+      ap (λ f. go_on (both (top values) f n) (λ v. rest from lists (record { bound = scopes ++ more; around = env })
+      todo (v ∷ below values)))
       (follow-more s t inside.0)
-      ∙ go_on-next (both (top values) (follow from lists scopes s t) n) _ _
+      ∙ go_on-next (both (top values) (follow from lists (record { bound = scopes; around = env }) s t) n) _ _
       (λ v m. rest-more todo (v ∷ below values) m inside.1)
   rest-more (act.Either s t ∷ todo) values n inside =
-      ap (λ f. go_on (either (top values) f n) (λ v. rest from lists (scopes ++ more) todo (v ∷ below values)))
+      ap (λ f. go_on (either (top values) f n) (λ v. rest from lists (record {
+        bound = scopes ++ more;
+        around = env;
+      }) todo (v ∷ below values)))
       (follow-more s t inside.0)
-      ∙ go_on-next (either (top values) (follow from lists scopes s t) n) _ _
+      ∙ go_on-next (either (top values) (follow from lists (record { bound = scopes; around = env }) s t) n) _ _
       (λ v m. rest-more todo (v ∷ below values) m inside.1)
   rest-more (act.Truth ∷ todo) values n inside = rest-more todo (as_truth (top values) ∷ below values) n inside.1
   rest-more (act.Not ∷ todo) values n inside = rest-more todo (opposite (top values) ∷ below values) n inside.1
   rest-more (act.Choose s a b ∷ todo) values n inside =
-      ap (λ f. go_on (chosen (top values) f (follow from lists (scopes ++ more) s b) n)
-      (λ v. rest from lists (scopes ++ more) todo (v ∷ below values))) (follow-more s a inside.0)
-      ∙ ap (λ f. go_on (chosen (top values) (follow from lists scopes s a) f n)
-      (λ v. rest from lists (scopes ++ more) todo (v ∷ below values))) (follow-more s b inside.0)
-      ∙ go_on-next (chosen (top values) (follow from lists scopes s a) (follow from lists scopes s b) n) _ _
+      ap (λ f. go_on (chosen (top values) f (follow from lists (record { bound = scopes ++ more; around = env }) s b) n)
+      (λ v. rest from lists (record { bound = scopes ++ more; around = env }) todo (v ∷ below values))) (follow-more
+      s a inside.0)
+      ∙ ap (λ f. go_on (chosen (top values) (follow from lists (record { bound = scopes; around = env }) s a) f n)
+      (λ v. rest from lists (record { bound = scopes ++ more; around = env }) todo (v ∷ below values))) (follow-more
+      s b inside.0)
+      ∙ go_on-next (chosen (top values) (follow from lists (record { bound = scopes; around = env }) s a) (follow
+      from lists (record { bound = scopes; around = env }) s b) n) _ _
       (λ v m. rest-more todo (v ∷ below values) m inside.1)
   rest-more (act.Open s c ∷ todo) values n inside =
-      ap (λ env. go_on (taken_apart (top values) (from s.calls env c.empty)
-      (λ x xs. from s.calls (bind_parts c.head c.tail x xs env) c.full) (from s.calls env c.full) n)
-      (λ v. rest from lists (scopes ++ more) todo (v ∷ below values)))
+      ap (λ e. go_on (taken_apart (top values) (from s.calls (e ++ seen_in s.calls env) c.empty)
+      (λ x xs. from s.calls (bind_parts c.head c.tail x xs (e ++ seen_in s.calls env)) c.full)
+      (from s.calls (e ++ seen_in s.calls env) c.full) n)
+      (λ v. rest from lists (record { bound = scopes ++ more; around = env }) todo (v ∷ below values)))
       (get_or_append_left scopes more [] s.variables inside.0)
       ∙ go_on-next _ _ _ (λ v m. rest-more todo (v ∷ below values) m inside.1)
   rest-more (act.Enter calls f count ∷ todo) values n inside =

@@ -44,7 +44,7 @@ entered-some program scope t x old new there is =
       sound = is.sound;
       same =
           λ n. ap (λ o. go_on (entered program (evaluation_from program) scope.calls
-          (variables_at (scopes_held old) scope.variables) o n) (left_with program old)) (sym there)
+          (variables_at (scopes_held old) scope) o n) (left_with program old)) (sym there)
           ∙ is.same program n;
       little = is.little;
     }
@@ -52,19 +52,25 @@ entered-some program scope t x old new there is =
 pub entered-none : (program : ProgramLists) (scope : Scope) (t : TermId) (old : Machine) (values : List Datum)
     → IsSound old → None ≡ slice_get program.terms t.0 → values ≡ datum.Int (pos 0) ∷ old.values
     → IsEnteredAt program scope t old
-    (record { todo = old.todo; values = values; lists = old.lists; scopes = old.scopes })
+    (record { todo = old.todo; values = values; lists = old.lists; scopes = old.scopes; around = old.around })
 entered-none program scope t old values sound none pushed =
     let P : List Datum → Type 0 = λ l.
     IsEnteredAt program scope t old
-    (record { todo = old.todo; values = l; lists = old.lists; scopes = old.scopes }) in
+    (record { todo = old.todo; values = l; lists = old.lists; scopes = old.scopes; around = old.around }) in
     subst
     P
     (sym pushed)
     (record {
-      sound = record { todo = sound.todo; values = (omega arith, sound.values); scopes = sound.scopes };
+      sound = record {
+        todo = sound.todo;
+        values = (omega arith, sound.values);
+        scopes = sound.scopes;
+        kept =
+            sound.kept;
+      };
       same =
           λ n. ap (λ o. go_on (entered program (evaluation_from program) scope.calls
-          (variables_at (scopes_held old) scope.variables) o n) (left_with program old)) (sym none);
+          (variables_at (scopes_held old) scope) o n) (left_with program old)) (sym none);
       little = omega arith;
     })
 
@@ -81,9 +87,9 @@ step-term program a scope t old new n same few is =
       sound = is.sound;
       same =
           ap (λ e. go_on e (left_with program old))
-          (evaluation-step program scope.calls (variables_at (scopes_held old) scope.variables) t n)
+          (evaluation-step program scope.calls (variables_at (scopes_held old) scope) t n)
           ∙ ap (λ b. go_on (counted b (entered program (evaluation_from program) scope.calls
-          (variables_at (scopes_held old) scope.variables) (slice_get program.terms t.0)) n) (left_with program old)) on
+          (variables_at (scopes_held old) scope) (slice_get program.terms t.0)) n) (left_with program old)) on
           ∙ is.same (n + 1);
       few = omega arith;
       less = omega (arith, is.little);
@@ -95,9 +101,9 @@ step-last program a scope t old n same past =
     let off : nat_lt n max_nodes ≡ false = search (tests, rules) in
     ap (λ x. left_of program x old n) same
     ∙ ap (λ e. go_on e (left_with program old))
-    (evaluation-step program scope.calls (variables_at (scopes_held old) scope.variables) t n)
+    (evaluation-step program scope.calls (variables_at (scopes_held old) scope) t n)
     ∙ ap (λ b. go_on (counted b (entered program (evaluation_from program) scope.calls
-    (variables_at (scopes_held old) scope.variables) (slice_get program.terms t.0)) n) (left_with program old)) off
+    (variables_at (scopes_held old) scope) (slice_get program.terms t.0)) n) (left_with program old)) off
 
 -- anything else is a step
 pub step-done : (program : ProgramLists) (a : Act) (old new : Machine) (n : ℕ) → n ≤ max_nodes

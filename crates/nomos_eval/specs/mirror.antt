@@ -1,4 +1,5 @@
 -- Mirrors of the code, on which no promise stands.
+pub mod Around
 pub mod Begin
 pub mod ListCell
 pub mod Load
@@ -8,3 +9,5 @@ pub mod Rest
 pub mod EvalRun
 pub mod EvalScope
 pub mod EvalTable
+pub mod SmallPart
+pub mod TermsFound

@@ -27,7 +27,10 @@ pub(crate) fn take(values: &mut Stack<Datum>) -> Datum
 }
 
 /// An operator takes the two topmost values.
-pub(crate) fn numbers(machine: &mut Machine, operator: Operator) -> Result<(), OrNoMemory<Fault>>
+pub(crate) fn numbers(
+    machine: &mut Machine<'_>,
+    operator: Operator,
+) -> Result<(), OrNoMemory<Fault>>
     requires { IsSound machine.old }
     ensures { Does (act.Numbers operator) machine.old machine.new result }
 {
@@ -60,7 +63,7 @@ fn given(what: Given) -> Result<Datum, OrNoMemory<Fault>>
 }
 
 /// The topmost value is to be a truth value.
-pub(crate) fn truth(machine: &mut Machine) -> Result<(), OrNoMemory<Fault>>
+pub(crate) fn truth(machine: &mut Machine<'_>) -> Result<(), OrNoMemory<Fault>>
     requires { IsSound machine.old }
     ensures { Does act.Truth machine.old machine.new result }
 {
@@ -73,7 +76,7 @@ pub(crate) fn truth(machine: &mut Machine) -> Result<(), OrNoMemory<Fault>>
 }
 
 /// The topmost value is turned round.
-pub(crate) fn turn_round(machine: &mut Machine) -> Result<(), OrNoMemory<Fault>>
+pub(crate) fn turn_round(machine: &mut Machine<'_>) -> Result<(), OrNoMemory<Fault>>
     requires { IsSound machine.old }
     ensures { Does act.Not machine.old machine.new result }
 {
@@ -87,7 +90,7 @@ pub(crate) fn turn_round(machine: &mut Machine) -> Result<(), OrNoMemory<Fault>>
 
 /// The part of an `if` that the topmost value takes.
 pub(crate) fn choose(
-    machine: &mut Machine,
+    machine: &mut Machine<'_>,
     scope: Scope,
     right: TermId,
     wrong: TermId,
@@ -106,7 +109,7 @@ pub(crate) fn choose(
 
 /// The topmost value is the left part of an `and`: the right one follows after true.
 pub(crate) fn both(
-    machine: &mut Machine,
+    machine: &mut Machine<'_>,
     scope: Scope,
     right: TermId,
 ) -> Result<(), OrNoMemory<Fault>>
@@ -123,7 +126,7 @@ pub(crate) fn both(
 
 /// The topmost value is the left part of an `or`: the right one follows after false.
 pub(crate) fn either(
-    machine: &mut Machine,
+    machine: &mut Machine<'_>,
     scope: Scope,
     right: TermId,
 ) -> Result<(), OrNoMemory<Fault>>
@@ -139,7 +142,7 @@ pub(crate) fn either(
 }
 
 /// The value before the topmost one is put before the topmost one, a list.
-pub(crate) fn put_before(machine: &mut Machine) -> Result<(), OrNoMemory<Fault>>
+pub(crate) fn put_before(machine: &mut Machine<'_>) -> Result<(), OrNoMemory<Fault>>
     requires { IsSound machine.old }
     ensures { Does act.PutBefore machine.old machine.new result }
 {

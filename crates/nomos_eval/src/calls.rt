@@ -20,7 +20,7 @@ const MAX_CALLS: u32 = 1000;
 
 /// The topmost value is taken apart.
 pub(crate) fn open(
-    machine: &mut Machine,
+    machine: &mut Machine<'_>,
     scope: Scope,
     cases: Cases,
 ) -> Result<(), OrNoMemory<Fault>>
@@ -55,11 +55,16 @@ fn name_at(pars: &[(VarId, Kind)], place: usize) -> Option<VarId>
 
 /// Takes so many topmost values, and binds them to the parameters, of which they are the arguments; those without a
 /// parameter are dropped. Gives the place of the parameters.
-fn bind(machine: &mut Machine, pars: &[(VarId, Kind)], count: usize) -> Result<usize, AllocError>
+fn bind(
+    machine: &mut Machine<'_>,
+    pars: &[(VarId, Kind)],
+    count: usize,
+) -> Result<usize, AllocError>
     ensures { IfOk result (λ place.
         IsBinding (map (λ par. par.0) pars.now) count machine.old.values machine.old.scopes 0
         machine.new.values machine.new.scopes place
-        × (machine.new.todo ≡ machine.old.todo) × (machine.new.lists ≡ machine.old.lists)) }
+        × (machine.new.todo ≡ machine.old.todo) × (machine.new.lists ≡ machine.old.lists)
+        × (machine.new.around ≡ machine.old.around)) }
 {
     let mut place = machine.scopes.add_nothing()?;
     let mut left = count;
@@ -76,7 +81,7 @@ fn bind(machine: &mut Machine, pars: &[(VarId, Kind)], count: usize) -> Result<u
 /// Enters the body of a function, with so many topmost values as its arguments.
 pub(crate) fn enter_function(
     lists: &ProgramLists,
-    machine: &mut Machine,
+    machine: &mut Machine<'_>,
     calls: u32,
     f: FnId,
     count: usize,

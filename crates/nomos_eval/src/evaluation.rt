@@ -4,16 +4,19 @@ ghost use Rattle.nomos_ir.specs.Evaluation.{term_evaluation};
 ghost use Rattle.nomos_ir.specs.ValueNode.{value_of};
 ghost use Rattle.nomos_eval.specs.EvaluatedAs.{EvaluatedAs};
 ghost use Rattle.nomos_eval.specs.mirror.Begin.{IsBegun};
+ghost use Rattle.nomos_eval.specs.mirror.TermsFound.{IsValue};
 
 use crate::act::{Act, Scope};
+use crate::around::Around;
 use crate::lists::Lists;
 use crate::machine::Machine;
 use crate::run::run;
 use crate::scopes::Scopes;
-use crate::values::{load, unload};
+use crate::values::unload;
 use nomos_ir::fault::Fault;
 use nomos_ir::ids::{TermId, VarId};
 use nomos_ir::items::Items;
+use nomos_ir::lists::ProgramLists;
 use nomos_ir::or_no_memory::OrNoMemory;
 use nomos_ir::program::Program;
 use nomos_ir::stack::Stack;
@@ -42,20 +45,12 @@ fn value_from(node: ValueNode) -> Value
     }
 }
 
-// An evaluation before its first step: the variables are taken in, and the term is left to do.
-fn begin(alloc: Global, t: TermId, env: &[(VarId, Value)]) -> Result<Machine, AllocError>
+// An evaluation before its first step: the term is left to do, and none of the variables around it is taken in.
+fn begin<'a>(alloc: Global, t: TermId, env: &'a [(VarId, Value)]) -> Result<Machine<'a>, AllocError>
     ensures { IfOk result (λ machine. IsBegun t env.now machine) }
 {
-    let mut lists = Lists::new(alloc);
     let mut scopes = Scopes::new(alloc);
-    let mut variables = scopes.add_nothing()?;
-    let mut left = env.len();
-    while left > 0 {
-        left -= 1;
-        let pair = &env[left];
-        let value = load(&mut lists, pair.1.node())?;
-        variables = scopes.add_more(pair.0, value, variables)?;
-    }
+    let variables = scopes.add_nothing()?;
     let scope = Scope {
         variables,
         calls: 0,
@@ -65,25 +60,40 @@ fn begin(alloc: Global, t: TermId, env: &[(VarId, Value)]) -> Result<Machine, Al
     Ok(Machine {
         todo,
         values: Stack::new(alloc),
-        lists,
+        lists: Lists::new(alloc),
         scopes,
+        around: Around {
+            env,
+            loaded: Vec::new(alloc),
+        },
     })
 }
 
 /// The value of the term among these variables, or the fault with which its evaluation ends; docs/LANGUAGE.md,
 /// "Evaluation of terms", says which. No depth of calls or of terms uses the machine's stack; only values with lists
 /// inside lists do, in step with how deep they are, as when they are dropped. It takes time and memory in step with the
-/// nodes entered and with the values of the variables.
+/// nodes entered and with the values of those variables that are looked up, each counted once.
 pub fn eval(alloc: Global, program: &Program, t: TermId, env: &Env) -> Result<Evaluated, AllocError>
     ensures { IfOk result (λ evaluated. EvaluatedAs (term_evaluation program.now env.now t) evaluated) }
 {
-    let mut machine = begin(alloc, t, env.as_slice())?;
-    match run(program.lists(), &mut machine) {
-        Ok(found) => {
-            let node = unload(alloc, &machine.lists, found)?;
-            Ok(Evaluated::Value(value_from(node)))
-        }
+    match eval_node(alloc, program.lists(), t, env.as_slice()) {
+        Ok(node) => Ok(Evaluated::Value(value_from(node))),
         Err(OrNoMemory::Answer(fault)) => Ok(Evaluated::Fault(fault)),
         Err(OrNoMemory::NoMemory) => Err(AllocError),
     }
+}
+
+/// The value of the term as a node.
+pub(crate) fn eval_node(
+    alloc: Global,
+    lists: &ProgramLists,
+    t: TermId,
+    env: &[(VarId, Value)],
+) -> Result<ValueNode, OrNoMemory<Fault>>
+    ensures { IsValue result (term_evaluation lists.now env.now t) }
+{
+    let mut machine = begin(alloc, t, env)?;
+    let found = run(lists, &mut machine)?;
+    let node = unload(alloc, &machine.lists, found)?;
+    Ok(node)
 }

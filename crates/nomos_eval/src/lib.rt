@@ -3,6 +3,7 @@
 
 mod act;
 mod acts;
+mod around;
 mod calls;
 mod datum;
 pub mod evaluation;
@@ -11,4 +12,6 @@ mod machine;
 mod numbers;
 mod run;
 mod scopes;
+pub mod small;
 mod values;
+pub mod wanted;

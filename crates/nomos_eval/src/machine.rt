@@ -1,26 +1,33 @@
 //! The state of an evaluation, and what the forms of terms leave to do.
-ghost use Rattle.std.specs.Prelude.{◌≡◌, ◌<◌, ◌++◌, ◌∷◌, length, OnOk};
+ghost use Rattle.std.specs.Prelude.{◌≡◌, ◌<◌, ◌≤◌, ◌++◌, ◌∷◌, ℕ, length, IfOk, OnOk};
 ghost use Rattle.nomos_eval.specs.declared.act.Act.TheVariants as act;
-ghost use Rattle.nomos_eval.specs.mirror.Machine.{IsSound, IsEntered};
+ghost use Rattle.std.specs.List.{AllByRecursion};
+ghost use Rattle.nomos_ir.specs.declared.term_node.TermNode.TheVariants as node;
+ghost use Rattle.nomos_eval.specs.mirror.Around.{IsKept};
+ghost use Rattle.nomos_eval.specs.mirror.EvalTable.{reach};
+ghost use Rattle.nomos_eval.specs.mirror.Machine.{IsSound, IsEntered, IsFound};
 ghost use Rattle.nomos_eval.specs.mirror.Rest.{argument_acts};
 
 use crate::act::{Act, Cases, Scope};
+use crate::around::{Around, look_around};
 use crate::datum::Datum;
 use crate::lists::Lists;
 use crate::numbers::Operator;
 use crate::scopes::Scopes;
-use nomos_ir::ids::{FnId, TermId};
+use nomos_ir::ids::{FnId, TermId, VarId};
 use nomos_ir::stack::Stack;
 use nomos_ir::term_node::TermNode;
 use std::alloc::AllocError;
 
-/// An evaluation: what is left to do, the values found, and the lists and the variables that these name.
+/// An evaluation: what is left to do, the values found, the lists and the variables that these name, and the variables
+/// around the term.
 #[derive(Drop)]
-pub(crate) struct Machine {
+pub(crate) struct Machine<'a> {
     pub(crate) todo: Stack<Act>,
     pub(crate) values: Stack<Datum>,
     pub(crate) lists: Lists,
     pub(crate) scopes: Scopes,
+    pub(crate) around: Around<'a>,
 }
 
 /// Puts acts on the top, the first one topmost.
@@ -35,9 +42,47 @@ pub(crate) fn plan(todo: &mut Stack<Act>, acts: &[Act]) -> Result<(), AllocError
     Ok(())
 }
 
+// The value of a variable in a scope, 0 where it has none. A function sees no variables around the term.
+fn look_up(
+    scopes: &Scopes,
+    around: &mut Around<'_>,
+    lists: &mut Lists,
+    scope: Scope,
+    v: VarId,
+) -> Result<Datum, AllocError>
+    requires inside { scope.variables < length scopes.now }
+    requires scopes { AllByRecursion (AllByRecursion (λ b. reach b.1 ≤ length lists.old)) scopes.now }
+    requires kept { IsKept lists.old around.old }
+    ensures { IfOk result (λ d. IsFound scopes.now scope v around.old lists.old around.new lists.new d) }
+{
+    if let Some(value) = scopes.look_up(scope.variables, v) {
+        return Ok(value);
+    }
+    if scope.calls > 0 {
+        return Ok(Datum::Int(0));
+    }
+    look_around(around, lists, v)
+}
+
+// Finds the value of a variable.
+fn enter_variable(machine: &mut Machine<'_>, scope: Scope, v: VarId) -> Result<(), AllocError>
+    requires inside { scope.variables < length machine.old.scopes }
+    requires sound { IsSound machine.old }
+    ensures { OnOk result ((at : ℕ) → IsEntered scope (node.Var at v) machine.old machine.new) }
+{
+    let value = look_up(
+        &machine.scopes,
+        &mut machine.around,
+        &mut machine.lists,
+        scope,
+        v,
+    )?;
+    machine.values.push(value)
+}
+
 /// Finds the value of a node that was entered, or plans what leads to it.
 pub(crate) fn enter_node(
-    machine: &mut Machine,
+    machine: &mut Machine<'_>,
     scope: Scope,
     node: &TermNode,
 ) -> Result<(), AllocError>
@@ -48,13 +93,7 @@ pub(crate) fn enter_node(
     match node {
         TermNode::Number(_, n) => machine.values.push(Datum::Int(i64::from(*n))),
         TermNode::Truth(_, b) => machine.values.push(Datum::Bool(*b)),
-        TermNode::Var(_, v) => {
-            let value = machine
-                .scopes
-                .look_up(scope.variables, *v)
-                .unwrap_or(Datum::Int(0));
-            machine.values.push(value)
-        }
+        TermNode::Var(_, v) => enter_variable(machine, scope, *v),
         TermNode::Call(_, f, values) => call(&mut machine.todo, scope, *f, values.as_slice()),
         TermNode::Nil(_, _) => {
             let place = machine.lists.add_empty()?;

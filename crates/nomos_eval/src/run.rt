@@ -22,7 +22,7 @@ const MAX_NODES: u32 = 100_000;
 // Enters a term.
 fn enter(
     lists: &ProgramLists,
-    machine: &mut Machine,
+    machine: &mut Machine<'_>,
     scope: Scope,
     t: TermId,
 ) -> Result<(), AllocError>
@@ -37,7 +37,11 @@ fn enter(
 }
 
 // Does what is left to do, other than to enter a term.
-fn do_act(lists: &ProgramLists, machine: &mut Machine, act: Act) -> Result<(), OrNoMemory<Fault>>
+fn do_act(
+    lists: &ProgramLists,
+    machine: &mut Machine<'_>,
+    act: Act,
+) -> Result<(), OrNoMemory<Fault>>
     requires sound { IsSound machine.old }
     requires inside { ScopeIn (length machine.old.scopes) act }
     requires other { IsOther act }
@@ -60,7 +64,7 @@ fn do_act(lists: &ProgramLists, machine: &mut Machine, act: Act) -> Result<(), O
 // One step, after so many entered nodes. Gives how many are entered then.
 fn step(
     lists: &ProgramLists,
-    machine: &mut Machine,
+    machine: &mut Machine<'_>,
     act: Act,
     entered: u32,
 ) -> Result<u32, OrNoMemory<Fault>>
@@ -81,7 +85,10 @@ fn step(
 }
 
 /// Does all that is left to do, and gives the value that was found.
-pub(crate) fn run(lists: &ProgramLists, machine: &mut Machine) -> Result<Datum, OrNoMemory<Fault>>
+pub(crate) fn run(
+    lists: &ProgramLists,
+    machine: &mut Machine<'_>,
+) -> Result<Datum, OrNoMemory<Fault>>
     requires { IsSound machine.old }
     ensures { Ran lists.now machine.old machine.new result }
 {

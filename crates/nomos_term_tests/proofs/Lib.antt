@@ -1,1 +1,1 @@
-pub mod ChainLemmas
+pub mod TableLemmas

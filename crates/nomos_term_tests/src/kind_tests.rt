@@ -1,7 +1,7 @@
 //! Tests: the kind of a term that is nested deep, and of one that has none.
 ghost use Rattle.std.specs.Prelude.{◌≡◌, length};
 
-use crate::chain::{negations, program_of};
+use crate::table::{negations, program_of};
 use nomos_ir::declaration::Kinds;
 use nomos_ir::ids::{TermId, VarId};
 use nomos_ir::items::Items;
@@ -22,7 +22,10 @@ fn answer(alloc: Global, program: &Program, vars: &Kinds) -> Result<String, Allo
 // What is answered for 20,000 negations of a variable, where the variables have these kinds.
 fn answer_under(alloc: Global, vars: &Kinds) -> Result<String, AllocError> {
     let terms = negations(alloc, 20000)?;
-    answer(alloc, &program_of(alloc, terms), vars)
+    match program_of(alloc, terms, 0)? {
+        Some(program) => answer(alloc, &program, vars),
+        None => format!(in alloc; "no program"),
+    }
 }
 
 #[test]

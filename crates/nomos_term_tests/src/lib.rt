@@ -2,8 +2,8 @@
 #![tactic(auto)]
 
 #[cfg(test)]
-mod chain;
-#[cfg(test)]
 mod kind_tests;
+#[cfg(test)]
+mod table;
 #[cfg(test)]
 mod value_tests;

@@ -35,7 +35,7 @@ IsOther (act.Enter calls f count) = Unit {0}
 pub record IsEnteredAt (program : ProgramLists) (scope : Scope) (t : TermId) (old new : Machine) : Type 0 where
   pub sound : IsSound new
   pub same : (n : ℕ) → go_on (entered program (evaluation_from program) scope.calls
-      (variables_at (scopes_held old) scope.variables) (slice_get program.terms t.0) n) (left_with program old)
+      (variables_at (scopes_held old) scope) (slice_get program.terms t.0) n) (left_with program old)
       ≡ left program new n
   pub little : work new.todo ≤ 2 + work old.todo
 

@@ -1,12 +1,13 @@
 -- A mirror of the code: what becomes of an evaluation by its state.
-use Rattle.std.specs.Prelude.{◌≡◌, ◌<◌, ◌≤◌, ◌+◌, ℕ, zero, suc, List, [], ◌∷◌, ◌++◌, length, map, pos, Option, Some, None, slice_get, slice_index_or}
+use Rattle.std.specs.Prelude.{◌≡◌, ◌<◌, ◌≤◌, ◌+◌, ℕ, zero, suc, List, [], ◌∷◌, ◌++◌, length, map, pos, Option, Some, None, slice_get, slice_index_or, unwrap_or}
 use Rattle.std.specs.declared.result.Result.{Result}
 use Rattle.std.specs.declared.result.Result.TheVariants.{Ok, Err}
 use Rattle.std.specs.List.{AllByRecursion}
+use Rattle.nomos_ir.specs.Bindings.{bound_to}
 use Rattle.nomos_ir.specs.declared.ids.VarId.{VarId}
 use Rattle.nomos_ir.specs.declared.lists.ProgramLists.{ProgramLists}
 use Rattle.nomos_ir.specs.declared.term_node.TermNode.{TermNode}
-use Rattle.nomos_ir.specs.Evaluation.{Environment, Counted, ends, faults, go_on, on_numbers, node_evaluation}
+use Rattle.nomos_ir.specs.Evaluation.{Environment, Counted, ends, faults, go_on, nought, on_numbers, node_evaluation}
 use Rattle.nomos_ir.specs.Value.{Value, ValueList}
 use Rattle.nomos_ir.proofs.EvaluationLaws.{evaluation_from}
 use Rattle.nomos_eval.specs.declared.act.Act.{Act}
@@ -21,15 +22,17 @@ use Rattle.nomos_ir.specs.declared.fault.Fault.{Fault}
 use Rattle.nomos_ir.specs.declared.or_no_memory.OrNoMemory.{OrNoMemory}
 use Rattle.nomos_ir.specs.declared.or_no_memory.OrNoMemory.TheVariants as stop
 use Rattle.nomos_eval.specs.mirror.Operation.{operation}
-use Rattle.nomos_eval.specs.mirror.Rest.{rest, variables_at, act_work, work, ScopeIn}
+use Rattle.nomos_eval.specs.mirror.Rest.{rest, Variables, variables_at, act_work, work, ScopeIn}
+use Rattle.nomos_eval.specs.declared.around.Around.{Around}
+use Rattle.nomos_eval.specs.mirror.Around.{IsKept}
 use Rattle.nomos_eval.specs.mirror.EvalTable.{datum_value, reach}
 
 -- variables with their values
 abbrev pub held : List ValueList → List (VarId × Datum) → Environment
 held lists scope = map (λ b. (b.0, datum_value lists b.1)) scope
 
-abbrev pub scopes_held : Machine → List Environment
-scopes_held m = map (held m.lists) m.scopes
+abbrev pub scopes_held : Machine → Variables
+scopes_held m = record { bound = map (held m.lists) m.scopes; around = m.around.env.now }
 
 abbrev pub values_found : Machine → List Value
 values_found m = map (datum_value m.lists) m.values
@@ -47,13 +50,24 @@ pub record IsSound (m : Machine) : Type 0 where
   pub todo : AllByRecursion (ScopeIn (length m.scopes)) m.todo
   pub values : AllByRecursion (λ d. reach d ≤ length m.lists) m.values
   pub scopes : AllByRecursion (AllByRecursion (λ b. reach b.1 ≤ length m.lists)) m.scopes
+  pub kept : IsKept m.lists m.around
+
+-- a variable was looked up in a scope
+pub record IsFound (scopes : List (List (VarId × Datum))) (scope : Scope) (v : VarId) (old : Around)
+    (before : List ValueList) (new : Around) (after : List ValueList) (d : Datum) : Type 0 where
+  pub env : new.env.now ≡ old.env.now
+  pub grown : (more : List ValueList) × (after ≡ before ++ more)
+  pub kept : IsKept after new
+  pub there : reach d ≤ length after
+  pub same : datum_value after d ≡ unwrap_or (bound_to v.0
+      (variables_at (record { bound = map (held before) scopes; around = old.env.now }) scope)) nought
 
 -- a node was entered
 pub record IsEntered (scope : Scope) (node : TermNode) (old new : Machine) : Type 0 where
   pub sound : IsSound new
   pub same : (program : ProgramLists) (n : ℕ)
       → go_on (node_evaluation program (evaluation_from program) scope.calls
-      (variables_at (scopes_held old) scope.variables) node n) (left_with program old) ≡ left program new n
+      (variables_at (scopes_held old) scope) node n) (left_with program old) ≡ left program new n
   pub little : work new.todo ≤ 2 + work old.todo
 
 -- what an act leads to, with what is left after it

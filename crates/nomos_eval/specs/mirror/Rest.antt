@@ -28,14 +28,24 @@ abbrev pub below_by : ℕ → List Value → List Value
 below_by zero values = values
 below_by (suc k) values = below_by k (below values)
 
--- the variables at a place
-abbrev pub variables_at : List Environment → ℕ → Environment
-variables_at scopes place = slice_index_or scopes place []
+-- the variables that were bound at each place, and those around the term
+pub record Variables : Type 0 where
+  pub bound : List Environment
+  pub around : Environment
 
-module _ (from : Evaluator) (lists : ProgramLists) (scopes : List Environment) where
+-- a function does not see the variables around the term that calls it
+abbrev pub seen_in : ℕ → Environment → Environment
+seen_in zero env = env
+seen_in (suc calls) env = []
+
+-- the variables in a scope
+abbrev pub variables_at : Variables → Scope → Environment
+variables_at scopes s = slice_index_or scopes.bound s.variables [] ++ seen_in s.calls scopes.around
+
+module _ (from : Evaluator) (lists : ProgramLists) (scopes : Variables) where
   -- a term in its scope
   abbrev pub follow : Scope → TermId → Counted
-  follow s t = from s.calls (variables_at scopes s.variables) t
+  follow s t = from s.calls (variables_at scopes s) t
 
   -- what is left leads to this
   abbrev pub rest : List Act → List Value → Counted
@@ -54,7 +64,7 @@ module _ (from : Evaluator) (lists : ProgramLists) (scopes : List Environment) w
       go_on (chosen (top values) (follow s a) (follow s b) n) (λ v. rest todo (v ∷ below values))
   rest (act.Open s c ∷ todo) values n =
       go_on (taken_apart (top values) (follow s c.empty)
-      (λ x xs. from s.calls (bind_parts c.head c.tail x xs (variables_at scopes s.variables)) c.full)
+      (λ x xs. from s.calls (bind_parts c.head c.tail x xs (variables_at scopes s)) c.full)
       (follow s c.full) n) (λ v. rest todo (v ∷ below values))
   rest (act.Enter calls f count ∷ todo) values n =
       go_on (body_evaluation from calls (slice_get lists.fns f.0) (arguments_on count values) n)

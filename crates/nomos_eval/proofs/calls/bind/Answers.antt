@@ -15,6 +15,7 @@ loop-left-preserved-in-Some c =
           c.take-value.ensures.taken c.take-value.ensures.rest c.in_ok-place-2.ensures.0 c.in_ok-place-2.ensures.1,
       c.loop-left.invariant.1,
       c.loop-left.invariant.2,
+      c.loop-left.invariant.3,
     )
 
 pub loop-left-preserved : goal.loop-left-preserved
@@ -28,4 +29,5 @@ loop-left-preserved c =
           (sym c.in_default.ensures) c.take-value.ensures.rest,
       c.loop-left.invariant.1,
       c.loop-left.invariant.2,
+      c.loop-left.invariant.3,
     )

@@ -8,6 +8,7 @@ invariant-loop-left l =
     IsBinding (map (λ par. par.0) l.pars) l.count l.fn.machine.values l.fn.machine.scopes l.left l.machine.values
     l.machine.scopes l.place
     × (l.machine.todo ≡ l.fn.machine.todo) × (l.machine.lists ≡ l.fn.machine.lists)
+    × (l.machine.around ≡ l.fn.machine.around)
 
 abbrev pub decreases-loop-left : goal.decreases-loop-left
 decreases-loop-left l = l.left

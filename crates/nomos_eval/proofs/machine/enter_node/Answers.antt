@@ -6,11 +6,10 @@ use Rattle.nomos_eval.proofs.machine.enter_node.Goals as goal
 pub returns-in-Var : goal.returns-in-Var
 returns-in-Var c =
     on_ok_weaker
-    c.push-in-Var.result
-    (variable-found c.args.node.now c.args.scope c.in-Var.field-0 c.in-Var.v c.args.machine.now c.unwrap_or-value.result
-    c.look_up.result c.push-in-Var.new.self c.in-Var.is c.requires.sound c.unwrap_or-value.ensures
-    c.look_up.ensures)
-    c.push-in-Var.ensures
+    c.enter_variable.result
+    (variable-found c.args.node.now c.args.scope c.in-Var.field-0 c.in-Var.v c.args.machine.now
+    c.enter_variable.new.machine c.in-Var.is)
+    c.enter_variable.ensures
 
 pub returns-in-Call : goal.returns-in-Call
 returns-in-Call c =

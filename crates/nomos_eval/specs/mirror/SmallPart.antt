@@ -1,0 +1,30 @@
+-- A mirror of the code: the parts of a test that is decided without memory.
+use Rattle.std.specs.Prelude.{pos, int_lt, Bool, false, unwrap_or, Option, Some}
+use Rattle.nomos_ir.specs.Bindings.{bound_to}
+use Rattle.nomos_ir.specs.Evaluation.{Environment, nought, same_number}
+use Rattle.nomos_ir.specs.Value.{Value, int, truth, list}
+use Rattle.nomos_ir.specs.declared.term_node.TermNode.{TermNode}
+use Rattle.nomos_ir.specs.declared.term_node.TermNode.TheVariants as node
+use Rattle.nomos_eval.specs.declared.small.Part.{Part}
+use Rattle.nomos_eval.specs.declared.small.Part.TheVariants as part
+
+-- the value of a number or a variable
+abbrev pub part_value : Environment → Option TermNode → Value
+part_value env (Some (node.Number at k)) = int (pos k)
+part_value env (Some (node.Var at v)) = unwrap_or (bound_to v.0 env) nought
+part_value env _ = nought
+
+-- a value as a part: a number, or something else
+abbrev pub part_of : Value → Part
+part_of (int z) = part.Number z
+part_of (truth b) = part.Other
+part_of (list vs) = part.Other
+
+-- whether one part is less than another, or the same number
+abbrev pub less_parts : Part → Part → Bool
+less_parts (part.Number x) (part.Number y) = int_lt x y
+less_parts _ _ = false
+
+abbrev pub equal_parts : Part → Part → Bool
+equal_parts (part.Number x) (part.Number y) = same_number x y
+equal_parts _ _ = false

@@ -1,0 +1,116 @@
+//! Tests that are decided without memory.
+ghost use Rattle.std.specs.Prelude.{◌≡◌, MatchOption, slice_get, unwrap_or};
+ghost use Rattle.nomos_ir.specs.Bindings.{bound_to};
+ghost use Rattle.nomos_ir.specs.Evaluation.{nought, term_evaluation};
+ghost use Rattle.nomos_eval.specs.SmallTest.{Decides, IsSmallPart, IsSmallTest, takes_first};
+ghost use Rattle.nomos_eval.specs.mirror.SmallPart.{equal_parts, less_parts, part_of, part_value};
+
+use crate::around::bound_value;
+use nomos_ir::find::find_term;
+use nomos_ir::ids::{TermId, VarId};
+use nomos_ir::lists::ProgramLists;
+use nomos_ir::program::Program;
+use nomos_ir::term_node::TermNode;
+use nomos_ir::value::Value;
+use nomos_ir::value_node::ValueNode;
+
+/// A part of a test: a number, or something else.
+#[derive(Clone, Copy, PartialEq, Eq, Debug)]
+pub(crate) enum Part {
+    Number(i64),
+    Other,
+}
+
+/// Whether an `if` with this test takes its first part, where the test is a variable, or `<` or `=` between numbers and
+/// variables. It takes no memory.
+pub fn small_truth(program: &Program, t: TermId, env: &[(VarId, Value)]) -> Option<bool>
+    ensures { MatchOption result (IsSmallTest program.now t.0 → ⊥) (λ first.
+        IsSmallTest program.now t.0 × Decides (term_evaluation program.now env.now t) first) }
+{
+    let lists = program.lists();
+    match find_term(lists, t)? {
+        TermNode::Var(_, v) => Some(is_true(env, *v)),
+        TermNode::Less(_, a, b) => {
+            let (left, right) = (small_part(lists, *a, env)?, small_part(lists, *b, env)?);
+            Some(is_less(left, right))
+        }
+        TermNode::Equal(_, a, b) => {
+            let (left, right) = (small_part(lists, *a, env)?, small_part(lists, *b, env)?);
+            Some(is_equal(left, right))
+        }
+        _ => None,
+    }
+}
+
+// Whether a variable is true.
+fn is_true(env: &[(VarId, Value)], v: VarId) -> bool
+    ensures { result ≡ takes_first (unwrap_or (bound_to v.0 env.now) nought) }
+{
+    match bound_value(env, v) {
+        Some(value) => truth_in(value),
+        None => false,
+    }
+}
+
+// Whether a value is true.
+fn truth_in(value: &Value) -> bool
+    ensures { result ≡ takes_first value.now }
+{
+    match value.node() {
+        ValueNode::Bool(b) => *b,
+        _ => false,
+    }
+}
+
+// A number or a variable of a test, if it is one.
+fn small_part(lists: &ProgramLists, t: TermId, env: &[(VarId, Value)]) -> Option<Part>
+    ensures { MatchOption result (IsSmallPart (slice_get lists.now.terms t.0) → ⊥) (λ part.
+        IsSmallPart (slice_get lists.now.terms t.0)
+        × (part ≡ part_of (part_value env.now (slice_get lists.now.terms t.0)))) }
+{
+    match find_term(lists, t)? {
+        TermNode::Number(_, n) => Some(Part::Number(i64::from(*n))),
+        TermNode::Var(_, v) => Some(part_bound(env, *v)),
+        _ => None,
+    }
+}
+
+// A variable as a part; one without a value is 0.
+fn part_bound(env: &[(VarId, Value)], v: VarId) -> Part
+    ensures { result ≡ part_of (unwrap_or (bound_to v.0 env.now) nought) }
+{
+    match bound_value(env, v) {
+        Some(value) => part_from(value),
+        None => Part::Number(0),
+    }
+}
+
+// A value as a part.
+fn part_from(value: &Value) -> Part
+    ensures { result ≡ part_of value.now }
+{
+    match value.node() {
+        ValueNode::Int(z) => Part::Number(*z),
+        _ => Part::Other,
+    }
+}
+
+// Whether one part is less than another; between other parts than numbers this is not true.
+fn is_less(left: Part, right: Part) -> bool
+    ensures { result ≡ less_parts left right }
+{
+    match (left, right) {
+        (Part::Number(x), Part::Number(y)) => x < y,
+        _ => false,
+    }
+}
+
+// Whether two parts are one number.
+fn is_equal(left: Part, right: Part) -> bool
+    ensures { result ≡ equal_parts left right }
+{
+    match (left, right) {
+        (Part::Number(x), Part::Number(y)) => x == y,
+        _ => false,
+    }
+}
