@@ -1,5 +1,5 @@
 -- A text is refused by one step of the checker at most, and at one place; a stuck instruction has one form.
-use Rattle.std.proofs.Common.{◌≡◌, ◌≢◌, ◌<◌, ◌≤◌, ℕ, zero, suc, List, Option, Some, None, length, slice_get, inl, inr, refl, sym, ap, subst, ◌∙◌, arith}
+use Rattle.std.proofs.Common.{◌≡◌, ◌≢◌, ◌<◌, ℕ, zero, suc, List, Option, Some, None, length, slice_get, inl, inr, refl, sym, ap, subst, ◌∙◌, arith}
 use Rattle.nomos_accept.proofs.AcceptLaws.{one-tree, one-program}
 use Rattle.nomos_accept.proofs.OneFormLaws.{tells-once, kind-told, stuck-told}
 use Rattle.nomos_accept.proofs.StepLemmas.{one-step}

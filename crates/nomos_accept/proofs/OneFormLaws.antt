@@ -23,7 +23,7 @@ use Rattle.nomos_types.specs.Amount.{dths}
 use Rattle.nomos_types.specs.Derivation.{IsStuck}
 use Rattle.nomos_types.specs.Equality.{no_amounts}
 use Rattle.nomos_types.specs.Judgement.{Judgement, at_code, with_potential}
-use Rattle.nomos_types.specs.TypingRule.{StandsAtCode, TypingRule}
+use Rattle.nomos_types.specs.TypingRule.{StandsAtCode}
 use Rattle.nomos_types.specs.TypingRule as row
 use Rattle.nomos_types.specs.Typed.{IsWellFormed}
 

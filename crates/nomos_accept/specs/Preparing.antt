@@ -4,6 +4,8 @@ use Rattle.nomos_accept.specs.AcceptedText.{IsReadAs, AreRowsFor, IsRefused}
 use Rattle.nomos_accept.specs.declared.preparing.Prepared.{Prepared}
 use Rattle.nomos_accept.specs.declared.refusal.AcceptError.{AcceptError}
 use Rattle.nomos_accept.specs.declared.refusal.AcceptError.TheVariants as error
+use Rattle.nomos_accept.specs.declared.refusal.Why.{Why}
+use Rattle.nomos_accept.specs.declared.refusal.Why.TheVariants as why
 use Rattle.nomos_forms.specs.declared.row_list.RowList.{RowList}
 use Rattle.nomos_ir.specs.Amounts.{star_count}
 use Rattle.nomos_ir.specs.declared.lists.ProgramLists.{ProgramLists}
@@ -22,9 +24,14 @@ pub record IsPrepared (text : List ℕ) (p : Prepared) : Type 0 where
   pub read : IsReadAs text p.program
   pub rows : HasRows p.program p.rows
 
+-- the cause is found before any rows are solved
+abbrev pub IsFoundUnsolved : Why → Type 0
+IsFoundUnsolved (why.NoPotential verdict) = ⊥
+IsFoundUnsolved _ = Unit {0}
+
 -- what is answered of a text that is refused before its rows are solved
 abbrev pub AnswersRefusal : List ℕ → AcceptError → Type 0
-AnswersRefusal text (error.Refused why) = IsRefused text why
+AnswersRefusal text (error.Refused why) = IsRefused text why × IsFoundUnsolved why
 AnswersRefusal text (error.Unsolved stop) = ⊥
 AnswersRefusal text error.NoMemory = Unit {0}
 

@@ -71,7 +71,7 @@ fn with_rows(alloc: Global, program: Program) -> Result<Prepared, AcceptError>
 
 /// The program as which a contract text reads, with its rows, where each part of it has a skeleton. Otherwise it is
 /// said why not, by the first cause in the order of docs/LANGUAGE.md, "Acceptance", and then the text is typed under no
-/// amounts over any unit. A run that stops is no answer of this call.
+/// amounts over any unit. The rows are not solved: `NoPotential` and a run that stops are no answers of this call.
 pub fn prepare(alloc: Global, text: &[u8]) -> Result<Prepared, AcceptError>
     ensures { AnswersPrepared text.now result }
 {

@@ -1,5 +1,5 @@
 //! Tests: rows in their order, amounts put back, and verdicts.
-ghost use Rattle.std.specs.Prelude.{◌<◌, ◌^◌, IfOk};
+ghost use Rattle.std.specs.Prelude.{◌≡◌, ◌<◌, ◌^◌, IfOk};
 ghost use Rattle.nomos_forms.specs.Bounds.{IsVerdict};
 
 use crate::forms::{expect, system};
@@ -100,6 +100,68 @@ fn nothing_is_at_least_one(rt: HostRuntime) -> Result<(), Fail> {
     ];
     for (times, gives, wanted) in table {
         assert_eq!(rt; is_refuted(rt.alloc(), times, gives)?, wanted);
+    }
+    Ok(())
+}
+
+// So many times the row `-x1 >= 1`.
+fn row_weight(alloc: Global, times: u32) -> Result<Weight, AllocError>
+    ensures { IfOk result (λ made. made.times ≡ times) }
+{
+    let coefs = Items::of_vec(vec![in alloc; -1i64]?);
+    let of = Of::Row(Row { coefs, least: 1 });
+    Ok(Weight {
+        times: u64::from(times),
+        of,
+    })
+}
+
+// A verdict with that row twice, and with a star's own bound.
+fn row_twice(
+    alloc: Global,
+    rows: (u32, u32),
+    star: (u32, u16),
+    gives: u32,
+) -> Result<Verdict, AllocError>
+    ensures { IfOk result IsVerdict }
+{
+    let first = row_weight(alloc, rows.0)?;
+    let second = row_weight(alloc, rows.1)?;
+    let of_star = Weight {
+        times: u64::from(star.0),
+        of: Of::Star(star.1),
+    };
+    Ok(Verdict {
+        weights: Items::of_vec(vec![in alloc; first, second, of_star]?),
+        gives: u128::from(gives),
+    })
+}
+
+// Whether such a verdict refutes `-x1 >= 1`.
+fn is_refuted_twice(
+    alloc: Global,
+    rows: (u32, u32),
+    star: (u32, u16),
+    gives: u32,
+) -> Result<bool, AllocError> {
+    let list = system(alloc, &[(&[-1], -1)], &[], 1)?;
+    let verdict = row_twice(alloc, rows, star, gives)?;
+    Ok(refutes(&list, &verdict))
+}
+
+/// A row may stand twice, and the bound of the star takes out what both have of it; there is no star 0, and no star 2.
+#[test]
+fn a_row_twice_with_a_star(rt: HostRuntime) -> Result<(), Fail> {
+    let table = [
+        ((1u32, 1u32), (2u32, 1u16), 2u32, true),
+        ((2, 1), (3, 1), 3, true),
+        ((1, 1), (1, 1), 2, false),
+        ((1, 1), (2, 0), 2, false),
+        ((1, 1), (2, 2), 2, false),
+        ((1, 1), (2, 1), 1, false),
+    ];
+    for (rows, star, gives, wanted) in table {
+        assert_eq!(rt; is_refuted_twice(rt.alloc(), rows, star, gives)?, wanted);
     }
     Ok(())
 }

@@ -1,11 +1,10 @@
 -- A table of terms with a function is a program.
-use Rattle.std.proofs.Common.{◌≡◌, ◌+◌, ◌<◌, ◌≤◌, ◌==◌, ◌&&◌, ℕ, zero, suc, Bool, true, false, cond, nat_lt, List, [], ◌∷◌, length, get_or, map, All, Some, None, slice_get, refl, sym, subst, ap, arith, tests, rules}
+use Rattle.std.proofs.Common.{◌≡◌, ◌<◌, ◌≤◌, ◌==◌, ◌&&◌, ℕ, zero, suc, Bool, true, false, cond, nat_lt, List, [], ◌∷◌, length, get_or, map, All, Some, None, slice_get, refl, subst, ap, arith, tests, rules}
 use Rattle.std.proofs.lemmas.List.Elements.{All-nil, All-cons}
 use Rattle.std.proofs.lemmas.Option.{slice_get-get_or}
 use Rattle.std.specs.Prelude.{IsTrue}
 use Rattle.nomos_ir.specs.declared.code_node.CodeNode.{CodeNode}
 use Rattle.nomos_ir.specs.declared.code_node.CodeNode.TheVariants as code
-use Rattle.nomos_ir.specs.declared.declaration.FnDecl.{FnDecl}
 use Rattle.nomos_ir.specs.declared.ids.TermId.{TermId}
 use Rattle.nomos_ir.specs.declared.lists.ProgramLists.{ProgramLists}
 use Rattle.nomos_ir.specs.declared.term_node.TermNode.{TermNode}
@@ -16,7 +15,7 @@ use Rattle.nomos_ir.specs.CodeParts.{code_next, code_kinds, code_labels}
 use Rattle.nomos_ir.specs.Naming.{AllDiffer}
 use Rattle.nomos_ir.specs.Parameters.{fn_parameters}
 use Rattle.nomos_ir.specs.Order.{count_of}
-use Rattle.nomos_ir.specs.Ids.{CodeInRange, TermInRange, AllBelow}
+use Rattle.nomos_ir.specs.Ids.{CodeInRange, AllBelow}
 use Rattle.nomos_ir.specs.Kinds.{FnIsShallow, IsShallow}
 use Rattle.nomos_ir.specs.Name.{IsReserved, IsShortName, is_word_byte}
 use Rattle.nomos_ir.specs.Program.{IsProgram}
