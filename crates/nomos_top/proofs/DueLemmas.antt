@@ -15,8 +15,10 @@ use Rattle.nomos_script.specs.declared.item.ScriptItem.{ScriptItem}
 use Rattle.nomos_simplex.specs.declared.solved.Stop.{Stop}
 use Rattle.nomos_syntax.specs.Limits.{text_limit}
 use Rattle.nomos_top.specs.Block.{accepted_block, read_fault_line, usage_line}
-use Rattle.nomos_top.specs.Judging.{IsUnaccepted, IsDueOut, FindsText, FindsOrFails, IsDueAs, IsPartAs, IsDueOf, IsPartOf, not_run, run_so_far, HasRunAs, HasRunPart, journal_of}
-use Rattle.nomos_top.specs.Outcome.{FaultCounts, HaveRisen, Input, SourceState, input_of, IsTextOf, IsCheck, IsRun, IsLeast, AsksPivots, IsRunOn, HasStopped, HasLeastStopped, IsDue, usage, read_fault, refused, unsolved, least_unsolved, bounded, accepted, not_yet, ran, IsDueFor, IsPart, nothing, accepted_part, run_part, no_journal, steps}
+use Rattle.nomos_top.specs.Judging.{IsDueFor, IsPartFor, IsUnaccepted, IsDueOut, FindsText, FindsOrFails, IsDueAs, IsPartAs, IsDueOf, IsPartOf, not_run, run_so_far, HasRunAs, HasRunPart, journal_of}
+use Rattle.nomos_top.specs.Commands.{IsCheck, IsRun, IsLeast, AsksPivots, HasStopped, HasLeastStopped}
+use Rattle.nomos_top.specs.Outcome.{IsRunOn, IsDue, usage, read_fault, refused, unsolved, least_unsolved, bounded, accepted, not_yet, ran, nothing, accepted_part, run_part, no_journal, steps}
+use Rattle.nomos_top.specs.Outside.{FaultCounts, HaveRisen, Input, SourceState, input_of, IsTextOf}
 use Rattle.nomos_top.specs.LeastBlock.{least_block}
 use Rattle.nomos_top.specs.Progress.{HasCome}
 use Rattle.nomos_top.specs.Refusal.{refusal, unsolved_line, not_yet_line}
@@ -177,20 +179,31 @@ due-of words contract script text a code bytes given kept runs told is_accepted 
 }
 
 -- nothing was done
-pub part-nothing : (words : List (List ℕ)) (contract script : SourceState) (part : DoneSoFar) → IsPartAs part None no_journal
-    → IsPart words contract script part.accepted part.journal
-part-nothing words contract script part parts = rw (parts.accepted, parts.journal) nothing
+pub part-nothing : (words : List (List ℕ)) (contract script : SourceState) (part : DoneSoFar)
+    → IsPartAs part None no_journal → IsPartFor words contract script part.accepted part.journal
+part-nothing words contract script part parts =
+    let t = some_text contract.left in
+    let s = some_text script.left in
+    rw (parts.accepted, parts.journal)
+    (record { text = t.0; script_text = s.0; told = t.1; script_told = s.1; part = nothing })
 
 -- what was done of a run
 pub part-of : (words : List (List ℕ)) (contract script : SourceState) (text : List ℕ) (a : Acceptance)
     (given : Option Acceptance) (kept : Journal) → IsRun words → IsTextOf contract.left text → IsAcceptedAs text a
-    → IsPartOf a script.left given kept → IsPart words contract script given kept
+    → IsPartOf a script.left given kept → IsPartFor words contract script given kept
 part-of words contract script text a given kept runs told is_accepted not_run =
-    accepted_part a text runs told is_accepted
+    let s = some_text script.left in
+    record { text = text; script_text = s.0; told = told; script_told = s.1; part = accepted_part a runs is_accepted }
 part-of words contract script text a given kept runs told is_accepted
     (run_so_far script_text items count journal runnable script_told reads run) =
     let run_on : IsRunOn words text a = record { runs = runs; accepted = is_accepted; runnable = runnable } in
-    run_part a text script_text items count journal told run_on script_told reads run
+    record {
+      text = text;
+      script_text = script_text;
+      told = told;
+      script_told = script_told;
+      part = run_part a items count journal run_on reads run;
+    }
 
 -- what is found of a script's text is found of the script
 pub finds-text : (text : List ℕ) (counts : FaultCounts) (f : Found) → FindsText text f → FindsOrFails text counts f

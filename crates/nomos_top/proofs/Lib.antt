@@ -1,6 +1,8 @@
+pub mod CauseLemmas
 pub mod ClaimLaws
 pub mod DueLemmas
 pub mod JournalLaws
+pub mod OneAnswerLaws
 pub mod ProgressLaws
 pub mod RefusalLaws
 pub mod StarLemmas

@@ -1,12 +1,8 @@
--- What is printed of stars, star by star; how great their numbers are.
-use Rattle.std.proofs.Common.{◌≡◌, ◌∙◌, ℕ, suc, ◌+◌, ◌<◌, ◌≤◌, List, [], ◌∷◌, ◌++◌, length, get_or, take, map, All, ap, refl, sym, arith, append_assoc, append-nil}
+-- What is printed of stars, star by star.
+use Rattle.std.proofs.Common.{◌≡◌, ◌∙◌, ℕ, suc, ◌+◌, ◌<◌, ◌≤◌, List, [], ◌∷◌, ◌++◌, length, get_or, take, ap, refl, sym, arith, append_assoc, append-nil}
 use Rattle.std.proofs.Math.Seq.{take-suc}
 use Rattle.std.proofs.lemmas.List.{length-take-le}
 use Rattle.std.specs.Prelude.{slice_index}
-use Rattle.nomos_ir.specs.Amounts.{AmountsAreSmall, IsAmount, amounts_of, star_of, star_count, greatest}
-use Rattle.nomos_ir.specs.declared.amount.Amount.{Amount}
-use Rattle.nomos_ir.specs.declared.amount.Amount.TheVariants as amount
-use Rattle.nomos_ir.specs.declared.lists.ProgramLists.{ProgramLists}
 use Rattle.nomos_top.specs.Block.{star_line, star_lines}
 
 -- the lines of two lists of amounts
@@ -42,20 +38,3 @@ lines-next unit amounts done inside =
     ap (star_lines unit 1) split
     ∙ lines-append unit 1 first (amount ∷ [])
     ∙ ap (λ (t : List ℕ). star_lines unit 1 first ++ t) last
-
--- a star's number is at most 64
-star-small : (a : Amount) → IsAmount a → star_of a ≤ 64
-star-small (amount.Written units) h = omega arith
-star-small (amount.Star star) h = h.1
-
-greatest-small : (amounts : List Amount) → All IsAmount amounts → greatest (map star_of amounts) ≤ 64
-greatest-small [] all = omega arith
-greatest-small (a ∷ amounts) all =
-    let first : star_of a ≤ 64 = star-small a (all 0 a (omega arith)) in
-    let rest : greatest (map star_of amounts)
-    ≤ 64 = greatest-small amounts (λ k d inside. all (suc k) d (omega arith)) in
-    omega arith
-
--- a program has 64 stars at most
-pub stars-few : (lists : ProgramLists) → AmountsAreSmall lists → star_count lists ≤ 64
-stars-few lists small = greatest-small (amounts_of lists) small

@@ -14,9 +14,11 @@ use Rattle.nomos_ledger.specs.declared.journal.Entry.{Entry}
 use Rattle.nomos_ledger.specs.declared.journal.Journal.{Journal}
 use Rattle.nomos_script.specs.ScriptReading.{IsSyntaxAt, text_limit}
 use Rattle.nomos_script.specs.declared.item.ScriptItem.{ScriptItem}
-use Rattle.nomos_top.specs.Outcome.{FaultCounts, HaveRisen, Input, SourceState, IsTextOf, IsRun, HasStopped, HasLeastStopped, HasRun, IsDue, IsDueFor, IsPart, no_journal, steps}
-use Rattle.nomos_top.specs.Progress.{IsSoFar}
 use Rattle.nomos_top.specs.Block.{read_fault_line}
+use Rattle.nomos_top.specs.Commands.{IsRun, HasStopped, HasLeastStopped}
+use Rattle.nomos_top.specs.Outcome.{HasRun, IsDue, IsPart, no_journal, steps}
+use Rattle.nomos_top.specs.Outside.{FaultCounts, HaveRisen, Input, SourceState, IsTextOf, input_of}
+use Rattle.nomos_top.specs.Progress.{IsSoFar}
 use Rattle.nomos_top.specs.Refusal.{refusal, unsolved_line}
 use Rattle.nomos_top.specs.Report.{report, run_status, AllFollowFirst}
 use Rattle.nomos_top.specs.Runnable.{is_runnable}
@@ -97,6 +99,24 @@ abbrev pub given_of : Result Due DoneSoFar → Option Acceptance
 given_of (Ok due) = due.accepted
 given_of (Err part) = part.accepted
 
+-- it is due for the texts that the sources have left, or for some texts where they do not tell
+pub record IsDueFor (words : List (List ℕ)) (contract script : SourceState) (status : ℕ) (bytes : List ℕ)
+    (accepted : Option Acceptance) (journal : Journal) : Type 0 where
+  pub text : List ℕ
+  pub script_text : List ℕ
+  pub told : IsTextOf contract.left text
+  pub script_told : IsTextOf script.left script_text
+  pub due : IsDue words (input_of contract text) (input_of script script_text) status bytes accepted journal
+
+-- the same of what is known where memory ran out
+pub record IsPartFor (words : List (List ℕ)) (contract script : SourceState) (accepted : Option Acceptance)
+    (journal : Journal) : Type 0 where
+  pub text : List ℕ
+  pub script_text : List ℕ
+  pub told : IsTextOf contract.left text
+  pub script_told : IsTextOf script.left script_text
+  pub part : IsPart words (input_of contract text) (input_of script script_text) accepted journal
+
 -- what is due of a contract that is not accepted
 abbrev pub IsDueOut : Unaccepted → Due → Type 0
 IsDueOut (unaccepted.Refused why) due = IsDueAs due 1 (refusal why) None no_journal
@@ -114,7 +134,7 @@ IsDueWhere Asks contract due =
 abbrev pub IsPartWhere : (List (List ℕ) → Type 0) → SourceState → DoneSoFar → Type 0
 IsPartWhere Asks contract part =
     (words : List (List ℕ)) (script : SourceState) → Asks words
-    → IsPart words contract script part.accepted part.journal
+    → IsPartFor words contract script part.accepted part.journal
 
 -- the journal of these entries
 abbrev pub journal_of : List Entry → Journal
@@ -140,7 +160,8 @@ pub record HasRunPart (a : Acceptance) (items : List ScriptItem)
   pub given : accepted ≡ Some a
 
 -- what is due where a run is asked for on a contract that is accepted
-abbrev pub IsDueOf : Acceptance → Option (List ℕ) → FaultCounts → ℕ → List ℕ → Option Acceptance → Journal → Type 0
+abbrev pub IsDueOf : Acceptance → Option (List ℕ) → FaultCounts → ℕ → List ℕ → Option Acceptance → Journal
+    → Type 0
 IsDueOf a left counts status bytes accepted journal =
     (text : List ℕ) × IsTextOf left text ×
     ((words : List (List ℕ)) (contract : Input) → IsRun words → IsAcceptedAs contract.text a →

@@ -5,8 +5,11 @@ pub mod Refusal
 pub mod Report
 pub mod Runnable
 pub mod Taken
+pub mod Commands
+pub mod Outside
 pub mod Outcome
 pub mod Progress
 pub mod Judging
 pub mod LeastBlock
 pub mod Claim
+pub mod Claims

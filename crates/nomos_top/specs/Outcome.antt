@@ -1,10 +1,9 @@
 -- How a call ends.
-use Rattle.std.specs.Prelude.{◌≡◌, ℕ, ◌<◌, List, [], length, codes, decimal, ◌++◌, take, Option, Some, None, IsSome, true, false, ⊤, ◌⊎◌}
-use Rattle.nomos_accept.specs.AcceptedText.{IsAcceptedAs, IsProgramWith, IsRefused, IsUnsolved}
+use Rattle.std.specs.Prelude.{◌≡◌, ℕ, ◌<◌, List, [], length, codes, decimal, ◌++◌, take, Option, Some, None, true, false}
+use Rattle.nomos_accept.specs.AcceptedText.{IsAcceptedAs, IsRefused}
 use Rattle.nomos_accept.specs.declared.refusal.Why.{Why}
-use Rattle.nomos_base.specs.Faults.{Rose}
 use Rattle.nomos_base.specs.Sink.{with_end, AppendsSome}
-use Rattle.nomos_least.specs.LeastBounds.{IsLeastAs, IsLeastUnsolved}
+use Rattle.nomos_least.specs.LeastBounds.{IsLeastAs}
 use Rattle.nomos_least.specs.declared.least.LeastBounds.{LeastBounds}
 use Rattle.nomos_ledger.specs.Ledger.{LedgerState, empty_ledger}
 use Rattle.nomos_ledger.specs.Legal.{IsLegal}
@@ -14,26 +13,15 @@ use Rattle.nomos_script.specs.ScriptReading.{IsSyntaxAt, text_limit}
 use Rattle.nomos_script.specs.declared.item.ScriptItem.{ScriptItem}
 use Rattle.nomos_simplex.specs.declared.solved.Stop.{Stop}
 use Rattle.nomos_top.specs.Block.{line, accepted_block, usage_line, read_fault_line}
+use Rattle.nomos_top.specs.Commands.{HasTask, IsCheck, IsRun, IsLeast, AsksPivots, HasStopped, HasLeastStopped}
 use Rattle.nomos_top.specs.LeastBlock.{least_block}
+use Rattle.nomos_top.specs.Outside.{HaveRisen, Input, SinkState}
 use Rattle.nomos_top.specs.Refusal.{refusal, unsolved_line, not_yet_line}
 use Rattle.nomos_top.specs.Report.{report, run_status, AllFollowFirst}
 use Rattle.nomos_top.specs.Runnable.{is_runnable}
 use Rattle.nomos_top.specs.Taken.{IsNotYetAt, IsTakenAs}
-use Rattle.nomos_top.specs.Words.{check, run, least, task_of}
+use Rattle.nomos_top.specs.Words.{task_of}
 use Rattle.nomos_types.specs.Acceptance.{Acceptance}
-
--- the counts of faults of a source or a sink before a call and after it
-pub record FaultCounts : Type 0 where
-  pub before : ℕ
-  pub after : ℕ
-
-abbrev pub HaveRisen : FaultCounts → Type 0
-HaveRisen c = Rose c.before c.after
-
--- a text that is read, and the counts of its source
-pub record Input : Type 0 where
-  pub text : List ℕ
-  pub counts : FaultCounts
 
 -- the most firings of one batch
 abbrev pub steps : ℕ
@@ -42,20 +30,6 @@ steps = 1000000
 -- the journal without entries
 abbrev pub no_journal : Journal
 no_journal = record { limit = steps; entries = [] }
-
--- the words ask for a check, for a run, or for least bounds
-abbrev pub IsCheck : List (List ℕ) → Type 0
-IsCheck words = (file : List ℕ) × (task_of words ≡ Some (check file))
-
-abbrev pub IsRun : List (List ℕ) → Type 0
-IsRun words = (file script : List ℕ) × (task_of words ≡ Some (run file script))
-
-abbrev pub IsLeast : List (List ℕ) → Type 0
-IsLeast words = (file : List ℕ) × (task_of words ≡ Some (least file))
-
--- the words ask for what the pivot run finds
-abbrev pub AsksPivots : List (List ℕ) → Type 0
-AsksPivots words = IsCheck words ⊎ IsRun words
 
 -- the cause of a script's refusal
 abbrev pub script_refusal : List ℕ → List ℕ
@@ -69,14 +43,6 @@ pub record HasRun (a : Acceptance) (items : List ScriptItem) (journal : Journal)
   pub legal : IsLegal a items journal last
   pub stands : StandsFor a last
   pub first : AllFollowFirst a empty_ledger items journal.entries
-
--- The text reads, each part of its program has a skeleton, and the pivot run stops without an answer.
-abbrev pub HasStopped : List ℕ → Stop → Type 0
-HasStopped text stop = IsProgramWith text (λ lists. IsUnsolved lists stop)
-
--- The same, and it is the least run that stops.
-abbrev pub HasLeastStopped : List ℕ → Stop → Type 0
-HasLeastStopped text stop = IsProgramWith text (λ lists. IsLeastUnsolved lists stop)
 
 -- A run is asked for on a contract that is accepted, and that `run` takes.
 pub record IsRunOn (words : List (List ℕ)) (text : List ℕ) (a : Acceptance) : Type 0 where
@@ -99,9 +65,9 @@ ReadsScript words given = IsRun words × HasRunnable given
 pub data IsDue (words : List (List ℕ)) (contract script : Input)
     : ℕ → List ℕ → Option Acceptance → Journal → Type 0 where
   usage : task_of words ≡ None → IsDue words contract script 4 usage_line None no_journal
-  read_fault : IsSome (task_of words) → HaveRisen contract.counts
+  read_fault : HasTask words → HaveRisen contract.counts
       → IsDue words contract script 5 (read_fault_line (codes "contract")) None no_journal
-  refused : (why : Why) → IsSome (task_of words) → IsRefused contract.text why
+  refused : (why : Why) → HasTask words → IsRefused contract.text why
       → IsDue words contract script 1 (refusal why) None no_journal
   unsolved : (stop : Stop) → AsksPivots words → HasStopped contract.text stop
       → IsDue words contract script 8 (unsolved_line stop) None no_journal
@@ -126,56 +92,29 @@ pub data IsDue (words : List (List ℕ)) (contract script : Input)
       → IsTakenAs script.text items → HasRun a items journal
       → IsDue words contract script (run_status journal.entries) (report a items journal) (Some a) journal
 
--- the text is what the source has left, where it tells that
-abbrev pub IsTextOf : Option (List ℕ) → List ℕ → Type 0
-IsTextOf None text = ⊤
-IsTextOf (Some left) text = text ≡ left
-
--- what a source has left at the begin of a call, where it tells that, and its counts
-pub record SourceState : Type 0 where
-  pub left : Option (List ℕ)
-  pub counts : FaultCounts
-
--- a source that has this left, and these counts of faults before the call and after it
-abbrev pub source_state : Option (List ℕ) → ℕ → ℕ → SourceState
-source_state left before after = record { left = left; counts = record { before = before; after = after } }
-
-abbrev pub input_of : SourceState → List ℕ → Input
-input_of source text = record { text = text; counts = source.counts }
-
--- it is due for the texts that the sources have left, or for some texts where they do not tell
-pub record IsDueFor (words : List (List ℕ)) (contract script : SourceState) (status : ℕ) (bytes : List ℕ)
-    (accepted : Option Acceptance) (journal : Journal) : Type 0 where
-  pub text : List ℕ
-  pub script_text : List ℕ
-  pub told : IsTextOf contract.left text
-  pub script_told : IsTextOf script.left script_text
-  pub due : IsDue words (input_of contract text) (input_of script script_text) status bytes accepted journal
-
 -- What is known where memory ran out: nothing is given; or a run was asked for, the contract is accepted and given, and
 -- no entry is; or the journal is that of a run of some first items of the script. Where nothing is given, the script
 -- was not read: that is what `nomos` says by `ReadsScript`.
-pub data IsPart (words : List (List ℕ)) (contract script : SourceState) : Option Acceptance → Journal → Type 0 where
+pub data IsPart (words : List (List ℕ)) (contract script : Input) : Option Acceptance → Journal → Type 0 where
   nothing : IsPart words contract script None no_journal
-  accepted_part : (a : Acceptance) (text : List ℕ) → IsRun words → IsTextOf contract.left text → IsAcceptedAs text a
+  accepted_part : (a : Acceptance) → IsRun words → IsAcceptedAs contract.text a
       → IsPart words contract script (Some a) no_journal
-  run_part : (a : Acceptance) (text script_text : List ℕ) (items : List ScriptItem) (count : ℕ) (journal : Journal)
-      → IsTextOf contract.left text → IsRunOn words text a → IsTextOf script.left script_text
-      → IsTakenAs script_text items → HasRun a (take count items) journal
+  run_part : (a : Acceptance) (items : List ScriptItem) (count : ℕ) (journal : Journal)
+      → IsRunOn words contract.text a → IsTakenAs script.text items → HasRun a (take count items) journal
       → IsPart words contract script (Some a) journal
 
 -- All that is due was written, or the sink failed and a part of it was.
-pub data IsWritten (status : ℕ) (bytes : List ℕ) (out : FaultCounts) (before after : Option (List ℕ)) : ℕ → Type 0 where
-  whole : after ≡ with_end before bytes → IsWritten status bytes out before after status
-  write_fault : HaveRisen out → AppendsSome bytes before after → IsWritten status bytes out before after 6
+pub data IsWritten (status : ℕ) (bytes : List ℕ) (out : SinkState) : ℕ → Type 0 where
+  whole : out.after ≡ with_end out.before bytes → IsWritten status bytes out status
+  write_fault : HaveRisen out.counts → AppendsSome bytes out.before out.after → IsWritten status bytes out 6
 
--- How the call ends: what is due was written, or memory ran out and nothing was.
-pub data EndsFor (words : List (List ℕ)) (contract script : SourceState) (out : FaultCounts)
-    (before after : Option (List ℕ)) : ℕ
-    → Option Acceptance → Journal → Type 0 where
+-- How a call ends where contract and script have these texts: what is due was written, or memory ran out and nothing
+-- was.
+pub data Ends (words : List (List ℕ)) (contract script : Input) (out : SinkState)
+    : ℕ → Option Acceptance → Journal → Type 0 where
   written : {ended : ℕ} {accepted : Option Acceptance} {journal : Journal} (status : ℕ) (bytes : List ℕ)
-      → IsDueFor words contract script status bytes accepted journal → IsWritten status bytes out before after ended
-      → EndsFor words contract script out before after ended accepted journal
-  no_memory : {accepted : Option Acceptance} {journal : Journal} → after ≡ before
+      → IsDue words contract script status bytes accepted journal → IsWritten status bytes out ended
+      → Ends words contract script out ended accepted journal
+  no_memory : {accepted : Option Acceptance} {journal : Journal} → out.after ≡ out.before
       → IsPart words contract script accepted journal
-      → EndsFor words contract script out before after 7 accepted journal
+      → Ends words contract script out 7 accepted journal

@@ -1,4 +1,5 @@
--- How a run of a script gets on, item by item. Private clauses alone cite it.
+-- How a run of a script gets on, item by item. `run_items` promises `HasCome` and `IsSoFar`; private clauses alone cite
+-- the rest.
 use Rattle.std.specs.Prelude.{◌≡◌, ℕ, ◌+◌, ◌<◌, ◌≤◌, ◌^◌, List, [], ◌∷◌, ◌++◌, length, take, ◌⊎◌, Bool, true, false}
 use Rattle.nomos_types.specs.Acceptance.{Acceptance}
 use Rattle.nomos_script.specs.declared.item.ScriptItem.{ScriptItem}

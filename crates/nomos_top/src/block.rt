@@ -57,7 +57,6 @@ fn push_star(text: &mut Vec<u8>, accepted: &Accepted, star: u16) -> Result<(), A
     ensures { OnOk result (text.new.items ≡ text.old.items
         ++ star_line accepted.now.annotations.unit star (slice_index accepted.now.annotations.stars (star - 1))) }
 {
-    let _program = accepted.program().lists();
     let amount = accepted.amount(Amount::Star(star));
     text.extend_from_slice(b"star ")?;
     push_number(text, u64::from(star))?;

@@ -2,10 +2,13 @@
 
 ghost use Rattle.std.specs.Prelude.{◌≡◌, ℕ, List, Some, None, IfOk, IfErr, map, string_bytes};
 ghost use Rattle.nomos_top.specs.Block.{accepted_block};
-ghost use Rattle.nomos_top.specs.Claim.{Claims};
+ghost use Rattle.nomos_top.specs.Claim.{HasOneAnswer};
+ghost use Rattle.nomos_top.specs.Claims.{Claims};
+ghost use Rattle.nomos_top.specs.Commands.{IsCheck, IsRun, IsLeast};
 ghost use Rattle.nomos_top.specs.LeastBlock.{least_block};
-ghost use Rattle.nomos_top.specs.Outcome.{IsCheck, IsRun, IsLeast, HasRunnable, ReadsScript, source_state, IsDueFor, EndsFor, IsWritten, IsPart, no_journal};
-ghost use Rattle.nomos_top.specs.Judging.{HasEachStar, IsDueAs, IsPartAs, IsDueOut, IsDueWhere, IsPartWhere, IsDueOf, IsPartOf, given_of};
+ghost use Rattle.nomos_top.specs.Outcome.{HasRunnable, ReadsScript, IsWritten, no_journal};
+ghost use Rattle.nomos_top.specs.Outside.{source_state, sink_state};
+ghost use Rattle.nomos_top.specs.Judging.{HasEachStar, IsDueAs, IsPartAs, IsDueFor, IsPartFor, IsDueOut, IsDueWhere, IsPartWhere, IsDueOf, IsPartOf, given_of};
 ghost use Rattle.nomos_top.specs.Jobs.{task};
 ghost use Rattle.nomos_top.specs.Refusal.{refusal, unsolved_line};
 ghost use Rattle.nomos_top.specs.Words.{task_of};
@@ -54,17 +57,19 @@ pub fn nomos<S: Source, K: Sink>(
     script: &mut S,
     out: &mut K,
 ) -> Ended
-    ensures ends { EndsFor (map string_bytes words.now)
+    // How the call ends, and that it is correct, complete and refuses truly: of one text.
+    ensures claim { Claims (map string_bytes words.now)
         (source_state (S.left contract.old) (S.faults contract.old) (S.faults contract.new))
         (source_state (S.left script.old) (S.faults script.old) (S.faults script.new))
-        (record { before = K.faults out.old; after = K.faults out.new }) (K.written out.old) (K.written out.new)
+        (sink_state (K.written out.old) (K.written out.new) (K.faults out.old) (K.faults out.new))
         result.status result.accepted result.journal }
-    ensures claim { Claims (map string_bytes words.now) (S.left contract.old) (K.written out.old) (K.written out.new)
-        result.status result.accepted }
+    // What holds of every text.
+    ensures one_answer { (text : List ℕ) → HasOneAnswer text }
 
-    // What is not due to be read stays as it was.
+    // What is not due to be read stays as it was, and the output where memory ran out.
     ensures no_task { task_of (map string_bytes words.now) ≡ None → contract.new ≡ contract.old }
     ensures unread { ¬ ReadsScript (map string_bytes words.now) result.accepted → script.new ≡ script.old }
+    ensures unwritten { result.status ≡ 7 → out.new ≡ out.old }
 {
     match job_due(alloc, words, contract, script) {
         Ok(due) => write_due(due, out),
@@ -79,8 +84,7 @@ pub fn nomos<S: Source, K: Sink>(
 // Writes what is due.
 fn write_due<K: Sink>(due: Due, out: &mut K) -> Ended
     ensures written { IsWritten due.status due.text.items
-        (record { before = K.faults out.old; after = K.faults out.new })
-        (K.written out.old) (K.written out.new) result.status }
+        (sink_state (K.written out.old) (K.written out.new) (K.faults out.old) (K.faults out.new)) result.status }
     ensures accepted { result.accepted ≡ due.accepted }
     ensures journal { result.journal ≡ due.journal }
 {
@@ -115,7 +119,7 @@ fn job_due<S: Source>(
         (source_state (S.left contract.old) (S.faults contract.old) (S.faults contract.new))
         (source_state (S.left script.old) (S.faults script.old) (S.faults script.new))
         due.status due.text.items due.accepted due.journal) }
-    ensures err { IfErr result (λ part. IsPart (map string_bytes words.now)
+    ensures err { IfErr result (λ part. IsPartFor (map string_bytes words.now)
         (source_state (S.left contract.old) (S.faults contract.old) (S.faults contract.new))
         (source_state (S.left script.old) (S.faults script.old) (S.faults script.new))
         part.accepted part.journal) }
@@ -139,7 +143,8 @@ fn work_due<S: Source>(
         (source_state (S.left contract.old) (S.faults contract.old) (S.faults contract.new))
         (source_state (S.left script.old) (S.faults script.old) (S.faults script.new))
         due.status due.text.items due.accepted due.journal) }
-    ensures err { (words : List (List ℕ)) → Some (task job.entry) ≡ task_of words → IfErr result (λ part. IsPart words
+    ensures err { (words : List (List ℕ)) → Some (task job.entry) ≡ task_of words
+        → IfErr result (λ part. IsPartFor words
         (source_state (S.left contract.old) (S.faults contract.old) (S.faults contract.new))
         (source_state (S.left script.old) (S.faults script.old) (S.faults script.new))
         part.accepted part.journal) }
@@ -185,7 +190,7 @@ fn run_due<S: Source>(alloc: Global, contract: &mut S, script: &mut S) -> Result
         (source_state (S.left contract.old) (S.faults contract.old) (S.faults contract.new))
         (source_state (S.left script.old) (S.faults script.old) (S.faults script.new))
         due.status due.text.items due.accepted due.journal) }
-    ensures err { (words : List (List ℕ)) → IsRun words → IfErr result (λ part. IsPart words
+    ensures err { (words : List (List ℕ)) → IsRun words → IfErr result (λ part. IsPartFor words
         (source_state (S.left contract.old) (S.faults contract.old) (S.faults contract.new))
         (source_state (S.left script.old) (S.faults script.old) (S.faults script.new))
         part.accepted part.journal) }

@@ -1,5 +1,6 @@
 use Rattle.nomos_top.proofs.DueLemmas.{if_ok-map, if_err-map, due_of-line, due_of-run, part_of-line, part_of-run}
-use Rattle.nomos_top.specs.Outcome.{FaultCounts, script_fault, script_too_long, script_syntax, script_not_yet}
+use Rattle.nomos_top.specs.Outcome.{script_fault, script_too_long, script_syntax, script_not_yet}
+use Rattle.nomos_top.specs.Outside.{FaultCounts}
 use Rattle.nomos_top.proofs.scripts.script_due.Goals as goal
 
 pub returns-in-NoMemory-clause-err : goal.returns-in-NoMemory-clause-err

@@ -1,5 +1,5 @@
 use Rattle.nomos_top.proofs.DueLemmas.{if_ok-map, if_err-map, due_of-not_yet, part_of-line}
-use Rattle.nomos_top.specs.Outcome.{FaultCounts}
+use Rattle.nomos_top.specs.Outside.{FaultCounts}
 use Rattle.nomos_top.proofs.top.accepted_run_due.Goals as goal
 
 pub returns-else-is_runnable-clause-ok : goal.returns-else-is_runnable-clause-ok

@@ -1,6 +1,6 @@
 use Rattle.std.proofs.Common.{inl, sym}
 use Rattle.nomos_top.proofs.DueLemmas.{if_ok-map, if_err-map, has-task, due-as, due-accepted, due-pivots_out, part-nothing}
-use Rattle.nomos_top.specs.Outcome.{source_state}
+use Rattle.nomos_top.specs.Outside.{source_state}
 use Rattle.nomos_top.proofs.top.check_due.Goals as goal
 
 pub returns-in-Ok-clause-ok : goal.returns-in-Ok-clause-ok

@@ -1,6 +1,6 @@
 use Rattle.std.proofs.Common.{sym, map, string_bytes}
 use Rattle.nomos_top.proofs.DueLemmas.{if_ok-map, if_err-map, due-as, due-usage, part-nothing}
-use Rattle.nomos_top.specs.Outcome.{source_state}
+use Rattle.nomos_top.specs.Outside.{source_state}
 use Rattle.nomos_top.proofs.top.job_due.Goals as goal
 
 pub returns-in-None-clause-ok : goal.returns-in-None-clause-ok

@@ -1,5 +1,5 @@
 use Rattle.nomos_top.proofs.DueLemmas.{if_ok-map, if_err-map, due-as, due-bounded, due-least_out, part-nothing}
-use Rattle.nomos_top.specs.Outcome.{source_state}
+use Rattle.nomos_top.specs.Outside.{source_state}
 use Rattle.nomos_top.proofs.top.least_due.Goals as goal
 
 pub returns-in-Ok-clause-ok : goal.returns-in-Ok-clause-ok

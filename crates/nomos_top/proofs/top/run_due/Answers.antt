@@ -1,6 +1,6 @@
 use Rattle.std.proofs.Common.{inr, sym}
 use Rattle.nomos_top.proofs.DueLemmas.{if_ok-map, if_err-map, has-task, due-pivots_out, due-of, part-nothing, part-of}
-use Rattle.nomos_top.specs.Outcome.{source_state}
+use Rattle.nomos_top.specs.Outside.{source_state}
 use Rattle.nomos_top.proofs.top.run_due.Goals as goal
 
 pub returns-in-Ok-clause-ok : goal.returns-in-Ok-clause-ok

@@ -1,6 +1,6 @@
 use Rattle.std.proofs.Common.{sym}
 use Rattle.nomos_top.proofs.DueLemmas.{if_ok-map, if_err-map}
-use Rattle.nomos_top.specs.Outcome.{source_state}
+use Rattle.nomos_top.specs.Outside.{source_state}
 use Rattle.nomos_top.proofs.top.work_due.Goals as goal
 
 pub returns-in-Check-clause-ok : goal.returns-in-Check-clause-ok
