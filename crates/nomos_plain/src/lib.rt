@@ -1,0 +1,7 @@
+//! The plain form of a state: lists, which are scanned.
+#![tactic(auto)]
+
+mod finds;
+mod parts;
+pub mod plain;
+mod weights;
