@@ -2,6 +2,6 @@
 #![tactic(auto)]
 
 mod finds;
-mod parts;
+pub mod parts;
 pub mod plain;
 mod weights;

@@ -1,11 +1,12 @@
 //! A state over plain lists.
-ghost use Rattle.std.specs.Prelude.{◌≡◌, ◌==◌, option_copied};
+ghost use Rattle.std.specs.Prelude.{◌≡◌, ◌==◌, ◌+◌, ◌-◌, ◌<◌, ◌^◌, IfOk, OnErr, length, option_copied, slice_get};
 ghost use Rattle.nomos_ir.specs.Bindings.{bound_to};
 ghost use Rattle.nomos_deeds.specs.Seen.{seen_list};
-ghost use Rattle.nomos_machine.specs.State.{empty};
+ghost use Rattle.nomos_machine.specs.Starting.{opened, credited, cleared};
+ghost use Rattle.nomos_machine.specs.State.{empty, gas_of};
 
 use crate::finds::{message_on, offering, process_at, seen_message, seen_process, user};
-use crate::parts::Parts;
+use crate::parts::{Parts, Results};
 use crate::weights::{affords, is_light_with};
 use nomos_deeds::sight::{SeenList, SeenMessage, SeenProcess, Sight};
 use nomos_ir::bindings::bound_first;
@@ -14,7 +15,7 @@ use nomos_ir::items::Items;
 use nomos_ir::value::Value;
 use nomos_ir::value_node::ValueNode;
 use nomos_machine::object::{Object, PotentialList};
-use std::alloc::Global;
+use std::alloc::{AllocError, Global};
 use std::marker::Model;
 
 /// A state that is kept as plain lists, which are scanned.
@@ -84,6 +85,68 @@ impl PlainState {
         ensures { result.now ≡ self.now.objects }
     {
         &self.parts.objects
+    }
+
+    /// What an account has, in Dths, if there is one of that number.
+    pub fn balance(&self, account: u32) -> Option<u128>
+        ensures { result ≡ slice_get self.now.balances account }
+    {
+        self.parts.balances.get(account as usize).copied()
+    }
+
+    /// The gas spent, in Dths.
+    pub fn spent(&self) -> u128
+        ensures { result ≡ self.now.spent }
+    {
+        self.parts.spent
+    }
+
+    /// What processes emitted: the number of the process, and the value.
+    pub fn results(&self) -> &Results
+        ensures { result.now ≡ self.now.results }
+    {
+        &self.parts.results
+    }
+
+    /// The number that the next object will have.
+    pub fn next_object(&self) -> u32
+        ensures { result ≡ self.now.next_object }
+    {
+        self.parts.next_object
+    }
+
+    /// The number that the next name will have.
+    pub fn next_name(&self) -> u32
+        ensures { result ≡ self.now.next_name }
+    {
+        self.parts.next_name
+    }
+
+    /// Makes the next account, with so many Dths, and gives its number. Want of memory leaves the state as it was.
+    pub fn open_account(&mut self, dths: u128) -> Result<u32, AllocError>
+        requires { length self.old.balances < 2 ^ 32 - 1 }
+        ensures ok { IfOk result (λ account. (account ≡ length self.old.balances) × (self.new ≡ opened self.old dths)) }
+        ensures err { OnErr result (self.new ≡ self.old) }
+    {
+        let account = self.parts.balances.len() as u32;
+        self.parts.balances.push(dths)?;
+        Ok(account)
+    }
+
+    /// An account has so many Dths more.
+    pub fn credit(&mut self, account: u32, dths: u128)
+        requires account { account < length self.old.balances }
+        requires gas { gas_of self.old + dths < 2 ^ 96 }
+        ensures { self.new ≡ credited self.old account dths }
+    {
+        self.parts.balances[account as usize] += dths;
+    }
+
+    /// Forgets what was emitted. It takes no memory.
+    pub fn clear_results(&mut self)
+        ensures { self.new ≡ cleared self.old }
+    {
+        self.parts.results = Items::of_vec(Vec::new(self.parts.alloc));
     }
 }
 

@@ -4,6 +4,8 @@
 #[cfg(test)]
 mod ledger_tests;
 #[cfg(test)]
+mod plain_tests;
+#[cfg(test)]
 mod script_tests;
 #[cfg(test)]
 mod state_tests;

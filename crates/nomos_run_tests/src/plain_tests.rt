@@ -1,0 +1,29 @@
+//! What no clause says of the plain state of the whole language: that accounts are opened where memory is found.
+
+use nomos_deeds::sight::Sight;
+use nomos_plain::plain::PlainState;
+use std::test::Fail;
+
+#[test]
+fn opens_accounts_of_a_plain_state(rt: HostRuntime) -> Result<(), Fail> {
+    let mut state = PlainState::empty(rt.alloc());
+    assert_eq!(rt; state.open_account(5)?, 0);
+    assert_eq!(rt; state.open_account(0)?, 1);
+    state.credit(1, 7);
+    assert_eq!(rt; state.balance(0), Some(5));
+    assert_eq!(rt; state.balance(1), Some(7));
+    assert_eq!(rt; state.balance(2), None);
+    Ok(())
+}
+
+#[test]
+fn finds_nothing_in_an_empty_plain_state(rt: HostRuntime) -> Result<(), Fail> {
+    let mut state = PlainState::empty(rt.alloc());
+    state.clear_results();
+    assert!(rt; state.results().is_empty());
+    assert_eq!(rt; state.next_object(), 1);
+    assert!(rt; state.process(1).is_none());
+    assert!(rt; state.message_on(true, 1).is_none());
+    assert!(rt; state.user(1).is_none());
+    Ok(())
+}
