@@ -1,51 +1,10 @@
-//! Copies of objects and values.
-ghost use Rattle.std.specs.Prelude.{◌≡◌, IfOk, map};
-ghost use Rattle.nomos_ir.specs.ValueNode.{value_of};
+//! Copies of objects and results.
+ghost use Rattle.std.specs.Prelude.{◌≡◌, IfOk};
 
 use crate::object::{Message, Object, Payload, Process, VarValues};
 use nomos_ir::items::Items;
-use nomos_ir::value::{Value, Values};
-use nomos_ir::value_node::ValueNode;
+use nomos_ir::value::Value;
 use std::alloc::{AllocError, Global};
-
-// A copy of a value's node.
-fn copy_node(alloc: Global, node: &ValueNode) -> Result<ValueNode, AllocError>
-    ensures { IfOk result (λ made. value_of made ≡ value_of node.now) }
-{
-    match node {
-        ValueNode::Int(n) => Ok(ValueNode::Int(*n)),
-        ValueNode::Bool(b) => Ok(ValueNode::Bool(*b)),
-        ValueNode::List(nodes) => {
-            let mut made = Vec::new(alloc);
-            for node in nodes {
-                made.push(copy_node(alloc, node)?)?;
-            }
-            Ok(ValueNode::List(made))
-        }
-    }
-}
-
-// Copies of the nodes of values.
-fn copy_nodes(alloc: Global, nodes: &[ValueNode]) -> Result<Vec<ValueNode>, AllocError>
-    ensures { IfOk result (λ made. map value_of made.items ≡ map value_of nodes.now) }
-{
-    let mut made = Vec::new(alloc);
-    for node in nodes {
-        made.push(copy_node(alloc, node)?)?;
-    }
-    Ok(made)
-}
-
-/// A copy of a value.
-pub(crate) fn copy_value(alloc: Global, value: &Value) -> Result<Value, AllocError>
-    ensures { IfOk result (λ made. made ≡ value.now) }
-{
-    match value.node() {
-        ValueNode::Int(n) => Ok(Value::int(*n)),
-        ValueNode::Bool(b) => Ok(Value::truth(*b)),
-        ValueNode::List(nodes) => Ok(Value::list(Values::of_vec(copy_nodes(alloc, nodes)?))),
-    }
-}
 
 // A copy of variables with their values.
 fn copy_values(alloc: Global, values: &VarValues) -> Result<VarValues, AllocError>
@@ -53,7 +12,7 @@ fn copy_values(alloc: Global, values: &VarValues) -> Result<VarValues, AllocErro
 {
     let mut made = Vec::new(alloc);
     for pair in values.as_slice() {
-        made.push((pair.0, copy_value(alloc, &pair.1)?))?;
+        made.push((pair.0, pair.1.copy(alloc)?))?;
     }
     Ok(Items::of_vec(made))
 }
@@ -81,7 +40,7 @@ fn copy_payload(alloc: Global, payload: &Payload) -> Result<Payload, AllocError>
 {
     match payload {
         Payload::Label(label) => Ok(Payload::Label(*label)),
-        Payload::Value(value) => Ok(Payload::Value(copy_value(alloc, value)?)),
+        Payload::Value(value) => Ok(Payload::Value(value.copy(alloc)?)),
         Payload::Channel(name) => Ok(Payload::Channel(*name)),
         Payload::Pay => Ok(Payload::Pay),
         Payload::Close => Ok(Payload::Close),
@@ -132,7 +91,7 @@ pub(crate) fn copy_results(
 {
     let mut made = Vec::new(alloc);
     for pair in results.as_slice() {
-        made.push((pair.0, copy_value(alloc, &pair.1)?))?;
+        made.push((pair.0, pair.1.copy(alloc)?))?;
     }
     Ok(Items::of_vec(made))
 }

@@ -7,11 +7,11 @@ use Rattle.nomos_ir.specs.declared.term_node.TermNode.{TermNode}
 use Rattle.nomos_ir.specs.declared.term_node.TermNode.TheVariants as node
 use Rattle.nomos_ir.specs.Bindings.{bound_to}
 use Rattle.nomos_ir.specs.Evaluation.{Environment, Evaluation, Evaluator, ends, go_on, entered, counted, max_nodes, nought, on_numbers, same_number, term_evaluation}
-use Rattle.nomos_ir.specs.Value.{Value, int, truth, list}
+use Rattle.nomos_ir.specs.Value.{Value, int, truth, list, truth_in}
 use Rattle.nomos_ir.proofs.EvaluationLaws.{evaluation_from, evaluation-step, evaluation-whole}
 use Rattle.std.specs.Prelude.{int_lt, unwrap_or}
 use Rattle.nomos_eval.specs.declared.small.Part.{Part}
-use Rattle.nomos_eval.specs.SmallTest.{Decides, IsSmallNode, IsSmallPart, IsSmallTest, takes_first}
+use Rattle.nomos_eval.specs.SmallTest.{Decides, IsSmallNode, IsSmallPart, IsSmallTest}
 use Rattle.nomos_eval.specs.mirror.SmallPart.{equal_parts, less_parts, part_of, part_value}
 
 -- a number or a variable that was entered
@@ -102,12 +102,12 @@ module _ (lists : ProgramLists) (env : Environment) (t : TermId) where
       let P : Option TermNode → Type 0 = λ n. IsSmallNode lists n in subst P (sym is) small
 
   pub small-variable : (at : ℕ) (v : VarId) (first : Bool) → slice_get lists.terms t.0 ≡ Some (node.Var at v)
-      → first ≡ takes_first (unwrap_or (bound_to v.0 env) nought)
+      → first ≡ truth_in (unwrap_or (bound_to v.0 env) nought)
       → IsSmallTest lists t.0 × Decides (term_evaluation lists env t) first
   small-variable at v first is same = (
     small-from (Some (node.Var at v)) is tt,
     whole-decides lists env t (Some (node.Var at v)) _ first
-        (takes_first (unwrap_or (bound_to v.0 env) nought)) is refl same
+        (truth_in (unwrap_or (bound_to v.0 env) nought)) is refl same
         (record { value = unwrap_or (bound_to v.0 env) nought; nodes = 1; ended = refl; taken = refl }),
   )
 

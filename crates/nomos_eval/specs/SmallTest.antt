@@ -1,7 +1,7 @@
 -- Tests that are decided without memory.
-use Rattle.std.specs.Prelude.{◌≡◌, ℕ, Bool, false, Option, Some, slice_get}
+use Rattle.std.specs.Prelude.{◌≡◌, ℕ, Bool, Option, Some, slice_get}
 use Rattle.nomos_ir.specs.Evaluation.{Evaluation, ends}
-use Rattle.nomos_ir.specs.Value.{Value, int, truth, list}
+use Rattle.nomos_ir.specs.Value.{Value, truth_in}
 use Rattle.nomos_ir.specs.declared.lists.ProgramLists.{ProgramLists}
 use Rattle.nomos_ir.specs.declared.term_node.TermNode.{TermNode}
 use Rattle.nomos_ir.specs.declared.term_node.TermNode.TheVariants as node
@@ -24,15 +24,9 @@ IsSmallNode lists _ = ⊥
 abbrev pub IsSmallTest : ProgramLists → ℕ → Type 0
 IsSmallTest lists t = IsSmallNode lists (slice_get lists.terms t)
 
--- which part of an `if` is taken after this value: the first where it is true, and otherwise the last
-abbrev pub takes_first : Value → Bool
-takes_first (truth b) = b
-takes_first (int z) = false
-takes_first (list vs) = false
-
--- an evaluation ends with a value, after which this part is taken
+-- an evaluation ends with a value, and this is what a test says that has it
 pub record Decides (evaluation : Evaluation) (first : Bool) : Type 0 where
   pub value : Value
   pub nodes : ℕ
   pub ended : evaluation ≡ ends value nodes
-  pub taken : first ≡ takes_first value
+  pub taken : first ≡ truth_in value

@@ -34,8 +34,8 @@ pub enum Evaluated {
     Fault(Fault),
 }
 
-// The value of a node.
-fn value_from(node: ValueNode) -> Value
+/// The value of a node.
+pub fn value_from(node: ValueNode) -> Value
     ensures { result ≡ value_of node }
 {
     match node {

@@ -2,7 +2,8 @@
 ghost use Rattle.std.specs.Prelude.{◌≡◌, MatchOption, slice_get, unwrap_or};
 ghost use Rattle.nomos_ir.specs.Bindings.{bound_to};
 ghost use Rattle.nomos_ir.specs.Evaluation.{nought, term_evaluation};
-ghost use Rattle.nomos_eval.specs.SmallTest.{Decides, IsSmallPart, IsSmallTest, takes_first};
+ghost use Rattle.nomos_ir.specs.Value.{truth_in};
+ghost use Rattle.nomos_eval.specs.SmallTest.{Decides, IsSmallPart, IsSmallTest};
 ghost use Rattle.nomos_eval.specs.mirror.SmallPart.{equal_parts, less_parts, part_of, part_value};
 
 use crate::around::bound_value;
@@ -44,7 +45,7 @@ pub fn small_truth(program: &Program, t: TermId, env: &[(VarId, Value)]) -> Opti
 
 // Whether a variable is true.
 fn is_true(env: &[(VarId, Value)], v: VarId) -> bool
-    ensures { result ≡ takes_first (unwrap_or (bound_to v.0 env.now) nought) }
+    ensures { result ≡ truth_in (unwrap_or (bound_to v.0 env.now) nought) }
 {
     match bound_value(env, v) {
         Some(value) => truth_in(value),
@@ -54,7 +55,7 @@ fn is_true(env: &[(VarId, Value)], v: VarId) -> bool
 
 // Whether a value is true.
 fn truth_in(value: &Value) -> bool
-    ensures { result ≡ takes_first value.now }
+    ensures { result ≡ truth_in value.now }
 {
     match value.node() {
         ValueNode::Bool(b) => *b,

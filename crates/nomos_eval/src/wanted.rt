@@ -2,12 +2,14 @@
 ghost use Rattle.std.specs.Prelude.{◌≡◌, ◌∷◌, [], IfOk, slice_get, option_copied};
 ghost use Rattle.std.specs.List.{flat_map};
 ghost use Rattle.nomos_ir.specs.CodeParts.{arg_terms, code_terms};
-ghost use Rattle.nomos_eval.specs.TermsEvaluation.{instruction_evaluation, outcome_of, terms_evaluation};
+ghost use Rattle.nomos_ir.specs.TermsEvaluation.{instruction_evaluation, terms_evaluation};
+ghost use Rattle.nomos_eval.specs.Outcomes.{outcome_of};
 ghost use Rattle.nomos_eval.specs.mirror.TermsFound.{AreValues};
 
 use crate::evaluation::{Env, eval_node};
 use nomos_ir::code_node::{CodeNode, ValueArg};
 use nomos_ir::fault::Fault;
+use nomos_ir::find::find_code;
 use nomos_ir::ids::{CodeId, TermId, VarId};
 use nomos_ir::lists::ProgramLists;
 use nomos_ir::or_no_memory::OrNoMemory;
@@ -52,13 +54,6 @@ pub fn evaluate_at(
         Err(OrNoMemory::Answer(fault)) => Ok(Outcome::Fault(fault)),
         Err(OrNoMemory::NoMemory) => Err(AllocError),
     }
-}
-
-// The instruction with this number, if there is one.
-fn find_code(lists: &ProgramLists, code: CodeId) -> Option<&CodeNode>
-    ensures { option_copied result ≡ slice_get lists.now.code code.0 }
-{
-    lists.code.as_slice().get(code.0 as usize)
 }
 
 // The values of the terms of the instruction with this number.

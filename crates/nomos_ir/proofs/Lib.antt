@@ -15,4 +15,5 @@ pub mod TermExamples
 pub mod TermKindLaws
 pub mod TypedLaws
 pub mod UnfoldLaws
+pub mod ValueLemmas
 pub mod WordTable

@@ -21,6 +21,7 @@ pub mod TermExample
 pub mod TermKind
 pub mod TermOffset
 pub mod TermParts
+pub mod TermsEvaluation
 pub mod TypeParts
 pub mod Unfold
 pub mod Value

@@ -1,8 +1,9 @@
-//! Terms and functions by their numbers, where there are such.
+//! Terms, functions and code by their numbers, where there are such.
 ghost use Rattle.std.specs.Prelude.{◌≡◌, slice_get, option_copied};
 
+use crate::code_node::CodeNode;
 use crate::declaration::FnDecl;
-use crate::ids::{FnId, TermId};
+use crate::ids::{CodeId, FnId, TermId};
 use crate::lists::ProgramLists;
 use crate::term_node::TermNode;
 
@@ -18,4 +19,11 @@ pub fn find_function(lists: &ProgramLists, f: FnId) -> Option<&FnDecl>
     ensures { option_copied result ≡ slice_get lists.now.fns f.0 }
 {
     lists.fns.as_slice().get(f.0 as usize)
+}
+
+/// The instruction with this number, if there is one.
+pub fn find_code(lists: &ProgramLists, c: CodeId) -> Option<&CodeNode>
+    ensures { option_copied result ≡ slice_get lists.now.code c.0 }
+{
+    lists.code.as_slice().get(c.0 as usize)
 }

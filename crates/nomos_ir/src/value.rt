@@ -1,9 +1,10 @@
 //! Values: what terms evaluate to, and what processes send to one another.
-ghost use Rattle.std.specs.Prelude.{◌≡◌, map};
+ghost use Rattle.std.specs.Prelude.{◌≡◌, ◌↔◌, IsTrue, IfOk, map};
 ghost use Rattle.nomos_ir.specs.Value.{int, truth, list, value_list};
 ghost use Rattle.nomos_ir.specs.ValueNode.{value_of};
 
-use crate::value_node::ValueNode;
+use crate::value_node::{ValueNode, copy_node, copy_nodes, is_same_node};
+use std::alloc::{AllocError, Global};
 use std::marker::Model;
 
 /// A value.
@@ -69,6 +70,15 @@ impl Values {
     {
         self.nodes.as_slice()
     }
+
+    /// A copy. It uses the machine's stack in step with how deep lists are nested in the values.
+    pub fn copy(&self, alloc: Global) -> Result<Values, AllocError>
+        ensures { IfOk result (λ made. made ≡ self.now) }
+    {
+        Ok(Values {
+            nodes: copy_nodes(alloc, &self.nodes)?,
+        })
+    }
 }
 
 impl Value {
@@ -104,5 +114,20 @@ impl Value {
         ensures { value_of result.now ≡ self.now }
     {
         &self.node
+    }
+    /// A copy. It uses the machine's stack in step with how deep lists are nested in the value.
+    pub fn copy(&self, alloc: Global) -> Result<Value, AllocError>
+        ensures { IfOk result (λ made. made ≡ self.now) }
+    {
+        Ok(Value {
+            node: copy_node(alloc, &self.node)?,
+        })
+    }
+
+    /// Whether it is the other value.
+    pub fn is_same(&self, other: &Value) -> bool
+        ensures { IsTrue result ↔ (self.now ≡ other.now) }
+    {
+        is_same_node(&self.node, &other.node)
     }
 }

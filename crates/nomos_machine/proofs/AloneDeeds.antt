@@ -10,7 +10,7 @@ use Rattle.nomos_ir.specs.Bindings.{bound_to, IsAscending, unbind}
 use Rattle.nomos_ir.specs.CodeParts.{code_terms}
 use Rattle.nomos_ir.specs.Evaluation.{Evaluation, ends, faults, term_evaluation}
 use Rattle.nomos_ir.specs.Order.{count_of}
-use Rattle.nomos_ir.specs.Value.{Value}
+use Rattle.nomos_ir.specs.Value.{Value, truth_in}
 use Rattle.nomos_ir.specs.ValueKind.{ValueHasKind}
 use Rattle.nomos_ir.specs.declared.kind.Kind.{Kind}
 use Rattle.std.proofs.lemmas.List.Elements.{All-nil, All-cons, All-head, All-tail}
@@ -29,9 +29,9 @@ use Rattle.nomos_types.specs.Amount.{dths}
 use Rattle.nomos_types.specs.Judgement.{Judgement, ListType, IsFree, count_one, at_code, binds_value, binds_list, with_potential}
 use Rattle.nomos_types.specs.TypingRule.{TypingRule}
 use Rattle.nomos_types.proofs.RowLaws.{row-inverted}
-use Rattle.nomos_machine.specs.Deeds.{changes, alone, does, where_it_has, truth_in, empty_list, has_fault, lengthened, is_light, takes_apart}
+use Rattle.nomos_machine.specs.Deeds.{changes, alone, does, where_it_has, empty_list, has_fault, lengthened, is_light, takes_apart}
 use Rattle.nomos_machine.specs.Change.{Change}
-use Rattle.nomos_machine.specs.Given.{values_of_terms, with_others}
+use Rattle.nomos_ir.specs.TermsEvaluation.{terms_evaluation, before_others}
 use Rattle.nomos_machine.specs.Matching.{Matches, IsListOf, HasBase, ProcessTyped}
 use Rattle.nomos_machine.specs.Objects.{potential_of, free_purse}
 use Rattle.nomos_machine.specs.Readiness.{is_met_at}
@@ -57,7 +57,7 @@ module _ {a : Acceptance} (accepted : IsAccepted a) {s : State} (typed : IsTyped
 
   -- What the process does at an instruction.
   abbrev pub GoesAt : CodeNode → Type 0
-  GoesAt n = Goes a s (is_met_at a s p n) (deed_by a s p n (values_of_terms a.program p.values (code_terms n)))
+  GoesAt n = Goes a s (is_met_at a s p n) (deed_by a s p n (terms_evaluation a.program p.values (code_terms n)))
 
   -- it goes on alone, and pays what it burns
   alone-goes : (q : Process) (burnt : ℕ) (emitted : List (ℕ × Value)) → SameNames a s p q
@@ -127,7 +127,7 @@ module _ {a : Acceptance} (accepted : IsAccepted a) {s : State} (typed : IsTyped
       n = code.Let at v e next
 
       come : (r : Evaluation) → term_evaluation a.program p.values e ≡ r
-          → Goes a s true (deed_by a s p n (with_others r (Ok [])))
+          → Goes a s true (deed_by a s p n (before_others r (Ok [])))
       come (faults f) is = faulty f
       come (ends x m) is =
           let (after, row) = own-row typed there accepted in
@@ -157,7 +157,7 @@ module _ {a : Acceptance} (accepted : IsAccepted a) {s : State} (typed : IsTyped
       n = code.Emit at e next
 
       come : (r : Evaluation) → term_evaluation a.program p.values e ≡ r
-          → Goes a s true (deed_by a s p n (with_others r (Ok [])))
+          → Goes a s true (deed_by a s p n (before_others r (Ok [])))
       come (faults f) is = faulty f
       come (ends x m) is =
           let (after, row) = own-row typed there accepted in
@@ -184,7 +184,7 @@ module _ {a : Acceptance} (accepted : IsAccepted a) {s : State} (typed : IsTyped
           subst (λ (js : List Judgement). Contains js (at_code own else_next)) (sym goes_on) (1, omega arith, refl)
 
       come : (r : Evaluation) → term_evaluation a.program p.values e ≡ r
-          → Goes a s true (deed_by a s p n (with_others r (Ok [])))
+          → Goes a s true (deed_by a s p n (before_others r (Ok [])))
       come (faults f) is = faulty f
       come (ends x m) is =
           let (after, row) = own-row typed there accepted in
@@ -357,7 +357,7 @@ module _ {a : Acceptance} (accepted : IsAccepted a) {s : State} (typed : IsTyped
           (omega arith) (omega arith) (omega arith))
 
       come : (r : Evaluation) → term_evaluation a.program p.values e ≡ r
-          → Goes a s true (deed_by a s p n (with_others r (Ok [])))
+          → Goes a s true (deed_by a s p n (before_others r (Ok [])))
       come (faults f) is = faulty f
       come (ends x m) is =
           let (after, row) = own-row typed there accepted in

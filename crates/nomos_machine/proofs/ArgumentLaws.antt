@@ -37,22 +37,24 @@ use Rattle.nomos_types.proofs.ModeLaws.{mode-unique}
 use Rattle.nomos_types.proofs.OccurrenceLaws.{one_at, count-elsewhere}
 use Rattle.nomos_types.proofs.ArgumentsLaws.{passes-channel_left, passes-value_left}
 use Rattle.nomos_machine.specs.Deeds.{unless_shared, hands_over, hands_over_all, hands_over_lists}
-use Rattle.nomos_machine.specs.Given.{TermValues, with_others, values_of_terms, give_values, give_names}
+use Rattle.nomos_ir.specs.TermsEvaluation.{TermsResult, before_others, terms_evaluation}
+use Rattle.nomos_machine.specs.Given.{give_values, give_names}
 use Rattle.nomos_machine.specs.Matching.{NameHasType, IsListOf}
 use Rattle.nomos_machine.specs.Optional.{◌>>=◌}
 use Rattle.nomos_machine.specs.Revised.{list_used_up}
 use Rattle.nomos_machine.specs.Sight.{is_shared_name}
+use Rattle.nomos_machine.specs.Starting.{FitValues, value, list, none}
 use Rattle.nomos_machine.specs.State.{State}
 use Rattle.nomos_machine.specs.declared.object.PotentialList.{PotentialList}
 use Rattle.nomos_machine.specs.declared.object.Process.{Process}
-use Rattle.nomos_machine.proofs.BeginLaws.{FitValues, value, list, none, carries}
+use Rattle.nomos_machine.proofs.BeginLaws.{carries}
 use Rattle.nomos_machine.proofs.BirthLaws.{shared-shown, unshared-shown}
 use Rattle.nomos_machine.proofs.MatchLaws.{HoldsChannels, holds-fewer}
 
 -- ---- values of terms
 
 -- terms that have values: the first has one, and so have the others
-values-first : (r : Evaluation) (others : TermValues) (vs : List Value) → with_others r others ≡ Ok vs
+values-first : (r : Evaluation) (others : TermsResult) (vs : List Value) → before_others r others ≡ Ok vs
     → (v : Value) × (m : ℕ) × (r ≡ ends v m) × (rest : List Value) × (others ≡ Ok rest) × (vs ≡ v ∷ rest)
 values-first (ends v m) (Ok rest) vs is =
     let same : v ∷ rest ≡ vs = cc in
@@ -134,7 +136,7 @@ module _ (a : Acceptance) (s : State) (p : Process) where
   pub values-given : {j left : Judgement} {args : List ValueArg} {pars : List Par} (vs : List Value)
       (held : List (VarId × PotentialList)) → IsJudgement a.program j → HasItsKind j.kinds
       → PassesValues a.program a.annotations j args pars left
-      → values_of_terms a.program p.values (flat_map arg_terms args) ≡ Ok vs → IsAscending held → Within held p.lists
+      → terms_evaluation a.program p.values (flat_map arg_terms args) ≡ Ok vs → IsAscending held → Within held p.lists
       → ArePaired IsListOf held j.lists → ValuesGiven args pars vs held left.lists
   values-given vs held h valued passes.none is ascending within fits =
       let none_given : [] ≡ vs = cc in
@@ -154,7 +156,7 @@ module _ (a : Acceptance) (s : State) (p : Process) where
       is ascending within fits =
       let (v, m, ended, rest, others_ok, all) =
       values-first (term_evaluation a.program p.values e)
-      (values_of_terms a.program p.values (flat_map arg_terms args)) vs is
+      (terms_evaluation a.program p.values (flat_map arg_terms args)) vs is
       in
       let further = values-given rest held h valued others others_ok ascending within fits in
       record {

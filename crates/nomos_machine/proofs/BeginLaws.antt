@@ -33,6 +33,7 @@ use Rattle.nomos_types.proofs.StartLaws.{start-is_judgement, start-suits_mode}
 use Rattle.nomos_machine.specs.Given.{Given, me_value, begins}
 use Rattle.nomos_machine.specs.Matching.{NameHasType, IsListOf, Matches, HasBase, ProcessTyped}
 use Rattle.nomos_machine.specs.Objects.{potential_of, free_purse, used}
+use Rattle.nomos_machine.specs.Starting.{FitValues, value, list, none, GivenFits}
 use Rattle.nomos_machine.specs.State.{NameTypes, type_of}
 use Rattle.nomos_machine.specs.TypedState.{VariablesDiffer}
 use Rattle.nomos_machine.specs.declared.object.Object.TheVariants as object
@@ -41,23 +42,6 @@ use Rattle.nomos_machine.specs.declared.object.Process.{Process}
 use Rattle.nomos_machine.proofs.MatchLaws.{matches-differ}
 use Rattle.nomos_machine.proofs.ObjectLaws.{of_type-kept}
 use Rattle.nomos_machine.proofs.ProcessLaws.{offers-own_mode}
-
--- For each parameter in order there is a value of its kind, or a list of its element kind and amount.
-pub data FitValues (x : Annotations) : List (VarId × Value) → List (VarId × PotentialList) → List Par → Type 0 where
-  none : FitValues x [] [] []
-  value : {values : List (VarId × Value)} {its_lists : List (VarId × PotentialList)} {par : Par} {pars : List Par}
-      → (v : Value) → par.amount ≡ None → ValueHasKind v par.kind → FitValues x values its_lists pars
-      → FitValues x ((par.var, v) ∷ values) its_lists (par ∷ pars)
-  list : {values : List (VarId × Value)} {its_lists : List (VarId × PotentialList)} {par : Par} {pars : List Par}
-      → (l : PotentialList) (amount : Amount) → par.amount ≡ Some amount
-      → IsListOf l (record { kind = par.kind; amount = dths x amount }) → FitValues x values its_lists pars
-      → FitValues x values ((par.var, l) ∷ its_lists) (par ∷ pars)
-
--- What is given fits the parameters of a declaration: values and lists, and names of types that are alike to those of
--- the channels.
-pub record GivenFits (a : Acceptance) (types : NameTypes) (d : ProcDecl) (g : Given) : Type 0 where
-  pub values : FitValues a.annotations g.values g.lists d.values
-  pub channels : PairedInOrder (NameHasType a.program a.annotations types) g.channels d.channels
 
 -- ---- values and lists
 

@@ -8,7 +8,7 @@ use Rattle.std.proofs.lemmas.List.Sums.{sum_by-cons}
 use Rattle.nomos_ir.specs.Bindings.{bound_to}
 use Rattle.nomos_ir.specs.CodeParts.{code_next}
 use Rattle.nomos_ir.specs.CostAll.{is_work, IsUnderCostAll}
-use Rattle.nomos_ir.specs.Value.{Value}
+use Rattle.nomos_ir.specs.Value.{Value, truth_in}
 use Rattle.nomos_ir.specs.declared.amount.Amount.{Amount}
 use Rattle.nomos_ir.specs.declared.code_node.Arm.{Arm}
 use Rattle.nomos_ir.specs.declared.code_node.Chan.{Chan}
@@ -24,7 +24,7 @@ use Rattle.nomos_ir.specs.declared.mode.Mode.TheVariants as mode
 use Rattle.nomos_types.specs.Acceptance.{Acceptance}
 use Rattle.nomos_types.specs.Amount.{dths}
 use Rattle.nomos_machine.specs.Change.{Change, put_at}
-use Rattle.nomos_machine.specs.Deeds.{Deed, changes, has_fault, alone, sends, receives, hears_end, leaves, closes, forwards, takes_apart, deed_at, label_in, value_in, channel_in, potential_in, close_in, arm_for, one_of, truth_in, empty_list, lengthened, is_light, where_it_has}
+use Rattle.nomos_machine.specs.Deeds.{Deed, changes, has_fault, alone, sends, receives, hears_end, leaves, closes, forwards, takes_apart, deed_at, label_in, value_in, channel_in, potential_in, close_in, arm_for, one_of, empty_list, lengthened, is_light, where_it_has}
 use Rattle.nomos_machine.specs.Given.{given}
 use Rattle.nomos_machine.specs.Objects.{object_number, object_at, potential_of}
 use Rattle.nomos_machine.specs.Optional.{◌>>=◌}

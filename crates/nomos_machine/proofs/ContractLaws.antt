@@ -13,7 +13,7 @@ use Rattle.nomos_machine.specs.Change.{Change, made, changed}
 use Rattle.nomos_machine.specs.Objects.{mentioned, times}
 use Rattle.nomos_machine.specs.Outside.{opens_talk}
 use Rattle.nomos_machine.specs.Run.{run}
-use Rattle.nomos_machine.specs.Starting.{opened, credited, cleared, starts, started}
+use Rattle.nomos_machine.specs.Starting.{CanStart, opened, credited, cleared, starts, started}
 use Rattle.nomos_machine.specs.State.{State, NameTypes, type_of}
 use Rattle.nomos_machine.specs.Step.{step}
 use Rattle.nomos_machine.specs.TypedState.{IsTyped, IsContractName}
@@ -21,7 +21,7 @@ use Rattle.nomos_machine.proofs.BirthLaws.{stands-mentioned}
 use Rattle.nomos_machine.proofs.FiringLaws.{FiringChange, step-fires, run-by_steps}
 use Rattle.nomos_machine.proofs.FitLaws.{Fits, kept-mentioned}
 use Rattle.nomos_machine.proofs.NameLaws.{mentioned-sum, type_of-kept}
-use Rattle.nomos_machine.proofs.StartingLaws.{CanStart, starts-fits, opens_talk-fits}
+use Rattle.nomos_machine.proofs.StartingLaws.{starts-fits, opens_talk-fits}
 
 -- each name of mode S has in the second state the type that it has in the first
 abbrev pub KeepsContracts : Acceptance → State → State → Type 0

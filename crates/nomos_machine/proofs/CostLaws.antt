@@ -12,7 +12,8 @@ use Rattle.nomos_types.specs.Acceptance.{Acceptance, IsAccepted}
 use Rattle.nomos_types.specs.Amount.{dths}
 use Rattle.nomos_machine.specs.Change.{Change, made, changed}
 use Rattle.nomos_machine.specs.Deeds.{changes}
-use Rattle.nomos_machine.specs.Given.{TermValues, Given, values_of_terms, begins}
+use Rattle.nomos_ir.specs.TermsEvaluation.{TermsResult, terms_evaluation}
+use Rattle.nomos_machine.specs.Given.{Given, begins}
 use Rattle.nomos_machine.specs.Optional.{◌>>=◌}
 use Rattle.nomos_machine.specs.Outside.{opens_talk}
 use Rattle.nomos_machine.specs.Run.{run}
@@ -41,16 +42,16 @@ module _ {a : Acceptance} (under : IsUnderCostAll a.program) {s : State} (typed 
       → (olds : List Object) → Replaces c.places s.objects olds → Charges a c olds
   deed-charged p there c is olds replaces = at (slice_get a.program.code p.code.0) refl is
     where
-      by_values : (n : CodeNode) → slice_get a.program.code p.code.0 ≡ Some n → (r : TermValues)
+      by_values : (n : CodeNode) → slice_get a.program.code p.code.0 ≡ Some n → (r : TermsResult)
           → deed_by a s p n r ≡ Some (changes c) → Charges a c olds
       by_values n stands (Ok vs) does =
           deed-charges a under s typed.numbered.ascending there n stands vs c does olds replaces
       by_values n stands (Err f) does = absurd cc
 
       at : (o : Option CodeNode) → slice_get a.program.code p.code.0 ≡ o
-          → (o >>= λ n. deed_by a s p n (values_of_terms a.program p.values (code_terms n))) ≡ Some (changes c)
+          → (o >>= λ n. deed_by a s p n (terms_evaluation a.program p.values (code_terms n))) ≡ Some (changes c)
           → Charges a c olds
-      at (Some n) stands does = by_values n stands (values_of_terms a.program p.values (code_terms n)) does
+      at (Some n) stands does = by_values n stands (terms_evaluation a.program p.values (code_terms n)) does
       at None stands does = absurd cc
 
   -- a firing costs one unit, or leaves one idle process fewer

@@ -5,7 +5,7 @@ use Rattle.nomos_ir.specs.declared.code_node.CodeNode.{CodeNode}
 use Rattle.nomos_ir.specs.declared.code_node.CodeNode.TheVariants as code
 use Rattle.nomos_types.specs.Acceptance.{Acceptance, IsAccepted}
 use Rattle.nomos_types.proofs.RowLaws.{row-at}
-use Rattle.nomos_machine.specs.Given.{values_of_terms}
+use Rattle.nomos_ir.specs.TermsEvaluation.{terms_evaluation}
 use Rattle.nomos_machine.specs.Optional.{◌>>=◌}
 use Rattle.nomos_machine.specs.Readiness.{met_or_not, looks_ready}
 use Rattle.nomos_machine.specs.State.{State}
@@ -62,4 +62,4 @@ module _ {a : Acceptance} (accepted : IsAccepted a) {s : State} (typed : IsTyped
       ap (λ c. slice_get a.program.code c.0) (process-typed typed there).matches.code ∙ stands
       in
       subst (λ (o : Option CodeNode). Goes a s (met_or_not a s p o)
-      (o >>= λ n. deed_by a s p n (values_of_terms a.program p.values (code_terms n)))) (sym here) (goes-at n here)
+      (o >>= λ n. deed_by a s p n (terms_evaluation a.program p.values (code_terms n)))) (sym here) (goes-at n here)

@@ -22,7 +22,8 @@ use Rattle.nomos_types.specs.Acceptance.{Acceptance, IsAccepted}
 use Rattle.nomos_types.specs.Amount.{dths}
 use Rattle.nomos_machine.specs.Change.{Change, put_at, put_all, changed}
 use Rattle.nomos_machine.specs.Deeds.{Deed, changes, has_fault, alone, sends, receives, hears_end, closes, forwards, takes_apart, adds, deed_at, label_in, value_in, channel_in, potential_in, close_in, arm_for, one_of, lengthened, is_light, where_it_has}
-use Rattle.nomos_machine.specs.Given.{TermValues, given, values_of_terms}
+use Rattle.nomos_ir.specs.TermsEvaluation.{TermsResult, terms_evaluation}
+use Rattle.nomos_machine.specs.Given.{given}
 use Rattle.nomos_machine.specs.Objects.{object_number, object_at, potential_of, process_of}
 use Rattle.nomos_machine.specs.Optional.{◌>>=◌}
 use Rattle.nomos_machine.specs.Revised.{standing_at, under_name, with_channel, with_value, with_list, list_used_up, renamed, uses_instead}
@@ -167,9 +168,9 @@ module _ (a : Acceptance) (s : State) (p : Process) where
   -- ---- who stands at `accept` or at `detach`
 
   none-at : (other : Process) (n : CodeNode) → slice_get a.program.code other.code.0 ≡ Some n
-      → deed_by a s other n (values_of_terms a.program other.values (code_terms n)) ≡ None → deed a s other ≡ None
+      → deed_by a s other n (terms_evaluation a.program other.values (code_terms n)) ≡ None → deed a s other ≡ None
   none-at other n stands none =
-      ap (λ (o : Option CodeNode). o >>= λ n. deed_by a s other n (values_of_terms a.program other.values (code_terms n)))
+      ap (λ (o : Option CodeNode). o >>= λ n. deed_by a s other n (terms_evaluation a.program other.values (code_terms n)))
       stands ∙ none
 
   accepting-none : (other : Process) (n : CodeNode) → slice_get a.program.code other.code.0 ≡ Some n
@@ -251,7 +252,7 @@ module _ (a : Acceptance) (s : State) (p : Process) where
       deed-does _ (places-bind (bound_to w.0 p.lists) _ (λ l is.
       places-some _ (apart-places w empty_next head tail full_next l l.items)))
 
-  deed_by-places : (n : CodeNode) (values : TermValues) → DeedPlaces (deed_by a s p n values)
+  deed_by-places : (n : CodeNode) (values : TermsResult) → DeedPlaces (deed_by a s p n values)
   deed_by-places n (Ok vs) = deed_at-places n vs
   deed_by-places n (Err f) = deed-fault f
 
@@ -259,7 +260,7 @@ module _ (a : Acceptance) (s : State) (p : Process) where
   deed-places : (c : Change) → deed a s p ≡ Some (changes c) → EachPlace c
   deed-places c is =
       (deed-bind (slice_get a.program.code p.code.0) _ (λ n stands.
-      deed_by-places n (values_of_terms a.program p.values (code_terms n)))).of_changes c is
+      deed_by-places n (terms_evaluation a.program p.values (code_terms n)))).of_changes c is
 
 -- ---- a process that has a fault goes on as it is, but for the names of its channels
 
@@ -453,18 +454,18 @@ module _ (a : Acceptance) (s t : State) (r q : Process) (alike : GoesOnAs r q) w
   deed_at-same (code.Add at v e w next) vs = same-bind (one_of vs) _ _ (λ x. add-same v w next x)
   deed_at-same (code.Match at w empty_next head tail full_next) vs = same-does _ _
 
-  deed_by-same : (n : CodeNode) (values : TermValues) → SameFault (deed_by a s r n values) (deed_by a t q n values)
+  deed_by-same : (n : CodeNode) (values : TermsResult) → SameFault (deed_by a s r n values) (deed_by a t q n values)
   deed_by-same n (Ok vs) = deed_at-same n vs
   deed_by-same n (Err f) = record { goes = λ g is. is }
 
   deed-same : SameFault (deed a s r) (deed a t q)
   deed-same =
       let at : (values : List (VarId × Value)) (c : CodeId) → Option Deed =
-      λ values c. slice_get a.program.code c.0 >>= λ n. deed_by a t q n (values_of_terms a.program values (code_terms n))
+      λ values c. slice_get a.program.code c.0 >>= λ n. deed_by a t q n (terms_evaluation a.program values (code_terms n))
       in
       let here : SameFault (deed a s r) (at r.values r.code) =
       same-bind (slice_get a.program.code r.code.0) _ _ (λ n.
-      deed_by-same n (values_of_terms a.program r.values (code_terms n)))
+      deed_by-same n (terms_evaluation a.program r.values (code_terms n)))
       in
       let there : at r.values r.code ≡ at q.values q.code =
       ap (λ (values : List (VarId × Value)). at values r.code) (sym alike.values)

@@ -20,18 +20,20 @@ use Rattle.nomos_types.specs.Arguments as passes
 use Rattle.nomos_types.specs.Judgement.{Judgement, ListType}
 use Rattle.nomos_types.proofs.ArgumentsLaws.{passes-values_left}
 use Rattle.nomos_machine.specs.Deeds.{hands_over_all, hands_over_lists}
-use Rattle.nomos_machine.specs.Given.{Given, values_of_terms, give_values, give_names, given}
+use Rattle.nomos_ir.specs.TermsEvaluation.{terms_evaluation}
+use Rattle.nomos_machine.specs.Given.{Given, give_values, give_names, given}
 use Rattle.nomos_machine.specs.Matching.{NameHasType, IsListOf, Matches}
 use Rattle.nomos_machine.specs.Objects.{potential_of}
 use Rattle.nomos_machine.specs.Optional.{◌>>=◌}
 use Rattle.nomos_machine.specs.Sight.{is_shared_name}
+use Rattle.nomos_machine.specs.Starting.{GivenFits}
 use Rattle.nomos_machine.specs.State.{State}
 use Rattle.nomos_machine.specs.TypedState.{IsTyped}
 use Rattle.nomos_machine.specs.declared.object.Object.TheVariants as object
 use Rattle.nomos_machine.specs.declared.object.PotentialList.{PotentialList}
 use Rattle.nomos_machine.specs.declared.object.Process.{Process}
 use Rattle.nomos_machine.proofs.ArgumentLaws.{ValuesGiven, NamesGiven, values-given, names-given}
-use Rattle.nomos_machine.proofs.BeginLaws.{GivenFits, carries}
+use Rattle.nomos_machine.proofs.BeginLaws.{carries}
 use Rattle.nomos_machine.proofs.GoesLaws.{process-typed, process-variables, own-is_judgement, value-has_kind}
 use Rattle.nomos_machine.proofs.MatchLaws.{HoldsChannels}
 use Rattle.nomos_machine.proofs.ProcessLaws.{own_judgement}
@@ -109,7 +111,7 @@ module _ {a : Acceptance} (accepted : IsAccepted a) {s : State} (typed : IsTyped
 
   pub arguments-given : (d : ProcDecl) (args : Args) (vs : List Value) (left : Judgement)
       → ArgumentsFit a.program a.annotations own d args left
-      → values_of_terms a.program p.values (flat_map arg_terms args.values) ≡ Ok vs → Handed d args vs left
+      → terms_evaluation a.program p.values (flat_map arg_terms args.values) ≡ Ok vs → Handed d args vs left
   arguments-given d args vs left fit values =
       let t = process-typed typed there in
       let variables = process-variables typed there in

@@ -37,7 +37,7 @@ use Rattle.nomos_types.proofs.OccurrenceLaws.{count-elsewhere}
 use Rattle.nomos_types.proofs.RowLaws.{row-inverted}
 use Rattle.nomos_machine.specs.Change.{Change}
 use Rattle.nomos_machine.specs.Deeds.{does, sends, where_it_has, hands_over, unless_shared}
-use Rattle.nomos_machine.specs.Given.{with_others}
+use Rattle.nomos_ir.specs.TermsEvaluation.{before_others}
 use Rattle.nomos_machine.specs.Matching.{NameHasType}
 use Rattle.nomos_machine.specs.Objects.{carried, potential_of, free_purse}
 use Rattle.nomos_machine.specs.Revised.{poorer, without_channel}
@@ -182,7 +182,7 @@ module _ {a : Acceptance} (accepted : IsAccepted a) {s : State} (typed : IsTyped
       n = code.Put at c e next
 
       come : (r : Evaluation) → term_evaluation a.program p.values e ≡ r
-          → Goes a s true (deed_by a s p n (with_others r (Ok [])))
+          → Goes a s true (deed_by a s p n (before_others r (Ok [])))
       come (faults f) is = faulty f
       come (ends x m) is =
           let (after, row) = own-row typed there accepted in

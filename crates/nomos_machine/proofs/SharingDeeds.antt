@@ -29,7 +29,7 @@ use Rattle.nomos_types.proofs.RowLaws.{row-inverted}
 use Rattle.nomos_types.proofs.SynchronizingLaws.{synchronizing-down}
 use Rattle.nomos_machine.specs.Change.{Change, made}
 use Rattle.nomos_machine.specs.Deeds.{with_other, does}
-use Rattle.nomos_machine.specs.Given.{values_of_terms}
+use Rattle.nomos_ir.specs.TermsEvaluation.{terms_evaluation}
 use Rattle.nomos_machine.specs.Matching.{NameHasType}
 use Rattle.nomos_machine.specs.Optional.{◌>>=◌}
 use Rattle.nomos_machine.specs.Readiness.{is_met_at}
@@ -62,7 +62,7 @@ module _ {a : Acceptance} (accepted : IsAccepted a) {s : State} (typed : IsTyped
 
   -- what the process does at an instruction
   abbrev GoesAt : CodeNode → Type 0
-  GoesAt n = Goes a s (is_met_at a s p n) (deed_by a s p n (values_of_terms a.program p.values (code_terms n)))
+  GoesAt n = Goes a s (is_met_at a s p n) (deed_by a s p n (terms_evaluation a.program p.values (code_terms n)))
 
   pub accept-goes : (at : ℕ) (next : CodeId) → At (code.Accept at next) → GoesAt (code.Accept at next)
   accept-goes at next stands = waits

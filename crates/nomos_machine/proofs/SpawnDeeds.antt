@@ -15,7 +15,8 @@ use Rattle.nomos_types.specs.Judgement.{Judgement}
 use Rattle.nomos_types.proofs.RowLaws.{row-inverted}
 use Rattle.nomos_machine.specs.Change.{Change}
 use Rattle.nomos_machine.specs.Deeds.{Deed, changes, alone, does, where_it_has, spawns, calls}
-use Rattle.nomos_machine.specs.Given.{Given, TermValues, values_of_terms, given}
+use Rattle.nomos_ir.specs.TermsEvaluation.{TermsResult, terms_evaluation}
+use Rattle.nomos_machine.specs.Given.{Given, given}
 use Rattle.nomos_machine.specs.Optional.{◌>>=◌}
 use Rattle.nomos_machine.specs.Revised.{standing_at, with_channel, poorer}
 use Rattle.nomos_machine.specs.State.{State}
@@ -56,12 +57,12 @@ module _ {a : Acceptance} (accepted : IsAccepted a) {s : State} (typed : IsTyped
   pub spawn-goes : (at : ℕ) (v : VarId) (f : ProcId) (args : Args) (next : CodeId)
       → slice_get a.program.code p.code.0 ≡ Some (code.Spawn at v f args next)
       → GoesAt accepted typed there (code.Spawn at v f args next)
-  spawn-goes at v f args next stands = come (values_of_terms a.program p.values (code_terms n)) refl
+  spawn-goes at v f args next stands = come (terms_evaluation a.program p.values (code_terms n)) refl
     where
       n : CodeNode
       n = code.Spawn at v f args next
 
-      come : (r : TermValues) → values_of_terms a.program p.values (code_terms n) ≡ r
+      come : (r : TermsResult) → terms_evaluation a.program p.values (code_terms n) ≡ r
           → Goes a s true (deed_by a s p n r)
       come (Err e) is = faulty e
       come (Ok vs) is =
@@ -89,12 +90,12 @@ module _ {a : Acceptance} (accepted : IsAccepted a) {s : State} (typed : IsTyped
 
   pub call-goes : (at : ℕ) (f : ProcId) (args : Args) → slice_get a.program.code p.code.0 ≡ Some (code.Call at f args)
       → GoesAt accepted typed there (code.Call at f args)
-  call-goes at f args stands = come (values_of_terms a.program p.values (code_terms n)) refl
+  call-goes at f args stands = come (terms_evaluation a.program p.values (code_terms n)) refl
     where
       n : CodeNode
       n = code.Call at f args
 
-      come : (r : TermValues) → values_of_terms a.program p.values (code_terms n) ≡ r
+      come : (r : TermsResult) → terms_evaluation a.program p.values (code_terms n) ≡ r
           → Goes a s true (deed_by a s p n r)
       come (Err e) is = faulty e
       come (Ok vs) is =

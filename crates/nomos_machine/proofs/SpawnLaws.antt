@@ -32,12 +32,13 @@ use Rattle.nomos_machine.specs.Given.{begins}
 use Rattle.nomos_machine.specs.Matching.{NameHasType, Matches, HasBase, ProcessTyped}
 use Rattle.nomos_machine.specs.Objects.{used, potential_of, free_purse}
 use Rattle.nomos_machine.specs.Revised.{standing_at, with_channel, poorer}
+use Rattle.nomos_machine.specs.Starting.{GivenFits}
 use Rattle.nomos_machine.specs.State.{State, NameTypes, type_of}
 use Rattle.nomos_machine.specs.TypedState.{VariablesDiffer, HasVariables, ObjectTyped, LeadsToBase, IsTyped}
 use Rattle.nomos_machine.specs.declared.object.Object.{Object}
 use Rattle.nomos_machine.specs.declared.object.Object.TheVariants as object
 use Rattle.nomos_machine.specs.declared.object.Process.{Process}
-use Rattle.nomos_machine.proofs.BeginLaws.{GivenFits, carries, given-kept, begins-start, begins-purse, begins-typed, begins-variables, begun-uses}
+use Rattle.nomos_machine.proofs.BeginLaws.{carries, given-kept, begins-start, begins-purse, begins-typed, begins-variables, begun-uses}
 use Rattle.nomos_machine.proofs.BirthLaws.{birth, uses_at, IsBirth, next-unshown}
 use Rattle.nomos_machine.proofs.GasLaws.{KeepsGas}
 use Rattle.nomos_machine.proofs.GoesLaws.{process-typed, process-variables, own-is_judgement, next-is_judgement}

@@ -1,8 +1,7 @@
 -- Starts, accounts and deposits leave a typed state typed, and nothing but a deposit and a new account brings gas.
-use Rattle.std.proofs.Common.{◌≡◌, ◌≢◌, ◌⊎◌, ◌∙◌, ◌≤◌, ◌<◌, inl, inr, ℕ, ◌+◌, true, false, List, [], ◌∷◌, ◌++◌, map, length, All, Some, slice_get, refl, sym, subst, ap, arith, append-nil, length-append, ne_eqb}
+use Rattle.std.proofs.Common.{◌≡◌, ◌≢◌, ◌⊎◌, ◌∙◌, ◌≤◌, ◌<◌, inl, inr, ℕ, ◌+◌, true, false, List, [], ◌∷◌, ◌++◌, map, length, Option, Some, slice_get, refl, sym, subst, ap, arith, append-nil, length-append, ne_eqb}
 use Rattle.std.proofs.lemmas.Bool.{cases_eq}
 use Rattle.std.proofs.lemmas.List.Elements.{All-nil, All-cons, All-contains, All-weaker, Contains-append_left}
-use Rattle.std.specs.Prelude.{slice_index}
 use Rattle.std.specs.List.Sorted.{IsStrictlySortedBy}
 use Rattle.std.specs.Ordering.{nat_cmp}
 use Rattle.nomos_ir.specs.Order.{count_of}
@@ -23,15 +22,16 @@ use Rattle.nomos_machine.specs.Change.{changed, paid_in, made}
 use Rattle.nomos_machine.specs.Given.{Given, begins}
 use Rattle.nomos_machine.specs.Matching.{NameHasType}
 use Rattle.nomos_machine.specs.Objects.{object_number, used}
+use Rattle.nomos_machine.specs.Optional.{◌>>=◌}
 use Rattle.nomos_machine.specs.Outside.{opens_talk}
 use Rattle.nomos_machine.specs.Sight.{is_shared_name}
-use Rattle.nomos_machine.specs.Starting.{opened, credited, cleared, starts, started}
+use Rattle.nomos_machine.specs.Starting.{GivenFits, CanStart, CanStartWith, opened, credited, cleared, starts, started, value_bindings, channel_bindings, started_with}
 use Rattle.nomos_machine.specs.State.{State, NameTypes, empty, gas_of}
 use Rattle.nomos_machine.specs.TypedState.{HasVariables, IsOwned, ObjectTyped, IsTyped, IsContractName}
 use Rattle.nomos_machine.specs.declared.object.Object.{Object}
 use Rattle.nomos_machine.specs.declared.object.Object.TheVariants as object
 use Rattle.nomos_machine.specs.declared.object.Process.{Process}
-use Rattle.nomos_machine.proofs.BeginLaws.{GivenFits, given-kept, begins-start, begins-typed, begins-variables, begun-uses}
+use Rattle.nomos_machine.proofs.BeginLaws.{given-kept, begins-start, begins-typed, begins-variables, begun-uses}
 use Rattle.nomos_machine.proofs.BirthLaws.{uses_at, IsBirth, birth-fits, shared-shown, next-unshown}
 use Rattle.nomos_machine.proofs.ChangeLaws.{done}
 use Rattle.nomos_machine.proofs.FitLaws.{Fits, changed-typed}
@@ -39,15 +39,6 @@ use Rattle.nomos_machine.proofs.GasLaws.{KeepsGas, paid_in-length, gas-changed}
 use Rattle.nomos_machine.proofs.OwnedLaws.{next-not_outside}
 use Rattle.nomos_machine.proofs.PlacedLaws.{leads-more}
 use Rattle.nomos_machine.proofs.NameLaws.{type_of-added, type_of-kept}
-
--- A line of a script can start a process: its values and channels fit the parameters, of which none is a list; the
--- channels are contracts; and the payer's account has the declared potential.
-pub record CanStart (a : Acceptance) (s : State) (d : ProcDecl) (values : List (VarId × Value))
-    (channels : List (VarId × ℕ)) (payer : ℕ) : Type 0 where
-  pub fits : GivenFits a s.types d (record { values = values; lists = []; channels = channels })
-  pub contracts : All (λ e. IsContractName a s e.1) channels
-  pub account : payer < length s.balances
-  pub has : dths a.annotations d.amount ≤ slice_index s.balances payer
 
 -- a process at mode S or T has no base, and its name no user
 line-not_l : (m : Mode) → (m ≡ mode.S) ⊎ (m ≡ mode.T) → m ≢ mode.L
@@ -192,6 +183,27 @@ module _ {a : Acceptance} (accepted : IsAccepted a) {s : State} (typed : IsTyped
 
   pub gas-started : gas_of (started a s d values channels payer) ≡ gas_of s
   gas-started = gas-changed s (starts a s d values channels payer) [] (done s.objects) starts-keeps_gas
+
+-- ---- starts by number
+
+module _ {a : Acceptance} {s : State} {number : ℕ} {values : List Value} {names : List ℕ} {payer : ℕ}
+    (can : CanStartWith a s number values names payer) where
+  -- the state after a start that can be made
+  abbrev pub after_start : State
+  after_start =
+      started a s can.declaration (value_bindings can.declaration values) (channel_bindings can.declaration names) payer
+
+  pub starts-with : started_with a s number values names payer ≡ Some after_start
+  starts-with =
+      ap (λ (o : Option ProcDecl). o >>= λ d.
+      Some (started a s d (value_bindings d values) (channel_bindings d names) payer)) can.declared
+
+  -- it is typed, and has the gas that there was
+  pub started_with-typed : IsAccepted a → IsTyped a s → IsTyped a after_start
+  started_with-typed accepted typed = started-typed accepted typed number can.declared can.can can.its_mode
+
+  pub gas-started_with : IsAccepted a → IsTyped a s → gas_of after_start ≡ gas_of s
+  gas-started_with accepted typed = gas-started accepted typed number can.declared can.can
 
 -- ---- accounts, deposits and results
 

@@ -1,8 +1,8 @@
 -- What a process does where it stands: some kinds of change, and one equation for each instruction.
-use Rattle.std.specs.Prelude.{ℕ, ◌+◌, nat_le, not, Bool, true, false, List, [], ◌∷◌, ◌++◌, map, find, Option, Some, None, slice_get, if◌then◌else◌, ◌==◌}
+use Rattle.std.specs.Prelude.{ℕ, ◌+◌, nat_le, not, Bool, true, List, [], ◌∷◌, ◌++◌, map, find, Option, Some, None, slice_get, if◌then◌else◌, ◌==◌}
 use Rattle.std.specs.Option.{option_map, option_to_list}
 use Rattle.nomos_ir.specs.Bindings.{bound_to}
-use Rattle.nomos_ir.specs.Value.{Value, int, truth, list, value_list}
+use Rattle.nomos_ir.specs.Value.{Value, truth_in, value_list}
 use Rattle.nomos_ir.specs.Weight.{list_weight, max_weight}
 use Rattle.nomos_ir.specs.declared.code_node.Args.{Args}
 use Rattle.nomos_ir.specs.declared.code_node.Arm.{Arm}
@@ -73,12 +73,6 @@ arm_for arms l = option_map (λ arm. arm.goes) (find (λ arm. arm.label.0 == l.0
 abbrev pub one_of : List Value → Option Value
 one_of (x ∷ []) = Some x
 one_of _ = None
-
--- what a test says; of values of other kinds, which none has, nothing is asked
-abbrev pub truth_in : Value → Bool
-truth_in (truth b) = b
-truth_in (int z) = false
-truth_in (list vs) = false
 
 abbrev pub empty_list : ℕ → PotentialList
 empty_list amount = record { amount = amount; items = [] }

@@ -1,35 +1,18 @@
--- What terms come to; what a declaration is given; a process at its start.
-use Rattle.std.specs.Prelude.{ℕ, ◌+◌, pos, List, [], ◌∷◌, ◌++◌, Option, Some, None, Result, Ok, Err}
+-- What a declaration is given, and a process at its start.
+use Rattle.std.specs.Prelude.{ℕ, ◌+◌, pos, List, [], ◌∷◌, ◌++◌, Option, Some, None}
 use Rattle.nomos_ir.specs.Bindings.{bound_to, bindings_of}
-use Rattle.nomos_ir.specs.Evaluation.{Environment, Evaluation, ends, faults, term_evaluation}
 use Rattle.nomos_ir.specs.Value.{Value, int}
 use Rattle.nomos_ir.specs.declared.code_node.Args.{Args}
 use Rattle.nomos_ir.specs.declared.code_node.ValueArg.{ValueArg}
 use Rattle.nomos_ir.specs.declared.code_node.ValueArg.TheVariants as arg
 use Rattle.nomos_ir.specs.declared.declaration.Par.{Par}
 use Rattle.nomos_ir.specs.declared.declaration.ProcDecl.{ProcDecl}
-use Rattle.nomos_ir.specs.declared.fault.Fault.{Fault}
 use Rattle.nomos_ir.specs.declared.ids.TypeId.{TypeId}
 use Rattle.nomos_ir.specs.declared.ids.VarId.{VarId}
-use Rattle.nomos_ir.specs.declared.lists.ProgramLists.{ProgramLists}
 use Rattle.nomos_machine.specs.Optional.{◌>>=◌}
 use Rattle.nomos_machine.specs.Objects.{potential_of}
 use Rattle.nomos_machine.specs.declared.object.PotentialList.{PotentialList}
 use Rattle.nomos_machine.specs.declared.object.Process.{Process}
-
--- What an instruction's terms come to: their values in order, or the fault of the first that has one.
-abbrev pub TermValues : Type 0
-TermValues = Result (List Value) Fault
-
-abbrev pub with_others : Evaluation → TermValues → TermValues
-with_others (ends v n) (Ok vs) = Ok (v ∷ vs)
-with_others (ends v n) (Err f) = Err f
-with_others (faults f) others = Err f
-
-abbrev pub values_of_terms : ProgramLists → Environment → List ℕ → TermValues
-values_of_terms lists env [] = Ok []
-values_of_terms lists env (t ∷ ts) = with_others (term_evaluation lists env (record { 0 = t }))
-    (values_of_terms lists env ts)
 
 -- What a declaration is given: for each of its parameters a value, a list, or the name of a channel, each in the order
 -- of the parameters.

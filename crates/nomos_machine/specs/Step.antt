@@ -7,12 +7,12 @@ use Rattle.nomos_types.specs.Acceptance.{Acceptance}
 use Rattle.nomos_machine.specs.Optional.{◌>>=◌}
 use Rattle.nomos_machine.specs.Change.{changed}
 use Rattle.nomos_machine.specs.Deeds.{Deed, changes, has_fault, deed_at}
-use Rattle.nomos_machine.specs.Given.{TermValues, values_of_terms}
+use Rattle.nomos_ir.specs.TermsEvaluation.{TermsResult, terms_evaluation}
 use Rattle.nomos_machine.specs.State.{State, process_at}
 use Rattle.nomos_machine.specs.declared.object.Process.{Process}
 
 -- What a process does at an instruction whose terms come to this. So a term's fault comes before all else.
-abbrev pub deed_by : Acceptance → State → Process → CodeNode → TermValues → Option Deed
+abbrev pub deed_by : Acceptance → State → Process → CodeNode → TermsResult → Option Deed
 deed_by a s p n (Ok vs) = deed_at a s p vs n
 deed_by a s p n (Err f) = Some (has_fault f)
 
@@ -20,7 +20,7 @@ deed_by a s p n (Err f) = Some (has_fault f)
 abbrev pub deed : Acceptance → State → Process → Option Deed
 deed a s p = do
   n ← slice_get a.program.code p.code.0
-  deed_by a s p n (values_of_terms a.program p.values (code_terms n))
+  deed_by a s p n (terms_evaluation a.program p.values (code_terms n))
 
 abbrev pub deed_of : Acceptance → State → ℕ → Option Deed
 deed_of a s pid = process_at s pid >>= deed a s

@@ -56,6 +56,7 @@ impl Accepted {
     pub fn program(&self) -> &Program
         ensures program { result.now ≡ self.now.program }
         ensures typed { IsTypedProgram self.now.program self.now.annotations }
+        ensures accepted { IsAccepted self.now }
     {
         &self.program
     }

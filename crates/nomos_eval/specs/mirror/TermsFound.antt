@@ -7,7 +7,7 @@ use Rattle.nomos_ir.specs.declared.fault.Fault.{Fault}
 use Rattle.nomos_ir.specs.declared.or_no_memory.OrNoMemory.{OrNoMemory}
 use Rattle.nomos_ir.specs.declared.or_no_memory.OrNoMemory.TheVariants as stop
 use Rattle.nomos_ir.specs.declared.value_node.ValueNode.{ValueNode}
-use Rattle.nomos_eval.specs.TermsEvaluation.{TermsResult}
+use Rattle.nomos_ir.specs.TermsEvaluation.{TermsResult}
 
 -- what was found of a term
 abbrev pub IsValue : Result ValueNode (OrNoMemory Fault) → Evaluation → Type 0

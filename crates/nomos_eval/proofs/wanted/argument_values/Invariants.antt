@@ -3,7 +3,7 @@ use Rattle.std.proofs.Common.{◌≡◌, map, drop}
 use Rattle.std.specs.List.{flat_map}
 use Rattle.nomos_ir.specs.CodeParts.{arg_terms}
 use Rattle.nomos_ir.specs.ValueNode.{value_of}
-use Rattle.nomos_eval.specs.TermsEvaluation.{terms_evaluation}
+use Rattle.nomos_ir.specs.TermsEvaluation.{terms_evaluation}
 use Rattle.nomos_eval.specs.mirror.TermsFound.{after_first}
 use Rattle.nomos_eval.proofs.wanted.argument_values.Given as goal
 

@@ -6,8 +6,6 @@ use Rattle.nomos_ir.specs.Value.{Value}
 use Rattle.nomos_ir.specs.declared.code_node.CodeNode.{CodeNode}
 use Rattle.nomos_ir.specs.declared.fault.Fault.{Fault}
 use Rattle.nomos_ir.specs.declared.lists.ProgramLists.{ProgramLists}
-use Rattle.nomos_eval.specs.declared.wanted.Outcome.{Outcome}
-use Rattle.nomos_eval.specs.declared.wanted.Outcome.TheVariants as outcome
 
 -- the values of terms in order, or the fault of the first that has one
 abbrev pub TermsResult : Type 0
@@ -32,8 +30,3 @@ terms_of None = []
 -- what the terms of the instruction with this number come to
 abbrev pub instruction_evaluation : ProgramLists → Environment → ℕ → TermsResult
 instruction_evaluation lists env c = terms_evaluation lists env (terms_of (slice_get lists.code c))
-
--- what an outcome says
-abbrev pub outcome_of : Outcome → TermsResult
-outcome_of (outcome.Values vs) = Ok vs
-outcome_of (outcome.Fault f) = Err f
