@@ -2,3 +2,8 @@ mod SightLemmas
 mod ReceivingLemmas
 mod SharingLemmas
 mod DeedLemmas
+mod DecisionLemmas
+pub mod FireLaws
+pub mod LowestLaws
+pub mod LinearNameLaws
+pub mod KeeperLaws

@@ -1,5 +1,5 @@
 -- What an `acquire` and a `release` come to where the other process stands as it must.
-use Rattle.std.proofs.Common.{◌≡◌, ◌∙◌, ℕ, List, Option, Some, None, refl, sym, ap, slice_get, option_and_then}
+use Rattle.std.proofs.Common.{◌≡◌, ◌∙◌, ◌==◌, ℕ, Bool, true, false, eqb-true, List, Option, Some, None, refl, sym, ap, slice_get, option_and_then}
 use Rattle.std.specs.Option.{option_map}
 use Rattle.nomos_ir.specs.Bindings.{bound_to}
 use Rattle.nomos_ir.specs.Value.{Value}
@@ -18,6 +18,7 @@ use Rattle.nomos_machine.specs.State.{State, process_at, node_of}
 use Rattle.nomos_machine.specs.declared.object.Object.TheVariants as object
 use Rattle.nomos_machine.specs.declared.object.Process.{Process}
 use Rattle.nomos_machine.proofs.PutLaws.{InOrder, object_at-own}
+use Rattle.nomos_machine.proofs.PreservationLaws.{process_at-there}
 use Rattle.nomos_machine.proofs.SectionLaws.{offering-found}
 use Rattle.nomos_deeds.specs.Acts.{act_change}
 use Rattle.nomos_deeds.specs.Seen.{seen_process}
@@ -61,22 +62,56 @@ module _ (a : Acceptance) (s : State) (p : Process) (vs : List Value) (at : ℕ)
   other-node : (other : Process) → seen ≡ seen_process other → slice_get a.program.code other.code.0 ≡ Some n
   other-node other is = ap (λ (q : SeenProcess). slice_get a.program.code q.code.0) (sym is) ∙ stands
 
-  pub acquired : (r v : VarId) (head : TypeNode) (goes : TypeId) → bound_to r.0 p.channels ≡ Some name
+  -- it is another process than the one that stands where it waits for that
+  module _ (pid : ℕ) (there : process_at s pid ≡ Some p) (own : CodeNode)
+      (own_stands : slice_get a.program.code p.code.0 ≡ Some own) where
+    apart : (turns : CodeNode → Option CodeId) → turns own ≡ None → turns n ≡ Some onward → (seen.pid == p.pid) ≡ false
+    apart turns own_waits turned = known (seen.pid == p.pid) refl
+      where
+        one-process : (q : Process) → Some q ≡ Some p → q ≡ p
+        one-process q e = cc
+
+        one-node : Some n ≡ Some own → n ≡ own
+        one-node e = cc
+
+        never : Some onward ≡ None → ⊥
+        never e = cc
+
+        known : (b : Bool) → (seen.pid == p.pid) ≡ b → b ≡ false
+        known false told = refl
+        known true told =
+            let is = other-seen s name seen order sees in
+            let same : seen.pid ≡ p.pid = eqb-true seen.pid p.pid told in
+            let number = (process_at-there s pid p there).1 in
+            let one : is.other ≡ p = one-process is.other (sym is.stands ∙ ap (process_at s) (same ∙ number) ∙ there) in
+            let node : n ≡ own =
+            one-node (sym (other-node is.other is.is) ∙ ap (λ (q : Process). slice_get a.program.code q.code.0) one ∙ own_stands) in
+            absurd (never (sym turned ∙ ap turns node ∙ own_waits))
+
+  pub acquired : (pid : ℕ) (r v : VarId) (head : TypeNode) (goes : TypeId) → process_at s pid ≡ Some p
+      → slice_get a.program.code p.code.0 ≡ Some (code.Acquire at r v next) → bound_to r.0 p.channels ≡ Some name
       → accept_next n ≡ Some onward → node_of a.program s.types name ≡ Some head → after_acquire head ≡ Some goes
       → option_map changes (act_change a s p vs (act.Acquire v name seen.pid onward goes next))
       ≡ deed_at a s p vs (code.Acquire at r v next)
-  acquired r v head goes bound accepts unfolds after =
+  acquired pid r v head goes there own bound accepts unfolds after =
       let is = other-seen s name seen order sees in
       let type : (node_of a.program s.types name >>= after_acquire) ≡ Some goes =
       bind-some (node_of a.program s.types name) after_acquire head unfolds ∙ after
       in
-      rw (bound, is.offers, other-node is.other is.is, accepts, type, is.stands) refl
+      let others : (is.other.pid == p.pid) ≡ false =
+      ap (λ (q : SeenProcess). q.pid == p.pid) (sym is.is)
+      ∙ apart pid there (code.Acquire at r v next) own accept_next refl accepts in
+      rw (bound, is.offers, other-node is.other is.is, accepts, type, is.stands, others) refl
 
-  pub released : (v r : VarId) (base : ℕ) → bound_to v.0 p.channels ≡ Some name → detach_next n ≡ Some onward
+  pub released : (pid : ℕ) (v r : VarId) (base : ℕ) → process_at s pid ≡ Some p
+      → slice_get a.program.code p.code.0 ≡ Some (code.Release at v r next) → bound_to v.0 p.channels ≡ Some name → detach_next n ≡ Some onward
       → seen.base ≡ Some base
       → option_map changes (act_change a s p vs (act.Release v r base seen.pid onward next))
       ≡ deed_at a s p vs (code.Release at v r next)
-  released v r base bound detaches its_base =
+  released pid v r base there own bound detaches its_base =
       let is = other-seen s name seen order sees in
       let other_base : is.other.base ≡ Some base = ap (λ (q : SeenProcess). q.base) (sym is.is) ∙ its_base in
-      rw (bound, is.offers, other-node is.other is.is, detaches, other_base, is.stands) refl
+      let others : (is.other.pid == p.pid) ≡ false =
+      ap (λ (q : SeenProcess). q.pid == p.pid) (sym is.is)
+      ∙ apart pid there (code.Release at v r next) own detach_next refl detaches in
+      rw (bound, is.offers, other-node is.other is.is, detaches, other_base, is.stands, others) refl

@@ -1,5 +1,5 @@
 -- The change that an act stands for, in the words of the machine's table.
-use Rattle.std.specs.Prelude.{◌≡◌, ℕ, Bool, false, not, List, [], ◌∷◌, Option, Some, None, slice_get}
+use Rattle.std.specs.Prelude.{◌≡◌, ℕ, ◌==◌, Bool, false, not, List, [], ◌∷◌, Option, Some, None, slice_get, if◌then◌else◌}
 use Rattle.std.specs.Option.{option_map}
 use Rattle.nomos_ir.specs.Bindings.{bound_to}
 use Rattle.nomos_ir.specs.Value.{Value}
@@ -52,6 +52,10 @@ taken into.Nothing brought q = Some q
 taken (into.Channel v) brought q = channel_in brought >>= λ name. Some (with_channel v name q)
 taken (into.Value v) brought q = value_in brought >>= λ x. Some (with_value v x q)
 
+-- a process of another number
+abbrev pub another : Process → Process → Option Process
+another p q = if q.pid == p.pid then None else Some q
+
 -- Of a process p in a state s, at an instruction whose terms have these values.
 module _ (a : Acceptance) (s : State) (p : Process) (vs : List Value) where
   -- a send on a channel that goes on at a type, where it has one
@@ -82,14 +86,14 @@ module _ (a : Acceptance) (s : State) (p : Process) (vs : List Value) where
       message_at s.objects number >>= λ m. received_change m c where_to next
   act_change (act.Wait v number next) =
       message_at s.objects number >>= λ m. Some (takes a s p m (standing_at next (without_channel v p)))
-  act_change (act.Acquire v shared other onward goes next) = process_at s other >>= λ q.
+  act_change (act.Acquire v shared other onward goes next) = process_at s other >>= another p >>= λ q.
       Some (record (with_other a s p (standing_at next (with_channel v s.next_name p)) (record q {
         mode = mode.L;
         code = onward;
         offers = s.next_name;
         base = Some shared;
       })) { next_type = Some goes })
-  act_change (act.Release v r shared other onward next) = process_at s other >>= λ q.
+  act_change (act.Release v r shared other onward next) = process_at s other >>= another p >>= λ q.
       Some (with_other a s p (standing_at next (with_channel r shared (without_channel v p))) (record q {
         mode = mode.S;
         code = onward;

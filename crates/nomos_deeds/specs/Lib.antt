@@ -1,2 +1,7 @@
-pub mod Seen
+pub mod Acting
 pub mod Acts
+pub mod Decisions
+pub mod Firings
+pub mod Lowest
+pub mod Readers
+pub mod Seen

@@ -1,6 +1,7 @@
 //! Instructions at which a process waits for nobody and sends nothing.
 ghost use Rattle.std.specs.Prelude.{◌≡◌, ℕ, map, Some, slice_get, option_copied};
 ghost use Rattle.std.specs.Option.{option_map};
+ghost use Rattle.nomos_ir.specs.Value.{truth_in};
 ghost use Rattle.nomos_ir.specs.ValueNode.{value_of};
 ghost use Rattle.nomos_ir.specs.declared.code_node.Args.{Args};
 ghost use Rattle.nomos_ir.specs.declared.code_node.CodeNode.TheVariants as code;
@@ -8,7 +9,8 @@ ghost use Rattle.nomos_ir.specs.declared.ids.TermId.{TermId};
 ghost use Rattle.nomos_ir.specs.declared.kind.Kind.{Kind};
 ghost use Rattle.nomos_types.specs.Acceptance.{IsAmountOf};
 ghost use Rattle.nomos_types.specs.Amount.{dths};
-ghost use Rattle.nomos_machine.specs.Deeds.{one_of, truth_in};
+ghost use Rattle.nomos_machine.specs.Deeds.{one_of};
+ghost use Rattle.nomos_deeds.specs.Acting.{IsFrugalDoing};
 ghost use Rattle.nomos_deeds.specs.Acts.{Decides, DecidesWith};
 
 use crate::act::{Act, Doing};
@@ -58,7 +60,8 @@ pub(crate) fn work_at<S: Sight>(
     next: CodeId,
 ) -> Option<Doing>
     requires { IsAmountOf accepted.now.program amount }
-    ensures { (at : ℕ) → Decides accepted.now (S.state sight.now) pid (code.Work at amount next) result }
+    ensures decides { (at : ℕ) → Decides accepted.now (S.state sight.now) pid (code.Work at amount next) result }
+    ensures frugal { IsFrugalDoing result }
 {
     let gas = accepted.amount(amount);
     if !sight.affords(pid, gas) {
@@ -114,8 +117,9 @@ pub(crate) fn if_at<S: Sight>(
     values: &Values,
     goes: (CodeId, CodeId),
 ) -> Option<Doing>
-    ensures { (at : ℕ) (e : TermId)
+    ensures decides { (at : ℕ) (e : TermId)
         → DecidesWith accepted.now (S.state sight.now) pid values.now (code.If at e goes.0 goes.1) result }
+    ensures frugal { IsFrugalDoing result }
 {
     let next = if truth_in(one_of(values)?) {
         goes.0
@@ -132,7 +136,8 @@ pub(crate) fn fwd_at<S: Sight>(
     pid: u32,
     variable: VarId,
 ) -> Option<Doing>
-    ensures { (at : ℕ) → Decides accepted.now (S.state sight.now) pid (code.Fwd at variable) result }
+    ensures decides { (at : ℕ) → Decides accepted.now (S.state sight.now) pid (code.Fwd at variable) result }
+    ensures frugal { IsFrugalDoing result }
 {
     let name = sight.channel(pid, variable)?;
     Some(Doing::Acts(Act::Forward { name }))

@@ -7,24 +7,17 @@ ghost use Rattle.nomos_machine.specs.Deeds.{arm_for};
 
 use nomos_ir::code_node::{Arm, CodeNode};
 use nomos_ir::declaration::ProcDecl;
+use nomos_ir::find::find_code;
 use nomos_ir::ids::{CodeId, Label, ProcId};
-use nomos_ir::lists::ProgramLists;
 use nomos_types::accepted::Accepted;
 
-// The instruction of this number, if there is one.
-fn code_at(lists: &ProgramLists, c: CodeId) -> Option<&CodeNode>
-    ensures { option_copied result ≡ slice_get lists.now.code c.0 }
-{
-    lists.code.as_slice().get(c.0 as usize)
-}
-
 /// The instruction of this number, if there is one. Its amounts are of the program.
-pub(crate) fn find_code(accepted: &Accepted, c: CodeId) -> Option<&CodeNode>
+pub(crate) fn code_at(accepted: &Accepted, c: CodeId) -> Option<&CodeNode>
     ensures found { option_copied result ≡ slice_get accepted.now.program.code c.0 }
     ensures amounts { (n : Instruction) → option_copied result ≡ Some n
         → All (IsAmountOf accepted.now.program) (code_amounts n) }
 {
-    code_at(accepted.program().lists(), c)
+    find_code(accepted.program().lists(), c)
 }
 
 /// The declaration of this number, if there is one.

@@ -9,11 +9,12 @@ ghost use Rattle.nomos_machine.specs.Objects.{object_number};
 ghost use Rattle.nomos_machine.specs.Readiness.{is_met_at};
 ghost use Rattle.nomos_machine.specs.State.{process_at};
 ghost use Rattle.nomos_machine.specs.declared.object.Process.{Process};
+ghost use Rattle.nomos_deeds.specs.Acting.{IsFrugal, IsFrugalDoing, IsFrugalNode};
 ghost use Rattle.nomos_deeds.specs.Acts.{DecidesWith, doing_deed, looks_ready_at};
 
 use crate::act::{Act, Doing};
 use crate::alone::{add_at, call_at, empty_at, fwd_at, if_at, match_at, spawn_at, work_at};
-use crate::arms::find_code;
+use crate::arms::code_at;
 use crate::receiving::{case_at, get_at, is_read, recv_at, take_at, wait_at};
 use crate::sending::{label_at, pay_at, put_at, send_at};
 use crate::sharing::{acquire_at, is_accepting, is_detaching, release_at};
@@ -32,7 +33,8 @@ fn deed_at_node<S: Sight>(
 ) -> Option<Doing>
     requires ordered { IsStrictlySortedBy nat_cmp (map object_number (S.state sight.now).objects) }
     requires amounts { All (IsAmountOf accepted.now.program) (code_amounts node.now) }
-    ensures { DecidesWith accepted.now (S.state sight.now) pid values.now node.now result }
+    ensures decides { DecidesWith accepted.now (S.state sight.now) pid values.now node.now result }
+    ensures frugal { IsFrugalNode accepted.now.program node.now → IsFrugalDoing result }
 {
     match node {
         CodeNode::Label(_, c, l, next) => label_at(sight, accepted, pid, (*c, *l), *next),
@@ -71,13 +73,14 @@ fn deed_at_node<S: Sight>(
 /// memory.
 pub fn deed_of<S: Sight>(sight: &S, accepted: &Accepted, pid: u32, values: &Values) -> Option<Doing>
     requires { IsStrictlySortedBy nat_cmp (map object_number (S.state sight.now).objects) }
-    ensures { (p : Process) → process_at (S.state sight.now) pid ≡ Some p
+    ensures decides { (p : Process) → process_at (S.state sight.now) pid ≡ Some p
         → doing_deed accepted.now (S.state sight.now) p values.now result
         ≡ option_and_then (deed_at accepted.now (S.state sight.now) p values.now)
         (slice_get accepted.now.program.code p.code.0) }
+    ensures frugal { IsFrugal accepted.now (S.state sight.now) pid → IsFrugalDoing result }
 {
     let seen = sight.process(pid)?;
-    let node = find_code(accepted, seen.code)?;
+    let node = code_at(accepted, seen.code)?;
     deed_at_node(sight, accepted, pid, node, values)
 }
 
@@ -106,7 +109,7 @@ pub fn looks_ready<S: Sight>(sight: &S, accepted: &Accepted, pid: u32) -> bool
     ensures { result ≡ looks_ready_at accepted.now (S.state sight.now) pid }
 {
     match sight.process(pid) {
-        Some(seen) => match find_code(accepted, seen.code) {
+        Some(seen) => match code_at(accepted, seen.code) {
             Some(node) => is_met_at(sight, accepted, pid, node),
             None => false,
         },

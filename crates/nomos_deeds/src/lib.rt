@@ -2,11 +2,19 @@
 #![tactic(auto)]
 
 pub mod act;
+pub mod acting;
 mod alone;
 mod arms;
+mod decide;
 pub mod deeds;
+pub mod fire;
+mod firing;
+pub mod machine;
+mod outcomes;
 mod receiving;
 mod sending;
 mod sharing;
 pub mod sight;
-mod types;
+pub mod types;
+pub mod undo;
+mod variables;

@@ -14,6 +14,7 @@ ghost use Rattle.nomos_machine.specs.Sight.{is_own};
 ghost use Rattle.nomos_machine.specs.State.{State, process_at};
 ghost use Rattle.nomos_machine.specs.declared.object.Message.{Message};
 ghost use Rattle.nomos_machine.specs.declared.object.Process.{Process};
+ghost use Rattle.nomos_deeds.specs.Acting.{IsFrugalDoing, IsFrugalInto};
 ghost use Rattle.nomos_deeds.specs.Acts.{Decides, doing_deed, message_at, read_by, received_change};
 ghost use Rattle.nomos_deeds.specs.Seen.{seen_message, seen_label, seen_channel, brings_value, brings_potential};
 
@@ -83,10 +84,11 @@ fn after_potential(brings: SeenPayload, next: CodeId) -> Option<CodeId>
 
 // It takes the message in, and goes on; nothing, where it goes on nowhere or the talk under no name.
 fn receives(message: SeenMessage, channel: Chan, into: Into, next: Option<CodeId>) -> Option<Doing>
-    ensures { (a : Acceptance) (s : State) (p : Process) (vs : List Value) (m : Message) → message ≡ seen_message m
-        → message_at s.objects m.number ≡ Some m
+    ensures decides { (a : Acceptance) (s : State) (p : Process) (vs : List Value) (m : Message)
+        → message ≡ seen_message m → message_at s.objects m.number ≡ Some m
         → doing_deed a s p vs result
         ≡ option_map changes (option_and_then (received_change a s p vs m channel into) next) }
+    ensures frugal { IsFrugalInto into → IsFrugalDoing result }
 {
     let next = next?;
     let _name = message.next?;
@@ -101,7 +103,8 @@ fn receives(message: SeenMessage, channel: Chan, into: Into, next: Option<CodeId
 /// A `case`: the branch of the label that it receives.
 pub(crate) fn case_at<S: Sight>(sight: &S, pid: u32, channel: Chan, arms: &Arms) -> Option<Doing>
     requires { IsStrictlySortedBy nat_cmp (map object_number (S.state sight.now).objects) }
-    ensures { (a : Acceptance) (at : ℕ) → Decides a (S.state sight.now) pid (code.Case at channel arms.now) result }
+    ensures decides { (a : Acceptance) (at : ℕ) → Decides a (S.state sight.now) pid (code.Case at channel arms.now) result }
+    ensures frugal { IsFrugalDoing result }
 {
     let message = message_read(sight, pid, channel)?;
     let next = branch_for(message.brings, arms);
@@ -117,7 +120,8 @@ pub(crate) fn recv_at<S: Sight>(
     next: CodeId,
 ) -> Option<Doing>
     requires { IsStrictlySortedBy nat_cmp (map object_number (S.state sight.now).objects) }
-    ensures { (a : Acceptance) (at : ℕ) → Decides a (S.state sight.now) pid (code.Recv at channel variable next) result }
+    ensures decides { (a : Acceptance) (at : ℕ) → Decides a (S.state sight.now) pid (code.Recv at channel variable next) result }
+    ensures frugal { IsFrugalDoing result }
 {
     let message = message_read(sight, pid, channel)?;
     let next = after_channel(message.brings, next);
@@ -143,7 +147,8 @@ pub(crate) fn take_at<S: Sight>(
 /// A `get`: it has the message's purse.
 pub(crate) fn get_at<S: Sight>(sight: &S, pid: u32, channel: Chan, next: CodeId) -> Option<Doing>
     requires { IsStrictlySortedBy nat_cmp (map object_number (S.state sight.now).objects) }
-    ensures { (a : Acceptance) (at : ℕ) (r : Amount) → Decides a (S.state sight.now) pid (code.Get at channel r next) result }
+    ensures decides { (a : Acceptance) (at : ℕ) (r : Amount) → Decides a (S.state sight.now) pid (code.Get at channel r next) result }
+    ensures frugal { IsFrugalDoing result }
 {
     let message = message_read(sight, pid, channel)?;
     let next = after_potential(message.brings, next);
@@ -152,10 +157,11 @@ pub(crate) fn get_at<S: Sight>(sight: &S, pid: u32, channel: Chan, next: CodeId)
 
 // It hears of the end, and goes on; nothing, where the message brings something else.
 fn hears(message: SeenMessage, variable: VarId, next: CodeId) -> Option<Doing>
-    ensures { (a : Acceptance) (s : State) (p : Process) (vs : List Value) (m : Message) → message ≡ seen_message m
-        → message_at s.objects m.number ≡ Some m
+    ensures decides { (a : Acceptance) (s : State) (p : Process) (vs : List Value) (m : Message)
+        → message ≡ seen_message m → message_at s.objects m.number ≡ Some m
         → doing_deed a s p vs result ≡ option_map changes (option_and_then (λ over.
         Some (takes a s p m (standing_at next (without_channel variable p)))) (close_in m.payload)) }
+    ensures frugal { IsFrugalDoing result }
 {
     match message.brings {
         SeenPayload::Close => Some(Doing::Acts(Act::Wait {
@@ -170,7 +176,8 @@ fn hears(message: SeenMessage, variable: VarId, next: CodeId) -> Option<Doing>
 /// A `wait`: the channel of the variable is gone.
 pub(crate) fn wait_at<S: Sight>(sight: &S, pid: u32, variable: VarId, next: CodeId) -> Option<Doing>
     requires { IsStrictlySortedBy nat_cmp (map object_number (S.state sight.now).objects) }
-    ensures { (a : Acceptance) (at : ℕ) → Decides a (S.state sight.now) pid (code.Wait at variable next) result }
+    ensures decides { (a : Acceptance) (at : ℕ) → Decides a (S.state sight.now) pid (code.Wait at variable next) result }
+    ensures frugal { IsFrugalDoing result }
 {
     let message = message_read(sight, pid, Chan::Var(variable))?;
     hears(message, variable, next)

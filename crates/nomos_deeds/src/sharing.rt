@@ -8,10 +8,11 @@ ghost use Rattle.nomos_machine.specs.Objects.{object_number};
 ghost use Rattle.nomos_machine.specs.Sight.{accept_next, detach_next};
 ghost use Rattle.nomos_machine.specs.State.{process_at};
 ghost use Rattle.nomos_machine.specs.declared.object.Process.{Process};
+ghost use Rattle.nomos_deeds.specs.Acting.{IsFrugalDoing};
 ghost use Rattle.nomos_deeds.specs.Acts.{Decides, provider_node};
 
 use crate::act::{Act, Doing};
-use crate::arms::find_code;
+use crate::arms::code_at;
 use crate::sending::node_of;
 use crate::sight::Sight;
 use crate::types::{accept_next, after_acquire, detach_next};
@@ -28,11 +29,12 @@ pub(crate) fn acquire_at<S: Sight>(
     next: CodeId,
 ) -> Option<Doing>
     requires { IsStrictlySortedBy nat_cmp (map object_number (S.state sight.now).objects) }
-    ensures { (at : ℕ) → Decides accepted.now (S.state sight.now) pid (code.Acquire at variables.0 variables.1 next) result }
+    ensures decides { (at : ℕ) → Decides accepted.now (S.state sight.now) pid (code.Acquire at variables.0 variables.1 next) result }
+    ensures frugal { IsFrugalDoing result }
 {
     let shared = sight.channel(pid, variables.0)?;
     let other = sight.offering(shared)?;
-    let onward = accept_next(find_code(accepted, other.code)?)?;
+    let onward = accept_next(code_at(accepted, other.code)?)?;
     let goes = after_acquire(node_of(sight, accepted, shared)?)?;
     Some(Doing::Acts(Act::Acquire {
         variable: variables.1,
@@ -53,11 +55,12 @@ pub(crate) fn release_at<S: Sight>(
     next: CodeId,
 ) -> Option<Doing>
     requires { IsStrictlySortedBy nat_cmp (map object_number (S.state sight.now).objects) }
-    ensures { (at : ℕ) → Decides accepted.now (S.state sight.now) pid (code.Release at variables.0 variables.1 next) result }
+    ensures decides { (at : ℕ) → Decides accepted.now (S.state sight.now) pid (code.Release at variables.0 variables.1 next) result }
+    ensures frugal { IsFrugalDoing result }
 {
     let name = sight.channel(pid, variables.0)?;
     let other = sight.offering(name)?;
-    let onward = detach_next(find_code(accepted, other.code)?)?;
+    let onward = detach_next(code_at(accepted, other.code)?)?;
     let shared = other.base?;
     Some(Doing::Acts(Act::Release {
         variable: variables.0,
@@ -81,7 +84,7 @@ fn provider_node<'a, S: Sight>(
 {
     let name = sight.channel(pid, v)?;
     let other = sight.offering(name)?;
-    find_code(accepted, other.code)
+    code_at(accepted, other.code)
 }
 
 /// Whether the process that offers the channel of a variable stands at `accept`.

@@ -1,14 +1,17 @@
 //! Types behind their names, and with which type a channel goes on.
-ghost use Rattle.std.specs.Prelude.{◌≡◌, ◌==◌, option_copied, slice_get};
+ghost use Rattle.std.specs.Prelude.{◌≡◌, ◌==◌, ◌↔◌, IsTrue, option_copied, slice_get};
+ghost use Rattle.std.specs.List.{list_any};
 ghost use Rattle.nomos_ir.specs.Unfold.{unfolded};
 ghost use Rattle.nomos_types.specs.Branches.{goes_by};
 ghost use Rattle.nomos_machine.specs.Sight.{after_label, after_channel, after_value, after_potential, after_acquire, shows_shared, accept_next, detach_next};
+ghost use Rattle.nomos_deeds.specs.Readers.{IsLinearType, looks_linear, offers_at_t};
 
 use nomos_ir::code_node::CodeNode;
 use nomos_ir::ids::{CodeId, Label, TypeId};
 use nomos_ir::mode::Mode;
 use nomos_ir::program::Program;
 use nomos_ir::type_node::{Branch, TypeNode};
+use nomos_types::accepted::Accepted;
 
 /// The node to which a type unfolds; none where the number is no type's.
 pub(crate) fn unfolded(program: &Program, t: TypeId) -> Option<&TypeNode>
@@ -87,7 +90,7 @@ pub(crate) fn after_acquire(node: &TypeNode) -> Option<TypeId>
 }
 
 /// Whether the head of a type shows that it is a shared one.
-pub(crate) fn shows_shared(program: &Program, t: TypeId) -> bool
+pub fn shows_shared(program: &Program, t: TypeId) -> bool
     ensures { result ≡ shows_shared program.now (Some t) }
 {
     let lists = program.lists();
@@ -102,6 +105,33 @@ pub(crate) fn shows_shared(program: &Program, t: TypeId) -> bool
         },
         None => false,
     }
+}
+
+// Whether a declaration of transactions offers a type.
+fn is_of_transactions(program: &Program, t: TypeId) -> bool
+    ensures { result ≡ list_any (offers_at_t t) program.now.procs }
+{
+    let declarations = program.lists().procs.as_slice();
+    declarations
+        .iter()
+        .any(|d| d.mode == Mode::T && d.offers.0 == t.0)
+}
+
+// Whether a type is one of the program's whose head does not show S, and which no declaration of transactions offers.
+fn looks_linear(program: &Program, t: TypeId) -> bool
+    ensures { result ≡ looks_linear program.now t }
+{
+    (t.0 as usize) < program.lists().types.len()
+        && !shows_shared(program, t)
+        && !is_of_transactions(program, t)
+}
+
+/// Whether a type has mode R or L, so that its names are used exactly once.
+pub fn is_linear(accepted: &Accepted, t: TypeId) -> bool
+    ensures look { result ≡ looks_linear accepted.now.program t }
+    ensures linear { IsTrue result ↔ IsLinearType accepted.now.program t }
+{
+    looks_linear(accepted.program(), t)
 }
 
 /// Where a process goes on that stands at `accept`.

@@ -1,1 +1,17 @@
-mod PotentialLemmas
+pub mod BeginActLemmas
+pub mod BeginLemmas
+pub mod FindLemmas
+pub mod GivenLemmas
+pub mod LeaveLemmas
+pub mod MadeLemmas
+pub mod OtherActLemmas
+pub mod PairLemmas
+pub mod PerformLemmas
+pub mod PlaceLemmas
+pub mod PotentialLemmas
+pub mod RevisionLemmas
+pub mod RoomLemmas
+pub mod SendActLemmas
+pub mod StartingLemmas
+pub mod TakeLemmas
+pub mod WalkLemmas

@@ -5,11 +5,12 @@ ghost use Rattle.nomos_ir.specs.ValueNode.{value_of};
 ghost use Rattle.nomos_ir.specs.Weight.{weight, list_weight};
 ghost use Rattle.nomos_machine.specs.Deeds.{is_light, lengthened};
 ghost use Rattle.nomos_machine.specs.Objects.{potential_of};
-ghost use Rattle.nomos_plain.specs.Parts.{potential_in};
+ghost use Rattle.nomos_plain.specs.Parts.{potential_in, process_in};
 
+use crate::object::PlainProcess;
 use nomos_ir::ids::VarId;
 use nomos_ir::value_node::ValueNode;
-use nomos_machine::object::{PotentialList, Process};
+use nomos_machine::object::PotentialList;
 
 /// How heavy a list may be.
 const MAX_WEIGHT: u32 = 10_000;
@@ -61,11 +62,11 @@ fn purse_beside(lists: &[(VarId, PotentialList)], purse: u128) -> Option<u128>
 }
 
 /// Whether the purse of a process has so many Dths beside the potential of its lists.
-pub(crate) fn affords(p: &Process, gas: u64) -> bool
-    ensures { result ≡ nat_le (gas + potential_of p.now) p.now.purse }
+pub(crate) fn affords(p: &PlainProcess, gas: u64) -> bool
+    ensures { result ≡ nat_le (gas + potential_of (process_in p.now)) p.now.purse }
 {
     match p.purse.checked_sub(u128::from(gas)) {
-        Some(left) => purse_beside(p.lists.as_slice(), left).is_some(),
+        Some(left) => purse_beside(&p.lists, left).is_some(),
         None => false,
     }
 }

@@ -1,5 +1,6 @@
 //! What no clause says of the plain state of the whole language: that accounts are opened where memory is found.
 
+use nomos_deeds::machine::Machine;
 use nomos_deeds::sight::Sight;
 use nomos_plain::plain::PlainState;
 use std::test::Fail;

@@ -3,4 +3,4 @@ use Rattle.nomos_deeds.proofs.deeds.deed_of.Goals as goal
 
 pub deed_at_node-requires-clause-amounts : goal.deed_at_node-requires-clause-amounts
 deed_at_node-requires-clause-amounts g c =
-    c.find_code.ensures.amounts c.in_ok-node.node.now (ap option_copied c.in_ok-node.was)
+    c.code_at.ensures.amounts c.in_ok-node.node.now (ap option_copied c.in_ok-node.was)
