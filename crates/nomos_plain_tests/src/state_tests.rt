@@ -1,4 +1,4 @@
-//! What no clause says of the plain state of the whole language: that accounts are opened where memory is found.
+//! What no clause says of a plain state by itself: that accounts are opened where memory is found.
 
 use nomos_deeds::machine::Machine;
 use nomos_deeds::sight::Sight;
@@ -6,7 +6,7 @@ use nomos_plain::plain::PlainState;
 use std::test::Fail;
 
 #[test]
-fn opens_accounts_of_a_plain_state(rt: HostRuntime) -> Result<(), Fail> {
+fn opens_accounts(rt: HostRuntime) -> Result<(), Fail> {
     let mut state = PlainState::empty(rt.alloc());
     assert_eq!(rt; state.open_account(5)?, 0);
     assert_eq!(rt; state.open_account(0)?, 1);
@@ -18,7 +18,7 @@ fn opens_accounts_of_a_plain_state(rt: HostRuntime) -> Result<(), Fail> {
 }
 
 #[test]
-fn finds_nothing_in_an_empty_plain_state(rt: HostRuntime) -> Result<(), Fail> {
+fn finds_nothing_in_an_empty_state(rt: HostRuntime) -> Result<(), Fail> {
     let mut state = PlainState::empty(rt.alloc());
     state.clear_results();
     assert!(rt; state.results().is_empty());

@@ -1,0 +1,5 @@
+pub mod LevelLemmas
+pub mod LogLemmas
+pub mod MarkLemmas
+pub mod PlacesLemmas
+pub mod WordLemmas

@@ -1,0 +1,7 @@
+pub mod Clearing
+pub mod Levels
+pub mod Log
+pub mod Lowest
+pub mod Marking
+pub mod Places
+pub mod Seen

@@ -1,0 +1,7 @@
+//! Columns of plain records, which can be marked and put back to what they were, and sets of places.
+#![tactic(auto)]
+
+pub mod column;
+mod levels;
+pub mod places;
+mod words;
