@@ -1,7 +1,8 @@
-//! Columns of plain records, which can be marked and put back to what they were, and sets of places.
+//! Columns of plain records, which can be marked and put back to what they were; records under numbers; sets of places.
 #![tactic(auto)]
 
 pub mod column;
 mod levels;
+pub mod numbered;
 pub mod places;
 mod words;

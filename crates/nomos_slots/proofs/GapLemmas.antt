@@ -1,0 +1,168 @@
+-- What slots are left, and in what order, where gaps are closed.
+use Rattle.std.proofs.Common.{◌≡◌, ◌<◌, ◌≤◌, ◌+◌, ◌-◌, zero, suc, ℕ, true, false, cond, List, [], ◌∷◌, ◌++◌, length, get_or, set, take, drop, filter, Option, Some, None, refl, sym, ap, subst, ◌∙◌, inl, inr, arith, append_assoc, drop-set-lt, eqb, eq-eqb, ne_eqb}
+use Rattle.std.specs.List.{slice_get}
+use Rattle.std.specs.Option.{is_some}
+use Rattle.std.proofs.lemmas.Bool.{cases_eq, cond_both}
+use Rattle.std.proofs.lemmas.List.{append-nil, at_drop_more, length-set, take_more_set}
+use Rattle.std.proofs.lemmas.Option.{get_or_from_slice_get, none-some, slice_get_within}
+use Rattle.std.proofs.Math.ListN.{drop_of_length-le}
+use Rattle.nomos_slots.specs.Marking.{Marking}
+use Rattle.nomos_slots.specs.Numbers.{close_gaps, found, IsAscending}
+use Rattle.nomos_slots.specs.declared.numbered.Slot.{Slot}
+use Rattle.nomos_slots.proofs.NumberLemmas.{AllOver, ascending-nil, ascending-cons, ascending-head, ascending-tail, found-over}
+
+module _ {X : Type 0} where
+  -- the slots with an item
+  abbrev pub filled : List (Slot X) → List (Slot X)
+  filled slots = filter (λ s. is_some s.item) slots
+
+  -- ---- the order
+
+  over-filled : (least : ℕ) (slots : List (Slot X)) → AllOver least slots → AllOver least (filled slots)
+  over-filled least [] over = tt
+  over-filled least (e ∷ slots) over =
+      let rest = over-filled least slots over.1 in
+      cond_both (is_some e.item) (e ∷ filled slots) (filled slots) (AllOver least)
+      (λ _. (over.0, rest)) (λ _. rest)
+
+  ascending-filled : (slots : List (Slot X)) → IsAscending slots → IsAscending (filled slots)
+  ascending-filled [] order = ascending-nil X
+  ascending-filled (e ∷ slots) order =
+      let rest = ascending-filled slots (ascending-tail e slots order) in
+      cond_both (is_some e.item) (e ∷ filled slots) (filled slots) IsAscending
+      (λ _. ascending-cons e (filled slots) (over-filled e.number slots (ascending-head e slots order)) rest)
+      (λ _. rest)
+
+  over-close : (least from : ℕ) (slots : List (Slot X)) → AllOver least slots → AllOver least (close_gaps from slots)
+  over-close least zero slots over = over-filled least slots over
+  over-close least (suc from) [] over = tt
+  over-close least (suc from) (e ∷ slots) over = (over.0, over-close least from slots over.1)
+
+  pub ascending-close : (from : ℕ) (slots : List (Slot X)) → IsAscending slots → IsAscending (close_gaps from slots)
+  ascending-close zero slots order = ascending-filled slots order
+  ascending-close (suc from) [] order = ascending-nil X
+  ascending-close (suc from) (e ∷ slots) order =
+      ascending-cons e (close_gaps from slots)
+      (over-close e.number from slots (ascending-head e slots order))
+      (ascending-close from slots (ascending-tail e slots order))
+
+  -- ---- what stands under a number
+
+  none-item : (o : Option X) → is_some o ≡ false → o ≡ None
+  none-item None h = refl
+  none-item (Some x) h = cc
+
+  found-filled : (slots : List (Slot X)) (number : ℕ) → IsAscending slots
+      → found (filled slots) number ≡ found slots number
+  found-filled [] number order = refl
+  found-filled (e ∷ slots) number order =
+      let rest = found-filled slots number (ascending-tail e slots order) in
+      cond_both (is_some e.item) (e ∷ filled slots) (filled slots) (λ xs. found xs number ≡ found (e ∷ slots) number)
+      (λ _. ap (cond (eqb e.number number) e.item) rest)
+      (λ gap. elim (cases_eq e.number number) [
+        | inl same ↦
+            let over : AllOver number slots =
+            subst (λ n. AllOver n slots) same (ascending-head e slots order) in
+            rest
+            ∙ found-over slots number over
+            ∙ sym (none-item e.item gap)
+            ∙ sym (ap (λ b. cond b e.item (found slots number)) (eq-eqb e.number number same))
+        | inr apart ↦
+            rest ∙ sym (ap (λ b. cond b e.item (found slots number)) (ne_eqb e.number number apart))
+      ])
+
+  pub found-close : (from : ℕ) (slots : List (Slot X)) (number : ℕ) → IsAscending slots
+      → found (close_gaps from slots) number ≡ found slots number
+  found-close zero slots number order = found-filled slots number order
+  found-close (suc from) [] number order = refl
+  found-close (suc from) (e ∷ slots) number order =
+      ap (cond (eqb e.number number) e.item) (found-close from slots number (ascending-tail e slots order))
+
+  -- ---- one slot after the other
+
+  -- a place within has a slot
+  pub slot-within : (slots : List (Slot X)) (place : ℕ) → place < length slots → None ≡ slice_get slots place → ⊥
+  slot-within [] place l none = absurd (omega arith)
+  slot-within (e ∷ slots) zero l none = none-some e none
+  slot-within (e ∷ slots) (suc place) l none = slot-within slots place (omega arith) none
+
+  -- the first slots, and of those from another place on the ones with an item
+  abbrev pub moved : ℕ → ℕ → List (Slot X) → List (Slot X)
+  moved to place slots = take to slots ++ filled (drop place slots)
+
+  moved-split : (to place : ℕ) (slots : List (Slot X)) (s : Slot X) → slice_get slots place ≡ Some s
+      → moved to place slots
+      ≡ (take to slots ++ cond (is_some s.item) (s ∷ filled (drop (place + 1) slots)) (filled (drop (place + 1) slots)))
+  moved-split to place slots s h =
+      let l : place < length slots = slice_get_within slots place s h in
+      let is : get_or slots place s ≡ s = get_or_from_slice_get slots place s s h in
+      at_drop_more (λ xs. take to slots ++ filled xs) slots place s l
+      ∙ ap (λ (x : Slot X). take to slots ++ filled (x ∷ drop (place + 1) slots)) is
+
+  pub moved-gap : (to place : ℕ) (slots : List (Slot X)) (s : Slot X) → slice_get slots place ≡ Some s
+      → is_some s.item ≡ false → moved to (place + 1) slots ≡ moved to place slots
+  moved-gap to place slots s h gap =
+      let rest = filled (drop (place + 1) slots) in
+      sym (moved-split to place slots s h ∙ ap (λ b. take to slots ++ cond b (s ∷ rest) rest) gap)
+
+  pub moved-up : (to place : ℕ) (slots : List (Slot X)) (s : Slot X) → slice_get slots place ≡ Some s
+      → is_some s.item ≡ true → to ≤ place → moved (to + 1) (place + 1) (set slots to s) ≡ moved to place slots
+  moved-up to place slots s h has behind =
+      let l : place < length slots = slice_get_within slots place s h in
+      let rest = filled (drop (place + 1) slots) in
+      ap (λ xs. take (to + 1) (set slots to s) ++ filled xs) (drop-set-lt (place + 1) slots to s (omega arith))
+      ∙ ap (λ xs. xs ++ rest) (take_more_set slots to s (omega arith))
+      ∙ append_assoc (take to slots) (s ∷ []) rest
+      ∙ sym (moved-split to place slots s h ∙ ap (λ b. take to slots ++ cond b (s ∷ rest) rest) has)
+
+  pub moved-all : (to place : ℕ) (slots : List (Slot X)) → length slots ≤ place → moved to place slots ≡ take to slots
+  moved-all to place slots past =
+      ap (λ xs. take to slots ++ filled xs) (drop_of_length-le slots past) ∙ append-nil (take to slots)
+
+  -- how far the slots of `old` are moved up: those before `place` are done, and the next one goes to `to`
+  pub record IsMoved (start : ℕ) (old : Marking (Slot X)) (to place : ℕ) (kept : Marking (Slot X)) : Type 0 where
+    pub from : start ≤ to
+    pub behind : to ≤ place
+    pub reach : place - start ≤ length old.now - start
+    pub len : length kept.now ≡ length old.now
+    pub room : length kept.now - place ≤ kept.room
+    pub taken : old.room ≤ kept.room + (place - start)
+    pub marked : kept.marked ≡ old.marked
+    pub now : moved to place kept.now ≡ close_gaps start old.now
+
+  pub moved-past_gap : (from : ℕ) (old : Marking (Slot X)) (to place : ℕ) (kept : Marking (Slot X)) (s : Slot X)
+      → IsMoved from old to place kept → Some s ≡ slice_get kept.now place → is_some s.item ≡ false
+      → IsMoved from old to (place + 1) kept
+  moved-past_gap from old to place kept s is read gap =
+      let l : place < length kept.now = slice_get_within kept.now place s (sym read) in
+      record {
+        from = is.from;
+        behind = omega (arith, is.behind);
+        reach = omega (arith, is.len, is.from, is.behind);
+        len = is.len;
+        room = omega (arith, is.room);
+        taken = omega (arith, is.taken);
+        marked = is.marked;
+        now = moved-gap to place kept.now s (sym read) gap ∙ is.now;
+      }
+
+  pub moved-one_up : (from : ℕ) (old : Marking (Slot X)) (to place : ℕ) (kept new : Marking (Slot X)) (s : Slot X)
+      → IsMoved from old to place kept → Some s ≡ slice_get kept.now place → is_some s.item ≡ true
+      → new.now ≡ set kept.now to s → new.marked ≡ kept.marked → kept.room ≤ new.room + 1
+      → IsMoved from old (to + 1) (place + 1) new
+  moved-one_up from old to place kept new s is read has set_to same left =
+      let l : place < length kept.now = slice_get_within kept.now place s (sym read) in
+      let long : length new.now ≡ length kept.now = ap length set_to ∙ length-set kept.now to s in
+      record {
+        from = omega (arith, is.from);
+        behind = omega (arith, is.behind);
+        reach = omega (arith, is.len, is.from, is.behind);
+        len = long ∙ is.len;
+        room = omega (arith, is.room);
+        taken = omega (arith, is.taken, is.from, is.behind);
+        marked = same ∙ is.marked;
+        now =
+            ap (moved (to + 1) (place + 1)) set_to
+            ∙ moved-up to place kept.now s (sym read) has is.behind
+            ∙ is.now;
+      }

@@ -1,0 +1,222 @@
+//! Records under numbers, which are drawn in ascending order.
+ghost use Rattle.std.specs.Prelude.{◌≡◌, ◌≤◌, ◌<◌, ◌+◌, ◌-◌, ℕ, [], ◌∷◌, ◌++◌, IsOk, IsSome, IfSome, IfOk, OnOk, All, length, slice_get};
+ghost use Rattle.nomos_slots.specs.Numbers.{close_gaps, found, numbers, put_at, IsAscending, IsPlaceOf};
+
+use crate::column::Column;
+use std::alloc::{AllocError, Global};
+use std::marker::Model;
+
+/// What stands under a number: or nothing any more.
+#[derive(Clone, Copy, Debug)]
+pub struct Slot<T> {
+    pub number: u32,
+    pub item: Option<T>,
+}
+
+/// Records under numbers, in ascending order of their numbers.
+///
+/// A number that is left stays as a gap until gaps are closed. What stands here can be marked, and put back to what it
+/// was there. Room is counted in changes. Who changes it makes room first, by [`Numbered::reserve`]: a push or a put
+/// takes one of it at most.
+#[derive(Drop, Debug)]
+pub struct Numbered<T: Copy> {
+    slots: Column<Slot<T>>,
+}
+
+impl<T: Copy> Model for Numbered<T> {
+    ghost use Rattle.nomos_slots.specs.Marking.{Marking, marking_code};
+    ghost use Rattle.nomos_slots.specs.declared.numbered.Slot.{Slot};
+    ghost use Rattle.nomos_slots.specs.Numbers.{slot_code, IsInOrder};
+
+    ghost Value = { Marking (Slot T) };
+
+    ghost coded = { marking_code (slot_code T.code) };
+
+    ghost view = { λ n. n.slots };
+
+    ghost invariant = { λ n. IsInOrder n.slots };
+}
+
+// The place of the slot of this number, by halving.
+fn place_in<T: Copy>(slots: &Column<Slot<T>>, number: u32) -> Option<usize>
+    requires { IsAscending slots.now.now }
+    ensures { IsPlaceOf number slots.now.now result }
+{
+    let mut from = 0;
+    let mut to = slots.len();
+    while from < to {
+        let middle = from + (to - from) / 2;
+        let slot = slots.get(middle)?;
+        if slot.number == number {
+            return Some(middle);
+        }
+        if slot.number < number {
+            from = middle + 1;
+        } else {
+            to = middle;
+        }
+    }
+    None
+}
+
+// Of the slots from this place on, those with an item move up into the gaps, and no others stay.
+fn move_up<T: Copy>(slots: &mut Column<Slot<T>>, from: usize)
+    requires room { length slots.old.now - from ≤ slots.old.room }
+    requires marked { IfSome slots.old.marked (λ list. length list ≤ from) }
+    ensures now { slots.new.now ≡ close_gaps from slots.old.now }
+    ensures marked { slots.new.marked ≡ slots.old.marked }
+    ensures room { slots.old.room ≤ slots.new.room + (length slots.old.now - from) }
+{
+    let mut to = from;
+    for place in from..slots.len() {
+        if let Some(slot) = slots.get(place) {
+            if slot.item.is_some() {
+                slots.set(to, slot);
+                to += 1;
+            }
+        }
+    }
+    slots.truncate(to);
+}
+
+impl<T: Copy> Numbered<T> {
+    /// No slots, and nothing is marked. It takes no memory.
+    pub fn new(alloc: Global) -> Self
+        ensures now { result.now ≡ [] }
+        ensures marked { result.marked ≡ None }
+    {
+        Numbered {
+            slots: Column::new(alloc),
+        }
+    }
+
+    /// Makes room for so many changes, that is pushes and puts. Want of memory leaves the slots and the mark as they
+    /// were; where there is room already, it cannot fail.
+    pub fn reserve(&mut self, n: usize) -> Result<(), AllocError>
+        ensures now { self.new.now ≡ self.old.now }
+        ensures marked { self.new.marked ≡ self.old.marked }
+        ensures ok { OnOk result (n ≤ self.new.room) }
+        ensures room { self.old.room ≤ self.new.room }
+        ensures frugal { n ≤ self.old.room → IsOk result }
+    {
+        self.slots.reserve(n)
+    }
+
+    /// The number of slots, gaps among them.
+    pub fn len(&self) -> usize
+        ensures { result ≡ length self.now.now }
+    {
+        self.slots.len()
+    }
+
+    /// The slot at a place, if there are so many.
+    pub fn slot(&self, place: usize) -> Option<Slot<T>>
+        ensures { result ≡ slice_get self.now.now place }
+    {
+        self.slots.get(place)
+    }
+
+    /// The place of the slot of this number, if there is one. It goes by halves.
+    pub fn place_of(&self, number: u32) -> Option<usize>
+        ensures { IsPlaceOf number self.now.now result }
+    {
+        place_in(&self.slots, number)
+    }
+
+    /// What stands under a number.
+    pub fn get(&self, number: u32) -> Option<T>
+        ensures { result ≡ found self.now.now number }
+    {
+        let place = place_in(&self.slots, number)?;
+        let slot = self.slots.get(place)?;
+        slot.item
+    }
+
+    /// Adds a slot at the end, under a number above all others. Who calls it has made room, so it takes no memory.
+    pub fn push(&mut self, number: u32, item: T)
+        requires room { 0 < self.old.room }
+        requires above { All (λ n. n < number) (numbers self.old.now) }
+        ensures now { self.new.now ≡ self.old.now ++ (record { number = number; item = Some item }) ∷ [] }
+        ensures marked { self.new.marked ≡ self.old.marked }
+        ensures room { self.old.room ≤ self.new.room + 1 }
+    {
+        self.slots.push(Slot {
+            number,
+            item: Some(item),
+        });
+    }
+
+    /// The slot at this place keeps its number and has this item, or is a gap. Who calls it has made room, so it takes
+    /// no memory.
+    pub fn put(&mut self, place: usize, item: Option<T>)
+        requires room { 0 < self.old.room }
+        requires within { place < length self.old.now }
+        ensures now { self.new.now ≡ put_at self.old.now place item }
+        ensures marked { self.new.marked ≡ self.old.marked }
+        ensures room { self.old.room ≤ self.new.room + 1 }
+    {
+        if let Some(slot) = self.slots.get(place) {
+            self.slots.set(
+                place,
+                Slot {
+                    number: slot.number,
+                    item,
+                },
+            );
+        }
+    }
+
+    /// The slots before this place stay, and of the others those with an item, in their order. Who calls it has made
+    /// room for a change of each slot from there on, and none of those is marked. It takes no memory.
+    pub fn close_gaps(&mut self, from: usize)
+        requires room { length self.old.now - from ≤ self.old.room }
+        requires marked { IfSome self.old.marked (λ list. length list ≤ from) }
+        ensures now { self.new.now ≡ close_gaps from self.old.now }
+        ensures found { (number : ℕ) → found self.new.now number ≡ found self.old.now number }
+        ensures marked { self.new.marked ≡ self.old.marked }
+        ensures room { self.old.room ≤ self.new.room + (length self.old.now - from) }
+    {
+        move_up(&mut self.slots, from);
+    }
+
+    /// Marks what it holds now. It takes no memory, and nothing may be marked yet.
+    pub fn mark(&mut self)
+        requires { self.old.marked ≡ None }
+        ensures now { self.new.now ≡ self.old.now }
+        ensures marked { self.new.marked ≡ Some self.old.now }
+        ensures room { self.old.room ≤ self.new.room }
+    {
+        self.slots.mark();
+    }
+
+    /// Puts back what was marked, and nothing is marked any longer. It takes no memory, and goes over no more than the
+    /// marked slots that were changed since and those that came since.
+    pub fn back(&mut self)
+        requires { IsSome self.old.marked }
+        ensures now { self.old.marked ≡ Some self.new.now }
+        ensures marked { self.new.marked ≡ None }
+        ensures room { self.old.room ≤ self.new.room }
+    {
+        self.slots.back();
+    }
+
+    /// Nothing is marked any longer; the slots stay. It takes no memory, and goes over no more than the marked slots
+    /// that were changed since.
+    pub fn forget(&mut self)
+        ensures now { self.new.now ≡ self.old.now }
+        ensures marked { self.new.marked ≡ None }
+        ensures room { self.old.room ≤ self.new.room }
+    {
+        self.slots.forget();
+    }
+
+    /// The same slots once more, none of them marked. It takes memory for all of them.
+    pub fn copy(&self, alloc: Global) -> Result<Self, AllocError>
+        ensures now { IfOk result (λ n. n.now ≡ self.now.now) }
+        ensures marked { IfOk result (λ n. n.marked ≡ None) }
+    {
+        Ok(Numbered {
+            slots: self.slots.copy(alloc)?,
+        })
+    }
+}
