@@ -1,6 +1,6 @@
 -- How a call of the program ends.
 use Rattle.std.specs.Prelude.{ℕ, List, Option, None}
-use Rattle.nomos_ledger.specs.declared.journal.Journal.{Journal}
+use Rattle.nomos_first_ledger.specs.declared.journal.Journal.{Journal}
 use Rattle.nomos_top.specs.Claims.{Claims}
 use Rattle.nomos_top.specs.Outside.{FaultCounts, SourceState, SinkState}
 use Rattle.nomos_types.specs.Acceptance.{Acceptance}

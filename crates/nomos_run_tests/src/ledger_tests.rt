@@ -1,6 +1,6 @@
 //! The empty ledger has no deposit, no account and no object.
 use nomos_config::machine::Machine;
-use nomos_ledger::ledger::Ledger;
+use nomos_first_ledger::ledger::Ledger;
 
 // Calls that take an accepted program are run by the crates above, which can make one.
 #[test]

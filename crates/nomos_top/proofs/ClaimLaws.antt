@@ -9,8 +9,8 @@ use Rattle.nomos_base.specs.Sink.{with_end}
 use Rattle.nomos_ir.specs.declared.lists.ProgramLists.{ProgramLists}
 use Rattle.nomos_least.specs.LeastBounds.{IsLeastAs, LeastRunEndsWith}
 use Rattle.nomos_least.specs.declared.least.LeastBounds.{LeastBounds}
-use Rattle.nomos_ledger.specs.declared.journal.Entry.{Entry}
-use Rattle.nomos_ledger.specs.declared.journal.Journal.{Journal}
+use Rattle.nomos_first_ledger.specs.declared.journal.Entry.{Entry}
+use Rattle.nomos_first_ledger.specs.declared.journal.Journal.{Journal}
 use Rattle.nomos_simplex.specs.declared.solved.Solved.TheVariants as solved
 use Rattle.nomos_simplex.specs.declared.solved.SolvedLeast.TheVariants as least
 use Rattle.nomos_simplex.specs.declared.solved.Stop.{Stop}

@@ -10,7 +10,7 @@ use Rattle.nomos_base.proofs.ToldLaws.{TakesExactly-told}
 use Rattle.nomos_base.specs.Source.{TakesAll, TakesExactly}
 use Rattle.nomos_least.specs.LeastBounds.{IsLeastAs}
 use Rattle.nomos_least.specs.declared.least.LeastBounds.{LeastBounds}
-use Rattle.nomos_ledger.specs.declared.journal.Journal.{Journal}
+use Rattle.nomos_first_ledger.specs.declared.journal.Journal.{Journal}
 use Rattle.nomos_script.specs.declared.item.ScriptItem.{ScriptItem}
 use Rattle.nomos_simplex.specs.declared.solved.Stop.{Stop}
 use Rattle.nomos_syntax.specs.Limits.{text_limit}

@@ -18,14 +18,14 @@ use Rattle.nomos_config.specs.declared.moves.Move.{Move}
 use Rattle.nomos_config.specs.declared.moves.Move.TheVariants as move
 use Rattle.nomos_config.specs.declared.object.Process.{Process}
 use Rattle.nomos_config.proofs.MoveLaws.{StepParts, step-parts}
-use Rattle.nomos_ledger.specs.Legal.{Leads, Undoes, firings_in, max_firings, bare, done, deposit, no_deposit, refused, stays, undone, shown}
-use Rattle.nomos_ledger.specs.Ledger.{LedgerState, account_of, accounts_with, deposited, state_with}
-use Rattle.nomos_ledger.specs.Starting.{BatchOutcome, Outcome, after_declared, after_start, after_starts, before_others, resolve, resolve_line, resolve_batch}
-use Rattle.nomos_ledger.specs.declared.journal.End.{End}
-use Rattle.nomos_ledger.specs.declared.journal.End.TheVariants as end
-use Rattle.nomos_ledger.specs.declared.journal.Entry.{Entry}
-use Rattle.nomos_ledger.specs.declared.refusal.Refusal.TheVariants as refusal
-use Rattle.nomos_ledger.specs.declared.resolved.Resolved.{Resolved}
+use Rattle.nomos_first_ledger.specs.Legal.{Leads, Undoes, firings_in, max_firings, bare, done, deposit, no_deposit, refused, stays, undone, shown}
+use Rattle.nomos_first_ledger.specs.Ledger.{LedgerState, account_of, accounts_with, deposited, state_with}
+use Rattle.nomos_first_ledger.specs.Starting.{BatchOutcome, Outcome, after_declared, after_start, after_starts, before_others, resolve, resolve_line, resolve_batch}
+use Rattle.nomos_first_ledger.specs.declared.journal.End.{End}
+use Rattle.nomos_first_ledger.specs.declared.journal.End.TheVariants as end
+use Rattle.nomos_first_ledger.specs.declared.journal.Entry.{Entry}
+use Rattle.nomos_first_ledger.specs.declared.refusal.Refusal.TheVariants as refusal
+use Rattle.nomos_first_ledger.specs.declared.resolved.Resolved.{Resolved}
 use Rattle.nomos_top.specs.Progress.{entry_of}
 use Rattle.nomos_top.specs.Report.{AllFollowFirst, after_batch, after_item, batch_start, item_lines, reached, report_lines, started_ledger, state_or}
 

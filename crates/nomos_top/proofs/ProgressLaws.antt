@@ -9,18 +9,18 @@ use Rattle.nomos_script.specs.declared.item.Batch.{Batch}
 use Rattle.nomos_script.specs.declared.item.ScriptItem.{ScriptItem}
 use Rattle.nomos_script.specs.declared.item.ScriptItem.TheVariants as item
 use Rattle.nomos_config.specs.State.{State}
-use Rattle.nomos_ledger.proofs.LegalLaws.{firings-append, leads-append, one-deposit, one-refused, one-stays, one-undone}
-use Rattle.nomos_ledger.specs.Ending.{EndsAs, IsAllowed}
-use Rattle.nomos_ledger.specs.Ledger.{LedgerState, FitsDeposits, empty_ledger}
-use Rattle.nomos_ledger.specs.Legal.{Leads, IsFirst, Undoes, batch_limit, firings_in, max_firings, done, shown, no_firing}
-use Rattle.nomos_ledger.specs.StandsFor.{Deposits, StandsFor, WorldStandsFor}
-use Rattle.nomos_ledger.specs.Starting.{resolve_batch}
-use Rattle.nomos_ledger.specs.World.{WorldState, committed, pids_of, start_of}
-use Rattle.nomos_ledger.specs.declared.journal.End.{End}
-use Rattle.nomos_ledger.specs.declared.journal.End.TheVariants as end
-use Rattle.nomos_ledger.specs.declared.journal.Entry.{Entry}
-use Rattle.nomos_ledger.specs.declared.journal.Firing.{Firing}
-use Rattle.nomos_ledger.specs.declared.refusal.Refusal.{Refusal}
+use Rattle.nomos_first_ledger.proofs.LegalLaws.{firings-append, leads-append, one-deposit, one-refused, one-stays, one-undone}
+use Rattle.nomos_first_ledger.specs.Ending.{EndsAs, IsAllowed}
+use Rattle.nomos_first_ledger.specs.Ledger.{LedgerState, FitsDeposits, empty_ledger}
+use Rattle.nomos_first_ledger.specs.Legal.{Leads, IsFirst, Undoes, batch_limit, firings_in, max_firings, done, shown, no_firing}
+use Rattle.nomos_first_ledger.specs.StandsFor.{Deposits, StandsFor, WorldStandsFor}
+use Rattle.nomos_first_ledger.specs.Starting.{resolve_batch}
+use Rattle.nomos_first_ledger.specs.World.{WorldState, committed, pids_of, start_of}
+use Rattle.nomos_first_ledger.specs.declared.journal.End.{End}
+use Rattle.nomos_first_ledger.specs.declared.journal.End.TheVariants as end
+use Rattle.nomos_first_ledger.specs.declared.journal.Entry.{Entry}
+use Rattle.nomos_first_ledger.specs.declared.journal.Firing.{Firing}
+use Rattle.nomos_first_ledger.specs.declared.refusal.Refusal.{Refusal}
 use Rattle.nomos_top.specs.Progress.{Adds, HasCome, HasSpace, IsSoFar, entry_of}
 use Rattle.nomos_top.specs.Report.{AllFollowFirst, batch_start, end_lines, reached, report_lines}
 use Rattle.nomos_top.specs.declared.running.Running.{Running}

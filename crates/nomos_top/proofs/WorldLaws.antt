@@ -9,17 +9,17 @@ use Rattle.nomos_config.proofs.ReadyLaws.{quiet-from_none_ready}
 use Rattle.nomos_config.specs.Run.{IsNextReady, NoneReady, IsQuiet, run}
 use Rattle.nomos_config.specs.State.{State}
 use Rattle.nomos_config.specs.declared.fire.Fire.TheVariants as fire
-use Rattle.nomos_ledger.proofs.LegalLaws.{first-push}
-use Rattle.nomos_ledger.proofs.StandsForLaws.{world-closed, commit-stands}
-use Rattle.nomos_ledger.specs.Ending.{EndsAs}
-use Rattle.nomos_ledger.specs.Legal.{IsFirst, no_firing, batch_limit}
-use Rattle.nomos_ledger.specs.Ledger.{LedgerState}
-use Rattle.nomos_ledger.specs.StandsFor.{StandsFor, WorldStandsFor, FiresIn}
-use Rattle.nomos_ledger.specs.Starting.{resolve_batch}
-use Rattle.nomos_ledger.specs.World.{WorldState, start_of, committed, pids_of}
-use Rattle.nomos_ledger.specs.declared.journal.End.{End}
-use Rattle.nomos_ledger.specs.declared.journal.End.TheVariants as end
-use Rattle.nomos_ledger.specs.declared.journal.Firing.{Firing}
+use Rattle.nomos_first_ledger.proofs.LegalLaws.{first-push}
+use Rattle.nomos_first_ledger.proofs.StandsForLaws.{world-closed, commit-stands}
+use Rattle.nomos_first_ledger.specs.Ending.{EndsAs}
+use Rattle.nomos_first_ledger.specs.Legal.{IsFirst, no_firing, batch_limit}
+use Rattle.nomos_first_ledger.specs.Ledger.{LedgerState}
+use Rattle.nomos_first_ledger.specs.StandsFor.{StandsFor, WorldStandsFor, FiresIn}
+use Rattle.nomos_first_ledger.specs.Starting.{resolve_batch}
+use Rattle.nomos_first_ledger.specs.World.{WorldState, start_of, committed, pids_of}
+use Rattle.nomos_first_ledger.specs.declared.journal.End.{End}
+use Rattle.nomos_first_ledger.specs.declared.journal.End.TheVariants as end
+use Rattle.nomos_first_ledger.specs.declared.journal.Firing.{Firing}
 use Rattle.nomos_top.proofs.ProgressLaws.{Closes, Enters, adds-committed, adds-undone, adds-from, pids-length}
 use Rattle.nomos_top.specs.Progress.{Adds, Fires, HasSpace, entry_of, is_committed}
 use Rattle.nomos_top.specs.Report.{end_lines}

@@ -1,6 +1,6 @@
 -- All that is claimed of a call, of one and the same text of its contract, and of its script.
 use Rattle.std.specs.Prelude.{ℕ, List, Option}
-use Rattle.nomos_ledger.specs.declared.journal.Journal.{Journal}
+use Rattle.nomos_first_ledger.specs.declared.journal.Journal.{Journal}
 use Rattle.nomos_top.specs.Claim.{Call, IsCorrect, IsComplete, RefusesTruly}
 use Rattle.nomos_top.specs.Outcome.{Ends}
 use Rattle.nomos_top.specs.Outside.{SourceState, SinkState, IsTextOf, input_of}

@@ -7,11 +7,11 @@ use Rattle.nomos_accept.specs.declared.refusal.AcceptError.TheVariants as error
 use Rattle.nomos_ir.specs.Amounts.{star_count}
 use Rattle.nomos_least.specs.LeastBounds.{IsLeastAs}
 use Rattle.nomos_least.specs.declared.least.LeastBounds.{LeastBounds}
-use Rattle.nomos_ledger.specs.Ledger.{LedgerState, empty_ledger}
-use Rattle.nomos_ledger.specs.Legal.{Leads}
-use Rattle.nomos_ledger.specs.StandsFor.{StandsFor}
-use Rattle.nomos_ledger.specs.declared.journal.Entry.{Entry}
-use Rattle.nomos_ledger.specs.declared.journal.Journal.{Journal}
+use Rattle.nomos_first_ledger.specs.Ledger.{LedgerState, empty_ledger}
+use Rattle.nomos_first_ledger.specs.Legal.{Leads}
+use Rattle.nomos_first_ledger.specs.StandsFor.{StandsFor}
+use Rattle.nomos_first_ledger.specs.declared.journal.Entry.{Entry}
+use Rattle.nomos_first_ledger.specs.declared.journal.Journal.{Journal}
 use Rattle.nomos_script.specs.ScriptReading.{IsSyntaxAt, text_limit}
 use Rattle.nomos_script.specs.declared.item.ScriptItem.{ScriptItem}
 use Rattle.nomos_top.specs.Block.{read_fault_line}

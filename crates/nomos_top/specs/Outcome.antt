@@ -5,10 +5,10 @@ use Rattle.nomos_accept.specs.declared.refusal.Why.{Why}
 use Rattle.nomos_base.specs.Sink.{with_end, AppendsSome}
 use Rattle.nomos_least.specs.LeastBounds.{IsLeastAs}
 use Rattle.nomos_least.specs.declared.least.LeastBounds.{LeastBounds}
-use Rattle.nomos_ledger.specs.Ledger.{LedgerState, empty_ledger}
-use Rattle.nomos_ledger.specs.Legal.{IsLegal}
-use Rattle.nomos_ledger.specs.StandsFor.{StandsFor}
-use Rattle.nomos_ledger.specs.declared.journal.Journal.{Journal}
+use Rattle.nomos_first_ledger.specs.Ledger.{LedgerState, empty_ledger}
+use Rattle.nomos_first_ledger.specs.Legal.{IsLegal}
+use Rattle.nomos_first_ledger.specs.StandsFor.{StandsFor}
+use Rattle.nomos_first_ledger.specs.declared.journal.Journal.{Journal}
 use Rattle.nomos_script.specs.ScriptReading.{IsSyntaxAt, text_limit}
 use Rattle.nomos_script.specs.declared.item.ScriptItem.{ScriptItem}
 use Rattle.nomos_simplex.specs.declared.solved.Stop.{Stop}

@@ -5,13 +5,13 @@ use Rattle.nomos_types.specs.Acceptance.{Acceptance}
 use Rattle.nomos_script.specs.declared.item.ScriptItem.{ScriptItem}
 use Rattle.nomos_script.specs.Size.{entry_count, start_count}
 use Rattle.nomos_config.specs.Run.{IsQuiet}
-use Rattle.nomos_ledger.specs.Ledger.{LedgerState, empty_ledger}
-use Rattle.nomos_ledger.specs.Legal.{Leads, IsFirst, firings_in, max_firings}
-use Rattle.nomos_ledger.specs.StandsFor.{StandsFor, WorldStandsFor}
-use Rattle.nomos_ledger.specs.World.{WorldState, start_of, pids_of}
-use Rattle.nomos_ledger.specs.declared.journal.End.{End}
-use Rattle.nomos_ledger.specs.declared.journal.End.TheVariants as end
-use Rattle.nomos_ledger.specs.declared.journal.Entry.{Entry}
+use Rattle.nomos_first_ledger.specs.Ledger.{LedgerState, empty_ledger}
+use Rattle.nomos_first_ledger.specs.Legal.{Leads, IsFirst, firings_in, max_firings}
+use Rattle.nomos_first_ledger.specs.StandsFor.{StandsFor, WorldStandsFor}
+use Rattle.nomos_first_ledger.specs.World.{WorldState, start_of, pids_of}
+use Rattle.nomos_first_ledger.specs.declared.journal.End.{End}
+use Rattle.nomos_first_ledger.specs.declared.journal.End.TheVariants as end
+use Rattle.nomos_first_ledger.specs.declared.journal.Entry.{Entry}
 use Rattle.nomos_top.specs.Report.{report_lines, AllFollowFirst}
 use Rattle.nomos_top.specs.declared.running.Running.{Running}
 

@@ -15,15 +15,15 @@ use Rattle.nomos_config.specs.Start.{cleared}
 use Rattle.nomos_config.specs.State.{State}
 use Rattle.nomos_config.specs.declared.object.Object.{Object}
 use Rattle.nomos_config.specs.declared.object.Object.TheVariants as object
-use Rattle.nomos_ledger.specs.Ledger.{LedgerState, empty_ledger, deposited}
-use Rattle.nomos_ledger.specs.Legal.{IsFirst}
-use Rattle.nomos_ledger.specs.Starting.{BatchOutcome, after_starts, resolve_batch}
-use Rattle.nomos_ledger.specs.declared.journal.End.{End}
-use Rattle.nomos_ledger.specs.declared.journal.End.TheVariants as end
-use Rattle.nomos_ledger.specs.declared.journal.Entry.{Entry}
-use Rattle.nomos_ledger.specs.declared.journal.Journal.{Journal}
-use Rattle.nomos_ledger.specs.declared.refusal.Refusal.{Refusal}
-use Rattle.nomos_ledger.specs.declared.refusal.Refusal.TheVariants as refusal
+use Rattle.nomos_first_ledger.specs.Ledger.{LedgerState, empty_ledger, deposited}
+use Rattle.nomos_first_ledger.specs.Legal.{IsFirst}
+use Rattle.nomos_first_ledger.specs.Starting.{BatchOutcome, after_starts, resolve_batch}
+use Rattle.nomos_first_ledger.specs.declared.journal.End.{End}
+use Rattle.nomos_first_ledger.specs.declared.journal.End.TheVariants as end
+use Rattle.nomos_first_ledger.specs.declared.journal.Entry.{Entry}
+use Rattle.nomos_first_ledger.specs.declared.journal.Journal.{Journal}
+use Rattle.nomos_first_ledger.specs.declared.refusal.Refusal.{Refusal}
+use Rattle.nomos_first_ledger.specs.declared.refusal.Refusal.TheVariants as refusal
 use Rattle.nomos_top.specs.Block.{line, accepted_block}
 
 -- why a line could not be carried out; amounts have so many Dths to the unit

@@ -5,8 +5,8 @@ ghost use Rattle.nomos_top.specs.Outcome.{no_journal, steps};
 ghost use Rattle.nomos_top.specs.Judging.{IsDueAs, IsPartAs};
 
 use crate::running::STEPS;
+use nomos_first_ledger::journal::{Entries, Journal};
 use nomos_ir::items::Items;
-use nomos_ledger::journal::{Entries, Journal};
 use nomos_types::accepted::Accepted;
 use std::alloc::Global;
 

@@ -11,10 +11,10 @@ use nomos_base::push_gas;
 use nomos_config::machine::Machine;
 use nomos_config::object::{Object, Process};
 use nomos_config::plain::PlainState;
+use nomos_first_ledger::journal::End;
+use nomos_first_ledger::refusal::Refusal;
 use nomos_ir::fault::Fault;
 use nomos_ir::mode::Mode;
-use nomos_ledger::journal::End;
-use nomos_ledger::refusal::Refusal;
 use std::alloc::AllocError;
 
 /// Appends a number.

@@ -1,11 +1,11 @@
 //! Runs scripts: each batch by firing the lowest ready process, within the limits on firings.
 
 ghost use Rattle.std.specs.Prelude.{◌≡◌, ℕ, ◌+◌, ◌-◌, ◌<◌, ◌≤◌, ◌^◌, [], ◌∷◌, ◌++◌, IfOk, IfErr, Ok, OnOk, OnErr, length, if◌then◌else◌};
-ghost use Rattle.nomos_ledger.specs.Ending.{EndsAs};
-ghost use Rattle.nomos_ledger.specs.Legal.{batch_limit, max_firings};
-ghost use Rattle.nomos_ledger.specs.StandsFor.{StandsFor, WorldStandsFor};
-ghost use Rattle.nomos_ledger.specs.World.{committed, pids_of};
-ghost use Rattle.nomos_ledger.specs.Starting.{resolve_batch};
+ghost use Rattle.nomos_first_ledger.specs.Ending.{EndsAs};
+ghost use Rattle.nomos_first_ledger.specs.Legal.{batch_limit, max_firings};
+ghost use Rattle.nomos_first_ledger.specs.StandsFor.{StandsFor, WorldStandsFor};
+ghost use Rattle.nomos_first_ledger.specs.World.{committed, pids_of};
+ghost use Rattle.nomos_first_ledger.specs.Starting.{resolve_batch};
 ghost use Rattle.nomos_script.specs.Size.{IsScriptSize, start_count};
 ghost use Rattle.nomos_script.specs.declared.item.Batch.{Batch};
 ghost use Rattle.nomos_script.specs.declared.item.ScriptItem.{ScriptItem};
@@ -16,11 +16,11 @@ ghost use Rattle.nomos_top.specs.Report.{end_lines};
 use crate::report::{Course, push_end};
 use nomos_config::fire::Fire;
 use nomos_config::machine::Machine;
+use nomos_first_ledger::begun::Begun;
+use nomos_first_ledger::journal::{End, Entries, Entry, Firing, Firings, Pids};
+use nomos_first_ledger::ledger::Ledger;
+use nomos_first_ledger::world::World;
 use nomos_ir::items::Items;
-use nomos_ledger::begun::Begun;
-use nomos_ledger::journal::{End, Entries, Entry, Firing, Firings, Pids};
-use nomos_ledger::ledger::Ledger;
-use nomos_ledger::world::World;
 use nomos_script::item::{Batch, ScriptItem};
 use nomos_script::name::ScriptName;
 use nomos_types::accepted::Accepted;

@@ -1,6 +1,6 @@
 use Rattle.std.proofs.Common.{ap, arith, length, inl}
 use Rattle.nomos_config.specs.declared.fire.Fire.TheVariants as fire
-use Rattle.nomos_ledger.specs.StandsFor.{FiresIn}
+use Rattle.nomos_first_ledger.specs.StandsFor.{FiresIn}
 use Rattle.nomos_top.proofs.JournalLaws.{rises-step}
 use Rattle.nomos_top.proofs.WorldLaws.{firing_of, fires-none, fires-more, fired-length, none-quiet}
 use Rattle.nomos_top.proofs.running.fire_all.Goals as goal

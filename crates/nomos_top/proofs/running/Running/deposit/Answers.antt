@@ -1,7 +1,7 @@
 use Rattle.std.proofs.Common.{arith}
 use Rattle.nomos_script.specs.declared.item.ScriptItem.TheVariants as item
 use Rattle.nomos_config.specs.State.{State}
-use Rattle.nomos_ledger.specs.Ledger.{LedgerState}
+use Rattle.nomos_first_ledger.specs.Ledger.{LedgerState}
 use Rattle.nomos_top.specs.Progress.{entry_of}
 use Rattle.nomos_top.specs.Report.{end_lines}
 use Rattle.nomos_top.proofs.ProgressLaws.{adds-deposit, adds-from, on_ok-both}

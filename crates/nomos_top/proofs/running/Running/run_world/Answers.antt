@@ -1,6 +1,6 @@
 use Rattle.std.proofs.Common.{◌≡◌, ap, arith, length, refl}
 use Rattle.nomos_config.specs.State.{State}
-use Rattle.nomos_ledger.specs.World.{pids_of}
+use Rattle.nomos_first_ledger.specs.World.{pids_of}
 use Rattle.nomos_top.proofs.JournalLaws.{starts-keep}
 use Rattle.nomos_top.proofs.WorldLaws.{fresh-start, world-adds}
 use Rattle.nomos_top.proofs.running.Running.run_world.Goals as goal

@@ -1,0 +1,33 @@
+-- How a batch may end.
+use Rattle.std.specs.Prelude.{◌≡◌, ◌≢◌, ℕ, ◌<◌, Contains, Some}
+use Rattle.nomos_ir.specs.declared.mode.Mode.TheVariants as mode
+use Rattle.nomos_types.specs.Acceptance.{Acceptance}
+use Rattle.nomos_machine.specs.Run.{IsQuiet}
+use Rattle.nomos_machine.specs.State.{State}
+use Rattle.nomos_machine.specs.Step.{fault}
+use Rattle.nomos_machine.specs.declared.object.Object.TheVariants as object
+use Rattle.nomos_machine.specs.declared.object.Process.{Process}
+use Rattle.nomos_legal.specs.declared.journal.End.{End}
+use Rattle.nomos_legal.specs.declared.journal.End.TheVariants as end
+
+-- a transaction is left
+pub record HasTransaction (s : State) : Type 0 where
+  pub process : Process
+  pub there : Contains s.objects (object.Process process)
+  pub at_t : process.mode ≡ mode.T
+
+-- the end that a state gives after so many firings of at most so many, faults apart
+abbrev pub EndsAs : Acceptance → State → ℕ → ℕ → End → Type 0
+EndsAs a s count limit end.Committed = IsQuiet a s × ¬ (HasTransaction s)
+EndsAs a s count limit end.Blocked = IsQuiet a s × HasTransaction s
+EndsAs a s count limit (end.Steps n) = (n ≡ limit) × (count ≡ limit) × ¬ IsQuiet a s
+EndsAs a s count limit _ = ⊥
+
+-- a batch goes on after so many firings of at most so many
+abbrev pub GoesOn : Acceptance → State → ℕ → ℕ → Type 0
+GoesOn a s count limit = (¬ IsQuiet a s) × (count ≢ limit)
+
+-- The ends that are allowed for a state. A fault may end a batch only before the limit is reached.
+abbrev pub IsAllowed : Acceptance → State → ℕ → ℕ → End → Type 0
+IsAllowed a s count limit (end.Aborted pid e) = (count < limit) × (fault a s pid ≡ Some e)
+IsAllowed a s count limit e = EndsAs a s count limit e

@@ -1,0 +1,9 @@
+pub mod Ledger
+pub mod Starting
+pub mod Batch
+pub mod Ending
+pub mod World
+pub mod StandsFor
+pub mod Passage
+pub mod Legal
+pub mod Right
