@@ -1,2 +1,3 @@
 pub mod SettledLaws
 pub mod NamedLaws
+pub mod ResolveLaws
