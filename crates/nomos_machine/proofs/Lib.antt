@@ -53,6 +53,7 @@ mod RunExamples
 mod QuietExamples
 pub mod FaultLaws
 pub mod FiringLaws
+pub mod RunLaws
 pub mod ContractLaws
 pub mod OutsideLaws
 pub mod IdleLaws
