@@ -3,3 +3,4 @@ pub mod NamedLaws
 pub mod ResolveLaws
 pub mod StartLaws
 pub mod WorldLaws
+pub mod UniqueLaws
