@@ -1,17 +1,33 @@
 -- A line, a batch, an end and a journal come to one outcome each.
-use Rattle.std.proofs.Common.{◌≡◌, ◌∙◌, ℕ, ◌<◌, ◌≤◌, List, ◌∷◌, Option, Some, None, Result, Ok, Err, position, slice_get, slice_index, refl, sym, subst, ap, arith}
+use Rattle.std.proofs.Common.{◌+◌, ◌≡◌, ◌∙◌, ℕ, ◌<◌, ◌≤◌, List, ◌∷◌, Option, Some, None, Result, Ok, Err, position, slice_get, slice_index, refl, sym, subst, ap, arith, [], length, map, ◌++◌, Bool, true, false, is_some}
+use Rattle.std.specs.Option.{option_to_list}
 use Rattle.std.proofs.lemmas.Option.{none-some, same_Some}
 use Rattle.nomos_ir.specs.declared.declaration.ProcDecl.{ProcDecl}
 use Rattle.nomos_ir.specs.declared.ids.TypeId.{TypeId}
 use Rattle.nomos_ir.specs.declared.ids.VarId.{VarId}
 use Rattle.nomos_types.specs.Acceptance.{Acceptance}
 use Rattle.nomos_types.specs.Amount.{dths}
+use Rattle.nomos_machine.specs.Run.{run}
+use Rattle.nomos_machine.specs.Starting.{cleared}
+use Rattle.nomos_machine.specs.State.{State}
+use Rattle.nomos_script.specs.declared.item.Batch.{Batch}
+use Rattle.nomos_script.specs.declared.item.ScriptItem.{ScriptItem}
+use Rattle.nomos_script.specs.declared.item.ScriptItem.TheVariants as item
 use Rattle.nomos_script.specs.declared.item.Start.{Start}
 use Rattle.nomos_legal.specs.Batch.{AllStart, OneRefuses, after_start, after_starts}
 use Rattle.nomos_legal.specs.Batch as batch
-use Rattle.nomos_legal.specs.Ledger.{LedgerState, account_of, shared_name}
+use Rattle.nomos_legal.specs.Ending.{EndsAs, IsAllowed}
+use Rattle.nomos_legal.specs.Ledger.{LedgerState, account_of, deposited, shared_name}
+use Rattle.nomos_legal.specs.Legal.{Leads, Tells, batch_limit, entries_of, firings_in}
+use Rattle.nomos_legal.specs.Legal as legal
+use Rattle.nomos_legal.specs.Passage.{Passage, IsPassage, RunsTo, Undoes, bare, runs, still}
+use Rattle.nomos_legal.specs.Passage as passage
 use Rattle.nomos_legal.specs.Starting.{ContractFits, ContractsFit, ArgumentsFit, IsPayer, IsDeclaration, NameIsFree, Resolves, is_wanted, started_by}
 use Rattle.nomos_legal.specs.Starting as line
+use Rattle.nomos_legal.specs.declared.journal.End.{End}
+use Rattle.nomos_legal.specs.declared.journal.End.TheVariants as end
+use Rattle.nomos_legal.specs.declared.journal.Entry.{Entry}
+use Rattle.nomos_legal.specs.declared.journal.Journal.{Journal}
 use Rattle.nomos_legal.specs.declared.refusal.Refusal.{Refusal}
 use Rattle.nomos_legal.specs.declared.refusal.Refusal.TheVariants as refusal
 use Rattle.nomos_legal.specs.declared.resolved.Resolved.{Resolved}
@@ -182,3 +198,176 @@ starts-or_refuses {a} (batch.line l start r starts rs resolves rest)
     (batch.later k first q others line why resolves_other rest_other) =
     let same : q ≡ r = starts-one resolves_other resolves in
     starts-or_refuses rest (subst (λ (x : Resolved). OneRefuses a (after_start a l x) starts line why) same rest_other)
+
+-- ---- ends
+
+-- the end that a state gives is one
+pub ends-one : (a : Acceptance) (s : State) (count limit : ℕ) (e f : End) → EndsAs a s count limit e
+    → EndsAs a s count limit f → e ≡ f
+ends-one a s count limit end.Committed end.Committed one other = refl
+ends-one a s count limit end.Blocked end.Blocked one other = refl
+ends-one a s count limit (end.Steps n) (end.Steps m) one other = ap end.Steps (one.0 ∙ sym other.0)
+ends-one a s count limit end.Committed end.Blocked one other = absurd (one.1 other.1)
+ends-one a s count limit end.Blocked end.Committed one other = absurd (other.1 one.1)
+ends-one a s count limit end.Committed (end.Steps m) one other = absurd (other.2 one.0)
+ends-one a s count limit (end.Steps n) end.Committed one other = absurd (one.2 other.0)
+ends-one a s count limit end.Blocked (end.Steps m) one other = absurd (other.2 one.0)
+ends-one a s count limit (end.Steps n) end.Blocked one other = absurd (one.2 other.0)
+ends-one a s count limit _ end.Deposited one other = absurd other
+ends-one a s count limit _ (end.Aborted pid f) one other = absurd other
+ends-one a s count limit _ (end.Refused line cause) one other = absurd other
+ends-one a s count limit end.Deposited _ one other = absurd one
+ends-one a s count limit (end.Aborted pid f) _ one other = absurd one
+ends-one a s count limit (end.Refused line cause) _ one other = absurd one
+
+-- ---- passages
+
+-- the lists of entries and their parts
+abbrev ending : Option Entry → List End
+ending (Some entry) = entry.end ∷ []
+ending None = []
+
+abbrev firing : Option Entry → List (List ℕ)
+firing (Some entry) = entry.firings ∷ []
+firing None = []
+
+-- the lines of one batch come to the same starts in one ledger
+begun-one : {a : Acceptance} {l k : LedgerState} {batch other : Batch} {starts others : List Resolved}
+    → AllStart a l batch.starts starts → AllStart a k other.starts others → l ≡ k → batch ≡ other → starts ≡ others
+begun-one {a} {l} {k} {batch} {other} {starts} {others} one two ledger batches =
+    all_start-one one
+    (subst (λ (b : Batch). AllStart a l b.starts others) (sym batches)
+    (subst (λ (m : LedgerState). AllStart a m other.starts others) (sym ledger) two))
+
+-- and the same firings lead to one state
+reached-one : (a : Acceptance) {l k : LedgerState} {starts others : List Resolved} {pids more : List ℕ} {s t : State}
+    → run a (after_starts a l starts).state pids ≡ Some s → run a (after_starts a k others).state more ≡ Some t
+    → l ≡ k → starts ≡ others → pids ≡ more → s ≡ t
+reached-one a {s = s} {t = t} one two ledger starts pids =
+    same_Some s t (sym one ∙ (λ i. run a (after_starts a (ledger i) (starts i)).state (pids i)) ∙ two)
+
+-- What becomes of an item of a ledger, with this entry, is one thing.
+record Alike (p q : Passage) : Type 0 where
+  item : p.item ≡ q.item
+  entry : p.entry ≡ q.entry
+  before : p.before ≡ q.before
+
+-- the item and the end
+abbrev told_by : Passage → ScriptItem × List End
+told_by p = (p.item, ending p.entry)
+
+told : {p q : Passage} → Alike p q → told_by p ≡ told_by q
+told alike = (λ i. (alike.item i, ending (alike.entry i)))
+
+passage-same : {a : Acceptance} {most : ℕ} {p q : Passage} → IsPassage a most p → IsPassage a most q → Alike p q → p ≡ q
+passage-same {a} (passage.deposit l line units name fits) (passage.deposit k line_other units_other name_other fits_other) alike =
+    let lines : line ≡ line_other = cc (alike.item) in
+    let amounts : units ≡ units_other = cc (alike.item) in
+    let names : name ≡ name_other = cc (alike.item) in
+    (λ i. still (item.Deposit (lines i) (names i) (amounts i)) (bare (lines i) end.Deposited) (alike.before i)
+    (deposited a.annotations.unit (alike.before i) (names i) (amounts i)))
+passage-same (passage.deposit l line units name fits) _ alike = absurd (let same = told alike in cc)
+passage-same (passage.no_deposit l line units name never) (passage.no_deposit k line_other units_other name_other never_other) alike =
+    let lines : line ≡ line_other = cc (alike.item) in
+    let amounts : units ≡ units_other = cc (alike.item) in
+    let names : name ≡ name_other = cc (alike.item) in
+    (λ i. still (item.Deposit (lines i) (names i) (amounts i)) (bare (lines i) (end.Refused (lines i) refusal.TooMuchGas))
+    (alike.before i) (alike.before i))
+passage-same (passage.no_deposit l line units name never) _ alike = absurd (let same = told alike in cc)
+passage-same (passage.refused l batch line cause refuses) (passage.refused k other line_other cause_other refuses_other) alike =
+    let batches : batch ≡ other = cc (alike.item) in
+    (λ i. still (item.Batch (batches i)) (alike.entry i) (alike.before i) (alike.before i))
+passage-same {a} {most} (passage.refused l batch line cause refuses)
+    (passage.undone k other starts pids last answer begun reaches undoes) alike =
+    let is : answer ≡ end.Refused line cause = cc (ap ending alike.entry) in
+    absurd (subst (λ (e : End). IsAllowed a last (length pids) most e) is reaches.allowed)
+passage-same (passage.refused l batch line cause refuses) _ alike = absurd (let same = told alike in cc)
+passage-same (passage.shown l line) (passage.shown k line_other) alike =
+    let lines : line ≡ line_other = cc (alike.item) in
+    (λ i. still (item.Show (lines i)) None (alike.before i) (alike.before i))
+passage-same (passage.shown l line) _ alike = absurd (cc (alike.item))
+passage-same {a} (passage.stays l batch starts pids last begun reaches)
+    (passage.stays k other others more last_other begun_other reaches_other) alike =
+    let batches : batch ≡ other = cc (alike.item) in
+    let fired : pids ≡ more = cc (ap firing alike.entry) in
+    let same : starts ≡ others = begun-one begun begun_other alike.before batches in
+    let state : last ≡ last_other = reached-one a reaches.reached reaches_other.reached alike.before same fired in
+    (λ i. runs (batches i) (fired i) end.Committed (alike.before i) (after_starts a (alike.before i) (same i)) (state i)
+    (record (after_starts a (alike.before i) (same i)) { state = cleared (state i) }))
+passage-same (passage.stays l batch starts pids last begun reaches)
+    (passage.undone k other others more last_other answer begun_other reaches_other undoes) alike =
+    let is : answer ≡ end.Committed = cc (ap ending alike.entry) in absurd (subst Undoes is undoes)
+passage-same (passage.stays l batch starts pids last begun reaches) _ alike =
+    absurd (let same = told alike in cc)
+passage-same {a} (passage.undone l batch starts pids last answer begun reaches undoes)
+    (passage.undone k other others more last_other answer_other begun_other reaches_other undoes_other) alike =
+    let batches : batch ≡ other = cc (alike.item) in
+    let fired : pids ≡ more = cc (ap firing alike.entry) in
+    let answers : answer ≡ answer_other = cc (ap ending alike.entry) in
+    let same : starts ≡ others = begun-one begun begun_other alike.before batches in
+    let state : last ≡ last_other = reached-one a reaches.reached reaches_other.reached alike.before same fired in
+    (λ i. runs (batches i) (fired i) (answers i) (alike.before i) (after_starts a (alike.before i) (same i)) (state i)
+    (alike.before i))
+passage-same {a} {most} (passage.undone l batch starts pids last answer begun reaches undoes)
+    (passage.refused k other line cause refuses) alike =
+    let is : answer ≡ end.Refused line cause = cc (ap ending alike.entry) in
+    absurd (subst (λ (e : End). IsAllowed a last (length pids) most e) is reaches.allowed)
+passage-same (passage.undone l batch starts pids last answer begun reaches undoes)
+    (passage.stays k other others more last_other begun_other reaches_other) alike =
+    let is : answer ≡ end.Committed = cc (ap ending alike.entry) in absurd (subst Undoes is undoes)
+passage-same (passage.undone l batch starts pids last answer begun reaches undoes) _ alike = absurd (cc (alike.item))
+
+-- what becomes of an item is one thing
+pub passage-one : {a : Acceptance} {most : ℕ} {p q : Passage} → IsPassage a most p → IsPassage a most q
+    → p.item ≡ q.item → p.entry ≡ q.entry → p.before ≡ q.before → p ≡ q
+passage-one one two item entry before = passage-same one two (record { item = item; entry = entry; before = before })
+
+-- ---- journals
+
+-- all items but a `show` have an entry
+abbrev has_entry : ScriptItem → Bool
+has_entry (item.Show line) = false
+has_entry _ = true
+
+entry-told : {a : Acceptance} {most : ℕ} {p : Passage} → IsPassage a most p → is_some p.entry ≡ has_entry p.item
+entry-told (passage.deposit l line units name fits) = refl
+entry-told (passage.no_deposit l line units name never) = refl
+entry-told (passage.refused l batch line cause refuses) = refl
+entry-told (passage.stays l batch starts pids last begun reaches) = refl
+entry-told (passage.undone l batch starts pids last answer begun reaches undoes) = refl
+entry-told (passage.shown l line) = refl
+
+-- where both are there or neither is, lists that begin with them are equal only where they are
+first-entry : (e f : Option Entry) (es fs : List Entry) → is_some e ≡ is_some f
+    → option_to_list e ++ es ≡ option_to_list f ++ fs → (e ≡ f) × (es ≡ fs)
+first-entry (Some e) (Some f) es fs both same = (cc, cc)
+first-entry None None es fs both same = (refl, same)
+first-entry (Some e) None es fs both same = absurd cc
+first-entry None (Some f) es fs both same = absurd cc
+
+leads-same : {a : Acceptance} {limit made k : ℕ} {l h last m : LedgerState} {ps qs : List Passage}
+    → Leads a limit made l ps last → Leads a limit k h qs m → made ≡ k → l ≡ h
+    → map (λ p. p.item) ps ≡ map (λ p. p.item) qs → entries_of ps ≡ entries_of qs → (ps ≡ qs) × (last ≡ m)
+leads-same (legal.done made l) (legal.done k h) count ledger items entries = (refl, ledger)
+leads-same (legal.done made l) (legal.passes k q qs m is rest) count ledger items entries = absurd cc
+leads-same (legal.passes made p ps last is rest) (legal.done k h) count ledger items entries = absurd cc
+leads-same {a} {limit} (legal.passes made p ps last is rest) (legal.passes k q qs m is_other rest_other) count ledger
+    items entries =
+    let item : p.item ≡ q.item = cc items in
+    let others : map (λ (x : Passage). x.item) ps ≡ map (λ (x : Passage). x.item) qs = cc items in
+    let both : is_some p.entry ≡ is_some q.entry = entry-told is ∙ ap has_entry item ∙ sym (entry-told is_other) in
+    let (entry, more) = first-entry p.entry q.entry (entries_of ps) (entries_of qs) both entries in
+    let same : p ≡ q =
+    passage-one is (subst (λ (n : ℕ). IsPassage a (batch_limit limit n) q) (sym count) is_other) item entry ledger
+    in
+    let (further, end_ledger) =
+    leads-same rest rest_other (λ i. count i + length (firings_in (entry i))) (ap (λ (x : Passage). x.after) same)
+    others more
+    in
+    ((λ i. same i ∷ further i), end_ledger)
+
+-- the passages of a journal and the ledger to which they lead are determined
+pub tells-one : {a : Acceptance} {items : List ScriptItem} {journal : Journal} {ps qs : List Passage}
+    {last m : LedgerState} → Tells a items journal ps last → Tells a items journal qs m → (ps ≡ qs) × (last ≡ m)
+tells-one one two =
+    leads-same one.leads two.leads refl refl (one.items_are ∙ sym two.items_are) (one.entries_are ∙ sym two.entries_are)
