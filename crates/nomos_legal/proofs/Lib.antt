@@ -4,3 +4,4 @@ pub mod ResolveLaws
 pub mod StartLaws
 pub mod WorldLaws
 pub mod UniqueLaws
+pub mod LegalLaws
