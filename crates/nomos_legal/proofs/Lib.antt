@@ -5,3 +5,4 @@ pub mod StartLaws
 pub mod WorldLaws
 pub mod UniqueLaws
 pub mod LegalLaws
+pub mod RightLaws

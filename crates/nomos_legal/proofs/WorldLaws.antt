@@ -5,7 +5,7 @@ use Rattle.std.proofs.lemmas.Option.{same_Some}
 use Rattle.nomos_ir.specs.declared.ids.CodeId.{CodeId}
 use Rattle.nomos_types.specs.Acceptance.{Acceptance, IsAccepted}
 use Rattle.nomos_machine.specs.Optional.{◌>>=◌}
-use Rattle.nomos_machine.specs.Run.{run}
+use Rattle.nomos_machine.specs.Run.{IsQuiet, run}
 use Rattle.nomos_machine.specs.Starting.{cleared}
 use Rattle.nomos_machine.specs.State.{State, gas_of, process_at}
 use Rattle.nomos_machine.specs.Step.{step, deed, state_after}
@@ -18,7 +18,7 @@ use Rattle.nomos_machine.proofs.RunLaws.{Rises, run-rises}
 use Rattle.nomos_machine.proofs.StartingLaws.{cleared-typed}
 use Rattle.nomos_script.specs.declared.item.Start.{Start}
 use Rattle.nomos_legal.specs.Batch.{AllStart, after_starts}
-use Rattle.nomos_legal.specs.Ending.{EndsAs}
+use Rattle.nomos_legal.specs.Ending.{EndsAs, HasTransaction}
 use Rattle.nomos_legal.specs.Ledger.{AreNamed, LedgerState, IsLedger}
 use Rattle.nomos_legal.specs.StandsFor.{IsSettled, StandsFor, WorldStandsFor}
 use Rattle.nomos_legal.specs.World.{WorldState, IsWorld, FiresAt, start_of, pids_of, committed}
@@ -126,9 +126,9 @@ reached-settled {a} {l} {t} reached few = record {
 }
 
 -- and stands, where that state is quiet and no transaction is left in it
-pub reached-stands : {a : Acceptance} → IsAccepted a → {l : LedgerState} {t : State} (count limit : ℕ) → Reached a l t
-    → l.deposits < 2 ^ 64 → EndsAs a t count limit end.Committed → StandsFor a (record l { state = cleared t })
-reached-stands accepted count limit reached few ends = record {
+pub reached-stands : {a : Acceptance} → IsAccepted a → {l : LedgerState} {t : State} → Reached a l t → l.deposits < 2 ^ 64
+    → IsQuiet a t × ¬ (HasTransaction t) → StandsFor a (record l { state = cleared t })
+reached-stands accepted reached few ends = record {
   settled = reached-settled reached few;
   quiet = same-quiet accepted reached.typed (cleared-typed reached.typed) refl ends.0;
   no_transaction = same-no_transaction refl ends.1;
@@ -252,7 +252,7 @@ module _ {a : Acceptance} (accepted : IsAccepted a) {w : WorldState} (stands : W
   pub committed-stands : (count limit : ℕ) → EndsAs a w.state count limit end.Committed → StandsFor a (committed w)
   committed-stands count limit ends =
       subst (StandsFor a) (sym (committed-is stands))
-      (reached-stands accepted count limit world-reached stands.start.few ends)
+      (reached-stands accepted world-reached stands.start.few ends)
 
 -- accounts and contracts are named in it as they are in the world
 pub committed-named : (w : WorldState) → IsWorld w → IsLedger (committed w)
