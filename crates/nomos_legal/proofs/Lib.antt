@@ -6,3 +6,4 @@ pub mod WorldLaws
 pub mod UniqueLaws
 pub mod LegalLaws
 pub mod RightLaws
+pub mod NextNumberLaws

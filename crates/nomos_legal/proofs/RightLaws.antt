@@ -105,7 +105,7 @@ module _ {a : Acceptance} (accepted : IsAccepted a) where
   }
 
   -- the start of a batch
-  batch-started : {l : LedgerState} {lines : List Start} {starts : List Resolved} → Standing a l
+  pub batch-started : {l : LedgerState} {lines : List Start} {starts : List Resolved} → Standing a l
       → AllStart a l lines starts → Started a (length starts) l (after_starts a l starts)
   batch-started standing begun = starts-started accepted standing.stands.settled standing.counted begun
 
@@ -175,6 +175,9 @@ module _ {a : Acceptance} (accepted : IsAccepted a) where
   }
   passage-passes (passage.shown l line) standing = unchanged _ _ refl standing
 
+  pub passage-standing : {most : ℕ} {p : Passage} → IsPassage a most p → Standing a p.before → Standing a p.after
+  passage-standing is standing = (passage-passes is standing).after
+
 -- ---- journals
 
 leads-right : {a : Acceptance} → IsAccepted a → {limit made : ℕ} {l last : LedgerState} {ps : List Passage}
@@ -185,7 +188,7 @@ leads-right {a} accepted (legal.passes made p ps last is rest) standing =
     let (others, after) = leads-right accepted rest first.after in
     (All-cons (GoesRight a) p ps first.right others, after)
 
-empty-standing : (a : Acceptance) → Standing a empty_ledger
+pub empty-standing : (a : Acceptance) → Standing a empty_ledger
 empty-standing a = record { stands = empty-stands a; counted = refl }
 
 -- What a reader of a legal journal relies on: all its passages go right, those of batches that are undone too, and the
