@@ -7,3 +7,4 @@ pub mod UniqueLaws
 pub mod LegalLaws
 pub mod RightLaws
 pub mod NextNumberLaws
+pub mod WorldCostLaws
