@@ -1,0 +1,7 @@
+//! Ledgers and batches under way, over a machine that can go back to a state that was marked.
+#![tactic(auto)]
+
+mod account_names;
+mod books;
+mod contract_names;
+pub mod named;
