@@ -3,14 +3,12 @@
 use crate::account_names::AccountNames;
 use crate::contract_names::ContractNames;
 use nomos_deeds::undo::Undo;
-use std::alloc::Global;
 use std::marker::Model;
 
 /// Accounts and contracts by name, the sum of the deposits in whole units, and the machine. Contracts see them as the
 /// ledger as it stands, and the state that is marked.
 #[derive(Drop, Debug)]
 pub(crate) struct Books<M: Undo> {
-    pub(crate) alloc: Global,
     pub(crate) accounts: AccountNames,
     pub(crate) contracts: ContractNames,
     pub(crate) deposits: u64,
