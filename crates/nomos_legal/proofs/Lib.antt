@@ -1,2 +1,4 @@
 pub mod SettledLaws
 pub mod NamedLaws
+pub mod ResolveLaws
+pub mod StartLaws
