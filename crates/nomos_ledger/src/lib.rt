@@ -6,3 +6,4 @@ mod books;
 mod contract_names;
 pub mod ledger;
 pub mod named;
+mod rest;
