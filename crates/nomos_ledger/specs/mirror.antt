@@ -1,2 +1,4 @@
 pub mod Books
+pub mod Fired
 pub mod Names
+pub mod Worlds

@@ -4,6 +4,8 @@
 mod account_names;
 mod books;
 mod contract_names;
+mod fired;
 pub mod ledger;
 pub mod named;
 mod rest;
+pub mod world;
