@@ -4,4 +4,5 @@
 mod account_names;
 mod books;
 mod contract_names;
+mod fitting;
 pub mod named;
