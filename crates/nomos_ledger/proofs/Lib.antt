@@ -1,3 +1,4 @@
 pub mod AccountLemmas
 pub mod ContractLemmas
 pub mod FittingLemmas
+pub mod DeclaredLemmas

@@ -4,5 +4,6 @@
 mod account_names;
 mod books;
 mod contract_names;
+mod declared;
 mod fitting;
 pub mod named;

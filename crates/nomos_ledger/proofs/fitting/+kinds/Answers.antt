@@ -16,8 +16,7 @@ has_kind-returns-in-None t c =
     let nodes = c.in-List.nodes in
     let node_is : value_of c.args.node.now ≡ list (value_list (map value_of nodes.items)) =
     ap value_of (c.in-List.is ∙ sym (rolls-List nodes))
-    ∙ fold-roll-ValueNode Value value_step (ValueNode-F.List nodes) in
-    (
+    ∙ fold-roll-ValueNode Value value_step (ValueNode-F.List nodes) in (
       λ (yes : false ≡ true). cc,
       λ has.
           let listed = subst (λ (v : Value). ValueHasKind v c.args.kind) node_is has in
@@ -28,8 +27,7 @@ pub all_have_kind-returns-then-not-has_kind : goal.all_have_kind-returns-then-no
 all_have_kind-returns-then-not-has_kind t c =
     let P : ValueNode → Type 0 = λ n. ValueHasKind (value_of n) c.args.kind in
     let refused = c.if-not-has_kind.true in
-    let at : c.node-item.result ≡ get_or c.args.nodes.now c.loop-node.node-index c.node-item.result = c.node-item.is in
-    (
+    let at : c.node-item.result ≡ get_or c.args.nodes.now c.loop-node.node-index c.node-item.result = c.node-item.is in (
       λ (yes : false ≡ true). cc,
       λ all.
           let has = have_kind-each c.args.kind c.args.nodes.now all c.loop-node.node-index c.node-item.result c.loop-node-test.true in
@@ -48,8 +46,7 @@ all_have_kind-loop-node-preserved t c =
 pub all_have_kind-returns : goal.all_have_kind-returns
 all_have_kind-returns t c =
     let P : ValueNode → Type 0 = λ n. ValueHasKind (value_of n) c.args.kind in
-    let whole = take_all c.loop-node.node-index c.args.nodes.now (omega arith) in
-    (
+    let whole = take_all c.loop-node.node-index c.args.nodes.now (omega arith) in (
       λ yes. each-have_kind c.args.kind c.args.nodes.now (subst (λ ns. All P ns) whole c.loop-node.invariant),
       λ all. refl,
     )
