@@ -1,10 +1,9 @@
 -- Declarations by their names, and the first one that a line wants.
-use Rattle.std.proofs.Common.{◌≡◌, ◌≢◌, ◌∙◌, ◌<◌, ℕ, Bool, true, false, cond, ◌&&◌, List, [], ◌∷◌, length, map, take, get_or, AllPairs, position, Some, None, slice_get, is_some, ltb, inl, inr, refl, sym, ap, subst, arith}
+use Rattle.std.proofs.Common.{◌≡◌, ◌≢◌, ◌∙◌, ◌<◌, ℕ, Bool, true, false, cond, ◌&&◌, List, [], ◌∷◌, length, map, take, get_or, AllPairs, position, Some, None, is_some, ltb, inl, inr, refl, sym, ap, subst, arith}
 use Rattle.std.proofs.lemmas.Bool.{cases_eq, cases_lt, lt-ltb, ltb-true}
 use Rattle.std.proofs.lemmas.List.{get_or-take, length-map, length-take-le}
 use Rattle.std.proofs.lemmas.List.Quantifiers.{position-Some}
 use Rattle.std.proofs.lemmas.List.Sums.{position_or_len_is, fails_before_first}
-use Rattle.std.proofs.lemmas.Option.{slice_get-get_or, slice_get_within}
 use Rattle.std.proofs.lemmas.Slice.Eq.{bytes_eq-Decides}
 use Rattle.std.proofs.Math.ListN.{get_or-map}
 use Rattle.std.specs.List.{position_or_len}
@@ -113,67 +112,58 @@ module _ (start : Start) (procs : List ProcDecl) where
               sym (ap (λ (m : List ℕ). bytes_eq m start.proc) (name-at (e ∷ ds) j e)) ∙ no in
               ap (λ (b : Bool). b && has_mode (is_some start.contract) (get_or (e ∷ ds) j e).mode) other
 
-  module _ (k : ℕ) (d : ProcDecl) (found : position named (names_of procs) ≡ Some k) (there : slice_get procs k ≡ Some d)
-    where
-      -- the declaration stands at its place, and has the name
-      inside : k < length procs
-      inside = slice_get_within procs k d there
+  module _ (k : ℕ) (d : ProcDecl) (found : position named (names_of procs) ≡ Some k) where
+    -- the declaration that has the name
+    abbrev found_there : ProcDecl
+    found_there = get_or procs k d
 
-      at_place : get_or procs k d ≡ d
-      at_place =
-          let is = slice_get-get_or procs k d inside in
-          let same = there in
-          cc
+    facts : (k < length (names_of procs)) × (named (get_or (names_of procs) k d.name) ≡ true)
+        × ((j : ℕ) → j < k → named (get_or (names_of procs) j d.name) ≡ false)
+    facts = position-Some named (names_of procs) k d.name found
 
-      facts : (k < length (names_of procs)) × (named (get_or (names_of procs) k d.name) ≡ true)
-          × ((j : ℕ) → j < k → named (get_or (names_of procs) j d.name) ≡ false)
-      facts = position-Some named (names_of procs) k d.name found
+    inside : k < length procs
+    inside = omega (arith, facts.0, length-map procs (λ (x : ProcDecl). x.name))
 
-      has_name : bytes_eq (get_or procs k d).name start.proc ≡ true
-      has_name = sym (ap (λ (m : List ℕ). bytes_eq m start.proc) (name-at procs k d)) ∙ facts.1
+    has_name : bytes_eq found_there.name start.proc ≡ true
+    has_name = sym (ap (λ (m : List ℕ). bytes_eq m start.proc) (name-at procs k d)) ∙ facts.1
 
-      -- where its mode is the one that the line wants, it is the first one wanted
-      pub wanted-there : has_mode (is_some start.contract) d.mode ≡ true → position (is_wanted start) procs ≡ Some k
-      wanted-there right = first-place (is_wanted start) procs k d inside before here
-        where
-          before : (j : ℕ) → j < k → is_wanted start (get_or procs j d) ≡ false
-          before j below =
-              let other : bytes_eq (get_or procs j d).name start.proc ≡ false =
-              sym (ap (λ (m : List ℕ). bytes_eq m start.proc) (name-at procs j d)) ∙ facts.2 j below in
-              ap (λ (b : Bool). b && has_mode (is_some start.contract) (get_or procs j d).mode) other
+    -- where its mode is the one that the line wants, it is the first one wanted
+    pub wanted-there : has_mode (is_some start.contract) found_there.mode ≡ true
+        → position (is_wanted start) procs ≡ Some k
+    wanted-there right = first-place (is_wanted start) procs k d inside before here
+      where
+        before : (j : ℕ) → j < k → is_wanted start (get_or procs j d) ≡ false
+        before j below =
+            let other : bytes_eq (get_or procs j d).name start.proc ≡ false =
+            sym (ap (λ (m : List ℕ). bytes_eq m start.proc) (name-at procs j d)) ∙ facts.2 j below in
+            ap (λ (b : Bool). b && has_mode (is_some start.contract) (get_or procs j d).mode) other
 
-          here : is_wanted start (get_or procs k d) ≡ true
-          here =
-              ap (λ (b : Bool). b && has_mode (is_some start.contract) (get_or procs k d).mode) has_name
-              ∙ ap (λ (e : ProcDecl). has_mode (is_some start.contract) e.mode) at_place ∙ right
+        here : is_wanted start found_there ≡ true
+        here = ap (λ (b : Bool). b && has_mode (is_some start.contract) found_there.mode) has_name ∙ right
 
-      -- and otherwise none is, since no other one has the name
-      pub wanted-other : Differ procs → has_mode (is_some start.contract) d.mode ≡ false
-          → position (is_wanted start) procs ≡ None
-      wanted-other differ wrong = no-place (is_wanted start) procs d fails
-        where
-          apart : (j : ℕ) → j < length procs → (get_or procs j d).name ≢ (get_or procs k d).name
-              → is_wanted start (get_or procs j d) ≡ false
-          apart j within other =
-              let name : (get_or procs k d).name ≡ start.proc =
-              (bytes_eq-Decides (get_or procs k d).name start.proc).0 has_name in
-              let no = texts-apart (get_or procs j d).name start.proc (λ same. other (same ∙ sym name)) in
-              ap (λ (b : Bool). b && has_mode (is_some start.contract) (get_or procs j d).mode) no
+    -- and otherwise none is, since no other one has the name
+    pub wanted-other : Differ procs → has_mode (is_some start.contract) found_there.mode ≡ false
+        → position (is_wanted start) procs ≡ None
+    wanted-other differ wrong = no-place (is_wanted start) procs d fails
+      where
+        apart : (j : ℕ) → (get_or procs j d).name ≢ found_there.name → is_wanted start (get_or procs j d) ≡ false
+        apart j other =
+            let name : found_there.name ≡ start.proc = (bytes_eq-Decides found_there.name start.proc).0 has_name in
+            let no = texts-apart (get_or procs j d).name start.proc (λ same. other (same ∙ sym name)) in
+            ap (λ (b : Bool). b && has_mode (is_some start.contract) (get_or procs j d).mode) no
 
-          fails : (j : ℕ) → j < length procs → is_wanted start (get_or procs j d) ≡ false
-          fails j within =
-              elim (cases_eq j k) [
-                | inl same ↦
-                    let Fails : ℕ → Type 0 = λ i. is_wanted start (get_or procs i d) ≡ false in
-                    let mode : has_mode (is_some start.contract) (get_or procs k d).mode ≡ false =
-                    ap (λ (e : ProcDecl). has_mode (is_some start.contract) e.mode) at_place ∙ wrong in
-                    subst Fails (sym same)
-                    (ap (λ (b : Bool). b && has_mode (is_some start.contract) (get_or procs k d).mode) has_name ∙ mode)
-                | inr other ↦
-                    elim (cases_lt j k) [
-                      | inl below ↦ apart j within (differ j k d below inside)
-                      | inr above ↦
-                          let below : k < j = omega arith in
-                          apart j within (λ same. differ k j d below within (sym same))
-                    ]
-              ]
+        fails : (j : ℕ) → j < length procs → is_wanted start (get_or procs j d) ≡ false
+        fails j within =
+            elim (cases_eq j k) [
+              | inl same ↦
+                  let Fails : ℕ → Type 0 = λ i. is_wanted start (get_or procs i d) ≡ false in
+                  subst Fails (sym same)
+                  (ap (λ (b : Bool). b && has_mode (is_some start.contract) found_there.mode) has_name ∙ wrong)
+              | inr other ↦
+                  elim (cases_lt j k) [
+                    | inl below ↦ apart j (differ j k d below inside)
+                    | inr above ↦
+                        let below : k < j = omega arith in
+                        apart j (λ same. differ k j d below within (sym same))
+                  ]
+            ]

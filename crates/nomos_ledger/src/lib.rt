@@ -2,8 +2,10 @@
 #![tactic(auto)]
 
 mod account_names;
+pub mod arguments;
 mod books;
 mod contract_names;
 mod declared;
 mod fitting;
 pub mod named;
+mod worth;
