@@ -5,3 +5,4 @@ pub mod DeclaredLemmas
 pub mod WorthLemmas
 pub mod AlikeLemmas
 pub mod AnswerLemmas
+pub mod RestLemmas

@@ -12,7 +12,6 @@ use std::marker::Model;
 /// Names of accounts by number, each found by its text in one step. No two are the same.
 #[derive(Drop, Debug)]
 pub(crate) struct AccountNames {
-    alloc: Global,
     names: IndexSet<String>,
 }
 
@@ -33,7 +32,6 @@ impl AccountNames {
         ensures { result ≡ [] }
     {
         AccountNames {
-            alloc,
             names: IndexSet::new(alloc),
         }
     }
@@ -56,13 +54,12 @@ impl AccountNames {
     }
 
     /// Puts a name at the end that no account has yet. Want of memory changes nothing.
-    pub(crate) fn add(&mut self, name: &ScriptName) -> Result<(), AllocError>
+    pub(crate) fn add(&mut self, alloc: Global, name: &ScriptName) -> Result<(), AllocError>
         requires { account_of self.old name.now ≡ None }
         ensures ok { OnOk result (self.new ≡ self.old ++ name.now ∷ []) }
         ensures err { OnErr result (self.new ≡ self.old) }
     {
-        self.names
-            .insert(String::from_str(self.alloc, name.as_str())?)?;
+        self.names.insert(String::from_str(alloc, name.as_str())?)?;
         Ok(())
     }
 

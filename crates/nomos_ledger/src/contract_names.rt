@@ -13,7 +13,6 @@ use std::marker::Model;
 /// Contracts in order of naming, each found by its name in one step. No two have the same name.
 #[derive(Drop, Debug)]
 pub(crate) struct ContractNames {
-    alloc: Global,
     names: IndexMap<String, u32>,
 }
 
@@ -36,7 +35,6 @@ impl ContractNames {
         ensures { result ≡ [] }
     {
         ContractNames {
-            alloc,
             names: IndexMap::new(alloc),
         }
     }
@@ -68,13 +66,18 @@ impl ContractNames {
     }
 
     /// Puts a contract at the end whose name none has yet. Want of memory changes nothing.
-    pub(crate) fn add(&mut self, name: &ScriptName, shared: u32) -> Result<(), AllocError>
+    pub(crate) fn add(
+        &mut self,
+        alloc: Global,
+        name: &ScriptName,
+        shared: u32,
+    ) -> Result<(), AllocError>
         requires { shared_name self.old name.now ≡ None }
         ensures ok { OnOk result (self.new ≡ self.old ++ (name.now, shared) ∷ []) }
         ensures err { OnErr result (self.new ≡ self.old) }
     {
         self.names
-            .insert(String::from_str(self.alloc, name.as_str())?, shared)?;
+            .insert(String::from_str(alloc, name.as_str())?, shared)?;
         Ok(())
     }
 

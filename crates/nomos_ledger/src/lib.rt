@@ -7,5 +7,7 @@ mod books;
 mod contract_names;
 mod declared;
 mod fitting;
+pub mod ledger;
 pub mod named;
+mod rest;
 mod worth;

@@ -53,7 +53,9 @@ mod RunExamples
 mod QuietExamples
 pub mod FaultLaws
 pub mod FiringLaws
+pub mod RunLaws
 pub mod ContractLaws
+pub mod OutsideLaws
 pub mod IdleLaws
 pub mod ChargeDeeds
 pub mod CostLaws

@@ -1,9 +1,33 @@
 -- A mirror of the code: what books show, the ledger as it stands and the state that is marked.
-use Rattle.std.specs.Prelude.{Option}
-use Rattle.nomos_legal.specs.Ledger.{LedgerState}
+use Rattle.std.specs.Prelude.{◌≡◌, ℕ, List, Option, None}
+use Rattle.nomos_legal.specs.Ledger.{LedgerState, IsLedger, account_of, accounts_with, state_with}
 use Rattle.nomos_machine.specs.State.{State}
 
 pub record BooksState : Type 0 where
   pub now : LedgerState
   -- the state of the machine that is marked, if one is
   pub marked : Option State
+
+-- between batches: these are the books of a ledger, and no state is marked
+pub record IsAtRest (b : BooksState) : Type 0 where
+  pub ledger : IsLedger b.now
+  pub unmarked : b.marked ≡ None
+
+-- The account of this name, of this number if it has one, has so many Dths more.
+abbrev pub books_with : BooksState → List ℕ → ℕ → Option ℕ → BooksState
+books_with b name dths found = record b {
+  now = record b.now {
+    accounts = accounts_with b.now.accounts name found;
+    state = state_with b.now.state dths found;
+  };
+}
+
+-- The account of this name has so many Dths more, and this is the sum of the deposits.
+abbrev pub books_deposited : BooksState → List ℕ → ℕ → ℕ → BooksState
+books_deposited b name dths deposits = record b {
+  now = record b.now {
+    accounts = accounts_with b.now.accounts name (account_of b.now.accounts name);
+    deposits = deposits;
+    state = state_with b.now.state dths (account_of b.now.accounts name);
+  };
+}
