@@ -8,3 +8,4 @@ pub mod LegalLaws
 pub mod RightLaws
 pub mod NextNumberLaws
 pub mod WorldCostLaws
+mod Examples
