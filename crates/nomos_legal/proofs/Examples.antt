@@ -11,6 +11,7 @@ use Rattle.nomos_ir.specs.declared.code_node.CodeNode.TheVariants as code
 use Rattle.nomos_ir.specs.declared.declaration.Par.{Par}
 use Rattle.nomos_ir.specs.declared.declaration.ProcDecl.{ProcDecl}
 use Rattle.nomos_ir.specs.declared.ids.TypeId.{TypeId}
+use Rattle.nomos_ir.specs.declared.ids.VarId.{VarId}
 use Rattle.nomos_ir.specs.declared.kind.Kind.{Kind}
 use Rattle.nomos_ir.specs.declared.mode.Mode.TheVariants as mode
 use Rattle.nomos_ir.specs.declared.term_node.TermNode.TheVariants as term
@@ -76,16 +77,16 @@ cheap =
 abbrev dear : ProcDecl
 dear = record (decl (codes "dear") 2 1) { mode = mode.S; me = None; offers = type_id 8 }
 
-abbrev visit : ProcDecl
+abbrev pub visit : ProcDecl
 visit = record (decl (codes "visit") 2 0) { channels = (var_id 1, type_id 4) ∷ [] }
 
 abbrev sums : ProcDecl
 sums = record (decl (codes "sums") 0 0) { values = list_parameter ∷ [] }
 
-abbrev twice : ProcDecl
+abbrev pub twice : ProcDecl
 twice = record (decl (codes "twice") 0 5) { channels = (var_id 1, type_id 4) ∷ (var_id 2, type_id 4) ∷ [] }
 
-abbrev program : Acceptance
+abbrev pub program : Acceptance
 program =
     acceptance
     (record {
@@ -145,7 +146,7 @@ nothing_deposited = refl
 -- ---- lines
 
 -- `exec u NAME(..)` in this line
-abbrev exec : ℕ → List ℕ → List Value → List (List ℕ) → Start
+abbrev pub exec : ℕ → List ℕ → List Value → List (List ℕ) → Start
 exec n proc values names =
     record { line = n; sender = codes "u"; proc = proc; values = values; names = names; contract = None }
 
@@ -153,7 +154,7 @@ exec n proc values names =
 abbrev create : ℕ → List ℕ → List ℕ → List Value → Start
 create n contract proc values = record (exec n proc values []) { contract = Some contract }
 
-abbrev resolved : ℕ → List Value → List ℕ → Option (List ℕ) → Resolved
+abbrev pub resolved : ℕ → List Value → List ℕ → Option (List ℕ) → Resolved
 resolved number values names contract =
     record { proc = record { 0 = number }; values = values; names = names; payer = 0; contract = contract }
 
@@ -164,7 +165,7 @@ abbrev dear_started : Resolved
 dear_started = resolved 1 [] [] (Some (codes "d"))
 
 -- the contracts c and d
-abbrev shops : LedgerState
+abbrev pub shops : LedgerState
 shops = after_starts program ten_units (cheap_started ∷ dear_started ∷ [])
 
 shops-contracts : shops.contracts ≡ (codes "c", 1) ∷ (codes "d", 2) ∷ []
@@ -272,8 +273,8 @@ cheap-shared : HasMode program.program (type_id 4) mode.S
 cheap-shared = modes.whole (2, omega arith, refl)
 
 -- so the contract c fits
-c_fits : ContractFits program shops (codes "c") (var_id 1, type_id 4) 1
-c_fits = record {
+pub c_fits : (v : VarId) → ContractFits program shops (codes "c") (v, type_id 4) 1
+c_fits v = record {
   found = refl;
   alike = record {
     own = type_id 4;
@@ -287,11 +288,11 @@ c_fits = record {
   };
 }
 
-visit-starts : Resolves program shops (exec 1 (codes "visit") [] (codes "c" ∷ []))
+pub visit-starts : Resolves program shops (exec 1 (codes "visit") [] (codes "c" ∷ []))
     (Ok (resolved 2 [] (1 ∷ []) None))
 visit-starts =
     line.starts 0 2 visit (1 ∷ []) refl (record { first = refl; there = refl })
-    (record { values = line.none; names = line.one c_fits line.none }) tt (omega arith)
+    (record { values = line.none; names = line.one (c_fits (var_id 1)) line.none }) tt (omega arith)
 
 -- The contract d has a type of the same shape, which pays 2 in place of 1: it does not fit.
 abbrev Equal : TypeId → TypeId → Type 0

@@ -8,4 +8,5 @@ pub mod LegalLaws
 pub mod RightLaws
 pub mod NextNumberLaws
 pub mod WorldCostLaws
-mod Examples
+pub mod Examples
+mod BatchExamples
