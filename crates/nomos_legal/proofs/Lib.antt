@@ -8,3 +8,5 @@ pub mod LegalLaws
 pub mod RightLaws
 pub mod NextNumberLaws
 pub mod WorldCostLaws
+pub mod Examples
+mod BatchExamples
