@@ -6,3 +6,4 @@ pub mod WorthLemmas
 pub mod AlikeLemmas
 pub mod AnswerLemmas
 pub mod RestLemmas
+pub mod ContractsLemmas

@@ -1,3 +1,4 @@
 pub mod Arguments
 pub mod Books
 pub mod Names
+pub mod Resolving

@@ -9,5 +9,6 @@ mod declared;
 mod fitting;
 pub mod ledger;
 pub mod named;
+mod resolving;
 mod rest;
 mod worth;
