@@ -44,11 +44,12 @@ module _ (a : Acceptance) (l : LedgerState) where
   further (m ∷ names) (q ∷ pars) (r ∷ shared) (suc k) n p s (one fits others) inside within next =
       one fits (further names pars shared k n p s others (omega (arith, inside)) (omega (arith, within)) next)
 
-  pub contracts-next : (names : List (List ℕ)) (pars : List (VarId × TypeId)) (shared : List ℕ) (k : ℕ) (n : List ℕ)
-      (p : VarId × TypeId) (s : ℕ) → n ≡ get_or names k n → ContractsFit a l (take k names) (take k pars) shared
-      → k < length names → k < length pars → ContractFits a l n (get_or pars k p) s
-      → ContractsFit a l (take (k + 1) names) (take (k + 1) pars) (shared ++ s ∷ [])
-  contracts-next names pars shared k n p s there fit inside within next =
+  pub contracts-next : (names : List (List ℕ)) (pars : List (VarId × TypeId)) (shared more : List ℕ) (k : ℕ)
+      (n : List ℕ) (p : VarId × TypeId) (s : ℕ) → n ≡ get_or names k n → more ≡ shared ++ s ∷ []
+      → ContractsFit a l (take k names) (take k pars) shared → k < length names → k < length pars
+      → ContractFits a l n (get_or pars k p) s → ContractsFit a l (take (k + 1) names) (take (k + 1) pars) more
+  contracts-next names pars shared more k n p s there is fit inside within next =
       let P : ℕ → Type 0 = λ i. ContractsFit a l (take i names) (take i pars) (shared ++ s ∷ []) in
       let Q : List ℕ → Type 0 = λ m. ContractFits a l m (get_or pars k p) s in
-      subst P (sym (add-one k)) (further names pars shared k n p s fit inside within (subst Q there next))
+      subst (ContractsFit a l (take (k + 1) names) (take (k + 1) pars)) (sym is)
+      (subst P (sym (add-one k)) (further names pars shared k n p s fit inside within (subst Q there next)))

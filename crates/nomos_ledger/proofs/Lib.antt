@@ -7,3 +7,4 @@ pub mod AlikeLemmas
 pub mod AnswerLemmas
 pub mod RestLemmas
 pub mod ContractsLemmas
+pub mod ResolvingLemmas

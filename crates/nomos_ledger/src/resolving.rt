@@ -1,13 +1,12 @@
 //! How a line of a batch is resolved.
-ghost use Rattle.std.specs.Prelude.{◌≡◌, ◌<◌, ◌^◌, ℕ, List, All, IfOk, MatchOption, length, slice_get, slice_index};
+ghost use Rattle.std.specs.Prelude.{◌≡◌, ◌<◌, ◌^◌, ℕ, List, All, IfOk, MatchOption, length, position};
 ghost use Rattle.nomos_ir.specs.declared.mode.Mode.{Mode};
 ghost use Rattle.nomos_machine.specs.TypedState.{IsContractName};
-ghost use Rattle.nomos_types.specs.Amount.{dths};
 ghost use Rattle.nomos_types.specs.Modes.{HasMode};
 ghost use Rattle.nomos_legal.specs.Ledger.{IsLedger};
 ghost use Rattle.nomos_legal.specs.StandsFor.{IsSettled};
-ghost use Rattle.nomos_legal.specs.Starting.{ArgumentsFit, ContractFits, ContractsFit, IsDeclaration, IsPayer, Resolves, started_by};
-ghost use Rattle.nomos_ledger.specs.mirror.Resolving.{IfAnswered, FindsPayer, FindsDeclaration, FreesName, HasGas, HaveModes};
+ghost use Rattle.nomos_legal.specs.Starting.{ArgumentsFit, ContractFits, ContractsFit, IsPayer, Resolves, is_wanted, started_by};
+ghost use Rattle.nomos_ledger.specs.mirror.Resolving.{IfAnswered, FindsPayer, FindsDeclaration, FindsNames, FreesName, HasGas, HaveModes, PassesRest};
 
 use crate::account_names::AccountNames;
 use crate::arguments::Arguments;
@@ -26,6 +25,13 @@ use nomos_script::item::Start;
 use nomos_script::name::ScriptName;
 use nomos_types::accepted::Accepted;
 use std::alloc::{AllocError, Global};
+
+/// Who pays for a line, and what it starts.
+#[derive(Clone, Copy)]
+struct Found {
+    payer: u32,
+    proc: ProcId,
+}
 
 /// A copy of a name.
 fn copy_name(alloc: Global, name: &ScriptName) -> Result<ScriptName, AllocError>
@@ -206,4 +212,79 @@ fn started_by(
         payer,
         contract,
     })
+}
+
+/// The shared names for the channel parameters of a declaration, or that the arguments of the line do not fit.
+fn shared_names<M: Undo>(
+    alloc: Global,
+    books: &Books<M>,
+    arguments: &mut Arguments<'_>,
+    start: &Start,
+    d: &ProcDecl,
+) -> Result<SharedNames, OrNoMemory<Refusal>>
+    requires contracts { All (λ c. IsContractName arguments.old books.now.now.state c.1) books.now.now.contracts }
+    requires parameters { HaveModes arguments.old.program d.now.channels }
+    ensures finds { IfAnswered result (FindsNames arguments.old books.now.now start.now d.now) }
+    ensures stays { arguments.new ≡ arguments.old }
+{
+    match fitting_arguments(alloc, books, arguments, start, d)? {
+        Some(names) => Ok(names),
+        None => Err(OrNoMemory::Answer(Refusal::BadArguments(copy_name(alloc, &start.proc)?))),
+    }
+}
+
+/// Refuses a name that is taken, and a payer that has less than the declared potential.
+fn check_rest<M: Undo>(
+    alloc: Global,
+    books: &Books<M>,
+    accepted: &Accepted,
+    start: &Start,
+    found: Found,
+) -> Result<(), OrNoMemory<Refusal>>
+    requires payer { found.payer < length books.now.now.state.balances }
+    requires proc { found.proc.0 < length accepted.now.program.procs }
+    ensures { IfAnswered result (PassesRest accepted.now books.now.now start.now found) }
+{
+    check_name(alloc, books, &start.contract)?;
+    let has = books.machine.balance(found.payer).unwrap_or(0);
+    check_gas(alloc, start, has, u128::from(accepted.bound(found.proc)))
+}
+
+/// What a line comes to by the declaration that it wants, which this account pays.
+fn resolve_found<M: Undo>(
+    alloc: Global,
+    books: &Books<M>,
+    arguments: &mut Arguments<'_>,
+    start: &Start,
+    found: Found,
+) -> Result<Resolved, OrNoMemory<Refusal>>
+    requires settled { IsSettled arguments.old books.now.now }
+    requires ledger { IsLedger books.now.now }
+    requires payer { IsPayer books.now.now start.now found.payer }
+    requires wanted { position (is_wanted start.now) arguments.old.program.procs ≡ Some found.proc.0 }
+    ensures resolves { IfAnswered result (Resolves arguments.old books.now.now start.now) }
+    ensures stays { arguments.new ≡ arguments.old }
+{
+    let accepted = arguments.accepted();
+    let d = accepted.program().proc(found.proc);
+    let names = shared_names(alloc, books, arguments, start, d)?;
+    check_rest(alloc, books, accepted, start, found)?;
+    Ok(started_by(alloc, start, found.proc, names, found.payer)?)
+}
+
+/// What a line comes to, as lines before it left the books: a start, or why it is refused (docs/MACHINE.md, "Batches").
+pub(crate) fn resolve<M: Undo>(
+    alloc: Global,
+    books: &Books<M>,
+    arguments: &mut Arguments<'_>,
+    start: &Start,
+) -> Result<Resolved, OrNoMemory<Refusal>>
+    requires settled { IsSettled arguments.old books.now.now }
+    requires ledger { IsLedger books.now.now }
+    ensures resolves { IfAnswered result (Resolves arguments.old books.now.now start.now) }
+    ensures stays { arguments.new ≡ arguments.old }
+{
+    let payer = payer_of(alloc, &books.accounts, start)?;
+    let proc = declaration_of(alloc, arguments, start)?;
+    resolve_found(alloc, books, arguments, start, Found { payer, proc })
 }

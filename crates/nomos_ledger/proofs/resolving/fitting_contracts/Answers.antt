@@ -1,4 +1,4 @@
-use Rattle.std.proofs.Common.{◌∙◌, ◌+◌, [], List, ℕ, Option, MatchOption, get_or, take, refl, sym, subst, arith}
+use Rattle.std.proofs.Common.{◌∙◌, [], List, ℕ, Option, MatchOption, get_or, refl, sym, subst, arith}
 use Rattle.nomos_ir.specs.declared.ids.TypeId.{TypeId}
 use Rattle.nomos_ir.specs.declared.ids.VarId.{VarId}
 use Rattle.nomos_ir.specs.declared.mode.Mode.{Mode}
@@ -54,11 +54,9 @@ loop-at-preserved g c =
     in
     let fits : ContractFits c.loop-at.arguments l name par c.in-Some.shared =
     subst Told c.in-Some.is c.in_ok-shared.ensures.fits in
-    let here = subst (λ (b : Acceptance). ContractFits b l name par c.in-Some.shared) c.loop-at.invariant.0 fits in
-    let Fit : List ℕ → Type 0 =
-    ContractsFit a l (take (k + 1) c.args.names.now) (take (k + 1) c.args.pars.now) in (
+    let here = subst (λ (b : Acceptance). ContractFits b l name par c.in-Some.shared) c.loop-at.invariant.0 fits in (
       c.in_ok-shared.ensures.stays ∙ c.loop-at.invariant.0,
-      subst Fit (sym c.in_ok-push-in-Some.ensures.items)
-          (contracts-next a l c.args.names.now c.args.pars.now c.loop-at.found.items k name no_par c.in-Some.shared
-          c.index-names-at.is c.loop-at.invariant.1 c.loop-at-test.true (omega arith) here),
+      contracts-next a l c.args.names.now c.args.pars.now c.loop-at.found.items c.push.new.self.items k name no_par
+          c.in-Some.shared c.index-names-at.is c.in_ok-push-in-Some.ensures.items c.loop-at.invariant.1 c.loop-at-test.true
+          (omega arith) here,
     )
