@@ -1,4 +1,5 @@
 pub mod AccountLemmas
+pub mod BooksLemmas
 pub mod ContractLemmas
 pub mod FittingLemmas
 pub mod DeclaredLemmas
@@ -6,5 +7,6 @@ pub mod WorthLemmas
 pub mod AlikeLemmas
 pub mod AnswerLemmas
 pub mod RestLemmas
+pub mod WorldLemmas
 pub mod ContractsLemmas
 pub mod ResolvingLemmas

@@ -1,4 +1,6 @@
 pub mod Arguments
 pub mod Books
+pub mod Fired
 pub mod Names
+pub mod Worlds
 pub mod Resolving

@@ -3,3 +3,9 @@ pub mod NamedLaws
 pub mod ResolveLaws
 pub mod StartLaws
 pub mod WorldLaws
+pub mod UniqueLaws
+pub mod LegalLaws
+pub mod RightLaws
+pub mod NextNumberLaws
+pub mod WorldCostLaws
+mod Examples

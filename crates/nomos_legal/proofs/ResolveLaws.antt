@@ -28,7 +28,7 @@ use Rattle.nomos_legal.specs.Starting.{OneEach, ValueFits, ContractFits, Contrac
 use Rattle.nomos_legal.specs.Starting as line
 use Rattle.nomos_legal.specs.StandsFor.{IsSettled}
 use Rattle.nomos_legal.specs.declared.resolved.Resolved.{Resolved}
-use Rattle.nomos_legal.proofs.SettledLaws.{account-within}
+use Rattle.nomos_legal.proofs.SettledLaws.{IsCounted, account-within}
 
 -- ---- what holds of a line that starts
 
@@ -142,8 +142,8 @@ fit-contracts {a} {l} contracts (line.one {name = name} {par = par} {shared = sh
 
 -- ---- the start
 
-module _ {a : Acceptance} {l : LedgerState} (settled : IsSettled a l) (ledger : IsLedger l) {start : Start} {r : Resolved}
-    (by : ResolvedBy a l start r) where
+module _ {a : Acceptance} {l : LedgerState} (settled : IsSettled a l) (counted : IsCounted l) {start : Start}
+    {r : Resolved} (by : ResolvedBy a l start r) where
   by-can : CanStart a l.state by.declaration (value_bindings by.declaration start.values)
       (channel_bindings by.declaration by.shared) by.payer
   by-can = record {
@@ -152,7 +152,7 @@ module _ {a : Acceptance} {l : LedgerState} (settled : IsSettled a l) (ledger : 
       channels = fit-channels by.fits.names;
     };
     contracts = fit-contracts settled.contracts by.fits.names;
-    account = omega (arith, account-within l.accounts start.sender by.payer by.pays, ledger.each_account);
+    account = omega (arith, account-within l.accounts start.sender by.payer by.pays, counted);
     has = by.has;
   }
 
@@ -166,6 +166,10 @@ module _ {a : Acceptance} {l : LedgerState} (settled : IsSettled a l) (ledger : 
       })
 
 -- what a line of a settled ledger is resolved to can be started
+pub counted-can_start : {a : Acceptance} {l : LedgerState} {start : Start} {r : Resolved} → IsSettled a l → IsCounted l
+    → Resolves a l start (Ok r) → CanStartWith a l.state r.proc.0 r.values r.names r.payer
+counted-can_start settled counted resolves = by-can_start settled counted (resolved-by resolves)
+
 pub resolves-can_start : {a : Acceptance} {l : LedgerState} {start : Start} {r : Resolved} → IsSettled a l → IsLedger l
     → Resolves a l start (Ok r) → CanStartWith a l.state r.proc.0 r.values r.names r.payer
-resolves-can_start settled ledger resolves = by-can_start settled ledger (resolved-by resolves)
+resolves-can_start settled ledger resolves = counted-can_start settled ledger.each_account resolves

@@ -1,5 +1,5 @@
 -- Ledgers that are settled or stand for a program stay so in a deposit, and have little gas.
-use Rattle.std.proofs.Common.{◌≡◌, ◌∙◌, ℕ, ◌+◌, ◌-◌, ◌*◌, ◌^◌, ◌<◌, ◌≤◌, List, [], length, All, Contains, Option, Some, None, IsSome, refl, sym, subst, ap, arith, append-nil}
+use Rattle.std.proofs.Common.{◌∷◌, ◌≡◌, ◌∙◌, ℕ, ◌+◌, ◌-◌, ◌*◌, ◌^◌, ◌<◌, ◌≤◌, List, [], length, All, Contains, Option, Some, None, IsSome, refl, sym, subst, ap, arith, append-nil, length-append}
 use Rattle.std.proofs.lemmas.List.Elements.{All-nil, All-weaker}
 use Rattle.std.proofs.lemmas.List.Quantifiers.{position-Some}
 use Rattle.std.proofs.lemmas.Nat.{mul-le}
@@ -16,7 +16,7 @@ use Rattle.nomos_machine.specs.declared.object.Object.{Object}
 use Rattle.nomos_machine.specs.declared.object.Object.TheVariants as object
 use Rattle.nomos_machine.specs.declared.object.Process.{Process}
 use Rattle.nomos_machine.proofs.ContractLaws.{KeepsContracts, contract-kept, credited-keeps_contracts, opened-keeps_contracts}
-use Rattle.nomos_machine.proofs.GasLaws.{gas-credited, gas-opened}
+use Rattle.nomos_machine.proofs.GasLaws.{gas-credited, gas-opened, paid_in-length}
 use Rattle.nomos_machine.proofs.PreservationLaws.{ready-told, ready-none}
 use Rattle.nomos_machine.proofs.StartingLaws.{credited-typed, opened-typed, empty-typed}
 use Rattle.nomos_legal.specs.Ending.{HasTransaction}
@@ -101,6 +101,10 @@ empty-stands a = record {
 
 -- ---- deposits
 
+-- there is a name for each balance
+abbrev pub IsCounted : LedgerState → Type 0
+IsCounted l = length l.accounts ≡ length l.state.balances
+
 -- contracts are contracts where their names keep their types
 pub contracts-kept : {a : Acceptance} {s t : State} → KeepsContracts a s t → (contracts : Contracts)
     → All (λ c. IsContractName a s c.1) contracts → All (λ c. IsContractName a t c.1) contracts
@@ -151,19 +155,29 @@ with-objects : (s : State) (gas : ℕ) (found : Option ℕ) → (state_with s ga
 with-objects s gas (Some n) = append-nil s.objects
 with-objects s gas None = refl
 
-module _ {a : Acceptance} (accepted : IsAccepted a) {l : LedgerState} (ledger : IsLedger l) (name : List ℕ) (units : ℕ)
-    (fits : FitsDeposits l units) where
-  -- a deposit that fits leaves a settled ledger settled
-  pub deposited-settled : IsSettled a l → IsSettled a (deposited a.annotations.unit l name units)
-  deposited-settled settled =
-      let found : Option ℕ = account_of l.accounts name in
-      with-settled settled ledger.each_account name units fits (accounts_with l.accounts name found) found refl
+-- and leaves a name for each balance
+with-counted : (l : LedgerState) (name : List ℕ) (gas : ℕ) (found : Option ℕ) → IsCounted l
+    → length (accounts_with l.accounts name found) ≡ length (state_with l.state gas found).balances
+with-counted l name gas (Some n) counted =
+    omega (arith, counted, paid_in-length (Some (n, gas)) l.state.balances)
+with-counted l name gas None counted =
+    omega (arith, counted, length-append l.accounts (name ∷ []), length-append l.state.balances (gas ∷ []))
 
-  -- and one that stands standing
-  pub deposited-stands : StandsFor a l → StandsFor a (deposited a.annotations.unit l name units)
-  deposited-stands stands =
+-- What a deposit that fits leaves, of a ledger with a name for each balance: it is settled or stands as the one before.
+module _ {a : Acceptance} (accepted : IsAccepted a) (l : LedgerState) (counted : IsCounted l) (name : List ℕ)
+    (units : ℕ) (fits : FitsDeposits l units) where
+  pub deposited-counted : IsCounted (deposited a.annotations.unit l name units)
+  deposited-counted = with-counted l name (units * a.annotations.unit) (account_of l.accounts name) counted
+
+  counted-settled : IsSettled a l → IsSettled a (deposited a.annotations.unit l name units)
+  counted-settled settled =
+      let found : Option ℕ = account_of l.accounts name in
+      with-settled settled counted name units fits (accounts_with l.accounts name found) found refl
+
+  pub counted-stands : StandsFor a l → StandsFor a (deposited a.annotations.unit l name units)
+  counted-stands stands =
       let after : LedgerState = deposited a.annotations.unit l name units in
-      let settled : IsSettled a after = deposited-settled stands.settled in
+      let settled : IsSettled a after = counted-settled stands.settled in
       let same : after.state.objects ≡ l.state.objects =
       with-objects l.state (units * a.annotations.unit) (account_of l.accounts name)
       in
@@ -172,3 +186,13 @@ module _ {a : Acceptance} (accepted : IsAccepted a) {l : LedgerState} (ledger : 
         quiet = same-quiet accepted stands.settled.typed settled.typed same stands.quiet;
         no_transaction = same-no_transaction same stands.no_transaction;
       }
+
+module _ {a : Acceptance} (accepted : IsAccepted a) {l : LedgerState} (ledger : IsLedger l) (name : List ℕ) (units : ℕ)
+    (fits : FitsDeposits l units) where
+  -- a deposit that fits leaves a settled ledger settled
+  pub deposited-settled : IsSettled a l → IsSettled a (deposited a.annotations.unit l name units)
+  deposited-settled = counted-settled accepted l ledger.each_account name units fits
+
+  -- and one that stands standing
+  pub deposited-stands : StandsFor a l → StandsFor a (deposited a.annotations.unit l name units)
+  deposited-stands = counted-stands accepted l ledger.each_account name units fits

@@ -31,8 +31,8 @@ use Rattle.nomos_legal.specs.StandsFor.{IsSettled}
 use Rattle.nomos_legal.specs.declared.refusal.Refusal.{Refusal}
 use Rattle.nomos_legal.specs.declared.resolved.Resolved.{Resolved}
 use Rattle.nomos_legal.proofs.NamedLaws.{contract-named}
-use Rattle.nomos_legal.proofs.ResolveLaws.{resolved-by, declared-s, resolves-can_start}
-use Rattle.nomos_legal.proofs.SettledLaws.{contracts-kept}
+use Rattle.nomos_legal.proofs.ResolveLaws.{resolved-by, declared-s, counted-can_start}
+use Rattle.nomos_legal.proofs.SettledLaws.{IsCounted, contracts-kept}
 
 -- ---- the process that starts
 
@@ -78,16 +78,16 @@ pub record HasStarted (n : ℕ) (l m : LedgerState) : Type 0 where
   pub accounts : m.accounts ≡ l.accounts
   pub deposits : m.deposits ≡ l.deposits
 
--- what one start leaves
-pub record Started (a : Acceptance) (l m : LedgerState) : Type 0 where
+-- what so many starts leave
+pub record Started (a : Acceptance) (n : ℕ) (l m : LedgerState) : Type 0 where
   pub settled : IsSettled a m
-  pub named : IsLedger m
-  pub counts : HasStarted 1 l m
+  pub counted : IsCounted m
+  pub counts : HasStarted n l m
 
-module _ {a : Acceptance} (accepted : IsAccepted a) {l : LedgerState} (settled : IsSettled a l) (ledger : IsLedger l)
+module _ {a : Acceptance} (accepted : IsAccepted a) {l : LedgerState} (settled : IsSettled a l) (counted : IsCounted l)
     {start : Start} {r : Resolved} (resolves : Resolves a l start (Ok r)) where
   can : CanStartWith a l.state r.proc.0 r.values r.names r.payer
-  can = resolves-can_start settled ledger resolves
+  can = counted-can_start settled counted resolves
 
   abbrev next : State
   next = machine.after_start can
@@ -152,25 +152,32 @@ module _ {a : Acceptance} (accepted : IsAccepted a) {l : LedgerState} (settled :
     contracts = next-contracts r.contract refl;
   }
 
-  next-started : Started a l (with_state next)
+  next-started : Started a 1 l (with_state next)
   next-started = record {
     settled = next-settled;
-    named = contract-named l r.contract l.state.next_name next.balances is-free next-balances ledger;
+    counted = counted ∙ sym next-balances;
     counts = record { objects = omega arith; names = omega arith; accounts = refl; deposits = refl };
   }
 
   -- after a start of a settled ledger
-  pub start-started : Started a l (after_start a l r)
-  start-started = subst (λ (t : State). Started a l (with_state t)) (sym state-is) next-started
+  pub start-started : Started a 1 l (after_start a l r)
+  start-started = subst (λ (t : State). Started a 1 l (with_state t)) (sym state-is) next-started
 
+  started-named : IsLedger l → IsLedger (after_start a l r)
+  started-named ledger =
+      subst (λ (t : State). IsLedger (with_state t)) (sym state-is)
+      (contract-named l r.contract l.state.next_name next.balances is-free next-balances ledger)
+
+module _ {a : Acceptance} (accepted : IsAccepted a) {l : LedgerState} (settled : IsSettled a l) (ledger : IsLedger l)
+    {start : Start} {r : Resolved} (resolves : Resolves a l start (Ok r)) where
   pub start-settled : IsSettled a (after_start a l r)
-  start-settled = start-started.settled
+  start-settled = (start-started accepted settled ledger.each_account resolves).settled
 
   pub start-named : IsLedger (after_start a l r)
-  start-named = start-started.named
+  start-named = started-named accepted settled ledger.each_account resolves ledger
 
   pub start-counts : HasStarted 1 l (after_start a l r)
-  start-counts = start-started.counts
+  start-counts = (start-started accepted settled ledger.each_account resolves).counts
 
 -- ---- starts in order
 
@@ -184,24 +191,18 @@ pub after_starts-push : (a : Acceptance) (l : LedgerState) (rs : List Resolved) 
     → after_starts a l (rs ++ r ∷ []) ≡ after_start a (after_starts a l rs) r
 after_starts-push a l rs r = after_starts-append a l rs (r ∷ [])
 
--- what some starts leave
-pub record AllStarted (a : Acceptance) (n : ℕ) (l m : LedgerState) : Type 0 where
-  pub settled : IsSettled a m
-  pub named : IsLedger m
-  pub counts : HasStarted n l m
-
-started-none : {a : Acceptance} {l : LedgerState} → IsSettled a l → IsLedger l → AllStarted a 0 l l
-started-none settled ledger = record {
+started-none : {a : Acceptance} {l : LedgerState} → IsSettled a l → IsCounted l → Started a 0 l l
+started-none settled counted = record {
   settled = settled;
-  named = ledger;
+  counted = counted;
   counts = record { objects = omega arith; names = omega arith; accounts = refl; deposits = refl };
 }
 
-started-more : {a : Acceptance} {n : ℕ} {l m k : LedgerState} → Started a l m → AllStarted a n m k
-    → AllStarted a (suc n) l k
+started-more : {a : Acceptance} {n : ℕ} {l m k : LedgerState} → Started a 1 l m → Started a n m k
+    → Started a (suc n) l k
 started-more first others = record {
   settled = others.settled;
-  named = others.named;
+  counted = others.counted;
   counts = record {
     objects = omega (arith, first.counts.objects, others.counts.objects);
     names = omega (arith, first.counts.names, others.counts.names);
@@ -212,22 +213,26 @@ started-more first others = record {
 
 -- after the starts of a settled ledger
 pub starts-started : {a : Acceptance} → IsAccepted a → {l : LedgerState} {starts : List Start} {rs : List Resolved}
-    → IsSettled a l → IsLedger l → AllStart a l starts rs → AllStarted a (length rs) l (after_starts a l rs)
-starts-started accepted settled ledger (batch.none l) = started-none settled ledger
-starts-started accepted settled ledger (batch.line l start r starts rs resolves others) =
-    let first = start-started accepted settled ledger resolves in
-    started-more first (starts-started accepted first.settled first.named others)
+    → IsSettled a l → IsCounted l → AllStart a l starts rs → Started a (length rs) l (after_starts a l rs)
+starts-started accepted settled counted (batch.none l) = started-none settled counted
+starts-started accepted settled counted (batch.line l start r starts rs resolves others) =
+    let first = start-started accepted settled counted resolves in
+    started-more first (starts-started accepted first.settled first.counted others)
+
+pub starts-named : {a : Acceptance} → IsAccepted a → {l : LedgerState} {starts : List Start} {rs : List Resolved}
+    → IsSettled a l → IsLedger l → AllStart a l starts rs → IsLedger (after_starts a l rs)
+starts-named accepted settled ledger (batch.none l) = ledger
+starts-named accepted settled ledger (batch.line l start r starts rs resolves others) =
+    starts-named accepted (start-settled accepted settled ledger resolves)
+    (start-named accepted settled ledger resolves) others
 
 module _ {a : Acceptance} (accepted : IsAccepted a) {l : LedgerState} {starts : List Start} {rs : List Resolved}
     (settled : IsSettled a l) (ledger : IsLedger l) (all : AllStart a l starts rs) where
   pub starts-settled : IsSettled a (after_starts a l rs)
-  starts-settled = (starts-started accepted settled ledger all).settled
-
-  pub starts-named : IsLedger (after_starts a l rs)
-  starts-named = (starts-started accepted settled ledger all).named
+  starts-settled = (starts-started accepted settled ledger.each_account all).settled
 
   pub starts-counts : HasStarted (length rs) l (after_starts a l rs)
-  starts-counts = (starts-started accepted settled ledger all).counts
+  starts-counts = (starts-started accepted settled ledger.each_account all).counts
 
 -- each line comes to one start
 pub starts-length : {a : Acceptance} {l : LedgerState} {starts : List Start} {rs : List Resolved} → AllStart a l starts rs

@@ -5,7 +5,7 @@ use Rattle.std.proofs.lemmas.Option.{same_Some}
 use Rattle.nomos_ir.specs.declared.ids.CodeId.{CodeId}
 use Rattle.nomos_types.specs.Acceptance.{Acceptance, IsAccepted}
 use Rattle.nomos_machine.specs.Optional.{◌>>=◌}
-use Rattle.nomos_machine.specs.Run.{run}
+use Rattle.nomos_machine.specs.Run.{IsQuiet, run}
 use Rattle.nomos_machine.specs.Starting.{cleared}
 use Rattle.nomos_machine.specs.State.{State, gas_of, process_at}
 use Rattle.nomos_machine.specs.Step.{step, deed, state_after}
@@ -18,7 +18,7 @@ use Rattle.nomos_machine.proofs.RunLaws.{Rises, run-rises}
 use Rattle.nomos_machine.proofs.StartingLaws.{cleared-typed}
 use Rattle.nomos_script.specs.declared.item.Start.{Start}
 use Rattle.nomos_legal.specs.Batch.{AllStart, after_starts}
-use Rattle.nomos_legal.specs.Ending.{EndsAs}
+use Rattle.nomos_legal.specs.Ending.{EndsAs, HasTransaction}
 use Rattle.nomos_legal.specs.Ledger.{AreNamed, LedgerState, IsLedger}
 use Rattle.nomos_legal.specs.StandsFor.{IsSettled, StandsFor, WorldStandsFor}
 use Rattle.nomos_legal.specs.World.{WorldState, IsWorld, FiresAt, start_of, pids_of, committed}
@@ -90,7 +90,63 @@ module _ {a : Acceptance} where
       let (same, last) = fires_at-one rest (subst (λ (x : State). FiresAt a x pids others w) next rest_other) in
       ((λ i. (process i).code ∷ same i), last)
 
+-- ---- runs from a settled ledger
+
+-- the state that firings reach from a settled ledger
+pub record Reached (a : Acceptance) (l : LedgerState) (t : State) : Type 0 where
+  pub typed : IsTyped a t
+  pub outside : t.outside ≡ []
+  pub gas : gas_of t ≡ l.deposits * a.annotations.unit
+  pub contracts : All (λ c. IsContractName a t c.1) l.contracts
+  pub accounts : length t.balances ≡ length l.state.balances
+
+pub settled-reached : {a : Acceptance} → IsAccepted a → {l : LedgerState} → IsSettled a l → (pids : List ℕ) (t : State)
+    → run a l.state pids ≡ Some t → Reached a l t
+settled-reached {a} accepted {l} settled pids t is =
+    let (typed, gas) = run-keeps accepted l.state t pids settled.typed is in
+    record {
+      typed = typed;
+      outside = run-no_outside a l.state t pids is settled.outside;
+      gas = gas ∙ settled.gas;
+      contracts =
+          contracts-kept (run-keeps_contracts accepted l.state t pids settled.typed is) l.contracts settled.contracts;
+      accounts = (run-rises accepted l.state t pids settled.typed is).accounts;
+    }
+
+-- with it, and nothing emitted, the ledger is settled
+pub reached-settled : {a : Acceptance} {l : LedgerState} {t : State} → Reached a l t → l.deposits < 2 ^ 64
+    → IsSettled a (record l { state = cleared t })
+reached-settled {a} {l} {t} reached few = record {
+  typed = cleared-typed reached.typed;
+  outside = reached.outside;
+  results = refl;
+  few = few;
+  gas = reached.gas;
+  contracts = contracts-kept (cleared-keeps_contracts a t) l.contracts reached.contracts;
+}
+
+-- and stands, where that state is quiet and no transaction is left in it
+pub reached-stands : {a : Acceptance} → IsAccepted a → {l : LedgerState} {t : State} → Reached a l t → l.deposits < 2 ^ 64
+    → IsQuiet a t × ¬ (HasTransaction t) → StandsFor a (record l { state = cleared t })
+reached-stands accepted reached few ends = record {
+  settled = reached-settled reached few;
+  quiet = same-quiet accepted reached.typed (cleared-typed reached.typed) refl ends.0;
+  no_transaction = same-no_transaction refl ends.1;
+}
+
 -- ---- worlds
+
+-- what a batch leaves that stays is the ledger of its start, with the last state and nothing emitted
+pub committed-is : {a : Acceptance} {w : WorldState} → WorldStandsFor a w
+    → committed w ≡ record (start_of a w) { state = cleared w.state }
+committed-is {a} {w} stands =
+    let (accounts, deposits) = starts-same a w.origin w.starts in
+    λ i. record {
+      accounts = sym accounts i;
+      contracts = stands.contracts i;
+      deposits = sym deposits i;
+      state = cleared w.state;
+    }
 
 -- the world of a batch whose lines started, before any firing
 abbrev pub begun : Acceptance → LedgerState → List Resolved → WorldState
@@ -125,15 +181,15 @@ module _ {a : Acceptance} (accepted : IsAccepted a) {w : WorldState} (stands : W
   pub world-run : run a (start_of a w).state (pids_of w.firings) ≡ Some w.state
   world-run = fires_at-run stands.reached
 
+  world-reached : Reached a (start_of a w) w.state
+  world-reached = settled-reached accepted stands.start (pids_of w.firings) w.state world-run
+
   pub world-typed : IsTyped a w.state
-  world-typed =
-      (run-keeps accepted (start_of a w).state w.state (pids_of w.firings) stands.start.typed world-run).0
+  world-typed = world-reached.typed
 
   -- all gas is what was deposited before the batch
   pub world-gas_is : gas_of w.state ≡ w.origin.deposits * a.annotations.unit
-  world-gas_is =
-      (run-keeps accepted (start_of a w).state w.state (pids_of w.firings) stands.start.typed world-run).1
-      ∙ stands.start.gas ∙ ap (λ (n : ℕ). n * a.annotations.unit) (starts-same a w.origin w.starts).1
+  world-gas_is = world-reached.gas ∙ ap (λ (n : ℕ). n * a.annotations.unit) (starts-same a w.origin w.starts).1
 
   pub world-gas : gas_of w.state < 2 ^ 95
   world-gas =
@@ -142,16 +198,12 @@ module _ {a : Acceptance} (accepted : IsAccepted a) {w : WorldState} (stands : W
 
   -- nothing is outside
   pub world-outside : w.state.outside ≡ []
-  world-outside =
-      run-no_outside a (start_of a w).state w.state (pids_of w.firings) world-run stands.start.outside
+  world-outside = world-reached.outside
 
   -- contracts are contracts still
   pub world-contracts : All (λ c. IsContractName a w.state c.1) w.contracts
   world-contracts =
-      subst (All (λ (c : List ℕ × ℕ). IsContractName a w.state c.1)) (sym stands.contracts)
-      (contracts-kept
-      (run-keeps_contracts accepted (start_of a w).state w.state (pids_of w.firings) stands.start.typed world-run)
-      (start_of a w).contracts stands.start.contracts)
+      subst (All (λ (c : List ℕ × ℕ). IsContractName a w.state c.1)) (sym stands.contracts) world-reached.contracts
 
   -- both next numbers rise by one at most with each firing
   pub world-rises : Rises (length w.firings) (start_of a w).state w.state
@@ -196,35 +248,11 @@ module _ {a : Acceptance} (accepted : IsAccepted a) {w : WorldState} (stands : W
 
   -- ---- a batch that stays
 
-  committed-settled : IsSettled a (committed w)
-  committed-settled = record {
-    typed = cleared-typed world-typed;
-    outside = world-outside;
-    results = refl;
-    few = stands.origin.settled.few;
-    gas = world-gas_is;
-    contracts = contracts-kept (cleared-keeps_contracts a w.state) w.contracts world-contracts;
-  }
-
   -- what a batch leaves that ends as committed stands
   pub committed-stands : (count limit : ℕ) → EndsAs a w.state count limit end.Committed → StandsFor a (committed w)
-  committed-stands count limit ends = record {
-    settled = committed-settled;
-    quiet = same-quiet accepted world-typed (cleared-typed world-typed) refl ends.0;
-    no_transaction = same-no_transaction refl ends.1;
-  }
-
--- and is the ledger of the batch's start, with the last state and nothing emitted
-pub committed-is : {a : Acceptance} {w : WorldState} → WorldStandsFor a w
-    → committed w ≡ record (start_of a w) { state = cleared w.state }
-committed-is {a} {w} stands =
-    let (accounts, deposits) = starts-same a w.origin w.starts in
-    λ i. record {
-      accounts = sym accounts i;
-      contracts = stands.contracts i;
-      deposits = sym deposits i;
-      state = cleared w.state;
-    }
+  committed-stands count limit ends =
+      subst (StandsFor a) (sym (committed-is stands))
+      (reached-stands accepted world-reached stands.start.few ends)
 
 -- accounts and contracts are named in it as they are in the world
 pub committed-named : (w : WorldState) → IsWorld w → IsLedger (committed w)

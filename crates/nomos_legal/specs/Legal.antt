@@ -1,5 +1,5 @@
 -- Which journals of a script are legal: one walk over its items, along which all that is said of a journal goes.
-use Rattle.std.specs.Prelude.{◌≡◌, ℕ, ◌+◌, ◌-◌, ◌≤◌, min, List, [], ◌∷◌, length, map, All, Option, Some, None, take}
+use Rattle.std.specs.Prelude.{◌≡◌, ℕ, ◌+◌, ◌-◌, ◌≤◌, min, List, [], ◌∷◌, length, map, All, Option, Some, None, take, sum_by}
 use Rattle.std.specs.List.{flat_map}
 use Rattle.std.specs.Option.{option_to_list}
 use Rattle.nomos_types.specs.Acceptance.{Acceptance}
@@ -38,6 +38,10 @@ pub data Leads (a : Acceptance) (limit : ℕ) : ℕ → LedgerState → List Pas
 -- the entries of passages
 abbrev pub entries_of : List Passage → List Entry
 entries_of ps = flat_map (λ p. option_to_list p.entry) ps
+
+-- how many firings entries have
+abbrev pub firings_made : List Entry → ℕ
+firings_made entries = sum_by (λ e. length e.firings) entries
 
 -- ---- legal journals
 

@@ -7,3 +7,4 @@ pub mod StandsFor
 pub mod Passage
 pub mod Legal
 pub mod Right
+pub mod NextNumbers

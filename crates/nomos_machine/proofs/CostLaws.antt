@@ -1,5 +1,5 @@
 -- What a run costs where a `work` of one unit stands before each other instruction.
-use Rattle.std.proofs.Common.{◌≡◌, ◌≤◌, inl, inr, ℕ, suc, ◌+◌, ◌*◌, ◌-◌, List, [], ◌∷◌, length, Contains, Option, Some, None, Ok, Err, slice_get, refl, subst, ap, arith}
+use Rattle.std.proofs.Common.{◌≡◌, ◌≤◌, inl, inr, ℕ, suc, ◌+◌, ◌*◌, List, [], ◌∷◌, length, Contains, Option, Some, None, Ok, Err, slice_get, refl, subst, ap, arith}
 use Rattle.std.proofs.Math.Nat.{mul-le-mul_left}
 use Rattle.std.proofs.lemmas.List.Sums.{sum_by-append}
 use Rattle.nomos_ir.specs.CodeParts.{code_terms}
@@ -11,6 +11,7 @@ use Rattle.nomos_ir.specs.declared.ids.VarId.{VarId}
 use Rattle.nomos_types.specs.Acceptance.{Acceptance, IsAccepted}
 use Rattle.nomos_types.specs.Amount.{dths}
 use Rattle.nomos_machine.specs.Change.{Change, made, changed}
+use Rattle.nomos_machine.specs.Costs.{PaysFor}
 use Rattle.nomos_machine.specs.Deeds.{changes}
 use Rattle.nomos_ir.specs.TermsEvaluation.{TermsResult, terms_evaluation}
 use Rattle.nomos_machine.specs.Given.{Given, begins}
@@ -27,7 +28,7 @@ use Rattle.nomos_machine.specs.declared.object.Process.{Process}
 use Rattle.nomos_machine.proofs.ChangeLaws.{Replaces, made-weight}
 use Rattle.nomos_machine.proofs.ChargeDeeds.{Charges, deed-charges}
 use Rattle.nomos_machine.proofs.FiringLaws.{FiringChange, run-by_steps}
-use Rattle.nomos_machine.proofs.IdleLaws.{idle, idle_among, process_count, idle-processes, idle-first}
+use Rattle.nomos_machine.proofs.IdleLaws.{idle, idle_among, idle-processes, idle-first}
 
 -- Through so many firings: so many units, and one more for each process that is idle at the end, are no more than twice
 -- the gas spent meanwhile and one unit for each process that was idle at the start.
@@ -135,15 +136,13 @@ module _ (a : Acceptance) (under : IsUnderCostAll a.program) (s : State) (number
 
 -- So many firings, each a unit, come to no more than twice the gas spent meanwhile, and one unit for each process that
 -- there was at the start.
-pub costs-bound : (a : Acceptance) (n : ℕ) (s t : State) → RunCosts a n s t
-    → n * a.annotations.unit ≤ 2 * (t.spent - s.spent) + a.annotations.unit * process_count s
+pub costs-bound : (a : Acceptance) (n : ℕ) (s t : State) → RunCosts a n s t → PaysFor a n s t
 costs-bound a n s t costs =
     let few = mul-le-mul_left a.annotations.unit (idle-processes a s) in
     omega (arith, costs.spends, costs.charged, few)
 
 -- Where the program is under `cost all` this holds of each run from a typed state.
 pub cost-all : {a : Acceptance} → IsAccepted a → IsUnderCostAll a.program → (s t : State) (pids : List ℕ)
-    → IsTyped a s → run a s pids ≡ Some t
-    → length pids * a.annotations.unit ≤ 2 * (t.spent - s.spent) + a.annotations.unit * process_count s
+    → IsTyped a s → run a s pids ≡ Some t → PaysFor a (length pids) s t
 cost-all {a} accepted under s t pids typed is =
     costs-bound a (length pids) s t (run-costs accepted under s t pids typed is)

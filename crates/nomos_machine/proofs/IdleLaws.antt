@@ -14,6 +14,7 @@ use Rattle.nomos_ir.specs.declared.ids.Label.{Label}
 use Rattle.nomos_ir.proofs.NodeLaws.{All-at}
 use Rattle.nomos_types.specs.Acceptance.{Acceptance}
 use Rattle.nomos_machine.specs.Change.{put_at}
+use Rattle.nomos_machine.specs.Costs.{counts_process, process_count}
 use Rattle.nomos_machine.specs.Deeds.{arm_for}
 use Rattle.nomos_machine.specs.Objects.{object_at}
 use Rattle.nomos_machine.specs.Revised.{uses_instead}
@@ -39,15 +40,6 @@ idle a (object.Message m) = 0
 -- how many of the objects are so
 abbrev pub idle_among : Acceptance → List Object → ℕ
 idle_among a objects = sum_by (idle a) objects
-
--- one for a process
-abbrev pub counts_process : Object → ℕ
-counts_process (object.Process p) = 1
-counts_process (object.Message m) = 0
-
--- how many processes a state has
-abbrev pub process_count : State → ℕ
-process_count s = sum_by counts_process s.objects
 
 pub idle_at-most : (o : Option CodeNode) → idle_at o ≤ 1
 idle_at-most (Some n) = either (is_work n)

@@ -9,6 +9,7 @@ pub mod Deeds
 pub mod Step
 pub mod Readiness
 pub mod Run
+pub mod Costs
 pub mod Policies
 pub mod Starting
 pub mod Matching

@@ -1,0 +1,59 @@
+-- What the firings of a world cost where the program is under `cost all`.
+use Rattle.std.proofs.Common.{◌≡◌, ℕ, ◌+◌, List, [], ◌∷◌, length, Option, Some, None, slice_get, refl, subst, arith}
+use Rattle.std.proofs.lemmas.List.{length-map}
+use Rattle.nomos_ir.specs.CostAll.{IsUnderCostAll}
+use Rattle.nomos_ir.specs.declared.declaration.ProcDecl.{ProcDecl}
+use Rattle.nomos_types.specs.Acceptance.{Acceptance, IsAccepted}
+use Rattle.nomos_machine.specs.Costs.{PaysFor}
+use Rattle.nomos_machine.specs.Optional.{◌>>=◌}
+use Rattle.nomos_machine.specs.Starting.{started, value_bindings, channel_bindings}
+use Rattle.nomos_machine.specs.State.{State}
+use Rattle.nomos_machine.proofs.CostLaws.{RunCosts, costs-bound, costs-through, run-costs, started-costs}
+use Rattle.nomos_legal.specs.Batch.{after_start, after_starts, state_or}
+use Rattle.nomos_legal.specs.Ledger.{LedgerState}
+use Rattle.nomos_legal.specs.StandsFor.{WorldStandsFor}
+use Rattle.nomos_legal.specs.World.{WorldState, pids_of, start_of}
+use Rattle.nomos_legal.specs.declared.resolved.Resolved.{Resolved}
+use Rattle.nomos_legal.proofs.WorldLaws.{world-run}
+
+module _ {a : Acceptance} (under : IsUnderCostAll a.program) where
+  costs-none : (s : State) → RunCosts a 0 s s
+  costs-none s = record { spends = omega arith; charged = omega arith }
+
+  -- a start costs no gas, and its process stands at a `work`
+  start-costs : (l : LedgerState) (r : Resolved) → RunCosts a 0 l.state (after_start a l r).state
+  start-costs l r = by (slice_get a.program.procs r.proc.0) refl
+    where
+      by : (o : Option ProcDecl) → slice_get a.program.procs r.proc.0 ≡ o
+          → RunCosts a 0 l.state (state_or l.state (o >>= λ d.
+          Some (started a l.state d (value_bindings d r.values) (channel_bindings d r.names) r.payer)))
+      by (Some d) declared =
+          started-costs a under l.state r.proc.0 d declared (value_bindings d r.values) (channel_bindings d r.names)
+          r.payer
+      by None declared = costs-none l.state
+
+  starts-cost : (l : LedgerState) (rs : List Resolved) → RunCosts a 0 l.state (after_starts a l rs).state
+  starts-cost l [] = costs-none l.state
+  starts-cost l (r ∷ rs) =
+      let next : LedgerState = after_start a l r in
+      subst (λ (n : ℕ). RunCosts a n l.state (after_starts a next rs).state) none
+      (costs-through a 0 0 l.state next.state (after_starts a next rs).state (start-costs l r) (starts-cost next rs))
+    where
+      none : 0 + 0 ≡ 0
+      none = omega arith
+
+  -- The firings of a world, a unit for each, come to at most twice the gas spent since its origin, and a unit for each
+  -- process of its origin.
+  pub world-pays : IsAccepted a → {w : WorldState} → WorldStandsFor a w
+      → PaysFor a (length w.firings) w.origin.state w.state
+  world-pays accepted {w} stands =
+      let start : State = (start_of a w).state in
+      let fired = run-costs accepted under start w.state (pids_of w.firings) stands.start.typed (world-run accepted stands)
+      in
+      let all = costs-through a 0 (length (pids_of w.firings)) w.origin.state start w.state (starts-cost w.origin w.starts)
+      fired in
+      subst (λ (n : ℕ). PaysFor a n w.origin.state w.state) same
+      (costs-bound a (0 + length (pids_of w.firings)) w.origin.state w.state all)
+    where
+      same : 0 + length (pids_of w.firings) ≡ length w.firings
+      same = omega (arith, length-map w.firings (λ f. f.pid))
