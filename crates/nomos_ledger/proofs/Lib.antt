@@ -8,3 +8,5 @@ pub mod AlikeLemmas
 pub mod AnswerLemmas
 pub mod RestLemmas
 pub mod WorldLemmas
+pub mod ContractsLemmas
+pub mod ResolvingLemmas

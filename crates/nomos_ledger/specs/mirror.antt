@@ -3,3 +3,4 @@ pub mod Books
 pub mod Fired
 pub mod Names
 pub mod Worlds
+pub mod Resolving

@@ -10,6 +10,7 @@ mod fired;
 mod fitting;
 pub mod ledger;
 pub mod named;
+mod resolving;
 mod rest;
 pub mod world;
 mod worth;

@@ -112,7 +112,7 @@ fit-channels line.none = paired.none
 fit-channels (line.one {par = par} fits others) = paired.pair par.0 fits.alike (fit-channels others)
 
 -- what holds of each contract holds of the one that is found
-found-contract : {a : Acceptance} {s : State} (contracts : Contracts) (name : List ℕ) (shared : ℕ)
+pub found-contract : {a : Acceptance} {s : State} (contracts : Contracts) (name : List ℕ) (shared : ℕ)
     → All (λ c. IsContractName a s c.1) contracts → shared_name contracts name ≡ Some shared
     → IsContractName a s shared
 found-contract [] name shared all found = absurd cc
