@@ -1,0 +1,11 @@
+mod CauseLemmas
+mod CountLemmas
+mod EndLemmas
+mod GasLemmas
+mod NamingLemmas
+mod NumberLemmas
+pub mod NamingLaws
+pub mod OneTextLaws
+pub mod ReadingLaws
+pub mod SplittingLaws
+mod ValueLemmas
