@@ -2,6 +2,7 @@ mod CauseLemmas
 mod CountLemmas
 mod EndLemmas
 mod GasLemmas
+pub mod LengthLaws
 mod NamingLemmas
 mod NumberLemmas
 pub mod NamingLaws

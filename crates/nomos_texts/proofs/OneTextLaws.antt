@@ -1,11 +1,10 @@
 -- What is written is read as what it is: so a text says one thing alone.
-use Rattle.std.proofs.Common.{◌≡◌, ◌≢◌, ℕ, ◌<◌, ◌≤◌, ◌^◌, List, [], ◌∷◌, ◌++◌, drop, get_or, Option, Some, None, refl, sym, ◌∙◌, ap, arith, append_assoc, inl, inr}
+use Rattle.std.proofs.Common.{◌≡◌, ℕ, ◌<◌, ◌≤◌, ◌^◌, List, ◌++◌, drop, get_or, Some, refl, sym, ◌∙◌, ap, arith, append_assoc, inl, inr}
 use Rattle.std.specs.Prelude.{decimal, codes}
 use Rattle.std.specs.Str.Parse.{digits_value}
 use Rattle.std.proofs.lemmas.Bool.Decides.{eqb_tells}
 use Rattle.std.proofs.lemmas.Fmt.{decimal_is_IsNumeral_wide}
 use Rattle.nomos_base.specs.Gas.{gas_text}
-use Rattle.nomos_ir.specs.declared.fault.Fault.{Fault}
 use Rattle.nomos_script.specs.ScriptNames.{IsScriptName}
 use Rattle.nomos_legal.specs.declared.journal.End.{End}
 use Rattle.nomos_legal.specs.declared.journal.End.TheVariants as end
@@ -14,9 +13,7 @@ use Rattle.nomos_legal.specs.declared.refusal.Refusal.TheVariants as refusal
 use Rattle.nomos_texts.specs.declared.cause.Shortage.{Shortage}
 use Rattle.nomos_texts.specs.Cause.{cause_text, fault_text, IsCause}
 use Rattle.nomos_texts.specs.End.{end_text, IsEnd}
-use Rattle.nomos_texts.specs.Number.{ReadsBits, ReadsGas}
 use Rattle.nomos_texts.specs.Reading.{ReadsAs}
-use Rattle.nomos_texts.specs.Splitting.{Lacks, ComesApart}
 use Rattle.nomos_texts.specs.mirror.Shortages.{IsShortage, shortage_text}
 use Rattle.nomos_texts.proofs.CauseLemmas.{Lacks-name, shortage_both, no_gas_all, three_parts}
 use Rattle.nomos_texts.proofs.EndLemmas.{aborted_both, steps_some, refused_both}

@@ -53,6 +53,13 @@ pub fn read_number(text: &[u8], most: u64) -> Option<u64>
     }
 }
 
+/// The number of 64 bits that a text writes in decimal, without leading zeros.
+pub fn read_u64(text: &[u8]) -> Option<u64>
+    ensures { ReadsBits 64 text.now result }
+{
+    read_number(text, u64::MAX)
+}
+
 /// The number of 32 bits that a text writes in decimal, without leading zeros.
 pub fn read_u32(text: &[u8]) -> Option<u32>
     ensures { ReadsBits 32 text.now result }
