@@ -1,6 +1,7 @@
 mod CauseLemmas
 mod CountLemmas
 mod EndLemmas
+pub mod FeedLaws
 mod GasLemmas
 pub mod LengthLaws
 mod NamingLemmas

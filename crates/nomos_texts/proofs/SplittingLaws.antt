@@ -1,8 +1,12 @@
 -- Texts come apart in one way.
-use Rattle.std.proofs.Common.{◌≡◌, ◌≢◌, ℕ, ◌<◌, ◌^◌, List, [], ◌∷◌, ◌++◌, refl, arith}
+use Rattle.std.proofs.Common.{◌≡◌, ◌≢◌, ℕ, ◌<◌, ◌^◌, true, ◌==◌, List, [], ◌∷◌, ◌++◌, inl, inr, refl, arith}
+use Rattle.std.specs.Prelude.{not}
+use Rattle.std.specs.List.{list_all}
+use Rattle.std.proofs.lemmas.Bool.{false≢true}
+use Rattle.std.proofs.lemmas.Bool.Decides.{eqb_tells}
 use Rattle.std.specs.Prelude.{decimal}
 use Rattle.std.proofs.lemmas.Fmt.{decimal_is_IsNumeral_wide}
-use Rattle.std.proofs.lemmas.List.Elements.{All-head, All-tail, All-from_get_or}
+use Rattle.std.proofs.lemmas.List.Elements.{All-nil, All-cons, All-append, All-head, All-tail, All-from_get_or}
 use Rattle.std.proofs.lemmas.Str.Parse.{digit_at}
 use Rattle.nomos_texts.specs.Splitting.{Lacks, ComesApart}
 
@@ -42,3 +46,17 @@ Lacks-decimal mark n small low =
     let numeral = (decimal_is_IsNumeral_wide n (omega arith)).0 in
     All-from_get_or (λ byte. byte ≢ mark) (decimal n) 0
     (λ i within e. absurd (omega (arith, digit_at (decimal n) i numeral.1 within, e)))
+
+-- a text that passes the test lacks the byte
+pub Lacks-tested : (mark : ℕ) (text : List ℕ) → list_all (λ byte. not (byte == mark)) text ≡ true → Lacks mark text
+Lacks-tested mark [] passes = All-nil (λ byte. byte ≢ mark)
+Lacks-tested mark (b ∷ text) passes = elim (eqb_tells b mark) [
+  | inl same ↦ let wrong = rw same.0 at passes in absurd (false≢true wrong)
+  | inr other ↦
+      let rest = rw other.0 at passes in
+      All-cons (λ byte. byte ≢ mark) b text other.1 (Lacks-tested mark text rest)
+]
+
+-- two texts in a row
+pub Lacks-append : (mark : ℕ) (front back : List ℕ) → Lacks mark front → Lacks mark back → Lacks mark (front ++ back)
+Lacks-append mark front back a b = All-append (λ byte. byte ≢ mark) front back a b
