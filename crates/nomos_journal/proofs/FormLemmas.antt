@@ -1,13 +1,16 @@
 -- The table of forms has each of them.
-use Rattle.std.proofs.Common.{◌≡◌, ◌≢◌, ℕ, ◌≤◌, List, length, get_or, Option, Some, None, refl, subst, arith}
+use Rattle.std.proofs.Common.{◌≡◌, ◌≢◌, ℕ, ◌≤◌, List, length, get_or, Option, Some, None, refl, sym, ◌∙◌, subst, arith}
 use Rattle.std.specs.Prelude.{find}
 use Rattle.std.specs.Str.{bytes_eq}
 use Rattle.nomos_ir.specs.CodeForm.{form_name}
 use Rattle.nomos_ir.specs.declared.code_form.CodeForm.{CodeForm}
 use Rattle.nomos_ir.specs.declared.code_form.CodeForm.TheVariants as form
 use Rattle.nomos_texts.specs.Reading.{ReadsAs}
+use Rattle.nomos_texts.specs.Splitting.{Lacks}
 use Rattle.nomos_texts.proofs.NamingLaws.{ReadsAs-named}
+use Rattle.nomos_texts.proofs.OneTextLaws.{ReadsItself}
 use Rattle.nomos_texts.proofs.ReadingLaws.{ReadsAs-none}
+use Rattle.nomos_texts.proofs.SplittingLaws.{Lacks-tested}
 use Rattle.nomos_journal.specs.Line.{IsGasless}
 use Rattle.nomos_journal.specs.mirror.Forms.{all_forms, form_named}
 
@@ -123,3 +126,41 @@ length-form_name form.Call = omega arith
 length-form_name form.Empty = omega arith
 length-form_name form.Add = omega arith
 length-form_name form.Match = omega arith
+
+-- and has no line feed
+pub feedless_form : (f : CodeForm) → Lacks 10 (form_name f)
+feedless_form form.Label = Lacks-tested 10 (form_name form.Label) refl
+feedless_form form.Case = Lacks-tested 10 (form_name form.Case) refl
+feedless_form form.Send = Lacks-tested 10 (form_name form.Send) refl
+feedless_form form.Recv = Lacks-tested 10 (form_name form.Recv) refl
+feedless_form form.Put = Lacks-tested 10 (form_name form.Put) refl
+feedless_form form.Take = Lacks-tested 10 (form_name form.Take) refl
+feedless_form form.Pay = Lacks-tested 10 (form_name form.Pay) refl
+feedless_form form.Get = Lacks-tested 10 (form_name form.Get) refl
+feedless_form form.Work = Lacks-tested 10 (form_name form.Work) refl
+feedless_form form.Wait = Lacks-tested 10 (form_name form.Wait) refl
+feedless_form form.Accept = Lacks-tested 10 (form_name form.Accept) refl
+feedless_form form.Detach = Lacks-tested 10 (form_name form.Detach) refl
+feedless_form form.Acquire = Lacks-tested 10 (form_name form.Acquire) refl
+feedless_form form.Release = Lacks-tested 10 (form_name form.Release) refl
+feedless_form form.Spawn = Lacks-tested 10 (form_name form.Spawn) refl
+feedless_form form.Let = Lacks-tested 10 (form_name form.Let) refl
+feedless_form form.Emit = Lacks-tested 10 (form_name form.Emit) refl
+feedless_form form.If = Lacks-tested 10 (form_name form.If) refl
+feedless_form form.Close = Lacks-tested 10 (form_name form.Close) refl
+feedless_form form.Fwd = Lacks-tested 10 (form_name form.Fwd) refl
+feedless_form form.Call = Lacks-tested 10 (form_name form.Call) refl
+feedless_form form.Empty = Lacks-tested 10 (form_name form.Empty) refl
+feedless_form form.Add = Lacks-tested 10 (form_name form.Add) refl
+feedless_form form.Match = Lacks-tested 10 (form_name form.Match) refl
+
+-- a form that no gas follows is read as itself
+pub form_itself : ReadsItself IsGasless form_name
+form_itself f is =
+    record {
+      found = (is, refl);
+      each = λ g g_is same.
+          let here : form_named (form_name f) ≡ Some f = (form_named_reads (form_name f)).each f tt refl in
+          let there : form_named (form_name f) ≡ Some g = (form_named_reads (form_name f)).each g tt same in
+          sym here ∙ there;
+    }

@@ -1,2 +1,3 @@
 mod FormLemmas
+pub mod LineLaws
 mod LineLemmas

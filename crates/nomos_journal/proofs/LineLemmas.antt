@@ -95,11 +95,11 @@ fired_some by text f other reads =
 -- ---- firings
 
 -- the blank behind the number
-worked_parts : (pid gas : ℕ) → (decimal pid ++ codes " work ") ++ decimal gas
+pub worked_parts : (pid gas : ℕ) → (decimal pid ++ codes " work ") ++ decimal gas
     ≡ decimal pid ++ 32 ∷ (codes "work " ++ decimal gas)
 worked_parts pid gas = append_assoc (decimal pid) (codes " work ") (decimal gas)
 
-fired_parts : (pid : ℕ) (f : CodeForm) → (decimal pid ++ codes " ") ++ form_name f ≡ decimal pid ++ 32 ∷ form_name f
+pub fired_parts : (pid : ℕ) (f : CodeForm) → (decimal pid ++ codes " ") ++ form_name f ≡ decimal pid ++ 32 ∷ form_name f
 fired_parts pid f = append_assoc (decimal pid) (codes " ") (form_name f)
 
 -- a text that comes apart has a blank
@@ -216,7 +216,7 @@ digit_in_front n rest small =
     let digit = digit_at (decimal n) 0 (decimal_is_IsNumeral_wide n (omega (arith, small))).0.1 some in
     rw (get_or_append_left (decimal n) rest 0 0 some) (omega (arith, digit))
 
-firing_first : (unit : ℕ) (l : JournalLine) → IsFiring l → get_or (line_text unit l) 0 0 ≤ 57
+pub firing_first : (unit : ℕ) (l : JournalLine) → IsFiring l → get_or (line_text unit l) 0 0 ≤ 57
 firing_first unit (line.Head version.One) is = absurd is
 firing_first unit (line.Head version.Two) is = absurd is
 firing_first unit (line.Steps n) is = absurd is

@@ -7,6 +7,7 @@ use nomos_texts::splitting::split_once;
 use std::marker::Model;
 
 /// The next line of a text.
+#[derive(Clone, Copy, Debug)]
 pub enum TextLine<'a> {
     /// A line that ends with a line feed, which is left out.
     Whole(&'a [u8]),

@@ -12,7 +12,7 @@ use Rattle.nomos_legal.specs.declared.journal.End.TheVariants as end
 use Rattle.nomos_legal.specs.declared.refusal.Refusal.{Refusal}
 use Rattle.nomos_legal.specs.declared.refusal.Refusal.TheVariants as refusal
 use Rattle.nomos_texts.specs.Cause.{cause_text, fault_text, IsCause}
-use Rattle.nomos_texts.specs.End.{end_text, IsEnd}
+use Rattle.nomos_texts.specs.End.{end_text, IsEnd, HasLineBelow}
 
 -- a number of 32, 64 and 128 bits
 pub length-decimal_32 : (n : ℕ) → n < 2 ^ 32 → length (decimal n) ≤ 10
@@ -71,11 +71,6 @@ refused line cause digits a b = simp length-append (omega (arith, a, b))
 aborted : (pid text : List ℕ) → length pid ≤ 10 → length text ≤ 12
     → length (codes "aborted " ++ pid ++ codes " " ++ text) ≤ 31
 aborted pid text a b = simp length-append (omega (arith, a, b))
-
--- the line that an end names has at most so many digits
-abbrev pub HasLineBelow : ℕ → End → Type 0
-HasLineBelow digits (end.Refused m cause) = m < 10 ^ digits
-HasLineBelow digits _ = Unit {0}
 
 -- an end, where the line that it names has at most so many digits
 pub length-end_text_line : (unit : ℕ) (digits : ℕ) (e : End) → 1 ≤ digits → digits ≤ 10 → unit < 2 ^ 32 → IsEnd e

@@ -19,3 +19,8 @@ IsEnd (end.Aborted pid f) = pid < 2 ^ 32
 IsEnd (end.Steps k) = k < 2 ^ 32
 IsEnd (end.Refused m cause) = (m < 2 ^ 32) × IsCause cause
 IsEnd _ = Unit {0}
+
+-- the line that an end names has at most so many digits
+abbrev pub HasLineBelow : ℕ → End → Type 0
+HasLineBelow digits (end.Refused m cause) = m < 10 ^ digits
+HasLineBelow digits _ = Unit {0}
