@@ -1,0 +1,3 @@
+mod FormLemmas
+pub mod LineLaws
+mod LineLemmas
