@@ -4,4 +4,5 @@ pub mod LogLemmas
 pub mod MarkLemmas
 pub mod NumberLemmas
 pub mod PlacesLemmas
+pub mod SeatLemmas
 pub mod WordLemmas
