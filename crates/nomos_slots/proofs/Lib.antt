@@ -4,5 +4,7 @@ pub mod LogLemmas
 pub mod MarkLemmas
 pub mod NumberLemmas
 pub mod PlacesLemmas
+pub mod RowLemmas
 pub mod SeatLemmas
+pub mod ShelfLemmas
 pub mod WordLemmas

@@ -61,8 +61,14 @@ module _ {X : Type 0} where
             let once = IsOnce-push log.items at x (sym (sound.kept at) ∙ not) sound.once in
             let below = All-push (λ (s : ℕ × X). s.0 < mark_len marked) log.items (at, x) sound.below within in
             let few : length (log.items ++ (at, x) ∷ []) ≤ mark_len marked = length-below _ _ once below in
-            omega (arith, few, length-append log.items ((at, x) ∷ []), sound.within, log.ok.0,
-            length-map es.items (λ (e : Entry X). e.item))
+            omega (
+              arith,
+              few,
+              length-append log.items ((at, x) ∷ []),
+              sound.within,
+              log.ok.0,
+              length-map es.items (λ (e : Entry X). e.item),
+            )
       ]
 
   pub log-within : (es : List (Entry X)) (log : List (ℕ × X)) (marked : Option ℕ)

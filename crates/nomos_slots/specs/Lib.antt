@@ -5,4 +5,7 @@ pub mod Lowest
 pub mod Marking
 pub mod Numbers
 pub mod Places
+pub mod Rows
 pub mod Seen
+pub mod Shelving
+pub mod Tails

@@ -5,4 +5,6 @@ pub mod column;
 mod levels;
 pub mod numbered;
 pub mod places;
+pub mod shelf;
+pub mod tail;
 mod words;
