@@ -1,3 +1,4 @@
+pub mod Channels
 pub mod Clearing
 pub mod Levels
 pub mod Log
