@@ -1,7 +1,13 @@
+pub mod CellLemmas
+pub mod EntryLemmas
 pub mod GapLemmas
 pub mod LevelLemmas
 pub mod LogLemmas
 pub mod MarkLemmas
 pub mod NumberLemmas
 pub mod PlacesLemmas
+pub mod ProbeLemmas
+pub mod RowLemmas
+pub mod SeatLemmas
+pub mod ShelfLemmas
 pub mod WordLemmas

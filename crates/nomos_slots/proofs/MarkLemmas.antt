@@ -111,7 +111,7 @@ module _ {X : Type 0} where
   abbrev pub HasMarkedWithin : ℕ → Option (List X) → Type 0
   HasMarkedWithin n marked = IfSome marked (λ list. length list ≤ n)
 
-  mark_len_fits : (es : List (Entry X)) (log : List (ℕ × X)) (marked : Option ℕ) (n : ℕ)
+  pub mark_len_fits : (es : List (Entry X)) (log : List (ℕ × X)) (marked : Option ℕ) (n : ℕ)
       → IsSound es log marked → HasMarkedWithin n (marked_in es log marked) → mark_len marked ≤ n
   mark_len_fits es log None n sound fits = omega arith
   mark_len_fits es log (Some m) n sound fits =

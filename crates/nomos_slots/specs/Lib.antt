@@ -1,3 +1,4 @@
+pub mod Channels
 pub mod Clearing
 pub mod Levels
 pub mod Log
@@ -5,4 +6,7 @@ pub mod Lowest
 pub mod Marking
 pub mod Numbers
 pub mod Places
+pub mod Rows
 pub mod Seen
+pub mod Shelving
+pub mod Tails

@@ -1,5 +1,5 @@
 -- What a column keeps of what it was when it was marked.
-use Rattle.std.specs.Prelude.{◌≡◌, ◌≤◌, ◌<◌, ◌==◌, ◌-◌, ℕ, Bool, false, List, [], ◌∷◌, map, min, take, length, slice_set, slice_index_or, Option, Some, None, All}
+use Rattle.std.specs.Prelude.{◌≡◌, ◌≤◌, ◌<◌, ◌==◌, ◌-◌, ◌⊎◌, ℕ, Bool, false, List, [], ◌∷◌, map, min, take, length, slice_set, slice_index_or, Option, Some, None, All}
 use Rattle.std.specs.List.{list_any}
 use Rattle.std.specs.Option.{option_map}
 use Rattle.std.specs.Global.{Vec}
@@ -57,7 +57,12 @@ module _ {X : Type 0} where
     now = records entries.items;
     marked = option_map (λ len. put_back (take len (records entries.items)) log.items) marked;
     room = min (spare_of entries) (spare_of log);
+    seats = vec_capacity log;
   }
+
+  -- there is room for a change, or the log has a seat for each record
+  abbrev pub HasSeat : Marking X → Type 0
+  HasSeat m = (0 < m.room) ⊎ (length m.now ≤ m.seats)
 
   -- The records that are marked are there, and exactly those that were changed since are in the log, each once.
   pub record IsSound (entries : List (Entry X)) (log : List (ℕ × X)) (marked : Option ℕ) : Type 0 where

@@ -1,7 +1,7 @@
 //! A column of plain records that can be marked and put back.
 ghost use Rattle.std.specs.Prelude.{◌≡◌, ◌≤◌, ◌<◌, ◌+◌, ℕ, [], ◌∷◌, ◌++◌, ◌↔◌, IsTrue, IsOk, IsSome, IfSome, IfOk, OnOk, false, length, map, take, slice_get, slice_set};
 ghost use Rattle.std.specs.Vec.{vec_len, vec_capacity};
-ghost use Rattle.nomos_slots.specs.Log.{is_kept, mark_len, put_back, records, unkept, IsBelow, IsKeptAsLogged};
+ghost use Rattle.nomos_slots.specs.Log.{HasSeat, is_kept, mark_len, put_back, records, unkept, IsBelow, IsKeptAsLogged};
 
 use std::alloc::{AllocError, Global};
 use std::marker::Model;
@@ -16,7 +16,7 @@ struct Entry<T> {
 /// A column of plain records, seen as a list, which can be marked and put back to what it was there.
 ///
 /// Room is counted in changes. Who changes it makes room first, by [`Column::reserve`]: a push or a set takes one of it
-/// at most, and nothing else takes any.
+/// at most, and nothing else takes any. Where the log has a seat for each record, a put takes none.
 #[derive(Drop, Debug)]
 pub struct Column<T: Copy> {
     items: Vec<Entry<T>>,
@@ -111,10 +111,26 @@ impl<T: Copy> Column<T> {
         ensures marked { self.new.marked ≡ self.old.marked }
         ensures ok { OnOk result (n ≤ self.new.room) }
         ensures room { self.old.room ≤ self.new.room }
+        ensures seats { self.old.seats ≤ self.new.seats }
         ensures frugal { n ≤ self.old.room → IsOk result }
     {
         self.items.reserve(n)?;
         self.log.reserve(n)
+    }
+
+    /// Makes room for so many pushes, and a seat in the log for each record that there is then. Want of memory leaves
+    /// the records and the mark as they were; where there is all this already, it cannot fail.
+    pub fn reserve_all(&mut self, more: usize) -> Result<(), AllocError>
+        ensures now { self.new.now ≡ self.old.now }
+        ensures marked { self.new.marked ≡ self.old.marked }
+        ensures ok { OnOk result ((more ≤ self.new.room) × (length self.new.now + more ≤ self.new.seats)) }
+        ensures room { self.old.room ≤ self.new.room }
+        ensures seats { self.old.seats ≤ self.new.seats }
+        ensures frugal { more ≤ self.old.room → length self.old.now + more ≤ self.old.seats → IsOk result }
+    {
+        self.items.reserve(more)?;
+        let all = self.items.len() + more;
+        self.log.reserve(all.saturating_sub(self.log.len()))
     }
 
     /// The number of records.
@@ -138,17 +154,19 @@ impl<T: Copy> Column<T> {
         ensures now { self.new.now ≡ self.old.now ++ item ∷ [] }
         ensures marked { self.new.marked ≡ self.old.marked }
         ensures room { self.old.room ≤ self.new.room + 1 }
+        ensures seats { self.new.seats ≡ self.old.seats }
     {
         self.items.push_reserved(Entry { item, kept: false });
     }
 
-    /// Puts a record in the place of another. Who calls it has made room, so it takes no memory.
-    pub fn set(&mut self, place: usize, item: T)
-        requires room { 0 < self.old.room }
+    // Puts a record in the place of another, where the log can have what stood there.
+    fn change(&mut self, place: usize, item: T)
+        requires room { HasSeat self.old }
         requires within { place < length self.old.now }
         ensures now { self.new.now ≡ slice_set self.old.now place item }
         ensures marked { self.new.marked ≡ self.old.marked }
         ensures room { self.old.room ≤ self.new.room + 1 }
+        ensures seats { self.new.seats ≡ self.old.seats }
     {
         let Entry { item: before, kept } = self.items[place];
         if is_due(kept, place, self.marked) {
@@ -159,12 +177,48 @@ impl<T: Copy> Column<T> {
         }
     }
 
+    /// Puts a record in the place of another. Who calls it has made room, so it takes no memory.
+    pub fn set(&mut self, place: usize, item: T)
+        requires room { 0 < self.old.room }
+        requires within { place < length self.old.now }
+        ensures now { self.new.now ≡ slice_set self.old.now place item }
+        ensures marked { self.new.marked ≡ self.old.marked }
+        ensures room { self.old.room ≤ self.new.room + 1 }
+        ensures seats { self.new.seats ≡ self.old.seats }
+    {
+        self.change(place, item);
+    }
+
+    /// Puts a record in the place of another, where the log has a seat for each record. It takes no room and no memory.
+    pub fn put(&mut self, place: usize, item: T)
+        requires seats { length self.old.now ≤ self.old.seats }
+        requires within { place < length self.old.now }
+        ensures now { self.new.now ≡ slice_set self.old.now place item }
+        ensures marked { self.new.marked ≡ self.old.marked }
+        ensures seats { self.new.seats ≡ self.old.seats }
+    {
+        self.change(place, item);
+    }
+
+    /// Puts a record in the place of another one that came since the mark. It takes no room and no memory.
+    pub fn put_late(&mut self, place: usize, item: T)
+        requires late { IfSome self.old.marked (λ list. length list ≤ place) }
+        requires within { place < length self.old.now }
+        ensures now { self.new.now ≡ slice_set self.old.now place item }
+        ensures marked { self.new.marked ≡ self.old.marked }
+        ensures room { self.new.room ≡ self.old.room }
+        ensures seats { self.new.seats ≡ self.old.seats }
+    {
+        self.items[place] = Entry { item, kept: false };
+    }
+
     /// Only so many records stay, the first ones. Those that are marked have to be among them.
     pub fn truncate(&mut self, len: usize)
         requires { IfSome self.old.marked (λ list. length list ≤ len) }
         ensures now { self.new.now ≡ take len self.old.now }
         ensures marked { self.new.marked ≡ self.old.marked }
         ensures room { self.old.room ≤ self.new.room }
+        ensures seats { self.new.seats ≡ self.old.seats }
     {
         self.items.truncate(len);
     }
@@ -175,6 +229,7 @@ impl<T: Copy> Column<T> {
         ensures now { self.new.now ≡ self.old.now }
         ensures marked { self.new.marked ≡ Some self.old.now }
         ensures room { self.old.room ≤ self.new.room }
+        ensures seats { self.new.seats ≡ self.old.seats }
     {
         self.marked = Some(self.items.len());
     }
@@ -186,6 +241,7 @@ impl<T: Copy> Column<T> {
         ensures now { self.old.marked ≡ Some self.new.now }
         ensures marked { self.new.marked ≡ None }
         ensures room { self.old.room ≤ self.new.room }
+        ensures seats { self.new.seats ≡ self.old.seats }
     {
         if let Some(len) = self.marked {
             self.items.truncate(len);
@@ -201,6 +257,7 @@ impl<T: Copy> Column<T> {
         ensures now { self.new.now ≡ self.old.now }
         ensures marked { self.new.marked ≡ None }
         ensures room { self.old.room ≤ self.new.room }
+        ensures seats { self.new.seats ≡ self.old.seats }
     {
         release(&mut self.items, self.log.as_slice());
         self.log.clear();

@@ -1,8 +1,11 @@
 //! Columns of plain records, which can be marked and put back to what they were; records under numbers; sets of places.
 #![tactic(auto)]
 
+pub mod channels;
 pub mod column;
 mod levels;
 pub mod numbered;
 pub mod places;
+pub mod shelf;
+pub mod tail;
 mod words;

@@ -1,11 +1,12 @@
-use Rattle.std.proofs.Common.{◌<◌, true, refl, ap, ◌∙◌, length, set, arith}
+use Rattle.std.proofs.Common.{◌<◌, true, refl, ap, sym, subst, ◌∙◌, length, set, arith}
 use Rattle.std.proofs.lemmas.Bool.{both_ways, true_from_ne_false}
 use Rattle.std.proofs.lemmas.List.{length-map}
-use Rattle.nomos_slots.specs.Log.{mark_len}
+use Rattle.nomos_slots.specs.Log.{mark_len, HasSeat}
+use Rattle.nomos_slots.proofs.SeatLemmas.{seat-there}
 use Rattle.nomos_slots.specs.Marking.{Marking}
 use Rattle.nomos_slots.specs.declared.column.Entry.{Entry}
 use Rattle.nomos_slots.proofs.MarkLemmas.{is_kept_read, records-set, IsSound_first, marked_first, IsSound_again, marked_again}
-use Rattle.nomos_slots.proofs.column.Column.set.Goals as goal
+use Rattle.nomos_slots.proofs.column.Column.change.Goals as goal
 
 pub invariant_of-self : goal.invariant_of-self
 invariant_of-self g c =
@@ -65,3 +66,15 @@ returns-else-is_due-clause-marked g c =
     is_kept_read es at c.index.result.now l c.index.ensures
     ∙ true_from_ne_false _ (λ not. both_ways _ c.if-is_due.false (c.is_due.ensures.1 (below, not))) in
     marked_again es s.log.items s.marked at _ c.self.invariant has ∙ ap (λ (m : Marking _). m.marked) c.self.view_is
+
+pub push_reserved-requires : goal.push_reserved-requires
+push_reserved-requires g c =
+    let s = c.self.inside in
+    let at = c.args.place in
+    let es = s.items.items in
+    let old = c.index.result.now in
+    let due = c.is_due.ensures.0 c.if-is_due.true in
+    let l : at < length es = omega (arith, c.self.invariant.within, due.0) in
+    let not = is_kept_read es at old l c.index.ensures ∙ due.1 in
+    let seat = subst HasSeat (sym c.self.view_is) c.requires.room in
+    seat-there s.items s.log s.marked at old.item c.self.invariant due.0 not seat
