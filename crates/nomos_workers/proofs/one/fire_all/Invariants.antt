@@ -1,0 +1,10 @@
+use Rattle.std.proofs.Common.{◌≡◌}
+use Rattle.nomos_workers.specs.mirror.Steps.{HasMade}
+use Rattle.nomos_workers.proofs.one.fire_all.Given as goal
+
+-- the firings so far are those of the policy
+abbrev pub invariant-firings : goal.invariant-firings
+invariant-firings g l = record {
+  policy : l.chooser.policy ≡ l.fn.policy;
+  made : HasMade l.fn.policy l.accepted l._made l.chooser.last l.fn.world l.world;
+}

@@ -1,0 +1,3 @@
+pub mod Batch
+pub mod OneWorker
+pub mod mirror
