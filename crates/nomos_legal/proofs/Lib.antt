@@ -10,3 +10,4 @@ pub mod NextNumberLaws
 pub mod WorldCostLaws
 pub mod Examples
 mod BatchExamples
+pub mod DepositLaws
