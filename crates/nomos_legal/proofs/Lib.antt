@@ -11,3 +11,4 @@ pub mod WorldCostLaws
 pub mod Examples
 mod BatchExamples
 pub mod DepositLaws
+pub mod FollowLaws
