@@ -1,5 +1,5 @@
 -- What a policy chooses is one process, and firings that follow a policy are a run that it determines.
-use Rattle.std.proofs.Common.{◌≡◌, ◌∙◌, inl, inr, ℕ, List, [], ◌∷◌, ◌++◌, length, Option, Some, refl, sym, subst, ap, arith}
+use Rattle.std.proofs.Common.{◌≡◌, ◌∙◌, ◌<◌, inl, inr, ℕ, List, [], ◌∷◌, ◌++◌, length, Option, Some, refl, sym, subst, ap, arith}
 use Rattle.std.proofs.lemmas.Bool.{cases_lt}
 use Rattle.std.proofs.lemmas.Option.{same_Some}
 use Rattle.nomos_types.specs.Acceptance.{Acceptance}
@@ -74,3 +74,28 @@ module _ {a : Acceptance} where
   chosen_after-one {kind} {t = t} {p = p} {q = q} one other =
       let (pids, state, last) = follows-one one.follows other.follows refl in
       chosen-one kind a t other.last p q (subst (λ (n : ℕ). IsChosen kind a t n p) last one.chosen) other.chosen
+
+-- the process that is chosen has a step
+pub record Continues (kind : Policy) (a : Acceptance) (s : State) (last : ℕ) : Type 0 where
+  pub pid : ℕ
+  pub next : State
+  pub chosen : IsChosen kind a s last pid
+  pub steps : step a s pid ≡ Some next
+
+module _ {a : Acceptance} where
+  -- where more firings follow it from the same state, it goes on after the fewer ones
+  pub follows-further : {kind : Policy} {s t u : State} {last end other : ℕ} {pids more : List ℕ}
+      → FollowsPolicy kind a s last pids t end → FollowsPolicy kind a s last more u other → length pids < length more
+      → Continues kind a t end
+  follows-further (policies.done s last) (policies.done s_other last_other) fewer = absurd (omega (arith, fewer))
+  follows-further (policies.done s last) (policies.fires s_other v w last_other pid end pids chosen steps rest) fewer =
+      record { pid = pid; next = v; chosen = chosen; steps = steps }
+  follows-further (policies.fires s t u last pid end pids chosen steps rest) (policies.done s_other last_other) fewer =
+      absurd (omega (arith, fewer))
+  follows-further {kind = kind} (policies.fires s t u last pid end pids chosen steps rest)
+      (policies.fires s_other v w last_other next other more chosen_other steps_other rest_other) fewer =
+      let first : next ≡ pid = chosen-one kind a s last next pid chosen_other chosen in
+      let state : v ≡ t = same_Some v t (sym steps_other ∙ ap (step a s) first ∙ steps) in
+      let onward = subst (λ (x : State). FollowsPolicy kind a x pid more w other) state
+      (subst (λ (n : ℕ). FollowsPolicy kind a v n more w other) first rest_other) in
+      follows-further rest onward (omega (arith, fewer))
