@@ -12,3 +12,4 @@ pub mod Examples
 mod BatchExamples
 pub mod DepositLaws
 pub mod FollowLaws
+pub mod OneJournalLaws
