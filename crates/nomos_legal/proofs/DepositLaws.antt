@@ -21,7 +21,8 @@ passage-deposits {a} (passage.stays l batch starts pids last begun reaches) = om
 passage-deposits (passage.undone l batch starts pids last answer begun reaches undoes) = omega arith
 passage-deposits (passage.shown l line) = omega arith
 
-leads-deposits : {a : Acceptance} {limit made : ℕ} {l last : LedgerState} {ps : List Passage} → Leads a limit made l ps last
+leads-deposits : {a : Acceptance} {limit made : ℕ} {l last : LedgerState} {ps : List Passage}
+    → Leads a limit made l ps last
     → last.deposits ≡ l.deposits + sum_by accepted_units ps
 leads-deposits (legal.done made l) = omega arith
 leads-deposits (legal.passes made p ps last is rest) =

@@ -25,7 +25,8 @@ module _ (kind : Policy) (a : Acceptance) where
   follow-more ps p follow more = All-push (λ (q : Passage). PassesBy kind a q q.entry) ps p follow more
 
   -- an item without firings whose end names no process
-  pub still-follows : (i : ScriptItem) (l after : LedgerState) (line : ℕ) (answer : End) → ((P : ℕ → Type 0) → Aborts P answer)
+  pub still-follows : (i : ScriptItem) (l after : LedgerState) (line : ℕ) (answer : End)
+      → ((P : ℕ → Type 0) → Aborts P answer)
       → PassesBy kind a (still i (bare line answer) l after) (bare line answer)
   still-follows i l after line answer names_none =
       (record { last = 0; follows = policies.done l.state 0 }, names_none (IsChosenAfter kind a l.state [] l.state))
@@ -34,7 +35,8 @@ module _ (kind : Policy) (a : Acceptance) where
   pub batch-follows : (batch : Batch) (pids : List ℕ) (answer : End) (before start : LedgerState) (t : State)
       (after : LedgerState) (last : ℕ) → FollowsPolicy kind a start.state 0 pids t last
       → Aborts (IsChosen kind a t last) answer
-      → PassesBy kind a (runs batch pids answer before start t after) (runs batch pids answer before start t after).entry
+      → PassesBy kind a (runs batch pids answer before start t after)
+      (runs batch pids answer before start t after).entry
   batch-follows batch pids answer before start t after last follows chosen =
       (record { last = last; follows = follows }, named answer chosen)
     where

@@ -89,7 +89,8 @@ module _ (a : Acceptance) (s : State) (count most : ℕ) where
 
     -- and there is none where the process that it chooses has a step, and firings are left
     never-ends : (e : End) → Continues kind a s last → count < most → Ending e → Aborts (IsChosen kind a s last) e → ⊥
-    never-ends _ goes left (plain e ends) chosen = never-plain e goes.pid (step-ready a s goes.next goes.pid goes.steps) left ends
+    never-ends _ goes left (plain e ends) chosen =
+        never-plain e goes.pid (step-ready a s goes.next goes.pid goes.steps) left ends
     never-ends _ goes left (aborted p f fewer faults) chosen =
         let same : p ≡ goes.pid = chosen-one kind a s last p goes.pid chosen goes.chosen in
         step-or_fault a s goes.pid goes.next f goes.steps (ap (fault a s) (sym same) ∙ faults)
@@ -119,7 +120,8 @@ chosen-there (end.Steps n) follows after = tt
 chosen-there (end.Refused line cause) follows after = tt
 
 run-by : {kind : Policy} {a : Acceptance} {most : ℕ} {start t : State} {pids : List ℕ} {answer : End}
-    → RunsTo a most start pids t answer → IsRunOf kind a start pids t → Aborts (IsChosenAfter kind a start pids t) answer
+    → RunsTo a most start pids t answer → IsRunOf kind a start pids t
+    → Aborts (IsChosenAfter kind a start pids t) answer
     → RunBy kind a most start pids t answer
 run-by {a = a} {most = most} {t = t} {pids = pids} {answer = answer} runs is after = record {
   last = is.last;
@@ -177,7 +179,8 @@ abbrev record_of : Batch → List ℕ → End → Option Entry
 record_of batch pids e = Some (record { line = batch.line; firings = pids; end = e })
 
 -- a batch of which a line is refused does not start
-not-refused : {a : Acceptance} {l k : LedgerState} (batch other : Batch) {starts : List Resolved} {n : ℕ} {cause : Refusal}
+not-refused : {a : Acceptance} {l k : LedgerState} (batch other : Batch) {starts : List Resolved} {n : ℕ}
+    {cause : Refusal}
     → AllStart a l batch.starts starts → OneRefuses a k other.starts n cause → l ≡ k → batch ≡ other → ⊥
 not-refused {a} {l} {k} batch other {starts} {n} {cause} begun refuses ledger batches =
     starts-or_refuses begun
@@ -191,7 +194,8 @@ module _ {kind : Policy} {a : Acceptance} {most : ℕ} where
       → batch ≡ other → RunBy kind a most (after_starts a l starts).state pids t e
       → RunBy kind a most (after_starts a k others).state more u f
       → record_of batch pids e ≡ record_of other more f
-  batch-entry {l} {k} batch other {starts} {others} {pids} {more} {t} {u} {e} {f} begun begun_other ledger batches run run_other =
+  batch-entry {l} {k} batch other {starts} {others} {pids} {more} {t} {u} {e}
+      {f} begun begun_other ledger batches run run_other =
       let same : starts ≡ others =
       all_start-one begun
       (subst (λ (b : Batch). AllStart a l b.starts others) (sym batches)
@@ -207,23 +211,28 @@ module _ (kind : Policy) {a : Acceptance} {most : ℕ} where
   -- what becomes of an item has one entry
   passage-entry : {p q : Passage} → IsPassage a most p → IsPassage a most q → PassesBy kind a p p.entry
       → PassesBy kind a q q.entry → p.item ≡ q.item → p.before ≡ q.before → p.entry ≡ q.entry
-  passage-entry (passage.deposit l line units name fits) (passage.deposit k line_other units_other name_other fits_other) by by_other item before =
+  passage-entry (passage.deposit l line units name fits)
+      (passage.deposit k line_other units_other name_other fits_other) by by_other item before =
       let lines : line ≡ line_other = cc item in
       (λ i. bare (lines i) end.Deposited)
-  passage-entry (passage.deposit l line units name fits) (passage.no_deposit k line_other units_other name_other never) by by_other item before =
+  passage-entry (passage.deposit l line units name fits)
+      (passage.no_deposit k line_other units_other name_other never) by by_other item before =
       let amounts : units ≡ units_other = cc item in
       let deposits = ap (λ (m : LedgerState). m.deposits) before in
       absurd (never (omega (arith, fits, amounts, deposits)))
   passage-entry (passage.deposit l line units name fits) _ by by_other item before = absurd (cc item)
-  passage-entry (passage.no_deposit l line units name never) (passage.no_deposit k line_other units_other name_other never_other) by by_other item before =
+  passage-entry (passage.no_deposit l line units name never)
+      (passage.no_deposit k line_other units_other name_other never_other) by by_other item before =
       let lines : line ≡ line_other = cc item in
       (λ i. bare (lines i) (end.Refused (lines i) refusal.TooMuchGas))
-  passage-entry (passage.no_deposit l line units name never) (passage.deposit k line_other units_other name_other fits) by by_other item before =
+  passage-entry (passage.no_deposit l line units name never)
+      (passage.deposit k line_other units_other name_other fits) by by_other item before =
       let amounts : units ≡ units_other = cc item in
       let deposits = ap (λ (m : LedgerState). m.deposits) before in
       absurd (never (omega (arith, fits, amounts, deposits)))
   passage-entry (passage.no_deposit l line units name never) _ by by_other item before = absurd (cc item)
-  passage-entry {q = q} (passage.refused l batch line cause refuses) (passage.refused k other line_other cause_other refuses_other) by by_other item before =
+  passage-entry {q = q} (passage.refused l batch line cause refuses)
+      (passage.refused k other line_other cause_other refuses_other) by by_other item before =
       let batches : batch ≡ other = cc item in
       let (lines, causes) =
       refuses-one refuses
@@ -231,39 +240,49 @@ module _ (kind : Policy) {a : Acceptance} {most : ℕ} where
       (subst (λ (m : LedgerState). OneRefuses a m other.starts line_other cause_other) (sym before) refuses_other))
       in
       (λ i. bare (batches i).line (end.Refused (lines i) (causes i)))
-  passage-entry (passage.refused l batch line cause refuses) (passage.stays k other starts pids last begun reaches) by by_other item before =
+  passage-entry (passage.refused l batch line cause refuses)
+      (passage.stays k other starts pids last begun reaches) by by_other item before =
       let batches : batch ≡ other = cc item in
       absurd (not-refused other batch begun refuses (sym before) (sym batches))
-  passage-entry (passage.refused l batch line cause refuses) (passage.undone k other starts pids last answer begun reaches undoes) by by_other item before =
+  passage-entry (passage.refused l batch line cause refuses)
+      (passage.undone k other starts pids last answer begun reaches undoes) by by_other item before =
       let batches : batch ≡ other = cc item in
       absurd (not-refused other batch begun refuses (sym before) (sym batches))
   passage-entry (passage.refused l batch line cause refuses) _ by by_other item before = absurd (cc item)
   passage-entry (passage.shown l line) (passage.shown k line_other) by by_other item before = refl
   passage-entry (passage.shown l line) _ by by_other item before = absurd (cc item)
-  passage-entry (passage.stays l batch starts pids last begun reaches) (passage.stays k other others more last_other begun_other reaches_other) by by_other item before =
+  passage-entry (passage.stays l batch starts pids last begun reaches)
+      (passage.stays k other others more last_other begun_other reaches_other) by by_other item before =
       let batches : batch ≡ other = cc item in
       batch-entry batch other begun begun_other before batches (run-by reaches by.0 by.1)
       (run-by reaches_other by_other.0 by_other.1)
-  passage-entry (passage.stays l batch starts pids last begun reaches) (passage.undone k other others more last_other answer begun_other reaches_other undoes) by by_other item before =
+  passage-entry (passage.stays l batch starts pids last begun reaches)
+      (passage.undone k other others more last_other answer begun_other reaches_other undoes) by by_other item before =
       let batches : batch ≡ other = cc item in
       batch-entry batch other begun begun_other before batches (run-by reaches by.0 by.1)
       (run-by reaches_other by_other.0 by_other.1)
-  passage-entry (passage.stays l batch starts pids last begun reaches) (passage.refused k other line cause refuses) by by_other item before =
+  passage-entry (passage.stays l batch starts pids last begun reaches)
+      (passage.refused k other line cause refuses) by by_other item before =
       let batches : batch ≡ other = cc item in
       absurd (not-refused batch other begun refuses before batches)
   passage-entry (passage.stays l batch starts pids last begun reaches) _ by by_other item before = absurd (cc item)
-  passage-entry (passage.undone l batch starts pids last answer begun reaches undoes) (passage.undone k other others more last_other answer_other begun_other reaches_other undoes_other) by by_other item before =
+  passage-entry (passage.undone l batch starts pids last answer begun reaches undoes)
+      (passage.undone k other others more last_other answer_other begun_other reaches_other undoes_other) by by_other
+      item before =
       let batches : batch ≡ other = cc item in
       batch-entry batch other begun begun_other before batches (run-by reaches by.0 by.1)
       (run-by reaches_other by_other.0 by_other.1)
-  passage-entry (passage.undone l batch starts pids last answer begun reaches undoes) (passage.stays k other others more last_other begun_other reaches_other) by by_other item before =
+  passage-entry (passage.undone l batch starts pids last answer begun reaches undoes)
+      (passage.stays k other others more last_other begun_other reaches_other) by by_other item before =
       let batches : batch ≡ other = cc item in
       batch-entry batch other begun begun_other before batches (run-by reaches by.0 by.1)
       (run-by reaches_other by_other.0 by_other.1)
-  passage-entry (passage.undone l batch starts pids last answer begun reaches undoes) (passage.refused k other line cause refuses) by by_other item before =
+  passage-entry (passage.undone l batch starts pids last answer begun reaches undoes)
+      (passage.refused k other line cause refuses) by by_other item before =
       let batches : batch ≡ other = cc item in
       absurd (not-refused batch other begun refuses before batches)
-  passage-entry (passage.undone l batch starts pids last answer begun reaches undoes) _ by by_other item before = absurd (cc item)
+  passage-entry (passage.undone l batch starts pids last answer begun reaches undoes) _ by by_other item before =
+      absurd (cc item)
 
 -- ---- journals
 

@@ -35,7 +35,8 @@ chosen-one policy.Round a s last p q (inr one) (inl other) = absurd (one.0 q oth
 
 module _ {a : Acceptance} where
   -- firings that follow a policy are a run
-  pub follows-run : {kind : Policy} {s t : State} {last end : ℕ} {pids : List ℕ} → FollowsPolicy kind a s last pids t end
+  pub follows-run : {kind : Policy} {s t : State} {last end : ℕ} {pids : List ℕ}
+      → FollowsPolicy kind a s last pids t end
       → run a s pids ≡ Some t
   follows-run (policies.done s last) = refl
   follows-run (policies.fires s t u last pid end pids chosen steps rest) =
