@@ -125,7 +125,8 @@ twice-starts : AllStart program shops (twice_line ∷ []) (twice_started ∷ [])
 twice-starts =
     batch.line shops twice_line twice_started [] []
     (line.starts 0 4 twice (1 ∷ 1 ∷ []) refl (record { first = refl; there = refl })
-    (record { values = line.none; names = line.one (c_fits (var_id 1)) (line.one (c_fits (var_id 2)) line.none) }) tt (omega arith))
+    (record { values = line.none; names = line.one (c_fits (var_id 1)) (line.one (c_fits (var_id 2)) line.none) }) tt
+    (omega arith))
     (batch.none (after_start program shops twice_started))
 
 abbrev taking : LedgerState

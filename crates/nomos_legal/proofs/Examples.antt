@@ -196,7 +196,8 @@ Bad start proc = Resolves program shops start (Err (refusal.BadArguments proc))
 
 -- a value is missing, is too many, or has another kind
 value_missing : Bad (create 1 (codes "e") (codes "cheap") []) (codes "cheap")
-value_missing = line.bad_arguments 0 0 cheap refl (record { first = refl; there = refl }) (λ shared fits. no fits.values)
+value_missing = line.bad_arguments 0 0 cheap refl (record { first = refl; there = refl })
+    (λ shared fits. no fits.values)
   where
     no : OneEach ValueFits [] (number_parameter ∷ []) → ⊥
     no fits = elim fits [ ]
@@ -215,7 +216,8 @@ value_other = line.bad_arguments 0 0 cheap refl (record { first = refl; there = 
 
 -- no value fits a list that carries potential, not even an empty list
 value_for_list : Bad (exec 1 (codes "sums") (list no_values ∷ []) []) (codes "sums")
-value_for_list = line.bad_arguments 0 3 sums refl (record { first = refl; there = refl }) (λ shared fits. no fits.values)
+value_for_list = line.bad_arguments 0 3 sums refl (record { first = refl; there = refl })
+    (λ shared fits. no fits.values)
   where
     no : OneEach ValueFits (list no_values ∷ []) (list_parameter ∷ []) → ⊥
     no (line.one fits others) = let is = fits.no_list in cc
@@ -306,7 +308,8 @@ dear-rest n is same =
     in
     rest (subst (λ (m : TypeNode). SameHead program.annotations Equal (node.Up (type_id 6)) m) only same)
   where
-    rest : SameHead program.annotations Equal (node.Up (type_id 6)) (node.Up (type_id 2)) → Equal (type_id 6) (type_id 2)
+    rest : SameHead program.annotations Equal (node.Up (type_id 6)) (node.Up (type_id 2))
+        → Equal (type_id 6) (type_id 2)
     rest (equality.up a b parts) = parts
 
 dear-pays : (n : TypeNode) → Unfolds program.program 2 n
@@ -383,7 +386,8 @@ new_dear = create 3 (codes "d") (codes "dear") []
 cheap-starts : Resolves program ten_units new_cheap (Ok cheap_started)
 cheap-starts =
     line.starts 0 0 cheap [] refl (record { first = refl; there = refl })
-    (record { values = line.one (record { no_list = refl; kind = refl }) line.none; names = line.none }) refl (omega arith)
+    (record { values = line.one (record { no_list = refl; kind = refl }) line.none; names = line.none }) refl
+    (omega arith)
 
 abbrev after_cheap : LedgerState
 after_cheap = after_start program ten_units cheap_started

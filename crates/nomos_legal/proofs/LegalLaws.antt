@@ -69,7 +69,8 @@ leads-append {qs = qs} (legal.passes made p ps m is on) rest =
 -- one passage
 pub leads-one : {a : Acceptance} {limit made : ℕ} (p : Passage) → IsPassage a (batch_limit limit made) p
     → Leads a limit made p.before (p ∷ []) p.after
-leads-one {made = made} p is = legal.passes made p [] p.after is (legal.done (made + length (firings_in p.entry)) p.after)
+leads-one {made = made} p is =
+    legal.passes made p [] p.after is (legal.done (made + length (firings_in p.entry)) p.after)
 
 -- no batch takes the firings of a journal over the most of a script
 passage-within : {a : Acceptance} {most : ℕ} {p : Passage} → IsPassage a most p → length (firings_in p.entry) ≤ most
@@ -80,7 +81,8 @@ passage-within (passage.stays l batch starts pids last begun reaches) = reaches.
 passage-within (passage.undone l batch starts pids last answer begun reaches undoes) = reaches.within
 passage-within (passage.shown l line) = omega arith
 
-leads-within : {a : Acceptance} {limit made : ℕ} {l last : LedgerState} {ps : List Passage} → Leads a limit made l ps last
+leads-within : {a : Acceptance} {limit made : ℕ} {l last : LedgerState} {ps : List Passage}
+    → Leads a limit made l ps last
     → made ≤ max_firings → made + firings_made (entries_of ps) ≤ max_firings
 leads-within (legal.done made l) few = omega (arith, few)
 leads-within {limit = limit} (legal.passes made p ps last is rest) few =
@@ -89,7 +91,8 @@ leads-within {limit = limit} (legal.passes made p ps last is rest) few =
     omega (arith, leads-within rest more, first-made p ps)
 
 -- the firings of a legal journal are at most those of a script
-pub tells-within : {a : Acceptance} {items : List ScriptItem} {journal : Journal} {ps : List Passage} {last : LedgerState}
+pub tells-within : {a : Acceptance} {items : List ScriptItem} {journal : Journal} {ps : List Passage}
+    {last : LedgerState}
     → Tells a items journal ps last → firings_made journal.entries ≤ max_firings
 tells-within tells =
     subst (λ (es : List Entry). firings_made es ≤ max_firings) tells.entries_are

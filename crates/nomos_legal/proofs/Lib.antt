@@ -10,3 +10,6 @@ pub mod NextNumberLaws
 pub mod WorldCostLaws
 pub mod Examples
 mod BatchExamples
+pub mod DepositLaws
+pub mod FollowLaws
+pub mod OneJournalLaws

@@ -37,7 +37,8 @@ use Rattle.nomos_legal.proofs.WorldLaws.{world-rises}
 -- ---- more of them
 
 numbered-more : (n m : ℕ) → n ≤ m → (s : State) → HasNumbered n s → HasNumbered m s
-numbered-more n m less s is = record { objects = omega (arith, is.objects, less); names = omega (arith, is.names, less) }
+numbered-more n m less s is =
+    record { objects = omega (arith, is.objects, less); names = omega (arith, is.names, less) }
 
 passage-more : {a : Acceptance} {p : Passage} (n m : ℕ) → n ≤ m → PassageNumbers a n p → PassageNumbers a m p
 passage-more n m less is = record {
@@ -48,8 +49,10 @@ passage-more n m less is = record {
 
 -- ---- deposits
 
-with-numbered : (n : ℕ) (s : State) (gas : ℕ) (found : Option ℕ) → HasNumbered n s → HasNumbered n (state_with s gas found)
-with-numbered n s gas (Some account) is = record { objects = omega (arith, is.objects); names = omega (arith, is.names) }
+with-numbered : (n : ℕ) (s : State) (gas : ℕ) (found : Option ℕ) → HasNumbered n s
+    → HasNumbered n (state_with s gas found)
+with-numbered n s gas (Some account) is =
+    record { objects = omega (arith, is.objects); names = omega (arith, is.names) }
 with-numbered n s gas None is = record { objects = is.objects; names = is.names }
 
 -- ---- firings
@@ -70,7 +73,8 @@ front-numbered accepted n start pids typed is k s reached =
 module _ {a : Acceptance} (accepted : IsAccepted a) where
   -- the start of a batch
   begun-numbered : {n : ℕ} {l : LedgerState} {lines : List Start} {starts : List Resolved} → Standing a l
-      → AllStart a l lines starts → HasNumbered n l.state → HasNumbered (n + length lines) (after_starts a l starts).state
+      → AllStart a l lines starts → HasNumbered n l.state
+      → HasNumbered (n + length lines) (after_starts a l starts).state
   begun-numbered standing begun is =
       let start = batch-started accepted standing begun in
       let each = starts-length begun in

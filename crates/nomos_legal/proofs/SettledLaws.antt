@@ -39,7 +39,8 @@ settled-gas {a} accepted {l} settled =
     (little-deposits l.deposits a.annotations.unit settled.few accepted.small_unit)
 
 -- the gas that a deposit brings to it is little
-pub deposit-gas : {a : Acceptance} → IsAccepted a → {l : LedgerState} → IsSettled a l → (units : ℕ) → FitsDeposits l units
+pub deposit-gas : {a : Acceptance} → IsAccepted a → {l : LedgerState} → IsSettled a l → (units : ℕ)
+    → FitsDeposits l units
     → gas_of l.state + units * a.annotations.unit < 2 ^ 95
 deposit-gas {a} accepted {l} settled units fits =
     let unit : ℕ = a.annotations.unit in
@@ -49,7 +50,8 @@ deposit-gas {a} accepted {l} settled units fits =
 -- ---- states with the same objects
 
 -- what is seen at one look is seen among the same objects
-same-looks : (a : Acceptance) (s t : State) (p : Process) → t.objects ≡ s.objects → looks_ready a t p ≡ looks_ready a s p
+same-looks : (a : Acceptance) (s t : State) (p : Process) → t.objects ≡ s.objects
+    → looks_ready a t p ≡ looks_ready a s p
 same-looks a s t p same = ap (λ (objects : List Object). looks_ready a (record s { objects = objects }) p) same
 
 -- so a typed state is quiet that has the objects of a quiet one

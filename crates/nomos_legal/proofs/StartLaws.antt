@@ -52,14 +52,16 @@ module _ {a : Acceptance} (accepted : IsAccepted a) {s : State} (typed : IsTyped
   offered-mentioned = (0, omega arith, refl)
 
   child-there : Contains (made s change).objects (object.Process child)
-  child-there = Contains-append_right s.objects (object.Process child ∷ []) (object.Process child) (0, omega arith, refl)
+  child-there = Contains-append_right s.objects (object.Process child ∷ []) (object.Process child)
+      (0, omega arith, refl)
 
   pub started-contract : d.mode ≡ mode.S → IsContractName a (started a s d values channels payer) s.next_name
   started-contract at_s = record {
     own = d.offers;
     found =
         kept-mentioned s change s.next_name
-        (times-contains mentioned s.next_name (made s change).objects (object.Process child) child-there offered-mentioned)
+        (times-contains mentioned s.next_name (made s change).objects (object.Process child) child-there
+        offered-mentioned)
         ∙ type_of-added s.types s.next_name d.offers typed.numbered.names;
     mode = subst (HasMode a.program d.offers) at_s (offered-has_mode a.program number d declared);
   }
@@ -235,7 +237,8 @@ module _ {a : Acceptance} (accepted : IsAccepted a) {l : LedgerState} {starts : 
   starts-counts = (starts-started accepted settled ledger.each_account all).counts
 
 -- each line comes to one start
-pub starts-length : {a : Acceptance} {l : LedgerState} {starts : List Start} {rs : List Resolved} → AllStart a l starts rs
+pub starts-length : {a : Acceptance} {l : LedgerState} {starts : List Start} {rs : List Resolved}
+    → AllStart a l starts rs
     → length rs ≡ length starts
 starts-length (batch.none l) = refl
 starts-length (batch.line l start r starts rs resolves others) = ap suc (starts-length others)
@@ -260,7 +263,8 @@ pub all_start-push : {a : Acceptance} {l : LedgerState} {starts : List Start} {r
     (r : Resolved) → AllStart a l starts rs → Resolves a (after_starts a l rs) start (Ok r)
     → AllStart a l (starts ++ start ∷ []) (rs ++ r ∷ [])
 all_start-push {a} {l} {starts} {rs} start r all resolves =
-    all_start-append all (batch.line (after_starts a l rs) start r [] [] resolves (batch.none (after_start a (after_starts a l rs) r)))
+    let here : LedgerState = after_starts a l rs in
+    all_start-append all (batch.line here start r [] [] resolves (batch.none (after_start a here r)))
 
 -- where the first lines start, the others refuse what they refuse in the ledger that these leave
 pub refuses-later : {a : Acceptance} {l : LedgerState} {starts others : List Start} {rs : List Resolved} {line : ℕ}

@@ -118,7 +118,8 @@ module _ {a : Acceptance} {l : LedgerState} {start : Start} where
   arguments-one : {payer number : ℕ} {d : ProcDecl} {o p : Outcome}
       → ByArguments a l start payer number d o → ByArguments a l start payer number d p → o ≡ p
   arguments-one (bad none) (bad none_other) = refl
-  arguments-one {payer = payer} {number = number} {d = d} (good o shared fits name) (good p others fits_other name_other) =
+  arguments-one {payer = payer} {number = number} {d = d} (good o shared fits name)
+      (good p others fits_other name_other) =
       let same : others ≡ shared = fit-one fits_other.names fits.names in
       name-one name (subst (λ (names : List ℕ). ByName a l start payer number d names p) same name_other)
   arguments-one (bad none) (good p others fits_other name_other) = absurd (none others fits_other)
@@ -167,7 +168,8 @@ module _ {a : Acceptance} {l : LedgerState} {start : Start} where
 pub all_start-one : {a : Acceptance} {l : LedgerState} {starts : List Start} {rs qs : List Resolved}
     → AllStart a l starts rs → AllStart a l starts qs → rs ≡ qs
 all_start-one (batch.none l) (batch.none k) = refl
-all_start-one {a} (batch.line l start r starts rs resolves rest) (batch.line k first q others qs resolves_other rest_other) =
+all_start-one {a} (batch.line l start r starts rs resolves rest)
+    (batch.line k first q others qs resolves_other rest_other) =
     let same : q ≡ r = starts-one resolves_other resolves in
     let further : rs ≡ qs =
     all_start-one rest (subst (λ (x : Resolved). AllStart a (after_start a l x) starts qs) same rest_other)
@@ -183,7 +185,8 @@ refuses-one {a} {line = line} (batch.later l start r starts line_here cause reso
     (batch.later k first q others line_other why resolves_other rest_other) =
     let same : q ≡ r = starts-one resolves_other resolves in
     refuses-one rest (subst (λ (x : Resolved). OneRefuses a (after_start a l x) starts line_other why) same rest_other)
-refuses-one (batch.this l start starts cause refused) (batch.later k first q others line_other why resolves_other rest_other) =
+refuses-one (batch.this l start starts cause refused)
+    (batch.later k first q others line_other why resolves_other rest_other) =
     absurd (starts-or_refused resolves_other refused)
 refuses-one (batch.later l start r starts line_here cause resolves rest) (batch.this k first others why refused_other) =
     absurd (starts-or_refused resolves refused_other)
@@ -260,21 +263,25 @@ told : {p q : Passage} → Alike p q → told_by p ≡ told_by q
 told alike = (λ i. (alike.item i, ending (alike.entry i)))
 
 passage-same : {a : Acceptance} {most : ℕ} {p q : Passage} → IsPassage a most p → IsPassage a most q → Alike p q → p ≡ q
-passage-same {a} (passage.deposit l line units name fits) (passage.deposit k line_other units_other name_other fits_other) alike =
+passage-same {a} (passage.deposit l line units name fits)
+    (passage.deposit k line_other units_other name_other fits_other) alike =
     let lines : line ≡ line_other = cc (alike.item) in
     let amounts : units ≡ units_other = cc (alike.item) in
     let names : name ≡ name_other = cc (alike.item) in
     (λ i. still (item.Deposit (lines i) (names i) (amounts i)) (bare (lines i) end.Deposited) (alike.before i)
     (deposited a.annotations.unit (alike.before i) (names i) (amounts i)))
 passage-same (passage.deposit l line units name fits) _ alike = absurd (let same = told alike in cc)
-passage-same (passage.no_deposit l line units name never) (passage.no_deposit k line_other units_other name_other never_other) alike =
+passage-same (passage.no_deposit l line units name never)
+    (passage.no_deposit k line_other units_other name_other never_other) alike =
     let lines : line ≡ line_other = cc (alike.item) in
     let amounts : units ≡ units_other = cc (alike.item) in
     let names : name ≡ name_other = cc (alike.item) in
-    (λ i. still (item.Deposit (lines i) (names i) (amounts i)) (bare (lines i) (end.Refused (lines i) refusal.TooMuchGas))
+    (λ i. still (item.Deposit (lines i) (names i) (amounts i))
+    (bare (lines i) (end.Refused (lines i) refusal.TooMuchGas))
     (alike.before i) (alike.before i))
 passage-same (passage.no_deposit l line units name never) _ alike = absurd (let same = told alike in cc)
-passage-same (passage.refused l batch line cause refuses) (passage.refused k other line_other cause_other refuses_other) alike =
+passage-same (passage.refused l batch line cause refuses)
+    (passage.refused k other line_other cause_other refuses_other) alike =
     let batches : batch ≡ other = cc (alike.item) in
     (λ i. still (item.Batch (batches i)) (alike.entry i) (alike.before i) (alike.before i))
 passage-same {a} {most} (passage.refused l batch line cause refuses)

@@ -48,9 +48,11 @@ module _ {a : Acceptance} (under : IsUnderCostAll a.program) where
       → PaysFor a (length w.firings) w.origin.state w.state
   world-pays accepted {w} stands =
       let start : State = (start_of a w).state in
-      let fired = run-costs accepted under start w.state (pids_of w.firings) stands.start.typed (world-run accepted stands)
+      let fired = run-costs accepted under start w.state (pids_of w.firings) stands.start.typed
+      (world-run accepted stands)
       in
-      let all = costs-through a 0 (length (pids_of w.firings)) w.origin.state start w.state (starts-cost w.origin w.starts)
+      let all = costs-through a 0 (length (pids_of w.firings)) w.origin.state start w.state
+      (starts-cost w.origin w.starts)
       fired in
       subst (λ (n : ℕ). PaysFor a n w.origin.state w.state) same
       (costs-bound a (0 + length (pids_of w.firings)) w.origin.state w.state all)

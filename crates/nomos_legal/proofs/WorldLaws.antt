@@ -126,7 +126,8 @@ reached-settled {a} {l} {t} reached few = record {
 }
 
 -- and stands, where that state is quiet and no transaction is left in it
-pub reached-stands : {a : Acceptance} → IsAccepted a → {l : LedgerState} {t : State} → Reached a l t → l.deposits < 2 ^ 64
+pub reached-stands : {a : Acceptance} → IsAccepted a → {l : LedgerState} {t : State} → Reached a l t
+    → l.deposits < 2 ^ 64
     → IsQuiet a t × ¬ (HasTransaction t) → StandsFor a (record l { state = cleared t })
 reached-stands accepted reached few ends = record {
   settled = reached-settled reached few;
@@ -174,7 +175,8 @@ pub begun-named : {a : Acceptance} → IsAccepted a → {l : LedgerState} {start
     → IsSettled a l → IsLedger l → AllStart a l starts rs → IsWorld (begun a l rs)
 begun-named {a} accepted {l} {starts} {rs} settled ledger all =
     let named = starts-named accepted settled ledger all in
-    subst (λ (accounts : List (List ℕ)). AreNamed accounts (after_starts a l rs).contracts (after_starts a l rs).state.balances)
+    let m : LedgerState = after_starts a l rs in
+    subst (λ (accounts : List (List ℕ)). AreNamed accounts m.contracts m.state.balances)
     (starts-same a l rs).0 named
 
 module _ {a : Acceptance} (accepted : IsAccepted a) {w : WorldState} (stands : WorldStandsFor a w) where

@@ -94,3 +94,17 @@ pub data IsPassage (a : Acceptance) (most : ℕ) : Passage → Type 0 where
       → Undoes answer → IsPassage a most (runs batch pids answer l (after_starts a l starts) last l)
   -- a `show`, which changes nothing
   shown : (l : LedgerState) (line : ℕ) → IsPassage a most (still (item.Show line) None l l)
+
+-- ---- what was deposited
+
+abbrev units_made : ScriptItem → End → ℕ
+units_made (item.Deposit line name units) end.Deposited = units
+units_made _ _ = 0
+
+abbrev units_of : ScriptItem → Option Entry → ℕ
+units_of i (Some entry) = units_made i entry.end
+units_of i None = 0
+
+-- the units of a deposit that was made
+abbrev pub accepted_units : Passage → ℕ
+accepted_units p = units_of p.item p.entry

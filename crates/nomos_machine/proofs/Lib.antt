@@ -54,6 +54,7 @@ mod QuietExamples
 pub mod FaultLaws
 pub mod FiringLaws
 pub mod RunLaws
+pub mod PolicyLaws
 pub mod ContractLaws
 pub mod OutsideLaws
 pub mod IdleLaws

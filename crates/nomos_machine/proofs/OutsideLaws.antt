@@ -179,7 +179,9 @@ step-outside a s t pid is =
   where
     at : (d : Option Deed) → Leaves (length s.outside) d → (d >>= state_after s) ≡ Some t
         → length t.outside ≡ length s.outside
-    at (Some (changes c)) leaves e = let same : changed s c ≡ t = cc in ap (λ (u : State). length u.outside) (sym same) ∙ leaves
+    at (Some (changes c)) leaves e =
+        let same : changed s c ≡ t = cc in
+        ap (λ (u : State). length u.outside) (sym same) ∙ leaves
     at (Some (has_fault f)) leaves e = absurd cc
     at None leaves e = absurd cc
 

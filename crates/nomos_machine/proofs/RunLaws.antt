@@ -63,11 +63,13 @@ run-rises {a} accepted s t pids typed is =
 -- ---- one more firing, and fewer
 
 -- a run goes on with a step
-pub run-push : (a : Acceptance) (s t u : State) (pids : List ℕ) (pid : ℕ) → run a s pids ≡ Some t → step a t pid ≡ Some u
+pub run-push : (a : Acceptance) (s t u : State) (pids : List ℕ) (pid : ℕ) → run a s pids ≡ Some t
+    → step a t pid ≡ Some u
     → run a s (pids ++ pid ∷ []) ≡ Some u
 run-push a s t u [] pid is steps =
     let same : s ≡ t = cc in
-    ap (λ (x : State). step a x pid >>= λ next. Some next) same ∙ ap (λ (o : Option State). o >>= λ next. Some next) steps
+    ap (λ (x : State). step a x pid >>= λ next. Some next) same
+    ∙ ap (λ (o : Option State). o >>= λ next. Some next) steps
 run-push a s t u (first ∷ pids) pid is steps = at (step a s first) is (λ v. run-push a v t u pids pid)
   where
     at : (o : Option State) → (o >>= λ next. run a next pids) ≡ Some t
