@@ -1,4 +1,5 @@
 pub mod AccountLemmas
+pub mod BeginLemmas
 pub mod BooksLemmas
 pub mod ContractLemmas
 pub mod FittingLemmas
@@ -6,6 +7,7 @@ pub mod DeclaredLemmas
 pub mod WorthLemmas
 pub mod AlikeLemmas
 pub mod AnswerLemmas
+pub mod LineLemmas
 pub mod RestLemmas
 pub mod WorldLemmas
 pub mod ContractsLemmas

@@ -7,7 +7,7 @@ ghost use Rattle.nomos_deeds.specs.Firings.{Fires, MayFire};
 ghost use Rattle.nomos_machine.specs.State.{gas_of, process_at};
 ghost use Rattle.nomos_machine.specs.Step.{IsReady};
 ghost use Rattle.nomos_legal.specs.Ledger.{account_of};
-ghost use Rattle.nomos_ledger.specs.mirror.Books.{before_batch, books_with, books_deposited, settled, with_state};
+ghost use Rattle.nomos_ledger.specs.mirror.Books.{before_batch, books_with, books_deposited, marked_now, settled, with_state};
 
 use crate::account_names::AccountNames;
 use crate::contract_names::ContractNames;
@@ -143,6 +143,14 @@ impl<M: Undo> Books<M> {
         ensures rest { self.new ≡ with_state self.old self.new.now.state }
     {
         self.machine.fire_with(alloc, accepted, pid, known)
+    }
+
+    /// Marks the state. It takes no memory.
+    pub(crate) fn mark(&mut self)
+        requires { self.old.marked ≡ None }
+        ensures { self.new ≡ marked_now self.old }
+    {
+        self.machine.mark();
     }
 
     /// Forgets which state is marked, and what was emitted. It takes no memory.

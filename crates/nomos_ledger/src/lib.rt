@@ -3,12 +3,14 @@
 
 mod account_names;
 pub mod arguments;
+pub mod begun;
 mod books;
 mod contract_names;
 mod declared;
 mod fired;
 mod fitting;
 pub mod ledger;
+mod lines;
 pub mod named;
 mod resolving;
 mod rest;

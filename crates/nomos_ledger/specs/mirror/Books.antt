@@ -1,5 +1,5 @@
 -- A mirror of the code: what books show, the ledger as it stands and the state that is marked.
-use Rattle.std.specs.Prelude.{◌≡◌, ◌≢◌, ℕ, List, Option, None, take}
+use Rattle.std.specs.Prelude.{◌≡◌, ◌≢◌, ℕ, List, Option, Some, None, take}
 use Rattle.nomos_legal.specs.Batch.{state_or}
 use Rattle.nomos_legal.specs.Ledger.{LedgerState, IsLedger, account_of, accounts_with, state_with}
 use Rattle.nomos_machine.specs.Starting.{cleared}
@@ -37,6 +37,10 @@ books_deposited b name dths deposits = record b {
     state = state_with b.now.state dths (account_of b.now.accounts name);
   };
 }
+
+-- the state is marked
+abbrev pub marked_now : BooksState → BooksState
+marked_now b = record b { marked = Some b.now.state }
 
 -- The ledger from which a batch began: it has the contracts that were there, and the state that is marked.
 abbrev pub origin_in : BooksState → ℕ → LedgerState
