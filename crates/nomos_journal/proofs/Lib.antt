@@ -1,3 +1,4 @@
 mod FormLemmas
 pub mod LineLaws
 mod LineLemmas
+pub mod PlacedLaws

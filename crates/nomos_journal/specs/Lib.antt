@@ -1,3 +1,4 @@
+pub mod JournalText
 pub mod Line
 pub mod Text
 pub mod mirror
