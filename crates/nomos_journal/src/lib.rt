@@ -1,0 +1,7 @@
+//! The lines of a journal's text: how they are written, and how they are read.
+#![tactic(auto)]
+
+pub mod form;
+pub mod line;
+pub mod read;
+pub mod text;

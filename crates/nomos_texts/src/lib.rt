@@ -1,0 +1,9 @@
+//! How numbers, values, causes, faults and ends are written, and how those of a journal are read back.
+#![tactic(auto)]
+
+pub mod cause;
+pub mod end;
+pub mod fault;
+pub mod number;
+pub mod splitting;
+pub mod value;
