@@ -1,3 +1,10 @@
 pub mod AccountLemmas
+pub mod BooksLemmas
 pub mod ContractLemmas
+pub mod FittingLemmas
+pub mod DeclaredLemmas
+pub mod WorthLemmas
+pub mod AlikeLemmas
+pub mod AnswerLemmas
 pub mod RestLemmas
+pub mod WorldLemmas

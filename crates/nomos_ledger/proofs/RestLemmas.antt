@@ -56,9 +56,12 @@ left-next {s} numbered None false e none = (λ yes. cc, λ left. absurd (nobody 
         let over = All-contains (λ (o : Object). 0 < object_number o) s.objects (object.Process left.process) numbered.over
         left.there in
         none left.process.pid over (left-numbered numbered left)
-left-next {s} numbered (Some pid) true e first = (λ yes. record {
-  process = first.holds.process;
-  there = (object_at-found pid (object.Process first.holds.process) s.objects first.holds.there).1;
-  at_t = first.holds.at_t;
-}, λ left. refl)
+left-next {s} numbered (Some pid) true e first = (
+  λ yes. record {
+    process = first.holds.process;
+    there = (object_at-found pid (object.Process first.holds.process) s.objects first.holds.there).1;
+    at_t = first.holds.at_t;
+  },
+  λ left. refl,
+)
 left-next {s} numbered (Some pid) false e first = cc

@@ -1,13 +1,22 @@
 //! What a ledger and a batch under way are kept in: the same memory, which the lines and the firings change in place.
-ghost use Rattle.std.specs.Prelude.{◌≡◌, ◌+◌, ◌-◌, ◌<◌, ◌^◌, None, OnOk, OnErr, length};
-ghost use Rattle.nomos_machine.specs.State.{gas_of};
+ghost use Rattle.std.specs.Prelude.{◌≡◌, ◌≢◌, ◌+◌, ◌-◌, ◌<◌, ◌^◌, None, IfOk, OnOk, OnErr, length};
+ghost use Rattle.std.specs.Option.{option_map};
+ghost use Rattle.nomos_ir.specs.TermsEvaluation.{instruction_evaluation};
+ghost use Rattle.nomos_eval.specs.Outcomes.{outcome_of};
+ghost use Rattle.nomos_deeds.specs.Firings.{Fires, MayFire};
+ghost use Rattle.nomos_machine.specs.State.{gas_of, process_at};
+ghost use Rattle.nomos_machine.specs.Step.{IsReady};
 ghost use Rattle.nomos_legal.specs.Ledger.{account_of};
-ghost use Rattle.nomos_ledger.specs.mirror.Books.{books_with, books_deposited};
+ghost use Rattle.nomos_ledger.specs.mirror.Books.{before_batch, books_with, books_deposited, settled, with_state};
 
 use crate::account_names::AccountNames;
 use crate::contract_names::ContractNames;
+use nomos_deeds::fire::Fire;
 use nomos_deeds::undo::Undo;
+use nomos_eval::wanted::{Outcome, Wanted};
+use nomos_ir::ids::CodeId;
 use nomos_script::name::ScriptName;
+use nomos_types::accepted::Accepted;
 use std::alloc::{AllocError, Global};
 use std::marker::Model;
 
@@ -92,5 +101,65 @@ impl<M: Undo> Books<M> {
         self.add(alloc, name, dths)?;
         self.deposits = deposits;
         Ok(())
+    }
+
+    /// The instruction at which the process of this number stands, if there is one.
+    pub(crate) fn place(&self, pid: u32) -> Option<CodeId>
+        ensures { result ≡ option_map (λ p. p.code) (process_at self.now.now.state pid) }
+    {
+        self.machine.process(pid).map(|seen| seen.code)
+    }
+
+    /// Fires a ready process, as the machine does.
+    pub(crate) fn fire(
+        &mut self,
+        alloc: Global,
+        accepted: &Accepted,
+        pid: u32,
+    ) -> Result<Fire, AllocError>
+        requires may { MayFire accepted.now self.old.now.state }
+        requires ready { IsReady accepted.now self.old.now.state pid }
+        ensures ok { IfOk result (λ answer. Fires accepted.now self.old.now.state pid answer self.new.now.state) }
+        ensures err { OnErr result (self.new ≡ self.old) }
+        ensures rest { self.new ≡ with_state self.old self.new.now.state }
+    {
+        self.machine.fire(alloc, accepted, pid)
+    }
+
+    /// Fires a ready process, for which it may be known what its terms come to, as the machine does.
+    pub(crate) fn fire_with(
+        &mut self,
+        alloc: Global,
+        accepted: &Accepted,
+        pid: u32,
+        known: (&Wanted, &Outcome),
+    ) -> Result<Fire, AllocError>
+        requires known { outcome_of known.1.now
+            ≡ instruction_evaluation accepted.now.program known.0.now.env known.0.now.code.0 }
+        requires may { MayFire accepted.now self.old.now.state }
+        requires ready { IsReady accepted.now self.old.now.state pid }
+        ensures ok { IfOk result (λ answer. Fires accepted.now self.old.now.state pid answer self.new.now.state) }
+        ensures err { OnErr result (self.new ≡ self.old) }
+        ensures rest { self.new ≡ with_state self.old self.new.now.state }
+    {
+        self.machine.fire_with(alloc, accepted, pid, known)
+    }
+
+    /// Forgets which state is marked, and what was emitted. It takes no memory.
+    pub(crate) fn settle(&mut self)
+        ensures { self.new ≡ settled self.old }
+    {
+        self.machine.forget();
+        self.machine.clear_results();
+    }
+
+    /// Goes back to the state that is marked, and leaves so many contracts, those that were named first. It takes no
+    /// memory.
+    pub(crate) fn back(&mut self, kept: usize)
+        requires { self.old.marked ≢ None }
+        ensures { self.new ≡ before_batch self.old kept }
+    {
+        self.machine.back();
+        self.contracts.truncate(kept);
     }
 }

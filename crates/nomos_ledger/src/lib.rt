@@ -2,8 +2,14 @@
 #![tactic(auto)]
 
 mod account_names;
+pub mod arguments;
 mod books;
 mod contract_names;
+mod declared;
+mod fired;
+mod fitting;
 pub mod ledger;
 pub mod named;
 mod rest;
+pub mod world;
+mod worth;
