@@ -104,7 +104,22 @@ impl<M: Undo> Ledger<M> {
         ensures contract { option_map (λ c. (c.name.now, c.shared)) result ≡ slice_get self.now.contracts n }
         ensures names { All (λ c. IsScriptName c.0) self.now.contracts }
     {
-        self.books.contracts.contract(n as usize)
+        self.contract_at(n as usize)
+    }
+
+    /// How many contracts there are.
+    pub fn contracts(&self) -> usize
+        ensures { result ≡ length self.now.contracts }
+    {
+        self.books.contracts.len()
+    }
+
+    /// The contract of this place, in order of naming, if there is one: as `contract`, without an end of its numbers.
+    pub fn contract_at(&self, place: usize) -> Option<Named<'_>>
+        ensures contract { option_map (λ c. (c.name.now, c.shared)) result ≡ slice_get self.now.contracts place }
+        ensures names { All (λ c. IsScriptName c.0) self.now.contracts }
+    {
+        self.books.contracts.contract(place)
     }
 
     /// The sum of the accepted deposits, in whole units.

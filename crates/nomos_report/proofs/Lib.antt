@@ -1,0 +1,7 @@
+mod StarLemmas
+mod PlaceLemmas
+mod WalkLemmas
+mod ChannelLemmas
+mod ContractLemmas
+mod LeftLemmas
+pub mod SpentLaws
