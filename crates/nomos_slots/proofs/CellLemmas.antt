@@ -5,8 +5,8 @@ use Rattle.std.specs.List.{count_by, sum_by}
 use Rattle.std.proofs.lemmas.Bool.{and_from, and_left, and_parts, and_right, both_ways, cases_eq, cases_lt, eq-eqb, eqb-true, false_from_ne_true, false≢true, ne_eqb}
 use Rattle.std.proofs.lemmas.List.{get_or_past, get_or-set_same, get_or-set_other, length-set}
 use Rattle.std.proofs.lemmas.List.Sums.{sum_by-set}
-use Rattle.nomos_slots.specs.Channels.{Cell, IsGap, IsProbed, cell_at, entries, home, home_of, is_filled, is_of, name_in}
-use Rattle.nomos_slots.specs.declared.channels.Named.{Named}
+use Rattle.nomos_slots.specs.Cells.{Cell, IsGap, IsOnce, IsProbed, cell_at, entries, home, home_of, is_filled, is_of, name_in}
+use Rattle.nomos_slots.specs.declared.cells.Named.{Named}
 use Rattle.nomos_slots.proofs.ProbeLemmas.{filled-some, filled-within, same-home, same-process, same-variable}
 
 -- one for an entry, and nothing for an empty cell
@@ -92,11 +92,6 @@ pub one-key : (p v : ℕ) (e f : Named) → is_of p v e ≡ true → is_of p v f
 one-key p v e f is has =
     subst (λ q. is_of q e.variable f ≡ true) (sym (same-process p v e is))
     (subst (λ w. is_of p w f ≡ true) (sym (same-variable p v e is)) has)
-
--- no two cells have one key
-abbrev pub IsOnce : List Cell → Type 0
-IsOnce cells = (one other : ℕ) (e f : Named) → cell_at cells one ≡ Some e → cell_at cells other ≡ Some f
-    → is_of e.process e.variable f ≡ true → one ≡ other
 
 pub has-name : (cells : List Cell) (p v n : ℕ) → IsOnce cells → Has cells p v n → name_in cells p v ≡ Some n
 has-name cells p v n once (place, e, is, of, named) = at (name_in cells p v) refl

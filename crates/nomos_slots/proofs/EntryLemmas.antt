@@ -3,8 +3,8 @@ use Rattle.std.proofs.Common.{◌≡◌, ◌<◌, ◌≤◌, ◌+◌, ◌&&◌, 
 use Rattle.std.specs.Option.{is_some}
 use Rattle.std.proofs.lemmas.Bool.{both_ways, cases_eq, cases_lt, cond_both, eq-eqb, eqb-true, and_from, and_parts, false_from_ne_true}
 use Rattle.std.proofs.lemmas.List.Sums.{sum_by-cons, sum_by-set}
-use Rattle.nomos_slots.specs.Channels.{Cell, IsGap, IsProbed, cell_at, entries, home_of, is_filled, is_of, name_in}
-use Rattle.nomos_slots.specs.declared.channels.Named.{Named}
+use Rattle.nomos_slots.specs.Cells.{Cell, IsGap, IsProbed, cell_at, entries, home_of, is_filled, is_of, name_in}
+use Rattle.nomos_slots.specs.declared.cells.Named.{Named}
 use Rattle.nomos_slots.proofs.CellLemmas.{Has, cell-set_at, cell-set_other, has-name, name-has, one-key, same-entry, same-names, true_or_false, weight}
 use Rattle.nomos_slots.proofs.ProbeLemmas.{filled-some, same-process, same-variable}
 
@@ -234,3 +234,14 @@ none-name_in cells p v q w none = at (name_in cells q w) refl
         subst (λ k. is_of k v e ≡ true) (sym (eqb-true p q parts.0)) (subst (λ k. is_of q k e ≡ true) (sym (eqb-true v w parts.1)) of) in
         absurd (both_ways _ (none place e is) key))
         (λ _. refl)
+
+-- where no cell has the key, the variable has no name
+pub nothing-named : (cells : List Cell) (p v : ℕ)
+    → ((place : ℕ) (e : Named) → cell_at cells place ≡ Some e → is_of p v e ≡ false) → name_in cells p v ≡ None
+nothing-named cells p v none = at (name_in cells p v) refl
+  where
+    at : (o : Option ℕ) → name_in cells p v ≡ o → o ≡ None
+    at None found = refl
+    at (Some n) found =
+        let (place, e, is, of, named) = name-has cells p v n found in
+        absurd (both_ways _ (none place e is) of)

@@ -1,5 +1,6 @@
 pub mod CellLemmas
 pub mod EntryLemmas
+pub mod FillLemmas
 pub mod GapLemmas
 pub mod LevelLemmas
 pub mod LogLemmas

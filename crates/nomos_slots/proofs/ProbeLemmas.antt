@@ -3,8 +3,8 @@ use Rattle.std.proofs.Common.{◌≡◌, ◌<◌, ◌≤◌, ◌+◌, ◌&&◌, 
 use Rattle.std.specs.Option.{is_some}
 use Rattle.std.proofs.lemmas.Bool.{and_parts, both_ways, cases_eq, cases_lt, eqb-true, false_from_ne_true, false≢true}
 use Rattle.std.proofs.lemmas.List.{get_or_past}
-use Rattle.nomos_slots.specs.Channels.{Cell, IsProbed, cell_at, home, home_of, is_filled, is_of, name_in}
-use Rattle.nomos_slots.specs.declared.channels.Named.{Named}
+use Rattle.nomos_slots.specs.Cells.{Cell, IsProbed, cell_at, home, home_of, is_filled, is_of, name_in}
+use Rattle.nomos_slots.specs.declared.cells.Named.{Named}
 
 -- ---- keys
 

@@ -1,4 +1,4 @@
-pub mod Channels
+pub mod Cells
 pub mod Clearing
 pub mod Levels
 pub mod Log
@@ -9,4 +9,5 @@ pub mod Places
 pub mod Rows
 pub mod Seen
 pub mod Shelving
+pub mod Tables
 pub mod Tails

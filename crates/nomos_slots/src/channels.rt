@@ -1,173 +1,125 @@
-//! Names by process and variable, found by a hash.
-ghost use Rattle.std.specs.Prelude.{◌≡◌, ◌≤◌, ◌<◌, ◌+◌, ◌-◌, ◌&&◌, ◌==◌, ℕ, [], cond, false, IsOk, IsSome, IfSome, IsTrue, OnOk, Some, None, length, slice_set};
-ghost use Rattle.nomos_slots.specs.Channels.{IsEmptyFrom, IsGap, IsPlaceIn, IsProbed, cell_at, entries, home, home_of, is_of, name_in};
+//! The channels of all processes: names by process and variable.
+ghost use Rattle.std.specs.Prelude.{◌≡◌, ◌≤◌, ◌<◌, ◌+◌, ◌&&◌, ◌==◌, ◌^◌, ℕ, [], cond, IsOk, IsSome, IfSome, IfOk, OnOk, Some, None, max, length};
+ghost use Rattle.nomos_slots.specs.Cells.{name_in};
+ghost use Rattle.nomos_slots.specs.Tables.{HaveSameNames};
 
+use crate::cells::{Named, bind_in, blank, cell, empty_all, fill, place_in, unbind_in};
 use crate::column::Column;
 use std::alloc::{AllocError, Global};
 use std::marker::Model;
 
-/// The name that a variable of a process has.
-#[derive(Clone, Copy, Debug)]
-pub struct Named {
-    pub process: u32,
-    pub variable: u32,
-    pub name: u32,
-}
-
-// The first cell in which the entry of a variable of a process may stand.
-fn home(homes: usize, process: u32, variable: u32) -> usize
-    requires { 0 < homes }
-    ensures home { result ≡ home homes process variable }
-    ensures within { result < homes }
-{
-    let spread = process as u64 * 2654435761 + variable as u64 * 1640531527;
-    (spread % homes as u64) as usize
-}
-
-// Whether the entry is of this variable of this process.
-fn is_of(entry: Named, process: u32, variable: u32) -> bool
-    ensures { result ≡ is_of process variable entry }
-{
-    entry.process == process && entry.variable == variable
-}
-
-// What stands in a cell.
-fn cell(cells: &Column<Option<Named>>, place: usize) -> Option<Named>
-    ensures { result ≡ cell_at cells.now.now place }
-{
-    cells.get(place).unwrap_or(None)
-}
-
-// The place of the entry of a variable of a process.
-fn place_in(
-    cells: &Column<Option<Named>>,
+/// Names by process and variable, which can be marked and put back to what they were there. A look-up takes a few steps,
+/// however many there are.
+///
+/// Room is counted in names that come. Who binds one makes room first, by [`Channels::reserve`].
+#[derive(Drop, Debug)]
+pub struct Channels {
+    cells: Column<Option<Named>>,
+    /// How many cells are homes.
     homes: usize,
-    process: u32,
-    variable: u32,
-) -> Option<usize>
-    requires homes { 0 < homes }
-    requires probed { IsProbed homes cells.now.now }
-    ensures { IsPlaceIn cells.now.now process variable result }
-{
-    for at in home(homes, process, variable)..cells.len() {
-        let Some(entry) = cell(cells, at) else {
+    /// How many names there are.
+    count: usize,
+    /// How many there were at the mark; 0 where nothing is marked.
+    counted: usize,
+}
+
+impl Model for Channels {
+    ghost use Rattle.nomos_slots.specs.Marking.{Marking};
+    ghost use Rattle.nomos_slots.specs.Tables.{table_of, IsTable};
+    ghost use Rattle.nomos_slots.specs.Cells.{Cell};
+
+    ghost Value = { Marking Cell };
+
+    ghost view = { table_of };
+
+    ghost invariant = { IsTable };
+}
+
+impl Channels {
+    /// No names, and nothing is marked. It takes no memory.
+    pub fn new(alloc: Global) -> Self
+        ensures now { result.now ≡ [] }
+        ensures marked { result.marked ≡ None }
+    {
+        Channels {
+            cells: Column::new(alloc),
+            homes: 1,
+            count: 0,
+            counted: 0,
+        }
+    }
+
+    /// The name that a variable of a process has, if it has one.
+    pub fn get(&self, process: u32, variable: u32) -> Option<u32>
+        ensures { result ≡ name_in self.now.now process variable }
+    {
+        let Some(at) = place_in(&self.cells, self.homes, process, variable) else {
             return None;
         };
-        if is_of(entry, process, variable) {
-            return Some(at);
-        }
-    }
-    None
-}
-
-// The first empty cell from a place on.
-fn empty_in(cells: &Column<Option<Named>>, from: usize) -> Option<usize>
-    ensures { IsEmptyFrom cells.now.now from result }
-{
-    for at in from..cells.len() {
-        if cell(cells, at).is_none() {
-            return Some(at);
-        }
-    }
-    None
-}
-
-// The entry of this cell moves into the hole, where it may stand there, and leaves one. Where the hole is then.
-fn fill_hole(
-    cells: &mut Column<Option<Named>>,
-    homes: usize,
-    hole: usize,
-    next: (usize, Named),
-) -> usize
-    requires homes { 0 < homes }
-    requires within { hole < length cells.old.now }
-    requires gap { IsGap homes cells.old.now hole next.0 }
-    requires next { cell_at cells.old.now next.0 ≡ Some next.1 }
-    requires seats { length cells.old.now ≤ cells.old.seats }
-    ensures gap { IsGap homes cells.new.now result (next.0 + 1) }
-    ensures names { (p v : ℕ) → name_in cells.new.now p v ≡ name_in cells.old.now p v }
-    ensures entries { entries cells.new.now ≡ entries cells.old.now }
-    ensures len { length cells.new.now ≡ length cells.old.now }
-    ensures within { result < length cells.new.now }
-    ensures marked { cells.new.marked ≡ cells.old.marked }
-    ensures seats { cells.new.seats ≡ cells.old.seats }
-{
-    let (place, entry) = next;
-    if home(homes, entry.process, entry.variable) > hole {
-        return hole;
-    }
-    cells.put(hole, Some(entry));
-    cells.put(place, None);
-    place
-}
-
-// The cells after the hole move up where they may, until the hole is one that may be empty.
-fn close_up(cells: &mut Column<Option<Named>>, homes: usize, hole: usize)
-    requires homes { 0 < homes }
-    requires within { hole < length cells.old.now }
-    requires gap { IsGap homes cells.old.now hole (hole + 1) }
-    requires seats { length cells.old.now ≤ cells.old.seats }
-    ensures probed { IsProbed homes cells.new.now }
-    ensures names { (p v : ℕ) → name_in cells.new.now p v ≡ name_in cells.old.now p v }
-    ensures entries { entries cells.new.now ≡ entries cells.old.now }
-    ensures len { length cells.new.now ≡ length cells.old.now }
-    ensures marked { cells.new.marked ≡ cells.old.marked }
-    ensures seats { cells.new.seats ≡ cells.old.seats }
-{
-    let end = cells.len();
-    let mut hole = hole;
-    for next in hole + 1..end {
-        let Some(entry) = cell(cells, next) else {
-            return;
+        let Some(entry) = cell(&self.cells, at) else {
+            return None;
         };
-        hole = fill_hole(cells, homes, hole, (next, entry));
+        Some(entry.name)
     }
-}
 
-// The entry comes, in the place of one of the same variable of the same process where there is one. How many entries
-// there are more.
-fn bind_in(cells: &mut Column<Option<Named>>, homes: usize, entry: Named) -> usize
-    requires homes { 0 < homes }
-    requires probed { IsProbed homes cells.old.now }
-    requires room { homes + entries cells.old.now ≤ length cells.old.now }
-    requires seats { length cells.old.now ≤ cells.old.seats }
-    ensures probed { IsProbed homes cells.new.now }
-    ensures names { (p v : ℕ) → name_in cells.new.now p v
-        ≡ cond (is_of p v entry) (Some entry.name) (name_in cells.old.now p v) }
-    ensures entries { entries cells.new.now ≡ entries cells.old.now + result }
-    ensures one { result ≤ 1 }
-    ensures len { length cells.new.now ≡ length cells.old.now }
-    ensures marked { cells.new.marked ≡ cells.old.marked }
-    ensures seats { cells.new.seats ≡ cells.old.seats }
-{
-    if let Some(at) = place_in(cells, homes, entry.process, entry.variable) {
-        cells.put(at, Some(entry));
-        return 0;
+    /// Binds a variable of a process to a name. Who calls it has made room, so it takes no memory.
+    pub fn bind(&mut self, process: u32, variable: u32, name: u32)
+        requires { 0 < self.old.room }
+        ensures names { (p v : ℕ) → name_in self.new.now p v
+            ≡ cond (process == p && variable == v) (Some name) (name_in self.old.now p v) }
+        ensures marked { self.new.marked ≡ self.old.marked }
+        ensures room { self.old.room ≤ self.new.room + 1 }
+    {
+        let entry = Named {
+            process,
+            variable,
+            name,
+        };
+        self.count += bind_in(&mut self.cells, self.homes, entry);
     }
-    let Some(at) = empty_in(cells, home(homes, entry.process, entry.variable)) else {
-        unreachable!()
-    };
-    cells.put(at, Some(entry));
-    1
-}
 
-// The entry of a variable of a process goes, where there is one. How many entries there are less.
-fn unbind_in(cells: &mut Column<Option<Named>>, homes: usize, process: u32, variable: u32) -> usize
-    requires homes { 0 < homes }
-    requires probed { IsProbed homes cells.old.now }
-    requires seats { length cells.old.now ≤ cells.old.seats }
-    ensures probed { IsProbed homes cells.new.now }
-    ensures names { (p v : ℕ) → name_in cells.new.now p v
-        ≡ cond (process == p && variable == v) None (name_in cells.old.now p v) }
-    ensures entries { entries cells.new.now + result ≡ entries cells.old.now }
-    ensures len { length cells.new.now ≡ length cells.old.now }
-    ensures marked { cells.new.marked ≡ cells.old.marked }
-    ensures seats { cells.new.seats ≡ cells.old.seats }
-{
-    let Some(at) = place_in(cells, homes, process, variable) else {
-        return 0;
-    };
-    cells.put(at, None);
-    close_up(cells, homes, at);
-    1
+    /// A variable of a process has no name any longer. It takes no memory.
+    pub fn unbind(&mut self, process: u32, variable: u32)
+        ensures names { (p v : ℕ) → name_in self.new.now p v
+            ≡ cond (process == p && variable == v) None (name_in self.old.now p v) }
+        ensures marked { self.new.marked ≡ self.old.marked }
+        ensures room { self.old.room ≤ self.new.room }
+    {
+        self.count -= unbind_in(&mut self.cells, self.homes, process, variable);
+    }
+
+    /// Marks what it holds now. It takes no memory, and nothing may be marked yet.
+    pub fn mark(&mut self)
+        requires { self.old.marked ≡ None }
+        ensures now { self.new.now ≡ self.old.now }
+        ensures marked { self.new.marked ≡ Some self.old.now }
+        ensures room { self.old.room ≤ self.new.room }
+    {
+        self.cells.mark();
+        self.counted = self.count;
+    }
+
+    /// Puts back what was marked, and nothing is marked any longer. It takes no memory, and goes over no more than the
+    /// cells that were changed since.
+    pub fn back(&mut self)
+        requires { IsSome self.old.marked }
+        ensures now { self.old.marked ≡ Some self.new.now }
+        ensures marked { self.new.marked ≡ None }
+        ensures room { self.old.room ≤ self.new.room }
+    {
+        self.cells.back();
+        self.count = self.counted;
+        self.counted = 0;
+    }
+
+    /// Nothing is marked any longer; the names stay. It takes no memory, and goes over no more than the cells that were
+    /// changed since.
+    pub fn forget(&mut self)
+        ensures now { self.new.now ≡ self.old.now }
+        ensures marked { self.new.marked ≡ None }
+        ensures room { self.old.room ≤ self.new.room }
+    {
+        self.cells.forget();
+        self.counted = 0;
+    }
 }

@@ -140,6 +140,13 @@ impl<T: Copy> Column<T> {
         self.items.len()
     }
 
+    /// Whether something is marked.
+    pub fn is_marked(&self) -> bool
+        ensures { IsTrue result ↔ IsSome self.now.marked }
+    {
+        self.marked.is_some()
+    }
+
     /// The record at a place, if there are so many.
     pub fn get(&self, place: usize) -> Option<T>
         ensures { result ≡ slice_get self.now.now place }

@@ -1,7 +1,7 @@
 use Rattle.std.proofs.Common.{◌≤◌, ◌∙◌, sym, arith}
-use Rattle.nomos_slots.specs.Channels.{home}
+use Rattle.nomos_slots.specs.Cells.{home}
 use Rattle.nomos_slots.proofs.ProbeLemmas.{none-there}
-use Rattle.nomos_slots.proofs.channels.place_in.Goals as goal
+use Rattle.nomos_slots.proofs.cells.place_in.Goals as goal
 
 pub returns-in_default : goal.returns-in_default
 returns-in_default c =

@@ -1,6 +1,6 @@
 use Rattle.std.proofs.Common.{◌≡◌, ◌<◌, ℕ, length}
-use Rattle.nomos_slots.specs.Channels.{IsGap, entries, name_in}
-use Rattle.nomos_slots.proofs.channels.close_up.Given as goal
+use Rattle.nomos_slots.specs.Cells.{IsGap, entries, name_in}
+use Rattle.nomos_slots.proofs.cells.close_up.Given as goal
 
 abbrev pub invariant-loop-next : goal.invariant-loop-next
 invariant-loop-next l = record {

@@ -1,7 +1,7 @@
 use Rattle.std.proofs.Common.{◌≤◌, None, length, sym, ◌∙◌, arith}
 use Rattle.std.proofs.lemmas.List.{get_or_past}
 use Rattle.nomos_slots.proofs.CellLemmas.{gap-closed}
-use Rattle.nomos_slots.proofs.channels.close_up.Goals as goal
+use Rattle.nomos_slots.proofs.cells.close_up.Goals as goal
 
 pub returns-in_default-clause-probed : goal.returns-in_default-clause-probed
 returns-in_default-clause-probed c =

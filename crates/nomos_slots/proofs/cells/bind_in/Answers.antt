@@ -2,12 +2,12 @@ use Rattle.std.proofs.Common.{◌≡◌, ◌<◌, ◌≤◌, ◌+◌, ℕ, List,
 use Rattle.std.specs.Option.{is_some}
 use Rattle.std.proofs.lemmas.Bool.{both_ways}
 use Rattle.std.proofs.lemmas.Option.{MatchOption-at_none, MatchOption-at_some}
-use Rattle.nomos_slots.specs.Channels.{Cell, IsProbed, cell_at, entries, home, home_of, is_filled, is_of, name_in}
-use Rattle.nomos_slots.specs.declared.channels.Named.{Named}
+use Rattle.nomos_slots.specs.Cells.{Cell, IsProbed, cell_at, entries, home, home_of, is_filled, is_of, name_in}
+use Rattle.nomos_slots.specs.declared.cells.Named.{Named}
 use Rattle.nomos_slots.proofs.CellLemmas.{same-entry, some-within}
 use Rattle.nomos_slots.proofs.EntryLemmas.{all-filled, entries-come, entries-renamed, names-come, others-apart, probed-come}
 use Rattle.nomos_slots.proofs.ProbeLemmas.{filled-some, same-home}
-use Rattle.nomos_slots.proofs.channels.bind_in.Goals as goal
+use Rattle.nomos_slots.proofs.cells.bind_in.Goals as goal
 
 pub returns-in-Some-clause-probed : goal.returns-in-Some-clause-probed
 returns-in-Some-clause-probed c =

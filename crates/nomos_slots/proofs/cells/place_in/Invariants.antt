@@ -1,7 +1,7 @@
 use Rattle.std.proofs.Common.{◌≡◌, ◌≤◌, ◌<◌, ℕ, Some, false}
-use Rattle.nomos_slots.specs.Channels.{cell_at, home, is_of}
-use Rattle.nomos_slots.specs.declared.channels.Named.{Named}
-use Rattle.nomos_slots.proofs.channels.place_in.Given as goal
+use Rattle.nomos_slots.specs.Cells.{cell_at, home, is_of}
+use Rattle.nomos_slots.specs.declared.cells.Named.{Named}
+use Rattle.nomos_slots.proofs.cells.place_in.Given as goal
 
 abbrev pub invariant-loop-at : goal.invariant-loop-at
 invariant-loop-at l = (i : ℕ) (e : Named) → home l.homes l.process l.variable ≤ i → i < l.at

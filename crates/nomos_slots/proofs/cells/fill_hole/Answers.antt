@@ -1,7 +1,7 @@
 use Rattle.std.proofs.Common.{◌≤◌, ◌+◌, List, Some, None, set, sym, subst, ap, ◌∙◌, arith}
-use Rattle.nomos_slots.specs.Channels.{Cell, IsGap, entries, home_of, name_in}
+use Rattle.nomos_slots.specs.Cells.{Cell, IsGap, entries, home_of, name_in}
 use Rattle.nomos_slots.proofs.CellLemmas.{gap-moved, names-moved, entries-moved}
-use Rattle.nomos_slots.proofs.channels.fill_hole.Goals as goal
+use Rattle.nomos_slots.proofs.cells.fill_hole.Goals as goal
 
 pub returns-clause-gap : goal.returns-clause-gap
 returns-clause-gap c =

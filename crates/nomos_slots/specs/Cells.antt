@@ -1,6 +1,6 @@
 -- Names by process and variable, in cells.
 use Rattle.std.specs.Prelude.{◌≡◌, ◌≤◌, ◌<◌, ◌==◌, ◌&&◌, ◌⊎◌, ◌+◌, ◌*◌, ◌-◌, ◌%◌, ℕ, Bool, true, false, cond, List, [], ◌∷◌, length, slice_index_or, count_by, Option, Some, None, MatchOption, is_some}
-use Rattle.nomos_slots.specs.declared.channels.Named.{Named}
+use Rattle.nomos_slots.specs.declared.cells.Named.{Named}
 
 -- a cell, which is empty or has an entry
 abbrev pub Cell : Type 0
@@ -23,6 +23,11 @@ name_in [] process variable = None
 name_in (None ∷ cells) process variable = name_in cells process variable
 name_in (Some e ∷ cells) process variable = cond (is_of process variable e) (Some e.name) (name_in cells process variable)
 
+-- the name, where that of an entry of the same variable of the process comes first
+abbrev pub with_cell : Cell → ℕ → ℕ → Option ℕ → Option ℕ
+with_cell None process variable name = name
+with_cell (Some e) process variable name = cond (is_of process variable e) (Some e.name) name
+
 -- how many entries there are
 abbrev pub entries : List Cell → ℕ
 entries cells = count_by is_some cells
@@ -34,14 +39,18 @@ home homes process variable = (process * 2654435761 + variable * 1640531527) % h
 abbrev pub home_of : ℕ → Named → ℕ
 home_of homes e = home homes e.process e.variable
 
+-- No two entries are of the same variable of a process.
+abbrev pub IsOnce : List Cell → Type 0
+IsOnce cells = (one other : ℕ) (e f : Named) → cell_at cells one ≡ Some e → cell_at cells other ≡ Some f
+    → is_of e.process e.variable f ≡ true → one ≡ other
+
 -- Each entry stands at its home or after it, with no empty cell between, and no two are of the same variable of a
 -- process.
 pub record IsProbed (homes : ℕ) (cells : List Cell) : Type 0 where
   pub near : (place : ℕ) (e : Named) → cell_at cells place ≡ Some e → home_of homes e ≤ place
   pub full : (at place : ℕ) (e : Named) → cell_at cells place ≡ Some e → home_of homes e ≤ at → at < place
       → is_filled cells at ≡ true
-  pub once : (one other : ℕ) (e f : Named) → cell_at cells one ≡ Some e → cell_at cells other ≡ Some f
-      → is_of e.process e.variable f ≡ true → one ≡ other
+  pub once : IsOnce cells
 
 -- The same but for one empty cell, the hole: what stands between it and `next` is at home after it.
 pub record IsGap (homes : ℕ) (cells : List Cell) (hole next : ℕ) : Type 0 where
@@ -50,8 +59,7 @@ pub record IsGap (homes : ℕ) (cells : List Cell) (hole next : ℕ) : Type 0 wh
   pub near : (place : ℕ) (e : Named) → cell_at cells place ≡ Some e → home_of homes e ≤ place
   pub full : (at place : ℕ) (e : Named) → cell_at cells place ≡ Some e → home_of homes e ≤ at → at < place
       → (at ≡ hole) ⊎ (is_filled cells at ≡ true)
-  pub once : (one other : ℕ) (e f : Named) → cell_at cells one ≡ Some e → cell_at cells other ≡ Some f
-      → is_of e.process e.variable f ≡ true → one ≡ other
+  pub once : IsOnce cells
   pub clear : (place : ℕ) (e : Named) → hole < place → place < next → cell_at cells place ≡ Some e
       → hole < home_of homes e
 
