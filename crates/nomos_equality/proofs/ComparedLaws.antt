@@ -1,5 +1,5 @@
 -- Laws of what was compared before: it stays in front.
-use Rattle.std.proofs.Common.{◌≡◌, List, [], ◌++◌, refl, sym, ap, ◌∙◌, append_assoc}
+use Rattle.std.proofs.Common.{◌≡◌, List, [], ◌++◌, sym, ap, ◌∙◌, append_assoc}
 use Rattle.std.proofs.lemmas.List.{append-nil}
 use Rattle.nomos_equality.specs.Comparing.{Compared, IsFront, StaysCompared}
 

@@ -1,4 +1,4 @@
--- What a search that found no difference says of the two types.
+-- What is known of two types where all that follows from them is gathered.
 use Rattle.std.proofs.Common.{◌≡◌, inl, inr, ℕ, zero, suc, List, [], ◌∷◌, Contains, Some, sym, ap, subst, ◌∙◌, take, length, arith}
 use Rattle.std.proofs.Math.Seq.{take-append_seam}
 use Rattle.std.proofs.lemmas.List.Elements.{All-nil, All-contains, All-weaker, All-contains_itself, Contains-append_left}
@@ -11,12 +11,12 @@ use Rattle.nomos_ir.specs.Unfold.{IsConstructor, Unfolds, constructor}
 use Rattle.nomos_ir.proofs.UnfoldLaws.{Unfolds-unique}
 use Rattle.nomos_types.specs.Equality.{Agree, EqualShapes, no_amounts}
 use Rattle.nomos_equality.specs.declared.hop.Hop.{Hop}
-use Rattle.nomos_equality.specs.declared.search.Visit.{Visit}
-use Rattle.nomos_equality.specs.declared.search.Search.{Search}
+use Rattle.nomos_equality.specs.declared.known.Known.{Known}
 use Rattle.nomos_equality.specs.Answer.{EqualWith}
 use Rattle.nomos_equality.specs.Comparing.{Compared, IsFront, nothing_compared, HasCompared, FindsEqual}
 use Rattle.nomos_equality.specs.Paths.{PathLeads, ends, hops, paid_by, StandAtEqualPaths}
-use Rattle.nomos_equality.specs.mirror.Search.{compared_by, Grows, IsMet, IsAt, HasNodes, IsCompared, HasSearched}
+use Rattle.nomos_equality.specs.mirror.Search.{IsMet, IsAt, HasNodes, HasForm}
+use Rattle.nomos_equality.specs.mirror.Known.{compared_by, Among, visit_at, IsSpread, HasGathered}
 use Rattle.nomos_equality.proofs.HeadLaws.{form-head, no_dths}
 use Rattle.nomos_equality.proofs.PathLaws.{agree-behind, leads-behind, stand-here, stand-from_behind}
 
@@ -27,68 +27,64 @@ node-unique lists t n m there constructs unfolds =
     let same : n ≡ m = Unfolds-unique lists t n m (constructor t n there constructs) unfolds in
     subst (λ (k : TypeNode). type_node lists t ≡ Some k) same there
 
-module _ (lists : ProgramLists) (a b : TypeId) (old s : Search) (before : HasCompared lists (compared_by old))
-    (searched : HasSearched lists a b old s) (grows : Grows old s) where
-  -- a visit whose parts agree to a depth agrees to one more
-  visit-agrees : (n : ℕ) (v : Visit) → HasNodes lists v → IsCompared lists v s.pairs s.amounts
-      → ((c d : TypeId) → Contains s.pairs (c, d) → Agree lists no_amounts n c d)
-      → Agree lists no_amounts (suc n) v.left v.right
-  visit-agrees n v nodes compared agrees =
+module _ (lists : ProgramLists) (a b : TypeId) (old s : Known) (before : HasCompared lists (compared_by old))
+    (gathered : HasGathered lists a b old s) where
+  -- a pair whose parts agree to a depth agrees to one more
+  spread-agrees : (n : ℕ) (u v : TypeId) → HasNodes lists (visit_at u v) → HasForm lists (visit_at u v)
+      → IsSpread lists u v s.pairs s.amounts → ((c d : TypeId) → Contains s.pairs (c, d) → Agree lists no_amounts n c d)
+      → Agree lists no_amounts (suc n) u v
+  spread-agrees n u v nodes form spread agrees =
       record {
         left = nodes.left;
         right = nodes.right;
-        left_unfolds = constructor v.left.0 nodes.left nodes.at.left_there nodes.left_constructs;
-        right_unfolds = constructor v.right.0 nodes.right nodes.at.right_there nodes.right_constructs;
-        same = form-head nodes.left nodes.right (compared.form nodes.left nodes.right nodes.at)
+        left_unfolds = constructor u.0 nodes.left nodes.at.left_there nodes.left_constructs;
+        right_unfolds = constructor v.0 nodes.right nodes.at.right_there nodes.right_constructs;
+        same = form-head nodes.left nodes.right (form nodes.left nodes.right nodes.at)
             (λ h c d left_part right_part.
-            let met = compared.parts h nodes.left nodes.right c d nodes.at left_part right_part in
+            let met = spread.parts h nodes.left nodes.right c d nodes.at left_part right_part in
             agree-behind lists no_amounts n c d met.left met.right met.left_is met.right_is
             (agrees met.left met.right met.among))
             (λ q r left_pays right_pays. no_dths q ∙ sym (no_dths r));
       }
 
-  -- a pair of the search agrees to each depth
+  -- a pair agrees to each depth
   pair-agrees : (n : ℕ) (u v : TypeId) → Contains s.pairs (u, v) → Agree lists no_amounts n u v
   pair-agrees zero u v among = tt
   pair-agrees (suc n) u v among =
-      elim (searched.pairs u v among) [
+      elim (gathered.pairs u v among) [
         | inl h ↦ All-contains (λ (p : TypeId × TypeId). EqualShapes lists p.0 p.1) old.pairs (u, v) before.equal h
             (suc n)
-        | inr h ↦
-            subst (λ (t : TypeId). Agree lists no_amounts (suc n) u t) h.2
-            (subst (λ (t : TypeId). Agree lists no_amounts (suc n) t h.0.right) h.1
-            (visit-agrees n h.0 h.3 h.4 (λ c d there. pair-agrees n c d there)))
+        | inr h ↦ spread-agrees n u v h.0 h.1 h.2 (λ c d there. pair-agrees n c d there)
       ]
 
   -- types that are met have equal shapes
-  met-equal : (c d : TypeId) → IsMet lists s.pairs c d → EqualShapes lists c d
+  met-equal : (c d : TypeId) → IsMet lists (Among s.pairs) c d → EqualShapes lists c d
   met-equal c d met =
       λ n. agree-behind lists no_amounts n c d met.left met.right met.left_is met.right_is
       (pair-agrees n met.left met.right met.among)
 
   old-noted : (p : Amount × Amount) → Contains old.amounts p → Contains s.amounts p
   old-noted p among =
-      subst (λ (l : List (Amount × Amount)). Contains l p) (sym grows.amounts.is)
-      (Contains-append_left old.amounts grows.amounts.more p among)
+      subst (λ (l : List (Amount × Amount)). Contains l p) (sym gathered.amounts_front.is)
+      (Contains-append_left old.amounts gathered.amounts_front.more p among)
 
   old-pair : (p : TypeId × TypeId) → Contains old.pairs p → Contains s.pairs p
   old-pair p among =
-      subst (λ (l : List (TypeId × TypeId)). Contains l p) (sym grows.pairs.is)
-      (Contains-append_left old.pairs grows.pairs.more p among)
+      subst (λ (l : List (TypeId × TypeId)). Contains l p) (sym gathered.pairs_front.is)
+      (Contains-append_left old.pairs gathered.pairs_front.more p among)
 
   -- the amounts at the end of a path from an old pair are noted
   old-stands : (u v : TypeId) (p : Amount × Amount) → Contains old.pairs (u, v) → StandAtEqualPaths lists u v p
       → Contains s.amounts p
   old-stands u v p among stand = old-noted p ((before.amounts p).1 ((u, v), among, stand))
 
-  -- the nodes at a visit, by what its types unfold to
-  visit-at : (v : Visit) (left right : TypeNode) → HasNodes lists v → Unfolds lists v.left.0 left
-      → Unfolds lists v.right.0 right → IsAt lists v left right
-  visit-at v left right nodes left_unfolds right_unfolds =
+  -- the nodes of a pair, by what its types unfold to
+  nodes-at : (u v : TypeId) (left right : TypeNode) → HasNodes lists (visit_at u v) → Unfolds lists u.0 left
+      → Unfolds lists v.0 right → IsAt lists (visit_at u v) left right
+  nodes-at u v left right nodes left_unfolds right_unfolds =
       record {
-        left_there = node-unique lists v.left.0 nodes.left left nodes.at.left_there nodes.left_constructs left_unfolds;
-        right_there =
-            node-unique lists v.right.0 nodes.right right nodes.at.right_there nodes.right_constructs right_unfolds;
+        left_there = node-unique lists u.0 nodes.left left nodes.at.left_there nodes.left_constructs left_unfolds;
+        right_there = node-unique lists v.0 nodes.right right nodes.at.right_there nodes.right_constructs right_unfolds;
       }
 
   -- the amounts at the end of a path from a pair are noted
@@ -96,17 +92,14 @@ module _ (lists : ProgramLists) (a b : TypeId) (old s : Search) (before : HasCom
       → Contains s.pairs (u, v) → PathLeads lists path u c → PathLeads lists path v d → Unfolds lists c.0 left
       → Unfolds lists d.0 right → paid_by left ≡ Some p.0 → paid_by right ≡ Some p.1 → Contains s.amounts p
   pair-stands [] u v _ _ left right p among (ends _) (ends _) left_unfolds right_unfolds left_pays right_pays =
-      elim (searched.pairs u v among) [
+      elim (gathered.pairs u v among) [
         | inl h ↦ old-stands u v p h (stand-here lists u v left right p left_unfolds right_unfolds left_pays right_pays)
         | inr h ↦
-            h.4.paid left right p.0 p.1
-            (visit-at h.0 left right h.3 (subst (λ (t : TypeId). Unfolds lists t.0 left) (sym h.1) left_unfolds)
-            (subst (λ (t : TypeId). Unfolds lists t.0 right) (sym h.2) right_unfolds))
-            left_pays right_pays
+            h.2.paid left right p.0 p.1 (nodes-at u v left right h.0 left_unfolds right_unfolds) left_pays right_pays
       ]
   pair-stands (h ∷ path) u v c d left right p among (hops _ _ _ e _ n first part rest)
       (hops _ _ _ f _ m first2 part2 rest2) left_unfolds right_unfolds left_pays right_pays =
-      elim (searched.pairs u v among) [
+      elim (gathered.pairs u v among) [
         | inl k ↦ old-stands u v p k (record {
           place = record {
             path = h ∷ path;
@@ -123,9 +116,8 @@ module _ (lists : ProgramLists) (a b : TypeId) (old s : Search) (before : HasCom
           right_pays = right_pays;
         })
         | inr k ↦
-            let at = visit-at k.0 n m k.3 (subst (λ (t : TypeId). Unfolds lists t.0 n) (sym k.1) first)
-            (subst (λ (t : TypeId). Unfolds lists t.0 m) (sym k.2) first2) in
-            let met = k.4.parts h n m e f at part part2 in
+            let at = nodes-at u v n m k.0 first first2 in
+            let met = k.2.parts h n m e f at part part2 in
             let l = leads-behind lists path e met.left c left met.left_is rest left_unfolds in
             let r = leads-behind lists path f met.right d right met.right_is rest2 right_unfolds in
             pair-stands path met.left met.right l.0 r.0 left right p met.among l.1 r.1 l.2 r.2 left_pays right_pays
@@ -142,24 +134,24 @@ module _ (lists : ProgramLists) (a b : TypeId) (old s : Search) (before : HasCom
   -- the amounts at equal paths of the two types are noted
   asked-noted : (p : Amount × Amount) → StandAtEqualPaths lists a b p → Contains s.amounts p
   asked-noted p stand =
-      let met = searched.met in
+      let met = gathered.met in
       stands-noted met.left met.right p met.among
       (stand-from_behind lists a b met.left met.right p met.left_is met.right_is stand)
 
   -- what is found
-  pub search-finds : FindsEqual lists a b (compared_by old) (compared_by s)
-  search-finds =
+  pub gathered-finds : FindsEqual lists a b (compared_by old) (compared_by s)
+  gathered-finds =
       record {
-        shapes = met-equal a b searched.met;
-        amounts = λ p. (searched.amounts p, λ there. elim there [ inl h ↦ old-noted p h | inr h ↦ asked-noted p h ]);
+        shapes = met-equal a b gathered.met;
+        amounts = λ p. (gathered.amounts p, λ there. elim there [ inl h ↦ old-noted p h | inr h ↦ asked-noted p h ]);
       }
 
-  -- where the amounts of the search stand
+  -- where the amounts stand
   noted-somewhere : (p : Amount × Amount) → Contains s.amounts p
       → (q : TypeId × TypeId) × Contains s.pairs q × StandAtEqualPaths lists q.0 q.1 p
   noted-somewhere p among =
-      let met = searched.met in
-      elim (searched.amounts p among) [
+      let met = gathered.met in
+      elim (gathered.amounts p among) [
         | inl h ↦ let k = (before.amounts p).0 h in (k.0, old-pair k.0 k.1, k.2)
         | inr h ↦ (
           (met.left, met.right),
@@ -168,27 +160,50 @@ module _ (lists : ProgramLists) (a b : TypeId) (old s : Search) (before : HasCom
         )
       ]
 
-  -- what the search has compared then
-  pub search-compared : HasCompared lists (compared_by s)
-  search-compared =
+  -- what is compared then
+  pub gathered-compared : HasCompared lists (compared_by s)
+  gathered-compared =
       record {
         equal = All-weaker (Contains s.pairs) (λ (p : TypeId × TypeId). EqualShapes lists p.0 p.1)
             (λ p among. λ n. pair-agrees n p.0 p.1 among) s.pairs (All-contains_itself s.pairs);
         amounts = λ p. (noted-somewhere p, λ there. stands-noted there.0.0 there.0.1 p there.1 there.2);
-        once = searched.once before.once;
+        once = gathered.once before.once;
       }
+
+-- types that are known to be equal already
+pub met-finds : (lists : ProgramLists) (a b : TypeId) (k : Compared) → HasCompared lists k
+    → IsMet lists (Among k.types) a b → FindsEqual lists a b k k
+met-finds lists a b k before met =
+    let shapes : EqualShapes lists met.left met.right =
+    All-contains (λ (p : TypeId × TypeId). EqualShapes lists p.0 p.1) k.types (met.left, met.right) before.equal met.among
+    in
+    record {
+      shapes = λ n. agree-behind lists no_amounts n a b met.left met.right met.left_is met.right_is (shapes n);
+      amounts = λ q. (
+        λ there. inl there,
+        λ there.
+            elim there [
+              | inl h ↦ h
+              | inr h ↦
+                  (before.amounts q).1 (
+                    (met.left, met.right),
+                    met.among,
+                    stand-from_behind lists a b met.left met.right q met.left_is met.right_is h,
+                  )
+            ],
+      );
+    }
 
 -- what stayed in front is what was there
 pub front-taken : {X : Type 0} (old new : List X) → IsFront old new → take (length old) new ≡ old
 front-taken old new front = ap (take (length old)) front.is ∙ take-append_seam old front.more
 
--- a search that forgets what it met has compared what it had
-pub forgotten-same : (old mid new : Search) → Grows old mid → new.pairs ≡ take (length old.pairs) mid.pairs
+-- what goes back has compared what it had
+pub back-same : (old mid new : Known) → IsFront old.amounts mid.amounts → new.pairs ≡ old.pairs
     → new.amounts ≡ take (length old.amounts) mid.amounts → compared_by new ≡ compared_by old
-forgotten-same old mid new grows pairs amounts =
-    let first : new.pairs ≡ old.pairs = pairs ∙ front-taken old.pairs mid.pairs grows.pairs in
-    let second : new.amounts ≡ old.amounts = amounts ∙ front-taken old.amounts mid.amounts grows.amounts in
-    λ i. record { types = first i; amounts = second i }
+back-same old mid new front pairs amounts =
+    let second : new.amounts ≡ old.amounts = amounts ∙ front-taken old.amounts mid.amounts front in
+    λ i. record { types = pairs i; amounts = second i }
 
 -- nothing that was compared is sound
 pub nothing-compared : (lists : ProgramLists) → HasCompared lists nothing_compared

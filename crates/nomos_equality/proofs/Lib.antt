@@ -1,9 +1,13 @@
 pub mod AnswerLaws
+pub mod BitLemmas
+pub mod ClassLemmas
 pub mod ComparedLaws
 pub mod EndLemmas
 pub mod HeadLaws
+pub mod KnownLemmas
 pub mod ListLemmas
 pub mod PathLaws
 pub mod SearchLemmas
 pub mod TableLemmas
 pub mod TrailLemmas
+pub mod VisitLemmas

@@ -57,11 +57,16 @@ place-heads lists x a b place equal =
     (equal-along lists x place.path a b place.left_type place.right_type equal place.left_leads place.right_leads)
     place.left_unfolds place.right_unfolds
 
+-- the nodes at a place of types of equal shapes have the same form
+pub place-form : (lists : ProgramLists) (a b : TypeId) (place : AtEqualPaths lists a b) → EqualShapes lists a b
+    → SameForm place.left place.right
+place-form lists a b place equal = same-form _ _ _ (place-heads lists no_amounts a b place equal)
+
 -- types that differ at the end of a path do not have equal shapes
 pub differ-unequal : (lists : ProgramLists) (a b : TypeId) (path : List Hop) → DifferAt lists a b path
     → EqualShapes lists a b → ⊥
 differ-unequal lists a b path differ equal =
-    differ.differ (same-form _ _ _ (place-heads lists no_amounts a b differ.place equal))
+    differ.differ (place-form lists a b differ.place equal)
 
 -- the amounts at equal paths of equal types have the same worth
 pub equal-worth : (lists : ProgramLists) (x : Annotations) (a b : TypeId) (p : Amount × Amount) → EqualTypes lists x a b

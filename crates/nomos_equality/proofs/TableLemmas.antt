@@ -1,54 +1,13 @@
 -- Tables of items under keys.
-use Rattle.std.proofs.Common.{◌≡◌, ℕ, Bool, true, false, not, cond, ◌&&◌, ◌||◌, nat_eq, zero, suc, ◌<◌, List, [], ◌∷◌, ◌++◌, map, length, All, Contains, Some, is_some, if◌then◌else◌, refl, true≢false, sym, ap, subst, ◌∙◌, eq-eqb, eqb-true, get_or, arith}
-use Rattle.std.specs.List.{list_any}
+use Rattle.std.proofs.Common.{◌≡◌, ℕ, Bool, true, false, cond, ◌&&◌, nat_eq, zero, suc, ◌<◌, List, [], ◌∷◌, ◌++◌, map, length, All, Contains, Some, is_some, refl, true≢false, sym, ap, subst, ◌∙◌, eq-eqb, eqb-true, get_or, arith}
 use Rattle.std.specs.Map.{lookup}
 use Rattle.std.specs.Bool.{beq}
 use Rattle.std.proofs.lemmas.Bool.{and_from, and_parts}
-use Rattle.std.proofs.lemmas.List.{map-append}
 use Rattle.std.proofs.lemmas.List.Elements.{All-head, All-tail, Contains-get_or, Contains-append_right}
 use Rattle.indexmap.specs.IndexMap.{insert_entry}
-use Rattle.indexmap.specs.IndexSet.{insert_key}
-use Rattle.indexmap.proofs.CallerLemmas.{Contains-list_any}
 use Rattle.nomos_ir.specs.declared.amount.Amount.{Amount}
 use Rattle.nomos_ir.specs.declared.amount.Amount.TheVariants as amount
-use Rattle.nomos_equality.proofs.ListLemmas.{contains-map, contains-unmap}
-use Rattle.nomos_equality.specs.mirror.PairTables.{types_at, amount_key, pair_key, PutsOnce}
-
--- ---- sets
-
-module _ {K : Type 0} (eq : K → K → Bool) (exact : (x y : K) → eq x y ≡ true → x ≡ y) (same : (k : K) → eq k k ≡ true)
-  where
-    -- a key of the list is found
-    found-key : (ks : List K) (k : K) → Contains ks k → list_any (eq k) ks ≡ true
-    found-key [] k among = absurd (omega (arith, among.1))
-    found-key (x ∷ xs) k (zero, inside, is) = let e : x ≡ k = is in rw (e, same k) refl
-    found-key (x ∷ xs) k (suc i, inside, is) =
-        by (eq k x) (found-key xs k (i, omega arith, is))
-      where
-        by : (b : Bool) → list_any (eq k) xs ≡ true → (b || list_any (eq k) xs) ≡ true
-        by true h = refl
-        by false h = h
-
-    module _ {X : Type 0} (f : K → X) (apart : (x y : K) → f x ≡ f y → x ≡ y) (k : K) (ks : List K) (made : List K)
-        (added : Bool) where
-      -- a key is put once
-      by-found : (b : Bool) → list_any (eq k) ks ≡ b → added ≡ not b → made ≡ (if b then ks else ks ++ k ∷ [])
-          → PutsOnce (map f ks) (f k) (map f made) added
-      by-found true found is kept =
-          subst (λ (a : Bool). PutsOnce (map f ks) (f k) (map f made) a) (sym is)
-          (contains-map f ks k (f k) (Contains-list_any eq exact ks k found) refl, ap (map f) kept)
-      by-found false found is kept =
-          subst (λ (a : Bool). PutsOnce (map f ks) (f k) (map f made) a) (sym is) (
-            λ among.
-                let x = contains-unmap f ks (f k) among in
-                let there : Contains ks k = subst (λ (j : K). Contains ks j) (apart x.0 k x.2) x.1 in
-                true≢false (sym (found-key ks k there) ∙ found),
-            ap (map f) kept ∙ map-append f ks (k ∷ []),
-          )
-
-      pub put-once : added ≡ not (list_any (eq k) ks) → made ≡ insert_key eq ks k
-          → PutsOnce (map f ks) (f k) (map f made) added
-      put-once is kept = by-found (list_any (eq k) ks) refl is kept
+use Rattle.nomos_equality.specs.mirror.PairTables.{amount_key, pair_key}
 
 -- ---- maps from the key of an item to the item
 
@@ -99,25 +58,6 @@ module _ {K X : Type 0} (eq : K → K → Bool) (exact : (x y : K) → eq x y �
           → insert_entry eq (e ∷ es) (key x) x ≡ (e ∷ es) ++ (key x, x) ∷ []
       by true found ih = let h = rw found at absent in cc
       by false found ih = rw found (ap (λ xs. e ∷ xs) (ih (rw found at absent)))
-
--- ---- pairs of numbers
-
-abbrev pub numbers_eq : ℕ × ℕ → ℕ × ℕ → Bool
-numbers_eq x y = nat_eq x.0 y.0 && nat_eq x.1 y.1
-
-pub numbers-exact : (x y : ℕ × ℕ) → numbers_eq x y ≡ true → x ≡ y
-numbers-exact x y h =
-    let p = and_parts (nat_eq x.0 y.0) (nat_eq x.1 y.1) h in
-    let first : x.0 ≡ y.0 = eqb-true x.0 y.0 p.0 in
-    let second : x.1 ≡ y.1 = eqb-true x.1 y.1 p.1 in
-    λ i. (first i, second i)
-
-pub numbers-same : (k : ℕ × ℕ) → numbers_eq k k ≡ true
-numbers-same k = and_from (nat_eq k.0 k.0) (nat_eq k.1 k.1) (eq-eqb k.0 k.0 refl) (eq-eqb k.1 k.1 refl)
-
--- different numbers are those of different types
-pub types-apart : (x y : ℕ × ℕ) → types_at x ≡ types_at y → x ≡ y
-types-apart x y h = λ i. ((h i).0.0, (h i).1.0)
 
 -- ---- pairs of amounts
 

@@ -1,3 +1,6 @@
 pub mod Heads
-pub mod Search
+pub mod Linking
 pub mod PairTables
+pub mod Search
+pub mod Known
+pub mod ToldPairs

@@ -1,10 +1,11 @@
-//! Equalities that were found in one program, kept so that no pair of types is compared twice.
+//! Equalities that were found in one program, kept so that no types that are known to be equal are compared again.
 ghost use Rattle.std.specs.Prelude.{◌≡◌, ◌<◌, length, IfOk, OnErr};
 ghost use Rattle.nomos_ir.specs.Unfold.{IsContractive};
 ghost use Rattle.nomos_equality.specs.Comparing.{nothing_compared, HasCompared, StaysCompared, AnswersComparison};
 
 use crate::equality::Comparison;
-use crate::search::Search;
+use crate::known::Known;
+use crate::search::find_difference;
 use nomos_ir::ids::TypeId;
 use nomos_ir::lists::AmountPairs;
 use nomos_ir::program::Program;
@@ -15,16 +16,17 @@ use std::marker::Model;
 /// amounts that stand at equal paths of these (`HasCompared`).
 #[derive(Drop)]
 pub struct Equalities {
-    search: Search,
+    alloc: Global,
+    known: Known,
 }
 
 impl Model for Equalities {
     ghost use Rattle.nomos_equality.specs.Comparing.{Compared};
-    ghost use Rattle.nomos_equality.specs.mirror.Search.{compared_by};
+    ghost use Rattle.nomos_equality.specs.mirror.Known.{compared_by};
 
     ghost Value = { Compared };
 
-    ghost view = { λ equalities. compared_by equalities.search };
+    ghost view = { λ equalities. compared_by equalities.known };
 }
 
 impl Equalities {
@@ -33,12 +35,13 @@ impl Equalities {
         ensures { result ≡ nothing_compared }
     {
         Equalities {
-            search: Search::new(alloc),
+            alloc,
+            known: Known::new(alloc),
         }
     }
 
-    /// Compares two types of the program of which all that was compared before is. Pairs that were compared
-    /// before are not looked at again. All of them stay, each in its place; where the types differ, and where
+    /// Compares two types of the program of which all that was compared before is. Types that were found equal
+    /// before are not compared again. All pairs stay, each in its place; where the types differ, and where
     /// memory runs out, nothing joins them.
     pub fn compare(
         &mut self,
@@ -56,14 +59,23 @@ impl Equalities {
         ensures err { OnErr result (self.new ≡ self.old) }
     {
         let _lists = program.lists();
-        self.search.compare(program, left, right)
+        if self.known.has(program, left, right) {
+            return Ok(Comparison::Equal);
+        }
+        match find_difference(self.alloc, program, left, right)? {
+            Comparison::Equal => {
+                self.known.gather(program, left, right)?;
+                Ok(Comparison::Equal)
+            }
+            Comparison::Different(path) => Ok(Comparison::Different(path)),
+        }
     }
 
     /// The pairs of amounts that stand at equal paths of what was compared, each once.
     pub fn into_amounts(self) -> Result<AmountPairs, AllocError>
         ensures { IfOk result (λ pairs. pairs ≡ self.amounts) }
     {
-        let Equalities { search } = self;
-        search.into_amounts()
+        let Equalities { alloc: _, known } = self;
+        known.into_amounts()
     }
 }

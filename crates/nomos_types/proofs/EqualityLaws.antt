@@ -234,7 +234,7 @@ type-unfolds lists t is_program contractive inside =
     node-unfolds lists t there.0 is_program contractive there.1
 
 -- a type agrees with itself to every depth
-agree-same : (lists : ProgramLists) (x : Annotations) (n : ℕ) (t : TypeId) → IsProgram lists → IsContractive lists
+pub agree-same : (lists : ProgramLists) (x : Annotations) (n : ℕ) (t : TypeId) → IsProgram lists → IsContractive lists
     → t.0 < length lists.types → Agree lists x n t t
 agree-same lists x zero t is_program contractive inside = tt
 agree-same lists x (suc n) t is_program contractive inside =
@@ -258,7 +258,7 @@ equal-same lists x t is_program contractive inside = λ n. agree-same lists x n 
 -- ---- back and through
 
 -- agreement to a depth goes back
-agree-back : (lists : ProgramLists) (x : Annotations) (n : ℕ) (a b : TypeId) → Agree lists x n a b → Agree lists x n b a
+pub agree-back : (lists : ProgramLists) (x : Annotations) (n : ℕ) (a b : TypeId) → Agree lists x n a b → Agree lists x n b a
 agree-back lists x zero a b agree = tt
 agree-back lists x (suc n) a b agree =
     record {
@@ -284,7 +284,7 @@ head-at {lists = lists} {x = x} {R = R} {a = a} {b = b} {p = p} {q = q} u left r
     subst (λ (m : TypeNode). SameHead x R p m) same_right at_left
 
 -- agreement to a depth goes through
-agree-through : (lists : ProgramLists) (x : Annotations) (n : ℕ) (a b c : TypeId) → Agree lists x n a b
+pub agree-through : (lists : ProgramLists) (x : Annotations) (n : ℕ) (a b c : TypeId) → Agree lists x n a b
     → Agree lists x n b c → Agree lists x n a c
 agree-through lists x zero a b c first second = tt
 agree-through lists x (suc n) a b c first second =

@@ -1,7 +1,8 @@
 use Rattle.std.proofs.Common.{sym, ◌∙◌}
 use Rattle.nomos_equality.specs.mirror.Search.{stays}
 use Rattle.nomos_equality.proofs.PathLaws.{part-below}
-use Rattle.nomos_equality.proofs.SearchLemmas.{ok-map, follow-goes}
+use Rattle.nomos_equality.proofs.SearchLemmas.{follow-goes}
+use Rattle.nomos_equality.proofs.VisitLemmas.{ok-map}
 use Rattle.nomos_equality.proofs.search.Search.follow.Goals as goal
 
 pub meet-requires-clause-left : goal.meet-requires-clause-left
@@ -22,7 +23,7 @@ returns-in-Some-Some-clause-goes c =
     c.node.result.now c.node-2.result.now c.in-Some-Some.left c.in-Some-Some.right c.requires.there
     (record { left_there = c.node.ensures; right_there = c.node-2.ensures })
     (sym c.part_by-left.ensures ∙ c.in-Some-Some.is-0) (sym c.part_by-right.ensures ∙ c.in-Some-Some.is-1) met).0)
-    c.meet.ensures.meets
+    c.meet.ensures
 
 pub returns-in-Some-Some-clause-follows : goal.returns-in-Some-Some-clause-follows
 returns-in-Some-Some-clause-follows c =
@@ -32,7 +33,7 @@ returns-in-Some-Some-clause-follows c =
     c.node.result.now c.node-2.result.now c.in-Some-Some.left c.in-Some-Some.right c.requires.there
     (record { left_there = c.node.ensures; right_there = c.node-2.ensures })
     (sym c.part_by-left.ensures ∙ c.in-Some-Some.is-0) (sym c.part_by-right.ensures ∙ c.in-Some-Some.is-1) met).1)
-    c.meet.ensures.meets
+    c.meet.ensures
 
 pub returns-in_default-clause-goes : goal.returns-in_default-clause-goes
 returns-in_default-clause-goes c = stays

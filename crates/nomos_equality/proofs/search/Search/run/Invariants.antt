@@ -1,6 +1,6 @@
 use Rattle.std.proofs.Common.{◌≡◌, ◌<◌, ◌≤◌, ◌-◌, ◌^◌, ℕ, length, Some, slice_get}
 use Rattle.nomos_equality.specs.declared.search.Visit.{Visit}
-use Rattle.nomos_equality.specs.mirror.Search.{IsMet, IsCompared}
+use Rattle.nomos_equality.specs.mirror.Search.{IsMet, Classed, IsCompared}
 use Rattle.nomos_equality.proofs.SearchLemmas.{IsWalk}
 use Rattle.nomos_equality.proofs.search.Search.run.Given as goal
 
@@ -9,10 +9,10 @@ abbrev pub invariant-loop-next : goal.invariant-loop-next
 invariant-loop-next l =
     record {
       inside : l.next ≤ length l.self.visits.items;
-      walk : IsWalk l.program l.fn.left l.fn.right l.fn.self l.self;
-      met : IsMet l.program l.self.pairs l.fn.left l.fn.right;
+      walk : IsWalk l.program l.fn.left l.fn.right l.self;
+      met : IsMet l.program (Classed l.self) l.fn.left l.fn.right;
       compared : (i : ℕ) (v : Visit) → i < l.next → slice_get l.self.visits.items i ≡ Some v
-          → IsCompared l.program v l.self.pairs l.self.amounts;
+          → IsCompared l.program v (Classed l.self);
     }
 
 abbrev pub decreases-loop-next : goal.decreases-loop-next
