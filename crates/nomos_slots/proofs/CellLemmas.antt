@@ -238,13 +238,13 @@ module _ (homes : ℕ) (cells : List Cell) (hole next : ℕ) (gap : IsGap homes 
         let same : w1 ≡ w2 = gap.once w1 w2 f k is1 is2 key in
         elim from1 [
           | inl h1 ↦ elim from2 [
-              | inl h2 ↦ h1.0 ∙ sym h2.0
-              | inr t2 ↦ absurd (not-next other k also (t2.0 ∙ sym same ∙ h1.1))
-            ]
+            | inl h2 ↦ h1.0 ∙ sym h2.0
+            | inr t2 ↦ absurd (not-next other k also (t2.0 ∙ sym same ∙ h1.1))
+          ]
           | inr t1 ↦ elim from2 [
-              | inl h2 ↦ absurd (not-next one f has (t1.0 ∙ same ∙ h2.1))
-              | inr t2 ↦ t1.0 ∙ same ∙ sym t2.0
-            ]
+            | inl h2 ↦ absurd (not-next one f has (t1.0 ∙ same ∙ h2.1))
+            | inr t2 ↦ t1.0 ∙ same ∙ sym t2.0
+          ]
         ]
 
     pub gap-moved : IsGap homes moved next (next + 1)
