@@ -1,8 +1,8 @@
 -- Legal journals grow passage by passage.
-use Rattle.std.proofs.Common.{◌≡◌, ◌∙◌, ℕ, ◌+◌, ◌^◌, ◌<◌, ◌≤◌, List, [], ◌∷◌, ◌++◌, length, Option, Some, None, ⊎_elim, refl, sym, subst, ap, arith, append-nil, append_assoc}
+use Rattle.std.proofs.Common.{take, zero, suc, ◌≡◌, ◌∙◌, ℕ, ◌+◌, ◌^◌, ◌<◌, ◌≤◌, List, [], ◌∷◌, ◌++◌, length, Option, Some, None, ⊎_elim, refl, sym, subst, ap, arith, append-nil, append_assoc}
 use Rattle.std.specs.Option.{option_to_list}
 use Rattle.std.proofs.lemmas.Bool.{cases_lt}
-use Rattle.std.proofs.lemmas.List.{length-map, map-append}
+use Rattle.std.proofs.lemmas.List.{length-map, map-append, take-map}
 use Rattle.std.proofs.lemmas.List.Sums.{sum_by-append}
 use Rattle.nomos_types.specs.Acceptance.{Acceptance}
 use Rattle.nomos_script.specs.declared.item.Batch.{Batch}
@@ -187,3 +187,30 @@ module _ {a : Acceptance} {items : List ScriptItem} {journal : Journal} {ps : Li
         (subst (λ (l : LedgerState). Leads a journal.limit (0 + firings_made (entries_of ps)) l (p ∷ []) p.after) before
         (at-count (firings_made journal.entries) (0 + firings_made (entries_of ps)) (sym made-same) (leads-one p is)));
   }
+
+-- ---- fronts
+
+-- the first passages lead as far as they go
+pub leads-front : {a : Acceptance} {limit made : ℕ} {l last : LedgerState} {ps : List Passage}
+    → Leads a limit made l ps last → (n : ℕ) → (m : LedgerState) × Leads a limit made l (take n ps) m
+leads-front (legal.done made l) zero = (l, legal.done made l)
+leads-front (legal.done made l) (suc n) = (l, legal.done made l)
+leads-front (legal.passes made p ps last is rest) zero = (p.before, legal.done made p.before)
+leads-front (legal.passes made p ps last is rest) (suc n) =
+    let (m, front) = leads-front rest n in
+    (m, legal.passes made p (take n ps) m is front)
+
+-- so the journal of the first items, with the entries of what became of them, is legal
+pub tells-front : {a : Acceptance} {items : List ScriptItem} {journal : Journal} {ps : List Passage}
+    {last : LedgerState}
+    → Tells a items journal ps last → (n : ℕ)
+    → (m : LedgerState) × Tells a (take n items) (record journal { entries = entries_of (take n ps) }) (take n ps) m
+tells-front {ps = ps} tells n =
+    let (m, front) = leads-front tells.leads n in
+    (m, record {
+      limit = tells.limit;
+      items_are =
+          sym (take-map (λ (p : Passage). p.item) n ps) ∙ ap (λ (is : List ScriptItem). take n is) tells.items_are;
+      entries_are = refl;
+      leads = front;
+    })
