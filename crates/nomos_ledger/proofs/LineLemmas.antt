@@ -41,12 +41,11 @@ extends-further {b} {c} {d} first second = record {
   accounts = second.accounts ∙ first.accounts;
   deposits = second.deposits ∙ first.deposits;
   marked = second.marked ∙ first.marked;
-  contracts =
-      (
-        first.contracts.0 ++ second.contracts.0,
-        second.contracts.1 ∙ ap (λ (xs : Contracts). xs ++ second.contracts.0) first.contracts.1
+  contracts = (
+    first.contracts.0 ++ second.contracts.0,
+    second.contracts.1 ∙ ap (λ (xs : Contracts). xs ++ second.contracts.0) first.contracts.1
         ∙ append_assoc b.now.contracts first.contracts.0 second.contracts.0,
-      );
+  );
 }
 
 -- ---- the lines of a batch

@@ -28,12 +28,7 @@ pub enum Begun<M: Undo> {
 impl<M: Undo> Ledger<M> {
     /// Starts the lines of a batch, in order, judged by what is known of arguments. Each line finds balances and
     /// contracts as the lines before it left them. The first line that can not start refuses the batch.
-    pub fn begin_with(
-        self,
-        alloc: Global,
-        arguments: &mut Arguments<'_>,
-        batch: &Batch,
-    ) -> Begun<M>
+    pub fn begin_with(self, alloc: Global, arguments: &mut Arguments<'_>, batch: &Batch) -> Begun<M>
         requires stands { StandsFor arguments.old self }
         requires objects { self.state.next_object + length batch.now.starts < 2 ^ 32 }
         requires names { self.state.next_name + length batch.now.starts < 2 ^ 32 }
