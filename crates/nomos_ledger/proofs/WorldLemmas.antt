@@ -44,6 +44,10 @@ process-placed : (o : Option Process) (place : CodeId) → option_map (λ p. p.c
 process-placed (Some p) place at = (p, refl, cc)
 process-placed None place at = absurd cc
 
+-- books whose state stays are as they were
+pub faulted-same : (b c : BooksState) → c ≡ with_state b c.now.state → c.now.state ≡ b.now.state → c ≡ b
+faulted-same b c rest same = rest ∙ ap (with_state b) same
+
 -- Of books a process fired, at this instruction, and these are the books and the firings after it. Room for the firing
 -- was made before.
 pub record OneFires (a : Acceptance) (b c : BooksState) (f h g : Fired) (firing : Firing) (place : CodeId) : Type 0

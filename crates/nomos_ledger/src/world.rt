@@ -1,8 +1,10 @@
 //! Worlds: a batch under way.
 ghost use Rattle.std.specs.Prelude.{◌≡◌, ℕ, IfOk, OnErr, MatchOption, length};
+ghost use Rattle.nomos_ir.specs.CostAll.{IsUnderCostAll};
 ghost use Rattle.nomos_ir.specs.TermsEvaluation.{instruction_evaluation};
 ghost use Rattle.nomos_eval.specs.Outcomes.{outcome_of};
 ghost use Rattle.nomos_types.specs.Acceptance.{Acceptance, IsAccepted};
+ghost use Rattle.nomos_machine.specs.Costs.{PaysFor};
 ghost use Rattle.nomos_machine.specs.Run.{IsNextReady, NoneReady};
 ghost use Rattle.nomos_machine.specs.Step.{IsReady, fault};
 ghost use Rattle.nomos_machine.specs.TypedState.{IsTyped};
@@ -105,7 +107,8 @@ impl<M: Undo> World<M> {
     }
 
     /// Fires a ready process, and keeps the firing and its instruction where the process took its step. Where its
-    /// instruction has a fault, and where memory is wanting, the world is as it was.
+    /// instruction has a fault, and where memory is wanting, the world is as it was. Under `cost all` the firings, a unit
+    /// for each, come to at most twice the gas spent since the origin, and a unit for each process of the origin.
     pub fn fire(
         &mut self,
         alloc: Global,
@@ -118,6 +121,8 @@ impl<M: Undo> World<M> {
         ensures ok { IfOk result (λ answer. FiresIn accepted.now self.old firing answer self.new) }
         ensures err { OnErr result (self.new ≡ self.old) }
         ensures stands { WorldStandsFor accepted.now self.new }
+        ensures pays { IsUnderCostAll accepted.now.program
+            → PaysFor accepted.now (length self.new.firings) self.new.origin.state self.new.state }
     {
         let _program = accepted.program();
         let Some(place) = self.books.place(firing.pid) else {
@@ -148,6 +153,8 @@ impl<M: Undo> World<M> {
         ensures ok { IfOk result (λ answer. FiresIn accepted.now self.old firing answer self.new) }
         ensures err { OnErr result (self.new ≡ self.old) }
         ensures stands { WorldStandsFor accepted.now self.new }
+        ensures pays { IsUnderCostAll accepted.now.program
+            → PaysFor accepted.now (length self.new.firings) self.new.origin.state self.new.state }
     {
         let _program = accepted.program();
         let Some(place) = self.books.place(firing.pid) else {

@@ -1,4 +1,5 @@
-use Rattle.nomos_ledger.proofs.WorldLemmas.{OneFires, fired-stands, fired-under_way, has-fired, may-fire}
+use Rattle.nomos_legal.proofs.WorldCostLaws.{world-pays}
+use Rattle.nomos_ledger.proofs.WorldLemmas.{OneFires, faulted-same, fired-stands, fired-under_way, has-fired, may-fire}
 use Rattle.nomos_ledger.proofs.world.World.fire.Goals as goal
 use Rattle.nomos_ledger.proofs.world.World.fire.Given.{Over}
 
@@ -39,3 +40,25 @@ invariant_of-self-in-Fired g c =
     let stands = rw (← c.self.view_is) at c.requires.stands in
     fired-under_way c.program-program.ensures.accepted (one g c) c.self.inside.kept c.self.inside.starts stands
     c.self.invariant
+
+pub returns-in_err-reserve-clause-pays : goal.returns-in_err-reserve-clause-pays
+returns-in_err-reserve-clause-pays g c under =
+    let stands = rw (← c.self.view_is) at c.requires.stands in
+    rw c.reserve.ensures.firings (world-pays under c.program-program.ensures.accepted stands)
+
+pub returns-in_err-answer-clause-pays : goal.returns-in_err-answer-clause-pays
+returns-in_err-answer-clause-pays g c under =
+    let stands = rw (← c.self.view_is) at c.requires.stands in
+    rw (c.reserve.ensures.firings, c.in_err-answer.ensures.err)
+    (world-pays under c.program-program.ensures.accepted stands)
+
+pub returns-in-Fired-clause-pays : goal.returns-in-Fired-clause-pays
+returns-in-Fired-clause-pays g c under =
+    world-pays under c.program-program.ensures.accepted (returns-in-Fired-clause-stands g c)
+
+pub returns-in_default-answer-clause-pays : goal.returns-in_default-answer-clause-pays
+returns-in_default-answer-clause-pays g c under =
+    let stands = rw (← c.self.view_is) at c.requires.stands in
+    let faults = rw c.in_default-answer.is at c.in_ok-answer.ensures.ok in
+    let same = faulted-same c.self.inside.books c.fire.new.self c.in_ok-answer.ensures.rest faults.1 in
+    rw (c.reserve.ensures.firings, same) (world-pays under c.program-program.ensures.accepted stands)
