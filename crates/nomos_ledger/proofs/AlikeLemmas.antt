@@ -1,5 +1,5 @@
 -- A type and what it unfolds to are equal, and what equals a type of mode S has mode S.
-use Rattle.std.proofs.Common.{◌≡◌, ◌<◌, inl, inr, length, subst, refl}
+use Rattle.std.proofs.Common.{◌↔◌, ◌≡◌, ◌<◌, inl, inr, length, subst, refl}
 use Rattle.nomos_ir.specs.Unfold.{IsConstructor, Unfolds, constructor}
 use Rattle.nomos_ir.specs.declared.ids.TypeId.{TypeId}
 use Rattle.nomos_ir.specs.declared.lists.ProgramLists.{ProgramLists}
@@ -79,10 +79,11 @@ module _ {lists : ProgramLists} (formed : IsWellFormed lists) (x : Annotations) 
       let allowed = formed.modes.allowed v m q at_m there_too in
       subst (λ (k : TypeNode). Allows lists m k) other.1 allowed
 
-  module _ (own wanted left right : TypeId) (m : Mode) (shared : HasMode lists own mode.S) (has : HasMode lists wanted m)
+  module _ (own wanted left right : TypeId) (m : Mode) (shared : HasMode lists own mode.S)
+      (has : HasMode lists wanted m)
       (first : IsUnfolding lists own.0 left.0) (second : IsUnfolding lists wanted.0 right.0) where
-    -- a type of mode S and another one are alike where what they unfold to is equal
-    pub alike-from_unfolded : EqualTypes lists x left right → AlikeTypes lists x own wanted
+    -- where what they unfold to is equal, they are alike
+    alike-from_unfolded : EqualTypes lists x left right → AlikeTypes lists x own wanted
     alike-from_unfolded same =
         let to_left = unfolding-equal own left (mode-in_range formed.program shared) first in
         let to_right = unfolding-equal wanted right (mode-in_range formed.program has) second in
@@ -96,9 +97,13 @@ module _ {lists : ProgramLists} (formed : IsWellFormed lists) (x : Annotations) 
           right_mode = subst (λ (k : Mode). HasMode lists wanted k) at_s has;
         }
 
-    pub alike-unfolded : AlikeTypes lists x own wanted → EqualTypes lists x left right
+    alike-unfolded : AlikeTypes lists x own wanted → EqualTypes lists x left right
     alike-unfolded alike =
         let to_left = unfolding-equal own left (mode-in_range formed.program shared) first in
         let to_right = unfolding-equal wanted right (mode-in_range formed.program has) second in
         equal-through lists x left own right (equal-back lists x own left to_left)
         (equal-through lists x own wanted right alike.equal to_right)
+
+    -- so a type of mode S and another one are alike exactly where what they unfold to is equal
+    pub alike-exact : EqualTypes lists x left right ↔ AlikeTypes lists x own wanted
+    alike-exact = (alike-from_unfolded, alike-unfolded)

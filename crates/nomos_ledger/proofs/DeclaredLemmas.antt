@@ -83,9 +83,11 @@ new-name procs k d differ inside = no-place (λ a. bytes_eq a name) (names_of (t
     name : List ℕ
     name = (get_or procs k d).name
 
-    fails : (j : ℕ) → j < length (names_of (take k procs)) → bytes_eq (get_or (names_of (take k procs)) j d.name) name ≡ false
+    fails : (j : ℕ) → j < length (names_of (take k procs))
+        → bytes_eq (get_or (names_of (take k procs)) j d.name) name ≡ false
     fails j below =
-        let before : j < k = omega (arith, below, length-map (take k procs) (λ (e : ProcDecl). e.name), length-take-le k procs (omega arith)) in
+        let mapped = length-map (take k procs) (λ (e : ProcDecl). e.name) in
+        let before : j < k = omega (arith, below, mapped, length-take-le k procs (omega arith)) in
         let is : get_or (names_of (take k procs)) j d.name ≡ (get_or procs j d).name =
         name-at (take k procs) j d ∙ ap (λ (e : ProcDecl). e.name) (get_or-take k procs j d before) in
         ap (λ (m : List ℕ). bytes_eq m name) is ∙ texts-apart (get_or procs j d).name name (differ j k d before inside)
@@ -105,7 +107,8 @@ module _ (start : Start) (procs : List ProcDecl) where
         where
           fails : (j : ℕ) → j < length (e ∷ ds) → is_wanted start (get_or (e ∷ ds) j e) ≡ false
           fails j inside =
-              let within : j < length (names_of (e ∷ ds)) = rw (length-map (e ∷ ds) (λ (x : ProcDecl). x.name)) inside in
+              let within : j < length (names_of (e ∷ ds)) =
+              rw (length-map (e ∷ ds) (λ (x : ProcDecl). x.name)) inside in
               let no : named (get_or (names_of (e ∷ ds)) j e.name) ≡ false =
               none-passes named (names_of (e ∷ ds)) none j e.name within in
               let other : bytes_eq (get_or (e ∷ ds) j e).name start.proc ≡ false =

@@ -49,7 +49,8 @@ module _ {N X Y : Type 0} (R : X → Y → Type 0) (f : N → X) where
   one_each-at [] ys k n y each inside = absurd (omega (arith, inside))
   one_each-at (m ∷ ns) [] k n y each inside = elim each [ ]
   one_each-at (m ∷ ns) (z ∷ ys) zero n y (one first rest) inside = first
-  one_each-at (m ∷ ns) (z ∷ ys) (suc k) n y (one first rest) inside = one_each-at ns ys k n y rest (omega (arith, inside))
+  one_each-at (m ∷ ns) (z ∷ ys) (suc k) n y (one first rest) inside =
+      one_each-at ns ys k n y rest (omega (arith, inside))
 
   -- those so far, and the next ones
   further : (ns : List N) (ys : List Y) (k : ℕ) (n : N) (y : Y) → OneEach R (map f (take k ns)) (take k ys)

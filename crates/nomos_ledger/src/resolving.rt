@@ -5,8 +5,10 @@ ghost use Rattle.nomos_machine.specs.TypedState.{IsContractName};
 ghost use Rattle.nomos_types.specs.Modes.{HasMode};
 ghost use Rattle.nomos_legal.specs.Ledger.{IsLedger};
 ghost use Rattle.nomos_legal.specs.StandsFor.{IsSettled};
-ghost use Rattle.nomos_legal.specs.Starting.{ArgumentsFit, ContractFits, ContractsFit, IsPayer, Resolves, is_wanted, started_by};
-ghost use Rattle.nomos_ledger.specs.mirror.Resolving.{IfAnswered, FindsPayer, FindsDeclaration, FindsNames, FreesName, HasGas, HaveModes, PassesRest};
+ghost use Rattle.nomos_legal.specs.Starting.{ArgumentsFit, ContractFits, ContractsFit, IsPayer};
+ghost use Rattle.nomos_legal.specs.Starting.{Resolves, is_wanted, started_by};
+ghost use Rattle.nomos_ledger.specs.mirror.Resolving.{FindsDeclaration, FindsNames, FindsPayer, FreesName};
+ghost use Rattle.nomos_ledger.specs.mirror.Resolving.{HasGas, HaveModes, IfAnswered, PassesRest};
 
 use crate::account_names::AccountNames;
 use crate::arguments::Arguments;

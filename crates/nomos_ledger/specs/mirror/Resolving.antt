@@ -56,7 +56,7 @@ FindsNames a l start d (Ok shared) = ArgumentsFit a l start d shared
 FindsNames a l start d (Err r) =
     ((shared : List ℕ) → ¬ (ArgumentsFit a l start d shared)) × (r ≡ refusal.BadArguments start.proc)
 
--- what the account has, and what the declaration needs
+-- what the account that pays has
 abbrev pub held_by : LedgerState → Found → ℕ
 held_by l found = slice_index l.state.balances found.payer
 

@@ -1,4 +1,4 @@
-use Rattle.std.proofs.Common.{◌≡◌, ◌∙◌, All, map, get_or, true, false, refl, sym, ap, subst, arith}
+use Rattle.std.proofs.Common.{◌≡◌, ◌∙◌, All, map, true, false, refl, sym, ap, subst, arith}
 use Rattle.std.proofs.lemmas.List.{take_all}
 use Rattle.std.proofs.lemmas.List.Elements.{All-more}
 use Rattle.nomos_ir.specs.Value.{Value, list, value_list}
@@ -27,10 +27,12 @@ pub all_have_kind-returns-then-not-has_kind : goal.all_have_kind-returns-then-no
 all_have_kind-returns-then-not-has_kind t c =
     let P : ValueNode → Type 0 = λ n. ValueHasKind (value_of n) c.args.kind in
     let refused = c.if-not-has_kind.true in
-    let at : c.node-item.result ≡ get_or c.args.nodes.now c.loop-node.node-index c.node-item.result = c.node-item.is in (
+    let at = c.node-item.is in (
       λ (yes : false ≡ true). cc,
       λ all.
-          let has = have_kind-each c.args.kind c.args.nodes.now all c.loop-node.node-index c.node-item.result c.loop-node-test.true in
+          let has =
+          have_kind-each c.args.kind c.args.nodes.now all c.loop-node.node-index c.node-item.result
+          c.loop-node-test.true in
           let yes = c.has_kind.ensures.1 (subst P (sym at) has) in
           cc,
     )
@@ -38,7 +40,7 @@ all_have_kind-returns-then-not-has_kind t c =
 pub all_have_kind-loop-node-preserved : goal.all_have_kind-loop-node-preserved
 all_have_kind-loop-node-preserved t c =
     let P : ValueNode → Type 0 = λ n. ValueHasKind (value_of n) c.args.kind in
-    let at : c.node-item.result ≡ get_or c.args.nodes.now c.loop-node.node-index c.node-item.result = c.node-item.is in
+    let at = c.node-item.is in
     let yes = c.if-not-has_kind.false in
     All-more P c.args.nodes.now c.loop-node.node-index c.node-item.result c.loop-node-test.true c.loop-node.invariant
     (subst P at (c.has_kind.ensures.0 yes))

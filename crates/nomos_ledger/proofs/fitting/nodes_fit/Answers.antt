@@ -40,7 +40,8 @@ returns c =
     let nodes = c.args.nodes.now in
     let pars = c.args.pars.now in
     let Fit : List ValueNode → List Par → Type 0 = λ ns ps. OneEach ValueFits (map value_of ns) ps in
-    let all = subst (λ ns. Fit ns (take c.loop-at.at pars)) (take_all c.loop-at.at nodes (omega arith)) c.loop-at.invariant in (
+    let all =
+    subst (λ ns. Fit ns (take c.loop-at.at pars)) (take_all c.loop-at.at nodes (omega arith)) c.loop-at.invariant in (
       λ yes. subst (λ ps. Fit nodes ps) (take_all c.loop-at.at pars (omega arith)) all,
       λ each. refl,
     )

@@ -14,7 +14,8 @@ are_alike-requires-clause-own g c =
     let shared = c.in-Some.shared in
     let own = c.in-Some-name_type.own in
     let named = c.shared_name.ensures ∙ ap (λ (b : BooksState). shared_name b.now.contracts name) c.books.view_is in
-    let is = found-contract c.args.books.now.now.contracts name shared c.requires.contracts (sym named ∙ c.in-Some.is) in
+    let is =
+    found-contract c.args.books.now.now.contracts name shared c.requires.contracts (sym named ∙ c.in-Some.is) in
     let typed = c.name_type.ensures ∙ ap (λ (b : BooksState). type_of b.now.state.types shared) c.books.view_is in
     let known = sym typed ∙ c.in-Some-name_type.is in
     let found = is.found in

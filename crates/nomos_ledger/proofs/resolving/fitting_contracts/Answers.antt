@@ -34,7 +34,8 @@ returns-in-None-clause-fit g c = λ shared fit.
     let name = c.index-names-at.result in
     let par = get_or c.args.pars.now c.loop-at.at no_par in
     let Told : Option ℕ → Type 0 = λ found.
-    MatchOption found ((s : ℕ) → ¬ (ContractFits c.loop-at.arguments l name par s)) (ContractFits c.loop-at.arguments l name par)
+    MatchOption found ((s : ℕ) → ¬ (ContractFits c.loop-at.arguments l name par s))
+    (ContractFits c.loop-at.arguments l name par)
     in
     let no : (s : ℕ) → ¬ (ContractFits c.loop-at.arguments l name par s) =
     subst Told c.in-None.is c.in_ok-shared.ensures.fits in
@@ -50,13 +51,14 @@ loop-at-preserved g c =
     let name = c.index-names-at.result in
     let par = get_or c.args.pars.now k no_par in
     let Told : Option ℕ → Type 0 = λ found.
-    MatchOption found ((s : ℕ) → ¬ (ContractFits c.loop-at.arguments l name par s)) (ContractFits c.loop-at.arguments l name par)
+    MatchOption found ((s : ℕ) → ¬ (ContractFits c.loop-at.arguments l name par s))
+    (ContractFits c.loop-at.arguments l name par)
     in
     let fits : ContractFits c.loop-at.arguments l name par c.in-Some.shared =
     subst Told c.in-Some.is c.in_ok-shared.ensures.fits in
     let here = subst (λ (b : Acceptance). ContractFits b l name par c.in-Some.shared) c.loop-at.invariant.0 fits in (
       c.in_ok-shared.ensures.stays ∙ c.loop-at.invariant.0,
       contracts-next a l c.args.names.now c.args.pars.now c.loop-at.found.items c.push.new.self.items k name no_par
-          c.in-Some.shared c.index-names-at.is c.in_ok-push-in-Some.ensures.items c.loop-at.invariant.1 c.loop-at-test.true
-          (omega arith) here,
+          c.in-Some.shared c.index-names-at.is c.in_ok-push-in-Some.ensures.items c.loop-at.invariant.1
+          c.loop-at-test.true (omega arith) here,
     )

@@ -13,7 +13,8 @@ same_worth-requires c =
     let lists = c.args.accepted.now.program in
     let Answers : ProgramLists → Equality → Type 0 = λ l e. AnswersEquality l c.args.left c.args.right e in
     let at : Answers lists c.in_ok-pairs.field-0 =
-    subst (λ (l : ProgramLists). Answers l c.in_ok-pairs.field-0) c.program.ensures.program c.in_ok-pairs.ensures.answers in
+    subst (λ (l : ProgramLists). Answers l c.in_ok-pairs.field-0) c.program.ensures.program
+    c.in_ok-pairs.ensures.answers in
     let with : EqualWith lists c.args.left c.args.right c.in-Yes.pairs = subst (Answers lists) c.in-Yes.is at in
     let P : Amount × Amount → Type 0 = λ p. IsAmountOf lists p.0 × IsAmountOf lists p.1 in
     subst (All P) (sym c.as_slice.ensures)

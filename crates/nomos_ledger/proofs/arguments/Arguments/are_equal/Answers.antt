@@ -9,6 +9,6 @@ invariant_of-self-2 c = record {
   answered =
       let P = IsAnswered c.self.inside.accepted.now in
       subst (All P) (sym c.in_ok-insert.ensures.entries)
-      (put-kept P numbers_eq numbers-exact c.self.inside.answers.entries (c.args.left.0, c.args.right.0) c.in_ok-same.same
-      c.self.invariant.answered c.in_ok-same.ensures);
+      (put-kept P numbers_eq numbers-exact c.self.inside.answers.entries (c.args.left.0, c.args.right.0)
+      c.in_ok-same.same c.self.invariant.answered c.in_ok-same.ensures);
 }

@@ -13,7 +13,8 @@ returns-in_err-place c =
     let procs = c.args.self.now.program.procs in
     let names_are : c.self.inside.names ≡ names_of procs =
     c.self.invariant.by_name ∙ ap (λ (a : Acceptance). names_of a.program.procs) c.self.view_is in
-    let found = c.place_of.ensures ∙ (λ i. position (λ (n : List ℕ). bytes_eq n (c.as_bytes.ensures.bytes i)) (names_are i)) in
+    let found = c.place_of.ensures
+    ∙ (λ i. position (λ (n : List ℕ). bytes_eq n (c.as_bytes.ensures.bytes i)) (names_are i)) in
     ap (option_map (λ (p : ProcId). p.0)) c.from_residual.ensures
     ∙ sym (wanted-none c.args.start.now procs (sym found ∙ c.in_err-place.was))
 
