@@ -1,3 +1,4 @@
+mod ReportExamples
 mod StarLemmas
 mod PlaceLemmas
 mod WalkLemmas
