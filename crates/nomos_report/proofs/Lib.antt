@@ -6,3 +6,4 @@ mod ChannelLemmas
 mod ContractLemmas
 mod LeftLemmas
 pub mod SpentLaws
+pub mod PassageLaws
