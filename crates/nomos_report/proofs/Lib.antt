@@ -1,3 +1,4 @@
+mod ReportExamples
 mod StarLemmas
 mod PlaceLemmas
 mod WalkLemmas
@@ -5,3 +6,4 @@ mod ChannelLemmas
 mod ContractLemmas
 mod LeftLemmas
 pub mod SpentLaws
+pub mod PassageLaws

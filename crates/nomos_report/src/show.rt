@@ -172,6 +172,7 @@ fn push_channels<M: Machine>(
     // Where the program is read it is known to be accepted.
     let _program = accepted.program();
     let mut name = 0;
+    // No state that is reached has the name 0; a typed one may have it.
     push_name(text, accepted, machine, name)?;
     while let Some(next) = machine.next_owned(accepted, name) {
         push_name(text, accepted, machine, next)?;
