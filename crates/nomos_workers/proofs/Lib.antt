@@ -1,2 +1,4 @@
 pub mod PolicyLaws
 pub mod OneLemmas
+pub mod ShopLemmas
+pub mod WorkLemmas

@@ -1,3 +1,4 @@
 pub mod Batch
 pub mod OneWorker
+pub mod Shops
 pub mod mirror

@@ -2,4 +2,7 @@
 #![tactic(auto)]
 
 pub mod batch;
+pub mod gate;
 pub mod one;
+pub mod shop;
+pub mod work;

@@ -1,0 +1,84 @@
+-- What a worker knows after its turns.
+use Rattle.std.proofs.Common.{◌≡◌, ◌∙◌, ℕ, ◌≤◌, List, [], ◌∷◌, map, length, Result, Ok, Err, Some, IfOk, IfSome, refl, sym, ap, subst, arith, inl, inr}
+use Rattle.std.proofs.lemmas.List.{length-map}
+use Rattle.nomos_types.specs.Acceptance.{Acceptance}
+use Rattle.nomos_machine.specs.Run.{run}
+use Rattle.nomos_legal.specs.World.{pids_of, start_of}
+use Rattle.nomos_legal.specs.declared.journal.Firing.{Firing}
+use Rattle.nomos_legal.proofs.WorldLaws.{fires_at-run}
+use mathlib.Core.List.{IsPrefix}
+use Rattle.nomos_floor.specs.FloorPass.{AddsAtMostOne, KeepsNumbers}
+use Rattle.nomos_floor.proofs.HistoryLaws.{prefix_push}
+use Rattle.nomos_floor.specs.declared.floor.Pass.{Pass}
+use Rattle.nomos_workers.specs.Shops.{HasRun, IsShop, MayEnd, ShopState, history_of, opening}
+use Rattle.nomos_workers.specs.declared.batch.BatchEnd.{BatchEnd}
+use Rattle.nomos_workers.specs.declared.batch.BatchEnd.TheVariants as batch_end
+use Rattle.nomos_workers.specs.declared.shop.Known.{Known}
+use Rattle.nomos_workers.specs.declared.shop.Seeks.{Seeks}
+use Rattle.nomos_workers.specs.declared.shop.Turned.{Turned}
+use Rattle.nomos_workers.specs.declared.work.Onward.{Onward}
+use Rattle.nomos_workers.specs.declared.work.Onward.TheVariants as onward
+use Rattle.nomos_workers.specs.mirror.Turns.{HasTurned, IsKnown, LeadsTo, TurnsOut}
+
+-- the numbers are kept over two turns
+pub keeps-twice : {W S E : Type 0} (p q r : Pass W S E) → KeepsNumbers p q → KeepsNumbers q r → KeepsNumbers p r
+keeps-twice p q r one two = record {
+  number = two.number ∙ one.number;
+  next = two.next ∙ one.next;
+  out = two.out ∙ one.out;
+  ended = two.ended ∙ one.ended;
+}
+
+-- at most one entry more, of the same number and over the same history
+pub adds-moved : (m n : ℕ) (xs ys zs : List (ℕ × ℕ)) → m ≡ n → ys ≡ xs → AddsAtMostOne m xs zs → AddsAtMostOne n ys zs
+adds-moved m n xs ys zs e f adds =
+    subst (λ (k : ℕ). AddsAtMostOne k ys zs) e (subst (λ (l : List (ℕ × ℕ)). AddsAtMostOne m l zs) (sym f) adds)
+
+-- what began the history begins it then
+pub adds-prefix : (n : ℕ) (seen xs ys zs : List (ℕ × ℕ)) → IsPrefix seen xs → AddsAtMostOne n xs ys → zs ≡ ys
+    → IsPrefix seen zs
+adds-prefix n seen xs ys zs begins (inl same) is =
+    subst (λ (l : List (ℕ × ℕ)). IsPrefix seen l) (sym (is ∙ same)) begins
+adds-prefix n seen xs ys zs begins (inr added) is =
+    subst (λ (l : List (ℕ × ℕ)). IsPrefix seen l) (sym (is ∙ added.1))
+    (prefix_push seen xs ((n, added.0) ∷ []) begins)
+
+-- the processes of the history are those that fired
+history-pids : (firings : List Firing) → map (λ (f : ℕ × ℕ). f.1) (map (λ (f : Firing). (f.pass, f.pid)) firings) ≡ pids_of firings
+history-pids [] = refl
+history-pids (f ∷ firings) = λ i. f.pid ∷ history-pids firings i
+
+-- a shop has run from its opening, with an end that is allowed where it stands
+pub shop-run : (s : ShopState) → IsShop s → (e : BatchEnd)
+    → MayEnd s.accepted s.world.state (length s.world.firings) s.limit e → HasRun (opening s) (history_of s) e
+shop-run s shop e ends =
+    let count : length (history_of s) ≡ length s.world.firings =
+    length-map s.world.firings (λ (f : Firing). (f.pass, f.pid)) in
+    record {
+      state = s.world.state;
+      reached =
+          ap (run s.accepted (start_of s.accepted s.world).state) (history-pids s.world.firings)
+          ∙ fires_at-run shop.stands.reached;
+      within = omega (arith, count, shop.within);
+      ends = subst (λ (n : ℕ). MayEnd s.accepted s.world.state n s.limit e) (sym count) ends;
+    }
+
+module _ {E : Type 0} (start : ShopState) (history : List (ℕ × ℕ)) (turned : Result Turned E)
+    (has : HasTurned start history turned) where
+  -- what is evaluated after a turn is right
+  pub turned-known : (o : Onward) (seeks : Seeks) → o ≡ onward.Seeks seeks
+      → ((s : ShopState) → IfOk turned (TurnsOut s) → LeadsTo s o) → IfSome seeks.known (IsKnown start.accepted)
+  turned-known o seeks is leads =
+      let same : has.shop.accepted ≡ start.accepted = ap (λ (s : ShopState). s.accepted) has.opened in
+      let known : LeadsTo has.shop (onward.Seeks seeks) =
+      subst (LeadsTo has.shop) is (leads has.shop has.turns_out) in
+      subst (λ (a : Acceptance). IfSome seeks.known (IsKnown a)) same known
+
+  -- and where the batch ends, the history has run
+  pub turned-run : (o : Onward) (e : BatchEnd) → o ≡ onward.Ends e
+      → ((s : ShopState) → IfOk turned (TurnsOut s) → LeadsTo s o) → HasRun start history e
+  turned-run o e is leads =
+      let ends : LeadsTo has.shop (onward.Ends e) = subst (LeadsTo has.shop) is (leads has.shop has.turns_out) in
+      let ran = shop-run has.shop has.is_shop e ends in
+      subst (λ (h : List (ℕ × ℕ)). HasRun start h e) has.seen
+      (subst (λ (s : ShopState). HasRun s (history_of has.shop) e) has.opened ran)

@@ -1,0 +1,205 @@
+//! Shops: a batch under way as a work that workers take in turns.
+ghost use Rattle.std.specs.Prelude.{◌≡◌, ◌<◌, IfOk, IfSome, OnErr, MatchOption, length};
+ghost use Rattle.nomos_machine.specs.Run.{IsQuiet};
+ghost use Rattle.nomos_machine.specs.Step.{IsReady};
+ghost use Rattle.nomos_legal.specs.Ending.{EndsAs, GoesOn};
+ghost use Rattle.nomos_floor.specs.FloorPass.{AddsAtMostOne};
+ghost use Rattle.nomos_ledger.specs.Calls.{FiresIn};
+ghost use Rattle.nomos_workers.specs.Batch.{MayRun};
+ghost use Rattle.nomos_workers.specs.Shops.{IsShop, history_of, opening};
+ghost use Rattle.nomos_workers.specs.mirror.Turns.{IsKnown, TurnsOut};
+
+use nomos_deeds::fire::Fire;
+use nomos_deeds::undo::Undo;
+use nomos_eval::wanted::{Outcome, Wanted};
+use nomos_floor::shared::Shared;
+use nomos_ledger::world::World;
+use nomos_legal::journal::{End, Firing};
+use nomos_types::accepted::Accepted;
+use std::alloc::{AllocError, Global};
+use std::marker::Model;
+
+/// A batch under way, with the program and the most firings that it may make. Over a floor its start is the batch before
+/// any firing, and its history the firings, each as the number of a pass and that of a process. Contracts see it as these
+/// three.
+#[derive(Drop)]
+pub struct Shop<'a, M: Undo + Drop> {
+    accepted: &'a Accepted,
+    world: World<M>,
+    limit: u32,
+}
+
+impl<'a, M: Undo + Drop> Model for Shop<'a, M> {
+    ghost use Rattle.std.specs.Coded.{codes};
+    ghost use Rattle.nomos_ir.specs.ValueCode.{value_code};
+    ghost use Rattle.nomos_workers.specs.Shops.{ShopState, IsShop};
+
+    ghost Value = { ShopState };
+
+    ghost coded = { Prim.hlevel (codes, value_code) };
+
+    ghost view = { λ s. record { accepted = s.accepted.now; world = s.world; limit = s.limit } };
+
+    ghost invariant = { λ s. IsShop (record { accepted = s.accepted.now; world = s.world; limit = s.limit }) };
+}
+
+impl<'a, M: Undo + Drop> Shared for Shop<'a, M> {
+    type Start = Shop<'a, M>;
+
+    type Entry = u32;
+
+    ghost start = { opening };
+
+    ghost history = { history_of };
+
+    fn entries(&self) -> u64 {
+        self.world.firings().len() as u64
+    }
+}
+
+// What the terms of an instruction came to, which was wanted of a process.
+#[derive(Drop)]
+pub(crate) struct Known {
+    pub(crate) wanted: Wanted,
+    pub(crate) outcome: Outcome,
+}
+
+// Over which process a worker looks for its next one, and what it has evaluated, if anything.
+#[derive(Drop)]
+pub(crate) struct Seeks {
+    pub(crate) after: u32,
+    pub(crate) known: Option<Known>,
+}
+
+// What is to be evaluated of a process, for a program.
+#[derive(Drop)]
+pub(crate) struct Asked<'a> {
+    pub(crate) accepted: &'a Accepted,
+    pub(crate) pid: u32,
+    pub(crate) wanted: Wanted,
+}
+
+// What a turn of a worker comes to.
+#[derive(Drop)]
+pub(crate) enum Turned<'a> {
+    Fired(u32),
+    Ends(End),
+    Wants(Asked<'a>),
+}
+
+impl<'a, M: Undo + Drop> Shop<'a, M> {
+    /// The shop of a batch in which nothing has fired. It takes no memory.
+    pub fn of(accepted: &'a Accepted, world: World<M>, limit: u32) -> Shop<'a, M>
+        requires { MayRun accepted.now limit world }
+        ensures { result ≡ record { accepted = accepted.now; world = world; limit = limit } }
+    {
+        Shop {
+            accepted,
+            world,
+            limit,
+        }
+    }
+
+    /// The batch as it has come to be. It takes no memory. The second clause also says what holds of every shop.
+    pub fn into_world(self) -> World<M>
+        ensures world { result ≡ self.entry.world }
+        ensures shop { IsShop self.entry }
+    {
+        self.world
+    }
+
+    // A process that is ready: the lowest over a number, or the lowest of all.
+    fn ready_over(&self, after: u32) -> Option<u32>
+        ensures { MatchOption result (IsQuiet self.now.accepted self.now.world.state)
+            (IsReady self.now.accepted self.now.world.state) }
+    {
+        // Where the program is read it is known to be accepted.
+        let _program = self.accepted.program();
+        match self.world.next_ready(self.accepted, after) {
+            Some(pid) => Some(pid),
+            None => self.world.next_ready(self.accepted, 0),
+        }
+    }
+
+    // How the batch ends here, faults apart, or none where it goes on. The second clause says what holds of every shop.
+    fn end(&self) -> Option<End>
+        ensures end { MatchOption result
+            (GoesOn self.now.accepted self.now.world.state (length self.now.world.firings) self.now.limit)
+            (EndsAs self.now.accepted self.now.world.state (length self.now.world.firings) self.now.limit) }
+        ensures shop { IsShop self.now }
+    {
+        self.world.end(self.accepted, self.limit)
+    }
+
+    // What is to be evaluated of a process before it fires, if anything is and nothing was evaluated.
+    fn asked(&self, alloc: Global, pid: u32, seeks: &Seeks) -> Result<Option<Asked<'a>>, AllocError>
+        ensures { IfOk result (λ found. IfSome found (λ asked. asked.accepted.now ≡ self.now.accepted)) }
+    {
+        if seeks.known.is_some() {
+            return Ok(None);
+        }
+        let accepted = self.accepted;
+        match self.world.wanted(alloc, accepted, pid)? {
+            Some(wanted) => Ok(Some(Asked {
+                accepted,
+                pid,
+                wanted,
+            })),
+            None => Ok(None),
+        }
+    }
+
+    // Fires a ready process, with what was evaluated, if anything.
+    fn fire(
+        &mut self,
+        alloc: Global,
+        firing: Firing,
+        known: Option<&Known>,
+    ) -> Result<Fire, AllocError>
+        requires ready { IsReady self.old.accepted self.old.world.state firing.pid }
+        requires room { length self.old.world.firings < self.old.limit }
+        requires known { IfSome known (λ k. IsKnown self.old.accepted k.now) }
+        ensures same { (self.new.accepted ≡ self.old.accepted) × (self.new.limit ≡ self.old.limit) }
+        ensures ok { IfOk result (λ answer. FiresIn self.old.accepted self.old.world firing answer self.new.world) }
+        ensures err { OnErr result (self.new.world ≡ self.old.world) }
+        ensures shop { IsShop self.new }
+    {
+        // Where the program is read it is known to be accepted.
+        let _program = self.accepted.program();
+        match known {
+            Some(known) => {
+                self.world
+                    .fire_with(alloc, self.accepted, firing, (&known.wanted, &known.outcome))
+            }
+            None => self.world.fire(alloc, self.accepted, firing),
+        }
+    }
+
+    /// What the turn of a pass comes to: an end, a process that is to be evaluated first, or one that fired.
+    pub(crate) fn step(
+        &mut self,
+        alloc: Global,
+        pass: u32,
+        seeks: &Seeks,
+    ) -> Result<Turned<'a>, AllocError>
+        requires known { IfSome seeks.now.known (IsKnown self.old.accepted) }
+        ensures start { opening self.new ≡ opening self.old }
+        ensures history { AddsAtMostOne pass (history_of self.old) (history_of self.new) }
+        ensures shop { IsShop self.new }
+        ensures ok { IfOk result (TurnsOut self.new) }
+    {
+        if let Some(end) = self.end() {
+            return Ok(Turned::Ends(end));
+        }
+        let Some(pid) = self.ready_over(seeks.after) else {
+            unreachable!()
+        };
+        if let Some(asked) = self.asked(alloc, pid, seeks)? {
+            return Ok(Turned::Wants(asked));
+        }
+        match self.fire(alloc, Firing { pass, pid }, seeks.known.as_ref())? {
+            Fire::Fired => Ok(Turned::Fired(pid)),
+            Fire::Faulted(fault) => Ok(Turned::Ends(End::Aborted(pid, fault))),
+        }
+    }
+}

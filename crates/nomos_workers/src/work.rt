@@ -1,0 +1,134 @@
+//! One worker of several: it takes turns with its pass until it finds an end.
+ghost use Rattle.std.specs.Prelude.{◌≡◌, IfOk, IfSome};
+ghost use mathlib.Core.List.{IsPrefix};
+ghost use Rattle.nomos_floor.specs.FloorPass.{IsPassOf, KeepsNumbers, opened_work, own_of, pass_number, seen_by};
+ghost use Rattle.nomos_floor.specs.OwnEntries.{mine};
+ghost use Rattle.nomos_workers.specs.Shops.{HasRun, ShopState, opening};
+ghost use Rattle.nomos_workers.specs.mirror.Turns.{HasTurned, IsKnown, LeadsTo, TurnsOut};
+
+use crate::batch::BatchEnd;
+use crate::gate::Gate;
+use crate::shop::{Asked, Known, Seeks, Shop, Turned};
+use nomos_deeds::undo::Undo;
+use nomos_eval::wanted::evaluate;
+use nomos_floor::floor::{Floor, Pass};
+use std::alloc::{AllocError, Global};
+use std::sync::Wait;
+
+/// What a worker comes to: its pass, and how the batch ended for it.
+#[derive(Drop)]
+pub struct Worked<'a, M: Undo + Drop> {
+    pub pass: Pass<Shop<'a, M>>,
+    pub end: BatchEnd,
+}
+
+// A pass after a turn, and what the turn came to.
+#[derive(Drop)]
+struct Took<'a, M: Undo + Drop> {
+    pass: Pass<Shop<'a, M>>,
+    turned: Result<Turned<'a>, AllocError>,
+}
+
+// What a worker does after a turn.
+#[derive(Drop)]
+pub(crate) enum Onward {
+    Seeks(Seeks),
+    Ends(BatchEnd),
+}
+
+// Takes one turn.
+fn take_one<'a, M: Undo + Drop, R: Wait>(
+    rt: &R,
+    alloc: Global,
+    floor: &Floor<Shop<'a, M>>,
+    pass: Pass<Shop<'a, M>>,
+    seeks: &Seeks,
+) -> Took<'a, M>
+    requires of_floor { IsPassOf floor.now pass }
+    requires known { IfSome seeks.now.known (IsKnown (opened_work floor.now).accepted) }
+    ensures of_floor { IsPassOf floor.now result.pass }
+    ensures kept { KeepsNumbers pass.entry result.pass }
+    ensures seen { IsPrefix (seen_by pass.entry) (seen_by result.pass) }
+    ensures own { own_of result.pass ≡ mine (pass_number result.pass) (seen_by result.pass) }
+    ensures turned { HasTurned (opening (opened_work floor.now)) (seen_by result.pass) result.turned }
+{
+    let mut turn = floor.take_turn(rt, pass);
+    let number = turn.number();
+    let turned = turn.work.step(alloc, number, seeks);
+    let pass = floor.give_back(turn);
+    Took { pass, turned }
+}
+
+// Evaluates what was asked, outside the turn. The worker then looks from that process on.
+fn evaluate_asked<G: Gate>(alloc: Global, gate: &G, worker: u32, asked: Asked<'_>) -> Onward
+    ensures { (s : ShopState) → asked.entry.accepted.now ≡ s.accepted → LeadsTo s result }
+{
+    let Asked {
+        accepted,
+        pid,
+        wanted,
+    } = asked;
+    gate.before_eval(worker, pid);
+    match evaluate(alloc, accepted.program(), &wanted) {
+        Ok(outcome) => Onward::Seeks(Seeks {
+            after: pid.saturating_sub(1),
+            known: Some(Known { wanted, outcome }),
+        }),
+        Err(_) => Onward::Ends(BatchEnd::NoMemory),
+    }
+}
+
+// What the worker of a number does after a turn that came to this.
+fn go_on<G: Gate>(
+    alloc: Global,
+    gate: &G,
+    worker: u32,
+    turned: Result<Turned<'_>, AllocError>,
+) -> Onward
+    ensures { (s : ShopState) → IfOk turned.entry (TurnsOut s) → LeadsTo s result }
+{
+    match turned {
+        Ok(Turned::Fired(pid)) => Onward::Seeks(Seeks {
+            after: pid,
+            known: None,
+        }),
+        Ok(Turned::Wants(asked)) => evaluate_asked(alloc, gate, worker, asked),
+        Ok(Turned::Ends(end)) => Onward::Ends(BatchEnd::Done(end)),
+        Err(_) => Onward::Ends(BatchEnd::NoMemory),
+    }
+}
+
+/// One worker's part: it takes turns with its pass, and fires ready processes, until it finds an end or memory is wanting.
+/// It starts to look for its next process where it fired last, and at its own number before that. Terms are evaluated
+/// after the turn was given back and the gate was called; in its next turn the worker fires the first process that is ready
+/// from there on, and uses the outcome only where that process stands at this instruction with these values. Nothing says
+/// when the turns come.
+pub fn work<'a, M: Undo + Drop, G: Gate, R: Wait>(
+    rt: &R,
+    alloc: Global,
+    floor: &Floor<Shop<'a, M>>,
+    mut pass: Pass<Shop<'a, M>>,
+    gate: &G,
+) -> Worked<'a, M>
+    requires { IsPassOf floor.now pass }
+    ensures of_floor { IsPassOf floor.now result.pass }
+    ensures kept { KeepsNumbers pass.entry result.pass }
+    ensures seen { IsPrefix (seen_by pass.entry) (seen_by result.pass) }
+    ensures own { own_of result.pass ≡ mine (pass_number result.pass) (seen_by result.pass) }
+    ensures run { HasRun (opening (opened_work floor.now)) (seen_by result.pass) result.end }
+{
+    let number = pass.number();
+    let mut seeks = Seeks {
+        after: number,
+        known: None,
+    };
+    'turns: for _ in rt.forever() {
+        let Took { pass: same, turned } = take_one(rt, alloc, floor, pass, &seeks);
+        pass = same;
+        match go_on(alloc, gate, number, turned) {
+            Onward::Seeks(next) => seeks = next,
+            Onward::Ends(end) => return Worked { pass, end },
+        }
+    }
+    unreachable!()
+}
