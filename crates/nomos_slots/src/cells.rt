@@ -5,7 +5,6 @@ ghost use Rattle.nomos_slots.specs.Cells.{IsEmptyFrom, IsGap, IsOnce, IsPlaceIn,
 use crate::column::Column;
 use std::alloc::{AllocError, Global};
 
-
 /// The name that a variable of a process has.
 #[derive(Clone, Copy, Debug)]
 pub struct Named {
@@ -152,7 +151,12 @@ pub(crate) fn bind_in(cells: &mut Column<Option<Named>>, homes: usize, entry: Na
 }
 
 /// The entry of a variable of a process goes, where there is one. How many entries there are less.
-pub(crate) fn unbind_in(cells: &mut Column<Option<Named>>, homes: usize, process: u32, variable: u32) -> usize
+pub(crate) fn unbind_in(
+    cells: &mut Column<Option<Named>>,
+    homes: usize,
+    process: u32,
+    variable: u32,
+) -> usize
     requires homes { 0 < homes }
     requires probed { IsProbed homes cells.old.now }
     requires seats { length cells.old.now ≤ cells.old.seats }
@@ -233,7 +237,11 @@ fn bind_any(cells: &mut Column<Option<Named>>, homes: usize, entry: Option<Named
 }
 
 /// The entries of other cells come into empty ones. How many there are.
-pub(crate) fn fill(cells: &mut Column<Option<Named>>, homes: usize, from: &Column<Option<Named>>) -> usize
+pub(crate) fn fill(
+    cells: &mut Column<Option<Named>>,
+    homes: usize,
+    from: &Column<Option<Named>>,
+) -> usize
     requires homes { 0 < homes }
     requires empty { (place : ℕ) → cell_at cells.old.now place ≡ None }
     requires once { IsOnce from.now.now }
