@@ -1,13 +1,12 @@
 -- How cells change: an entry comes, moves up, and goes.
-use Rattle.std.proofs.Common.{◌≡◌, ◌<◌, ◌≤◌, ◌+◌, ◌&&◌, ◌⊎◌, zero, suc, ℕ, Bool, true, false, cond, eqb, List, [], ◌∷◌, Option, Some, None, length, get_or, set, refl, sym, subst, ap, ◌∙◌, inl, inr, arith}
+use Rattle.std.proofs.Common.{◌≡◌, ◌<◌, ◌≤◌, ◌+◌, ◌⊎◌, zero, suc, ℕ, Bool, true, false, cond, List, [], ◌∷◌, Option, Some, None, length, get_or, set, refl, sym, subst, ap, ◌∙◌, inl, inr, arith}
 use Rattle.std.specs.Option.{is_some}
-use Rattle.std.specs.List.{count_by, sum_by}
-use Rattle.std.proofs.lemmas.Bool.{and_from, and_left, and_parts, and_right, both_ways, cases_eq, cases_lt, eq-eqb, eqb-true, false_from_ne_true, false≢true, ne_eqb}
-use Rattle.std.proofs.lemmas.List.{get_or_past, get_or-set_same, get_or-set_other, length-set}
+use Rattle.std.proofs.lemmas.Bool.{both_ways, cases_eq, cases_lt}
+use Rattle.std.proofs.lemmas.List.{get_or-set_same, get_or-set_other, length-set}
 use Rattle.std.proofs.lemmas.List.Sums.{sum_by-set}
-use Rattle.nomos_slots.specs.Cells.{Cell, IsGap, IsOnce, IsProbed, cell_at, entries, home, home_of, is_filled, is_of, name_in}
+use Rattle.nomos_slots.specs.Cells.{Cell, IsGap, IsOnce, IsProbed, cell_at, entries, home_of, is_filled, is_of, name_in}
 use Rattle.nomos_slots.specs.declared.cells.Named.{Named}
-use Rattle.nomos_slots.proofs.ProbeLemmas.{filled-some, filled-within, same-home, same-process, same-variable}
+use Rattle.nomos_slots.proofs.ProbeLemmas.{filled-some, filled-within, same-process, same-variable}
 
 -- one for an entry, and nothing for an empty cell
 abbrev pub weight : Cell → ℕ

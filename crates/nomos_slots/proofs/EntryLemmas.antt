@@ -1,11 +1,11 @@
 -- An entry comes into a cell, and one goes out of it.
-use Rattle.std.proofs.Common.{◌≡◌, ◌<◌, ◌≤◌, ◌+◌, ◌&&◌, ◌⊎◌, zero, suc, ℕ, Bool, true, false, cond, eqb, List, [], ◌∷◌, Option, Some, None, length, get_or, set, refl, sym, subst, ap, ◌∙◌, inl, inr, arith}
+use Rattle.std.proofs.Common.{◌≡◌, ◌<◌, ◌≤◌, ◌+◌, ◌&&◌, zero, suc, ℕ, true, false, cond, eqb, List, [], ◌∷◌, Option, Some, None, length, get_or, set, refl, sym, subst, ap, ◌∙◌, inl, inr, arith}
 use Rattle.std.specs.Option.{is_some}
-use Rattle.std.proofs.lemmas.Bool.{both_ways, cases_eq, cases_lt, cond_both, eq-eqb, eqb-true, and_from, and_parts, false_from_ne_true}
+use Rattle.std.proofs.lemmas.Bool.{both_ways, cases_eq, cond_both, eq-eqb, eqb-true, and_from, and_parts, false_from_ne_true}
 use Rattle.std.proofs.lemmas.List.Sums.{sum_by-cons, sum_by-set}
 use Rattle.nomos_slots.specs.Cells.{Cell, IsGap, IsProbed, cell_at, entries, home_of, is_filled, is_of, name_in}
 use Rattle.nomos_slots.specs.declared.cells.Named.{Named}
-use Rattle.nomos_slots.proofs.CellLemmas.{Has, cell-set_at, cell-set_other, has-name, name-has, one-key, same-entry, same-names, true_or_false, weight}
+use Rattle.nomos_slots.proofs.CellLemmas.{cell-set_at, cell-set_other, has-name, name-has, one-key, same-entry, same-names, true_or_false, weight}
 use Rattle.nomos_slots.proofs.ProbeLemmas.{filled-some, same-process, same-variable}
 
 own-key : (e : Named) → is_of e.process e.variable e ≡ true

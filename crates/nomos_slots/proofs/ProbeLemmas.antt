@@ -1,9 +1,9 @@
 -- Look-ups in cells.
-use Rattle.std.proofs.Common.{◌≡◌, ◌<◌, ◌≤◌, ◌+◌, ◌&&◌, ◌⊎◌, zero, suc, ℕ, Bool, true, false, cond, eqb, List, [], ◌∷◌, Option, Some, None, length, get_or, set, refl, sym, subst, ap, ◌∙◌, inl, inr, arith}
+use Rattle.std.proofs.Common.{◌≡◌, ◌<◌, ◌≤◌, ℕ, true, false, eqb, List, Some, None, length, refl, sym, ap, ◌∙◌, inl, inr, arith}
 use Rattle.std.specs.Option.{is_some}
 use Rattle.std.proofs.lemmas.Bool.{and_parts, both_ways, cases_eq, cases_lt, eqb-true, false_from_ne_true, false≢true}
 use Rattle.std.proofs.lemmas.List.{get_or_past}
-use Rattle.nomos_slots.specs.Cells.{Cell, IsProbed, cell_at, home, home_of, is_filled, is_of, name_in}
+use Rattle.nomos_slots.specs.Cells.{Cell, IsProbed, cell_at, home, home_of, is_filled, is_of}
 use Rattle.nomos_slots.specs.declared.cells.Named.{Named}
 
 -- ---- keys

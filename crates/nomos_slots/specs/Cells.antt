@@ -1,5 +1,5 @@
 -- Names by process and variable, in cells.
-use Rattle.std.specs.Prelude.{◌≡◌, ◌≤◌, ◌<◌, ◌==◌, ◌&&◌, ◌⊎◌, ◌+◌, ◌*◌, ◌-◌, ◌%◌, ℕ, Bool, true, false, cond, List, [], ◌∷◌, length, slice_index_or, count_by, Option, Some, None, MatchOption, is_some}
+use Rattle.std.specs.Prelude.{◌≡◌, ◌≤◌, ◌<◌, ◌==◌, ◌&&◌, ◌⊎◌, ◌+◌, ◌*◌, ◌%◌, ℕ, Bool, true, false, cond, List, [], ◌∷◌, length, slice_index_or, count_by, Option, Some, None, MatchOption, is_some}
 use Rattle.nomos_slots.specs.declared.cells.Named.{Named}
 
 -- a cell, which is empty or has an entry

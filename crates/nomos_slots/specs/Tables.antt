@@ -28,3 +28,8 @@ abbrev pub HaveSameNames : Option (List Cell) → Option (List Cell) → Type 0
 HaveSameNames (Some before) (Some after) = (process variable : ℕ) → name_in after process variable ≡ name_in before process variable
 HaveSameNames None None = Unit {0}
 HaveSameNames _ _ = ⊥
+
+-- how many entries are marked
+abbrev pub marked_entries : Option (List Cell) → ℕ
+marked_entries (Some marked) = entries marked
+marked_entries None = 0

@@ -1,7 +1,7 @@
 //! The channels of all processes: names by process and variable.
-ghost use Rattle.std.specs.Prelude.{◌≡◌, ◌≤◌, ◌<◌, ◌+◌, ◌&&◌, ◌==◌, ◌^◌, ℕ, [], cond, IsOk, IsSome, IfSome, IfOk, OnOk, Some, None, max, length};
-ghost use Rattle.nomos_slots.specs.Cells.{name_in};
-ghost use Rattle.nomos_slots.specs.Tables.{HaveSameNames};
+ghost use Rattle.std.specs.Prelude.{◌≡◌, ◌≤◌, ◌<◌, ◌+◌, ◌&&◌, ◌==◌, ◌^◌, ℕ, [], cond, IsOk, IsSome, IfSome, IfOk, OnOk, OnErr, Some, None, max, length};
+ghost use Rattle.nomos_slots.specs.Cells.{IsOnce, IsProbed, cell_at, entries, name_in};
+ghost use Rattle.nomos_slots.specs.Tables.{HaveSameNames, marked_entries};
 
 use crate::cells::{Named, bind_in, blank, cell, empty_all, fill, place_in, unbind_in};
 use crate::column::Column;
@@ -35,6 +35,68 @@ impl Model for Channels {
     ghost invariant = { IsTable };
 }
 
+// The marked names of a table, if there are such, come into empty cells, which are marked with them and then emptied.
+// How many there are. The table is put back.
+fn fill_marked(
+    cells: &mut Column<Option<Named>>,
+    homes: usize,
+    from: &mut Column<Option<Named>>,
+) -> usize
+    requires homes { 0 < homes }
+    requires empty { (place : ℕ) → cell_at cells.old.now place ≡ None }
+    requires seats { length cells.old.now ≤ cells.old.seats }
+    requires unmarked { cells.old.marked ≡ None }
+    requires once { IfSome from.old.marked IsOnce }
+    requires room { homes + marked_entries from.old.marked ≤ length cells.old.now }
+    ensures empty { (place : ℕ) → cell_at cells.new.now place ≡ None }
+    ensures len { length cells.new.now ≡ length cells.old.now }
+    ensures seats { cells.new.seats ≡ cells.old.seats }
+    ensures names { HaveSameNames from.old.marked cells.new.marked }
+    ensures marked { IfSome cells.new.marked (λ m. IsProbed homes m × (result ≡ entries m)
+        × (length m ≡ length cells.old.now)) }
+    ensures few { result ≤ marked_entries from.old.marked }
+{
+    if !from.is_marked() {
+        return 0;
+    }
+    from.back();
+    let count = fill(cells, homes, from);
+    cells.mark();
+    empty_all(cells);
+    count
+}
+
+// A table of the same names, now and marked, in which there is room for so many in all. Want of memory leaves the other
+// table as it was.
+fn rebuilt(
+    alloc: Global,
+    from: &mut Column<Option<Named>>,
+    limit: usize,
+) -> Result<Channels, AllocError>
+    requires some { 0 < limit }
+    requires once { IsOnce from.old.now }
+    requires marked { IfSome from.old.marked IsOnce }
+    requires room { max (entries from.old.now) (marked_entries from.old.marked) ≤ limit }
+    ensures names { IfOk result (λ t. (p v : ℕ) → name_in t.now p v ≡ name_in from.old.now p v) }
+    ensures marked { IfOk result (λ t. HaveSameNames from.old.marked t.marked) }
+    ensures room { IfOk result (λ t.
+        limit ≤ t.room + max (entries from.old.now) (marked_entries from.old.marked)) }
+    ensures err { OnErr result (from.new ≡ from.old) }
+{
+    let homes = limit.checked_mul(2).ok_or(AllocError)?;
+    let size = homes.checked_add(limit).ok_or(AllocError)?;
+    let now = from.copy(alloc)?;
+    let mut cells = blank(alloc, size)?;
+    let counted = fill_marked(&mut cells, homes, from);
+    let count = fill(&mut cells, homes, &now);
+    Ok(Channels {
+        cells,
+        homes,
+        count,
+        counted,
+    })
+}
+
 impl Channels {
     /// No names, and nothing is marked. It takes no memory.
     pub fn new(alloc: Global) -> Self
@@ -47,6 +109,32 @@ impl Channels {
             count: 0,
             counted: 0,
         }
+    }
+
+    // For how many names more there is room.
+    fn room(&self) -> usize
+        ensures { result ≡ self.now.room }
+    {
+        let besides = self.cells.len().saturating_sub(self.homes);
+        besides.saturating_sub(self.count.max(self.counted))
+    }
+
+    /// Makes room for so many names more. Want of memory leaves the names and the mark as they were; where there is room
+    /// already, it cannot fail. Where a name is kept may change by it, and which names there are does not.
+    pub fn reserve(&mut self, alloc: Global, n: usize) -> Result<(), AllocError>
+        ensures names { (p v : ℕ) → name_in self.new.now p v ≡ name_in self.old.now p v }
+        ensures marked { HaveSameNames self.old.marked self.new.marked }
+        ensures ok { OnOk result (n ≤ self.new.room) }
+        ensures room { self.old.room ≤ self.new.room }
+        ensures frugal { n ≤ self.old.room → IsOk result }
+    {
+        if n <= self.room() {
+            return Ok(());
+        }
+        let most = self.count.max(self.counted);
+        let limit = n.max(most).checked_add(most).ok_or(AllocError)?;
+        *self = rebuilt(alloc, &mut self.cells, limit)?;
+        Ok(())
     }
 
     /// The name that a variable of a process has, if it has one.
@@ -121,5 +209,20 @@ impl Channels {
     {
         self.cells.forget();
         self.counted = 0;
+    }
+
+    /// The same names once more, with nothing marked. It takes memory for all of them.
+    pub fn copy(&self, alloc: Global) -> Result<Self, AllocError>
+        ensures now { IfOk result (λ c. c.now ≡ self.now.now) }
+        ensures marked { IfOk result (λ c. c.marked ≡ None) }
+    {
+        let mut cells = self.cells.copy(alloc)?;
+        cells.reserve_all(0)?;
+        Ok(Channels {
+            cells,
+            homes: self.homes,
+            count: self.count,
+            counted: 0,
+        })
     }
 }

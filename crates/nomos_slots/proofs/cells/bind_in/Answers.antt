@@ -1,11 +1,11 @@
-use Rattle.std.proofs.Common.{◌≡◌, ◌<◌, ◌≤◌, ◌+◌, ℕ, List, Some, true, length, refl, sym, subst, ap, ◌∙◌, arith}
+use Rattle.std.proofs.Common.{◌≡◌, ◌<◌, ◌≤◌, ◌+◌, List, true, length, refl, sym, subst, ap, ◌∙◌, arith}
 use Rattle.std.specs.Option.{is_some}
 use Rattle.std.proofs.lemmas.Bool.{both_ways}
-use Rattle.std.proofs.lemmas.Option.{MatchOption-at_none, MatchOption-at_some}
-use Rattle.nomos_slots.specs.Cells.{Cell, IsProbed, cell_at, entries, home, home_of, is_filled, is_of, name_in}
+use Rattle.std.proofs.lemmas.Option.{MatchOption-at_none}
+use Rattle.nomos_slots.specs.Cells.{Cell, IsProbed, entries, home_of, is_of, name_in}
 use Rattle.nomos_slots.specs.declared.cells.Named.{Named}
 use Rattle.nomos_slots.proofs.CellLemmas.{same-entry, some-within}
-use Rattle.nomos_slots.proofs.EntryLemmas.{all-filled, entries-come, entries-renamed, names-come, others-apart, probed-come}
+use Rattle.nomos_slots.proofs.EntryLemmas.{all-filled, names-come, others-apart, probed-come}
 use Rattle.nomos_slots.proofs.ProbeLemmas.{filled-some, same-home}
 use Rattle.nomos_slots.proofs.cells.bind_in.Goals as goal
 

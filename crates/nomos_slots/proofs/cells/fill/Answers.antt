@@ -1,6 +1,6 @@
-use Rattle.std.proofs.Common.{◌≡◌, ◌<◌, ◌≤◌, ◌+◌, ◌∷◌, [], ℕ, List, refl, length, take, subst, sym, ap, ◌∙◌, arith}
+use Rattle.std.proofs.Common.{◌<◌, ◌≤◌, ◌∷◌, [], List, refl, length, take, sym, ap, ◌∙◌, arith}
 use Rattle.std.proofs.lemmas.List.{take_all}
-use Rattle.nomos_slots.specs.Cells.{Cell, cell_at, entries, name_in, with_cell}
+use Rattle.nomos_slots.specs.Cells.{Cell, entries, name_in, with_cell}
 use Rattle.nomos_slots.proofs.FillLemmas.{entries-empty, entries-more, entries-take, names-empty, names-more, probed-empty}
 use Rattle.nomos_slots.proofs.cells.fill.Goals as goal
 

@@ -1,4 +1,4 @@
-use Rattle.std.proofs.Common.{◌≤◌, ◌+◌, List, Some, None, set, sym, subst, ap, ◌∙◌, arith}
+use Rattle.std.proofs.Common.{◌≤◌, ◌+◌, List, None, set, sym, subst, ap, ◌∙◌, arith}
 use Rattle.nomos_slots.specs.Cells.{Cell, IsGap, entries, home_of, name_in}
 use Rattle.nomos_slots.proofs.CellLemmas.{gap-moved, names-moved, entries-moved}
 use Rattle.nomos_slots.proofs.cells.fill_hole.Goals as goal

@@ -1,6 +1,5 @@
-use Rattle.std.proofs.Common.{◌≡◌, ◌++◌, ◌∷◌, [], ℕ, List, None, length, subst, sym, ap, ◌∙◌, arith}
+use Rattle.std.proofs.Common.{None, length, subst, sym, ap, ◌∙◌, arith}
 use Rattle.std.proofs.lemmas.List.{length_push}
-use Rattle.nomos_slots.specs.Cells.{Cell}
 use Rattle.nomos_slots.proofs.FillLemmas.{AreEmpty, empty-push}
 use Rattle.nomos_slots.proofs.cells.push_empty.Goals as goal
 

@@ -1,8 +1,6 @@
-use Rattle.std.proofs.Common.{◌≡◌, ◌<◌, ◌≤◌, ◌+◌, ◌&&◌, ◌==◌, ℕ, List, Some, None, Option, cond, true, false, length, set, refl, sym, subst, ap, ◌∙◌, arith}
-use Rattle.std.proofs.lemmas.List.{length-set}
-use Rattle.nomos_slots.specs.Cells.{Cell, IsGap, IsProbed, cell_at, entries, home, home_of, is_filled, is_of, name_in}
-use Rattle.nomos_slots.specs.declared.cells.Named.{Named}
-use Rattle.nomos_slots.proofs.CellLemmas.{name-has, one-key, same-entry, some-within}
+use Rattle.std.proofs.Common.{◌≡◌, ◌+◌, List, None, cond, set, sym, subst, ap, ◌∙◌, arith}
+use Rattle.nomos_slots.specs.Cells.{Cell, IsGap, entries, name_in}
+use Rattle.nomos_slots.proofs.CellLemmas.{some-within}
 use Rattle.nomos_slots.proofs.EntryLemmas.{entries-gone, gap-opened, key-same, names-gone, none-name_in}
 use Rattle.nomos_slots.proofs.cells.unbind_in.Goals as goal
 
