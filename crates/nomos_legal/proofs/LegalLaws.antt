@@ -206,11 +206,13 @@ pub tells-front : {a : Acceptance} {items : List ScriptItem} {journal : Journal}
     → Tells a items journal ps last → (n : ℕ)
     → (m : LedgerState) × Tells a (take n items) (record journal { entries = entries_of (take n ps) }) (take n ps) m
 tells-front {ps = ps} tells n =
-    let (m, front) = leads-front tells.leads n in
-    (m, record {
-      limit = tells.limit;
-      items_are =
-          sym (take-map (λ (p : Passage). p.item) n ps) ∙ ap (λ (is : List ScriptItem). take n is) tells.items_are;
-      entries_are = refl;
-      leads = front;
-    })
+    let (m, front) = leads-front tells.leads n in (
+      m,
+      record {
+        limit = tells.limit;
+        items_are =
+            sym (take-map (λ (p : Passage). p.item) n ps) ∙ ap (λ (is : List ScriptItem). take n is) tells.items_are;
+        entries_are = refl;
+        leads = front;
+      },
+    )

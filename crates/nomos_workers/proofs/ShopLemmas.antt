@@ -104,9 +104,11 @@ pub fired-adds : (s t : ShopState) (firing : Firing) → HasFired s.accepted s.w
     → AddsAtMostOne firing.pass (history_of s) (history_of t)
 fired-adds s t firing fired =
     let firings : t.world.firings ≡ s.world.firings ++ firing ∷ [] = ap (λ (x : WorldState). x.firings) fired.is in
-    inr
-    (firing.pid, ap (map (λ (f : Firing). (f.pass, f.pid))) firings
-    ∙ map-append (λ (f : Firing). (f.pass, f.pid)) s.world.firings (firing ∷ []))
+    inr (
+      firing.pid,
+      ap (map (λ (f : Firing). (f.pass, f.pid))) firings
+          ∙ map-append (λ (f : Firing). (f.pass, f.pid)) s.world.firings (firing ∷ []),
+    )
 
 -- a shop with the same program, limit and world is the same
 pub same-shop : (s t : ShopState) → t.accepted ≡ s.accepted → t.limit ≡ s.limit → t.world ≡ s.world → t ≡ s

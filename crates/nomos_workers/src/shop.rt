@@ -168,8 +168,12 @@ impl<'a, M: Undo + Drop> Shop<'a, M> {
         let _program = self.accepted.program();
         match known {
             Some(known) => {
-                self.world
-                    .fire_with(alloc, self.accepted, firing, (&known.wanted, &known.outcome))
+                self.world.fire_with(
+                    alloc,
+                    self.accepted,
+                    firing,
+                    (&known.wanted, &known.outcome),
+                )
             }
             None => self.world.fire(alloc, self.accepted, firing),
         }
