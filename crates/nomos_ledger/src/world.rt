@@ -12,7 +12,7 @@ ghost use Rattle.nomos_deeds.specs.Acting.{HasNumbers};
 ghost use Rattle.nomos_deeds.specs.Firings.{Wants};
 ghost use Rattle.nomos_legal.specs.Ending.{EndsAs, GoesOn};
 ghost use Rattle.nomos_legal.specs.StandsFor.{StandsFor, WorldStandsFor};
-ghost use Rattle.nomos_legal.specs.World.{committed};
+ghost use Rattle.nomos_legal.specs.World.{IsWorld, committed};
 ghost use Rattle.nomos_ledger.specs.Calls.{FiresIn};
 
 use crate::books::Books;
@@ -182,9 +182,10 @@ impl<M: Undo> World<M> {
         self.fired.places.as_slice()
     }
 
-    /// The state of the machine.
+    /// The state of the machine. The clauses also say what holds of every world.
     pub fn state(&self) -> &M
-        ensures { M.state result.now ≡ self.now.state }
+        ensures state { M.state result.now ≡ self.now.state }
+        ensures world { IsWorld self.now }
     {
         &self.books.machine
     }
