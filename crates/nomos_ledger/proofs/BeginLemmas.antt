@@ -1,15 +1,12 @@
 -- Worlds before any firing.
-use Rattle.std.proofs.Common.{◌≡◌, ◌∙◌, ℕ, List, [], length, refl, sym, ap, subst}
+use Rattle.std.proofs.Common.{◌≡◌, ◌∙◌, ℕ, List, [], length, sym, ap, subst}
 use Rattle.nomos_types.specs.Acceptance.{Acceptance, IsAccepted}
-use Rattle.nomos_script.specs.declared.item.Batch.{Batch}
 use Rattle.nomos_script.specs.declared.item.Start.{Start}
-use Rattle.nomos_legal.specs.Batch.{AllStart}
 use Rattle.nomos_legal.specs.Ledger.{IsLedger}
 use Rattle.nomos_legal.specs.StandsFor.{StandsFor, WorldStandsFor}
 use Rattle.nomos_legal.specs.declared.resolved.Resolved.{Resolved}
 use Rattle.nomos_legal.proofs.StartLaws.{starts-named}
 use Rattle.nomos_legal.proofs.WorldLaws.{begun, begun-stands}
-use Rattle.nomos_ledger.specs.Beginning.{HasBegun}
 use Rattle.nomos_ledger.specs.declared.fired.Fired.{Fired}
 use Rattle.nomos_ledger.specs.mirror.Books.{BooksState, IsUnderWay, origin_in}
 use Rattle.nomos_ledger.specs.mirror.Lines.{StartedBatch}
@@ -40,18 +37,8 @@ module _ {a : Acceptance} (accepted : IsAccepted a) {b c : BooksState} {starts :
   }
 
   -- the world before any firing stands
-  pub begun-world_stands : (f : Fired) → f.firings.items ≡ [] → f.places.items ≡ [] → WorldStandsFor a (world_of c kept rs f)
+  pub begun-world_stands : (f : Fired) → f.firings.items ≡ [] → f.places.items ≡ []
+      → WorldStandsFor a (world_of c kept rs f)
   begun-world_stands f firings places =
-      subst (WorldStandsFor a) (sym (begun-is f firings places)) (begun-stands accepted stands ledger started.starts_all)
-
-  -- and has begun
-  pub has-begun : (f : Fired) (batch : Batch) → batch.starts ≡ starts → f.firings.items ≡ [] → f.places.items ≡ []
-      → HasBegun a b.now batch (world_of c kept rs f)
-  has-begun f batch same firings places = subst (HasBegun a b.now batch) (sym (begun-is f firings places)) (record {
-    origin = refl;
-    starts = subst (λ (xs : List Start). AllStart a b.now xs rs) (sym same) started.starts_all;
-    contracts = refl;
-    state = refl;
-    firings = refl;
-    places = refl;
-  })
+      subst (WorldStandsFor a) (sym (begun-is f firings places))
+      (begun-stands accepted stands ledger started.starts_all)

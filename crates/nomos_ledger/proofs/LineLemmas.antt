@@ -1,6 +1,6 @@
 -- Lines that start in books.
-use Rattle.std.proofs.Common.{◌≡◌, ◌∙◌, ◌+◌, ◌<◌, ◌≤◌, ◌^◌, ℕ, suc, List, [], ◌∷◌, ◌++◌, length, get_or, take, drop, drop-cons, Some, None, Result, Ok, Err, refl, sym, ap, subst, arith, append_assoc, append-nil}
-use Rattle.std.proofs.lemmas.List.{length-take-le, take_all, take_more, take-append-drop}
+use Rattle.std.proofs.Common.{◌≡◌, ◌∙◌, ◌+◌, ◌<◌, ◌^◌, ℕ, suc, List, [], ◌∷◌, ◌++◌, length, get_or, take, drop, drop-cons, Some, None, Result, Ok, Err, refl, sym, ap, subst, arith, append_assoc, append-nil}
+use Rattle.std.proofs.lemmas.List.{length-take-le, take_more, take-append-drop}
 use Rattle.nomos_ir.specs.declared.or_no_memory.OrNoMemory.{OrNoMemory}
 use Rattle.nomos_ir.specs.declared.or_no_memory.OrNoMemory.TheVariants as stop
 use Rattle.nomos_types.specs.Acceptance.{Acceptance, IsAccepted}
@@ -76,8 +76,8 @@ so_far-none a l lines rs none = record {
   stays = refl;
 }
 
-module _ {a b : Acceptance} (accepted : IsAccepted a) {l m : LedgerState} (settled : IsSettled a l) (ledger : IsLedger l)
-    {lines : List Start} {k : ℕ} {rs : List Resolved} (so_far : SoFar a b l m lines k rs) where
+module _ {a b : Acceptance} (accepted : IsAccepted a) {l m : LedgerState} (settled : IsSettled a l)
+    (ledger : IsLedger l) {lines : List Start} {k : ℕ} {rs : List Resolved} (so_far : SoFar a b l m lines k rs) where
   pub so_far-settled : IsSettled b m
   so_far-settled =
       subst (λ (x : Acceptance). IsSettled x m) (sym so_far.stays)
@@ -128,8 +128,3 @@ module _ {a b : Acceptance} (accepted : IsAccepted a) {l m : LedgerState} (settl
       subst (λ (starts : List Start). OneRefuses a l starts start.line cause) (take-rest lines k start below is)
       (next-refuses start (drop (suc k) lines) so_far.starts (next-resolves start (Err cause) resolves))
   so_far-stops start stop.NoMemory n below is u = tt
-
-  -- or all have started
-  pub so_far-all : length lines ≤ k → StartsAll a l lines (Ok rs) m
-  so_far-all all =
-      (subst (λ (starts : List Start). AllStart a l starts rs) (take_all k lines all) so_far.starts, so_far.now)

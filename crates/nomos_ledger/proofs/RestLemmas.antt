@@ -53,8 +53,9 @@ left-next {s} numbered None false e none = (λ yes. cc, λ left. absurd (nobody 
   where
     nobody : HasTransaction s → ⊥
     nobody left =
-        let over = All-contains (λ (o : Object). 0 < object_number o) s.objects (object.Process left.process) numbered.over
-        left.there in
+        let over =
+        All-contains (λ (o : Object). 0 < object_number o) s.objects (object.Process left.process) numbered.over left.there
+        in
         none left.process.pid over (left-numbered numbered left)
 left-next {s} numbered (Some pid) true e first = (
   λ yes. record {

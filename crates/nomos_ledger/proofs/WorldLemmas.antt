@@ -33,7 +33,8 @@ marked-same (Some u) s t some = refl
 marked-same None s t some = absurd (some refl)
 
 -- the ledger before a batch stays where another state comes
-origin-same : (b : BooksState) (kept : ℕ) (s : State) → b.marked ≢ None → origin_in (with_state b s) kept ≡ origin_in b kept
+origin-same : (b : BooksState) (kept : ℕ) (s : State) → b.marked ≢ None
+    → origin_in (with_state b s) kept ≡ origin_in b kept
 origin-same b kept s some =
     ap (λ (t : State). record b.now { contracts = take kept b.now.contracts; state = t })
     (marked-same b.marked s b.now.state some)
@@ -60,8 +61,8 @@ pub record OneFires (a : Acceptance) (b c : BooksState) (f h g : Fired) (firing 
     pub firings : g.firings.items ≡ h.firings.items ++ firing ∷ []
     pub places : g.places.items ≡ h.places.items ++ place ∷ []
 
-module _ {a : Acceptance} (accepted : IsAccepted a) {b c : BooksState} {f h g : Fired} {firing : Firing} {place : CodeId}
-    (one : OneFires a b c f h g firing place) (kept : ℕ) (starts : List Resolved)
+module _ {a : Acceptance} (accepted : IsAccepted a) {b c : BooksState} {f h g : Fired} {firing : Firing}
+    {place : CodeId} (one : OneFires a b c f h g firing place) (kept : ℕ) (starts : List Resolved)
     (stands : WorldStandsFor a (world_of b kept starts f)) (under : IsUnderWay b kept) where
   -- the world with one more firing, at this instruction
   abbrev after : CodeId → WorldState
@@ -100,7 +101,8 @@ module _ {a : Acceptance} (accepted : IsAccepted a) {b c : BooksState} {f h g : 
 
   pub fired-stands : WorldStandsFor a (world_of c kept starts g)
   fired-stands =
-      subst (WorldStandsFor a) (sym is-placed) (world-fired accepted stands firing placed.0 c.now.state placed.1 one.steps)
+      subst (WorldStandsFor a) (sym is-placed)
+      (world-fired accepted stands firing placed.0 c.now.state placed.1 one.steps)
 
   pub fired-under_way : IsUnderWay c kept
   fired-under_way = subst (λ (d : BooksState). IsUnderWay d kept) (sym one.rest) (record {

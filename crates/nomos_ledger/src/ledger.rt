@@ -19,7 +19,8 @@ use std::alloc::{AllocError, Global};
 use std::marker::Model;
 
 /// A ledger: named accounts and contracts, the sum of its deposits, and the state of a machine between batches
-/// (docs/MACHINE.md, "The ledger"). Contracts see it as these four, with the names of accounts in order of their numbers.
+/// (docs/MACHINE.md, "The ledger"). Contracts see it as these four, with the names of accounts in order of their
+/// numbers.
 #[derive(Drop, Debug)]
 pub struct Ledger<M: Undo> {
     pub(crate) books: Books<M>,

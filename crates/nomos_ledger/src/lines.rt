@@ -46,6 +46,7 @@ impl<M: Undo> Books<M> {
         ensures ok { OnOk result (self.new.now ≡ after_start accepted.now self.old.now resolved.now) }
         ensures extends { Extends self.old self.new }
     {
+        // Where the program is read it is known to be accepted.
         let _program = accepted.program();
         let shared = self.machine.next_name();
         let given = (&resolved.values, resolved.names.as_slice());

@@ -12,7 +12,7 @@ ghost use Rattle.nomos_deeds.specs.Acting.{HasNumbers};
 ghost use Rattle.nomos_deeds.specs.Firings.{Wants};
 ghost use Rattle.nomos_legal.specs.Ending.{EndsAs, GoesOn};
 ghost use Rattle.nomos_legal.specs.StandsFor.{StandsFor, WorldStandsFor};
-ghost use Rattle.nomos_legal.specs.World.{committed};
+ghost use Rattle.nomos_legal.specs.World.{IsWorld, committed};
 ghost use Rattle.nomos_ledger.specs.Calls.{FiresIn};
 
 use crate::books::Books;
@@ -30,9 +30,9 @@ use nomos_types::accepted::Accepted;
 use std::alloc::{AllocError, Global};
 use std::marker::Model;
 
-/// A batch under way (docs/MACHINE.md, "Batches"). Contracts see it as the ledger that it began from, its starts as they
-/// were resolved, the contracts with those that it made, its firings in order with the instructions that were fired, and
-/// its state.
+/// A batch under way (docs/MACHINE.md, "Batches"). Contracts see it as the ledger that it began from, its starts as
+/// they were resolved, the contracts with those that it made, its firings in order with the instructions that were
+/// fired, and its state.
 #[derive(Drop, Debug)]
 pub struct World<M: Undo> {
     pub(crate) books: Books<M>,
@@ -107,8 +107,8 @@ impl<M: Undo> World<M> {
     }
 
     /// Fires a ready process, and keeps the firing and its instruction where the process took its step. Where its
-    /// instruction has a fault, and where memory is wanting, the world is as it was. Under `cost all` the firings, a unit
-    /// for each, come to at most twice the gas spent since the origin, and a unit for each process of the origin.
+    /// instruction has a fault, and where memory is wanting, the world is as it was. Under `cost all` the firings, a
+    /// unit for each, come to at most twice the gas spent since the origin, and a unit for each process of the origin.
     pub fn fire(
         &mut self,
         alloc: Global,
@@ -182,9 +182,10 @@ impl<M: Undo> World<M> {
         self.fired.places.as_slice()
     }
 
-    /// The state of the machine.
+    /// The state of the machine. The clauses also say what holds of every world.
     pub fn state(&self) -> &M
-        ensures { M.state result.now ≡ self.now.state }
+        ensures state { M.state result.now ≡ self.now.state }
+        ensures world { IsWorld self.now }
     {
         &self.books.machine
     }

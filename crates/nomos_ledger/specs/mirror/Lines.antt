@@ -30,8 +30,8 @@ at_line line (stop.Answer cause) = stop.Answer (line, cause)
 at_line line stop.NoMemory = stop.NoMemory
 
 -- what the start of all lines answers, and the ledger that it leaves
-abbrev pub StartsAll : Acceptance → LedgerState → List Start → Result (List Resolved) (OrNoMemory (ℕ × Refusal)) → LedgerState
-    → Type 0
+abbrev pub StartsAll : Acceptance → LedgerState → List Start → Result (List Resolved) (OrNoMemory (ℕ × Refusal))
+    → LedgerState → Type 0
 StartsAll a l starts (Ok rs) m = AllStart a l starts rs × (m ≡ after_starts a l rs)
 StartsAll a l starts (Err (stop.Answer refused)) m = OneRefuses a l starts refused.0 refused.1
 StartsAll a l starts (Err stop.NoMemory) m = Unit {0}
@@ -45,8 +45,8 @@ pub record StartedBatch (a : Acceptance) (before : BooksState) (starts : List St
   pub origin : origin_in after (length before.now.contracts) ≡ before.now
 
 -- what the start of a batch answers, and the books that it leaves
-abbrev pub StartsBatch : Acceptance → BooksState → List Start → Result (List Resolved) (OrNoMemory (ℕ × Refusal)) → BooksState
-    → Type 0
+abbrev pub StartsBatch : Acceptance → BooksState → List Start → Result (List Resolved) (OrNoMemory (ℕ × Refusal))
+    → BooksState → Type 0
 StartsBatch a b starts (Ok rs) c = StartedBatch a b starts rs c
 StartsBatch a b starts (Err (stop.Answer refused)) c = OneRefuses a b.now starts refused.0 refused.1 × (c ≡ b)
 StartsBatch a b starts (Err stop.NoMemory) c = c ≡ b

@@ -12,9 +12,9 @@ returns-clause-ok c =
     let is = c.in_ok-from_str.ensures.ok ∙ c.as_str.ensures.text in
     let free = found-contract string_bytes (string_bytes c.in_ok-from_str.field-0) c.self.inside.names.entries
     ∙ (λ i. shared_name (c.self.view_is i) (is i)) ∙ c.requires in
-    put-contract string_bytes c.self.inside.names.entries c.insert.new.self.entries c.in_ok-from_str.field-0 c.args.shared
-    c.args.self.now c.args.name.now c.self.view_is is
-    (c.in_ok-insert.ensures.entries ∙ insert_entry-new _ c.self.inside.names c.in_ok-from_str.field-0 c.args.shared free)
+    let put = insert_entry-new _ c.self.inside.names c.in_ok-from_str.field-0 c.args.shared free in
+    put-contract string_bytes c.self.inside.names.entries c.insert.new.self.entries c.in_ok-from_str.field-0
+    c.args.shared c.args.self.now c.args.name.now c.self.view_is is (c.in_ok-insert.ensures.entries ∙ put)
 
 pub invariant_of-self-2 : goal.invariant_of-self-2
 invariant_of-self-2 c =

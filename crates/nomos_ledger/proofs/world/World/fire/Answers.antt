@@ -11,8 +11,8 @@ fire-requires-clause-may g c =
 
 -- the process that fired
 one : (g : Over) (c : goal.After-note g)
-    → OneFires c.args.accepted.now c.self.inside.books c.fire.new.self c.self.inside.fired c.reserve.new.self c.note.new.self
-    c.args.firing c.in-Some.place
+    → OneFires c.args.accepted.now c.self.inside.books c.fire.new.self c.self.inside.fired c.reserve.new.self
+    c.note.new.self c.args.firing c.in-Some.place
 one g c = record {
   rest = c.in_ok-answer.ensures.rest;
   at = c.in-Some.ensures;
@@ -27,7 +27,8 @@ pub returns-in-Fired-clause-ok : goal.returns-in-Fired-clause-ok
 returns-in-Fired-clause-ok g c =
     let stands = rw (← c.self.view_is) at c.requires.stands in
     rw (← c.self.view_is, c.in-Fired.is)
-    (has-fired c.program-program.ensures.accepted (one g c) c.self.inside.kept c.self.inside.starts stands c.self.invariant)
+    (has-fired c.program-program.ensures.accepted (one g c) c.self.inside.kept c.self.inside.starts stands
+    c.self.invariant)
 
 pub returns-in-Fired-clause-stands : goal.returns-in-Fired-clause-stands
 returns-in-Fired-clause-stands g c =
