@@ -2,3 +2,4 @@ mod FormLemmas
 pub mod LineLaws
 mod LineLemmas
 pub mod PlacedLaws
+mod PlacedLemmas

@@ -35,16 +35,7 @@ gas_each by rest (line.Worked pid gas) is same = (gas, is.1, ap (λ n. line.Work
 gas_each by rest (line.Fired pid f) is same = absurd (no_fifth_blank f (sym (ap (λ t. get_or t 4 0) same)))
 gas_each by rest (line.End e) is same = absurd is
 
--- at a `work` without gas
-pub worked_none : (by : ℕ) (text rest : List ℕ) → text ≡ codes "work " ++ rest → ReadsBits 64 rest None
-    → ReadsAs (IsFiredBy by) fired_text text None
-worked_none by text rest begins reads =
-    ReadsAs-none text (λ l is same.
-    let g = gas_each by rest l is (sym begins ∙ same) in
-    let none = reads.each g.0 g.1 g.3 in
-    cc)
-
--- and with it
+-- a firing at a `work`
 pub worked_some : (by : ℕ) (text rest : List ℕ) (gas : ℕ) → text ≡ codes "work " ++ rest → ReadsBits 64 rest (Some gas)
     → ReadsAs (IsFiredBy by) fired_text text (Some (line.Worked by gas))
 worked_some by text rest gas begins reads =
@@ -70,16 +61,7 @@ form_each by text other (line.Worked pid gas) is same = absurd (other (decimal g
 form_each by text other (line.Fired pid f) is same = (f, is.1, ap (λ n. line.Fired n f) is.0, same)
 form_each by text other (line.End e) is same = absurd is
 
--- elsewhere, without a form
-pub fired_none : (by : ℕ) (text : List ℕ) → ((rest : List ℕ) → text ≢ codes "work " ++ rest)
-    → ReadsAs IsGasless form_name text None → ReadsAs (IsFiredBy by) fired_text text None
-fired_none by text other reads =
-    ReadsAs-none text (λ l is same.
-    let f = form_each by text other l is same in
-    let none = reads.each f.0 f.1 f.3 in
-    cc)
-
--- and with it
+-- a firing elsewhere
 pub fired_some : (by : ℕ) (text : List ℕ) (f : CodeForm) → ((rest : List ℕ) → text ≢ codes "work " ++ rest)
     → ReadsAs IsGasless form_name text (Some f) → ReadsAs (IsFiredBy by) fired_text text (Some (line.Fired by f))
 fired_some by text f other reads =
