@@ -19,9 +19,9 @@ use nomos_types::accepted::Accepted;
 use std::alloc::{AllocError, Global};
 use std::marker::Model;
 
-/// A batch under way, with the program and the most firings that it may make. Over a floor its start is the batch before
-/// any firing, and its history the firings, each as the number of a pass and that of a process. Contracts see it as these
-/// three.
+/// A batch under way, with the program and the most firings that it may make; contracts see it as these three. Over a
+/// floor its start is the batch before any firing, and its history the firings, each as the number of a pass and that
+/// of a process.
 #[derive(Drop)]
 pub struct Shop<'a, M: Undo + Drop> {
     accepted: &'a Accepted,
@@ -168,8 +168,12 @@ impl<'a, M: Undo + Drop> Shop<'a, M> {
         let _program = self.accepted.program();
         match known {
             Some(known) => {
-                self.world
-                    .fire_with(alloc, self.accepted, firing, (&known.wanted, &known.outcome))
+                self.world.fire_with(
+                    alloc,
+                    self.accepted,
+                    firing,
+                    (&known.wanted, &known.outcome),
+                )
             }
             None => self.world.fire(alloc, self.accepted, firing),
         }
