@@ -29,12 +29,13 @@ pub same-start : (a : Acceptance) (v w : WorldState) → w.origin ≡ v.origin �
 same-start a v w origin starts = rw (origin, starts) refl
 
 -- where nothing fired, the state is the first one
-nothing-fired : {a : Acceptance} {s t : State} (pids : List ℕ) {places : List CodeId} → FiresAt a s pids places t → pids ≡ []
-    → s ≡ t
+nothing-fired : {a : Acceptance} {s t : State} (pids : List ℕ) {places : List CodeId} → FiresAt a s pids places t
+    → pids ≡ [] → s ≡ t
 nothing-fired [] (world.done s) none = refl
 nothing-fired (pid ∷ pids) all none = absurd cc
 
-pub fresh-start : (a : Acceptance) (w : WorldState) → WorldStandsFor a w → w.firings ≡ [] → (start_of a w).state ≡ w.state
+pub fresh-start : (a : Acceptance) (w : WorldState) → WorldStandsFor a w → w.firings ≡ []
+    → (start_of a w).state ≡ w.state
 fresh-start a w stands fresh = nothing-fired (pids_of w.firings) stands.reached (ap pids_of fresh)
 
 -- ---- firings
@@ -42,7 +43,8 @@ fresh-start a w stands fresh = nothing-fired (pids_of w.firings) stands.reached 
 module _ (p : Policy) (a : Acceptance) where
   pub made-none : (limit : ℕ) (w : WorldState) → MayRun a limit w → HasMade p a 0 0 w w
   made-none limit w may =
-      let nothing : FollowsPolicy p a (start_of a w).state 0 [] (start_of a w).state 0 = policies.done (start_of a w).state 0 in
+      let nothing : FollowsPolicy p a (start_of a w).state 0 [] (start_of a w).state 0 =
+      policies.done (start_of a w).state 0 in
       let reached = subst (λ (s : State). FollowsPolicy p a (start_of a w).state 0 [] s 0)
       (fresh-start a w may.stands may.fresh) nothing in
       record {
@@ -52,7 +54,8 @@ module _ (p : Policy) (a : Acceptance) where
         count = ap length may.fresh;
         passes = subst (All (λ (f : Firing). f.pass ≡ 0)) (sym may.fresh) (All-nil (λ (f : Firing). f.pass ≡ 0));
         follows =
-            subst (λ (pids : List ℕ). FollowsPolicy p a (start_of a w).state 0 pids w.state 0) (sym (ap pids_of may.fresh)) reached;
+            subst (λ (pids : List ℕ). FollowsPolicy p a (start_of a w).state 0 pids w.state 0)
+            (sym (ap pids_of may.fresh)) reached;
       }
 
   -- one firing more
@@ -101,7 +104,8 @@ module _ (p : Policy) (a : Acceptance) where
       let rises = world-rises accepted has.stands in
       let same : (start_of a w).state ≡ before.state =
       ap (λ l. l.state) (same-start a before w has.origin has.starts) ∙ fresh-start a before may.stands may.fresh in
-      let objects : (start_of a w).state.next_object ≡ before.state.next_object = ap (λ (s : State). s.next_object) same in
+      let objects : (start_of a w).state.next_object ≡ before.state.next_object =
+      ap (λ (s : State). s.next_object) same in
       let names : (start_of a w).state.next_name ≡ before.state.next_name = ap (λ (s : State). s.next_name) same in
       record {
         object = omega (arith, rises.objects, objects, has.count, may.objects);
@@ -111,8 +115,8 @@ module _ (p : Policy) (a : Acceptance) where
   -- ---- ends
 
   -- an abort there is the policy's
-  pub made-aborts : (made last : ℕ) (before w : WorldState) (e : End) → HasMade p a made last before w → AbortsAt p a last w e
-      → AbortsBy p a w e
+  pub made-aborts : (made last : ℕ) (before w : WorldState) (e : End) → HasMade p a made last before w
+      → AbortsAt p a last w e → AbortsBy p a w e
   made-aborts made last before w (end.Aborted pid f) has chosen =
       record { last = last; follows = has.follows; chosen = chosen }
   made-aborts made last before w end.Committed has chosen = tt

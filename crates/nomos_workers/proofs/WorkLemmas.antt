@@ -44,7 +44,8 @@ adds-prefix n seen xs ys zs begins (inr added) is =
     (prefix_push seen xs ((n, added.0) ∷ []) begins)
 
 -- the processes of the history are those that fired
-history-pids : (firings : List Firing) → map (λ (f : ℕ × ℕ). f.1) (map (λ (f : Firing). (f.pass, f.pid)) firings) ≡ pids_of firings
+history-pids : (firings : List Firing)
+    → map (λ (f : ℕ × ℕ). f.1) (map (λ (f : Firing). (f.pass, f.pid)) firings) ≡ pids_of firings
 history-pids [] = refl
 history-pids (f ∷ firings) = λ i. f.pid ∷ history-pids firings i
 

@@ -47,8 +47,8 @@ abbrev pub MayEnd : Acceptance → State → ℕ → ℕ → BatchEnd → Type 0
 MayEnd a s count limit (batch_end.Done e) = IsAllowed a s count limit e
 MayEnd a s count limit batch_end.NoMemory = Unit {0}
 
--- From this start the processes of the history fire one after another, no more than may fire, and lead to a state in which
--- this end is allowed.
+-- From this start the processes of the history fire one after another, no more than may fire, and lead to a state in
+-- which this end is allowed.
 pub record HasRun (start : ShopState) (history : List (ℕ × ℕ)) (e : BatchEnd) : Type 0 where
   pub state : State
   pub reached : run start.accepted start.world.state (map (λ f. f.1) history) ≡ Some state

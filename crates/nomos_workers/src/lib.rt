@@ -1,4 +1,4 @@
-//! Batches run by workers: by one worker as a policy says.
+//! Batches run by workers: by one as a policy says, or by a worker of several that takes turns over a floor.
 #![tactic(auto)]
 
 pub mod batch;

@@ -68,7 +68,8 @@ fn step<M: Undo>(
     requires stands { WorldStandsFor accepted.now world.old }
     requires room { length world.old.firings < limit }
     requires numbers { HasNumbers world.old.state }
-    ensures ok { IfOk result (λ stepped. Steps chooser.policy accepted.now limit chooser.last world.old stepped world.new) }
+    ensures ok { IfOk result (λ stepped.
+        Steps chooser.policy accepted.now limit chooser.last world.old stepped world.new) }
     ensures err { OnErr result (world.new ≡ world.old) }
     ensures stands { WorldStandsFor accepted.now world.new }
 {
@@ -112,7 +113,7 @@ fn fire_all<M: Undo>(
     }
 }
 
-/// Runs a batch by one worker, which fires the process that the policy chooses (docs/MACHINE.md, "One worker") until the
+/// Runs a batch by one worker, which fires the process that the policy chooses (docs/MACHINE.md, "Workers") until the
 /// batch ends, at most `limit` times. The world comes back whatever the end, and also where memory was wanting.
 pub fn run_by<M: Undo>(
     alloc: Global,

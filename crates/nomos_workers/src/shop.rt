@@ -19,9 +19,9 @@ use nomos_types::accepted::Accepted;
 use std::alloc::{AllocError, Global};
 use std::marker::Model;
 
-/// A batch under way, with the program and the most firings that it may make. Over a floor its start is the batch before
-/// any firing, and its history the firings, each as the number of a pass and that of a process. Contracts see it as these
-/// three.
+/// A batch under way, with the program and the most firings that it may make; contracts see it as these three. Over a
+/// floor its start is the batch before any firing, and its history the firings, each as the number of a pass and that
+/// of a process.
 #[derive(Drop)]
 pub struct Shop<'a, M: Undo + Drop> {
     accepted: &'a Accepted,

@@ -98,11 +98,11 @@ fn go_on<G: Gate>(
     }
 }
 
-/// One worker's part: it takes turns with its pass, and fires ready processes, until it finds an end or memory is wanting.
-/// It starts to look for its next process where it fired last, and at its own number before that. Terms are evaluated
-/// after the turn was given back and the gate was called; in its next turn the worker fires the first process that is ready
-/// from there on, and uses the outcome only where that process stands at this instruction with these values. Nothing says
-/// when the turns come.
+/// One worker's part (docs/MACHINE.md, "Workers"): it takes turns with its pass, and fires ready processes, until it finds
+/// an end or memory is wanting. It starts to look for its next process where it fired last, and at its own number before
+/// that. Terms are evaluated after the turn was given back and the gate was called; in its next turn the worker fires the
+/// first process that is ready from there on, and uses the outcome only where that process stands at this instruction
+/// with these values. Nothing says when the turns come.
 pub fn work<'a, M: Undo + Drop, G: Gate, R: Wait>(
     rt: &R,
     alloc: Global,

@@ -26,5 +26,6 @@ firings-preserved g c =
       policy = c.firings.invariant.policy;
       made =
           made-more c.args.policy c.args.accepted.now c.firings._made c.firings.chooser.last c.in-Ok-Fired.pid
-          c.args.world.now c.firings.world c.step.new.world c.firings.invariant.made fired.0 fired.1 c.step.ensures.stands;
+          c.args.world.now c.firings.world c.step.new.world c.firings.invariant.made fired.0 fired.1
+          c.step.ensures.stands;
     }
