@@ -13,4 +13,6 @@ mod places_tests;
 #[cfg(test)]
 mod script_tests;
 #[cfg(test)]
+mod shelf_tests;
+#[cfg(test)]
 mod state_tests;
