@@ -68,7 +68,10 @@ fn finds_channels_by_process_and_variable(rt: HostRuntime) -> Result<(), Fail> {
     channels.back();
     for process in 1..11 {
         for variable in 0..4 {
-            assert_eq!(rt; channels.get(process, variable), Some(100 * process + variable));
+            assert_eq!(rt;
+                channels.get(process, variable),
+                Some(100 * process + variable)
+            );
         }
     }
     Ok(())
