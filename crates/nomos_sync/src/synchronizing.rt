@@ -88,7 +88,7 @@ fn leads_back(
 /// Whether a shared type is synchronizing, beside what was compared before: where it is, the pairs of amounts
 /// that need to be equal join those that were there; where it is not, a path leads from its body to a `down`
 /// behind which another type stands. In every case what was compared stays, each pair in its place, and what joins
-/// it is sound; no pair of types is compared twice.
+/// it is sound; the amounts of no pair of types are gathered twice.
 pub fn synchronizing_with(
     alloc: Global,
     equalities: &mut Equalities,
@@ -112,7 +112,7 @@ pub fn synchronizing_with(
 }
 
 /// Whether a shared type is synchronizing: the pairs of amounts that need to be equal, or a path from its body
-/// to a `down` behind which another type stands. No pair of type nodes is looked at twice.
+/// to a `down` behind which another type stands.
 pub fn synchronizing(alloc: Global, program: &Program, shared: TypeId) -> Result<Synced, AllocError>
     requires contractive { IsContractive program.now }
     requires shared { shared.0 < length program.now.types }
