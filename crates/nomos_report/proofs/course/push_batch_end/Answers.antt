@@ -7,7 +7,7 @@ use Rattle.nomos_report.proofs.course.push_batch_end.Goals as goal
 
 pub push_course_end-requires : goal.push_course_end-requires
 push_course_end-requires g c =
-    subst (IsTyped c.args.accepted.now) (sym c.state.ensures)
+    subst (IsTyped c.args.accepted.now) (sym c.state.ensures.state)
     (world-typed c.program-program.ensures.accepted c.requires.stands)
 
 pub returns : goal.returns
@@ -17,5 +17,5 @@ returns g c =
     let spent = c.requires.spent ∙ sym (starts-spent a w.origin w.starts) in
     subst
     (λ (t : List ℕ). OnOk c.push_course_end.result (c.push_course_end.new.text.items ≡ c.args.text.now.items ++ t))
-    (λ i. end_lines a c.args.outset.line (length (c.firings.ensures i)) (spent i) (c.state.ensures i) c.args.end.now)
+    (λ i. end_lines a c.args.outset.line (length (c.firings.ensures i)) (spent i) (c.state.ensures.state i) c.args.end.now)
     c.push_course_end.ensures
