@@ -1,0 +1,220 @@
+-- The options that were gathered from the words in front.
+use Rattle.std.proofs.Common.{◌≡◌, ◌≢◌, ◌⊎◌, ℕ, ◌<◌, ◌+◌, suc, zero, Bool, true, false, List, [], ◌∷◌, ◌++◌, length, get_or, Option, Some, None, All, refl, sym, ap, subst, ◌∙◌, arith, inl, inr}
+use Rattle.std.specs.Prelude.{AllPairs, codes}
+use Rattle.std.specs.List.{Contains}
+use Rattle.std.specs.Str.{bytes_eq}
+use Rattle.std.proofs.lemmas.List.{append-nil}
+use Rattle.std.proofs.lemmas.Bool.{false≢true}
+use Rattle.std.proofs.lemmas.List.Elements.{All-append, All-cons, All-nil}
+use Rattle.std.proofs.lemmas.List.Quantifiers.{all_pairs_push}
+use Rattle.nomos_words.specs.Finding.{Finds}
+use Rattle.nomos_words.specs.Options.{AreOptions, option_names, value_of, words_of}
+use Rattle.nomos_words.specs.mirror.Given.{AreGiven, Values, unless, values_of, with_option}
+use Rattle.nomos_words.proofs.OptionLemmas.{Pair, options_front, words_of-push, bytes_eq-cases, value_of-other, value_of-same, value_of-missing, value_of-place, IsKnown, AreApart, behind_known, behind_apart}
+
+-- ---- one more option
+
+unless_some : (o : Option (List ℕ)) (g next : Values) → unless o g ≡ Some next → (o ≡ None) × (next ≡ g)
+unless_some None g next e = (refl, cc)
+unless_some (Some word) g next e = absurd cc
+
+unless_none : (o : Option (List ℕ)) (g : Values) → unless o g ≡ None → (word : List ℕ) × (o ≡ Some word)
+unless_none None g e = absurd cc
+unless_none (Some word) g e = (word, refl)
+
+-- a name is that of an option, or of none
+data Named (name : List ℕ) : Type 0 where
+  workers : name ≡ codes "--workers" → Named name
+  policy : name ≡ codes "--policy" → Named name
+  steps : name ≡ codes "--steps" → Named name
+  journal : name ≡ codes "--journal" → Named name
+  none : bytes_eq name (codes "--workers") ≡ false → bytes_eq name (codes "--policy") ≡ false
+      → bytes_eq name (codes "--steps") ≡ false → bytes_eq name (codes "--journal") ≡ false → Named name
+
+named : (name : List ℕ) → Named name
+named name = elim (bytes_eq-cases name (codes "--workers")) [
+  | inl w ↦ workers w.1
+  | inr w ↦ elim (bytes_eq-cases name (codes "--policy")) [
+    | inl p ↦ policy p.1
+    | inr p ↦ elim (bytes_eq-cases name (codes "--steps")) [
+      | inl s ↦ steps s.1
+      | inr s ↦ elim (bytes_eq-cases name (codes "--journal")) [
+        | inl j ↦ journal j.1
+        | inr j ↦ none w.0 p.0 s.0 j.0
+      ]
+    ]
+  ]
+]
+
+with_option-none : (given : Values) (name value : List ℕ) → bytes_eq name (codes "--workers") ≡ false
+    → bytes_eq name (codes "--policy") ≡ false → bytes_eq name (codes "--steps") ≡ false
+    → bytes_eq name (codes "--journal") ≡ false → with_option given name value ≡ None
+with_option-none given name value w p s j = rw (w, p, s, j) refl
+
+-- what follows where an option was added: it is one, it is new, and the values are those with it
+record IsAdded (done : List Pair) (name value : List ℕ) (next : Values) : Type 0 where
+  pub is_option : Contains option_names name
+  pub is_new : value_of name done ≡ None
+  pub next_is : next ≡ values_of (done ++ (name, value) ∷ [])
+
+values_same : (a b : Values) → a.workers ≡ b.workers → a.policy ≡ b.policy → a.steps ≡ b.steps → a.journal ≡ b.journal
+    → a ≡ b
+values_same a b w p s j =
+    ap (λ x. record a { workers = x }) w
+    ∙ ap (λ x. record { workers = b.workers; policy = x; steps = a.steps; journal = a.journal }) p
+    ∙ ap (λ x. record { workers = b.workers; policy = b.policy; steps = x; journal = a.journal }) s
+    ∙ ap (λ x. record b { journal = x }) j
+
+added : (done : List Pair) (name value : List ℕ) (next : Values) → Named name
+    → with_option (values_of done) name value ≡ Some next → IsAdded done name value next
+added done name value next (workers is) e =
+    let key = codes "--workers" in
+    let told = unless_some (value_of key done) (record (values_of done) { workers = Some value }) next (rw is at e) in
+    rw is (record {
+      is_option = (0, omega arith, refl);
+      is_new = told.0;
+      next_is = told.1 ∙ values_same (record (values_of done) { workers = Some value }) (values_of (done ++ (key, value) ∷ []))
+          (sym (value_of-same key value done told.0)) (sym (value_of-other (codes "--policy") key value done refl))
+          (sym (value_of-other (codes "--steps") key value done refl))
+          (sym (value_of-other (codes "--journal") key value done refl));
+    })
+added done name value next (policy is) e =
+    let key = codes "--policy" in
+    let told = unless_some (value_of key done) (record (values_of done) { policy = Some value }) next (rw is at e) in
+    rw is (record {
+      is_option = (1, omega arith, refl);
+      is_new = told.0;
+      next_is = told.1 ∙ values_same (record (values_of done) { policy = Some value }) (values_of (done ++ (key, value) ∷ []))
+          (sym (value_of-other (codes "--workers") key value done refl)) (sym (value_of-same key value done told.0))
+          (sym (value_of-other (codes "--steps") key value done refl))
+          (sym (value_of-other (codes "--journal") key value done refl));
+    })
+added done name value next (steps is) e =
+    let key = codes "--steps" in
+    let told = unless_some (value_of key done) (record (values_of done) { steps = Some value }) next (rw is at e) in
+    rw is (record {
+      is_option = (2, omega arith, refl);
+      is_new = told.0;
+      next_is = told.1 ∙ values_same (record (values_of done) { steps = Some value }) (values_of (done ++ (key, value) ∷ []))
+          (sym (value_of-other (codes "--workers") key value done refl))
+          (sym (value_of-other (codes "--policy") key value done refl)) (sym (value_of-same key value done told.0))
+          (sym (value_of-other (codes "--journal") key value done refl));
+    })
+added done name value next (journal is) e =
+    let key = codes "--journal" in
+    let told = unless_some (value_of key done) (record (values_of done) { journal = Some value }) next (rw is at e) in
+    rw is (record {
+      is_option = (3, omega arith, refl);
+      is_new = told.0;
+      next_is = told.1 ∙ values_same (record (values_of done) { journal = Some value }) (values_of (done ++ (key, value) ∷ []))
+          (sym (value_of-other (codes "--workers") key value done refl))
+          (sym (value_of-other (codes "--policy") key value done refl))
+          (sym (value_of-other (codes "--steps") key value done refl)) (sym (value_of-same key value done told.0));
+    })
+added done name value next (none w p s j) e = absurd (let no = with_option-none (values_of done) name value w p s j in cc)
+
+no_option : (name : List ℕ) → Contains option_names name → bytes_eq name (codes "--workers") ≡ false
+    → bytes_eq name (codes "--policy") ≡ false → bytes_eq name (codes "--steps") ≡ false
+    → bytes_eq name (codes "--journal") ≡ false → ⊥
+no_option name (zero, within, is) w p s j = false≢true (sym (rw (sym is) at w))
+no_option name (suc zero, within, is) w p s j = false≢true (sym (rw (sym is) at p))
+no_option name (suc (suc zero), within, is) w p s j = false≢true (sym (rw (sym is) at s))
+no_option name (suc (suc (suc zero)), within, is) w p s j = false≢true (sym (rw (sym is) at j))
+no_option name (suc (suc (suc (suc k))), within, is) w p s j = omega (arith, within)
+
+-- where an option is not added, it was there before
+taken : (done : List Pair) (name value : List ℕ) → Named name → Contains option_names name
+    → with_option (values_of done) name value ≡ None → (word : List ℕ) × (value_of name done ≡ Some word)
+taken done name value (workers is) one e =
+    rw is (unless_none (value_of (codes "--workers") done) (record (values_of done) { workers = Some value }) (rw is at e))
+taken done name value (policy is) one e =
+    rw is (unless_none (value_of (codes "--policy") done) (record (values_of done) { policy = Some value }) (rw is at e))
+taken done name value (steps is) one e =
+    rw is (unless_none (value_of (codes "--steps") done) (record (values_of done) { steps = Some value }) (rw is at e))
+taken done name value (journal is) one e =
+    rw is (unless_none (value_of (codes "--journal") done) (record (values_of done) { journal = Some value }) (rw is at e))
+taken done name value (none w p s j) one e = absurd (no_option name one w p s j)
+
+-- ---- while the words are gone through
+
+-- options are the words in front of those that are left, and these are their values
+pub record Gathers (words left : List (List ℕ)) (given : Values) : Type 0 where
+  pub done : List Pair
+  pub are : words ≡ words_of done ++ left
+  pub known : All IsKnown done
+  pub once : AllPairs AreApart done
+  pub given_is : given ≡ values_of done
+
+pub Gathers-init : (words : List (List ℕ)) → Gathers words words (values_of [])
+Gathers-init words =
+    record {
+      done = [];
+      are = refl;
+      known = All-nil IsKnown;
+      once = λ i j d below within. omega arith;
+      given_is = refl;
+    }
+
+pub Gathers-next : (words after : List (List ℕ)) (name value : List ℕ) (given next : Values)
+    → Gathers words (name ∷ value ∷ after) given → with_option given name value ≡ Some next → Gathers words after next
+Gathers-next words after name value given next g e =
+    let told = added g.done name value next (named name) (ap (λ v. with_option v name value) (sym g.given_is) ∙ e) in
+    record {
+      done = g.done ++ (name, value) ∷ [];
+      are = g.are ∙ words_of-push g.done name value after;
+      known = All-append IsKnown g.done ((name, value) ∷ []) g.known
+          (All-cons IsKnown (name, value) [] told.is_option (All-nil IsKnown));
+      once = all_pairs_push AreApart g.done (name, value) g.once
+          (λ k d within. value_of-missing name g.done told.is_new k d within);
+      given_is = told.next_is;
+    }
+
+-- the options that the words are begin with those
+front : (words left : List (List ℕ)) (given : Values) (g : Gathers words left given) (options : List Pair)
+    → AreOptions words options → (rest : List Pair) × (options ≡ g.done ++ rest) × (left ≡ words_of rest)
+front words left given g options are = options_front g.done options left (sym g.are ∙ are.are)
+
+stops : (words after : List (List ℕ)) (name value : List ℕ) (given : Values)
+    → (g : Gathers words (name ∷ value ∷ after) given) → with_option (values_of g.done) name value ≡ None
+    → (options : List Pair) → AreOptions words options → (rest : List Pair) → options ≡ g.done ++ rest
+    → name ∷ value ∷ after ≡ words_of rest → ⊥
+stops words after name value given g e options are [] whole left = omega (arith, ap length left)
+stops words after name value given g e options are (o ∷ rest) whole left =
+    let none : List ℕ = [] in
+    let same : o.0 ≡ name = sym (ap (λ ws. get_or ws 0 none) left) in
+    let is_option : Contains option_names name =
+        subst (λ n. Contains option_names n) same (behind_known g.done rest o (subst (All IsKnown) whole are.known)) in
+    let there = taken g.done name value (named name) is_option e in
+    let place = value_of-place name there.0 g.done there.1 in
+    behind_apart g.done rest o (subst (AllPairs AreApart) whole are.once) place.0 place.1 (place.2 o ∙ sym same)
+
+pub Gathers-stops : (words after : List (List ℕ)) (name value : List ℕ) (given : Values)
+    → Gathers words (name ∷ value ∷ after) given → with_option given name value ≡ None
+    → (other : Values) → AreGiven words other → ⊥
+Gathers-stops words after name value given g e other (options, are, values_are) =
+    let told = front words (name ∷ value ∷ after) given g options are in
+    stops words after name value given g (ap (λ v. with_option v name value) (sym g.given_is) ∙ e) options are told.0 told.1 told.2
+
+odd : (name : List ℕ) (rest : List Pair) → name ∷ [] ≡ words_of rest → ⊥
+odd name [] e = omega (arith, ap length e)
+odd name (o ∷ rest) e = omega (arith, ap length e)
+
+pub Gathers-odd : (words : List (List ℕ)) (name : List ℕ) (given : Values) → Gathers words (name ∷ []) given
+    → (other : Values) → AreGiven words other → ⊥
+Gathers-odd words name given g other (options, are, values_are) =
+    let told = front words (name ∷ []) given g options are in odd name told.0 told.2
+
+none_left : (rest : List Pair) → [] ≡ words_of rest → rest ≡ []
+none_left [] e = refl
+none_left (o ∷ rest) e = absurd (omega (arith, ap length e))
+
+pub Gathers-all : (words : List (List ℕ)) (given : Values) → Gathers words [] given → Finds (AreGiven words) (Some given)
+Gathers-all words given g =
+    record {
+      found = (g.done, record { are = g.are ∙ append-nil (words_of g.done); known = g.known; once = g.once }, g.given_is);
+      each = λ other is.
+          let told = front words [] given g is.0 is.1 in
+          let all = none_left told.0 told.2 in
+          let same : is.0 ≡ g.done = told.1 ∙ ap (λ rest. g.done ++ rest) all ∙ append-nil g.done in
+          ap (λ v. Some v) (g.given_is ∙ ap values_of (sym same) ∙ sym is.2);
+    }

@@ -1,0 +1,5 @@
+pub mod FindingLaws
+mod GivenLemmas
+mod LoadLemmas
+mod OptionLemmas
+mod RunLemmas

@@ -1,0 +1,13 @@
+-- The task of a job.
+use Rattle.std.specs.Option.{option_map}
+use Rattle.nomos_words.specs.declared.job.Job.{Job}
+use Rattle.nomos_words.specs.declared.job.Job.TheVariants as job
+use Rattle.nomos_words.specs.Words.{Task, check, run, replay, bench, least}
+
+abbrev pub task : Job → Task
+task (job.Check file) = check file.now
+task (job.Run file script workers steps journal) =
+    run file.now script.now workers steps (option_map (λ word. word.now) journal)
+task (job.Replay file script journal) = replay file.now script.now journal.now
+task (job.Bench seed bidders) = bench seed bidders
+task (job.Least file) = least file.now

@@ -1,0 +1,7 @@
+pub mod Finding
+pub mod Jobs
+pub mod Load
+pub mod Options
+pub mod Summary
+pub mod Words
+pub mod mirror

@@ -1,0 +1,77 @@
+-- Which words of a call ask for which task.
+use Rattle.std.specs.Prelude.{◌≡◌, ◌<◌, ◌^◌, ℕ, List, [], ◌∷◌, Option, IfSome, codes, decimal}
+use Rattle.nomos_words.specs.Options.{AreOptions, AreSteps, AreWorkers, IsCount, IsFileWord, value_of}
+use Rattle.nomos_words.specs.declared.options.Workers.{Workers}
+
+-- what is to be done
+pub data Task : Type 0 where
+  -- the contract in this file is checked
+  check : (file : List ℕ) → Task
+  -- the script in the second file is run on the contract in the first, by these workers, each batch for at most so many
+  -- firings, and the journal is kept in this file, if any
+  run : (file script : List ℕ) (workers : Workers) (steps : ℕ) (journal : Option (List ℕ)) → Task
+  -- the journal in the third file is replayed, of the script in the second on the contract in the first
+  replay : (file script journal : List ℕ) → Task
+  -- the generated auction is run, with bids drawn from this seed, of so many bidders
+  bench : (seed bidders : ℕ) → Task
+  -- the least bounds of the contract in this file are sought
+  least : (file : List ℕ) → Task
+
+-- the word that each task begins with
+abbrev pub command : Task → List ℕ
+command (check file) = codes "check"
+command (run file script workers steps journal) = codes "run"
+command (replay file script journal) = codes "replay"
+command (bench seed bidders) = codes "bench"
+command (least file) = codes "least"
+
+-- one file
+pub record IsFile (words : List (List ℕ)) (file : List ℕ) : Type 0 where
+  pub are : words ≡ file ∷ []
+  pub is_file : IsFileWord file
+
+-- the files of a contract, of a script and of a journal
+pub record AreFiles (words : List (List ℕ)) (file script journal : List ℕ) : Type 0 where
+  pub are : words ≡ file ∷ script ∷ journal ∷ []
+  pub is_file : IsFileWord file
+  pub is_script : IsFileWord script
+  pub is_journal : IsFileWord journal
+
+-- the files of a contract and of a script, and behind them what the options say of a run
+pub record IsRun (words : List (List ℕ)) (file script : List ℕ) (workers : Workers) (steps : ℕ)
+    (journal : Option (List ℕ)) : Type 0 where
+  pub behind : List (List ℕ)
+  pub options : List (List ℕ × List ℕ)
+  pub are : words ≡ file ∷ script ∷ behind
+  pub is_file : IsFileWord file
+  pub is_script : IsFileWord script
+  pub are_options : AreOptions behind options
+  pub workers_are : AreWorkers (value_of (codes "--workers") options) (value_of (codes "--policy") options) workers
+  pub steps_are : AreSteps (value_of (codes "--steps") options) steps
+  pub journal_is : journal ≡ value_of (codes "--journal") options
+  pub journal_is_file : IfSome journal IsFileWord
+
+-- a word is a number of 64 bits, in decimal without leading zeros
+abbrev pub IsSeed : List ℕ → ℕ → Type 0
+IsSeed word n = (n < 2 ^ 64) × (word ≡ decimal n)
+
+-- a seed, and from 1 to 10,000 bidders
+pub record IsLoad (words : List (List ℕ)) (seed bidders : ℕ) : Type 0 where
+  pub seed_word : List ℕ
+  pub bidders_word : List ℕ
+  pub are : words ≡ seed_word ∷ bidders_word ∷ []
+  pub is_seed : IsSeed seed_word seed
+  pub are_bidders : IsCount 10000 bidders_word bidders
+
+-- what stands behind the command of a task
+abbrev pub AreOperands : List (List ℕ) → Task → Type 0
+AreOperands words (check file) = IsFile words file
+AreOperands words (run file script workers steps journal) = IsRun words file script workers steps journal
+AreOperands words (replay file script journal) = AreFiles words file script journal
+AreOperands words (bench seed bidders) = IsLoad words seed bidders
+AreOperands words (least file) = IsFile words file
+
+-- the words of a call ask for this task
+abbrev pub Asks : List (List ℕ) → Task → Type 0
+Asks [] task = ⊥
+Asks (word ∷ words) task = (word ≡ command task) × AreOperands words task

@@ -1,0 +1,146 @@
+//! What the words of a call ask for.
+
+ghost use Rattle.std.specs.Prelude.{◌∷◌, [], codes, map, string_bytes};
+ghost use Rattle.std.specs.Option.{option_map};
+ghost use Rattle.nomos_words.specs.Finding.{Finds};
+ghost use Rattle.nomos_words.specs.Jobs.{task};
+ghost use Rattle.nomos_words.specs.Words.{Asks, IsFile};
+
+use crate::numbers::{read_count, read_seed};
+use crate::options::{Workers, given_of, is_file_word, is_journal, steps_of, workers_of};
+
+/// What is to be done.
+#[derive(Clone, Copy, Debug)]
+pub enum Job<'a> {
+    /// The contract in this file is to be checked.
+    Check { file: &'a str },
+    /// The script in the second file is to be run on the contract in the first, each batch for at most so many
+    /// firings, and the journal is to be kept in this file, if any.
+    Run {
+        file: &'a str,
+        script: &'a str,
+        workers: Workers,
+        steps: u32,
+        journal: Option<&'a str>,
+    },
+    /// The journal in the third file is to be replayed, of the script in the second on the contract in the first.
+    Replay {
+        file: &'a str,
+        script: &'a str,
+        journal: &'a str,
+    },
+    /// The generated auction is to be run, with bids that are drawn from this seed, of so many bidders.
+    Bench { seed: u64, bidders: u32 },
+    /// The least bounds of the contract in this file are sought.
+    Least { file: &'a str },
+}
+
+/// The job that the words ask for, or none where they have no form of the usage line. The words are those after the
+/// program's own name. It takes no memory.
+pub fn words<'a>(words: &'a [String]) -> Option<Job<'a>>
+    ensures { Finds (Asks (map string_bytes words.now)) (option_map task result) }
+{
+    let (command, operands) = words.split_first()?;
+    match command.as_str() {
+        "check" => check_of(operands),
+        "run" => run_of(operands),
+        "replay" => replay_of(operands),
+        "bench" => bench_of(operands),
+        "least" => least_of(operands),
+        _ => None,
+    }
+}
+
+// `check FILE`.
+fn check_of<'a>(operands: &'a [String]) -> Option<Job<'a>>
+    ensures { Finds (Asks (codes "check" ∷ map string_bytes operands.now)) (option_map task result) }
+{
+    let file = file_of(operands)?;
+    Some(Job::Check { file })
+}
+
+// `least FILE`.
+fn least_of<'a>(operands: &'a [String]) -> Option<Job<'a>>
+    ensures { Finds (Asks (codes "least" ∷ map string_bytes operands.now)) (option_map task result) }
+{
+    let file = file_of(operands)?;
+    Some(Job::Least { file })
+}
+
+// The one file that the words name.
+fn file_of<'a>(operands: &'a [String]) -> Option<&'a str>
+    ensures { Finds (IsFile (map string_bytes operands.now)) (option_map (λ word. word.now) result) }
+{
+    match operands {
+        [file] if is_file_word(file.as_str()) => Some(file.as_str()),
+        _ => None,
+    }
+}
+
+// `run FILE SCRIPT` with options.
+fn run_of<'a>(operands: &'a [String]) -> Option<Job<'a>>
+    ensures { Finds (Asks (codes "run" ∷ map string_bytes operands.now)) (option_map task result) }
+{
+    match operands {
+        [file, script, options @ ..] => run_with(file.as_str(), script.as_str(), options),
+        _ => None,
+    }
+}
+
+// The run of a script on a contract, with these words behind them.
+fn run_with<'a>(file: &'a str, script: &'a str, options: &'a [String]) -> Option<Job<'a>>
+    ensures { Finds (Asks (codes "run" ∷ file.now ∷ script.now ∷ map string_bytes options.now)) (option_map task result) }
+{
+    let given = given_of(options)?;
+    let workers = workers_of(given.workers, given.policy)?;
+    let steps = steps_of(given.steps)?;
+    if is_file_word(file) && is_file_word(script) && is_journal(given.journal) {
+        Some(Job::Run {
+            file,
+            script,
+            workers,
+            steps,
+            journal: given.journal,
+        })
+    } else {
+        None
+    }
+}
+
+// `replay FILE SCRIPT JOURNAL`.
+fn replay_of<'a>(operands: &'a [String]) -> Option<Job<'a>>
+    ensures { Finds (Asks (codes "replay" ∷ map string_bytes operands.now)) (option_map task result) }
+{
+    match operands {
+        [file, script, journal] => replay_with(file.as_str(), script.as_str(), journal.as_str()),
+        _ => None,
+    }
+}
+
+// The replay of a journal of a script on a contract.
+fn replay_with<'a>(file: &'a str, script: &'a str, journal: &'a str) -> Option<Job<'a>>
+    ensures { Finds (Asks (codes "replay" ∷ file.now ∷ script.now ∷ journal.now ∷ [])) (option_map task result) }
+{
+    if is_file_word(file) && is_file_word(script) && is_file_word(journal) {
+        Some(Job::Replay {
+            file,
+            script,
+            journal,
+        })
+    } else {
+        None
+    }
+}
+
+// `bench SEED BIDDERS`.
+fn bench_of<'a>(operands: &'a [String]) -> Option<Job<'a>>
+    ensures { Finds (Asks (codes "bench" ∷ map string_bytes operands.now)) (option_map task result) }
+{
+    match operands {
+        [seed, bidders] => Some(Job::Bench {
+            seed: read_seed(seed.as_str())?,
+            bidders: read_count(bidders.as_str(), 10_000)?,
+        }),
+        _ => None,
+    }
+}
