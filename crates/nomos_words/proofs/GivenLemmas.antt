@@ -204,7 +204,7 @@ pub Gathers-odd : (words : List (List ℕ)) (name : List ℕ) (given : Values) �
 Gathers-odd words name given g other (options, are, values_are) =
     let told = front words (name ∷ []) given g options are in odd name told.0 told.2
 
-none_left : (rest : List Pair) → [] ≡ words_of rest → rest ≡ []
+pub none_left : (rest : List Pair) → [] ≡ words_of rest → rest ≡ []
 none_left [] e = refl
 none_left (o ∷ rest) e = absurd (omega (arith, ap length e))
 

@@ -3,3 +3,4 @@ mod GivenLemmas
 mod LoadLemmas
 mod OptionLemmas
 mod RunLemmas
+pub mod WordLaws

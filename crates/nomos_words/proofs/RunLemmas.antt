@@ -6,7 +6,7 @@ use Rattle.nomos_words.specs.Finding.{Finds}
 use Rattle.nomos_words.specs.Options.{AreSteps, AreWorkers, IsFileWord, value_of}
 use Rattle.nomos_words.specs.Words.{Asks, IsRun, Task, check, run, replay, bench, least}
 use Rattle.nomos_words.specs.mirror.Given.{AreGiven, Values, values_of}
-use Rattle.nomos_words.specs.declared.options.Workers.{Workers}
+use Rattle.nomos_words.specs.declared.workers.Workers.{Workers}
 use Rattle.nomos_words.proofs.FindingLaws.{Finds-none, Finds-some}
 
 -- what the words say that ask for a task, which is a run

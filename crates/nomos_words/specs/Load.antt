@@ -1,5 +1,10 @@
 -- The load that `bench` runs: bids that are drawn from a seed, and the script in which they are placed.
 use Rattle.std.specs.Prelude.{◌+◌, ◌*◌, ◌/◌, ◌%◌, ◌^◌, ℕ, suc, zero, List, [], ◌++◌, codes, decimal}
+use Rattle.nomos_words.specs.declared.auction.TheConstants.{AUCTION}
+
+-- the text of the auction that is run
+unfoldable pub auction_text : List ℕ
+auction_text = AUCTION.now
 
 -- the number that is drawn behind this one
 abbrev pub next_draw : ℕ → ℕ
@@ -38,7 +43,7 @@ bidders_lines seed zero = []
 bidders_lines seed (suc k) = bidders_lines seed k ++ bidder_lines (suc k) (bid seed (suc k))
 
 -- the seller makes a wallet and an auction, the bidders place their bids, and the seller asks for the best
-abbrev pub load_script : ℕ → ℕ → List ℕ
+unfoldable pub load_script : ℕ → ℕ → List ℕ
 load_script seed bidders =
     codes "deposit seller 2\nlet ws = new seller keep(0;)\nlet auc = new seller start(0; ws)\n"
     ++ bidders_lines seed bidders ++ codes "exec seller ask(; auc)\n"

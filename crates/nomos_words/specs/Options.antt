@@ -5,8 +5,8 @@ use Rattle.std.specs.Map.{lookup}
 use Rattle.std.specs.Str.{bytes_eq}
 use Rattle.nomos_machine.specs.declared.policy.Policy.{Policy}
 use Rattle.nomos_machine.specs.declared.policy.Policy.TheVariants.{First, Round}
-use Rattle.nomos_words.specs.declared.options.Workers.{Workers}
-use Rattle.nomos_words.specs.declared.options.Workers.TheVariants.{One, Many}
+use Rattle.nomos_words.specs.declared.workers.Workers.{Workers}
+use Rattle.nomos_words.specs.declared.workers.Workers.TheVariants.{One, Many}
 
 abbrev pub option_names : List (List ℕ)
 option_names = codes "--workers" ∷ codes "--policy" ∷ codes "--steps" ∷ codes "--journal" ∷ []

@@ -1,7 +1,7 @@
 -- Which words of a call ask for which task.
 use Rattle.std.specs.Prelude.{◌≡◌, ◌<◌, ◌^◌, ℕ, List, [], ◌∷◌, Option, IfSome, codes, decimal}
 use Rattle.nomos_words.specs.Options.{AreOptions, AreSteps, AreWorkers, IsCount, IsFileWord, value_of}
-use Rattle.nomos_words.specs.declared.options.Workers.{Workers}
+use Rattle.nomos_words.specs.declared.workers.Workers.{Workers}
 
 -- what is to be done
 pub data Task : Type 0 where

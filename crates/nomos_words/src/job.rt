@@ -6,8 +6,9 @@ ghost use Rattle.nomos_words.specs.Finding.{Finds};
 ghost use Rattle.nomos_words.specs.Jobs.{task};
 ghost use Rattle.nomos_words.specs.Words.{Asks, IsFile};
 
-use crate::numbers::{read_count, read_seed};
-use crate::options::{Workers, given_of, is_file_word, is_journal, steps_of, workers_of};
+use crate::numbers::{read_count, read_seed, steps_of};
+use crate::options::{given_of, is_file_word, is_journal};
+use crate::workers::{Workers, workers_of};
 
 /// What is to be done.
 #[derive(Clone, Copy, Debug)]

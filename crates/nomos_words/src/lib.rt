@@ -9,5 +9,4 @@ mod numbers;
 mod options;
 pub mod summary;
 pub mod usage;
-
-pub use options::Workers;
+pub mod workers;

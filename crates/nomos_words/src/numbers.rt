@@ -1,8 +1,8 @@
 //! Numbers in the words of a call.
 
-ghost use Rattle.std.specs.Prelude.{◌<◌, ◌^◌, ◌≡◌, decimal};
+ghost use Rattle.std.specs.Option.{option_map};
 ghost use Rattle.nomos_words.specs.Finding.{Finds};
-ghost use Rattle.nomos_words.specs.Options.{IsCount};
+ghost use Rattle.nomos_words.specs.Options.{AreSteps, IsCount, IsCountOr};
 ghost use Rattle.nomos_words.specs.Words.{IsSeed};
 
 use nomos_texts::number::{read_number, read_u64};
@@ -22,4 +22,21 @@ pub(crate) fn read_seed(word: &str) -> Option<u64>
     ensures { Finds (IsSeed word.now) result }
 {
     read_u64(word.as_bytes())
+}
+
+/// The number of an option, from 1 to the most that is allowed, or what stands for it where it is missing.
+pub(crate) fn count_or(word: Option<&str>, missing: u32, most: u32) -> Option<u32>
+    ensures { Finds (IsCountOr missing most (option_map (λ word. word.now) word.entry)) result }
+{
+    match word {
+        Some(word) => read_count(word, most),
+        None => Some(missing),
+    }
+}
+
+/// The most firings of a batch, from the value of `--steps`.
+pub(crate) fn steps_of(word: Option<&str>) -> Option<u32>
+    ensures { Finds (AreSteps (option_map (λ word. word.now) word.entry)) result }
+{
+    count_or(word, 1_000_000, 10_000_000)
 }

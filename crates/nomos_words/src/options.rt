@@ -1,20 +1,10 @@
 //! The options behind `run FILE SCRIPT`, and what they say.
 
-ghost use Rattle.std.specs.Prelude.{◌≡◌, ◌↔◌, IsTrue, IfSome, Some, map, string_bytes};
+ghost use Rattle.std.specs.Prelude.{◌≡◌, ◌↔◌, IsTrue, IfSome, map, string_bytes};
 ghost use Rattle.std.specs.Option.{option_map};
 ghost use Rattle.nomos_words.specs.Finding.{Finds};
-ghost use Rattle.nomos_words.specs.Options.{AreSteps, AreWorkers, IsCountOr, IsFileWord, IsPolicy};
+ghost use Rattle.nomos_words.specs.Options.{IsFileWord};
 ghost use Rattle.nomos_words.specs.mirror.Given.{AreGiven, values, with_option};
-
-use crate::numbers::read_count;
-use nomos_machine::policy::Policy;
-
-/// Who fires: one worker, which chooses by a policy, or so many of them, from 2 to 16.
-#[derive(Clone, Copy, PartialEq, Eq, Debug)]
-pub enum Workers {
-    One(Policy),
-    Many(u32),
-}
 
 /// The values of the options that were given, as words.
 #[derive(Clone, Copy)]
@@ -86,43 +76,4 @@ pub(crate) fn is_journal(word: Option<&str>) -> bool
         Some(word) => is_file_word(word),
         None => true,
     }
-}
-
-// The number of an option, from 1 to the most that is allowed, or what stands for it where it is missing.
-fn count_or(word: Option<&str>, missing: u32, most: u32) -> Option<u32>
-    ensures { Finds (IsCountOr missing most (option_map (λ word. word.now) word.entry)) result }
-{
-    match word {
-        Some(word) => read_count(word, most),
-        None => Some(missing),
-    }
-}
-
-// The policy of `--policy`.
-fn policy_of(word: Option<&str>) -> Option<Policy>
-    ensures { Finds (IsPolicy (option_map (λ word. word.now) word.entry)) result }
-{
-    match word {
-        None | Some("first") => Some(Policy::First),
-        Some("round") => Some(Policy::Round),
-        Some(_) => None,
-    }
-}
-
-/// The workers of `--workers` and `--policy`, from their values.
-pub(crate) fn workers_of(count: Option<&str>, policy: Option<&str>) -> Option<Workers>
-    ensures { Finds (AreWorkers (option_map (λ word. word.now) count.entry) (option_map (λ word. word.now) policy.entry)) result }
-{
-    match count_or(count, 1, 16)? {
-        1 => Some(Workers::One(policy_of(policy)?)),
-        many if policy.is_none() => Some(Workers::Many(many)),
-        _ => None,
-    }
-}
-
-/// The most firings of a batch, from the value of `--steps`.
-pub(crate) fn steps_of(word: Option<&str>) -> Option<u32>
-    ensures { Finds (AreSteps (option_map (λ word. word.now) word.entry)) result }
-{
-    count_or(word, 1_000_000, 10_000_000)
 }

@@ -1,0 +1,137 @@
+-- Words ask for one task, and what holds of every task that they ask for.
+use Rattle.std.proofs.Common.{◌≡◌, ℕ, ◌<◌, ◌≤◌, ◌^◌, List, [], ◌∷◌, ◌++◌, drop, get_or, Option, Some, None, refl, sym, ap, subst, ◌∙◌, arith}
+use Rattle.std.specs.Prelude.{codes, decimal}
+use Rattle.std.proofs.lemmas.List.{append-nil}
+use Rattle.nomos_machine.specs.declared.policy.Policy.{Policy}
+use Rattle.nomos_machine.specs.declared.policy.Policy.TheVariants.{First, Round}
+use Rattle.nomos_texts.proofs.OneTextLaws.{decimal-only}
+use Rattle.nomos_words.specs.Options.{AreOptions, AreSteps, AreWorkers, IsCountOr, IsPolicy, policy_word, value_of, words_of}
+use Rattle.nomos_words.specs.Words.{AreOperands, Asks, IsLoad, IsRun, IsSeed, Task, check, command, run, replay, bench, least}
+use Rattle.nomos_words.specs.declared.workers.Workers.{Workers}
+use Rattle.nomos_words.specs.declared.workers.Workers.TheVariants.{One, Many}
+use Rattle.nomos_words.proofs.GivenLemmas.{none_left}
+use Rattle.nomos_words.proofs.OptionLemmas.{Pair, options_front}
+
+-- ---- what an option says is one thing
+
+count_same : (missing most : ℕ) → most < 2 ^ 32 → (given : Option (List ℕ)) (m n : ℕ) → IsCountOr missing most given m
+    → IsCountOr missing most given n → m ≡ n
+count_same missing most small None m n is other = is ∙ sym other
+count_same missing most small (Some word) m n is other =
+    decimal-only m n (omega (arith, small, is.1)) (omega (arith, small, other.1)) (sym is.2 ∙ other.2)
+
+word_same : (p q : Policy) → policy_word p ≡ policy_word q → p ≡ q
+word_same First First same = refl
+word_same First Round same = absurd (omega (arith, ap (λ w. get_or w 0 0) same))
+word_same Round First same = absurd (omega (arith, ap (λ w. get_or w 0 0) same))
+word_same Round Round same = refl
+
+policy_same : (given : Option (List ℕ)) (p q : Policy) → IsPolicy given p → IsPolicy given q → p ≡ q
+policy_same None p q is other = is ∙ sym other
+policy_same (Some word) p q is other = word_same p q (sym is ∙ other)
+
+workers_same : (count policy : Option (List ℕ)) (u v : Workers) → AreWorkers count policy u → AreWorkers count policy v
+    → u ≡ v
+workers_same count policy (One p) (One q) is other = ap (λ x. One x) (policy_same policy p q is.1 other.1)
+workers_same count policy (One p) (Many n) is other =
+    absurd (omega (arith, count_same 1 16 (omega arith) count 1 n is.0 other.0, other.1))
+workers_same count policy (Many m) (One q) is other =
+    absurd (omega (arith, count_same 1 16 (omega arith) count m 1 is.0 other.0, is.1))
+workers_same count policy (Many m) (Many n) is other =
+    ap (λ x. Many x) (count_same 1 16 (omega arith) count m n is.0 other.0)
+
+-- ---- words are the words of one list of options
+
+options_same : (options other : List Pair) → words_of options ≡ words_of other → options ≡ other
+options_same options other same =
+    let told = options_front options other [] (append-nil (words_of options) ∙ same) in
+    sym (told.1 ∙ ap (λ rest. options ++ rest) (none_left told.0 told.2) ∙ append-nil options)
+
+-- ---- and they ask for one task
+
+run_same : (words : List (List ℕ)) (f s : List ℕ) (w : Workers) (n : ℕ) (j : Option (List ℕ)) (f' s' : List ℕ)
+    (w' : Workers) (n' : ℕ) (j' : Option (List ℕ)) → IsRun words f s w n j → IsRun words f' s' w' n' j'
+    → run f s w n j ≡ run f' s' w' n' j'
+run_same words f s w n j f' s' w' n' j' a b =
+    let none : List ℕ = [] in
+    let e = sym a.are ∙ b.are in
+    let behind : words_of a.options ≡ words_of b.options =
+        sym a.are_options.are ∙ ap (λ ws. drop 2 ws) e ∙ b.are_options.are in
+    let same : b.options ≡ a.options = sym (options_same a.options b.options behind) in
+    let workers = workers_same (value_of (codes "--workers") a.options) (value_of (codes "--policy") a.options) w w'
+        a.workers_are (subst (λ o. AreWorkers (value_of (codes "--workers") o) (value_of (codes "--policy") o) w') same b.workers_are) in
+    let steps = count_same 1000000 10000000 (omega arith) (value_of (codes "--steps") a.options) n n'
+        a.steps_are (subst (λ o. AreSteps (value_of (codes "--steps") o) n') same b.steps_are) in
+    let journal : j ≡ j' = a.journal_is ∙ ap (λ o. value_of (codes "--journal") o) (sym same) ∙ sym b.journal_is in
+    ap (λ x. run x s w n j) (ap (λ ws. get_or ws 0 none) e) ∙ ap (λ x. run f' x w n j) (ap (λ ws. get_or ws 1 none) e)
+    ∙ ap (λ x. run f' s' x n j) workers ∙ ap (λ x. run f' s' w' x j) steps ∙ ap (λ x. run f' s' w' n' x) journal
+
+load_same : (words : List (List ℕ)) (s b s' b' : ℕ) → IsLoad words s b → IsLoad words s' b' → bench s b ≡ bench s' b'
+load_same words s b s' b' one other =
+    let none : List ℕ = [] in
+    let e = sym one.are ∙ other.are in
+    let seed : decimal s ≡ decimal s' = sym one.is_seed.1 ∙ ap (λ ws. get_or ws 0 none) e ∙ other.is_seed.1 in
+    let bidders : decimal b ≡ decimal b' =
+        sym one.are_bidders.2 ∙ ap (λ ws. get_or ws 1 none) e ∙ other.are_bidders.2 in
+    ap (λ x. bench x b) (decimal-only s s' (omega (arith, one.is_seed.0)) (omega (arith, other.is_seed.0)) seed)
+    ∙ ap (λ x. bench s' x) (decimal-only b b' (omega (arith, one.are_bidders.1)) (omega (arith, other.are_bidders.1)) bidders)
+
+same_task : (words : List (List ℕ)) (t u : Task) → command t ≡ command u → AreOperands words t → AreOperands words u → t ≡ u
+same_task words (check f) (check f') e a b = let none : List ℕ = [] in ap (λ x. check x) (ap (λ ws. get_or ws 0 none) (sym a.are ∙ b.are))
+same_task words (check f) (run f' s' w' n' j') e a b = absurd (omega (arith, ap (λ w. get_or w 0 0) e))
+same_task words (check f) (replay f' s' j') e a b = absurd (omega (arith, ap (λ w. get_or w 0 0) e))
+same_task words (check f) (bench s' k') e a b = absurd (omega (arith, ap (λ w. get_or w 0 0) e))
+same_task words (check f) (least f') e a b = absurd (omega (arith, ap (λ w. get_or w 0 0) e))
+same_task words (run f s w n j) (check f') e a b = absurd (omega (arith, ap (λ w. get_or w 0 0) e))
+same_task words (run f s w n j) (run f' s' w' n' j') e a b = run_same words f s w n j f' s' w' n' j' a b
+same_task words (run f s w n j) (replay f' s' j') e a b = absurd (omega (arith, ap (λ w. get_or w 1 0) e))
+same_task words (run f s w n j) (bench s' k') e a b = absurd (omega (arith, ap (λ w. get_or w 0 0) e))
+same_task words (run f s w n j) (least f') e a b = absurd (omega (arith, ap (λ w. get_or w 0 0) e))
+same_task words (replay f s j) (check f') e a b = absurd (omega (arith, ap (λ w. get_or w 0 0) e))
+same_task words (replay f s j) (run f' s' w' n' j') e a b = absurd (omega (arith, ap (λ w. get_or w 1 0) e))
+same_task words (replay f s j) (replay f' s' j') e a b =
+    let none : List ℕ = [] in
+    let same = sym a.are ∙ b.are in
+    ap (λ x. replay x s j) (ap (λ ws. get_or ws 0 none) same) ∙ ap (λ x. replay f' x j) (ap (λ ws. get_or ws 1 none) same)
+    ∙ ap (λ x. replay f' s' x) (ap (λ ws. get_or ws 2 none) same)
+same_task words (replay f s j) (bench s' k') e a b = absurd (omega (arith, ap (λ w. get_or w 0 0) e))
+same_task words (replay f s j) (least f') e a b = absurd (omega (arith, ap (λ w. get_or w 0 0) e))
+same_task words (bench s k) (check f') e a b = absurd (omega (arith, ap (λ w. get_or w 0 0) e))
+same_task words (bench s k) (run f' s' w' n' j') e a b = absurd (omega (arith, ap (λ w. get_or w 0 0) e))
+same_task words (bench s k) (replay f' s' j') e a b = absurd (omega (arith, ap (λ w. get_or w 0 0) e))
+same_task words (bench s k) (bench s' k') e a b = load_same words s k s' k' a b
+same_task words (bench s k) (least f') e a b = absurd (omega (arith, ap (λ w. get_or w 0 0) e))
+same_task words (least f) (check f') e a b = absurd (omega (arith, ap (λ w. get_or w 0 0) e))
+same_task words (least f) (run f' s' w' n' j') e a b = absurd (omega (arith, ap (λ w. get_or w 0 0) e))
+same_task words (least f) (replay f' s' j') e a b = absurd (omega (arith, ap (λ w. get_or w 0 0) e))
+same_task words (least f) (bench s' k') e a b = absurd (omega (arith, ap (λ w. get_or w 0 0) e))
+same_task words (least f) (least f') e a b = let none : List ℕ = [] in ap (λ x. least x) (ap (λ ws. get_or ws 0 none) (sym a.are ∙ b.are))
+
+-- words ask for one task
+pub one_task : (words : List (List ℕ)) (t u : Task) → Asks words t → Asks words u → t ≡ u
+one_task [] t u asks other = absurd asks
+one_task (word ∷ words) t u asks other = same_task words t u (sym asks.0 ∙ other.0) asks.1 other.1
+
+-- ---- tasks that are asked for
+
+count_within : (missing most n : ℕ) → 1 ≤ missing → missing ≤ most → (given : Option (List ℕ))
+    → IsCountOr missing most given n → (1 ≤ n) × (n ≤ most)
+count_within missing most n some few None is = (omega (arith, is), omega (arith, is))
+count_within missing most n some few (Some word) is = (is.0, is.1)
+
+several : (k : ℕ) (given : Option (List ℕ)) → IsCountOr 1 16 given k → 1 < k → (2 ≤ k) × (k ≤ 16)
+several k given is more = (omega (arith, more), (count_within 1 16 k (omega arith) (omega arith) given is).1)
+
+-- where several workers are asked for, they are from 2 to 16
+pub several_workers : (words : List (List ℕ)) (file script : List ℕ) (k steps : ℕ) (journal : Option (List ℕ))
+    → Asks words (run file script (Many k) steps journal) → (2 ≤ k) × (k ≤ 16)
+several_workers [] file script k steps journal asks = absurd asks
+several_workers (word ∷ words) file script k steps journal asks =
+    several k (value_of (codes "--workers") asks.1.options) asks.1.workers_are.0 asks.1.workers_are.1
+
+-- a run makes at least one firing in a batch, and at most 10,000,000
+pub steps_within : (words : List (List ℕ)) (file script : List ℕ) (workers : Workers) (steps : ℕ) (journal : Option (List ℕ))
+    → Asks words (run file script workers steps journal) → (1 ≤ steps) × (steps ≤ 10000000)
+steps_within [] file script workers steps journal asks = absurd asks
+steps_within (word ∷ words) file script workers steps journal asks =
+    count_within 1000000 10000000 steps (omega arith) (omega arith) (value_of (codes "--steps") asks.1.options) asks.1.steps_are

@@ -1,0 +1,7 @@
+-- The line that says which words there are.
+use Rattle.std.specs.Prelude.{ℕ, List, ◌++◌, codes}
+
+unfoldable pub usage_line : List ℕ
+usage_line =
+    codes "usage: nomos check FILE | run FILE SCRIPT [--workers N] [--policy first|round] [--steps N] [--journal FILE]"
+    ++ codes " | replay FILE SCRIPT JOURNAL | bench SEED BIDDERS | least FILE\n"
