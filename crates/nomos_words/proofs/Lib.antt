@@ -1,3 +1,4 @@
+mod Examples
 pub mod FindingLaws
 mod GivenLemmas
 mod LoadLemmas
