@@ -1,12 +1,10 @@
 -- Some words, loads and summaries, computed by the definitions.
-use Rattle.std.proofs.Common.{◌≡◌, ℕ, ◌<◌, List, [], ◌∷◌, ◌++◌, get_or, Option, Some, None, refl, sym, ap, ◌∙◌, arith, pos}
-use Rattle.std.specs.Prelude.{codes, decimal, All, AllPairs}
+use Rattle.std.proofs.Common.{◌≡◌, ℕ, List, [], ◌∷◌, ◌++◌, get_or, Some, None, refl, sym, ap, arith, pos}
+use Rattle.std.specs.Prelude.{codes}
 use Rattle.std.specs.Fmt.{digits}
 use Rattle.std.specs.List.{Contains}
 use Rattle.std.proofs.lemmas.List.Elements.{All-cons, All-nil}
-use Rattle.std.proofs.lemmas.List.Kept.{AllPairs-cons}
 use Rattle.nomos_ir.specs.Value.{int}
-use Rattle.nomos_machine.specs.declared.policy.Policy.{Policy}
 use Rattle.nomos_machine.specs.declared.policy.Policy.TheVariants.{First, Round}
 use Rattle.nomos_words.specs.Load.{bid, draw, load_script}
 use Rattle.nomos_words.specs.Options.{AreOptions, AreWorkers, option_names}
@@ -14,7 +12,7 @@ use Rattle.nomos_words.specs.Summary.{summary_text}
 use Rattle.nomos_words.specs.Words.{Asks, Task, check, run, replay, bench, least}
 use Rattle.nomos_words.specs.declared.workers.Workers.{Workers}
 use Rattle.nomos_words.specs.declared.workers.Workers.TheVariants.{One, Many}
-use Rattle.nomos_words.proofs.OptionLemmas.{Pair, AreApart, IsKnown}
+use Rattle.nomos_words.proofs.OptionLemmas.{IsKnown}
 
 -- ---- words
 
@@ -29,22 +27,28 @@ checks : Asks (codes "check" ∷ codes "c" ∷ []) (check (codes "c"))
 checks = (refl, record { are = refl; is_file = λ e. omega (arith, e) })
 
 replays : Asks (codes "replay" ∷ codes "c" ∷ codes "s" ∷ codes "j" ∷ []) (replay (codes "c") (codes "s") (codes "j"))
-replays = (refl, record {
-  are = refl;
-  is_file = λ e. omega (arith, e);
-  is_script = λ e. omega (arith, e);
-  is_journal = λ e. omega (arith, e);
-})
+replays = (
+  refl,
+  record {
+    are = refl;
+    is_file = λ e. omega (arith, e);
+    is_script = λ e. omega (arith, e);
+    is_journal = λ e. omega (arith, e);
+  },
+)
 
 benches : Asks (codes "bench" ∷ codes "0" ∷ codes "10000" ∷ []) (bench 0 10000)
 unfolding digits
-benches = (refl, record {
-  seed_word = codes "0";
-  bidders_word = codes "10000";
-  are = refl;
-  is_seed = (omega arith, refl);
-  are_bidders = (omega arith, omega arith, refl);
-})
+benches = (
+  refl,
+  record {
+    seed_word = codes "0";
+    bidders_word = codes "10000";
+    are = refl;
+    is_seed = (omega arith, refl);
+    are_bidders = (omega arith, omega arith, refl);
+  },
+)
 
 -- a word that begins with `-` is no file
 no_file : (task : Task) → Asks (codes "check" ∷ codes "-x" ∷ []) task → ⊥
@@ -58,18 +62,22 @@ no_file (least f) asks = omega (arith, ap (λ w. get_or w 0 0) asks.0)
 
 -- a run without options
 runs : Asks (run_with []) (run (codes "c") (codes "s") (One First) 1000000 None)
-runs = (refl, record {
-  behind = [];
-  options = [];
-  are = refl;
-  is_file = λ e. omega (arith, e);
-  is_script = λ e. omega (arith, e);
-  are_options = record { are = refl; known = All-nil IsKnown; once = λ i j d below within. absurd (omega (arith, within)) };
-  workers_are = (refl, refl);
-  steps_are = refl;
-  journal_is = refl;
-  journal_is_file = tt;
-})
+runs = (
+  refl,
+  record {
+    behind = [];
+    options = [];
+    are = refl;
+    is_file = λ e. omega (arith, e);
+    is_script = λ e. omega (arith, e);
+    are_options =
+        record { are = refl; known = All-nil IsKnown; once = λ i j d below within. absurd (omega (arith, within)) };
+    workers_are = (refl, refl);
+    steps_are = refl;
+    journal_is = refl;
+    journal_is_file = tt;
+  },
+)
 
 -- one worker may have a policy
 one_option : (key value : List ℕ) → Contains option_names key → AreOptions (key ∷ value ∷ []) ((key, value) ∷ [])
@@ -79,19 +87,23 @@ one_option key value known = record {
   once = λ i j d below within. absurd (omega (arith, below, within));
 }
 
-by_turns : Asks (run_with (codes "--policy" ∷ codes "round" ∷ [])) (run (codes "c") (codes "s") (One Round) 1000000 None)
-by_turns = (refl, record {
-  behind = codes "--policy" ∷ codes "round" ∷ [];
-  options = (codes "--policy", codes "round") ∷ [];
-  are = refl;
-  is_file = λ e. omega (arith, e);
-  is_script = λ e. omega (arith, e);
-  are_options = one_option (codes "--policy") (codes "round") (1, omega arith, refl);
-  workers_are = (refl, refl);
-  steps_are = refl;
-  journal_is = refl;
-  journal_is_file = tt;
-})
+by_turns : Asks (run_with (codes "--policy" ∷ codes "round" ∷ []))
+    (run (codes "c") (codes "s") (One Round) 1000000 None)
+by_turns = (
+  refl,
+  record {
+    behind = codes "--policy" ∷ codes "round" ∷ [];
+    options = (codes "--policy", codes "round") ∷ [];
+    are = refl;
+    is_file = λ e. omega (arith, e);
+    is_script = λ e. omega (arith, e);
+    are_options = one_option (codes "--policy") (codes "round") (1, omega arith, refl);
+    workers_are = (refl, refl);
+    steps_are = refl;
+    journal_is = refl;
+    journal_is_file = tt;
+  },
+)
 
 -- several have none
 several_by_turns : (workers : Workers) → AreWorkers (Some (codes "2")) (Some (codes "first")) workers → ⊥
@@ -109,13 +121,14 @@ first_bid = refl
 
 one_bidder : load_script 0 1
     ≡ codes "deposit seller 2\nlet ws = new seller keep(0;)\nlet auc = new seller start(0; ws)\n"
-      ++ codes "deposit u1 3\nlet w1 = new u1 keep(0;)\nexec u1 place(808; auc, w1)\nexec seller ask(; auc)\n"
+    ++ codes "deposit u1 3\nlet w1 = new u1 keep(0;)\nexec u1 place(808; auc, w1)\nexec seller ask(; auc)\n"
 unfolding load_script digits
 one_bidder = refl
 
 -- ---- a summary
 
-summary : summary_text (record { seed = 0; bidders = 1; entries = 7; firings = 52; spent = 5; unit = 1 }) (Some (int (pos 808)))
+summary : summary_text (record { seed = 0; bidders = 1; entries = 7; firings = 52; spent = 5; unit = 1 })
+    (Some (int (pos 808)))
     ≡ codes "bench 0 1\nentries 7\nfirings 52\nspent 5\nbest 808\n"
 unfolding digits
 summary = refl

@@ -1,5 +1,5 @@
 -- When nothing is found, and what is found.
-use Rattle.std.proofs.Common.{◌≡◌, Option, Some, None, sym, ◌∙◌}
+use Rattle.std.proofs.Common.{◌≡◌, Option, Some, None}
 use Rattle.nomos_words.specs.Finding.{Finds}
 
 -- there is nothing to be found

@@ -1,5 +1,5 @@
 -- The options that were gathered from the words in front.
-use Rattle.std.proofs.Common.{◌≡◌, ◌≢◌, ◌⊎◌, ℕ, ◌<◌, ◌+◌, suc, zero, Bool, true, false, List, [], ◌∷◌, ◌++◌, length, get_or, Option, Some, None, All, refl, sym, ap, subst, ◌∙◌, arith, inl, inr}
+use Rattle.std.proofs.Common.{◌≡◌, ℕ, suc, zero, false, List, [], ◌∷◌, ◌++◌, length, get_or, Option, Some, None, All, refl, sym, ap, subst, ◌∙◌, arith, inl, inr}
 use Rattle.std.specs.Prelude.{AllPairs, codes}
 use Rattle.std.specs.List.{Contains}
 use Rattle.std.specs.Str.{bytes_eq}
@@ -57,6 +57,19 @@ record IsAdded (done : List Pair) (name value : List ℕ) (next : Values) : Type
   pub is_new : value_of name done ≡ None
   pub next_is : next ≡ values_of (done ++ (name, value) ∷ [])
 
+-- the values of options, and one more
+abbrev with_workers : List Pair → List ℕ → Values
+with_workers done value = record (values_of done) { workers = Some value }
+
+abbrev with_policy : List Pair → List ℕ → Values
+with_policy done value = record (values_of done) { policy = Some value }
+
+abbrev with_steps : List Pair → List ℕ → Values
+with_steps done value = record (values_of done) { steps = Some value }
+
+abbrev with_journal : List Pair → List ℕ → Values
+with_journal done value = record (values_of done) { journal = Some value }
+
 values_same : (a b : Values) → a.workers ≡ b.workers → a.policy ≡ b.policy → a.steps ≡ b.steps → a.journal ≡ b.journal
     → a ≡ b
 values_same a b w p s j =
@@ -69,49 +82,50 @@ added : (done : List Pair) (name value : List ℕ) (next : Values) → Named nam
     → with_option (values_of done) name value ≡ Some next → IsAdded done name value next
 added done name value next (workers is) e =
     let key = codes "--workers" in
-    let told = unless_some (value_of key done) (record (values_of done) { workers = Some value }) next (rw is at e) in
+    let told = unless_some (value_of key done) (with_workers done value) next (rw is at e) in
     rw is (record {
       is_option = (0, omega arith, refl);
       is_new = told.0;
-      next_is = told.1 ∙ values_same (record (values_of done) { workers = Some value }) (values_of (done ++ (key, value) ∷ []))
+      next_is = told.1 ∙ values_same (with_workers done value) (values_of (done ++ (key, value) ∷ []))
           (sym (value_of-same key value done told.0)) (sym (value_of-other (codes "--policy") key value done refl))
           (sym (value_of-other (codes "--steps") key value done refl))
           (sym (value_of-other (codes "--journal") key value done refl));
     })
 added done name value next (policy is) e =
     let key = codes "--policy" in
-    let told = unless_some (value_of key done) (record (values_of done) { policy = Some value }) next (rw is at e) in
+    let told = unless_some (value_of key done) (with_policy done value) next (rw is at e) in
     rw is (record {
       is_option = (1, omega arith, refl);
       is_new = told.0;
-      next_is = told.1 ∙ values_same (record (values_of done) { policy = Some value }) (values_of (done ++ (key, value) ∷ []))
+      next_is = told.1 ∙ values_same (with_policy done value) (values_of (done ++ (key, value) ∷ []))
           (sym (value_of-other (codes "--workers") key value done refl)) (sym (value_of-same key value done told.0))
           (sym (value_of-other (codes "--steps") key value done refl))
           (sym (value_of-other (codes "--journal") key value done refl));
     })
 added done name value next (steps is) e =
     let key = codes "--steps" in
-    let told = unless_some (value_of key done) (record (values_of done) { steps = Some value }) next (rw is at e) in
+    let told = unless_some (value_of key done) (with_steps done value) next (rw is at e) in
     rw is (record {
       is_option = (2, omega arith, refl);
       is_new = told.0;
-      next_is = told.1 ∙ values_same (record (values_of done) { steps = Some value }) (values_of (done ++ (key, value) ∷ []))
+      next_is = told.1 ∙ values_same (with_steps done value) (values_of (done ++ (key, value) ∷ []))
           (sym (value_of-other (codes "--workers") key value done refl))
           (sym (value_of-other (codes "--policy") key value done refl)) (sym (value_of-same key value done told.0))
           (sym (value_of-other (codes "--journal") key value done refl));
     })
 added done name value next (journal is) e =
     let key = codes "--journal" in
-    let told = unless_some (value_of key done) (record (values_of done) { journal = Some value }) next (rw is at e) in
+    let told = unless_some (value_of key done) (with_journal done value) next (rw is at e) in
     rw is (record {
       is_option = (3, omega arith, refl);
       is_new = told.0;
-      next_is = told.1 ∙ values_same (record (values_of done) { journal = Some value }) (values_of (done ++ (key, value) ∷ []))
+      next_is = told.1 ∙ values_same (with_journal done value) (values_of (done ++ (key, value) ∷ []))
           (sym (value_of-other (codes "--workers") key value done refl))
           (sym (value_of-other (codes "--policy") key value done refl))
           (sym (value_of-other (codes "--steps") key value done refl)) (sym (value_of-same key value done told.0));
     })
-added done name value next (none w p s j) e = absurd (let no = with_option-none (values_of done) name value w p s j in cc)
+added done name value next (none w p s j) e =
+    absurd (let no = with_option-none (values_of done) name value w p s j in cc)
 
 no_option : (name : List ℕ) → Contains option_names name → bytes_eq name (codes "--workers") ≡ false
     → bytes_eq name (codes "--policy") ≡ false → bytes_eq name (codes "--steps") ≡ false
@@ -126,13 +140,13 @@ no_option name (suc (suc (suc (suc k))), within, is) w p s j = omega (arith, wit
 taken : (done : List Pair) (name value : List ℕ) → Named name → Contains option_names name
     → with_option (values_of done) name value ≡ None → (word : List ℕ) × (value_of name done ≡ Some word)
 taken done name value (workers is) one e =
-    rw is (unless_none (value_of (codes "--workers") done) (record (values_of done) { workers = Some value }) (rw is at e))
+    rw is (unless_none (value_of (codes "--workers") done) (with_workers done value) (rw is at e))
 taken done name value (policy is) one e =
-    rw is (unless_none (value_of (codes "--policy") done) (record (values_of done) { policy = Some value }) (rw is at e))
+    rw is (unless_none (value_of (codes "--policy") done) (with_policy done value) (rw is at e))
 taken done name value (steps is) one e =
-    rw is (unless_none (value_of (codes "--steps") done) (record (values_of done) { steps = Some value }) (rw is at e))
+    rw is (unless_none (value_of (codes "--steps") done) (with_steps done value) (rw is at e))
 taken done name value (journal is) one e =
-    rw is (unless_none (value_of (codes "--journal") done) (record (values_of done) { journal = Some value }) (rw is at e))
+    rw is (unless_none (value_of (codes "--journal") done) (with_journal done value) (rw is at e))
 taken done name value (none w p s j) one e = absurd (no_option name one w p s j)
 
 -- ---- while the words are gone through
@@ -183,7 +197,7 @@ stops words after name value given g e options are (o ∷ rest) whole left =
     let none : List ℕ = [] in
     let same : o.0 ≡ name = sym (ap (λ ws. get_or ws 0 none) left) in
     let is_option : Contains option_names name =
-        subst (λ n. Contains option_names n) same (behind_known g.done rest o (subst (All IsKnown) whole are.known)) in
+    subst (λ n. Contains option_names n) same (behind_known g.done rest o (subst (All IsKnown) whole are.known)) in
     let there = taken g.done name value (named name) is_option e in
     let place = value_of-place name there.0 g.done there.1 in
     behind_apart g.done rest o (subst (AllPairs AreApart) whole are.once) place.0 place.1 (place.2 o ∙ sym same)
@@ -193,7 +207,8 @@ pub Gathers-stops : (words after : List (List ℕ)) (name value : List ℕ) (giv
     → (other : Values) → AreGiven words other → ⊥
 Gathers-stops words after name value given g e other (options, are, values_are) =
     let told = front words (name ∷ value ∷ after) given g options are in
-    stops words after name value given g (ap (λ v. with_option v name value) (sym g.given_is) ∙ e) options are told.0 told.1 told.2
+    let stopped = ap (λ v. with_option v name value) (sym g.given_is) ∙ e in
+    stops words after name value given g stopped options are told.0 told.1 told.2
 
 odd : (name : List ℕ) (rest : List Pair) → name ∷ [] ≡ words_of rest → ⊥
 odd name [] e = omega (arith, ap length e)
@@ -208,10 +223,15 @@ pub none_left : (rest : List Pair) → [] ≡ words_of rest → rest ≡ []
 none_left [] e = refl
 none_left (o ∷ rest) e = absurd (omega (arith, ap length e))
 
-pub Gathers-all : (words : List (List ℕ)) (given : Values) → Gathers words [] given → Finds (AreGiven words) (Some given)
+pub Gathers-all : (words : List (List ℕ)) (given : Values) → Gathers words [] given
+    → Finds (AreGiven words) (Some given)
 Gathers-all words given g =
     record {
-      found = (g.done, record { are = g.are ∙ append-nil (words_of g.done); known = g.known; once = g.once }, g.given_is);
+      found = (
+        g.done,
+        record { are = g.are ∙ append-nil (words_of g.done); known = g.known; once = g.once },
+        g.given_is,
+      );
       each = λ other is.
           let told = front words [] given g is.0 is.1 in
           let all = none_left told.0 told.2 in

@@ -1,5 +1,5 @@
 -- The load, with one bidder more.
-use Rattle.std.proofs.Common.{◌≡◌, ℕ, ◌+◌, ◌*◌, ◌%◌, ◌^◌, List, ◌++◌, refl, ap, ◌∙◌, append_assoc, add-one}
+use Rattle.std.proofs.Common.{◌≡◌, ℕ, ◌+◌, List, ◌++◌, refl, ap, ◌∙◌, append_assoc, add-one}
 use Rattle.nomos_words.specs.Load.{bid, bidder_lines, bidders_lines, draw, next_draw}
 
 pub draw-more : (seed k : ℕ) → draw seed (k + 1) ≡ next_draw (draw seed k)

@@ -1,13 +1,13 @@
 -- Options as they stand in the words, and the value behind a name.
-use Rattle.std.proofs.Common.{◌≡◌, ◌≢◌, ◌⊎◌, ℕ, ◌<◌, ◌+◌, suc, zero, Bool, true, false, List, [], ◌∷◌, ◌++◌, length, take, drop, get_or, map, string_bytes, ◌≤◌, ◌-◌, Decides, Option, Some, None, All, refl, sym, ap, ◌∙◌, subst, cond, arith, inl, inr, length-append}
-use Rattle.std.specs.Prelude.{AllPairs, codes}
+use Rattle.std.proofs.Common.{◌≡◌, ◌≢◌, ◌⊎◌, ℕ, ◌<◌, ◌+◌, suc, zero, Bool, true, false, List, [], ◌∷◌, ◌++◌, length, take, drop, get_or, map, string_bytes, ◌≤◌, ◌-◌, Decides, Some, None, All, refl, sym, ap, ◌∙◌, subst, cond, arith, inl, inr, length-append}
+use Rattle.std.specs.Prelude.{AllPairs}
 use Rattle.std.specs.List.{Contains}
 use Rattle.std.specs.Str.{bytes_eq}
 use Rattle.std.proofs.lemmas.Bool.{false≢true}
 use Rattle.std.proofs.lemmas.List.{get_or_append_left, get_or-append-add, take_rest}
 use Rattle.std.proofs.lemmas.Slice.Eq.{bytes_eq-Decides}
 use Rattle.std.specs.declared.string.String.{String}
-use Rattle.nomos_words.specs.Options.{AreOptions, option_names, value_of, words_of}
+use Rattle.nomos_words.specs.Options.{option_names, value_of, words_of}
 
 abbrev pub Pair : Type 0
 Pair = List ℕ × List ℕ
@@ -18,7 +18,7 @@ Pair = List ℕ × List ℕ
 pub two_words : {Z : Type 0} (words : List (String Z)) (name value : String Z) → 2 ≤ length words
     → name ≡ get_or words 0 name → value ≡ get_or words 1 value
     → map string_bytes words
-        ≡ string_bytes name ∷ string_bytes value ∷ map string_bytes (take (length words - 2) (drop 2 words))
+    ≡ string_bytes name ∷ string_bytes value ∷ map string_bytes (take (length words - 2) (drop 2 words))
 two_words [] name value some n v = absurd (omega (arith, some))
 two_words (w ∷ []) name value some n v = absurd (omega (arith, some))
 two_words (w ∷ x ∷ words) name value some n v =
@@ -48,12 +48,11 @@ options_front ((name, value) ∷ done) ((n, v) ∷ options) left e =
     let d : List ℕ = [] in
     let same_name : name ≡ n = ap (λ ws. get_or ws 0 d) e in
     let same_value : value ≡ v = ap (λ ws. get_or ws 1 d) e in
-    let told = options_front done options left (ap (λ ws. drop 2 ws) e) in
-    (
+    let told = options_front done options left (ap (λ ws. drop 2 ws) e) in (
       told.0,
       ap (λ x. (x, v) ∷ options) (sym same_name) ∙ ap (λ x. (name, x) ∷ options) (sym same_value)
-      ∙ ap (λ os. (name, value) ∷ os) told.1,
-      told.2
+          ∙ ap (λ os. (name, value) ∷ os) told.1,
+      told.2,
     )
 
 -- the words of options of which one is added
@@ -137,4 +136,4 @@ behind_apart done rest o once k earlier same =
     let there : get_or (done ++ o ∷ rest) k o ≡ get_or done k o = get_or_append_left done (o ∷ rest) o k earlier in
     let within : length done + 0 < length (done ++ o ∷ rest) = omega (arith, length-append done (o ∷ rest)) in
     once k (length done + 0) o (omega (arith, earlier)) within
-        (ap (λ p. p.0) there ∙ same ∙ sym (ap (λ p. p.0) here))
+    (ap (λ p. p.0) there ∙ same ∙ sym (ap (λ p. p.0) here))

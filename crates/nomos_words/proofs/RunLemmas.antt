@@ -1,10 +1,10 @@
 -- What the words behind `run` ask for.
-use Rattle.std.proofs.Common.{◌≡◌, ℕ, List, [], ◌∷◌, get_or, drop, Option, Some, None, IfSome, refl, sym, ap, subst, ◌∙◌, arith}
+use Rattle.std.proofs.Common.{◌≡◌, ℕ, List, [], ◌∷◌, get_or, drop, Some, None, IfSome, refl, sym, ap, subst, ◌∙◌, arith}
 use Rattle.std.specs.Prelude.{codes}
 use Rattle.std.proofs.lemmas.Option.{same_Some}
 use Rattle.nomos_words.specs.Finding.{Finds}
-use Rattle.nomos_words.specs.Options.{AreSteps, AreWorkers, IsFileWord, value_of}
-use Rattle.nomos_words.specs.Words.{Asks, IsRun, Task, check, run, replay, bench, least}
+use Rattle.nomos_words.specs.Options.{AreSteps, AreWorkers, IsFileWord}
+use Rattle.nomos_words.specs.Words.{Asks, Task, check, run, replay, bench, least}
 use Rattle.nomos_words.specs.mirror.Given.{AreGiven, Values, values_of}
 use Rattle.nomos_words.specs.declared.workers.Workers.{Workers}
 use Rattle.nomos_words.proofs.FindingLaws.{Finds-none, Finds-some}
@@ -22,8 +22,8 @@ record RunSays (file script : List ℕ) (behind : List (List ℕ)) (task : Task)
   pub are_steps : AreSteps given.steps steps
   pub task_is : task ≡ run file script workers steps given.journal
 
-run_says : (file script : List ℕ) (behind : List (List ℕ)) (task : Task) → Asks (codes "run" ∷ file ∷ script ∷ behind) task
-    → RunSays file script behind task
+run_says : (file script : List ℕ) (behind : List (List ℕ)) (task : Task)
+    → Asks (codes "run" ∷ file ∷ script ∷ behind) task → RunSays file script behind task
 run_says file script behind (run f s workers steps journal) (is, asks) =
     let none : List ℕ = [] in
     let same_file : file ≡ f = ap (λ ws. get_or ws 0 none) asks.are in
@@ -31,7 +31,8 @@ run_says file script behind (run f s workers steps journal) (is, asks) =
     let same_behind : behind ≡ asks.behind = ap (λ ws. drop 2 ws) asks.are in
     record {
       given = values_of asks.options;
-      are_given = subst (λ ws. AreGiven ws (values_of asks.options)) (sym same_behind) (asks.options, asks.are_options, refl);
+      are_given =
+          subst (λ ws. AreGiven ws (values_of asks.options)) (sym same_behind) (asks.options, asks.are_options, refl);
       is_file = subst IsFileWord (sym same_file) asks.is_file;
       is_script = subst IsFileWord (sym same_script) asks.is_script;
       is_journal = subst (λ j. IfSome j IsFileWord) asks.journal_is asks.journal_is_file;
@@ -40,7 +41,8 @@ run_says file script behind (run f s workers steps journal) (is, asks) =
       steps = steps;
       are_steps = asks.steps_are;
       task_is =
-          ap (λ x. run x s workers steps journal) (sym same_file) ∙ ap (λ x. run file x workers steps journal) (sym same_script)
+          ap (λ x. run x s workers steps journal) (sym same_file)
+          ∙ ap (λ x. run file x workers steps journal) (sym same_script)
           ∙ ap (λ x. run file script workers steps x) asks.journal_is;
     }
 run_says file script behind (check f) (is, asks) = absurd (omega (arith, ap (λ w. get_or w 0 0) is))
@@ -96,19 +98,21 @@ pub run_found : (file script : List ℕ) (behind : List (List ℕ)) (given : Val
 run_found file script behind given workers steps gives crew most is_file is_script is_journal =
     let options = gives.found in
     let is : given ≡ values_of options.0 = options.2 in
-    Finds-some (run file script workers steps given.journal)
-    (refl, record {
-      behind = behind;
-      options = options.0;
-      are = refl;
-      is_file = is_file;
-      is_script = is_script;
-      are_options = options.1;
-      workers_are = subst (λ g. AreWorkers g.workers g.policy workers) is crew.found;
-      steps_are = subst (λ g. AreSteps g.steps steps) is most.found;
-      journal_is = ap (λ g. g.journal) is;
-      journal_is_file = is_journal;
-    })
+    Finds-some (run file script workers steps given.journal) (
+      refl,
+      record {
+        behind = behind;
+        options = options.0;
+        are = refl;
+        is_file = is_file;
+        is_script = is_script;
+        are_options = options.1;
+        workers_are = subst (λ g. AreWorkers g.workers g.policy workers) is crew.found;
+        steps_are = subst (λ g. AreSteps g.steps steps) is most.found;
+        journal_is = ap (λ g. g.journal) is;
+        journal_is_file = is_journal;
+      },
+    )
     (λ task asks.
     let s = run_says file script behind task asks in
     let same : s.given ≡ given = sym (same_Some given s.given (gives.each s.given s.are_given)) in
@@ -116,5 +120,5 @@ run_found file script behind given workers steps gives crew most is_file is_scri
     let same_steps = most.each s.steps (subst (λ g. AreSteps g.steps s.steps) same s.are_steps) in
     ap (λ t. Some t)
     (ap (λ w. run file script w steps given.journal) (same_Some workers s.workers same_workers)
-     ∙ ap (λ n. run file script s.workers n given.journal) (same_Some steps s.steps same_steps)
-     ∙ ap (λ g. run file script s.workers s.steps g.journal) (sym same) ∙ sym s.task_is))
+    ∙ ap (λ n. run file script s.workers n given.journal) (same_Some steps s.steps same_steps)
+    ∙ ap (λ g. run file script s.workers s.steps g.journal) (sym same) ∙ sym s.task_is))

@@ -5,8 +5,8 @@ use Rattle.std.proofs.lemmas.List.{append-nil}
 use Rattle.nomos_machine.specs.declared.policy.Policy.{Policy}
 use Rattle.nomos_machine.specs.declared.policy.Policy.TheVariants.{First, Round}
 use Rattle.nomos_texts.proofs.OneTextLaws.{decimal-only}
-use Rattle.nomos_words.specs.Options.{AreOptions, AreSteps, AreWorkers, IsCountOr, IsPolicy, policy_word, value_of, words_of}
-use Rattle.nomos_words.specs.Words.{AreOperands, Asks, IsLoad, IsRun, IsSeed, Task, check, command, run, replay, bench, least}
+use Rattle.nomos_words.specs.Options.{AreSteps, AreWorkers, IsCountOr, IsPolicy, policy_word, value_of, words_of}
+use Rattle.nomos_words.specs.Words.{AreOperands, Asks, IsLoad, IsRun, Task, check, command, run, replay, bench, least}
 use Rattle.nomos_words.specs.declared.workers.Workers.{Workers}
 use Rattle.nomos_words.specs.declared.workers.Workers.TheVariants.{One, Many}
 use Rattle.nomos_words.proofs.GivenLemmas.{none_left}
@@ -56,12 +56,13 @@ run_same words f s w n j f' s' w' n' j' a b =
     let none : List ℕ = [] in
     let e = sym a.are ∙ b.are in
     let behind : words_of a.options ≡ words_of b.options =
-        sym a.are_options.are ∙ ap (λ ws. drop 2 ws) e ∙ b.are_options.are in
+    sym a.are_options.are ∙ ap (λ ws. drop 2 ws) e ∙ b.are_options.are in
     let same : b.options ≡ a.options = sym (options_same a.options b.options behind) in
     let workers = workers_same (value_of (codes "--workers") a.options) (value_of (codes "--policy") a.options) w w'
-        a.workers_are (subst (λ o. AreWorkers (value_of (codes "--workers") o) (value_of (codes "--policy") o) w') same b.workers_are) in
+    a.workers_are
+    (subst (λ o. AreWorkers (value_of (codes "--workers") o) (value_of (codes "--policy") o) w') same b.workers_are) in
     let steps = count_same 1000000 10000000 (omega arith) (value_of (codes "--steps") a.options) n n'
-        a.steps_are (subst (λ o. AreSteps (value_of (codes "--steps") o) n') same b.steps_are) in
+    a.steps_are (subst (λ o. AreSteps (value_of (codes "--steps") o) n') same b.steps_are) in
     let journal : j ≡ j' = a.journal_is ∙ ap (λ o. value_of (codes "--journal") o) (sym same) ∙ sym b.journal_is in
     ap (λ x. run x s w n j) (ap (λ ws. get_or ws 0 none) e) ∙ ap (λ x. run f' x w n j) (ap (λ ws. get_or ws 1 none) e)
     ∙ ap (λ x. run f' s' x n j) workers ∙ ap (λ x. run f' s' w' x j) steps ∙ ap (λ x. run f' s' w' n' x) journal
@@ -72,12 +73,15 @@ load_same words s b s' b' one other =
     let e = sym one.are ∙ other.are in
     let seed : decimal s ≡ decimal s' = sym one.is_seed.1 ∙ ap (λ ws. get_or ws 0 none) e ∙ other.is_seed.1 in
     let bidders : decimal b ≡ decimal b' =
-        sym one.are_bidders.2 ∙ ap (λ ws. get_or ws 1 none) e ∙ other.are_bidders.2 in
+    sym one.are_bidders.2 ∙ ap (λ ws. get_or ws 1 none) e ∙ other.are_bidders.2 in
     ap (λ x. bench x b) (decimal-only s s' (omega (arith, one.is_seed.0)) (omega (arith, other.is_seed.0)) seed)
-    ∙ ap (λ x. bench s' x) (decimal-only b b' (omega (arith, one.are_bidders.1)) (omega (arith, other.are_bidders.1)) bidders)
+    ∙ ap (λ x. bench s' x)
+    (decimal-only b b' (omega (arith, one.are_bidders.1)) (omega (arith, other.are_bidders.1)) bidders)
 
-same_task : (words : List (List ℕ)) (t u : Task) → command t ≡ command u → AreOperands words t → AreOperands words u → t ≡ u
-same_task words (check f) (check f') e a b = let none : List ℕ = [] in ap (λ x. check x) (ap (λ ws. get_or ws 0 none) (sym a.are ∙ b.are))
+same_task : (words : List (List ℕ)) (t u : Task) → command t ≡ command u → AreOperands words t → AreOperands words u
+    → t ≡ u
+same_task words (check f) (check f') e a b =
+    let none : List ℕ = [] in ap (λ x. check x) (ap (λ ws. get_or ws 0 none) (sym a.are ∙ b.are))
 same_task words (check f) (run f' s' w' n' j') e a b = absurd (omega (arith, ap (λ w. get_or w 0 0) e))
 same_task words (check f) (replay f' s' j') e a b = absurd (omega (arith, ap (λ w. get_or w 0 0) e))
 same_task words (check f) (bench s' k') e a b = absurd (omega (arith, ap (λ w. get_or w 0 0) e))
@@ -92,7 +96,8 @@ same_task words (replay f s j) (run f' s' w' n' j') e a b = absurd (omega (arith
 same_task words (replay f s j) (replay f' s' j') e a b =
     let none : List ℕ = [] in
     let same = sym a.are ∙ b.are in
-    ap (λ x. replay x s j) (ap (λ ws. get_or ws 0 none) same) ∙ ap (λ x. replay f' x j) (ap (λ ws. get_or ws 1 none) same)
+    ap (λ x. replay x s j) (ap (λ ws. get_or ws 0 none) same)
+    ∙ ap (λ x. replay f' x j) (ap (λ ws. get_or ws 1 none) same)
     ∙ ap (λ x. replay f' s' x) (ap (λ ws. get_or ws 2 none) same)
 same_task words (replay f s j) (bench s' k') e a b = absurd (omega (arith, ap (λ w. get_or w 0 0) e))
 same_task words (replay f s j) (least f') e a b = absurd (omega (arith, ap (λ w. get_or w 0 0) e))
@@ -105,7 +110,8 @@ same_task words (least f) (check f') e a b = absurd (omega (arith, ap (λ w. get
 same_task words (least f) (run f' s' w' n' j') e a b = absurd (omega (arith, ap (λ w. get_or w 0 0) e))
 same_task words (least f) (replay f' s' j') e a b = absurd (omega (arith, ap (λ w. get_or w 0 0) e))
 same_task words (least f) (bench s' k') e a b = absurd (omega (arith, ap (λ w. get_or w 0 0) e))
-same_task words (least f) (least f') e a b = let none : List ℕ = [] in ap (λ x. least x) (ap (λ ws. get_or ws 0 none) (sym a.are ∙ b.are))
+same_task words (least f) (least f') e a b =
+    let none : List ℕ = [] in ap (λ x. least x) (ap (λ ws. get_or ws 0 none) (sym a.are ∙ b.are))
 
 -- words ask for one task
 pub one_task : (words : List (List ℕ)) (t u : Task) → Asks words t → Asks words u → t ≡ u
@@ -130,8 +136,9 @@ several_workers (word ∷ words) file script k steps journal asks =
     several k (value_of (codes "--workers") asks.1.options) asks.1.workers_are.0 asks.1.workers_are.1
 
 -- a run makes at least one firing in a batch, and at most 10,000,000
-pub steps_within : (words : List (List ℕ)) (file script : List ℕ) (workers : Workers) (steps : ℕ) (journal : Option (List ℕ))
-    → Asks words (run file script workers steps journal) → (1 ≤ steps) × (steps ≤ 10000000)
+pub steps_within : (words : List (List ℕ)) (file script : List ℕ) (workers : Workers) (steps : ℕ)
+    (journal : Option (List ℕ)) → Asks words (run file script workers steps journal) → (1 ≤ steps) × (steps ≤ 10000000)
 steps_within [] file script workers steps journal asks = absurd asks
 steps_within (word ∷ words) file script workers steps journal asks =
-    count_within 1000000 10000000 steps (omega arith) (omega arith) (value_of (codes "--steps") asks.1.options) asks.1.steps_are
+    count_within 1000000 10000000 steps (omega arith) (omega arith) (value_of (codes "--steps") asks.1.options)
+    asks.1.steps_are

@@ -14,7 +14,9 @@ use crate::workers::{Workers, workers_of};
 #[derive(Clone, Copy, Debug)]
 pub enum Job<'a> {
     /// The contract in this file is to be checked.
-    Check { file: &'a str },
+    Check {
+        file: &'a str,
+    },
     /// The script in the second file is to be run on the contract in the first, each batch for at most so many
     /// firings, and the journal is to be kept in this file, if any.
     Run {
@@ -31,9 +33,14 @@ pub enum Job<'a> {
         journal: &'a str,
     },
     /// The generated auction is to be run, with bids that are drawn from this seed, of so many bidders.
-    Bench { seed: u64, bidders: u32 },
+    Bench {
+        seed: u64,
+        bidders: u32,
+    },
     /// The least bounds of the contract in this file are sought.
-    Least { file: &'a str },
+    Least {
+        file: &'a str,
+    },
 }
 
 /// The job that the words ask for, or none where they have no form of the usage line. The words are those after the
@@ -90,7 +97,8 @@ fn run_of<'a>(operands: &'a [String]) -> Option<Job<'a>>
 
 // The run of a script on a contract, with these words behind them.
 fn run_with<'a>(file: &'a str, script: &'a str, options: &'a [String]) -> Option<Job<'a>>
-    ensures { Finds (Asks (codes "run" ∷ file.now ∷ script.now ∷ map string_bytes options.now)) (option_map task result) }
+    ensures { Finds (Asks (codes "run" ∷ file.now ∷ script.now ∷ map string_bytes options.now))
+        (option_map task result) }
 {
     let given = given_of(options)?;
     let workers = workers_of(given.workers, given.policy)?;

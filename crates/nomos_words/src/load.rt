@@ -15,8 +15,8 @@ pub fn auction_text() -> &'static [u8]
     AUCTION
 }
 
-/// Appends the script: the seller begins the auction, each bidder from 1 on places a bid that is drawn from the seed, and
-/// the seller asks for the best.
+/// Appends the script: the seller begins the auction, each bidder from 1 on places a bid that is drawn from the seed,
+/// and the seller asks for the best. Where memory runs out, a part of it may stand there.
 pub fn push_load_script(text: &mut Vec<u8>, seed: u64, bidders: u32) -> Result<(), AllocError>
     ensures { OnOk result (text.new.items ≡ text.old.items ++ load_script seed bidders) }
 {

@@ -11,8 +11,8 @@ use nomos_ir::value::Value;
 use nomos_texts::value::push_value;
 use std::alloc::AllocError;
 
-/// What is told of a load: from which seed and for how many bidders it was made, the entries of the journal, the firings
-/// of the batches that were committed, and the gas spent, in Dths, of which a unit has so many.
+/// What is told of a load: from which seed and for how many bidders it was made, how many entries the journal has, the
+/// firings of the batches that were committed, and the gas spent, in Dths, of which a unit has so many.
 #[derive(Clone, Copy, PartialEq, Eq, Debug)]
 pub struct Figures {
     pub seed: u64,
@@ -23,7 +23,8 @@ pub struct Figures {
     pub unit: u32,
 }
 
-/// Appends the lines of a load, and the best bid, if there is one.
+/// Appends the lines of a load, and the best bid, if there is one. Where memory runs out, a part of them may stand
+/// there.
 pub fn push_summary(
     text: &mut Vec<u8>,
     figures: &Figures,

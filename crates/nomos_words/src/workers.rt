@@ -27,7 +27,8 @@ fn policy_of(word: Option<&str>) -> Option<Policy>
 
 /// The workers of `--workers` and `--policy`, from their values.
 pub(crate) fn workers_of(count: Option<&str>, policy: Option<&str>) -> Option<Workers>
-    ensures { Finds (AreWorkers (option_map (λ word. word.now) count.entry) (option_map (λ word. word.now) policy.entry)) result }
+    ensures { Finds
+        (AreWorkers (option_map (λ word. word.now) count.entry) (option_map (λ word. word.now) policy.entry)) result }
 {
     match count_or(count, 1, 16)? {
         1 => Some(Workers::One(policy_of(policy)?)),

@@ -1,6 +1,6 @@
 -- A mirror of the code that gathers options.
 use Rattle.std.specs.Prelude.{◌≡◌, ℕ, List, Option, Some, None, codes, if◌then◌else◌}
-use Rattle.std.specs.Option.{option_map, is_some}
+use Rattle.std.specs.Option.{option_map}
 use Rattle.std.specs.Str.{bytes_eq}
 use Rattle.nomos_words.specs.Options.{AreOptions, value_of}
 use Rattle.nomos_words.specs.declared.options.Given.{Given}
