@@ -6,7 +6,7 @@ use Rattle.std.specs.List.{Contains}
 use Rattle.std.proofs.lemmas.List.Elements.{All-cons, All-nil}
 use Rattle.nomos_ir.specs.Value.{int}
 use Rattle.nomos_machine.specs.declared.policy.Policy.TheVariants.{First, Round}
-use Rattle.nomos_words.specs.Load.{bid, draw, load_script}
+use Rattle.nomos_words.specs.BenchLoad.{bid, drawn_at, load_script}
 use Rattle.nomos_words.specs.Options.{AreOptions, AreWorkers, option_names}
 use Rattle.nomos_words.specs.Summary.{summary_text}
 use Rattle.nomos_words.specs.Words.{Asks, Task, check, run, replay, bench, least}
@@ -113,7 +113,7 @@ several_by_turns (Many n) are = let none = are.2 in cc
 
 -- ---- loads
 
-first_draw : draw 0 1 ≡ 1442695040888963407
+first_draw : drawn_at 0 1 ≡ 1442695040888963407
 first_draw = refl
 
 first_bid : bid 0 1 ≡ 808

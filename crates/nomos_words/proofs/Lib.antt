@@ -1,6 +1,7 @@
 mod Examples
-pub mod FindingLaws
-mod GivenLemmas
+pub mod FindsOneLaws
+mod GivenOptionLemmas
+pub mod LoadLaws
 mod LoadLemmas
 mod OptionLemmas
 mod RunLemmas

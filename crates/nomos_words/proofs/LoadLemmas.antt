@@ -1,9 +1,9 @@
 -- The load, with one bidder more.
 use Rattle.std.proofs.Common.{◌≡◌, ℕ, ◌+◌, List, ◌++◌, refl, ap, ◌∙◌, append_assoc, add-one}
-use Rattle.nomos_words.specs.Load.{bid, bidder_lines, bidders_lines, draw, next_draw}
+use Rattle.nomos_words.specs.BenchLoad.{bid, bidder_lines, bidders_lines, drawn_at, next_draw}
 
-pub draw-more : (seed k : ℕ) → draw seed (k + 1) ≡ next_draw (draw seed k)
-draw-more seed k = rw (add-one k) refl
+pub drawn_at-more : (seed k : ℕ) → drawn_at seed (k + 1) ≡ next_draw (drawn_at seed k)
+drawn_at-more seed k = rw (add-one k) refl
 
 pub bidders_lines-more : (seed k : ℕ)
     → bidders_lines seed (k + 1) ≡ bidders_lines seed k ++ bidder_lines (k + 1) (bid seed (k + 1))

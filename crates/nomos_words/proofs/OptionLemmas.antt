@@ -7,7 +7,7 @@ use Rattle.std.proofs.lemmas.Bool.{false≢true}
 use Rattle.std.proofs.lemmas.List.{get_or_append_left, get_or-append-add, take_rest}
 use Rattle.std.proofs.lemmas.Slice.Eq.{bytes_eq-Decides}
 use Rattle.std.specs.declared.string.String.{String}
-use Rattle.nomos_words.specs.Options.{option_names, value_of, words_of}
+use Rattle.nomos_words.specs.Options.{option_names, option_value, option_words}
 
 abbrev pub Pair : Type 0
 Pair = List ℕ × List ℕ
@@ -40,8 +40,8 @@ one_word (w ∷ x ∷ words) some few = absurd (omega (arith, few))
 -- ---- the words of options
 
 -- options whose words stand in front are the first of those that the words are
-pub options_front : (done options : List Pair) (left : List (List ℕ)) → words_of done ++ left ≡ words_of options
-    → (rest : List Pair) × (options ≡ done ++ rest) × (left ≡ words_of rest)
+pub options_front : (done options : List Pair) (left : List (List ℕ)) → option_words done ++ left ≡ option_words options
+    → (rest : List Pair) × (options ≡ done ++ rest) × (left ≡ option_words rest)
 options_front [] options left e = (options, refl, e)
 options_front ((name, value) ∷ done) [] left e = absurd (omega (arith, ap length e))
 options_front ((name, value) ∷ done) ((n, v) ∷ options) left e =
@@ -56,10 +56,10 @@ options_front ((name, value) ∷ done) ((n, v) ∷ options) left e =
     )
 
 -- the words of options of which one is added
-pub words_of-push : (done : List Pair) (name value : List ℕ) (left : List (List ℕ))
-    → words_of done ++ (name ∷ value ∷ left) ≡ words_of (done ++ (name, value) ∷ []) ++ left
-words_of-push [] name value left = refl
-words_of-push (d ∷ done) name value left = ap (λ ws. d.0 ∷ d.1 ∷ ws) (words_of-push done name value left)
+pub option_words-push : (done : List Pair) (name value : List ℕ) (left : List (List ℕ))
+    → option_words done ++ (name ∷ value ∷ left) ≡ option_words (done ++ (name, value) ∷ []) ++ left
+option_words-push [] name value left = refl
+option_words-push (d ∷ done) name value left = ap (λ ws. d.0 ∷ d.1 ∷ ws) (option_words-push done name value left)
 
 -- ---- the value behind a name
 
@@ -72,45 +72,45 @@ pub bytes_eq-cases : (xs ys : List ℕ) → ((bytes_eq xs ys ≡ true) × (xs �
 bytes_eq-cases xs ys = cases (bytes_eq xs ys) (bytes_eq-Decides xs ys)
 
 -- one more option with another name
-pub value_of-other : (key name value : List ℕ) (done : List Pair) → bytes_eq key name ≡ false
-    → value_of key (done ++ (name, value) ∷ []) ≡ value_of key done
-value_of-other key name value [] other = rw other refl
-value_of-other key name value (d ∷ done) other =
-    ap (λ v. cond (bytes_eq key d.0) (Some d.1) v) (value_of-other key name value done other)
+pub option_value-other : (key name value : List ℕ) (done : List Pair) → bytes_eq key name ≡ false
+    → option_value key (done ++ (name, value) ∷ []) ≡ option_value key done
+option_value-other key name value [] other = rw other refl
+option_value-other key name value (d ∷ done) other =
+    ap (λ v. cond (bytes_eq key d.0) (Some d.1) v) (option_value-other key name value done other)
 
 -- one more option with this name
-pub value_of-same : (key value : List ℕ) (done : List Pair) → value_of key done ≡ None
-    → value_of key (done ++ (key, value) ∷ []) ≡ Some value
-value_of-same key value [] none = rw ((bytes_eq-Decides key key).1 refl) refl
-value_of-same key value (d ∷ done) none = elim (bytes_eq-cases key d.0) [
+pub option_value-same : (key value : List ℕ) (done : List Pair) → option_value key done ≡ None
+    → option_value key (done ++ (key, value) ∷ []) ≡ Some value
+option_value-same key value [] none = rw ((bytes_eq-Decides key key).1 refl) refl
+option_value-same key value (d ∷ done) none = elim (bytes_eq-cases key d.0) [
   | inl same ↦ let found : Some d.1 ≡ None = rw same.0 at none in cc
   | inr other ↦
-      let rest : value_of key done ≡ None = rw other.0 at none in
-      rw other.0 (value_of-same key value done rest)
+      let rest : option_value key done ≡ None = rw other.0 at none in
+      rw other.0 (option_value-same key value done rest)
 ]
 
 -- where a name has no value, no option has it
-pub value_of-missing : (key : List ℕ) (done : List Pair) → value_of key done ≡ None
+pub option_value-missing : (key : List ℕ) (done : List Pair) → option_value key done ≡ None
     → (k : ℕ) (d : Pair) → k < length done → (get_or done k d).0 ≢ key
-value_of-missing key [] none k d within same = omega (arith, within)
-value_of-missing key (o ∷ done) none zero d within same = elim (bytes_eq-cases key o.0) [
+option_value-missing key [] none k d within same = omega (arith, within)
+option_value-missing key (o ∷ done) none zero d within same = elim (bytes_eq-cases key o.0) [
   | inl found ↦ let some : Some o.1 ≡ None = rw found.0 at none in cc
   | inr other ↦ other.1 (sym same)
 ]
-value_of-missing key (o ∷ done) none (suc k) d within same = elim (bytes_eq-cases key o.0) [
+option_value-missing key (o ∷ done) none (suc k) d within same = elim (bytes_eq-cases key o.0) [
   | inl found ↦ let some : Some o.1 ≡ None = rw found.0 at none in cc
-  | inr other ↦ value_of-missing key done (rw other.0 at none) k d (omega (arith, within)) same
+  | inr other ↦ option_value-missing key done (rw other.0 at none) k d (omega (arith, within)) same
 ]
 
 -- where a name has a value, an option has it
-pub value_of-place : (key value : List ℕ) (done : List Pair) → value_of key done ≡ Some value
+pub option_value-place : (key value : List ℕ) (done : List Pair) → option_value key done ≡ Some value
     → (k : ℕ) × (k < length done) × ((d : Pair) → (get_or done k d).0 ≡ key)
-value_of-place key value [] some = absurd cc
-value_of-place key value (o ∷ done) some = elim (bytes_eq-cases key o.0) [
+option_value-place key value [] some = absurd cc
+option_value-place key value (o ∷ done) some = elim (bytes_eq-cases key o.0) [
   | inl found ↦ (0, omega arith, λ d. sym found.1)
   | inr other ↦
-      let rest : value_of key done ≡ Some value = rw other.0 at some in
-      let told = value_of-place key value done rest in
+      let rest : option_value key done ≡ Some value = rw other.0 at some in
+      let told = option_value-place key value done rest in
       (suc told.0, omega (arith, told.1), told.2)
 ]
 

@@ -2,16 +2,16 @@
 use Rattle.std.proofs.Common.{◌≡◌, ℕ, List, [], ◌∷◌, get_or, drop, Some, None, IfSome, refl, sym, ap, subst, ◌∙◌, arith}
 use Rattle.std.specs.Prelude.{codes}
 use Rattle.std.proofs.lemmas.Option.{same_Some}
-use Rattle.nomos_words.specs.Finding.{Finds}
+use Rattle.nomos_words.specs.FindsOne.{FindsOne}
 use Rattle.nomos_words.specs.Options.{AreSteps, AreWorkers, IsFileWord}
 use Rattle.nomos_words.specs.Words.{Asks, Task, check, run, replay, bench, least}
-use Rattle.nomos_words.specs.mirror.Given.{AreGiven, Values, values_of}
+use Rattle.nomos_words.specs.mirror.GivenOptions.{AreGiven, OptionValues, given_by}
 use Rattle.nomos_words.specs.declared.workers.Workers.{Workers}
-use Rattle.nomos_words.proofs.FindingLaws.{Finds-none, Finds-some}
+use Rattle.nomos_words.proofs.FindsOneLaws.{FindsOne-none, FindsOne-some}
 
 -- what the words say that ask for a task, which is a run
 record RunSays (file script : List ℕ) (behind : List (List ℕ)) (task : Task) : Type 0 where
-  pub given : Values
+  pub given : OptionValues
   pub are_given : AreGiven behind given
   pub is_file : IsFileWord file
   pub is_script : IsFileWord script
@@ -30,9 +30,9 @@ run_says file script behind (run f s workers steps journal) (is, asks) =
     let same_script : script ≡ s = ap (λ ws. get_or ws 1 none) asks.are in
     let same_behind : behind ≡ asks.behind = ap (λ ws. drop 2 ws) asks.are in
     record {
-      given = values_of asks.options;
+      given = given_by asks.options;
       are_given =
-          subst (λ ws. AreGiven ws (values_of asks.options)) (sym same_behind) (asks.options, asks.are_options, refl);
+          subst (λ ws. AreGiven ws (given_by asks.options)) (sym same_behind) (asks.options, asks.are_options, refl);
       is_file = subst IsFileWord (sym same_file) asks.is_file;
       is_script = subst IsFileWord (sym same_script) asks.is_script;
       is_journal = subst (λ j. IfSome j IsFileWord) asks.journal_is asks.journal_is_file;
@@ -51,54 +51,54 @@ run_says file script behind (bench s b) (is, asks) = absurd (omega (arith, ap (�
 run_says file script behind (least f) (is, asks) = absurd (omega (arith, ap (λ w. get_or w 0 0) is))
 
 -- the words behind are no options
-pub run_without_options : (file script : List ℕ) (behind : List (List ℕ)) → Finds (AreGiven behind) None
-    → Finds (Asks (codes "run" ∷ file ∷ script ∷ behind)) None
+pub run_without_options : (file script : List ℕ) (behind : List (List ℕ)) → FindsOne (AreGiven behind) None
+    → FindsOne (Asks (codes "run" ∷ file ∷ script ∷ behind)) None
 run_without_options file script behind none =
-    Finds-none (λ task asks.
+    FindsOne-none (λ task asks.
     let s = run_says file script behind task asks in
     let some = none.each s.given s.are_given in cc)
 
 -- they are options that name no workers
-pub run_without_workers : (file script : List ℕ) (behind : List (List ℕ)) (given : Values)
-    → Finds (AreGiven behind) (Some given) → Finds (AreWorkers given.workers given.policy) None
-    → Finds (Asks (codes "run" ∷ file ∷ script ∷ behind)) None
+pub run_without_workers : (file script : List ℕ) (behind : List (List ℕ)) (given : OptionValues)
+    → FindsOne (AreGiven behind) (Some given) → FindsOne (AreWorkers given.workers given.policy) None
+    → FindsOne (Asks (codes "run" ∷ file ∷ script ∷ behind)) None
 run_without_workers file script behind given gives none =
-    Finds-none (λ task asks.
+    FindsOne-none (λ task asks.
     let s = run_says file script behind task asks in
     let same : s.given ≡ given = sym (same_Some given s.given (gives.each s.given s.are_given)) in
     let some = none.each s.workers (subst (λ g. AreWorkers g.workers g.policy s.workers) same s.are_workers) in cc)
 
 -- or no number of firings
-pub run_without_steps : (file script : List ℕ) (behind : List (List ℕ)) (given : Values)
-    → Finds (AreGiven behind) (Some given) → Finds (AreSteps given.steps) None
-    → Finds (Asks (codes "run" ∷ file ∷ script ∷ behind)) None
+pub run_without_steps : (file script : List ℕ) (behind : List (List ℕ)) (given : OptionValues)
+    → FindsOne (AreGiven behind) (Some given) → FindsOne (AreSteps given.steps) None
+    → FindsOne (Asks (codes "run" ∷ file ∷ script ∷ behind)) None
 run_without_steps file script behind given gives none =
-    Finds-none (λ task asks.
+    FindsOne-none (λ task asks.
     let s = run_says file script behind task asks in
     let same : s.given ≡ given = sym (same_Some given s.given (gives.each s.given s.are_given)) in
     let some = none.each s.steps (subst (λ g. AreSteps g.steps s.steps) same s.are_steps) in cc)
 
 -- or some word is no file
-pub run_without_files : (file script : List ℕ) (behind : List (List ℕ)) (given : Values)
-    → Finds (AreGiven behind) (Some given)
+pub run_without_files : (file script : List ℕ) (behind : List (List ℕ)) (given : OptionValues)
+    → FindsOne (AreGiven behind) (Some given)
     → (IsFileWord file → IsFileWord script → IfSome given.journal IsFileWord → ⊥)
-    → Finds (Asks (codes "run" ∷ file ∷ script ∷ behind)) None
+    → FindsOne (Asks (codes "run" ∷ file ∷ script ∷ behind)) None
 run_without_files file script behind given gives none =
-    Finds-none (λ task asks.
+    FindsOne-none (λ task asks.
     let s = run_says file script behind task asks in
     let same : s.given ≡ given = sym (same_Some given s.given (gives.each s.given s.are_given)) in
     none s.is_file s.is_script (subst (λ g. IfSome g.journal IsFileWord) same s.is_journal))
 
 -- otherwise they ask for a run
-pub run_found : (file script : List ℕ) (behind : List (List ℕ)) (given : Values) (workers : Workers) (steps : ℕ)
-    → Finds (AreGiven behind) (Some given) → Finds (AreWorkers given.workers given.policy) (Some workers)
-    → Finds (AreSteps given.steps) (Some steps)
+pub run_found : (file script : List ℕ) (behind : List (List ℕ)) (given : OptionValues) (workers : Workers) (steps : ℕ)
+    → FindsOne (AreGiven behind) (Some given) → FindsOne (AreWorkers given.workers given.policy) (Some workers)
+    → FindsOne (AreSteps given.steps) (Some steps)
     → IsFileWord file → IsFileWord script → IfSome given.journal IsFileWord
-    → Finds (Asks (codes "run" ∷ file ∷ script ∷ behind)) (Some (run file script workers steps given.journal))
+    → FindsOne (Asks (codes "run" ∷ file ∷ script ∷ behind)) (Some (run file script workers steps given.journal))
 run_found file script behind given workers steps gives crew most is_file is_script is_journal =
     let options = gives.found in
-    let is : given ≡ values_of options.0 = options.2 in
-    Finds-some (run file script workers steps given.journal) (
+    let is : given ≡ given_by options.0 = options.2 in
+    FindsOne-some (run file script workers steps given.journal) (
       refl,
       record {
         behind = behind;

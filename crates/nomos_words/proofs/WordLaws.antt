@@ -5,11 +5,11 @@ use Rattle.std.proofs.lemmas.List.{append-nil}
 use Rattle.nomos_machine.specs.declared.policy.Policy.{Policy}
 use Rattle.nomos_machine.specs.declared.policy.Policy.TheVariants.{First, Round}
 use Rattle.nomos_texts.proofs.OneTextLaws.{decimal-only}
-use Rattle.nomos_words.specs.Options.{AreSteps, AreWorkers, IsCountOr, IsPolicy, policy_word, value_of, words_of}
-use Rattle.nomos_words.specs.Words.{AreOperands, Asks, IsLoad, IsRun, Task, check, command, run, replay, bench, least}
+use Rattle.nomos_words.specs.Options.{AreSteps, AreWorkers, IsCountOr, IsPolicy, policy_word, option_value, option_words}
+use Rattle.nomos_words.specs.Words.{AreOperands, Asks, AsksLoad, AsksRun, Task, check, command, run, replay, bench, least}
 use Rattle.nomos_words.specs.declared.workers.Workers.{Workers}
 use Rattle.nomos_words.specs.declared.workers.Workers.TheVariants.{One, Many}
-use Rattle.nomos_words.proofs.GivenLemmas.{none_left}
+use Rattle.nomos_words.proofs.GivenOptionLemmas.{none_left}
 use Rattle.nomos_words.proofs.OptionLemmas.{Pair, options_front}
 
 -- ---- what an option says is one thing
@@ -42,32 +42,34 @@ workers_same count policy (Many m) (Many n) is other =
 
 -- ---- words are the words of one list of options
 
-options_same : (options other : List Pair) → words_of options ≡ words_of other → options ≡ other
+options_same : (options other : List Pair) → option_words options ≡ option_words other → options ≡ other
 options_same options other same =
-    let told = options_front options other [] (append-nil (words_of options) ∙ same) in
+    let told = options_front options other [] (append-nil (option_words options) ∙ same) in
     sym (told.1 ∙ ap (λ rest. options ++ rest) (none_left told.0 told.2) ∙ append-nil options)
 
 -- ---- and they ask for one task
 
 run_same : (words : List (List ℕ)) (f s : List ℕ) (w : Workers) (n : ℕ) (j : Option (List ℕ)) (f' s' : List ℕ)
-    (w' : Workers) (n' : ℕ) (j' : Option (List ℕ)) → IsRun words f s w n j → IsRun words f' s' w' n' j'
+    (w' : Workers) (n' : ℕ) (j' : Option (List ℕ)) → AsksRun words f s w n j → AsksRun words f' s' w' n' j'
     → run f s w n j ≡ run f' s' w' n' j'
 run_same words f s w n j f' s' w' n' j' a b =
     let none : List ℕ = [] in
     let e = sym a.are ∙ b.are in
-    let behind : words_of a.options ≡ words_of b.options =
+    let behind : option_words a.options ≡ option_words b.options =
     sym a.are_options.are ∙ ap (λ ws. drop 2 ws) e ∙ b.are_options.are in
     let same : b.options ≡ a.options = sym (options_same a.options b.options behind) in
-    let workers = workers_same (value_of (codes "--workers") a.options) (value_of (codes "--policy") a.options) w w'
-    a.workers_are
-    (subst (λ o. AreWorkers (value_of (codes "--workers") o) (value_of (codes "--policy") o) w') same b.workers_are) in
-    let steps = count_same 1000000 10000000 (omega arith) (value_of (codes "--steps") a.options) n n'
-    a.steps_are (subst (λ o. AreSteps (value_of (codes "--steps") o) n') same b.steps_are) in
-    let journal : j ≡ j' = a.journal_is ∙ ap (λ o. value_of (codes "--journal") o) (sym same) ∙ sym b.journal_is in
+    let IsCrew : List Pair → Workers → Type 0 =
+    λ o x. AreWorkers (option_value (codes "--workers") o) (option_value (codes "--policy") o) x in
+    let workers = workers_same (option_value (codes "--workers") a.options)
+    (option_value (codes "--policy") a.options) w w' a.workers_are (subst (λ o. IsCrew o w') same b.workers_are) in
+    let steps = count_same 1000000 10000000 (omega arith) (option_value (codes "--steps") a.options) n n'
+    a.steps_are (subst (λ o. AreSteps (option_value (codes "--steps") o) n') same b.steps_are) in
+    let journal : j ≡ j' = a.journal_is ∙ ap (λ o. option_value (codes "--journal") o) (sym same) ∙ sym b.journal_is in
     ap (λ x. run x s w n j) (ap (λ ws. get_or ws 0 none) e) ∙ ap (λ x. run f' x w n j) (ap (λ ws. get_or ws 1 none) e)
     ∙ ap (λ x. run f' s' x n j) workers ∙ ap (λ x. run f' s' w' x j) steps ∙ ap (λ x. run f' s' w' n' x) journal
 
-load_same : (words : List (List ℕ)) (s b s' b' : ℕ) → IsLoad words s b → IsLoad words s' b' → bench s b ≡ bench s' b'
+load_same : (words : List (List ℕ)) (s b s' b' : ℕ) → AsksLoad words s b → AsksLoad words s' b'
+    → bench s b ≡ bench s' b'
 load_same words s b s' b' one other =
     let none : List ℕ = [] in
     let e = sym one.are ∙ other.are in
@@ -133,12 +135,12 @@ pub several_workers : (words : List (List ℕ)) (file script : List ℕ) (k step
     → Asks words (run file script (Many k) steps journal) → (2 ≤ k) × (k ≤ 16)
 several_workers [] file script k steps journal asks = absurd asks
 several_workers (word ∷ words) file script k steps journal asks =
-    several k (value_of (codes "--workers") asks.1.options) asks.1.workers_are.0 asks.1.workers_are.1
+    several k (option_value (codes "--workers") asks.1.options) asks.1.workers_are.0 asks.1.workers_are.1
 
 -- a run makes at least one firing in a batch, and at most 10,000,000
 pub steps_within : (words : List (List ℕ)) (file script : List ℕ) (workers : Workers) (steps : ℕ)
     (journal : Option (List ℕ)) → Asks words (run file script workers steps journal) → (1 ≤ steps) × (steps ≤ 10000000)
 steps_within [] file script workers steps journal asks = absurd asks
 steps_within (word ∷ words) file script workers steps journal asks =
-    count_within 1000000 10000000 steps (omega arith) (omega arith) (value_of (codes "--steps") asks.1.options)
+    count_within 1000000 10000000 steps (omega arith) (omega arith) (option_value (codes "--steps") asks.1.options)
     asks.1.steps_are

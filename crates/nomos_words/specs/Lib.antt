@@ -1,6 +1,6 @@
-pub mod Finding
+pub mod BenchLoad
+pub mod FindsOne
 pub mod Jobs
-pub mod Load
 pub mod Options
 pub mod Summary
 pub mod Usage

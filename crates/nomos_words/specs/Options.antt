@@ -12,19 +12,19 @@ abbrev pub option_names : List (List ℕ)
 option_names = codes "--workers" ∷ codes "--policy" ∷ codes "--steps" ∷ codes "--journal" ∷ []
 
 -- names and values as they stand in the words
-abbrev pub words_of : List (List ℕ × List ℕ) → List (List ℕ)
-words_of [] = []
-words_of (option ∷ options) = option.0 ∷ option.1 ∷ words_of options
+abbrev pub option_words : List (List ℕ × List ℕ) → List (List ℕ)
+option_words [] = []
+option_words (option ∷ options) = option.0 ∷ option.1 ∷ option_words options
 
 -- the words are these options, which may stand in any order, each at most once
 pub record AreOptions (words : List (List ℕ)) (options : List (List ℕ × List ℕ)) : Type 0 where
-  pub are : words ≡ words_of options
+  pub are : words ≡ option_words options
   pub known : All (λ option. Contains option_names option.0) options
   pub once : AllPairs (λ one other. one.0 ≢ other.0) options
 
 -- the value behind a name, if the name stands there
-abbrev pub value_of : List ℕ → List (List ℕ × List ℕ) → Option (List ℕ)
-value_of name options = lookup (bytes_eq name) options
+abbrev pub option_value : List ℕ → List (List ℕ × List ℕ) → Option (List ℕ)
+option_value name options = lookup (bytes_eq name) options
 
 -- a file word is not empty and does not begin with `-`
 abbrev pub IsFileWord : List ℕ → Type 0

@@ -14,6 +14,7 @@ best_line (Some value) = codes "best " ++ value_text value ++ codes "\n"
 abbrev pub counted_line : List ℕ → ℕ → List ℕ
 counted_line word n = word ++ decimal n ++ codes "\n"
 
+-- the load, the entries of the journal, the firings of what was committed, the gas spent, and the best bid
 abbrev pub summary_text : Figures → Option Value → List ℕ
 summary_text figures best =
     codes "bench " ++ decimal figures.seed ++ counted_line (codes " ") figures.bidders

@@ -1,6 +1,6 @@
 -- Which words of a call ask for which task.
 use Rattle.std.specs.Prelude.{◌≡◌, ◌<◌, ◌^◌, ℕ, List, [], ◌∷◌, Option, IfSome, codes, decimal}
-use Rattle.nomos_words.specs.Options.{AreOptions, AreSteps, AreWorkers, IsCount, IsFileWord, value_of}
+use Rattle.nomos_words.specs.Options.{AreOptions, AreSteps, AreWorkers, IsCount, IsFileWord, option_value}
 use Rattle.nomos_words.specs.declared.workers.Workers.{Workers}
 
 -- what is to be done
@@ -26,19 +26,19 @@ command (bench seed bidders) = codes "bench"
 command (least file) = codes "least"
 
 -- one file
-pub record IsFile (words : List (List ℕ)) (file : List ℕ) : Type 0 where
+pub record AsksFile (words : List (List ℕ)) (file : List ℕ) : Type 0 where
   pub are : words ≡ file ∷ []
   pub is_file : IsFileWord file
 
 -- the files of a contract, of a script and of a journal
-pub record AreFiles (words : List (List ℕ)) (file script journal : List ℕ) : Type 0 where
+pub record AsksReplay (words : List (List ℕ)) (file script journal : List ℕ) : Type 0 where
   pub are : words ≡ file ∷ script ∷ journal ∷ []
   pub is_file : IsFileWord file
   pub is_script : IsFileWord script
   pub is_journal : IsFileWord journal
 
 -- the files of a contract and of a script, and behind them what the options say of a run
-pub record IsRun (words : List (List ℕ)) (file script : List ℕ) (workers : Workers) (steps : ℕ)
+pub record AsksRun (words : List (List ℕ)) (file script : List ℕ) (workers : Workers) (steps : ℕ)
     (journal : Option (List ℕ)) : Type 0 where
   pub behind : List (List ℕ)
   pub options : List (List ℕ × List ℕ)
@@ -46,9 +46,10 @@ pub record IsRun (words : List (List ℕ)) (file script : List ℕ) (workers : W
   pub is_file : IsFileWord file
   pub is_script : IsFileWord script
   pub are_options : AreOptions behind options
-  pub workers_are : AreWorkers (value_of (codes "--workers") options) (value_of (codes "--policy") options) workers
-  pub steps_are : AreSteps (value_of (codes "--steps") options) steps
-  pub journal_is : journal ≡ value_of (codes "--journal") options
+  pub workers_are : AreWorkers (option_value (codes "--workers") options)
+      (option_value (codes "--policy") options) workers
+  pub steps_are : AreSteps (option_value (codes "--steps") options) steps
+  pub journal_is : journal ≡ option_value (codes "--journal") options
   pub journal_is_file : IfSome journal IsFileWord
 
 -- a word is a number of 64 bits, in decimal without leading zeros
@@ -56,7 +57,7 @@ abbrev pub IsSeed : List ℕ → ℕ → Type 0
 IsSeed word n = (n < 2 ^ 64) × (word ≡ decimal n)
 
 -- a seed, and from 1 to 10,000 bidders
-pub record IsLoad (words : List (List ℕ)) (seed bidders : ℕ) : Type 0 where
+pub record AsksLoad (words : List (List ℕ)) (seed bidders : ℕ) : Type 0 where
   pub seed_word : List ℕ
   pub bidders_word : List ℕ
   pub are : words ≡ seed_word ∷ bidders_word ∷ []
@@ -65,11 +66,11 @@ pub record IsLoad (words : List (List ℕ)) (seed bidders : ℕ) : Type 0 where
 
 -- what stands behind the command of a task
 abbrev pub AreOperands : List (List ℕ) → Task → Type 0
-AreOperands words (check file) = IsFile words file
-AreOperands words (run file script workers steps journal) = IsRun words file script workers steps journal
-AreOperands words (replay file script journal) = AreFiles words file script journal
-AreOperands words (bench seed bidders) = IsLoad words seed bidders
-AreOperands words (least file) = IsFile words file
+AreOperands words (check file) = AsksFile words file
+AreOperands words (run file script workers steps journal) = AsksRun words file script workers steps journal
+AreOperands words (replay file script journal) = AsksReplay words file script journal
+AreOperands words (bench seed bidders) = AsksLoad words seed bidders
+AreOperands words (least file) = AsksFile words file
 
 -- the words of a call ask for this task
 abbrev pub Asks : List (List ℕ) → Task → Type 0

@@ -1,2 +1,2 @@
 -- What follows the code step by step.
-pub mod Given
+pub mod GivenOptions

@@ -2,9 +2,9 @@
 
 ghost use Rattle.std.specs.Prelude.{◌∷◌, [], codes, map, string_bytes};
 ghost use Rattle.std.specs.Option.{option_map};
-ghost use Rattle.nomos_words.specs.Finding.{Finds};
+ghost use Rattle.nomos_words.specs.FindsOne.{FindsOne};
 ghost use Rattle.nomos_words.specs.Jobs.{task};
-ghost use Rattle.nomos_words.specs.Words.{Asks, IsFile};
+ghost use Rattle.nomos_words.specs.Words.{Asks, AsksFile};
 
 use crate::numbers::{read_count, read_seed, steps_of};
 use crate::options::{given_of, is_file_word, is_journal};
@@ -46,7 +46,7 @@ pub enum Job<'a> {
 /// The job that the words ask for, or none where they have no form of the usage line. The words are those after the
 /// program's own name. It takes no memory.
 pub fn words<'a>(words: &'a [String]) -> Option<Job<'a>>
-    ensures { Finds (Asks (map string_bytes words.now)) (option_map task result) }
+    ensures { FindsOne (Asks (map string_bytes words.now)) (option_map task result) }
 {
     let (command, operands) = words.split_first()?;
     match command.as_str() {
@@ -61,7 +61,7 @@ pub fn words<'a>(words: &'a [String]) -> Option<Job<'a>>
 
 // `check FILE`.
 fn check_of<'a>(operands: &'a [String]) -> Option<Job<'a>>
-    ensures { Finds (Asks (codes "check" ∷ map string_bytes operands.now)) (option_map task result) }
+    ensures { FindsOne (Asks (codes "check" ∷ map string_bytes operands.now)) (option_map task result) }
 {
     let file = file_of(operands)?;
     Some(Job::Check { file })
@@ -69,7 +69,7 @@ fn check_of<'a>(operands: &'a [String]) -> Option<Job<'a>>
 
 // `least FILE`.
 fn least_of<'a>(operands: &'a [String]) -> Option<Job<'a>>
-    ensures { Finds (Asks (codes "least" ∷ map string_bytes operands.now)) (option_map task result) }
+    ensures { FindsOne (Asks (codes "least" ∷ map string_bytes operands.now)) (option_map task result) }
 {
     let file = file_of(operands)?;
     Some(Job::Least { file })
@@ -77,7 +77,7 @@ fn least_of<'a>(operands: &'a [String]) -> Option<Job<'a>>
 
 // The one file that the words name.
 fn file_of<'a>(operands: &'a [String]) -> Option<&'a str>
-    ensures { Finds (IsFile (map string_bytes operands.now)) (option_map (λ word. word.now) result) }
+    ensures { FindsOne (AsksFile (map string_bytes operands.now)) (option_map (λ word. word.now) result) }
 {
     match operands {
         [file] if is_file_word(file.as_str()) => Some(file.as_str()),
@@ -87,7 +87,7 @@ fn file_of<'a>(operands: &'a [String]) -> Option<&'a str>
 
 // `run FILE SCRIPT` with options.
 fn run_of<'a>(operands: &'a [String]) -> Option<Job<'a>>
-    ensures { Finds (Asks (codes "run" ∷ map string_bytes operands.now)) (option_map task result) }
+    ensures { FindsOne (Asks (codes "run" ∷ map string_bytes operands.now)) (option_map task result) }
 {
     match operands {
         [file, script, options @ ..] => run_with(file.as_str(), script.as_str(), options),
@@ -97,7 +97,7 @@ fn run_of<'a>(operands: &'a [String]) -> Option<Job<'a>>
 
 // The run of a script on a contract, with these words behind them.
 fn run_with<'a>(file: &'a str, script: &'a str, options: &'a [String]) -> Option<Job<'a>>
-    ensures { Finds (Asks (codes "run" ∷ file.now ∷ script.now ∷ map string_bytes options.now))
+    ensures { FindsOne (Asks (codes "run" ∷ file.now ∷ script.now ∷ map string_bytes options.now))
         (option_map task result) }
 {
     let given = given_of(options)?;
@@ -118,7 +118,7 @@ fn run_with<'a>(file: &'a str, script: &'a str, options: &'a [String]) -> Option
 
 // `replay FILE SCRIPT JOURNAL`.
 fn replay_of<'a>(operands: &'a [String]) -> Option<Job<'a>>
-    ensures { Finds (Asks (codes "replay" ∷ map string_bytes operands.now)) (option_map task result) }
+    ensures { FindsOne (Asks (codes "replay" ∷ map string_bytes operands.now)) (option_map task result) }
 {
     match operands {
         [file, script, journal] => replay_with(file.as_str(), script.as_str(), journal.as_str()),
@@ -128,7 +128,7 @@ fn replay_of<'a>(operands: &'a [String]) -> Option<Job<'a>>
 
 // The replay of a journal of a script on a contract.
 fn replay_with<'a>(file: &'a str, script: &'a str, journal: &'a str) -> Option<Job<'a>>
-    ensures { Finds (Asks (codes "replay" ∷ file.now ∷ script.now ∷ journal.now ∷ [])) (option_map task result) }
+    ensures { FindsOne (Asks (codes "replay" ∷ file.now ∷ script.now ∷ journal.now ∷ [])) (option_map task result) }
 {
     if is_file_word(file) && is_file_word(script) && is_file_word(journal) {
         Some(Job::Replay {
@@ -143,7 +143,7 @@ fn replay_with<'a>(file: &'a str, script: &'a str, journal: &'a str) -> Option<J
 
 // `bench SEED BIDDERS`.
 fn bench_of<'a>(operands: &'a [String]) -> Option<Job<'a>>
-    ensures { Finds (Asks (codes "bench" ∷ map string_bytes operands.now)) (option_map task result) }
+    ensures { FindsOne (Asks (codes "bench" ∷ map string_bytes operands.now)) (option_map task result) }
 {
     match operands {
         [seed, bidders] => Some(Job::Bench {

@@ -1,14 +1,14 @@
 //! The load that `bench` runs: an auction, and a script in which each bidder places a bid.
 
 ghost use Rattle.std.specs.Prelude.{◌≡◌, ◌+◌, ◌++◌, OnOk};
-ghost use Rattle.nomos_words.specs.Load.{auction_text, bid_for, bid_line, bidder_lines, bidders_lines, gas_line, load_script, next_draw, wallet_line};
+ghost use Rattle.nomos_words.specs.BenchLoad.{auction_text, bid_for, bid_line, bidder_lines, bidders_lines, gas_line, load_script, next_draw, wallet_line};
 
 use crate::auction::AUCTION;
 use crate::counted::push_counted;
 use std::alloc::AllocError;
 
 /// The text of the auction.
-#[tactic(auto, unfolding(crate::specs::Load::auction_text))]
+#[tactic(auto, unfolding(crate::specs::BenchLoad::auction_text))]
 pub fn auction_text() -> &'static [u8]
     ensures { result.now ≡ auction_text }
 {

@@ -2,37 +2,37 @@
 
 ghost use Rattle.std.specs.Prelude.{◌≡◌, ◌↔◌, IsTrue, IfSome, map, string_bytes};
 ghost use Rattle.std.specs.Option.{option_map};
-ghost use Rattle.nomos_words.specs.Finding.{Finds};
+ghost use Rattle.nomos_words.specs.FindsOne.{FindsOne};
 ghost use Rattle.nomos_words.specs.Options.{IsFileWord};
-ghost use Rattle.nomos_words.specs.mirror.Given.{AreGiven, values, with_option};
+ghost use Rattle.nomos_words.specs.mirror.GivenOptions.{AreGiven, option_values, with_option};
 
 /// The values of the options that were given, as words.
 #[derive(Clone, Copy)]
-pub(crate) struct Given<'a> {
+pub(crate) struct GivenOptions<'a> {
     pub(crate) workers: Option<&'a str>,
     pub(crate) policy: Option<&'a str>,
     pub(crate) steps: Option<&'a str>,
     pub(crate) journal: Option<&'a str>,
 }
 
-// The options with one more, unless its name is none or was there before.
-fn with_option<'a>(given: Given<'a>, name: &str, value: &'a str) -> Option<Given<'a>>
-    ensures { option_map values result ≡ with_option (values given.entry) name.now value.now }
+// The options with one more, if_new its name is none or was there before.
+fn with_option<'a>(given: GivenOptions<'a>, name: &str, value: &'a str) -> Option<GivenOptions<'a>>
+    ensures { option_map option_values result ≡ with_option (option_values given.entry) name.now value.now }
 {
     match name {
-        "--workers" if given.workers.is_none() => Some(Given {
+        "--workers" if given.workers.is_none() => Some(GivenOptions {
             workers: Some(value),
             ..given
         }),
-        "--policy" if given.policy.is_none() => Some(Given {
+        "--policy" if given.policy.is_none() => Some(GivenOptions {
             policy: Some(value),
             ..given
         }),
-        "--steps" if given.steps.is_none() => Some(Given {
+        "--steps" if given.steps.is_none() => Some(GivenOptions {
             steps: Some(value),
             ..given
         }),
-        "--journal" if given.journal.is_none() => Some(Given {
+        "--journal" if given.journal.is_none() => Some(GivenOptions {
             journal: Some(value),
             ..given
         }),
@@ -41,10 +41,10 @@ fn with_option<'a>(given: Given<'a>, name: &str, value: &'a str) -> Option<Given
 }
 
 /// The options that the words are, if they are some, each at most once.
-pub(crate) fn given_of<'a>(words: &'a [String]) -> Option<Given<'a>>
-    ensures { Finds (AreGiven (map string_bytes words.now)) (option_map values result) }
+pub(crate) fn given_of<'a>(words: &'a [String]) -> Option<GivenOptions<'a>>
+    ensures { FindsOne (AreGiven (map string_bytes words.now)) (option_map option_values result) }
 {
-    let mut given = Given {
+    let mut given = GivenOptions {
         workers: None,
         policy: None,
         steps: None,

@@ -1,7 +1,7 @@
 //! Who fires in a run, as the options say.
 
 ghost use Rattle.std.specs.Option.{option_map};
-ghost use Rattle.nomos_words.specs.Finding.{Finds};
+ghost use Rattle.nomos_words.specs.FindsOne.{FindsOne};
 ghost use Rattle.nomos_words.specs.Options.{AreWorkers, IsPolicy};
 
 use crate::numbers::count_or;
@@ -16,7 +16,7 @@ pub enum Workers {
 
 // The policy of `--policy`.
 fn policy_of(word: Option<&str>) -> Option<Policy>
-    ensures { Finds (IsPolicy (option_map (λ word. word.now) word.entry)) result }
+    ensures { FindsOne (IsPolicy (option_map (λ word. word.now) word.entry)) result }
 {
     match word {
         None | Some("first") => Some(Policy::First),
@@ -27,7 +27,7 @@ fn policy_of(word: Option<&str>) -> Option<Policy>
 
 /// The workers of `--workers` and `--policy`, from their values.
 pub(crate) fn workers_of(count: Option<&str>, policy: Option<&str>) -> Option<Workers>
-    ensures { Finds
+    ensures { FindsOne
         (AreWorkers (option_map (λ word. word.now) count.entry) (option_map (λ word. word.now) policy.entry)) result }
 {
     match count_or(count, 1, 16)? {

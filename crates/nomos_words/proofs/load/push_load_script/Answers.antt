@@ -1,5 +1,5 @@
 -- The parts of the script, one after another.
-use Rattle.nomos_words.specs.Load.{load_script}
+use Rattle.nomos_words.specs.BenchLoad.{load_script}
 use Rattle.nomos_words.proofs.LoadLemmas.{three_appended}
 use Rattle.nomos_words.proofs.load.push_load_script.Goals as goal
 

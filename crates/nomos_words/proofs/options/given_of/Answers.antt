@@ -1,9 +1,9 @@
 -- Options that are gathered are what the words are, and where one is not taken, the words are none.
 use Rattle.std.proofs.Common.{◌≡◌, ◌≢◌, ◌-◌, ℕ, List, length, take, drop, map, string_bytes, Some, None, sym, subst, rules}
 use Rattle.std.specs.declared.string.String.{String}
-use Rattle.nomos_words.specs.mirror.Given.{values, with_option}
-use Rattle.nomos_words.proofs.FindingLaws.{Finds-none}
-use Rattle.nomos_words.proofs.GivenLemmas.{Gathers, Gathers-next, Gathers-stops, Gathers-odd, Gathers-all}
+use Rattle.nomos_words.specs.mirror.GivenOptions.{option_values, with_option}
+use Rattle.nomos_words.proofs.FindsOneLaws.{FindsOne-none}
+use Rattle.nomos_words.proofs.GivenOptionLemmas.{HasGathered, HasGathered-next, HasGathered-stops, HasGathered-odd, HasGathered-all}
 use Rattle.nomos_words.proofs.OptionLemmas.{two_words, no_words, one_word}
 use Rattle.nomos_words.proofs.options.given_of.Goals as goal
 
@@ -17,13 +17,14 @@ returns-in_err-given c =
     let left = c.loop-left.left.now in
     let name = c.name-item.result in
     let value = c.value-item.result in
-    let given = values c.loop-left.given in
+    let given = option_values c.loop-left.given in
     let two = two_words left name value c.in-len2-up.len_at_least c.name-item.is c.value-item.is in
-    let gathers = subst (λ ws. Gathers words ws given) two c.loop-left.invariant in
+    let gathers = subst (λ ws. HasGathered words ws given) two c.loop-left.invariant in
     let stops : with_option given (string_bytes name) (string_bytes value) ≡ None =
     simp (c.as_str.ensures.value, c.as_str-in-len2-up.ensures.value) at (sym c.in_err-given.ensures) in
     rw c.from_residual.ensures
-    (Finds-none (Gathers-stops words (rest_of left) (string_bytes name) (string_bytes value) given gathers stops))
+    (FindsOne-none
+    (HasGathered-stops words (rest_of left) (string_bytes name) (string_bytes value) given gathers stops))
 
 pub loop-left-preserved : goal.loop-left-preserved
 loop-left-preserved c =
@@ -31,29 +32,29 @@ loop-left-preserved c =
     let left = c.loop-left.left.now in
     let name = c.name-item.result in
     let value = c.value-item.result in
-    let given = values c.loop-left.given in
-    let next = values c.in_ok-given.given in
+    let given = option_values c.loop-left.given in
+    let next = option_values c.in_ok-given.given in
     let two = two_words left name value c.in-len2-up.len_at_least c.name-item.is c.value-item.is in
-    let gathers = subst (λ ws. Gathers words ws given) two c.loop-left.invariant in
+    let gathers = subst (λ ws. HasGathered words ws given) two c.loop-left.invariant in
     let more : with_option given (string_bytes name) (string_bytes value) ≡ Some next =
     simp (c.as_str.ensures.value, c.as_str-in-len2-up.ensures.value) at (sym c.in_ok-given.ensures) in
-    Gathers-next words (rest_of left) (string_bytes name) (string_bytes value) given next gathers more
+    HasGathered-next words (rest_of left) (string_bytes name) (string_bytes value) given next gathers more
 
 pub returns-then-is_empty : goal.returns-then-is_empty
 returns-then-is_empty c =
     let words = map string_bytes c.args.words.now in
     let left = c.loop-left.left.now in
-    let given = values c.loop-left.given in
+    let given = option_values c.loop-left.given in
     let none : length left ≡ 0 = search rules in
-    let gathers = subst (λ ws. Gathers words ws given) (no_words left none) c.loop-left.invariant in
-    Gathers-all words given gathers
+    let gathers = subst (λ ws. HasGathered words ws given) (no_words left none) c.loop-left.invariant in
+    HasGathered-all words given gathers
 
 pub returns-else-is_empty : goal.returns-else-is_empty
 returns-else-is_empty c =
     let words = map string_bytes c.args.words.now in
     let left = c.loop-left.left.now in
-    let given = values c.loop-left.given in
+    let given = option_values c.loop-left.given in
     let some : length left ≢ 0 = search rules in
     let one = one_word left some c.in_default.len_below in
-    let gathers = subst (λ ws. Gathers words ws given) one.1 c.loop-left.invariant in
-    Finds-none (Gathers-odd words one.0 given gathers)
+    let gathers = subst (λ ws. HasGathered words ws given) one.1 c.loop-left.invariant in
+    FindsOne-none (HasGathered-odd words one.0 given gathers)

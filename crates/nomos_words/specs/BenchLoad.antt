@@ -11,9 +11,9 @@ abbrev pub next_draw : ℕ → ℕ
 next_draw z = (6364136223846793005 * z + 1442695040888963407) % 2 ^ 64
 
 -- the numbers that are drawn: before them is the seed
-abbrev pub draw : ℕ → ℕ → ℕ
-draw seed zero = seed
-draw seed (suc k) = next_draw (draw seed k)
+abbrev pub drawn_at : ℕ → ℕ → ℕ
+drawn_at seed zero = seed
+drawn_at seed (suc k) = next_draw (drawn_at seed k)
 
 -- the bid for a number, from 1 to 1000
 abbrev pub bid_for : ℕ → ℕ
@@ -21,7 +21,7 @@ bid_for z = 1 + (z / 2 ^ 33) % 1000
 
 -- the bid of bidder k, where the first is bidder 1
 abbrev pub bid : ℕ → ℕ → ℕ
-bid seed k = bid_for (draw seed k)
+bid seed k = bid_for (drawn_at seed k)
 
 -- a bidder deposits gas, makes a wallet, and places a bid
 abbrev pub gas_line : ℕ → List ℕ
