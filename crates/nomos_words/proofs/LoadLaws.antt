@@ -15,7 +15,13 @@ wallet_line-short : (k : ℕ) → length (decimal k) ≤ 5 → length (wallet_li
 wallet_line-short k short =
     let d = decimal k in
     let new = codes " = new u" in
-    omega (arith, short, length-append ((d ++ new) ++ d) (codes " keep(0;)\n"), length-append (d ++ new) d, length-append d new)
+    omega (
+      arith,
+      short,
+      length-append ((d ++ new) ++ d) (codes " keep(0;)\n"),
+      length-append (d ++ new) d,
+      length-append d new,
+    )
 
 bid_line-short : (k amount : ℕ) → length (decimal k) ≤ 5 → length (decimal amount) ≤ 4 → length (bid_line k amount) ≤ 37
 bid_line-short k amount short few =
