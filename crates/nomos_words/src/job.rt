@@ -18,7 +18,7 @@ pub enum Job<'a> {
         file: &'a str,
     },
     /// The script in the second file is to be run on the contract in the first, each batch for at most so many
-    /// firings, and the journal is to be kept in this file, if any.
+    /// firings, from 1 to 10,000,000, and the journal is to be kept in this file, if any.
     Run {
         file: &'a str,
         script: &'a str,
@@ -32,7 +32,8 @@ pub enum Job<'a> {
         script: &'a str,
         journal: &'a str,
     },
-    /// The generated auction is to be run, with bids that are drawn from this seed, of so many bidders.
+    /// The generated auction is to be run, with bids that are drawn from this seed, of so many bidders, from 1 to
+    /// 10,000.
     Bench {
         seed: u64,
         bidders: u32,
@@ -43,8 +44,8 @@ pub enum Job<'a> {
     },
 }
 
-/// The job that the words ask for, or none where they have no form of the usage line. The words are those after the
-/// program's own name. It takes no memory.
+/// The job that the words ask for, or none where they have no form of the usage line (docs/TEXTS.md, "The words of what
+/// comes"). The words are those after the program's own name. It takes no memory.
 pub fn words<'a>(words: &'a [String]) -> Option<Job<'a>>
     ensures { FindsOne (Asks (map string_bytes words.now)) (option_map task result) }
 {

@@ -16,7 +16,8 @@ pub fn auction_text() -> &'static [u8]
 }
 
 /// Appends the script: the seller begins the auction, each bidder from 1 on places a bid that is drawn from the seed,
-/// and the seller asks for the best. Where memory runs out, a part of it may stand there.
+/// and the seller asks for the best (docs/TEXTS.md, "The load of `bench`"). Where memory runs out, a part of it may
+/// stand there.
 pub fn push_load_script(text: &mut Vec<u8>, seed: u64, bidders: u32) -> Result<(), AllocError>
     ensures { OnOk result (text.new.items ≡ text.old.items ++ load_script seed bidders) }
 {

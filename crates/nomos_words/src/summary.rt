@@ -23,8 +23,8 @@ pub struct Figures {
     pub unit: u32,
 }
 
-/// Appends the lines of a load, and the best bid, if there is one. Where memory runs out, a part of them may stand
-/// there.
+/// Appends the lines of a load, and the best bid, if there is one (docs/TEXTS.md, "The load of `bench`"). Where memory
+/// runs out, a part of them may stand there.
 pub fn push_summary(
     text: &mut Vec<u8>,
     figures: &Figures,
