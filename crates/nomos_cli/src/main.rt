@@ -7,10 +7,11 @@ ghost use Rattle.nomos_top.specs.Words.{task_of};
 ghost use Rattle.nomos_cli.specs.Call.{EndsSilently};
 ghost use Rattle.nomos_cli.specs.FileWords.{contract_word, script_word};
 
-use nomos_files::{FileSource, StdoutSink};
+use nomos_files::{FileSource, OutputSink};
 use nomos_top::{Job, nomos};
 use std::alloc::{AllocError, AllocGlobal};
 use std::env::Env;
+use std::fs::{File, Files};
 use std::io::ErrorKind;
 use std::process::ExitCode;
 
@@ -20,7 +21,7 @@ fn main(rt: HostRuntime) -> ExitCode {
     };
     let mut contract = FileSource::open(&rt, contract_word(&words));
     let mut script = FileSource::open(&rt, script_word(&words));
-    let mut out = StdoutSink::new(rt.stdout());
+    let mut out = OutputSink::stdout(&rt, rt.stdout());
     let status = status_of(&rt, &words, &mut contract, &mut script, &mut out);
     ExitCode::from(status)
 }
@@ -36,19 +37,19 @@ fn own_words<R: Env + AllocGlobal>(rt: &R) -> Result<Vec<String>, AllocError> {
 }
 
 // Does what the words say, over the files that they name, and gives the status that the program ends with.
-fn status_of<'a, R: AllocGlobal>(
+fn status_of<'a, R: AllocGlobal, F: Files<File = File>>(
     rt: &R,
     words: &[String],
     contract: &mut FileSource<'a>,
     script: &mut FileSource<'a>,
-    out: &mut StdoutSink,
+    out: &mut OutputSink<'a, F>,
 ) -> u8
     requires contract { contract.old.word ≡ contract_word (task_of (map string_bytes words.now)) }
     requires script { script.old.word ≡ script_word (task_of (map string_bytes words.now)) }
     ensures { EndsSilently (map string_bytes words.now)
         (record { before = contract.old.faults; after = contract.new.faults })
         (record { before = script.old.faults; after = script.new.faults })
-        (record { before = out.old; after = out.new }) result }
+        (record { before = out.old.faults; after = out.new.faults }) result }
 {
     nomos(rt.alloc(), words, contract, script, out).status
 }

@@ -1,8 +1,8 @@
-//! The files and the standard output of the operating system, as a source and a sink.
+//! The files and the standard output of the operating system, as sources and sinks.
 #![tactic(auto)]
 
 mod file_source;
-mod stdout_sink;
+mod output_sink;
 
 pub use file_source::FileSource;
-pub use stdout_sink::StdoutSink;
+pub use output_sink::OutputSink;

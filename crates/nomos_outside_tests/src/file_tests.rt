@@ -1,7 +1,7 @@
 //! Tests: files and standard output at the real system.
 
 use nomos_base::{Got, Put, Sink, Source};
-use nomos_files::{FileSource, StdoutSink};
+use nomos_files::{FileSource, OutputSink};
 use std::{env, fs, io};
 
 // How many bytes a read got, 0 at the end, or none where it failed.
@@ -48,7 +48,25 @@ fn reads_a_file(rt: HostRuntime) -> io::Result<()> {
 // Standard output takes what it is given.
 #[test]
 fn writes_to_standard_output(rt: HostRuntime) {
-    let mut sink = StdoutSink::new(rt.stdout());
+    let mut sink = OutputSink::stdout(&rt, rt.stdout());
     assert_eq!(rt; bytes_put(sink.write(b"\n")), Some(1));
     assert_eq!(rt; sink.faults(), 0);
+}
+
+// A file is made at the first write, takes what it is given, and loses what it had; without a word each write fails.
+#[test]
+fn writes_a_file(rt: HostRuntime) -> io::Result<()> {
+    let mut nowhere = OutputSink::file(&rt, None);
+    assert_eq!(rt; bytes_put(nowhere.write(b"a")), None);
+    assert_eq!(rt; nowhere.faults(), 1);
+    let path = env::temp_dir(&rt)?.join(rt.alloc(), "nomos_writes_a_file")?;
+    fs::write(&rt, path.as_path(), "before")?;
+    let mut sink = OutputSink::file(&rt, Some(path.as_str()));
+    assert_eq!(rt; fs::read_to_string(&rt, path.as_path())?.as_str(), "before");
+    assert_eq!(rt; bytes_put(sink.write(b"one")), Some(3));
+    assert_eq!(rt; bytes_put(sink.write(b"two")), Some(3));
+    assert_eq!(rt; fs::read_to_string(&rt, path.as_path())?.as_str(), "onetwo");
+    assert_eq!(rt; sink.faults(), 0);
+    fs::remove_file(&rt, path.as_path())?;
+    Ok(())
 }
