@@ -1,0 +1,5 @@
+pub mod BecomesLemmas
+pub mod MadeLemmas
+pub mod PairLemmas
+pub mod SeenLemmas
+pub mod SharingLemmas

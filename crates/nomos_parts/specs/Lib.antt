@@ -1,2 +1,4 @@
+pub mod Leavings
 pub mod Performing
+pub mod Sharings
 pub mod SmallChanges
