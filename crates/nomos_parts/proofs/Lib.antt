@@ -1,0 +1,4 @@
+pub mod BecomesLemmas
+pub mod MadeLemmas
+pub mod PairLemmas
+pub mod RevisionLemmas

@@ -1,2 +1,4 @@
 pub mod Performing
+pub mod Revisions
+pub mod Sendings
 pub mod SmallChanges
