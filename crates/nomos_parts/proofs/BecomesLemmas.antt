@@ -1,5 +1,5 @@
 -- A process that becomes another one, by one small change after the other.
-use Rattle.std.proofs.Common.{◌≡◌, ◌∙◌, ◌==◌, ℕ, Bool, true, false, cond, List, [], ◌∷◌, Option, Some, None, Result, Ok, Err, OnOk, OnErr, refl, ap, option_and_then, eq-eqb}
+use Rattle.std.proofs.Common.{◌≡◌, ◌∙◌, ◌==◌, ℕ, Bool, true, false, cond, List, [], ◌∷◌, Option, Some, None, Result, Ok, Err, OnOk, OnErr, refl, sym, ap, option_and_then, eq-eqb}
 use Rattle.nomos_machine.specs.Change.{put_at}
 use Rattle.nomos_machine.specs.Objects.{object_at, object_number, process_of}
 use Rattle.nomos_machine.specs.Optional.{◌>>=◌}
@@ -9,7 +9,10 @@ use Rattle.nomos_machine.specs.declared.object.Object.TheVariants as object
 use Rattle.nomos_machine.specs.declared.object.Process.{Process}
 use Rattle.nomos_machine.proofs.PreservationLaws.{process_at-there}
 use Rattle.nomos_machine.proofs.PutLaws.{object_at-put}
-use Rattle.nomos_parts.specs.SmallChanges.{Becomes, with_process}
+use Rattle.std.specs.Option.{option_map}
+use Rattle.nomos_deeds.specs.Seen.{seen_process}
+use Rattle.nomos_deeds.specs.declared.sight.SeenProcess.{SeenProcess}
+use Rattle.nomos_parts.specs.SmallChanges.{Becomes, with_fields, with_process}
 
 -- ---- one process after the other at a number
 
@@ -69,3 +72,27 @@ on_ok (Err e) goes there = tt
 pub on_err : {T E : Type 0} (r : Result T E) {A B : Type 0} → (A → B) → OnErr r A → OnErr r B
 on_err (Ok x) goes there = tt
 on_err (Err e) goes there = goes there
+
+-- ---- plain fields
+
+-- what is seen of the process that is there
+seen-is : (o : Option Process) (p : Process) (x : SeenProcess) → Some x ≡ option_map seen_process o → o ≡ Some p
+    → x ≡ seen_process p
+seen-is (Some q) p x seen there =
+    let same : q ≡ p = cc in
+    let is : x ≡ seen_process q = cc in
+    is ∙ ap seen_process same
+seen-is None p x seen there = absurd cc
+
+-- a process becomes another one by new fields, which are what is seen of it with a change
+pub fields-become : (s t : State) (pid : ℕ) (p q : Process) (change : SeenProcess → SeenProcess) (seen x : SeenProcess)
+    → process_at s pid ≡ Some p → Some seen ≡ option_map seen_process (process_at s pid) → x ≡ change seen
+    → (change (seen_process p)).pid ≡ p.pid → with_fields (change (seen_process p)) p ≡ q
+    → Becomes s x.pid (with_fields x) t → t ≡ with_process pid q s
+fields-become s t pid p q change seen x there looked changes same is becomes =
+    let fields : x ≡ change (seen_process p) = changes ∙ ap change (seen-is (process_at s pid) p seen looked there) in
+    let number : x.pid ≡ pid = ap (λ (x : SeenProcess). x.pid) fields ∙ same ∙ (process_at-there s pid p there).1 in
+    becomes p (ap (process_at s) number ∙ there)
+    ∙ ap (λ (n : ℕ). with_process n (with_fields x p) s) number
+    ∙ ap (λ (x : SeenProcess). with_process pid (with_fields x p) s) fields
+    ∙ ap (λ (q : Process). with_process pid q s) is

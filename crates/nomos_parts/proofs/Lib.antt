@@ -1,5 +1,6 @@
 pub mod BecomesLemmas
 pub mod MadeLemmas
 pub mod PairLemmas
+pub mod RevisionLemmas
 pub mod SeenLemmas
 pub mod SharingLemmas

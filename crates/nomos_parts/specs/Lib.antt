@@ -1,4 +1,6 @@
 pub mod Leavings
 pub mod Performing
+pub mod Revisions
+pub mod Sendings
 pub mod Sharings
 pub mod SmallChanges

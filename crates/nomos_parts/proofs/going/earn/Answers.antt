@@ -1,0 +1,12 @@
+use Rattle.std.proofs.Common.{◌+◌, refl}
+use Rattle.nomos_deeds.specs.declared.sight.SeenProcess.{SeenProcess}
+use Rattle.nomos_parts.proofs.BecomesLemmas.{fields-become}
+use Rattle.nomos_machine.specs.Revised.{richer, standing_at}
+use Rattle.nomos_parts.proofs.going.earn.Goals as goal
+
+pub returns-in-Some-clause-state : goal.returns-in-Some-clause-state
+returns-in-Some-clause-state g c p there =
+    fields-become (g.P.Sight.state c.args.parts.now) (g.P.Sight.state c.set_fields.new.self) c.args.pid p
+    (richer c.args.gas (standing_at c.args.next p))
+    (λ (x : SeenProcess). record x { code = c.args.next; purse = x.purse + c.args.gas }) c.in-Some.seen _ there
+    c.in-Some.ensures refl refl refl c.set_fields.ensures.state
