@@ -1,5 +1,5 @@
 -- A process that becomes another one, by one small change after the other.
-use Rattle.std.proofs.Common.{◌≡◌, ◌∙◌, ◌==◌, ℕ, Bool, true, false, cond, List, [], ◌∷◌, Option, Some, None, Result, Ok, Err, OnOk, OnErr, refl, sym, ap, option_and_then, eq-eqb}
+use Rattle.std.proofs.Common.{◌≡◌, ◌∙◌, ◌==◌, ℕ, Bool, true, false, cond, List, [], ◌∷◌, Option, Some, None, Result, Ok, Err, OnOk, OnErr, refl, ap, option_and_then, eq-eqb}
 use Rattle.nomos_machine.specs.Change.{put_at}
 use Rattle.nomos_machine.specs.Objects.{object_at, object_number, process_of}
 use Rattle.nomos_machine.specs.Optional.{◌>>=◌}

@@ -2,5 +2,4 @@ pub mod BecomesLemmas
 pub mod MadeLemmas
 pub mod PairLemmas
 pub mod RevisionLemmas
-pub mod SeenLemmas
 pub mod SharingLemmas

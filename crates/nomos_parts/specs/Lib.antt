@@ -1,5 +1,6 @@
 pub mod Leavings
 pub mod Performing
+pub mod Providers
 pub mod Revisions
 pub mod Sendings
 pub mod Sharings

@@ -4,8 +4,11 @@ ghost use Rattle.nomos_deeds.specs.Acting.{CanAct};
 ghost use Rattle.nomos_machine.specs.State.{process_at};
 ghost use Rattle.nomos_machine.specs.declared.object.Process.{Process};
 ghost use Rattle.nomos_parts.specs.Performing.{made_by_act};
+ghost use Rattle.nomos_parts.specs.Providers.{provides_as};
 ghost use Rattle.nomos_parts.specs.Sharings.{acquire_act, acquired, release_act, released};
+ghost use Rattle.nomos_parts.specs.SmallChanges.{Becomes};
 
+use crate::going::go_on;
 use crate::parts::Parts;
 use nomos_deeds::sight::SeenProcess;
 use nomos_ir::ids::{CodeId, TypeId, VarId};
@@ -37,6 +40,34 @@ pub struct Release {
     pub next: CodeId,
 }
 
+// How a process provides: at which mode, from which instruction on, under which name, and which shared name it goes
+// back to.
+#[derive(Clone, Copy, Debug)]
+struct Provider {
+    mode: Mode,
+    code: CodeId,
+    offers: u32,
+    base: Option<u32>,
+}
+
+// The process of this number provides otherwise.
+fn provide_as<P: Parts>(parts: &mut P, number: u32, provider: Provider)
+    requires room { 0 < P.room parts.old }
+    ensures state { Becomes (P.state parts.old) number (provides_as provider) (P.state parts.new) }
+    ensures room { P.room parts.old ≤ P.room parts.new + 1 }
+    ensures marked { P.marked parts.new ≡ P.marked parts.old }
+{
+    if let Some(seen) = parts.process(number) {
+        parts.set_fields(SeenProcess {
+            mode: provider.mode,
+            code: provider.code,
+            offers: provider.offers,
+            base: provider.base,
+            ..seen
+        });
+    }
+}
+
 // The process acquires what stands for a shared name.
 fn acquire_shared<P: Parts>(parts: &mut P, pid: u32, acquire: Acquire)
     requires room { 8 ≤ P.room parts.old }
@@ -47,26 +78,17 @@ fn acquire_shared<P: Parts>(parts: &mut P, pid: u32, acquire: Acquire)
     ensures room { P.room parts.old ≤ P.room parts.new + 7 }
     ensures marked { P.marked parts.new ≡ P.marked parts.old }
 {
-    let Some(process) = parts.process(pid) else {
-        return;
-    };
-    let Some(other) = parts.process(acquire.other) else {
-        return;
-    };
     let name = parts.fresh_name();
     parts.come_name(acquire.goes);
     parts.bind_channel(pid, acquire.variable, name);
-    parts.set_fields(SeenProcess {
-        code: acquire.next,
-        ..process
-    });
-    parts.set_fields(SeenProcess {
+    go_on(parts, pid, acquire.next);
+    let provider = Provider {
         mode: Mode::L,
         code: acquire.onward,
         offers: name,
         base: Some(acquire.shared),
-        ..other
-    });
+    };
+    provide_as(parts, acquire.other, provider);
 }
 
 // The process releases what it has acquired.
@@ -78,25 +100,16 @@ fn release_shared<P: Parts>(parts: &mut P, pid: u32, release: Release)
     ensures room { P.room parts.old ≤ P.room parts.new + 7 }
     ensures marked { P.marked parts.new ≡ P.marked parts.old }
 {
-    let Some(process) = parts.process(pid) else {
-        return;
-    };
-    let Some(other) = parts.process(release.other) else {
-        return;
-    };
     parts.unbind_channel(pid, release.variable);
     parts.bind_channel(pid, release.reference, release.shared);
-    parts.set_fields(SeenProcess {
-        code: release.next,
-        ..process
-    });
-    parts.set_fields(SeenProcess {
+    go_on(parts, pid, release.next);
+    let provider = Provider {
         mode: Mode::S,
         code: release.onward,
         offers: release.shared,
         base: None,
-        ..other
-    });
+    };
+    provide_as(parts, release.other, provider);
 }
 
 /// The process acquires what stands for a shared name.
