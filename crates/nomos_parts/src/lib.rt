@@ -1,6 +1,7 @@
 //! Acts as small changes of a state, worked out once for every form in which a state is kept.
 #![tactic(auto)]
 
+mod given;
 pub mod going;
 pub mod leaving;
 pub mod lists;
