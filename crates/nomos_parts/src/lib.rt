@@ -1,9 +1,11 @@
 //! Acts as small changes of a state, worked out once for every form in which a state is kept.
 #![tactic(auto)]
 
+pub mod alone;
 pub mod going;
 pub mod lists;
 pub mod newborn;
 pub mod pairs;
 pub mod parts;
+pub mod revising;
 pub mod revision;
