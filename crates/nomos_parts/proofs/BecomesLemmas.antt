@@ -1,5 +1,5 @@
 -- A process that becomes another one, by one small change after the other.
-use Rattle.std.proofs.Common.{◌≡◌, ◌∙◌, ◌==◌, ℕ, Bool, true, false, cond, List, [], ◌∷◌, Option, Some, None, Result, Ok, Err, OnOk, OnErr, refl, ap, option_and_then, eq-eqb}
+use Rattle.std.proofs.Common.{◌≡◌, ◌∙◌, ◌==◌, ℕ, Bool, true, false, cond, List, [], ◌∷◌, Option, Some, None, IsSome, Result, Ok, Err, OnOk, OnErr, refl, sym, ap, option_and_then, eq-eqb}
 use Rattle.nomos_machine.specs.Change.{put_at}
 use Rattle.nomos_machine.specs.Objects.{object_at, object_number, process_of}
 use Rattle.nomos_machine.specs.Optional.{◌>>=◌}
@@ -96,3 +96,9 @@ fields-become s t pid p q change seen x there looked changes same is becomes =
     ∙ ap (λ (n : ℕ). with_process n (with_fields x p) s) number
     ∙ ap (λ (x : SeenProcess). with_process pid (with_fields x p) s) fields
     ∙ ap (λ (q : Process). with_process pid q s) is
+
+-- ---- what there is
+
+pub not-some : {X : Type 0} (o : Option X) → o ≡ None → IsSome o → ⊥
+not-some (Some x) none some = cc
+not-some None none some = cc

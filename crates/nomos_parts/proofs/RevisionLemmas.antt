@@ -16,7 +16,7 @@ use Rattle.nomos_machine.specs.Revised.{standing_at, with_value, with_list, list
 use Rattle.nomos_machine.specs.State.{State}
 use Rattle.nomos_machine.specs.declared.object.PotentialList.{PotentialList}
 use Rattle.nomos_machine.specs.declared.object.Process.{Process}
-use Rattle.nomos_parts.specs.Revisions.{Revises, with_parts}
+use Rattle.nomos_parts.specs.Revisions.{Revises, revised, with_parts}
 use Rattle.nomos_parts.specs.declared.revision.Revision.TheVariants as revision
 use Rattle.nomos_parts.proofs.MadeLemmas.{one-some}
 
@@ -86,3 +86,34 @@ module _ (a : Acceptance) (s : State) (p : Process) (vs : List Value) (c : Chang
           → Revises a s p (revision.Parted w head tail) next c
       at (Some l) found made = with-items l found l.items refl made
       at None found made = absurd cc
+
+-- ---- a list that is taken apart
+
+pub record PartedInto (w head tail : VarId) (p q : Process) : Type 0 where
+  pub list : PotentialList
+  pub found : bound_to w.0 p.lists ≡ Some list
+  pub first : Value
+  pub rest : List Value
+  pub items : list.items ≡ first ∷ rest
+  pub becomes : with_value head first (with_list tail (record list { items = rest }) (list_used_up w p)) ≡ q
+
+pub parted-into : (w head tail : VarId) (p q : Process) → revised (revision.Parted w head tail) p ≡ Some q
+    → PartedInto w head tail p q
+parted-into w head tail p q made = at (bound_to w.0 p.lists) refl made
+  where
+    with-items : (l : PotentialList) → bound_to w.0 p.lists ≡ Some l → (items : List Value) → l.items ≡ items
+        → with_parts head tail l items (list_used_up w p) ≡ Some q → PartedInto w head tail p q
+    with-items l found [] items made = absurd cc
+    with-items l found (x ∷ xs) items made = record {
+      list = l;
+      found = found;
+      first = x;
+      rest = xs;
+      items = items;
+      becomes = one-some (with_value head x (with_list tail (record l { items = xs }) (list_used_up w p))) q made;
+    }
+
+    at : (o : Option PotentialList) → bound_to w.0 p.lists ≡ o
+        → (o >>= λ l. with_parts head tail l l.items (list_used_up w p)) ≡ Some q → PartedInto w head tail p q
+    at (Some l) found made = with-items l found l.items refl made
+    at None found made = absurd cc

@@ -1,6 +1,7 @@
 //! Acts as small changes of a state, worked out once for every form in which a state is kept.
 #![tactic(auto)]
 
+pub mod alone;
 mod given;
 pub mod going;
 pub mod leaving;
@@ -8,5 +9,6 @@ pub mod lists;
 pub mod newborn;
 pub mod pairs;
 pub mod parts;
+pub mod revising;
 pub mod revision;
 pub mod sharing;
