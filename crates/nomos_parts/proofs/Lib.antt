@@ -1,7 +1,12 @@
 pub mod BecomesLemmas
+pub mod BeginActLemmas
+pub mod BeginLemmas
+pub mod BirthLemmas
 pub mod GivenLemmas
+pub mod HandLemmas
 pub mod MadeLemmas
 pub mod PairLemmas
 pub mod PotentialLemmas
 pub mod RevisionLemmas
 pub mod SharingLemmas
+pub mod StartingLemmas

@@ -1,3 +1,4 @@
+pub mod Beginnings
 pub mod Gives
 pub mod Leavings
 pub mod Performing

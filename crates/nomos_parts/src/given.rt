@@ -126,7 +126,14 @@ pub(crate) fn given_by<P: Parts>(
 {
     let (args, declaration) = start;
     let pars = declaration.values.as_slice();
-    let Some(found) = give_values(alloc, parts.lists(pid), values, args.values.as_slice(), pars)? else {
+    let Some(found) = give_values(
+        alloc,
+        parts.lists(pid),
+        values,
+        args.values.as_slice(),
+        pars,
+    )?
+    else {
         return Ok(None);
     };
     let pars = declaration.channels.as_slice();

@@ -2,6 +2,9 @@
 #![tactic(auto)]
 
 pub mod alone;
+mod beginning;
+mod begun;
+pub mod calling;
 mod given;
 pub mod going;
 pub mod leaving;
@@ -12,3 +15,5 @@ pub mod parts;
 pub mod revising;
 pub mod revision;
 pub mod sharing;
+pub mod spawning;
+pub mod starting;

@@ -15,7 +15,7 @@ use nomos_machine::object::PotentialList;
 use std::alloc::{AllocError, Global};
 
 // A copy of variables with their lists.
-fn copy_lists(
+pub(crate) fn copy_lists(
     alloc: Global,
     lists: &[(VarId, PotentialList)],
 ) -> Result<Vec<(VarId, PotentialList)>, AllocError>
