@@ -4,6 +4,8 @@
 pub mod alone;
 pub mod going;
 pub mod lists;
+pub mod messages;
+pub mod messaging;
 pub mod newborn;
 pub mod pairs;
 pub mod parts;
