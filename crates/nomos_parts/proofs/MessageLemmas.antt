@@ -15,9 +15,8 @@ use Rattle.nomos_deeds.specs.declared.act.Sending.{Sending}
 use Rattle.nomos_deeds.specs.declared.act.Sending.TheVariants as sending
 use Rattle.nomos_deeds.specs.declared.sight.SeenMessage.{SeenMessage}
 use Rattle.nomos_machine.specs.Change.{put_at}
-use Rattle.nomos_machine.specs.Deeds.{channel_in, value_in}
+use Rattle.nomos_machine.specs.Deeds.{value_in}
 use Rattle.nomos_machine.specs.Objects.{object_at, object_number, process_of}
-use Rattle.nomos_machine.specs.Optional.{◌>>=◌}
 use Rattle.nomos_machine.specs.Revised.{under_name, with_channel, with_value}
 use Rattle.nomos_machine.specs.State.{State, process_at}
 use Rattle.nomos_machine.specs.declared.object.Message.{Message}

@@ -13,7 +13,7 @@ use Rattle.nomos_deeds.specs.declared.act.Sending.{Sending}
 use Rattle.nomos_deeds.specs.declared.act.Sending.TheVariants as sending
 use Rattle.nomos_machine.specs.Change.{Change, made, put_at}
 use Rattle.nomos_machine.specs.Deeds.{alone, one_of, sends, takes}
-use Rattle.nomos_machine.specs.Objects.{object_at, message_of, process_of, purse_of}
+use Rattle.nomos_machine.specs.Objects.{object_at, message_of, purse_of}
 use Rattle.nomos_machine.specs.Optional.{◌>>=◌}
 use Rattle.nomos_machine.specs.Revised.{richer, standing_at, under_name, without_channel}
 use Rattle.nomos_machine.specs.Sight.{is_own, present_name}

@@ -41,7 +41,7 @@ pub(crate) fn act_send<P: Parts>(
     ensures ok { (a : Acceptance) → CanAct a (P.state parts.old) pid values
         (act.Send send.channel send.sending send.goes send.next)
         → OnOk result (P.state parts.new ≡ made_by_act a (P.state parts.old) pid values
-          (act.Send send.channel send.sending send.goes send.next)) }
+        (act.Send send.channel send.sending send.goes send.next)) }
     ensures err { OnErr result (P.state parts.new ≡ P.state parts.old) }
     ensures room { P.room parts.old ≤ P.room parts.new + 7 }
     ensures marked { P.marked parts.new ≡ P.marked parts.old }
@@ -63,7 +63,7 @@ pub(crate) fn act_receive<P: Parts>(
     ensures ok { (a : Acceptance) (vs : List Meaning) → CanAct a (P.state parts.old) pid vs
         (act.Receive receive.channel receive.message receive.into receive.next)
         → OnOk result (P.state parts.new ≡ made_by_act a (P.state parts.old) pid vs
-          (act.Receive receive.channel receive.message receive.into receive.next)) }
+        (act.Receive receive.channel receive.message receive.into receive.next)) }
     ensures err { OnErr result (P.state parts.new ≡ P.state parts.old) }
     ensures room { P.room parts.old ≤ P.room parts.new + 7 }
     ensures frugal { IsFrugalInto receive.into → IsOk result }

@@ -136,8 +136,8 @@ pub(crate) fn send_message<P: Parts>(
     ensures ok { (p : Process) (from : ℕ) → process_at (P.state parts.old) pid ≡ Some p
         → present_name p send.channel ≡ Some from
         → OnOk result (P.state parts.new ≡ with_process pid
-          (standing_at send.next (under_name send.channel (P.state parts.old).next_name (after_sending send.sending p)))
-          (with_sent (is_own send.channel) from payload (gas_of_sending send.sending) send.goes (P.state parts.old))) }
+        (standing_at send.next (under_name send.channel (P.state parts.old).next_name (after_sending send.sending p)))
+        (with_sent (is_own send.channel) from payload (gas_of_sending send.sending) send.goes (P.state parts.old))) }
     ensures err { OnErr result (P.state parts.new ≡ P.state parts.old) }
     ensures room { P.room parts.old ≤ P.room parts.new + 5 }
     ensures marked { P.marked parts.new ≡ P.marked parts.old }
@@ -234,7 +234,7 @@ pub(crate) fn receive_message<P: Parts>(
         → message_at (P.state parts.old).objects receive.message ≡ Some m → m.next ≡ Some name
         → taken receive.into m.payload (under_name receive.channel name p) ≡ Some q → q.purse + m.purse < 2 ^ 128
         → OnOk result (P.state parts.new ≡ without_object receive.message
-          (with_process pid (richer m.purse (standing_at receive.next q)) (P.state parts.old))) }
+        (with_process pid (richer m.purse (standing_at receive.next q)) (P.state parts.old))) }
     ensures err { OnErr result (P.state parts.new ≡ P.state parts.old) }
     ensures room { P.room parts.old ≤ P.room parts.new + 4 }
     ensures frugal { IsFrugalInto receive.into → IsOk result }
@@ -256,7 +256,7 @@ pub(crate) fn hear_end<P: Parts>(parts: &mut P, pid: u32, v: VarId, message: u32
     ensures state { (p : Process) (m : Sent) → process_at (P.state parts.old) pid ≡ Some p
         → message_at (P.state parts.old).objects message ≡ Some m → p.purse + m.purse < 2 ^ 128
         → P.state parts.new ≡ without_object message
-          (with_process pid (richer m.purse (standing_at next (without_channel v p))) (P.state parts.old)) }
+        (with_process pid (richer m.purse (standing_at next (without_channel v p))) (P.state parts.old)) }
     ensures room { P.room parts.old ≤ P.room parts.new + 2 }
     ensures marked { P.marked parts.new ≡ P.marked parts.old }
 {

@@ -1,4 +1,4 @@
-use Rattle.std.proofs.Common.{◌≡◌, ◌∙◌, ◌+◌, ◌<◌, ◌^◌, ap, sym, subst}
+use Rattle.std.proofs.Common.{◌≡◌, ◌∙◌, ◌+◌, ◌<◌, ◌^◌, sym, subst}
 use Rattle.nomos_deeds.specs.declared.act.Act.TheVariants as act
 use Rattle.nomos_machine.specs.Revised.{standing_at, under_name}
 use Rattle.nomos_parts.proofs.BecomesLemmas.{on_ok}

@@ -1,6 +1,5 @@
 use Rattle.std.proofs.Common.{◌≡◌, ◌∙◌, ◌+◌, ◌<◌, ◌^◌, ℕ, sym, ap, refl, subst}
 use Rattle.nomos_machine.specs.Revised.{richer, standing_at, without_channel}
-use Rattle.nomos_machine.specs.State.{State}
 use Rattle.nomos_parts.specs.SmallChanges.{with_process, without_object}
 use Rattle.nomos_parts.proofs.BecomesLemmas.{becomes-next}
 use Rattle.nomos_parts.proofs.messaging.hear_end.Goals as goal

@@ -1,10 +1,10 @@
-use Rattle.std.proofs.Common.{rules, ◌≡◌, ◌∙◌, ℕ, Option, Some, sym, ap}
+use Rattle.std.proofs.Common.{rules, ◌≡◌, ◌∙◌, ℕ, Some, ap}
 use Rattle.nomos_machine.specs.Revised.{standing_at, under_name}
 use Rattle.nomos_machine.specs.Sight.{is_own}
 use Rattle.nomos_machine.specs.State.{State, process_at}
 use Rattle.nomos_parts.specs.Sendings.{after_sending, gas_of_sending, with_sent}
 use Rattle.nomos_parts.specs.SmallChanges.{with_process}
-use Rattle.nomos_parts.proofs.BecomesLemmas.{becomes-next, becomes-then}
+use Rattle.nomos_parts.proofs.BecomesLemmas.{becomes-then}
 use Rattle.nomos_parts.proofs.MessageLemmas.{process-in_front, sending-pid, under-pid}
 use Rattle.nomos_parts.proofs.messaging.send_message.Goals as goal
 

@@ -1,4 +1,4 @@
-use Rattle.std.proofs.Common.{◌≡◌, ◌∙◌, Some, ℕ, sym, ap, refl}
+use Rattle.std.proofs.Common.{◌≡◌, ◌∙◌, ℕ, sym, ap, refl}
 use Rattle.nomos_deeds.specs.Acts.{taken}
 use Rattle.nomos_deeds.specs.Seen.{seen_channel}
 use Rattle.nomos_deeds.specs.declared.act.Into.{Into}
