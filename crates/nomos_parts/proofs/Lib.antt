@@ -1,6 +1,9 @@
 pub mod BecomesLemmas
+pub mod GivenLemmas
 pub mod MadeLemmas
 pub mod MessageLemmas
 pub mod PairLemmas
+pub mod PotentialLemmas
 pub mod RevisionLemmas
 pub mod SendActLemmas
+pub mod SharingLemmas

@@ -2,7 +2,9 @@
 #![tactic(auto)]
 
 pub mod alone;
+mod given;
 pub mod going;
+pub mod leaving;
 pub mod lists;
 pub mod messages;
 pub mod messaging;
@@ -11,3 +13,4 @@ pub mod pairs;
 pub mod parts;
 pub mod revising;
 pub mod revision;
+pub mod sharing;
