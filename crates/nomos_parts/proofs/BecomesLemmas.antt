@@ -57,12 +57,37 @@ module _ (s : State) (pid : ℕ) (p q : Process) (there : process_at s pid ≡ S
 -- ---- one change after the other
 
 -- a process that became another one becomes the next one
+pub becomes-next : (s t u : State) (pid : ℕ) (p q r : Process) → process_at s pid ≡ Some p → q.pid ≡ p.pid
+    → t ≡ with_process pid q s → (process_at t pid ≡ Some q → u ≡ with_process pid r t) → u ≡ with_process pid r s
+becomes-next s t u pid p q r there keeps is next =
+    next (ap (λ (t : State). process_at t pid) is ∙ process-put s pid p q there keeps)
+    ∙ ap (with_process pid r) is
+    ∙ process-twice s pid p q there keeps r
+
+-- the same, of whatever process is there
 pub becomes-then : (s t u : State) (pid : ℕ) (p q : Process) (g : Process → Process) → process_at s pid ≡ Some p
     → q.pid ≡ p.pid → t ≡ with_process pid q s → Becomes t pid g u → u ≡ with_process pid (g q) s
-becomes-then s t u pid p q g there keeps is next =
-    next q (ap (λ (t : State). process_at t pid) is ∙ process-put s pid p q there keeps)
-    ∙ ap (with_process pid (g q)) is
-    ∙ process-twice s pid p q there keeps (g q)
+becomes-then s t u pid p q g there keeps is next = becomes-next s t u pid p q (g q) there keeps is (next q)
+
+put-same : (n : ℕ) (o : Object) (objects : List Object) → object_at objects n ≡ Some o → put_at n (Some o) objects ≡ objects
+put-same n o [] found = absurd cc
+put-same n o (e ∷ objects) found = at (object_number e == n) found (put-same n o objects)
+  where
+    one : Some e ≡ Some o → o ∷ objects ≡ e ∷ objects
+    one is = cc
+
+    at : (b : Bool) → cond b (Some e) (object_at objects n) ≡ Some o
+        → (object_at objects n ≡ Some o → put_at n (Some o) objects ≡ objects)
+        → cond b (o ∷ objects) (e ∷ put_at n (Some o) objects) ≡ e ∷ objects
+    at true is rest = one is
+    at false is rest = ap (λ os. e ∷ os) (rest is)
+
+-- the process that is there stays
+pub stays : (s : State) (pid : ℕ) (p q : Process) → process_at s pid ≡ Some p → q ≡ p → s ≡ with_process pid q s
+stays s pid p q there is =
+    sym (ap (λ (q : Process). with_process pid q s) is
+    ∙ ap (λ (os : List Object). record s { objects = os })
+    (put-same pid (object.Process p) s.objects (process-found (object_at s.objects pid) p there)))
 
 -- what follows where an answer is Ok, or an Err
 pub on_ok : {T E : Type 0} (r : Result T E) {A B : Type 0} → (A → B) → OnOk r A → OnOk r B
@@ -76,7 +101,7 @@ on_err (Err e) goes there = goes there
 -- ---- plain fields
 
 -- what is seen of the process that is there
-seen-is : (o : Option Process) (p : Process) (x : SeenProcess) → Some x ≡ option_map seen_process o → o ≡ Some p
+pub seen-is : (o : Option Process) (p : Process) (x : SeenProcess) → Some x ≡ option_map seen_process o → o ≡ Some p
     → x ≡ seen_process p
 seen-is (Some q) p x seen there =
     let same : q ≡ p = cc in

@@ -1,16 +1,19 @@
 -- What is sent, and what becomes of the sender beside it.
-use Rattle.std.specs.Prelude.{ℕ, List, true, false, Option, Some}
+use Rattle.std.specs.Prelude.{ℕ, Bool, List, true, false, Option, Some}
 use Rattle.nomos_ir.specs.Value.{Value}
+use Rattle.nomos_ir.specs.declared.ids.TypeId.{TypeId}
 use Rattle.nomos_machine.specs.Deeds.{one_of}
 use Rattle.nomos_machine.specs.Optional.{◌>>=◌}
 use Rattle.nomos_machine.specs.Revised.{without_channel, poorer}
+use Rattle.nomos_machine.specs.State.{State}
+use Rattle.nomos_machine.specs.declared.object.Message.{Message}
+use Rattle.nomos_machine.specs.declared.object.Object.TheVariants as object
 use Rattle.nomos_machine.specs.declared.object.Payload.{Payload}
 use Rattle.nomos_machine.specs.declared.object.Payload.TheVariants as payload
 use Rattle.nomos_machine.specs.declared.object.Process.{Process}
-use Rattle.nomos_deeds.specs.declared.act.Into.{Into}
-use Rattle.nomos_deeds.specs.declared.act.Into.TheVariants as into
 use Rattle.nomos_deeds.specs.declared.act.Sending.{Sending}
 use Rattle.nomos_deeds.specs.declared.act.Sending.TheVariants as sending
+use Rattle.nomos_parts.specs.SmallChanges.{with_name, with_object}
 
 -- what the message brings, where the terms have these values
 abbrev pub brought_by : Sending → List Value → Option Payload
@@ -31,7 +34,19 @@ after_sending (sending.Channel y name false) p = without_channel y p
 after_sending (sending.Potential gas) p = poorer gas p
 after_sending _ p = p
 
--- a value is bound
-abbrev pub NeedsValue : Into → Type 0
-NeedsValue (into.Value v) = Unit {0}
-NeedsValue _ = ⊥
+-- ---- a message that is sent
+
+abbrev pub message_sent : State → Bool → ℕ → Payload → ℕ → Message
+message_sent s to_client from brought gas = record {
+  number = s.next_object;
+  to_client = to_client;
+  from = from;
+  next = Some s.next_name;
+  payload = brought;
+  purse = gas;
+}
+
+-- it comes, and so does the name under which the talk goes on, with this type
+abbrev pub with_sent : Bool → ℕ → Payload → ℕ → TypeId → State → State
+with_sent to_client from brought gas goes s =
+    with_name goes (with_object (object.Message (message_sent s to_client from brought gas)) s)

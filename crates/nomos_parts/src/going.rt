@@ -3,7 +3,7 @@ ghost use Rattle.std.specs.Prelude.{◌≡◌, ◌≤◌, ◌<◌, ◌+◌, ◌^
 ghost use Rattle.nomos_machine.specs.Revised.{poorer, richer, standing_at, under_name};
 ghost use Rattle.nomos_machine.specs.State.{process_at};
 ghost use Rattle.nomos_machine.specs.declared.object.Process.{Process};
-ghost use Rattle.nomos_parts.specs.SmallChanges.{Becomes};
+ghost use Rattle.nomos_parts.specs.SmallChanges.{Becomes, with_process};
 
 use crate::parts::Parts;
 use nomos_deeds::sight::{SeenProcess, Sight};
@@ -35,16 +35,16 @@ pub(crate) fn spend<P: Parts>(parts: &mut P, pid: u32, gas: u64)
     }
 }
 
-/// The process has so many Dths more, and goes on at an instruction.
+/// The process has so many Dths more, as far as they fit, and goes on at an instruction.
 pub(crate) fn earn<P: Parts>(parts: &mut P, pid: u32, gas: u128, next: CodeId)
     requires room { 0 < P.room parts.old }
-    requires fits { (p : Process) → process_at (P.state parts.old) pid ≡ Some p → p.purse + gas < 2 ^ 128 }
-    ensures state { Becomes (P.state parts.old) pid (λ p. richer gas (standing_at next p)) (P.state parts.new) }
+    ensures state { (p : Process) → process_at (P.state parts.old) pid ≡ Some p → p.purse + gas < 2 ^ 128
+        → P.state parts.new ≡ with_process pid (richer gas (standing_at next p)) (P.state parts.old) }
     ensures room { P.room parts.old ≤ P.room parts.new + 1 }
     ensures marked { P.marked parts.new ≡ P.marked parts.old }
 {
     if let Some(seen) = parts.process(pid) {
-        let purse = seen.purse + gas;
+        let purse = seen.purse.saturating_add(gas);
         parts.set_fields(SeenProcess {
             code: next,
             purse,

@@ -9,6 +9,8 @@ mod given;
 pub mod going;
 pub mod leaving;
 pub mod lists;
+pub mod messages;
+pub mod messaging;
 pub mod newborn;
 pub mod pairs;
 pub mod parts;
