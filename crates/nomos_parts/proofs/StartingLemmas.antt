@@ -1,7 +1,6 @@
 -- The start of a process by a line of a script.
-use Rattle.std.proofs.Common.{◌≡◌, ◌∙◌, ◌<◌, ℕ, List, [], ◌∷◌, ◌++◌, Option, Some, length, slice_get, sym, ap, subst, refl, arith, append-nil}
+use Rattle.std.proofs.Common.{◌≡◌, ◌∙◌, ℕ, List, [], ◌∷◌, ◌++◌, Option, Some, length, slice_get, sym, ap, subst, refl, arith, append-nil}
 use Rattle.std.specs.List.{zip}
-use Rattle.std.proofs.lemmas.Option.{slice_get_within}
 use Rattle.nomos_ir.specs.Value.{Value}
 use Rattle.nomos_ir.specs.declared.declaration.ProcDecl.{ProcDecl}
 use Rattle.nomos_ir.specs.declared.ids.VarId.{VarId}
