@@ -1,4 +1,5 @@
 use Rattle.std.proofs.Common.{◌≡◌, ◌∙◌, ◌<◌, ◌^◌, ℕ, List, ap, refl, sym, subst, arith}
+use Rattle.std.proofs.lemmas.Option.{slice_get_within}
 use Rattle.nomos_ir.specs.declared.code_node.Args.{Args}
 use Rattle.nomos_ir.specs.declared.code_node.ValueArg.{ValueArg}
 use Rattle.nomos_ir.specs.declared.declaration.ProcDecl.{ProcDecl}
@@ -8,6 +9,7 @@ use Rattle.nomos_machine.specs.Given.{Given, begins}
 use Rattle.nomos_machine.specs.State.{State}
 use Rattle.nomos_parts.specs.Gives.{given_in}
 use Rattle.nomos_parts.specs.SmallChanges.{process_born}
+use Rattle.nomos_parts.proofs.BecomesLemmas.{not-some}
 use Rattle.nomos_parts.proofs.BeginLemmas.{begun-is, if-told}
 use Rattle.nomos_parts.proofs.BirthLemmas.{parent-stays, spawned-is}
 use Rattle.nomos_parts.proofs.spawning.spawn_child.Goals as goal
@@ -22,6 +24,16 @@ begin-requires g c =
     let fits = c.requires.fits has.process d begun.args.now gives has.there has.begins in
     let bound = if-told _ _ d has.begins.declared c.bound.ensures in
     subst (λ (gas : ℕ). (begins d gives s.next_object s.next_name gas begun.payer).purse < 2 ^ 128) (sym bound) fits
+
+pub bound-requires : goal.bound-requires
+bound-requires g c =
+    let has = if-told _ c.in_ok-begun.field-0 c.in-Some.begun c.in-Some.is c.in_ok-begun.ensures.found in
+    slice_get_within c.args.accepted.now.program.procs c.args.spawn.declaration.0 c.in-Some.begun.declaration.now
+    has.begins.declared
+
+pub returns-in_default-clause-ok : goal.returns-in_default-clause-ok
+returns-in_default-clause-ok g c p d args gives there begins_with =
+    absurd (not-some c.in_ok-begun.field-0 c.in_default.is (c.in_ok-begun.ensures.some p d args gives there begins_with))
 
 pub come_name-requires-clause-fits : goal.come_name-requires-clause-fits
 come_name-requires-clause-fits g c =
