@@ -1,21 +1,22 @@
 //! Acts as small changes of a state, worked out once for every form in which a state is kept.
 #![tactic(auto)]
 
-pub mod alone;
+mod alone;
 mod beginning;
 mod begun;
-pub mod calling;
+mod calling;
 mod given;
-pub mod going;
-pub mod leaving;
-pub mod lists;
-pub mod messages;
-pub mod messaging;
+mod going;
+mod leaving;
+mod lists;
+mod messages;
+mod messaging;
 pub mod newborn;
 pub mod pairs;
 pub mod parts;
-pub mod revising;
-pub mod revision;
-pub mod sharing;
-pub mod spawning;
+pub mod performing;
+mod revising;
+mod revision;
+mod sharing;
+mod spawning;
 pub mod starting;
