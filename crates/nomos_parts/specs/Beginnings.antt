@@ -1,10 +1,13 @@
 -- What a process gives to a declaration at which it begins, or another one does.
-use Rattle.std.specs.Prelude.{◌≡◌, ℕ, List, Some, slice_get}
+use Rattle.std.specs.Prelude.{◌≡◌, ℕ, Bool, true, false, List, [], ◌∷◌, Option, Some, None, slice_get}
 use Rattle.nomos_ir.specs.Value.{Value}
 use Rattle.nomos_ir.specs.declared.code_node.Args.{Args}
+use Rattle.nomos_ir.specs.declared.code_node.ValueArg.{ValueArg}
+use Rattle.nomos_ir.specs.declared.code_node.ValueArg.TheVariants as arg
 use Rattle.nomos_ir.specs.declared.declaration.ProcDecl.{ProcDecl}
 use Rattle.nomos_ir.specs.declared.ids.ProcId.{ProcId}
 use Rattle.nomos_ir.specs.declared.ids.TypeId.{TypeId}
+use Rattle.nomos_ir.specs.declared.ids.VarId.{VarId}
 use Rattle.nomos_types.specs.Acceptance.{Acceptance}
 use Rattle.nomos_types.specs.Amount.{dths}
 use Rattle.nomos_deeds.specs.Acts.{args_of}
@@ -14,8 +17,9 @@ use Rattle.nomos_machine.specs.Optional.{◌>>=◌}
 use Rattle.nomos_machine.specs.Revised.{poorer, standing_at, with_channel}
 use Rattle.nomos_machine.specs.State.{State, process_at}
 use Rattle.nomos_machine.specs.declared.object.Object.TheVariants as object
+use Rattle.nomos_machine.specs.declared.object.PotentialList.{PotentialList}
 use Rattle.nomos_machine.specs.declared.object.Process.{Process}
-use Rattle.nomos_parts.specs.SmallChanges.{with_name, with_object, with_process}
+use Rattle.nomos_parts.specs.SmallChanges.{with_lists, with_name, with_object, with_process}
 use Rattle.nomos_parts.specs.declared.spawning.Spawn.{Spawn}
 
 -- The declaration of a number, the arguments of the instruction at which the process stands, and what these give.
@@ -32,6 +36,17 @@ pub record HasBegun (a : Acceptance) (s : State) (pid : ℕ) (f : ProcId) (vs : 
   pub there : process_at s pid ≡ Some process
   pub begins : Begins a process f vs d args g
   pub payer_is : payer ≡ process.payer
+
+-- whether a list is among arguments
+abbrev pub has_list : List ValueArg → Bool
+has_list [] = false
+has_list (arg.Term e ∷ args) = has_list args
+has_list (arg.List w ∷ args) = true
+
+-- the process with other lists, if there are some
+abbrev pub with_lists_if_any : Option (List (VarId × PotentialList)) → Process → Process
+with_lists_if_any (Some lists) p = with_lists lists p
+with_lists_if_any None p = p
 
 -- a process comes that offers the next name, of this type
 abbrev pub with_come : State → Process → TypeId → State

@@ -25,9 +25,9 @@ use std::alloc::{AllocError, Global};
 
 /// A call: the process that calls, and the declaration at which it goes on.
 #[derive(Clone, Copy, Debug)]
-pub struct Call {
-    pub pid: u32,
-    pub declaration: ProcId,
+pub(crate) struct Call {
+    pub(crate) pid: u32,
+    pub(crate) declaration: ProcId,
 }
 
 // The process goes on at the start of a declaration. Want of memory leaves the state as it was.
@@ -67,7 +67,7 @@ fn go_on_at<P: Parts>(
 }
 
 /// The process goes on at the start of a declaration. Want of memory leaves the state as it was.
-pub fn act_call<P: Parts>(
+pub(crate) fn act_call<P: Parts>(
     parts: &mut P,
     alloc: Global,
     accepted: &Accepted,

@@ -99,7 +99,7 @@ fn give_way<P: Parts>(parts: &mut P, pid: u32, name: u32)
 }
 
 /// The process ends. It takes no memory.
-pub fn act_close<P: Parts>(
+pub(crate) fn act_close<P: Parts>(
     parts: &mut P,
     alloc: Global,
     accepted: &Accepted,
@@ -116,7 +116,7 @@ pub fn act_close<P: Parts>(
 }
 
 /// The process leaves, and whoever uses its name uses this one instead. It takes no memory.
-pub fn act_forward<P: Parts>(
+pub(crate) fn act_forward<P: Parts>(
     parts: &mut P,
     accepted: &Accepted,
     pid: u32,

@@ -19,25 +19,25 @@ use nomos_types::accepted::Accepted;
 /// An acquire: the variable that is bound to the linear channel, the shared name, the process that stands for it and
 /// where that goes on, the channel's type, and where the process goes on that acquires.
 #[derive(Clone, Copy, Debug)]
-pub struct Acquire {
-    pub variable: VarId,
-    pub shared: u32,
-    pub other: u32,
-    pub onward: CodeId,
-    pub goes: TypeId,
-    pub next: CodeId,
+pub(crate) struct Acquire {
+    pub(crate) variable: VarId,
+    pub(crate) shared: u32,
+    pub(crate) other: u32,
+    pub(crate) onward: CodeId,
+    pub(crate) goes: TypeId,
+    pub(crate) next: CodeId,
 }
 
 /// A release: the variable whose channel is released, the reference that is bound to the shared name again, the
 /// process that is released and where it goes on, and where the process goes on that releases.
 #[derive(Clone, Copy, Debug)]
-pub struct Release {
-    pub variable: VarId,
-    pub reference: VarId,
-    pub shared: u32,
-    pub other: u32,
-    pub onward: CodeId,
-    pub next: CodeId,
+pub(crate) struct Release {
+    pub(crate) variable: VarId,
+    pub(crate) reference: VarId,
+    pub(crate) shared: u32,
+    pub(crate) other: u32,
+    pub(crate) onward: CodeId,
+    pub(crate) next: CodeId,
 }
 
 // How a process provides: at which mode, from which instruction on, under which name, and which shared name it goes
@@ -113,7 +113,7 @@ fn release_shared<P: Parts>(parts: &mut P, pid: u32, release: Release)
 }
 
 /// The process acquires what stands for a shared name.
-pub fn act_acquire<P: Parts>(
+pub(crate) fn act_acquire<P: Parts>(
     parts: &mut P,
     accepted: &Accepted,
     pid: u32,
@@ -131,7 +131,7 @@ pub fn act_acquire<P: Parts>(
 }
 
 /// The process releases what it has acquired.
-pub fn act_release<P: Parts>(
+pub(crate) fn act_release<P: Parts>(
     parts: &mut P,
     accepted: &Accepted,
     pid: u32,

@@ -1,5 +1,6 @@
 //! The act by which a process spawns another one.
 ghost use Rattle.std.specs.Prelude.{◌≡◌, ◌≤◌, ◌<◌, ◌+◌, ◌-◌, ◌^◌, Some, IfOk, OnOk, OnErr};
+ghost use Rattle.std.specs.Option.{option_map};
 ghost use Rattle.nomos_ir.specs.Bindings.{unbind};
 ghost use Rattle.nomos_ir.specs.declared.code_node.Args.{Args as Handed};
 ghost use Rattle.nomos_ir.specs.declared.declaration.ProcDecl.{ProcDecl as Declared};
@@ -13,7 +14,7 @@ ghost use Rattle.nomos_machine.specs.Revised.{poorer, standing_at, with_channel}
 ghost use Rattle.nomos_machine.specs.Sight.{is_shared_name};
 ghost use Rattle.nomos_machine.specs.State.{State, process_at};
 ghost use Rattle.nomos_machine.specs.declared.object.Process.{Process};
-ghost use Rattle.nomos_parts.specs.Beginnings.{Begins, spawned};
+ghost use Rattle.nomos_parts.specs.Beginnings.{Begins, has_list, spawned, with_lists_if_any};
 ghost use Rattle.nomos_parts.specs.Performing.{made_by_act};
 ghost use Rattle.nomos_parts.specs.SmallChanges.{Becomes, with_lists, with_process};
 
@@ -35,11 +36,11 @@ use std::alloc::{AllocError, Global};
 /// A spawn: the process that spawns, the variable of the child's channel, the declaration, and where the parent goes
 /// on.
 #[derive(Clone, Copy, Debug)]
-pub struct Spawn {
-    pub pid: u32,
-    pub variable: VarId,
-    pub declaration: ProcId,
-    pub next: CodeId,
+pub(crate) struct Spawn {
+    pub(crate) pid: u32,
+    pub(crate) variable: VarId,
+    pub(crate) declaration: ProcId,
+    pub(crate) next: CodeId,
 }
 
 // A list goes out of a process's hands.
@@ -50,7 +51,7 @@ fn hand_over_list(lists: &mut Vec<(VarId, PotentialList)>, w: VarId)
 }
 
 // The lists of a process without those among arguments.
-fn lists_left(
+fn without_lists(
     alloc: Global,
     lists: &[(VarId, PotentialList)],
     args: &[ValueArg],
@@ -66,6 +67,37 @@ fn lists_left(
         }
     }
     Ok(left)
+}
+
+// Whether a list is among arguments.
+fn has_list(args: &[ValueArg]) -> bool
+    ensures { result ≡ has_list args.now }
+{
+    for arg in args {
+        match arg {
+            ValueArg::Term(_) => {}
+            ValueArg::List(_) => return true,
+        }
+    }
+    false
+}
+
+// The lists that a process has after it gave the arguments, where a list is among them; otherwise it has those that it
+// had, and nothing is copied.
+fn lists_left(
+    alloc: Global,
+    lists: &[(VarId, PotentialList)],
+    args: &[ValueArg],
+) -> Result<Option<Vec<(VarId, PotentialList)>>, AllocError>
+    ensures { (a : Acceptance) (s : State) (p : Process) → p.lists ≡ lists.now
+        → IfOk result (λ left. with_lists_if_any (option_map (λ lists. lists.items) left) p
+        ≡ hands_over_lists a s p args.now p) }
+{
+    if has_list(args) {
+        Ok(Some(without_lists(alloc, lists, args)?))
+    } else {
+        Ok(None)
+    }
 }
 
 // Whether a name is a shared one.
@@ -139,11 +171,24 @@ fn meet_child<P: Parts>(parts: &mut P, spawn: Spawn, purse: u128)
     pay_child(parts, spawn.pid, purse, spawn.next);
 }
 
-// What becomes of a parent whose child comes: the lists that it has left, the arguments whose channels it hands over,
-// and what it pays, in Dths.
+// The process has these lists, if there are some.
+fn keep_lists<P: Parts>(parts: &mut P, pid: u32, lists: Option<Vec<(VarId, PotentialList)>>)
+    requires room { 0 < P.room parts.old }
+    ensures state { Becomes (P.state parts.old) pid (with_lists_if_any (option_map (λ lists. lists.items) lists))
+        (P.state parts.new) }
+    ensures room { P.room parts.old ≤ P.room parts.new + 1 }
+    ensures marked { P.marked parts.new ≡ P.marked parts.old }
+{
+    if let Some(left) = lists {
+        parts.put_lists(pid, left);
+    }
+}
+
+// What becomes of a parent whose child comes: the lists that it has left, if that are others, the channels that it
+// hands over, and what it pays, in Dths.
 #[derive(Drop)]
 struct Birth<'a> {
-    lists: Vec<(VarId, PotentialList)>,
+    lists: Option<Vec<(VarId, PotentialList)>>,
     channels: &'a [VarId],
     purse: u128,
 }
@@ -155,7 +200,8 @@ fn give_birth<P: Parts>(parts: &mut P, program: &Program, spawn: Spawn, birth: B
         → process_at (P.state parts.old) spawn.pid ≡ Some p
         → P.state parts.new ≡ with_process spawn.pid (standing_at spawn.next (with_channel spawn.variable
         (P.state parts.old).next_name (poorer birth.entry.purse (hands_over_all a (P.state parts.old) p
-        birth.entry.channels.now (with_lists birth.entry.lists.items p))))) (P.state parts.old) }
+        birth.entry.channels.now (with_lists_if_any (option_map (λ lists. lists.items) birth.entry.lists) p)))))
+        (P.state parts.old) }
     ensures room { P.room parts.old ≤ P.room parts.new + 3 }
     ensures marked { P.marked parts.new ≡ P.marked parts.old }
 {
@@ -164,7 +210,7 @@ fn give_birth<P: Parts>(parts: &mut P, program: &Program, spawn: Spawn, birth: B
         channels,
         purse,
     } = birth;
-    parts.put_lists(spawn.pid, lists);
+    keep_lists(parts, spawn.pid, lists);
     hand_over_channels(parts, program, spawn.pid, channels);
     meet_child(parts, spawn, purse);
 }
@@ -214,7 +260,7 @@ fn spawn_child<P: Parts>(
 }
 
 /// The process spawns another one. Want of memory leaves the state as it was.
-pub fn act_spawn<P: Parts>(
+pub(crate) fn act_spawn<P: Parts>(
     parts: &mut P,
     alloc: Global,
     accepted: &Accepted,

@@ -13,6 +13,7 @@ use crate::beginning::{Beginning, begin};
 use crate::given::Given;
 use crate::newborn::Newborn;
 use crate::parts::Parts;
+use crate::performing::ROOM_OF_AN_ACT;
 use nomos_eval::evaluation::value_from;
 use nomos_ir::declaration::{Par, ProcDecl};
 use nomos_ir::ids::{ProcId, TypeId, VarId};
@@ -146,7 +147,7 @@ pub fn start<P: Parts>(
 {
     // Where the program is read it is known to be accepted.
     let _program = accepted.program();
-    let changes = keep.checked_add(8).ok_or(AllocError)?;
+    let changes = keep.checked_add(ROOM_OF_AN_ACT).ok_or(AllocError)?;
     parts.make_room(changes)?;
     let chosen = declared(accepted, line.declaration);
     let given = given_by_line(alloc, chosen, line.values, line.names)?;

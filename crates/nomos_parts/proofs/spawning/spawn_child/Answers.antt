@@ -1,5 +1,9 @@
 use Rattle.std.proofs.Common.{◌≡◌, ◌∙◌, ◌<◌, ◌^◌, ℕ, List, ap, refl, sym, subst, arith}
 use Rattle.std.proofs.lemmas.Option.{slice_get_within}
+use Rattle.std.specs.Global.{Vec}
+use Rattle.std.specs.Option.{option_map}
+use Rattle.nomos_ir.specs.declared.ids.VarId.{VarId}
+use Rattle.nomos_machine.specs.declared.object.PotentialList.{PotentialList}
 use Rattle.nomos_ir.specs.declared.code_node.Args.{Args}
 use Rattle.nomos_ir.specs.declared.code_node.ValueArg.{ValueArg}
 use Rattle.nomos_ir.specs.declared.declaration.ProcDecl.{ProcDecl}
@@ -75,7 +79,7 @@ returns-clause-ok g c p d args gives there begins_with =
     let came = c.in_ok-come_process.ensures.ok in
     let stays = parent-stays a s t p k spawn there came in
     spawned-is a s t p k spawn there came (g.P.Sight.state c.give_birth.new.parts) (g.P.Sight.state c.come_name.new.self)
-    c.in_ok-lists.lists.items c.as_slice-2.result.now c.in_ok-child.child.fields.purse begun.declaration.now.offers d args
+    (option_map (λ (kept : Vec (VarId × PotentialList)). kept.items) c.in_ok-lists.lists) c.as_slice-2.result.now c.in_ok-child.child.fields.purse begun.declaration.now.offers d args
     gives (c.give_birth.ensures.state a p (sym c.program.ensures.program) stays) c.come_name.ensures.state
     (c.in_ok-lists.ensures a s p (sym (c.lists.ensures p there))
     ∙ ap (λ (left : List ValueArg). hands_over_lists a s p left p) c.as_slice.ensures

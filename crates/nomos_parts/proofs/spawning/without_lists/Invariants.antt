@@ -5,7 +5,7 @@ use Rattle.nomos_machine.specs.Deeds.{hands_over_lists}
 use Rattle.nomos_machine.specs.State.{State}
 use Rattle.nomos_machine.specs.declared.object.Process.{Process}
 use Rattle.nomos_parts.specs.SmallChanges.{with_lists}
-use Rattle.nomos_parts.proofs.spawning.lists_left.Given as goal
+use Rattle.nomos_parts.proofs.spawning.without_lists.Given as goal
 
 abbrev pub invariant-loop-arg : goal.invariant-loop-arg
 invariant-loop-arg l =
