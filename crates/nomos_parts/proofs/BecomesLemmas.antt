@@ -29,7 +29,8 @@ put-put n one other (o ∷ objects) numbered =
         ≡ cond b (other ∷ objects) (o ∷ put_at n (Some other) objects)
     at true here is rest = ap (λ b. cond b (other ∷ objects) (one ∷ put_at n (Some other) objects)) is
     at false here is rest =
-        ap (λ b. cond b (other ∷ put_at n (Some one) objects) (o ∷ put_at n (Some other) (put_at n (Some one) objects))) here
+        ap (λ b. cond b (other ∷ put_at n (Some one) objects)
+        (o ∷ put_at n (Some other) (put_at n (Some one) objects))) here
         ∙ ap (λ os. o ∷ os) rest
 
 pub process-found : (o : Option Object) (p : Process) → (o >>= process_of) ≡ Some p → o ≡ Some (object.Process p)
@@ -48,11 +49,13 @@ module _ (s : State) (pid : ℕ) (p q : Process) (there : process_at s pid ≡ S
   pub process-put : process_at (with_process pid q s) pid ≡ Some q
   process-put =
       ap (option_and_then process_of)
-      (object_at-put pid (object.Process q) (object.Process p) s.objects (process-found (object_at s.objects pid) p there) own)
+      (object_at-put pid (object.Process q) (object.Process p) s.objects
+      (process-found (object_at s.objects pid) p there) own)
 
   -- and it gives way to the next one
   pub process-twice : (r : Process) → with_process pid r (with_process pid q s) ≡ with_process pid r s
-  process-twice r = ap (λ (os : List Object). record s { objects = os }) (put-put pid (object.Process q) (object.Process r) s.objects own)
+  process-twice r = ap (λ (os : List Object). record s { objects = os })
+      (put-put pid (object.Process q) (object.Process r) s.objects own)
 
 -- ---- one change after the other
 
@@ -69,7 +72,8 @@ pub becomes-then : (s t u : State) (pid : ℕ) (p q : Process) (g : Process → 
     → q.pid ≡ p.pid → t ≡ with_process pid q s → Becomes t pid g u → u ≡ with_process pid (g q) s
 becomes-then s t u pid p q g there keeps is next = becomes-next s t u pid p q (g q) there keeps is (next q)
 
-put-same : (n : ℕ) (o : Object) (objects : List Object) → object_at objects n ≡ Some o → put_at n (Some o) objects ≡ objects
+put-same : (n : ℕ) (o : Object) (objects : List Object) → object_at objects n ≡ Some o
+    → put_at n (Some o) objects ≡ objects
 put-same n o [] found = absurd cc
 put-same n o (e ∷ objects) found = at (object_number e == n) found (put-same n o objects)
   where

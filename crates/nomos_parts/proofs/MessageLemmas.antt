@@ -64,7 +64,8 @@ taken-value v (payload.Channel name) p q is = absurd cc
 taken-value v payload.Pay p q is = absurd cc
 taken-value v payload.Close p q is = absurd cc
 
-pub taken-pid : (where_to : Into) (brought : Payload) (p q : Process) → taken where_to brought p ≡ Some q → q.pid ≡ p.pid
+pub taken-pid : (where_to : Into) (brought : Payload) (p q : Process) → taken where_to brought p ≡ Some q
+    → q.pid ≡ p.pid
 taken-pid into.Nothing brought p q is = ap (λ (r : Process). r.pid) (sym (one-some p q is))
 taken-pid (into.Channel v) brought p q is = ap (λ (r : Process). r.pid) (sym (taken-channel v brought p q is).2)
 taken-pid (into.Value v) brought p q is = ap (λ (r : Process). r.pid) (sym (taken-value v brought p q is).2)
@@ -104,7 +105,8 @@ process-in_front s pid p to_client from brought gas goes there =
     ap (option_and_then process_of)
     (object-in_front pid _ s.objects _ (process-found (object_at s.objects pid) p there))
 
-pub put-in_front : (n : ℕ) (new : Option Object) (o : Object) (objects more : List Object) → object_at objects n ≡ Some o
+pub put-in_front : (n : ℕ) (new : Option Object) (o : Object) (objects more : List Object)
+    → object_at objects n ≡ Some o
     → put_at n new (objects ++ more) ≡ put_at n new objects ++ more
 put-in_front n new o [] more found = absurd cc
 put-in_front n new o (e ∷ objects) more found =

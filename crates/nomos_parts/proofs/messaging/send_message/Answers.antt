@@ -31,5 +31,6 @@ returns-clause-ok g c p from there named =
     becomes-then came (g.P.Sight.state c.go_under.new.parts) (g.P.Sight.state c.go_on.new.parts) pid p under
     (standing_at send.next) stands (under-pid send.channel c.fresh_name-name.result sender ∙ sending-pid send.sending p)
     goes_under c.go_on.ensures.state
-    ∙ ap (λ (n : ℕ). with_process pid (standing_at send.next (under_name send.channel n sender)) came) c.fresh_name-name.ensures
+    ∙ ap (λ (n : ℕ). with_process pid (standing_at send.next (under_name send.channel n sender)) came)
+    c.fresh_name-name.ensures
     ∙ ap (with_process pid (standing_at send.next (under_name send.channel s.next_name sender))) comes
