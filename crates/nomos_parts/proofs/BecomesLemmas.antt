@@ -1,5 +1,5 @@
 -- A process that becomes another one, by one small change after the other.
-use Rattle.std.proofs.Common.{◌≡◌, ◌∙◌, ◌==◌, ℕ, Bool, true, false, cond, List, [], ◌∷◌, Option, Some, None, IsSome, Result, Ok, Err, OnOk, OnErr, refl, sym, ap, option_and_then, eq-eqb}
+use Rattle.std.proofs.Common.{◌≡◌, ◌∙◌, ◌==◌, ℕ, Bool, true, false, cond, List, [], ◌∷◌, Option, Some, None, IsSome, Result, Ok, Err, OnOk, refl, sym, ap, option_and_then, eq-eqb}
 use Rattle.nomos_machine.specs.Change.{put_at}
 use Rattle.nomos_machine.specs.Objects.{object_at, object_number, process_of}
 use Rattle.nomos_machine.specs.Optional.{◌>>=◌}
@@ -86,21 +86,19 @@ put-same n o (e ∷ objects) found = at (object_number e == n) found (put-same n
     at true is rest = one is
     at false is rest = ap (λ os. e ∷ os) (rest is)
 
--- the process that is there stays
-pub stays : (s : State) (pid : ℕ) (p q : Process) → process_at s pid ≡ Some p → q ≡ p → s ≡ with_process pid q s
-stays s pid p q there is =
-    sym (ap (λ (q : Process). with_process pid q s) is
-    ∙ ap (λ (os : List Object). record s { objects = os })
-    (put-same pid (object.Process p) s.objects (process-found (object_at s.objects pid) p there)))
+-- a process that becomes what it is
+pub process-same : (s : State) (pid : ℕ) (p : Process) → process_at s pid ≡ Some p → with_process pid p s ≡ s
+process-same s pid p there =
+    ap (λ (os : List Object). record s { objects = os })
+    (put-same pid (object.Process p) s.objects (process-found (object_at s.objects pid) p there))
 
--- what follows where an answer is Ok, or an Err
+pub stays : (s : State) (pid : ℕ) (p q : Process) → process_at s pid ≡ Some p → q ≡ p → s ≡ with_process pid q s
+stays s pid p q there is = sym (ap (λ (q : Process). with_process pid q s) is ∙ process-same s pid p there)
+
+-- what follows where an answer is Ok
 pub on_ok : {T E : Type 0} (r : Result T E) {A B : Type 0} → (A → B) → OnOk r A → OnOk r B
 on_ok (Ok x) goes there = goes there
 on_ok (Err e) goes there = tt
-
-pub on_err : {T E : Type 0} (r : Result T E) {A B : Type 0} → (A → B) → OnErr r A → OnErr r B
-on_err (Ok x) goes there = tt
-on_err (Err e) goes there = goes there
 
 -- ---- plain fields
 

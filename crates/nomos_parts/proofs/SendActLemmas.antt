@@ -26,10 +26,10 @@ use Rattle.nomos_machine.specs.declared.object.Payload.TheVariants as payload
 use Rattle.nomos_machine.specs.declared.object.Process.{Process}
 use Rattle.nomos_machine.proofs.PutLaws.{object_at-found, put-weight}
 use Rattle.nomos_parts.specs.Sendings.{after_sending, brought_by, gas_of_sending, message_sent, with_sent}
-use Rattle.nomos_parts.specs.SmallChanges.{with_process, without_object}
+use Rattle.nomos_parts.specs.SmallChanges.{with_name, with_object, with_process, without_object}
 use Rattle.nomos_parts.proofs.BecomesLemmas.{process-found}
+use Rattle.nomos_parts.proofs.BehindLemmas.{becomes-before}
 use Rattle.nomos_parts.proofs.MadeLemmas.{one-some, same-state}
-use Rattle.nomos_parts.proofs.MessageLemmas.{put-in_front}
 
 -- ---- purses
 
@@ -119,13 +119,11 @@ module _ (a : Acceptance) (s : State) (p : Process) (c : Chan) (goes : TypeId) (
       → with_process pid (standing_at next (under_name c s.next_name q)) (with_sent (is_own c) from brought gas goes s)
       ≡ made s change
   sent-made brought gas from pid q change there number is =
-      let new = Some (object.Process (standing_at next (under_name c s.next_name q))) in
-      let more = object.Message (message_sent s (is_own c) from brought gas) ∷ [] in
-      same-state (with_process pid (standing_at next (under_name c s.next_name q))
-      (with_sent (is_own c) from brought gas goes s))
-      (made s (sent_change brought gas q from))
-      (put-in_front pid new (object.Process p) s.objects more (process-found (object_at s.objects pid) p there)
-      ∙ ap (λ (n : ℕ). put_at n new s.objects ++ more) (sym number))
+      let after = standing_at next (under_name c s.next_name q) in
+      let message = object.Message (message_sent s (is_own c) from brought gas) in
+      ap (with_name goes) (becomes-before s pid p message there after)
+      ∙ same-state (with_name goes (with_object message (with_process pid after s))) (made s (sent_change brought gas q from))
+      (ap (λ (n : ℕ). put_at n (Some (object.Process after)) s.objects ++ message ∷ []) (sym number))
       refl refl refl refl (omega arith) (sym (append-nil s.results)) refl
       ∙ ap (made s) (sym is)
 
