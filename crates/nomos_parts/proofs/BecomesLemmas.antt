@@ -1,5 +1,5 @@
 -- A process that becomes another one, by one small change after the other.
-use Rattle.std.proofs.Common.{◌≡◌, ◌∙◌, ◌==◌, ℕ, Bool, true, false, cond, List, [], ◌∷◌, Option, Some, None, IsSome, Result, Ok, Err, OnOk, OnErr, refl, sym, ap, option_and_then, eq-eqb}
+use Rattle.std.proofs.Common.{◌≡◌, ◌∙◌, ◌==◌, ℕ, Bool, true, false, cond, List, [], ◌∷◌, Option, Some, None, IsSome, Result, Ok, Err, OnOk, refl, sym, ap, option_and_then, eq-eqb}
 use Rattle.nomos_machine.specs.Change.{put_at}
 use Rattle.nomos_machine.specs.Objects.{object_at, object_number, process_of}
 use Rattle.nomos_machine.specs.Optional.{◌>>=◌}
@@ -29,7 +29,8 @@ put-put n one other (o ∷ objects) numbered =
         ≡ cond b (other ∷ objects) (o ∷ put_at n (Some other) objects)
     at true here is rest = ap (λ b. cond b (other ∷ objects) (one ∷ put_at n (Some other) objects)) is
     at false here is rest =
-        ap (λ b. cond b (other ∷ put_at n (Some one) objects) (o ∷ put_at n (Some other) (put_at n (Some one) objects))) here
+        ap (λ b. cond b (other ∷ put_at n (Some one) objects)
+        (o ∷ put_at n (Some other) (put_at n (Some one) objects))) here
         ∙ ap (λ os. o ∷ os) rest
 
 pub process-found : (o : Option Object) (p : Process) → (o >>= process_of) ≡ Some p → o ≡ Some (object.Process p)
@@ -48,11 +49,13 @@ module _ (s : State) (pid : ℕ) (p q : Process) (there : process_at s pid ≡ S
   pub process-put : process_at (with_process pid q s) pid ≡ Some q
   process-put =
       ap (option_and_then process_of)
-      (object_at-put pid (object.Process q) (object.Process p) s.objects (process-found (object_at s.objects pid) p there) own)
+      (object_at-put pid (object.Process q) (object.Process p) s.objects
+      (process-found (object_at s.objects pid) p there) own)
 
   -- and it gives way to the next one
   pub process-twice : (r : Process) → with_process pid r (with_process pid q s) ≡ with_process pid r s
-  process-twice r = ap (λ (os : List Object). record s { objects = os }) (put-put pid (object.Process q) (object.Process r) s.objects own)
+  process-twice r = ap (λ (os : List Object). record s { objects = os })
+      (put-put pid (object.Process q) (object.Process r) s.objects own)
 
 -- ---- one change after the other
 
@@ -69,7 +72,8 @@ pub becomes-then : (s t u : State) (pid : ℕ) (p q : Process) (g : Process → 
     → q.pid ≡ p.pid → t ≡ with_process pid q s → Becomes t pid g u → u ≡ with_process pid (g q) s
 becomes-then s t u pid p q g there keeps is next = becomes-next s t u pid p q (g q) there keeps is (next q)
 
-put-same : (n : ℕ) (o : Object) (objects : List Object) → object_at objects n ≡ Some o → put_at n (Some o) objects ≡ objects
+put-same : (n : ℕ) (o : Object) (objects : List Object) → object_at objects n ≡ Some o
+    → put_at n (Some o) objects ≡ objects
 put-same n o [] found = absurd cc
 put-same n o (e ∷ objects) found = at (object_number e == n) found (put-same n o objects)
   where
@@ -82,21 +86,19 @@ put-same n o (e ∷ objects) found = at (object_number e == n) found (put-same n
     at true is rest = one is
     at false is rest = ap (λ os. e ∷ os) (rest is)
 
--- the process that is there stays
-pub stays : (s : State) (pid : ℕ) (p q : Process) → process_at s pid ≡ Some p → q ≡ p → s ≡ with_process pid q s
-stays s pid p q there is =
-    sym (ap (λ (q : Process). with_process pid q s) is
-    ∙ ap (λ (os : List Object). record s { objects = os })
-    (put-same pid (object.Process p) s.objects (process-found (object_at s.objects pid) p there)))
+-- a process that becomes what it is
+pub process-same : (s : State) (pid : ℕ) (p : Process) → process_at s pid ≡ Some p → with_process pid p s ≡ s
+process-same s pid p there =
+    ap (λ (os : List Object). record s { objects = os })
+    (put-same pid (object.Process p) s.objects (process-found (object_at s.objects pid) p there))
 
--- what follows where an answer is Ok, or an Err
+pub stays : (s : State) (pid : ℕ) (p q : Process) → process_at s pid ≡ Some p → q ≡ p → s ≡ with_process pid q s
+stays s pid p q there is = sym (ap (λ (q : Process). with_process pid q s) is ∙ process-same s pid p there)
+
+-- what follows where an answer is Ok
 pub on_ok : {T E : Type 0} (r : Result T E) {A B : Type 0} → (A → B) → OnOk r A → OnOk r B
 on_ok (Ok x) goes there = goes there
 on_ok (Err e) goes there = tt
-
-pub on_err : {T E : Type 0} (r : Result T E) {A B : Type 0} → (A → B) → OnErr r A → OnErr r B
-on_err (Ok x) goes there = tt
-on_err (Err e) goes there = goes there
 
 -- ---- plain fields
 

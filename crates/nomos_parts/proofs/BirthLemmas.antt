@@ -20,7 +20,7 @@ use Rattle.nomos_parts.specs.Beginnings.{has_list, spawned, with_born, with_list
 use Rattle.nomos_parts.specs.SmallChanges.{with_name, with_object, with_process}
 use Rattle.nomos_parts.specs.declared.spawning.Spawn.{Spawn}
 use Rattle.nomos_parts.proofs.BecomesLemmas.{process-put, process-twice}
-use Rattle.nomos_parts.proofs.HandLemmas.{becomes-before, stays-before}
+use Rattle.nomos_parts.proofs.BehindLemmas.{becomes-before, stays-before}
 
 -- a process that became another one becomes the next one, of which the state tells something too
 pub turns-then : (s t u : State) (pid : ℕ) (p q : Process) (g : State → Process → Process) → process_at s pid ≡ Some p

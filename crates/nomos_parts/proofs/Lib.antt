@@ -1,6 +1,7 @@
 pub mod BecomesLemmas
 pub mod BeginActLemmas
 pub mod BeginLemmas
+pub mod BehindLemmas
 pub mod BirthLemmas
 pub mod GivenLemmas
 pub mod HandLemmas

@@ -1,11 +1,9 @@
 -- What is sent and taken in, and the processes that do so.
-use Rattle.std.proofs.Common.{◌≡◌, ◌∙◌, ◌==◌, ℕ, Bool, true, false, cond, List, [], ◌∷◌, ◌++◌, Option, Some, None, refl, sym, ap, option_and_then, append_assoc}
-use Rattle.std.proofs.lemmas.List.Folds.{find-append}
-use Rattle.std.specs.Option.{option_map, option_or, option_to_list}
+use Rattle.std.proofs.Common.{◌≡◌, ◌∙◌, ℕ, true, false, Option, Some, None, refl, sym, ap}
+use Rattle.std.specs.Option.{option_map}
 use Rattle.nomos_ir.specs.Value.{Value}
 use Rattle.nomos_ir.specs.declared.code_node.Chan.{Chan}
 use Rattle.nomos_ir.specs.declared.code_node.Chan.TheVariants as chan
-use Rattle.nomos_ir.specs.declared.ids.TypeId.{TypeId}
 use Rattle.nomos_ir.specs.declared.ids.VarId.{VarId}
 use Rattle.nomos_deeds.specs.Acts.{taken}
 use Rattle.nomos_deeds.specs.Seen.{seen_channel, seen_message, seen_payload}
@@ -14,18 +12,13 @@ use Rattle.nomos_deeds.specs.declared.act.Into.TheVariants as into
 use Rattle.nomos_deeds.specs.declared.act.Sending.{Sending}
 use Rattle.nomos_deeds.specs.declared.act.Sending.TheVariants as sending
 use Rattle.nomos_deeds.specs.declared.sight.SeenMessage.{SeenMessage}
-use Rattle.nomos_machine.specs.Change.{put_at}
 use Rattle.nomos_machine.specs.Deeds.{value_in}
-use Rattle.nomos_machine.specs.Objects.{object_at, object_number, process_of}
 use Rattle.nomos_machine.specs.Revised.{under_name, with_channel, with_value}
-use Rattle.nomos_machine.specs.State.{State, process_at}
 use Rattle.nomos_machine.specs.declared.object.Message.{Message}
-use Rattle.nomos_machine.specs.declared.object.Object.{Object}
 use Rattle.nomos_machine.specs.declared.object.Payload.{Payload}
 use Rattle.nomos_machine.specs.declared.object.Payload.TheVariants as payload
 use Rattle.nomos_machine.specs.declared.object.Process.{Process}
-use Rattle.nomos_parts.specs.Sendings.{after_sending, with_sent}
-use Rattle.nomos_parts.proofs.BecomesLemmas.{process-found}
+use Rattle.nomos_parts.specs.Sendings.{after_sending}
 use Rattle.nomos_parts.proofs.MadeLemmas.{one-some}
 
 -- ---- numbers of processes stay
@@ -64,7 +57,8 @@ taken-value v (payload.Channel name) p q is = absurd cc
 taken-value v payload.Pay p q is = absurd cc
 taken-value v payload.Close p q is = absurd cc
 
-pub taken-pid : (where_to : Into) (brought : Payload) (p q : Process) → taken where_to brought p ≡ Some q → q.pid ≡ p.pid
+pub taken-pid : (where_to : Into) (brought : Payload) (p q : Process) → taken where_to brought p ≡ Some q
+    → q.pid ≡ p.pid
 taken-pid into.Nothing brought p q is = ap (λ (r : Process). r.pid) (sym (one-some p q is))
 taken-pid (into.Channel v) brought p q is = ap (λ (r : Process). r.pid) (sym (taken-channel v brought p q is).2)
 taken-pid (into.Value v) brought p q is = ap (λ (r : Process). r.pid) (sym (taken-value v brought p q is).2)
@@ -89,30 +83,3 @@ message-seen (Some k) m seen looked there =
     let is : seen ≡ seen_message k = cc in
     is ∙ ap seen_message same
 message-seen None m seen looked there = absurd cc
-
--- ---- beside what comes last
-
-object-in_front : (n : ℕ) (o : Object) (objects more : List Object) → object_at objects n ≡ Some o
-    → object_at (objects ++ more) n ≡ Some o
-object-in_front n o objects more found =
-    find-append (λ (o : Object). object_number o == n) objects more
-    ∙ ap (λ (found : Option Object). option_or found (object_at more n)) found
-
-pub process-in_front : (s : State) (pid : ℕ) (p : Process) (to_client : Bool) (from : ℕ) (brought : Payload) (gas : ℕ)
-    (goes : TypeId) → process_at s pid ≡ Some p → process_at (with_sent to_client from brought gas goes s) pid ≡ Some p
-process-in_front s pid p to_client from brought gas goes there =
-    ap (option_and_then process_of)
-    (object-in_front pid _ s.objects _ (process-found (object_at s.objects pid) p there))
-
-pub put-in_front : (n : ℕ) (new : Option Object) (o : Object) (objects more : List Object) → object_at objects n ≡ Some o
-    → put_at n new (objects ++ more) ≡ put_at n new objects ++ more
-put-in_front n new o [] more found = absurd cc
-put-in_front n new o (e ∷ objects) more found =
-    at (object_number e == n) found (put-in_front n new o objects more)
-  where
-    at : (b : Bool) → cond b (Some e) (object_at objects n) ≡ Some o
-        → (object_at objects n ≡ Some o → put_at n new (objects ++ more) ≡ put_at n new objects ++ more)
-        → cond b (option_to_list new ++ (objects ++ more)) (e ∷ put_at n new (objects ++ more))
-        ≡ cond b (option_to_list new ++ objects) (e ∷ put_at n new objects) ++ more
-    at true is rest = sym (append_assoc (option_to_list new) objects more)
-    at false is rest = ap (λ os. e ∷ os) (rest is)

@@ -27,7 +27,8 @@ module _ (a : Acceptance) (s : State) (p : Process) (vs : List Value) (c : Chang
     becomes = with_value v x p;
     revises = refl;
     alone_is = one-some c (alone a s p (standing_at next (with_value v x p)))
-        (sym is ∙ ap (λ (o : Option Value). o >>= λ x. Some (alone a s p (standing_at next (with_value v x p)))) (sym one));
+        (sym is ∙ ap (λ (o : Option Value). o >>= λ x. Some (alone a s p (standing_at next (with_value v x p))))
+        (sym one));
   }
 
   pub empty-revises : (v : VarId) (amount : ℕ) (next : CodeId) → act_change a s p vs (act.Empty v amount next) ≡ Some c
@@ -65,7 +66,8 @@ module _ (a : Acceptance) (s : State) (p : Process) (vs : List Value) (c : Chang
       }
       at None found made = absurd cc
 
-  pub parted-revises : (w head tail : VarId) (next : CodeId) → act_change a s p vs (act.TakeApart w head tail next) ≡ Some c
+  pub parted-revises : (w head tail : VarId) (next : CodeId)
+      → act_change a s p vs (act.TakeApart w head tail next) ≡ Some c
       → Revises a s p (revision.Parted w head tail) next c
   parted-revises w head tail next is = at (bound_to w.0 p.lists) refl is
     where

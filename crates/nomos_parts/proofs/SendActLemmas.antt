@@ -26,10 +26,10 @@ use Rattle.nomos_machine.specs.declared.object.Payload.TheVariants as payload
 use Rattle.nomos_machine.specs.declared.object.Process.{Process}
 use Rattle.nomos_machine.proofs.PutLaws.{object_at-found, put-weight}
 use Rattle.nomos_parts.specs.Sendings.{after_sending, brought_by, gas_of_sending, message_sent, with_sent}
-use Rattle.nomos_parts.specs.SmallChanges.{with_process, without_object}
-use Rattle.nomos_parts.proofs.BecomesLemmas.{process-found as process_is}
+use Rattle.nomos_parts.specs.SmallChanges.{with_name, with_object, with_process, without_object}
+use Rattle.nomos_parts.proofs.BecomesLemmas.{process-found}
+use Rattle.nomos_parts.proofs.BehindLemmas.{becomes-before}
 use Rattle.nomos_parts.proofs.MadeLemmas.{one-some, same-state}
-use Rattle.nomos_parts.proofs.MessageLemmas.{put-in_front}
 
 -- ---- purses
 
@@ -40,27 +40,25 @@ purse-in s n o found =
     let weight = put-weight purse_of None o s.objects (ap (object_at s.objects) number ∙ found) in
     omega (arith, weight)
 
-pub process-found : (s : State) (pid : ℕ) (p : Process) → process_at s pid ≡ Some p
-    → object_at s.objects pid ≡ Some (object.Process p)
-process-found s pid p found = process_is (object_at s.objects pid) p found
-
 pub message-found : (objects : List Object) (n : ℕ) (m : Message) → message_at objects n ≡ Some m
     → object_at objects n ≡ Some (object.Message m)
 message-found objects n m found = at (object_at objects n) refl found
   where
-    at : (o : Option Object) → object_at objects n ≡ o → (o >>= message_of) ≡ Some m → object_at objects n ≡ Some (object.Message m)
+    at : (o : Option Object) → object_at objects n ≡ o → (o >>= message_of) ≡ Some m
+        → object_at objects n ≡ Some (object.Message m)
     at (Some (object.Message g)) there is = there ∙ ap (λ (g : Message). Some (object.Message g)) (one-some g m is)
     at (Some (object.Process p)) there is = absurd cc
     at None there is = absurd cc
 
 -- what a process and a message carry fits together
-pub purses-fit : (s : State) (pid number : ℕ) (p : Process) (m : Message) → gas_of s < 2 ^ 96 → process_at s pid ≡ Some p
+pub purses-fit : (s : State) (pid number : ℕ) (p : Process) (m : Message) → gas_of s < 2 ^ 96
+    → process_at s pid ≡ Some p
     → message_at s.objects number ≡ Some m → p.purse + m.purse < 2 ^ 128
 purses-fit s pid number p m gas there found =
     omega (
       arith,
       gas,
-      purse-in s pid (object.Process p) (process-found s pid p there),
+      purse-in s pid (object.Process p) (process-found (object_at s.objects pid) p there),
       purse-in s number (object.Message m) (message-found s.objects number m found),
     )
 
@@ -105,11 +103,13 @@ module _ (a : Acceptance) (s : State) (p : Process) (c : Chan) (goes : TypeId) (
       sends-is (sending.Channel y name true) vs change _ 0 p refl refl refl made
   sending-is (sending.Channel y name false) vs change made =
       sends-is (sending.Channel y name false) vs change _ 0 (without_channel y p) refl refl refl made
-  sending-is (sending.Potential gas) vs change made = sends-is (sending.Potential gas) vs change _ gas _ refl refl refl made
+  sending-is (sending.Potential gas) vs change made = sends-is (sending.Potential gas) vs change _ gas _ refl refl refl
+      made
   sending-is sending.Value vs change made = at (one_of vs) refl made
     where
       at : (o : Option Value) → one_of vs ≡ o
-          → (o >>= λ x. sends a s p c (payload.Value x) 0 p (Some goes) next) ≡ Some change → IsSent sending.Value vs change
+          → (o >>= λ x. sends a s p c (payload.Value x) 0 p (Some goes) next) ≡ Some change
+          → IsSent sending.Value vs change
       at (Some x) found is = sends-is sending.Value vs change (payload.Value x) 0 p
           (ap (λ (o : Option Value). o >>= λ x. Some (payload.Value x)) found) refl refl is
       at None found is = absurd cc
@@ -119,12 +119,11 @@ module _ (a : Acceptance) (s : State) (p : Process) (c : Chan) (goes : TypeId) (
       → with_process pid (standing_at next (under_name c s.next_name q)) (with_sent (is_own c) from brought gas goes s)
       ≡ made s change
   sent-made brought gas from pid q change there number is =
-      let new = Some (object.Process (standing_at next (under_name c s.next_name q))) in
-      let more = object.Message (message_sent s (is_own c) from brought gas) ∷ [] in
-      same-state (with_process pid (standing_at next (under_name c s.next_name q)) (with_sent (is_own c) from brought gas goes s))
-      (made s (sent_change brought gas q from))
-      (put-in_front pid new (object.Process p) s.objects more (process-found s pid p there)
-      ∙ ap (λ (n : ℕ). put_at n new s.objects ++ more) (sym number))
+      let after = standing_at next (under_name c s.next_name q) in
+      let message = object.Message (message_sent s (is_own c) from brought gas) in
+      ap (with_name goes) (becomes-before s pid p message there after)
+      ∙ same-state (with_name goes (with_object message (with_process pid after s))) (made s (sent_change brought gas q from))
+      (ap (λ (n : ℕ). put_at n (Some (object.Process after)) s.objects ++ message ∷ []) (sym number))
       refl refl refl refl (omega arith) (sym (append-nil s.results)) refl
       ∙ ap (made s) (sym is)
 
@@ -145,9 +144,11 @@ module _ (a : Acceptance) (s : State) (p : Process) where
       → IsReceived c number where_to next change
   received-is c number where_to next vs change made = at (message_at s.objects number) refl made
     where
-      taking : (m : Message) → message_at s.objects number ≡ Some m → (name : ℕ) → m.next ≡ Some name → (o : Option Process)
+      taking : (m : Message) → message_at s.objects number ≡ Some m → (name : ℕ) → m.next ≡ Some name
+          → (o : Option Process)
           → taken where_to m.payload (under_name c name p) ≡ o
-          → (o >>= λ q. Some (takes a s p m (standing_at next q))) ≡ Some change → IsReceived c number where_to next change
+          → (o >>= λ q. Some (takes a s p m (standing_at next q))) ≡ Some change
+          → IsReceived c number where_to next change
       taking m found name named (Some q) takes_in is = record {
         message = m;
         found = found;
@@ -162,11 +163,13 @@ module _ (a : Acceptance) (s : State) (p : Process) where
       naming : (m : Message) → message_at s.objects number ≡ Some m → (o : Option ℕ) → m.next ≡ o
           → (o >>= λ name. taken where_to m.payload (under_name c name p) >>= λ q.
           Some (takes a s p m (standing_at next q))) ≡ Some change → IsReceived c number where_to next change
-      naming m found (Some name) named is = taking m found name named (taken where_to m.payload (under_name c name p)) refl is
+      naming m found (Some name) named is = taking m found name named (taken where_to m.payload (under_name c name p))
+          refl is
       naming m found None named is = absurd cc
 
       at : (o : Option Message) → message_at s.objects number ≡ o
-          → (o >>= λ m. received_change a s p vs m c where_to next) ≡ Some change → IsReceived c number where_to next change
+          → (o >>= λ m. received_change a s p vs m c where_to next) ≡ Some change
+          → IsReceived c number where_to next change
       at (Some m) found is = naming m found m.next refl is
       at None found is = absurd cc
 
@@ -193,7 +196,8 @@ module _ (a : Acceptance) (s : State) (p : Process) where
       → message_at s.objects number ≡ Some m → change ≡ takes a s p m q
       → without_object number (with_process pid (richer m.purse q) s) ≡ made s change
   takes-made m pid number q change same found is =
-      let own : m.number ≡ number = (object_at-found number (object.Message m) s.objects (message-found s.objects number m found)).0 in
+      let own : m.number ≡ number =
+      (object_at-found number (object.Message m) s.objects (message-found s.objects number m found)).0 in
       let new = Some (object.Process (richer m.purse q)) in
       same-state (without_object number (with_process pid (richer m.purse q) s)) (made s (takes a s p m q))
       (ap (λ (n : ℕ). put_at number None (put_at n new s.objects)) (sym same)

@@ -11,6 +11,7 @@ returns-in-Some-clause-ok g c a can =
     let told = (c.in-Some.ensures.revises a s acts.process acts.change acts.changes c.requires.alone).0 in
     on_ok c.revise.result
     (λ is. is
-    ∙ alone-made a s acts.process (standing_at c.in-Some.next told.becomes) c.args.pid acts.change acts.number told.alone_is
+    ∙ alone-made a s acts.process (standing_at c.in-Some.next told.becomes) c.args.pid acts.change acts.number
+    told.alone_is
     ∙ sym acts.makes)
     (c.revise.ensures.ok acts.process told.becomes acts.there told.revises)

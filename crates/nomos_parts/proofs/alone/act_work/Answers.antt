@@ -19,7 +19,8 @@ returns-clause-state g c a vs can =
     let there : process_at (g.P.Sight.state c.burn.new.self) c.args.pid ≡ Some p =
     ap (λ (s : State). process_at s c.args.pid) burnt ∙ acts.there in
     let is = one-some acts.change (record (alone a s p q) { burnt = c.args.gas }) (sym acts.changes) in
-    becomes-then (g.P.Sight.state c.burn.new.self) (g.P.Sight.state c.spend.new.parts) (g.P.Sight.state c.go_on.new.parts)
+    becomes-then (g.P.Sight.state c.burn.new.self) (g.P.Sight.state c.spend.new.parts)
+    (g.P.Sight.state c.go_on.new.parts)
     c.args.pid p (poorer c.args.gas p) (standing_at c.args.next) there refl (c.spend.ensures.state p there)
     c.go_on.ensures.state
     ∙ ap (with_process c.args.pid q) burnt

@@ -23,7 +23,8 @@ returns-in-Empty-clause-revises c a s p change is alone = (
 pub returns-in_ok-the_node-in-Add-clause-revises : goal.returns-in_ok-the_node-in-Add-clause-revises
 returns-in_ok-the_node-in-Add-clause-revises c a s p change is alone =
     let one : Some (value_of c.in_ok-the_node-in-Add.field-0) ≡ one_of c.args.values = search rules in (
-      add-revises a s p c.args.values change c.in_ok-the_node-in-Add.field-0 c.in-Add.variable c.in-Add.list c.in-Add.next one
+      add-revises a s p c.args.values change c.in_ok-the_node-in-Add.field-0 c.in-Add.variable c.in-Add.list
+          c.in-Add.next one
           (ap (act_change a s p c.args.values) (sym c.in-Add.is) ∙ is),
       refl,
     )

@@ -7,7 +7,8 @@ use Rattle.nomos_parts.proofs.going.earn.Goals as goal
 
 pub returns-in-Some-clause-state : goal.returns-in-Some-clause-state
 returns-in-Some-clause-state g c p there fits =
-    let seen = seen-is (process_at (g.P.Sight.state c.args.parts.now) c.args.pid) p c.in-Some.seen c.in-Some.ensures there in
+    let seen = seen-is (process_at (g.P.Sight.state c.args.parts.now) c.args.pid) p c.in-Some.seen c.in-Some.ensures
+    there in
     let same : c.in-Some.seen.purse ≡ p.purse = ap (λ (x : SeenProcess). x.purse) seen in
     let more : c.saturating_add-purse.result ≡ c.in-Some.seen.purse + c.args.gas =
     omega (arith, c.saturating_add-purse.ensures, same, fits) in

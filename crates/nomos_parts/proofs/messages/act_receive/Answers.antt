@@ -21,7 +21,8 @@ returns-clause-ok g c a vs can =
     taken-purse receive.into m.payload (under_name receive.channel got.name p) q got.takes_in
     ∙ under-purse receive.channel got.name p in
     let fits : q.purse + m.purse < 2 ^ 128 =
-    subst (λ n. n + m.purse < 2 ^ 128) (sym purse) (purses-fit s pid receive.message p m can.gas acts.there got.found) in
+    subst (λ n. n + m.purse < 2 ^ 128) (sym purse) (purses-fit s pid receive.message p m can.gas acts.there got.found)
+    in
     on_ok c.receive_message.result
     (λ is. is
     ∙ takes-made a s p m pid receive.message (standing_at receive.next q) acts.change acts.number got.found got.is

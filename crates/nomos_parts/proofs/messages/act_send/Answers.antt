@@ -25,8 +25,10 @@ returns-in-Some-clause-ok g c a can =
     let after = standing_at send.next (under_name send.channel s.next_name sender) in
     on_ok c.send_message.result
     (λ is. is
-    ∙ ap (λ (brought : Payload). with_process pid after (with_sent (is_own send.channel) sent.from brought gas send.goes s)) same
-    ∙ sent-made a s p send.channel send.goes send.next sent.brought gas sent.from pid sender acts.change acts.there acts.number
+    ∙ ap (λ (brought : Payload). with_process pid after
+    (with_sent (is_own send.channel) sent.from brought gas send.goes s)) same
+    ∙ sent-made a s p send.channel send.goes send.next sent.brought gas sent.from pid sender acts.change acts.there
+    acts.number
     sent.is
     ∙ sym acts.makes)
     (c.send_message.ensures.ok p sent.from acts.there sent.named)
@@ -36,7 +38,8 @@ returns-in-None-clause-ok g c a can =
     let s = g.P.Sight.state c.args.parts.now in
     let send = c.args.send in
     let acts = can-acts a s c.args.pid c.args.values (act.Send send.channel send.sending send.goes send.next) can in
-    let sent = sending-is a s acts.process send.channel send.goes send.next send.sending c.args.values acts.change acts.changes in
+    let sent = sending-is a s acts.process send.channel send.goes send.next send.sending c.args.values acts.change
+    acts.changes in
     let told : None ≡ brought_by send.sending c.args.values = search rules in
     let both : None ≡ Some sent.brought = told ∙ sent.brings in
     absurd cc

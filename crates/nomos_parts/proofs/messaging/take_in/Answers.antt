@@ -23,7 +23,8 @@ returns-in-Channel-clause-ok g c p q m name there message seen named takes =
     let took = taken-channel c.in-Channel.v m.payload under q
     (ap (λ (n : ℕ). taken (into.Channel c.in-Channel.v) m.payload (under_name channel n p)) (sym same)
     ∙ ap (λ (where_to : Into). taken where_to m.payload (under_name channel name p)) (sym c.in-Channel.is) ∙ takes) in
-    becomes-next s (g.P.Sight.state c.go_under-in-Channel.new.parts) (g.P.Sight.state c.take_channel.new.parts) pid p under
+    becomes-next s (g.P.Sight.state c.go_under-in-Channel.new.parts) (g.P.Sight.state c.take_channel.new.parts) pid p
+    under
     (with_channel c.in-Channel.v took.0 under) there (under-pid channel c.in-Some.name p)
     (c.go_under-in-Channel.ensures.state p there)
     (λ at. c.take_channel.ensures.state under took.0 at (ap (λ (x : SeenMessage). seen_channel x.brings) seen ∙ took.1))

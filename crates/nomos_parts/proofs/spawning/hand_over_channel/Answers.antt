@@ -3,7 +3,8 @@ use Rattle.nomos_ir.specs.declared.lists.ProgramLists.{ProgramLists}
 use Rattle.nomos_machine.specs.Sight.{is_shared_name}
 use Rattle.nomos_machine.specs.declared.object.Process.{Process}
 use Rattle.nomos_parts.specs.SmallChanges.{with_process}
-use Rattle.nomos_parts.proofs.HandLemmas.{hands-shared, process-same}
+use Rattle.nomos_parts.proofs.BecomesLemmas.{process-same}
+use Rattle.nomos_parts.proofs.HandLemmas.{hands-shared}
 use Rattle.nomos_parts.proofs.spawning.hand_over_channel.Goals as goal
 use Rattle.nomos_parts.proofs.spawning.hand_over_channel.Goals.{in-Some, in-None}
 
