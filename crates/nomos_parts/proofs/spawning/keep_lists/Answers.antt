@@ -5,7 +5,7 @@ use Rattle.nomos_ir.specs.declared.ids.VarId.{VarId}
 use Rattle.nomos_machine.specs.declared.object.PotentialList.{PotentialList}
 use Rattle.nomos_parts.specs.Beginnings.{with_lists_if_any}
 use Rattle.nomos_parts.specs.SmallChanges.{with_process}
-use Rattle.nomos_parts.proofs.HandLemmas.{process-same}
+use Rattle.nomos_parts.proofs.BecomesLemmas.{process-same}
 use Rattle.nomos_parts.proofs.spawning.keep_lists.Goals as goal
 
 pub returns-in_default-clause-state : goal.returns-in_default-clause-state
