@@ -25,7 +25,8 @@ pub comes-in : (s : State) (c : Change) (o : Object) → c.comes ≡ Some o → 
 comes-in s c o comes =
     let all = sum_by-append purse_of (put_all c.places s.objects) (option_to_list c.comes) in
     let one : sum_by purse_of (option_to_list c.comes) ≡ purse_of o =
-    ap (λ (new : Option Object). sum_by purse_of (option_to_list new)) comes ∙ omega (arith, sum_by-cons purse_of o []) in
+    ap (λ (new : Option Object). sum_by purse_of (option_to_list new)) comes
+    ∙ omega (arith, sum_by-cons purse_of o []) in
     omega (arith, all, one)
 
 module _ (a : Acceptance) (s : State) (p : Process) (f : ProcId) (vs : List Value) (change : Change)
@@ -67,7 +68,8 @@ module _ (a : Acceptance) (s : State) (p : Process) (f : ProcId) (vs : List Valu
 
 -- the state after a spawn
 pub spawn-made : (a : Acceptance) (s : State) (p : Process) (spawn : Spawn) (d : ProcDecl) (args : Args) (g : Given)
-    (change : Change) → change ≡ spawns a s p spawn.variable d args g spawn.next → spawned a s p spawn d args g ≡ made s change
+    (change : Change) → change ≡ spawns a s p spawn.variable d args g spawn.next
+    → spawned a s p spawn d args g ≡ made s change
 spawn-made a s p spawn d args g change is =
     same-state (spawned a s p spawn d args g) (made s (spawns a s p spawn.variable d args g spawn.next))
     refl refl refl refl refl (omega arith) (sym (append-nil s.results)) refl

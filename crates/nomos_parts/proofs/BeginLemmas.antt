@@ -25,9 +25,9 @@ pub record SameBegun (d e : ProcDecl) (args others : Args) (g h : Given) (payer 
   pub gives : g ≡ h
   pub payer_is : payer ≡ own
 
-pub begun-is : (a : Acceptance) (s : State) (pid : ℕ) (f : ProcId) (vs : List Value) (d e : ProcDecl) (args others : Args)
-    (g h : Given) (payer : ℕ) (p : Process) → HasBegun a s pid f vs d args g payer → process_at s pid ≡ Some p
-    → Begins a p f vs e others h → SameBegun d e args others g h payer p.payer
+pub begun-is : (a : Acceptance) (s : State) (pid : ℕ) (f : ProcId) (vs : List Value) (d e : ProcDecl)
+    (args others : Args) (g h : Given) (payer : ℕ) (p : Process) → HasBegun a s pid f vs d args g payer
+    → process_at s pid ≡ Some p → Begins a p f vs e others h → SameBegun d e args others g h payer p.payer
 begun-is a s pid f vs d e args others g h payer p has there begins =
     let one : has.process ≡ p = one-some has.process p (sym has.there ∙ there) in
     let declaration : d ≡ e = one-some d e (sym has.begins.declared ∙ begins.declared) in

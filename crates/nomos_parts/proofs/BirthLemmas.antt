@@ -50,7 +50,8 @@ lists-number None p = refl
 -- ---- a parent and its child
 
 -- how a parent goes on that has these lists left, hands over these channels and pays so many Dths
-abbrev pub parting : Acceptance → State → Spawn → Option (List (VarId × PotentialList)) → List VarId → ℕ → Process → Process
+abbrev pub parting : Acceptance → State → Spawn → Option (List (VarId × PotentialList)) → List VarId → ℕ → Process
+    → Process
 parting a s spawn lists channels purse p =
     standing_at spawn.next (with_channel spawn.variable s.next_name (poorer purse
     (hands_over_all a s p channels (with_lists_if_any lists p))))

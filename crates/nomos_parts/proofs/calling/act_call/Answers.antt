@@ -15,7 +15,8 @@ returns-clause-ok g c =
     let call = c.args.call in
     let acts = can-acts a s call.pid c.args.values (act.Call call.declaration) c.requires.can in
     let p = acts.process in
-    let got = begun-change a s p call.declaration c.args.values acts.change (λ d args g. calls a s p d g) acts.changes in
+    let got = begun-change a s p call.declaration c.args.values acts.change
+    (λ d args g. calls a s p d g) acts.changes in
     on_ok c.go_on_at.result
     (λ is. is
     ∙ alone-made a s p (called got.declaration got.gives p) call.pid acts.change acts.number

@@ -29,7 +29,8 @@ returns-clause-ok g c p d args gives there begins_with =
     let second : Process = with_values values first in
     let third : Process = with_lists lists second in
     let goes_at : ProcDecl → List (VarId × Value) → List (VarId × PotentialList) → List (VarId × ℕ) → Process =
-    λ (d : ProcDecl) (values : List (VarId × Value)) (lists : List (VarId × PotentialList)) (channels : List (VarId × ℕ)).
+    λ (d : ProcDecl) (values : List (VarId × Value)) (lists : List (VarId × PotentialList))
+    (channels : List (VarId × ℕ)).
     standing_at d.first (with_lists lists (with_values values (with_channels channels p))) in
     let valued = becomes-then s (state c.replace_channels.new.self) (state c.put_values.new.self) pid p first
     (with_values values) there refl (c.in_ok-replace_channels.ensures.ok p there) c.put_values.ensures.state in
@@ -43,8 +44,8 @@ returns-clause-ok g c p d args gives there begins_with =
     (bindings_of (me_value begun.declaration.now.me begun.payer ++ begun.given.values.items)) lists channels) s)
     c.in_ok-lists.ensures.items
     ∙ ap (λ (d : ProcDecl). with_process pid (goes_at d
-    (bindings_of (me_value d.me begun.payer ++ begun.given.values.items)) (bindings_of begun.given.lists.items) channels) s)
-    same.declaration
+    (bindings_of (me_value d.me begun.payer ++ begun.given.values.items)) (bindings_of begun.given.lists.items)
+    channels) s) same.declaration
     ∙ ap (λ (gives : Given). with_process pid (goes_at d (bindings_of (me_value d.me begun.payer ++ gives.values))
     (bindings_of gives.lists) gives.channels) s) same.gives
     ∙ ap (λ (payer : ℕ). with_process pid (goes_at d (bindings_of (me_value d.me payer ++ gives.values))

@@ -17,7 +17,8 @@ returns-clause-state g c p q there beside apart =
     let t = state c.come_name.new.self in
     let named : t ≡ with_name acquire.goes s = c.come_name.ensures.state in
     let there_then : process_at t pid ≡ Some p = ap (λ (u : State). process_at u pid) named ∙ there in
-    let beside_then : process_at t acquire.other ≡ Some q = ap (λ (u : State). process_at u acquire.other) named ∙ beside in
+    let beside_then : process_at t acquire.other ≡ Some q =
+    ap (λ (u : State). process_at u acquire.other) named ∙ beside in
     let goes = becomes-then t (state c.bind_channel.new.self) (state c.go_on.new.parts) pid p
     (with_channel acquire.variable name p) (standing_at acquire.next) there_then refl
     (c.bind_channel.ensures.state p there_then) c.go_on.ensures.state in

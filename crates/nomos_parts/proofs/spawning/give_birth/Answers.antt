@@ -21,7 +21,8 @@ returns-clause-state g c a p program there =
     let lists = option_map (λ (kept : Vec (VarId × PotentialList)). kept.items) c.args.birth.lists in
     let left : Process = with_lists_if_any lists p in
     let handed = turns-then s (state c.keep_lists.new.parts) (state c.hand_over_channels.new.parts) spawn.pid p left
-    (λ (t : State) (q : Process). hands_over_all a t p channels q) there (lists-number lists p) (c.keep_lists.ensures.state p there)
+    (λ (t : State) (q : Process). hands_over_all a t p channels q) there (lists-number lists p)
+    (c.keep_lists.ensures.state p there)
     (λ r there_then. c.hand_over_channels.ensures.state a p r program there_then) in
     turns-then s (state c.hand_over_channels.new.parts) (state c.meet_child.new.parts) spawn.pid p
     (hands_over_all a s p channels left)

@@ -11,6 +11,7 @@ use Rattle.nomos_types.specs.Amount.{dths}
 use Rattle.nomos_machine.specs.Deeds.{hands_over_lists}
 use Rattle.nomos_machine.specs.Given.{Given, begins}
 use Rattle.nomos_machine.specs.State.{State}
+use Rattle.nomos_machine.specs.declared.object.Process.{Process}
 use Rattle.nomos_parts.specs.Gives.{given_in}
 use Rattle.nomos_parts.specs.SmallChanges.{process_born}
 use Rattle.nomos_parts.proofs.BecomesLemmas.{not-some}
@@ -37,7 +38,8 @@ bound-requires g c =
 
 pub returns-in_default-clause-ok : goal.returns-in_default-clause-ok
 returns-in_default-clause-ok g c p d args gives there begins_with =
-    absurd (not-some c.in_ok-begun.field-0 c.in_default.is (c.in_ok-begun.ensures.some p d args gives there begins_with))
+    absurd (not-some c.in_ok-begun.field-0 c.in_default.is
+    (c.in_ok-begun.ensures.some p d args gives there begins_with))
 
 pub come_name-requires-clause-fits : goal.come_name-requires-clause-fits
 come_name-requires-clause-fits g c =
@@ -64,22 +66,25 @@ returns-clause-ok g c p d args gives there begins_with =
     (given_in begun.given) gives begun.payer p has there begins_with in
     let bound = if-told _ _ begun.declaration.now has.begins.declared c.bound.ensures in
     let k = process_born c.in_ok-child.child in
-    let born : k ≡ begins d gives s.next_object s.next_name (dths a.annotations d.amount) p.payer =
+    let at : ProcDecl → Given → ℕ → ℕ → Process =
+    λ (d : ProcDecl) (gives : Given) (gas payer : ℕ). begins d gives s.next_object s.next_name gas payer in
+    let e = begun.declaration.now in
+    let kept : Given = given_in begun.given in
+    let born : k ≡ at d gives (dths a.annotations d.amount) p.payer =
     c.in_ok-child.ensures
-    ∙ ap (λ (n : ℕ). begins begun.declaration.now (given_in begun.given) n c.fresh_name.result c.bound.result begun.payer)
-    c.next_number.ensures
-    ∙ ap (λ (n : ℕ). begins begun.declaration.now (given_in begun.given) s.next_object n c.bound.result begun.payer)
-    c.fresh_name.ensures
-    ∙ ap (λ (gas : ℕ). begins begun.declaration.now (given_in begun.given) s.next_object s.next_name gas begun.payer) bound
-    ∙ ap (λ (d : ProcDecl). begins d (given_in begun.given) s.next_object s.next_name (dths a.annotations d.amount)
-    begun.payer) same.declaration
-    ∙ ap (λ (gives : Given). begins d gives s.next_object s.next_name (dths a.annotations d.amount) begun.payer) same.gives
-    ∙ ap (λ (payer : ℕ). begins d gives s.next_object s.next_name (dths a.annotations d.amount) payer) same.payer_is
+    ∙ ap (λ (n : ℕ). begins e kept n c.fresh_name.result c.bound.result begun.payer) c.next_number.ensures
+    ∙ ap (λ (n : ℕ). begins e kept s.next_object n c.bound.result begun.payer) c.fresh_name.ensures
+    ∙ ap (λ (gas : ℕ). at e kept gas begun.payer) bound
+    ∙ ap (λ (d : ProcDecl). at d kept (dths a.annotations d.amount) begun.payer) same.declaration
+    ∙ ap (λ (gives : Given). at d gives (dths a.annotations d.amount) begun.payer) same.gives
+    ∙ ap (λ (payer : ℕ). at d gives (dths a.annotations d.amount) payer) same.payer_is
     in
     let came = c.in_ok-come_process.ensures.ok in
     let stays = parent-stays a s t p k spawn there came in
-    spawned-is a s t p k spawn there came (g.P.Sight.state c.give_birth.new.parts) (g.P.Sight.state c.come_name.new.self)
-    (option_map (λ (kept : Vec (VarId × PotentialList)). kept.items) c.in_ok-lists.lists) c.as_slice-2.result.now c.in_ok-child.child.fields.purse begun.declaration.now.offers d args
+    spawned-is a s t p k spawn there came (g.P.Sight.state c.give_birth.new.parts)
+    (g.P.Sight.state c.come_name.new.self)
+    (option_map (λ (kept : Vec (VarId × PotentialList)). kept.items) c.in_ok-lists.lists) c.as_slice-2.result.now
+    c.in_ok-child.child.fields.purse begun.declaration.now.offers d args
     gives (c.give_birth.ensures.state a p (sym c.program.ensures.program) stays) c.come_name.ensures.state
     (c.in_ok-lists.ensures a s p (sym (c.lists.ensures p there))
     ∙ ap (λ (left : List ValueArg). hands_over_lists a s p left p) c.as_slice.ensures
