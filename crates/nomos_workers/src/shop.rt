@@ -24,7 +24,7 @@ use std::marker::Model;
 /// of a process.
 #[derive(Drop)]
 pub struct Shop<A: Lent, M: Undo + Drop> {
-    accepted: A,
+    lent: A,
     world: World<M>,
     limit: u32,
 }
@@ -38,9 +38,9 @@ impl<A: Lent, M: Undo + Drop> Model for Shop<A, M> {
 
     ghost coded = { Prim.hlevel (codes, value_code) };
 
-    ghost view = { λ s. record { accepted = A.program s.accepted; world = s.world; limit = s.limit } };
+    ghost view = { λ s. record { accepted = A.program s.lent; world = s.world; limit = s.limit } };
 
-    ghost invariant = { λ s. IsShop (record { accepted = A.program s.accepted; world = s.world; limit = s.limit }) };
+    ghost invariant = { λ s. IsShop (record { accepted = A.program s.lent; world = s.world; limit = s.limit }) };
 }
 
 impl<A: Lent, M: Undo + Drop> Shared for Shop<A, M> {
@@ -74,7 +74,7 @@ pub(crate) struct Seeks {
 // What is to be evaluated of a process, for a program.
 #[derive(Drop)]
 pub(crate) struct Asked<A> {
-    pub(crate) accepted: A,
+    pub(crate) lent: A,
     pub(crate) pid: u32,
     pub(crate) wanted: Wanted,
 }
@@ -89,15 +89,11 @@ pub(crate) enum Turned<A> {
 
 impl<A: Lent, M: Undo + Drop> Shop<A, M> {
     /// The shop of a batch in which nothing has fired. It takes no memory.
-    pub fn of(accepted: A, world: World<M>, limit: u32) -> Shop<A, M>
-        requires { MayRun (A.program accepted) limit world }
-        ensures { result ≡ record { accepted = A.program accepted; world = world; limit = limit } }
+    pub fn of(lent: A, world: World<M>, limit: u32) -> Shop<A, M>
+        requires { MayRun (A.program lent) limit world }
+        ensures { result ≡ record { accepted = A.program lent; world = world; limit = limit } }
     {
-        Shop {
-            accepted,
-            world,
-            limit,
-        }
+        Shop { lent, world, limit }
     }
 
     /// The batch as it has come to be. It takes no memory. The second clause also says what holds of every shop.
@@ -114,7 +110,7 @@ impl<A: Lent, M: Undo + Drop> Shop<A, M> {
             (IsReady self.now.accepted self.now.world.state) }
     {
         // Where the program is read it is known to be accepted.
-        let accepted = self.accepted.accepted();
+        let accepted = self.lent.accepted();
         let _program = accepted.program();
         match self.world.next_ready(accepted, after) {
             Some(pid) => Some(pid),
@@ -129,20 +125,20 @@ impl<A: Lent, M: Undo + Drop> Shop<A, M> {
             (EndsAs self.now.accepted self.now.world.state (length self.now.world.firings) self.now.limit) }
         ensures shop { IsShop self.now }
     {
-        let accepted = self.accepted.accepted();
+        let accepted = self.lent.accepted();
         self.world.end(accepted, self.limit)
     }
 
     // What is to be evaluated of a process before it fires, if anything is and nothing was evaluated.
     fn asked(&self, alloc: Global, pid: u32, seeks: &Seeks) -> Result<Option<Asked<A>>, AllocError>
-        ensures { IfOk result (λ found. IfSome found (λ asked. A.program asked.accepted ≡ self.now.accepted)) }
+        ensures { IfOk result (λ found. IfSome found (λ asked. A.program asked.lent ≡ self.now.accepted)) }
     {
         if seeks.known.is_some() {
             return Ok(None);
         }
-        match self.world.wanted(alloc, self.accepted.accepted(), pid)? {
+        match self.world.wanted(alloc, self.lent.accepted(), pid)? {
             Some(wanted) => Ok(Some(Asked {
-                accepted: self.accepted.again(),
+                lent: self.lent.again(),
                 pid,
                 wanted,
             })),
@@ -166,7 +162,7 @@ impl<A: Lent, M: Undo + Drop> Shop<A, M> {
         ensures shop { IsShop self.new }
     {
         // Where the program is read it is known to be accepted.
-        let accepted = self.accepted.accepted();
+        let accepted = self.lent.accepted();
         let _program = accepted.program();
         match known {
             Some(known) => {

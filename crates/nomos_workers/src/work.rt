@@ -62,15 +62,11 @@ fn take_one<A: Lent, M: Undo + Drop, R: Wait>(
 
 // Evaluates what was asked, outside the turn. The worker then looks from that process on.
 fn evaluate_asked<A: Lent, G: Gate>(alloc: Global, gate: &G, worker: u32, asked: Asked<A>) -> Onward
-    ensures { (s : ShopState) → A.program asked.accepted ≡ s.accepted → LeadsTo s result }
+    ensures { (s : ShopState) → A.program asked.lent ≡ s.accepted → LeadsTo s result }
 {
-    let Asked {
-        accepted,
-        pid,
-        wanted,
-    } = asked;
+    let Asked { lent, pid, wanted } = asked;
     gate.before_eval(worker, pid);
-    match evaluate(alloc, accepted.accepted().program(), &wanted) {
+    match evaluate(alloc, lent.accepted().program(), &wanted) {
         Ok(outcome) => Onward::Seeks(Seeks {
             after: pid.saturating_sub(1),
             known: Some(Known { wanted, outcome }),

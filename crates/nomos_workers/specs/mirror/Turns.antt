@@ -20,7 +20,7 @@ IsKnown a k = outcome_of k.outcome ≡ instruction_evaluation a.program k.wanted
 abbrev pub TurnsOut : {A : Type 0} → (A → Acceptance) → ShopState → Turned A → Type 0
 TurnsOut program s (turned.Fired pid) = Unit {0}
 TurnsOut program s (turned.Ends e) = IsAllowed s.accepted s.world.state (length s.world.firings) s.limit e
-TurnsOut program s (turned.Wants asked) = program asked.accepted ≡ s.accepted
+TurnsOut program s (turned.Wants asked) = program asked.lent ≡ s.accepted
 
 -- after a turn, which came to this, a shop of this start has this history
 pub record HasTurned {A E : Type 0} (program : A → Acceptance) (start : ShopState) (history : List (ℕ × ℕ))
