@@ -1,8 +1,8 @@
-use Rattle.std.proofs.Common.{◌≡◌, ◌∙◌, ◌++◌, [], map, length, refl, ap, sym, arith}
+use Rattle.std.proofs.Common.{◌≡◌, ◌∙◌, ◌++◌, ℕ, List, [], map, length, refl, ap, sym, arith}
 use Rattle.std.proofs.lemmas.Grind.{common_steps}
 use Rattle.std.specs.List.{range_with_len}
-use Rattle.nomos_floor.specs.FloorPass.{ended_of, next_of, own_of, pass_number}
-use Rattle.nomos_floor.specs.FloorCrew.{passes_at}
+use Rattle.nomos_floor.specs.FloorPass.{ended_of, next_of, out_of, own_of, pass_number}
+use Rattle.nomos_floor.specs.FloorCrew.{numbers_at, passes_at}
 use Rattle.nomos_floor.proofs.CrewLaws.{crew-kept}
 use Rattle.nomos_workers.proofs.PassLemmas.{entries-none, unfired, workers-fired}
 use Rattle.nomos_workers.proofs.several.run_shop.Goals as goal
@@ -13,9 +13,14 @@ join_all-requires-clause-crew g c = (crew-kept c.in-Ok.opened.0 _ _ c.work_all-s
 pub close-requires-clause-alone : goal.close-requires-clause-alone
 close-requires-clause-alone g c =
     let split = c.in-Ok-split_all.ensures in
-    let new = range_with_len (next_of c.in-Ok.opened.1) c.args.workers in
-    c.join_all.ensures.none_out (split.split.out ∙ (ap (λ l. l ++ new) c.in-Ok.ensures.opening.2
-    ∙ (sym split.numbers ∙ sym (crew-kept c.in-Ok.opened.0 _ _ c.work_all-stations.ensures).1)))
+    let new : List ℕ = range_with_len (next_of c.in-Ok.opened.1) c.args.workers in
+    let out : out_of c.split_all.new.opening ≡ new =
+    split.split.out ∙ ap (λ (l : List ℕ). l ++ new) c.in-Ok.ensures.opening.2
+    in
+    let kept : numbers_at c.work_all-stations.result.items ≡ new =
+    (crew-kept c.in-Ok.opened.0 _ _ c.work_all-stations.ensures).1 ∙ split.numbers
+    in
+    c.join_all.ensures.none_out (out ∙ sym kept)
 
 pub returns-in-Err-NoMemory-clause-passes : goal.returns-in-Err-NoMemory-clause-passes
 returns-in-Err-NoMemory-clause-passes g c =
