@@ -1,0 +1,5 @@
+//! The indexed form of a state: objects under numbers and channels in one table, which can be marked and put back.
+#![tactic(auto)]
+
+mod inside;
+mod kept;
