@@ -27,6 +27,20 @@ pub record Holding : Type 0 where
   pub results : List (ℕ × Value)
   pub drawn : Numbers
 
+-- nothing is kept, and both next numbers are 1
+abbrev pub nothing_held : Holding
+nothing_held = record {
+  slots = [];
+  value_rows = [];
+  list_rows = [];
+  cells = [];
+  names = [];
+  balances = [];
+  outside = [];
+  results = [];
+  drawn = record { next_object = 1; next_name = 1; spent = 0 };
+}
+
 -- the state for which it stands
 abbrev pub state_of : Holding → State
 state_of h = record {
