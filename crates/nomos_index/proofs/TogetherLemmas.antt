@@ -192,6 +192,4 @@ room-kept before after room keeps has = record {
   its_lists = omega (arith, keeps.its_lists, has.its_lists);
   channels = omega (arith, keeps.channels, has.channels);
   names = omega (arith, keeps.names, has.names);
-  balances = omega (arith, keeps.balances, has.balances);
-  outside = omega (arith, keeps.outside, has.outside);
 }

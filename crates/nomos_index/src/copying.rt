@@ -1,7 +1,7 @@
 //! The state with nothing in it, and copies of an indexed state.
-ghost use Rattle.std.specs.Prelude.{◌≡◌, IfOk, None};
+ghost use Rattle.std.specs.Prelude.{◌≡◌, ◌≤◌, IfOk, None, length};
 ghost use Rattle.nomos_machine.specs.State.{empty};
-ghost use Rattle.nomos_index.specs.Indexed.{held_now, nothing_held};
+ghost use Rattle.nomos_index.specs.Indexed.{HasSeats, held_now, nothing_held};
 ghost use Rattle.nomos_index.specs.Together.{NothingIsMarked};
 
 use crate::inside::{Contents, Inside, Numbers};
@@ -95,10 +95,22 @@ fn copy_results(
     Ok(made)
 }
 
+// A copy of a column, whose log has a seat for each record.
+fn copy_column<T: Copy>(alloc: Global, column: &Column<T>) -> Result<Column<T>, AllocError>
+    ensures now { IfOk result (λ made. made.now ≡ column.now.now) }
+    ensures marked { IfOk result (λ made. made.marked ≡ None) }
+    ensures seats { IfOk result (λ made. length made.now ≤ made.seats) }
+{
+    let mut made = column.copy(alloc)?;
+    made.reserve_all(0)?;
+    Ok(made)
+}
+
 // The same contents once more, with nothing marked.
 fn copy_contents(alloc: Global, contents: &Contents) -> Result<Contents, AllocError>
     ensures now { IfOk result (λ made. held_now made ≡ held_now contents.now) }
     ensures marked { IfOk result NothingIsMarked }
+    ensures seats { IfOk result HasSeats }
 {
     Ok(Contents {
         objects: contents.objects.copy(alloc)?,
@@ -106,8 +118,8 @@ fn copy_contents(alloc: Global, contents: &Contents) -> Result<Contents, AllocEr
         lists: copy_list_rows(alloc, &contents.lists)?,
         channels: contents.channels.copy(alloc)?,
         names: contents.names.copy(alloc)?,
-        balances: contents.balances.copy(alloc)?,
-        outside: contents.outside.copy(alloc)?,
+        balances: copy_column(alloc, &contents.balances)?,
+        outside: copy_column(alloc, &contents.outside)?,
         results: copy_results(alloc, contents.results.as_slice())?,
         numbers: contents.numbers,
     })

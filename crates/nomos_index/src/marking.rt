@@ -21,9 +21,7 @@ pub(crate) fn reserve_all(
     contents.values.reserve(changes)?;
     contents.lists.reserve(changes)?;
     contents.channels.reserve(alloc, changes)?;
-    contents.names.reserve(changes)?;
-    contents.balances.reserve(changes)?;
-    contents.outside.reserve(changes)
+    contents.names.reserve(changes)
 }
 
 /// Marks all that is held. It takes no memory.
