@@ -1,14 +1,16 @@
 -- What an indexed state is seen as.
-use Rattle.std.specs.Prelude.{◌≡◌, ◌≤◌, ◌<◌, ℕ, List, length, All, IfSome, is_some, Option, Some}
+use Rattle.std.specs.Prelude.{◌≡◌, ◌≤◌, ◌<◌, ℕ, List, [], length, slice_index_or, All, IfSome, is_some, Option, Some}
 use Rattle.nomos_ir.specs.Value.{Value}
 use Rattle.nomos_ir.specs.declared.ids.TypeId.{TypeId}
 use Rattle.nomos_machine.specs.Optional.{◌>>=◌}
 use Rattle.nomos_machine.specs.State.{State}
+use Rattle.nomos_machine.specs.declared.object.Object.{Object}
 use Rattle.std.specs.Option.{option_map}
 use Rattle.nomos_slots.specs.Cells.{Cell}
 use Rattle.nomos_slots.specs.Numbers.{IsAscending, numbers}
 use Rattle.nomos_slots.specs.declared.numbered.Slot.{Slot}
-use Rattle.nomos_index.specs.Objects.{AreBrought, AreHeld, ListRow, ValueRow, objects_of, types_of}
+use Rattle.nomos_index.specs.Objects.{AreBrought, AreHeld, ListRow, ValueRow, kept_at, object_of, objects_of, types_of}
+use Rattle.nomos_index.specs.declared.inside.Contents.{Contents}
 use Rattle.nomos_index.specs.declared.inside.Inside.TheInside.{Inside}
 use Rattle.nomos_index.specs.declared.inside.Numbers.{Numbers}
 use Rattle.nomos_index.specs.declared.kept.Kept.{Kept}
@@ -38,6 +40,11 @@ state_of h = record {
   outside = h.outside;
 }
 
+-- the object that stands at a place
+abbrev pub standing_at : Holding → ℕ → Option Object
+standing_at h place = kept_at h.slots place >>= λ k.
+    Some (object_of h.cells k.0 (slice_index_or h.value_rows place []) (slice_index_or h.list_rows place []) k.1)
+
 -- The rows are those of the slots, in the order of whose numbers all below the next one they stand; so are the names.
 pub record IsHolding (h : Holding) : Type 0 where
   pub value_rows : length h.value_rows ≡ length h.slots
@@ -50,31 +57,31 @@ pub record IsHolding (h : Holding) : Type 0 where
   pub held : AreHeld h.slots h.cells
 
 -- what is kept now
-abbrev pub held_now : Inside → Holding
-held_now s = record {
-  slots = s.objects.now;
-  value_rows = s.values.now;
-  list_rows = s.lists.now;
-  cells = s.channels.now;
-  names = s.names.now;
-  balances = s.balances.now;
-  outside = s.outside.now;
-  results = s.results.now;
-  drawn = s.numbers;
+abbrev pub held_now : Contents → Holding
+held_now c = record {
+  slots = c.objects.now;
+  value_rows = c.values.now;
+  list_rows = c.lists.now;
+  cells = c.channels.now;
+  names = c.names.now;
+  balances = c.balances.now;
+  outside = c.outside.now;
+  results = c.results.now;
+  drawn = c.numbers;
 }
 
--- what is marked, where all is marked
-abbrev pub held_marked : Inside → Option Holding
-held_marked s = do
-  drawn ← s.marked
-  slots ← s.objects.marked
-  value_rows ← s.values.marked
-  list_rows ← s.lists.marked
-  cells ← s.channels.marked
-  names ← s.names.marked
-  balances ← s.balances.marked
-  outside ← s.outside.marked
-  results ← s.results.marked
+-- what is marked, where all is marked, with the numbers that were drawn there
+abbrev pub held_marked : Contents → Option Numbers → Option Holding
+held_marked c marked = do
+  drawn ← marked
+  slots ← c.objects.marked
+  value_rows ← c.values.marked
+  list_rows ← c.lists.marked
+  cells ← c.channels.marked
+  names ← c.names.marked
+  balances ← c.balances.marked
+  outside ← c.outside.marked
+  results ← c.results.marked
   Some (record {
     slots = slots;
     value_rows = value_rows;
@@ -88,25 +95,25 @@ held_marked s = do
   })
 
 -- all is marked, or nothing is
-pub record AreMarkedTogether (s : Inside) : Type 0 where
-  pub objects : is_some s.objects.marked ≡ is_some s.marked
-  pub values : is_some s.values.marked ≡ is_some s.marked
-  pub its_lists : is_some s.lists.marked ≡ is_some s.marked
-  pub channels : is_some s.channels.marked ≡ is_some s.marked
-  pub names : is_some s.names.marked ≡ is_some s.marked
-  pub balances : is_some s.balances.marked ≡ is_some s.marked
-  pub outside : is_some s.outside.marked ≡ is_some s.marked
-  pub results : is_some s.results.marked ≡ is_some s.marked
+pub record AreMarkedTogether (c : Contents) (marked : Option Numbers) : Type 0 where
+  pub objects : is_some c.objects.marked ≡ is_some marked
+  pub values : is_some c.values.marked ≡ is_some marked
+  pub its_lists : is_some c.lists.marked ≡ is_some marked
+  pub channels : is_some c.channels.marked ≡ is_some marked
+  pub names : is_some c.names.marked ≡ is_some marked
+  pub balances : is_some c.balances.marked ≡ is_some marked
+  pub outside : is_some c.outside.marked ≡ is_some marked
+  pub results : is_some c.results.marked ≡ is_some marked
 
 -- there is room for so many small changes
-pub record HasRoom (s : Inside) : Type 0 where
-  pub objects : s.room ≤ s.objects.room
-  pub values : s.room ≤ s.values.room
-  pub its_lists : s.room ≤ s.lists.room
-  pub channels : s.room ≤ s.channels.room
-  pub names : s.room ≤ s.names.room
-  pub balances : s.room ≤ s.balances.room
-  pub outside : s.room ≤ s.outside.room
+pub record HasRoom (c : Contents) (room : ℕ) : Type 0 where
+  pub objects : room ≤ c.objects.room
+  pub values : room ≤ c.values.room
+  pub its_lists : room ≤ c.lists.room
+  pub channels : room ≤ c.channels.room
+  pub names : room ≤ c.names.room
+  pub balances : room ≤ c.balances.room
+  pub outside : room ≤ c.outside.room
 
 -- the state, the one that is marked, and for how many small changes there is room
 pub record Indexed : Type 0 where
@@ -116,14 +123,14 @@ pub record Indexed : Type 0 where
 
 abbrev pub indexed_of : Inside → Indexed
 indexed_of s = record {
-  state = state_of (held_now s);
-  marked = option_map state_of (held_marked s);
+  state = state_of (held_now s.contents);
+  marked = option_map state_of (held_marked s.contents s.marked);
   room = s.room;
 }
 
 -- what holds of all that is kept
 pub record IsIndexed (s : Inside) : Type 0 where
-  pub now : IsHolding (held_now s)
-  pub together : AreMarkedTogether s
-  pub marked : IfSome (held_marked s) IsHolding
-  pub has_room : HasRoom s
+  pub now : IsHolding (held_now s.contents)
+  pub together : AreMarkedTogether s.contents s.marked
+  pub marked : IfSome (held_marked s.contents s.marked) IsHolding
+  pub has_room : HasRoom s.contents s.room

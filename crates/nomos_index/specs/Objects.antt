@@ -7,15 +7,17 @@ use Rattle.nomos_ir.specs.declared.ids.TypeId.{TypeId}
 use Rattle.nomos_ir.specs.declared.ids.VarId.{VarId}
 use Rattle.nomos_deeds.specs.declared.sight.SeenPayload.{SeenPayload}
 use Rattle.nomos_deeds.specs.declared.sight.SeenPayload.TheVariants as seen
+use Rattle.nomos_machine.specs.Optional.{◌>>=◌}
 use Rattle.nomos_machine.specs.State.{NameTypes}
+use Rattle.nomos_machine.specs.declared.object.Message.{Message}
 use Rattle.nomos_machine.specs.declared.object.Object.{Object}
 use Rattle.nomos_machine.specs.declared.object.Object.TheVariants as object
 use Rattle.nomos_machine.specs.declared.object.Payload.{Payload}
 use Rattle.nomos_machine.specs.declared.object.Payload.TheVariants as payload
 use Rattle.nomos_machine.specs.declared.object.PotentialList.{PotentialList}
+use Rattle.nomos_machine.specs.declared.object.Process.{Process}
 use Rattle.nomos_slots.specs.Cells.{Cell, name_in}
 use Rattle.nomos_slots.specs.Numbers.{found}
-use Rattle.nomos_slots.specs.declared.cells.Named.{Named}
 use Rattle.nomos_slots.specs.declared.numbered.Slot.{Slot}
 use Rattle.nomos_index.specs.declared.kept.Kept.{Kept}
 use Rattle.nomos_index.specs.declared.kept.Kept.TheVariants as kept
@@ -49,9 +51,9 @@ payload_of (seen.Channel name) values = payload.Channel name
 payload_of seen.Pay values = payload.Pay
 payload_of seen.Close values = payload.Close
 
--- the object of a number
-abbrev pub object_of : List Cell → ℕ → ValueRow → ListRow → Kept → Object
-object_of cells number values its_lists (kept.Process k) = object.Process (record {
+-- the process, and the message, of a number
+abbrev pub process_held : List Cell → ℕ → ValueRow → ListRow → KeptProcess → Process
+process_held cells number values its_lists k = record {
   pid = number;
   mode = k.mode;
   code = k.code;
@@ -62,15 +64,29 @@ object_of cells number values its_lists (kept.Process k) = object.Process (recor
   base = k.base;
   purse = k.purse;
   payer = k.payer;
-})
-object_of cells number values its_lists (kept.Message k) = object.Message (record {
+}
+
+abbrev pub message_held : ℕ → ValueRow → KeptMessage → Message
+message_held number values k = record {
   number = number;
   to_client = k.to_client;
   from = k.from;
   next = k.next;
   payload = payload_of k.brings values;
   purse = k.purse;
-})
+}
+
+-- the object of a number
+abbrev pub object_of : List Cell → ℕ → ValueRow → ListRow → Kept → Object
+object_of cells number values its_lists (kept.Process k) = object.Process (process_held cells number values its_lists k)
+object_of cells number values its_lists (kept.Message k) = object.Message (message_held number values k)
+
+-- what is kept in a slot, and at a place, with its number
+abbrev pub kept_in : Slot Kept → Option (ℕ × Kept)
+kept_in slot = option_map (λ k. (slot.number, k)) slot.item
+
+abbrev pub kept_at : List (Slot Kept) → ℕ → Option (ℕ × Kept)
+kept_at slots place = slice_get slots place >>= kept_in
 
 -- The objects of slots, in their order; each slot has a row of values and a row of lists.
 abbrev pub objects_of : List Cell → List (Slot Kept) → List ValueRow → List ListRow → List Object

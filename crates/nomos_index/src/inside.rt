@@ -20,11 +20,9 @@ pub(crate) struct Numbers {
     pub(crate) spent: u128,
 }
 
-/// What an indexed state keeps: all of it is marked together. Contracts see the state, the one that is marked, and for
-/// how many small changes there is room.
+/// What an indexed state keeps of its state: objects and channels, and the names and accounts beside them.
 #[derive(Drop, Debug)]
-pub(crate) struct Inside {
-    pub(crate) alloc: Global,
+pub(crate) struct Contents {
     pub(crate) objects: Numbered<Kept>,
     /// Of the process at each place its values; of a message that brings a value that one, under any variable.
     pub(crate) values: Shelf<(VarId, Value)>,
@@ -36,8 +34,16 @@ pub(crate) struct Inside {
     pub(crate) outside: Column<u32>,
     pub(crate) results: Tail<(u32, Value)>,
     pub(crate) numbers: Numbers,
+}
+
+/// An indexed state: all that it keeps is marked together. Contracts see the state, the one that is marked, and for how
+/// many small changes there is room.
+#[derive(Drop, Debug)]
+pub(crate) struct Inside {
+    pub(crate) alloc: Global,
+    pub(crate) contents: Contents,
     pub(crate) marked: Option<Numbers>,
-    /// For how many small changes there is room in each of them.
+    /// For how many small changes there is room in each part of the contents.
     pub(crate) room: usize,
 }
 

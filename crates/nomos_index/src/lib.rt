@@ -3,3 +3,4 @@
 
 mod inside;
 mod kept;
+mod marking;
