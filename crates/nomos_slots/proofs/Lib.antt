@@ -11,4 +11,5 @@ pub mod ProbeLemmas
 pub mod RowLemmas
 pub mod SeatLemmas
 pub mod ShelfLemmas
+pub mod SweepLemmas
 pub mod WordLemmas

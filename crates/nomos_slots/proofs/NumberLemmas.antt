@@ -1,11 +1,12 @@
 -- What stands under numbers, and where slots stay in order.
-use Rattle.std.proofs.Common.{◌≡◌, ◌≢◌, ◌<◌, ◌≤◌, ◌+◌, zero, suc, ℕ, cond, List, [], ◌∷◌, ◌++◌, length, get_or, set, Option, Some, None, IfSome, All, Less, refl, sym, ap, subst, ◌∙◌, inl, inr, arith, eq-eqb, ne_eqb}
+use Rattle.std.proofs.Common.{◌≡◌, ◌≢◌, ◌<◌, ◌≤◌, ◌+◌, ◌-◌, zero, suc, ℕ, cond, List, [], ◌∷◌, ◌++◌, length, get_or, set, Option, Some, None, IfSome, All, Less, refl, sym, ap, subst, ◌∙◌, inl, inr, arith, eq-eqb, ne_eqb}
 use Rattle.std.specs.List.{slice_get, AllByRecursion}
 use Rattle.std.specs.List.Sorted.{IsStrictlySortedBy}
 use Rattle.std.specs.Ordering.{nat_cmp}
 use Rattle.std.specs.Cmp.{nat_cmp_is}
 use Rattle.std.proofs.lemmas.Cmp.{ranked}
 use Rattle.std.proofs.lemmas.Bool.{cases_eq, cases_lt}
+use Rattle.std.proofs.lemmas.List.{length-append}
 use Rattle.std.proofs.lemmas.List.Elements.{All-head, All-tail}
 use Rattle.std.proofs.lemmas.Map.Keys.{below_from_sorted, sorted_head, sorted_tail}
 use Rattle.std.proofs.lemmas.Option.{get_or_from_slice_get, none-some, same_Some, slice_get-map, slice_get_within}
@@ -57,6 +58,12 @@ module _ {X : Type 0} where
   numbers-put_at [] place item = refl
   numbers-put_at (s ∷ slots) zero item = refl
   numbers-put_at (s ∷ slots) (suc place) item = ap (λ ns. s.number ∷ ns) (numbers-put_at slots place item)
+
+  pub length-put_at : (slots : List (Slot X)) (place : ℕ) (item : Option X)
+      → length (put_at slots place item) ≡ length slots
+  length-put_at [] place item = refl
+  length-put_at (s ∷ slots) zero item = refl
+  length-put_at (s ∷ slots) (suc place) item = ap (λ n. suc n) (length-put_at slots place item)
 
   pub put_at-set : (slots : List (Slot X)) (place : ℕ) (s : Slot X) (item : Option X) → slice_get slots place ≡ Some s
       → set slots place (record { number = s.number; item = item }) ≡ put_at slots place item
@@ -180,26 +187,30 @@ module _ {X : Type 0} where
   -- ---- the order of all that is kept
 
   pub in-order : (old new : Marking (Slot X)) → IsInOrder old → IsAscending new.now → new.marked ≡ old.marked
-      → IsInOrder new
-  in-order old new order now same = record {
+      → length new.now ≤ new.seats → IsInOrder new
+  in-order old new order now same seats = record {
     now = now;
     marked = subst (λ m. IfSome m IsAscending) (sym same) order.marked;
+    seats = seats;
   }
 
   pub in-order-new : (new : Marking (Slot X)) → new.now ≡ [] → new.marked ≡ None → IsInOrder new
   in-order-new new now marked = record {
     now = subst IsAscending (sym now) (ascending-nil X);
     marked = subst (λ m. IfSome m IsAscending) (sym marked) tt;
+    seats = omega (arith, ap length now);
   }
 
   pub in-order-push : (old new : Marking (Slot X)) (s : Slot X) → IsInOrder old
       → All (λ n. n < s.number) (numbers old.now) → new.now ≡ old.now ++ s ∷ [] → new.marked ≡ old.marked
-      → IsInOrder new
-  in-order-push old new s order below is same =
+      → 0 < old.seats - length old.now → new.seats ≡ old.seats → IsInOrder new
+  in-order-push old new s order below is same free seats =
       in-order old new order (subst IsAscending (sym is) (ascending-push old.now s order.now below)) same
+      (omega (arith, ap length is, length-append old.now (s ∷ [])))
 
   pub in-order-put : (old new : Marking (Slot X)) (place : ℕ) (item : Option X) → IsInOrder old
-      → new.now ≡ put_at old.now place item → new.marked ≡ old.marked → IsInOrder new
-  in-order-put old new place item order is same =
+      → new.now ≡ put_at old.now place item → new.marked ≡ old.marked → new.seats ≡ old.seats → IsInOrder new
+  in-order-put old new place item order is same seats =
       let again : numbers new.now ≡ numbers old.now = ap numbers is ∙ numbers-put_at old.now place item in
       in-order old new order (subst (IsStrictlySortedBy nat_cmp) (sym again) order.now) same
+      (omega (arith, order.seats, length-put_at old.now place item, ap length is))

@@ -8,5 +8,6 @@ mod levels;
 pub mod numbered;
 pub mod places;
 pub mod shelf;
+mod sweeps;
 pub mod tail;
 mod words;

@@ -10,12 +10,12 @@ pub invariant_of-self : goal.invariant_of-self
 invariant_of-self g c =
     let slots = c.self.inside.slots in
     let place = c.args.place in
-    let is = c.set.ensures.now ∙ put_at-set slots.now place c.in-Some.slot c.args.item (sym c.in-Some.ensures) in
-    in-order-put slots c.set.new.self place c.args.item c.self.invariant is c.set.ensures.marked
+    let is = c.put.ensures.now ∙ put_at-set slots.now place c.in-Some.slot c.args.item (sym c.in-Some.ensures) in
+    in-order-put slots c.put.new.self place c.args.item c.self.invariant is c.put.ensures.marked c.put.ensures.seats
 
 pub returns-in-Some-clause-now : goal.returns-in-Some-clause-now
 returns-in-Some-clause-now g c =
-    c.set.ensures.now
+    c.put.ensures.now
     ∙ put_at-set c.self.inside.slots.now c.args.place c.in-Some.slot c.args.item (sym c.in-Some.ensures)
     ∙ ap (λ (m : Marking (Slot _)). put_at m.now c.args.place c.args.item) c.self.view_is
 
