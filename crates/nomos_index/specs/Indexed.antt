@@ -7,6 +7,7 @@ use Rattle.nomos_machine.specs.State.{State}
 use Rattle.nomos_machine.specs.declared.object.Object.{Object}
 use Rattle.std.specs.Option.{option_map}
 use Rattle.nomos_slots.specs.Cells.{Cell}
+use Rattle.nomos_slots.specs.Marking.{Marking}
 use Rattle.nomos_slots.specs.Numbers.{IsAscending, numbers}
 use Rattle.nomos_slots.specs.declared.numbered.Slot.{Slot}
 use Rattle.nomos_index.specs.Objects.{AreBrought, AreHeld, ListRow, ValueRow, kept_at, object_of, objects_of, types_of}
@@ -26,6 +27,20 @@ pub record Holding : Type 0 where
   pub outside : List ℕ
   pub results : List (ℕ × Value)
   pub drawn : Numbers
+
+-- nothing is kept, and both next numbers are 1
+abbrev pub nothing_held : Holding
+nothing_held = record {
+  slots = [];
+  value_rows = [];
+  list_rows = [];
+  cells = [];
+  names = [];
+  balances = [];
+  outside = [];
+  results = [];
+  drawn = record { next_object = 1; next_name = 1; spent = 0 };
+}
 
 -- the state for which it stands
 abbrev pub state_of : Holding → State
@@ -112,8 +127,16 @@ pub record HasRoom (c : Contents) (room : ℕ) : Type 0 where
   pub its_lists : room ≤ c.lists.room
   pub channels : room ≤ c.channels.room
   pub names : room ≤ c.names.room
-  pub balances : room ≤ c.balances.room
-  pub outside : room ≤ c.outside.room
+
+-- the log of a column has a seat for each record, also for each that is marked
+pub record HasSeatForEach (column : Marking ℕ) : Type 0 where
+  pub now : length column.now ≤ column.seats
+  pub marked : IfSome column.marked (λ records. length records ≤ column.seats)
+
+-- balances, and names outside, can be changed without any room
+pub record HasSeats (c : Contents) : Type 0 where
+  pub balances : HasSeatForEach c.balances
+  pub outside : HasSeatForEach c.outside
 
 -- the state, the one that is marked, and for how many small changes there is room
 pub record Indexed : Type 0 where
@@ -134,3 +157,4 @@ pub record IsIndexed (s : Inside) : Type 0 where
   pub together : AreMarkedTogether s.contents s.marked
   pub marked : IfSome (held_marked s.contents s.marked) IsHolding
   pub has_room : HasRoom s.contents s.room
+  pub has_seats : HasSeats s.contents

@@ -1,5 +1,5 @@
 -- All parts of the contents are marked, put back and given room together.
-use Rattle.std.specs.Prelude.{◌≡◌, ◌≤◌, ℕ, IsSome, Option, Some, None}
+use Rattle.std.specs.Prelude.{◌≡◌, ◌≤◌, ℕ, IsSome, Some, None}
 use Rattle.nomos_slots.specs.Cells.{name_in}
 use Rattle.nomos_slots.specs.Tables.{HaveSameNames}
 use Rattle.nomos_index.specs.Indexed.{Holding}
@@ -61,12 +61,12 @@ pub record MarksWhatIsHeld (before after : Contents) : Type 0 where
   pub outside : after.outside.marked ≡ Some before.outside.now
   pub results : after.results.marked ≡ Some before.results.now
 
--- no part has less room
+-- no part has less room, or fewer seats
 pub record KeepsRoom (before after : Contents) : Type 0 where
   pub objects : before.objects.room ≤ after.objects.room
   pub values : before.values.room ≤ after.values.room
   pub its_lists : before.lists.room ≤ after.lists.room
   pub channels : before.channels.room ≤ after.channels.room
   pub names : before.names.room ≤ after.names.room
-  pub balances : before.balances.room ≤ after.balances.room
-  pub outside : before.outside.room ≤ after.outside.room
+  pub balances : before.balances.seats ≤ after.balances.seats
+  pub outside : before.outside.seats ≤ after.outside.seats

@@ -1,6 +1,8 @@
 //! The indexed form of a state: objects under numbers and channels in one table, which can be marked and put back.
 #![tactic(auto)]
 
+mod accounts;
+mod copying;
 mod inside;
 mod kept;
 mod marking;

@@ -1,9 +1,9 @@
 //! All parts of the contents are marked, put back and given room together.
-ghost use Rattle.std.specs.Prelude.{◌≡◌, OnOk};
+ghost use Rattle.std.specs.Prelude.{◌≡◌, ◌≤◌, IsOk, IsSome, None, OnOk, Some};
 ghost use Rattle.nomos_index.specs.Indexed.{HasRoom, held_now};
 ghost use Rattle.nomos_index.specs.Together.{EachIsMarked, HoldsTheSame, KeepsRoom, MarksTheSame, MarksWhatIsHeld, NothingIsMarked};
 
-use crate::inside::{Contents, Numbers};
+use crate::inside::{Contents, Inside, Numbers};
 use std::alloc::{AllocError, Global};
 
 /// Makes room for so many small changes in each part. Want of memory leaves what is held and what is marked as it was.
@@ -21,9 +21,7 @@ pub(crate) fn reserve_all(
     contents.values.reserve(changes)?;
     contents.lists.reserve(changes)?;
     contents.channels.reserve(alloc, changes)?;
-    contents.names.reserve(changes)?;
-    contents.balances.reserve(changes)?;
-    contents.outside.reserve(changes)
+    contents.names.reserve(changes)
 }
 
 /// Marks all that is held. It takes no memory.
@@ -76,4 +74,56 @@ pub(crate) fn forget_all(contents: &mut Contents)
     contents.balances.forget();
     contents.outside.forget();
     contents.results.forget();
+}
+
+impl Inside {
+    /// Makes room for so many small changes. Where there is room already, it cannot fail.
+    pub(crate) fn make_room(&mut self, changes: usize) -> Result<(), AllocError>
+        ensures state { self.new.state ≡ self.old.state }
+        ensures ok { OnOk result (changes ≤ self.new.room) }
+        ensures room { self.old.room ≤ self.new.room }
+        ensures frugal { changes ≤ self.old.room → IsOk result }
+        ensures marked { self.new.marked ≡ self.old.marked }
+    {
+        if changes <= self.room {
+            return Ok(());
+        }
+        reserve_all(&mut self.contents, self.alloc, changes)?;
+        self.room = changes;
+        Ok(())
+    }
+
+    /// Marks the state. It takes no memory.
+    pub(crate) fn mark(&mut self)
+        requires { self.old.marked ≡ None }
+        ensures state { self.new.state ≡ self.old.state }
+        ensures marked { self.new.marked ≡ Some self.old.state }
+        ensures room { self.old.room ≤ self.new.room }
+    {
+        mark_all(&mut self.contents);
+        self.marked = Some(self.contents.numbers);
+    }
+
+    /// Goes back to the state that is marked. It takes no memory.
+    pub(crate) fn back(&mut self)
+        requires { IsSome self.old.marked }
+        ensures state { self.old.marked ≡ Some self.new.state }
+        ensures marked { self.new.marked ≡ None }
+        ensures room { self.old.room ≤ self.new.room }
+    {
+        if let Some(numbers) = self.marked {
+            back_all(&mut self.contents, numbers);
+            self.marked = None;
+        }
+    }
+
+    /// Forgets which state is marked. It takes no memory.
+    pub(crate) fn forget(&mut self)
+        ensures state { self.new.state ≡ self.old.state }
+        ensures marked { self.new.marked ≡ None }
+        ensures room { self.old.room ≤ self.new.room }
+    {
+        forget_all(&mut self.contents);
+        self.marked = None;
+    }
 }
