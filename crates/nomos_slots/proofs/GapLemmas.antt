@@ -9,7 +9,7 @@ use Rattle.std.proofs.Math.ListN.{drop_of_length-le}
 use Rattle.nomos_slots.specs.Marking.{Marking}
 use Rattle.nomos_slots.specs.Numbers.{close_gaps, found, IsAscending}
 use Rattle.nomos_slots.specs.declared.numbered.Slot.{Slot}
-use Rattle.nomos_slots.proofs.NumberLemmas.{AllOver, ascending-nil, ascending-cons, ascending-head, ascending-tail, found-over}
+use Rattle.nomos_slots.proofs.NumberLaws.{AllOver, ascending-nil, ascending-cons, ascending-head, ascending-tail, found-over}
 
 module _ {X : Type 0} where
   -- the slots with an item

@@ -5,7 +5,7 @@ pub mod GapLemmas
 pub mod LevelLemmas
 pub mod LogLemmas
 pub mod MarkLemmas
-pub mod NumberLemmas
+pub mod NumberLaws
 pub mod PlacesLemmas
 pub mod ProbeLemmas
 pub mod RowLemmas

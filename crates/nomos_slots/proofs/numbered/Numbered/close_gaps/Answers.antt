@@ -2,7 +2,7 @@ use Rattle.std.proofs.Common.{sym, ap, subst, ◌∙◌, arith}
 use Rattle.nomos_slots.specs.Marking.{Marking}
 use Rattle.nomos_slots.specs.Numbers.{found, IsAscending}
 use Rattle.nomos_slots.specs.declared.numbered.Slot.{Slot}
-use Rattle.nomos_slots.proofs.NumberLemmas.{in-order}
+use Rattle.nomos_slots.proofs.NumberLaws.{in-order}
 use Rattle.nomos_slots.proofs.GapLemmas.{ascending-close, found-close}
 use Rattle.nomos_slots.proofs.numbered.Numbered.close_gaps.Goals as goal
 

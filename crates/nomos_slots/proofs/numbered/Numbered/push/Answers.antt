@@ -2,7 +2,7 @@ use Rattle.std.proofs.Common.{◌<◌, All, Some, ap, sym, subst, arith}
 use Rattle.nomos_slots.specs.Marking.{Marking}
 use Rattle.nomos_slots.specs.Numbers.{numbers}
 use Rattle.nomos_slots.specs.declared.numbered.Slot.{Slot}
-use Rattle.nomos_slots.proofs.NumberLemmas.{in-order-push}
+use Rattle.nomos_slots.proofs.NumberLaws.{in-order-push}
 use Rattle.nomos_slots.proofs.numbered.Numbered.push.Goals as goal
 
 pub invariant_of-self : goal.invariant_of-self

@@ -3,7 +3,7 @@ use Rattle.std.specs.List.{slice_get}
 use Rattle.nomos_slots.specs.Marking.{Marking}
 use Rattle.nomos_slots.specs.Numbers.{put_at}
 use Rattle.nomos_slots.specs.declared.numbered.Slot.{Slot}
-use Rattle.nomos_slots.proofs.NumberLemmas.{in-order-put, put_at-past, put_at-set}
+use Rattle.nomos_slots.proofs.NumberLaws.{in-order-put, put_at-past, put_at-set}
 use Rattle.nomos_slots.proofs.numbered.Numbered.put.Goals as goal
 
 pub invariant_of-self : goal.invariant_of-self
