@@ -1,4 +1,6 @@
 pub mod Objects
 pub mod Indexed
-pub mod Together
 pub mod Looked
+pub mod Together
+pub mod Walks
+pub mod Sought

@@ -7,4 +7,6 @@ mod inside;
 mod kept;
 mod looking;
 mod marking;
+mod seeking;
+mod sight;
 mod weights;
