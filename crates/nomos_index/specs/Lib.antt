@@ -4,3 +4,4 @@ pub mod Looked
 pub mod Together
 pub mod Walks
 pub mod Sought
+pub mod Tidying

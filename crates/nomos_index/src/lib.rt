@@ -7,6 +7,7 @@ mod inside;
 mod kept;
 mod looking;
 mod marking;
+mod naming;
 mod seeking;
 mod sight;
 mod weights;
