@@ -1,3 +1,5 @@
-pub mod LookLemmas
 pub mod ChannelLemmas
+pub mod FoundLemmas
+pub mod LookLemmas
+pub mod PotentialLemmas
 pub mod TogetherLemmas

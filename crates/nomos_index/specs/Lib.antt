@@ -1,3 +1,4 @@
 pub mod Objects
 pub mod Indexed
 pub mod Together
+pub mod Looked

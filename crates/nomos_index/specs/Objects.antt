@@ -1,5 +1,5 @@
 -- The objects that slots, rows and cells stand for.
-use Rattle.std.specs.Prelude.{◌≡◌, ◌≤◌, ◌==◌, ℕ, cond, List, [], ◌∷◌, ◌++◌, length, Option, Some, None, IsSome, slice_get, slice_index_or}
+use Rattle.std.specs.Prelude.{◌≡◌, ◌≤◌, ◌==◌, ◌+◌, ◌*◌, ℕ, cond, List, [], ◌∷◌, ◌++◌, length, Option, Some, None, IsSome, slice_get, slice_index_or}
 use Rattle.std.specs.Option.{option_map, option_to_list}
 use Rattle.nomos_ir.specs.Bindings.{bindings_of}
 use Rattle.nomos_ir.specs.Value.{Value}
@@ -41,6 +41,11 @@ entries_of (Some e ∷ cells) process =
 -- the channels of a process
 abbrev pub channels_of : List Cell → ℕ → List (VarId × ℕ)
 channels_of cells process = bindings_of (entries_of cells process)
+
+-- the potential of lists: of each its amount, for each of its elements
+abbrev pub potential_in : ListRow → ℕ
+potential_in [] = 0
+potential_in (e ∷ lists) = e.1.amount * length e.1.items + potential_in lists
 
 -- what a message brings, with the value that stands in its row
 abbrev pub payload_of : SeenPayload → ValueRow → Payload

@@ -5,4 +5,6 @@ mod accounts;
 mod copying;
 mod inside;
 mod kept;
+mod looking;
 mod marking;
+mod weights;
