@@ -3,3 +3,8 @@ pub mod FoundLemmas
 pub mod LookLemmas
 pub mod PotentialLemmas
 pub mod TogetherLemmas
+pub mod PlaceLemmas
+pub mod ProcessLemmas
+pub mod AgainLemmas
+pub mod RebindLemmas
+pub mod ChangingLemmas

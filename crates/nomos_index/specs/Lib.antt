@@ -2,3 +2,4 @@ pub mod Objects
 pub mod Indexed
 pub mod Together
 pub mod Looked
+pub mod Placing

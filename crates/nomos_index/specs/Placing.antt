@@ -1,11 +1,12 @@
 -- What becomes of what is held, where something else stands at a place.
-use Rattle.std.specs.Prelude.{◌≡◌, ◌≢◌, ◌≤◌, ◌+◌, ℕ, List, IsSome, Option, Some, slice_get, slice_set}
+use Rattle.std.specs.Prelude.{◌≡◌, ◌≢◌, ℕ, List, IsSome, Option, Some, slice_get, slice_set}
 use Rattle.nomos_slots.specs.Cells.{Cell, name_in}
 use Rattle.nomos_slots.specs.Numbers.{put_at}
 use Rattle.nomos_index.specs.Indexed.{Holding}
 use Rattle.nomos_index.specs.Objects.{BringsIt, IsProcess, ListRow, ValueRow}
-use Rattle.nomos_index.specs.declared.inside.Contents.{Contents}
 use Rattle.nomos_index.specs.declared.kept.Kept.{Kept}
+use Rattle.nomos_index.specs.declared.kept.Kept.TheVariants as kept
+use Rattle.nomos_index.specs.declared.kept.KeptProcess.{KeptProcess}
 
 -- something else is kept at a place, or nothing, with these rows, and channels stand in these cells
 abbrev pub with_place : ℕ → Option Kept → ValueRow → ListRow → List Cell → Holding → Holding
@@ -25,10 +26,16 @@ pub record CanPlace (h : Holding) (place number : ℕ) (before : Kept) (item : O
   pub others : (p v : ℕ) → p ≢ number → name_in cells p v ≡ name_in h.cells p v
   pub its_own : (v : ℕ) → IsSome (name_in cells number v) → IsProcess item
 
--- each part has room for one small change less at most, and no fewer seats
-pub record TakesOne (before after : Contents) : Type 0 where
-  pub objects : before.objects.room ≤ after.objects.room + 1
-  pub values : before.values.room ≤ after.values.room + 1
-  pub its_lists : before.lists.room ≤ after.lists.room + 1
-  pub channels : before.channels.room ≤ after.channels.room + 1
-  pub names : before.names.room ≤ after.names.room + 1
+-- Of what is held only the process of a number, which stands at this place, becomes another one: its plain fields, its
+-- rows and its channels.
+pub record ProcessComes (before after : Holding) (pid place : ℕ) (k : KeptProcess) (values : ValueRow)
+    (its_lists : ListRow) : Type 0 where
+  pub slots : after.slots ≡ put_at before.slots place (Some (kept.Process k))
+  pub value_rows : after.value_rows ≡ slice_set before.value_rows place values
+  pub list_rows : after.list_rows ≡ slice_set before.list_rows place its_lists
+  pub others : (p v : ℕ) → p ≢ pid → name_in after.cells p v ≡ name_in before.cells p v
+  pub names : after.names ≡ before.names
+  pub balances : after.balances ≡ before.balances
+  pub outside : after.outside ≡ before.outside
+  pub results : after.results ≡ before.results
+  pub drawn : after.drawn ≡ before.drawn

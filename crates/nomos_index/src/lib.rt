@@ -2,6 +2,7 @@
 #![tactic(auto)]
 
 mod accounts;
+mod changing;
 mod copying;
 mod inside;
 mod kept;
