@@ -12,4 +12,5 @@ pub mod RowLemmas
 pub mod SeatLemmas
 pub mod ShelfLemmas
 pub mod SweepLemmas
+pub mod UserLemmas
 pub mod WordLemmas

@@ -12,3 +12,4 @@ pub mod Shelving
 pub mod Sweeps
 pub mod Tables
 pub mod Tails
+pub mod Users

@@ -4,10 +4,12 @@ ghost use Rattle.nomos_slots.specs.Cells.{IsOnce, IsProbed, cell_at, entries, na
 ghost use Rattle.std.specs.Option.{option_map};
 ghost use Rattle.nomos_slots.specs.Sweeps.{instead_of};
 ghost use Rattle.nomos_slots.specs.Tables.{HaveSameNames, marked_entries};
+ghost use Rattle.nomos_slots.specs.Users.{IsLowestUser};
 
 use crate::cells::{Named, bind_in, blank, cell, empty_all, fill, place_in, unbind_in};
 use crate::column::Column;
 use crate::sweeps::{drop_in, rename_in};
+use crate::users::lowest_user_in;
 use std::alloc::{AllocError, Global};
 use std::marker::Model;
 
@@ -151,6 +153,13 @@ impl Channels {
             return None;
         };
         Some(entry.name)
+    }
+
+    /// The lowest process that has this name for one of its variables. It goes over all names.
+    pub fn lowest_user(&self, name: u32) -> Option<u32>
+        ensures { IsLowestUser self.now.now name result }
+    {
+        lowest_user_in(&self.cells, name)
     }
 
     /// Binds a variable of a process to a name. Who calls it has made room, so it takes no memory.

@@ -10,4 +10,5 @@ pub mod places;
 pub mod shelf;
 mod sweeps;
 pub mod tail;
+mod users;
 mod words;
