@@ -6,6 +6,7 @@ use Rattle.nomos_ir.specs.declared.ids.VarId.{VarId}
 use Rattle.nomos_machine.specs.declared.object.PotentialList.{PotentialList}
 use Rattle.nomos_slots.specs.Cells.{Cell}
 use Rattle.nomos_slots.specs.Marking.{Marking}
+use Rattle.nomos_slots.specs.Tables.{HaveSameNames}
 use Rattle.nomos_slots.specs.Shelving.{Shelving}
 use Rattle.nomos_slots.specs.declared.numbered.Slot.{Slot}
 use Rattle.nomos_index.specs.Indexed.{HasRoom, IsHolding, IsIndexed, held_marked, held_now, state_of}
@@ -14,12 +15,12 @@ use Rattle.nomos_index.specs.declared.inside.Contents.{Contents}
 use Rattle.nomos_index.specs.declared.inside.Inside.TheInside.{Inside}
 use Rattle.nomos_index.specs.declared.inside.Numbers.{Numbers}
 use Rattle.nomos_index.specs.declared.kept.Kept.{Kept}
-use Rattle.nomos_index.proofs.TogetherLemmas.{marked-holding, marked-same, same-names, together-same}
+use Rattle.nomos_index.proofs.TogetherLemmas.{marked-holding, marked-same, together-same}
 
 module _ (s : Inside) (objects : Marking (Slot Kept)) (values : Shelving (VarId × Value))
     (its_lists : Shelving (VarId × PotentialList)) (channels : Marking Cell) (numbers : Numbers)
     (o : objects.marked ≡ s.contents.objects.marked) (v : values.marked ≡ s.contents.values.marked)
-    (l : its_lists.marked ≡ s.contents.lists.marked) (c : channels.marked ≡ s.contents.channels.marked) where
+    (l : its_lists.marked ≡ s.contents.lists.marked) (c : HaveSameNames s.contents.channels.marked channels.marked) where
   abbrev pub contents_again : Contents
   contents_again = record s.contents {
     objects = objects;
@@ -34,7 +35,7 @@ module _ (s : Inside) (objects : Marking (Slot Kept)) (values : Shelving (VarId 
     objects = o;
     values = v;
     its_lists = l;
-    channels = same-names s.contents.channels.marked channels.marked c;
+    channels = c;
     names = refl;
     balances = refl;
     outside = refl;

@@ -11,6 +11,7 @@ use Rattle.nomos_parts.specs.SmallChanges.{Becomes}
 use Rattle.nomos_slots.specs.Cells.{Cell, name_in}
 use Rattle.nomos_slots.specs.Marking.{Marking}
 use Rattle.nomos_slots.specs.Numbers.{put_at}
+use Rattle.nomos_slots.specs.Tables.{HaveSameNames}
 use Rattle.nomos_slots.specs.Shelving.{Shelving}
 use Rattle.nomos_slots.specs.declared.numbered.Slot.{Slot}
 use Rattle.nomos_slots.proofs.NumberLaws.{put_at-own}
@@ -25,6 +26,7 @@ use Rattle.nomos_index.specs.declared.kept.Kept.TheVariants as kept
 use Rattle.nomos_index.specs.declared.kept.KeptProcess.{KeptProcess}
 use Rattle.nomos_index.proofs.AgainLemmas.{indexed-again}
 use Rattle.nomos_index.proofs.ProcessLemmas.{process-becomes, process-holding, slot-kept}
+use Rattle.nomos_index.proofs.TogetherLemmas.{same-names}
 
 module _ (s : Inside) (is : IsIndexed s) (pid place : ℕ) (k : KeptProcess)
     (at : ProcessIsAt (held_now s.contents) pid place k) where
@@ -43,6 +45,9 @@ module _ (s : Inside) (is : IsIndexed s) (pid place : ℕ) (k : KeptProcess)
 
   same_lists : s.contents.lists.now ≡ slice_set s.contents.lists.now place lists_row
   same_lists = sym (set-get_or s.contents.lists.now place [])
+
+  same_cells : HaveSameNames s.contents.channels.marked s.contents.channels.marked
+  same_cells = same-names s.contents.channels.marked s.contents.channels.marked refl
 
   -- ---- other plain fields
 
@@ -67,8 +72,8 @@ module _ (s : Inside) (is : IsIndexed s) (pid place : ℕ) (k : KeptProcess)
 
     pub fields-indexed : IsIndexed (record s { contents = with_objects })
     fields-indexed =
-        indexed-again s objects s.contents.values s.contents.lists s.contents.channels s.contents.numbers marked refl refl refl
-        s.room is
+        indexed-again s objects s.contents.values s.contents.lists s.contents.channels s.contents.numbers marked refl refl
+        same_cells s.room is
         (process-holding (held_now s.contents) (held_now with_objects) is.now pid place k next values_row lists_row at fields-come)
         (record {
           objects = omega (arith, room, is.has_room.objects);
@@ -90,7 +95,7 @@ module _ (s : Inside) (is : IsIndexed s) (pid place : ℕ) (k : KeptProcess)
 
   module _ (channels : Marking Cell) (room : ℕ)
       (others : (p v : ℕ) → p ≢ pid → name_in channels.now p v ≡ name_in s.contents.channels.now p v)
-      (marked : channels.marked ≡ s.contents.channels.marked) (less : room ≤ s.room) (has : room ≤ channels.room) where
+      (marked : HaveSameNames s.contents.channels.marked channels.marked) (less : room ≤ s.room) (has : room ≤ channels.room) where
     abbrev pub with_cells : Contents
     with_cells = record s.contents { channels = channels }
 
@@ -152,8 +157,8 @@ module _ (s : Inside) (is : IsIndexed s) (pid place : ℕ) (k : KeptProcess)
 
     pub values-indexed : IsIndexed (record s { contents = with_value_rows; room = s.room - 1 })
     values-indexed =
-        indexed-again s s.contents.objects values s.contents.lists s.contents.channels s.contents.numbers refl marked refl refl
-        (s.room - 1) is
+        indexed-again s s.contents.objects values s.contents.lists s.contents.channels s.contents.numbers refl marked refl
+        same_cells (s.room - 1) is
         (process-holding (held_now s.contents) (held_now with_value_rows) is.now pid place k k row lists_row at values-come)
         (record {
           objects = omega (arith, is.has_room.objects);
@@ -193,8 +198,8 @@ module _ (s : Inside) (is : IsIndexed s) (pid place : ℕ) (k : KeptProcess)
 
     pub lists-indexed : IsIndexed (record s { contents = with_list_rows; room = s.room - 1 })
     lists-indexed =
-        indexed-again s s.contents.objects s.contents.values its_lists s.contents.channels s.contents.numbers refl refl marked refl
-        (s.room - 1) is
+        indexed-again s s.contents.objects s.contents.values its_lists s.contents.channels s.contents.numbers refl refl marked
+        same_cells (s.room - 1) is
         (process-holding (held_now s.contents) (held_now with_list_rows) is.now pid place k k values_row row at lists-come)
         (record {
           objects = omega (arith, is.has_room.objects);

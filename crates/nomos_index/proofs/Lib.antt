@@ -8,3 +8,5 @@ pub mod ProcessLemmas
 pub mod AgainLemmas
 pub mod RebindLemmas
 pub mod ChangingLemmas
+pub mod LeavingLemmas
+pub mod ComingLemmas

@@ -19,7 +19,7 @@ use Rattle.nomos_slots.specs.declared.numbered.Slot.{Slot}
 use Rattle.nomos_slots.proofs.NumberLaws.{found-put_at, found-put_at_other, get-put_at, get-put_at_other, length-put_at, numbers-put_at}
 use Rattle.nomos_index.specs.Indexed.{Holding, IsHolding, state_of}
 use Rattle.nomos_index.specs.Objects.{BringsIt, IsProcess, ListRow, ValueRow, object_of, objects_of}
-use Rattle.nomos_index.specs.Placing.{CanPlace, with_place}
+use Rattle.nomos_index.specs.Placing.{CanPlace, PlaceComes, with_place}
 use Rattle.nomos_index.specs.declared.kept.Kept.{Kept}
 use Rattle.nomos_index.specs.declared.kept.Kept.TheVariants as kept
 use Rattle.nomos_index.proofs.ChannelLemmas.{object-same}
@@ -168,3 +168,37 @@ module _ (h : Holding) (is : IsHolding h) (place n : ℕ) (k : Kept) (item : Opt
         brought = brought-placed;
         held = held-placed;
       }
+
+-- the same of what is held afterwards
+module _ (before after : Holding) (is : IsHolding before) (place n : ℕ) (k : Kept) (item : Option Kept) (v : ValueRow)
+    (l : ListRow) (can : CanPlace before place n k item v after.cells)
+    (comes : PlaceComes before after n place item v l) where
+  after-is : with_place place item v l after.cells before ≡ after
+  after-is =
+      let slots = comes.slots in
+      let value_rows = comes.value_rows in
+      let list_rows = comes.list_rows in
+      let names = comes.names in
+      let balances = comes.balances in
+      let outside = comes.outside in
+      let results = comes.results in
+      let drawn = comes.drawn in
+      let e : with_place place item v l after.cells before ≡ record {
+        slots = after.slots;
+        value_rows = after.value_rows;
+        list_rows = after.list_rows;
+        cells = after.cells;
+        names = after.names;
+        balances = after.balances;
+        outside = after.outside;
+        results = after.results;
+        drawn = after.drawn;
+      } = cc in
+      e
+
+  pub comes-holding : IsHolding after
+  comes-holding = subst IsHolding after-is (holding-placed before is place n k item v l after.cells can)
+
+  pub comes-state : state_of after
+      ≡ record (state_of before) { objects = change.put_at n (object_in after.cells n v l item) (state_of before).objects }
+  comes-state = ap state_of (sym after-is) ∙ state-placed before is place n k item v l after.cells can

@@ -19,7 +19,7 @@ use Rattle.nomos_index.specs.Placing.{CanPlace, ProcessComes, with_place}
 use Rattle.nomos_index.specs.declared.kept.Kept.{Kept}
 use Rattle.nomos_index.specs.declared.kept.Kept.TheVariants as kept
 use Rattle.nomos_index.specs.declared.kept.KeptProcess.{KeptProcess}
-use Rattle.nomos_index.proofs.PlaceLemmas.{holding-placed, state-placed}
+use Rattle.nomos_index.proofs.PlaceLemmas.{comes-holding, comes-state}
 
 -- what is kept at a place is the item of the slot there
 pub slot-kept : (slots : List (Slot Kept)) (place n : ℕ) (k : Kept) → kept_at slots place ≡ Some (n, k)
@@ -60,33 +60,9 @@ module _ (before after : Holding) (is : IsHolding before) (pid place : ℕ) (k n
     its_own = λ v some. tt;
   }
 
-  after-is : with_place place (Some (kept.Process next)) values its_lists after.cells before ≡ after
-  after-is =
-      let slots = comes.slots in
-      let value_rows = comes.value_rows in
-      let list_rows = comes.list_rows in
-      let names = comes.names in
-      let balances = comes.balances in
-      let outside = comes.outside in
-      let results = comes.results in
-      let drawn = comes.drawn in
-      let e : with_place place (Some (kept.Process next)) values its_lists after.cells before ≡ record {
-        slots = after.slots;
-        value_rows = after.value_rows;
-        list_rows = after.list_rows;
-        cells = after.cells;
-        names = after.names;
-        balances = after.balances;
-        outside = after.outside;
-        results = after.results;
-        drawn = after.drawn;
-      } = cc in
-      e
-
   pub process-holding : IsHolding after
   process-holding =
-      subst IsHolding after-is
-      (holding-placed before is place pid (kept.Process k) (Some (kept.Process next)) values its_lists after.cells can)
+      comes-holding before after is place pid (kept.Process k) (Some (kept.Process next)) values its_lists can comes
 
   pub process-becomes : (f : Process → Process)
       → f (process_held before.cells pid (values_at before place) (lists_at before place) k)
@@ -95,6 +71,5 @@ module _ (before after : Holding) (is : IsHolding before) (pid place : ℕ) (k n
   process-becomes f same p found =
       let held = process_held before.cells pid (values_at before place) (lists_at before place) k in
       let is_held : p ≡ held = same_Some p held (sym found ∙ at.found) in
-      let state = state-placed before is place pid (kept.Process k) (Some (kept.Process next)) values its_lists after.cells can in
-      ap state_of (sym after-is) ∙ state
+      comes-state before after is place pid (kept.Process k) (Some (kept.Process next)) values its_lists can comes
       ∙ ap (λ (q : Process). with_process pid q (state_of before)) (sym (ap f is_held ∙ same))

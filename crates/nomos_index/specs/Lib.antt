@@ -3,3 +3,4 @@ pub mod Indexed
 pub mod Together
 pub mod Looked
 pub mod Placing
+pub mod Coming

@@ -26,16 +26,21 @@ pub record CanPlace (h : Holding) (place number : ℕ) (before : Kept) (item : O
   pub others : (p v : ℕ) → p ≢ number → name_in cells p v ≡ name_in h.cells p v
   pub its_own : (v : ℕ) → IsSome (name_in cells number v) → IsProcess item
 
--- Of what is held only the process of a number, which stands at this place, becomes another one: its plain fields, its
--- rows and its channels.
-pub record ProcessComes (before after : Holding) (pid place : ℕ) (k : KeptProcess) (values : ValueRow)
+-- Of what is held only the object of a number, which stands at this place, becomes another one or leaves: what is kept,
+-- its rows and its channels.
+pub record PlaceComes (before after : Holding) (number place : ℕ) (item : Option Kept) (values : ValueRow)
     (its_lists : ListRow) : Type 0 where
-  pub slots : after.slots ≡ put_at before.slots place (Some (kept.Process k))
+  pub slots : after.slots ≡ put_at before.slots place item
   pub value_rows : after.value_rows ≡ slice_set before.value_rows place values
   pub list_rows : after.list_rows ≡ slice_set before.list_rows place its_lists
-  pub others : (p v : ℕ) → p ≢ pid → name_in after.cells p v ≡ name_in before.cells p v
+  pub others : (p v : ℕ) → p ≢ number → name_in after.cells p v ≡ name_in before.cells p v
   pub names : after.names ≡ before.names
   pub balances : after.balances ≡ before.balances
   pub outside : after.outside ≡ before.outside
   pub results : after.results ≡ before.results
   pub drawn : after.drawn ≡ before.drawn
+
+-- the same of a process
+abbrev pub ProcessComes : Holding → Holding → ℕ → ℕ → KeptProcess → ValueRow → ListRow → Type 0
+ProcessComes before after pid place k values its_lists =
+    PlaceComes before after pid place (Some (kept.Process k)) values its_lists

@@ -3,9 +3,11 @@
 
 mod accounts;
 mod changing;
+mod coming;
 mod copying;
 mod inside;
 mod kept;
+mod leaving;
 mod looking;
 mod marking;
 mod weights;
