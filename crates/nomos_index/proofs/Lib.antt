@@ -10,3 +10,5 @@ pub mod RebindLemmas
 pub mod ChangingLemmas
 pub mod LeavingLemmas
 pub mod ComingLemmas
+pub mod PairLemmas
+pub mod ReplacingLemmas

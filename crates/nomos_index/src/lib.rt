@@ -2,6 +2,7 @@
 #![tactic(auto)]
 
 mod accounts;
+mod binding;
 mod changing;
 mod coming;
 mod copying;
