@@ -187,10 +187,10 @@ module _ (s : Inside) (is : IsIndexed s) (n : ℕ) (k : Kept) (row : ValueRow) (
     (channels : Marking Cell) (o : objects.marked ≡ s.contents.objects.marked)
     (v : values.marked ≡ s.contents.values.marked) (l : its_lists.marked ≡ s.contents.lists.marked)
     (c : HaveSameNames s.contents.channels.marked channels.marked) where
-  abbrev drawn_next : Numbers
+  abbrev pub drawn_next : Numbers
   drawn_next = record s.contents.numbers { next_object = s.contents.numbers.next_object + 1 }
 
-  abbrev coming_after : Contents
+  abbrev pub coming_after : Contents
   coming_after = contents_again s objects values its_lists channels drawn_next o v l c
 
   pub come-indexed : ObjectComes (held_now s.contents) (held_now coming_after) n k row list_row

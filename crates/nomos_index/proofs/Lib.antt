@@ -12,3 +12,4 @@ pub mod LeavingLemmas
 pub mod ComingLemmas
 pub mod PairLemmas
 pub mod ReplacingLemmas
+pub mod BirthLemmas

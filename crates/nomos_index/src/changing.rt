@@ -21,14 +21,7 @@ impl Inside {
         let Some((place, _)) = process_at(&self.contents, fields.pid) else {
             return;
         };
-        let next = KeptProcess {
-            mode: fields.mode,
-            code: fields.code,
-            offers: fields.offers,
-            base: fields.base,
-            purse: fields.purse,
-            payer: fields.payer,
-        };
+        let next = KeptProcess::of(fields);
         self.contents.objects.put(place, Some(Kept::Process(next)));
     }
 

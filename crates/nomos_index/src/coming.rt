@@ -2,15 +2,17 @@
 ghost use Rattle.std.specs.Prelude.{◌≡◌, ◌≤◌, ◌<◌, ◌+◌, ◌-◌, ◌^◌, ℕ, IfOk, IsOk, OnErr, OnOk, length};
 ghost use Rattle.nomos_deeds.specs.declared.sight.SeenPayload.TheVariants as seen;
 ghost use Rattle.nomos_machine.specs.declared.object.Object.TheVariants as object;
-ghost use Rattle.nomos_parts.specs.SmallChanges.{BringsNoValue, with_object};
+ghost use Rattle.nomos_parts.specs.SmallChanges.{BringsNoValue, process_born, with_object};
 ghost use Rattle.nomos_index.specs.Objects.{payload_of};
 
+use crate::binding::{bind_pairs, reserve_names};
 use crate::inside::Inside;
-use crate::kept::{Kept, KeptMessage};
+use crate::kept::{Kept, KeptMessage, KeptProcess};
 use nomos_deeds::sight::SeenPayload;
 use nomos_ir::ids::VarId;
 use nomos_ir::value::Value;
 use nomos_machine::object::{Message, Payload};
+use nomos_parts::newborn::Newborn;
 use std::alloc::{AllocError, Global};
 
 // What a message brings, and the row with its value.
@@ -64,6 +66,29 @@ impl Inside {
             .push(message.number, Kept::Message(kept));
         self.contents.values.push(row);
         self.contents.lists.push(Vec::new(self.alloc));
+        self.contents.numbers.next_object += 1;
+        self.room -= 1;
+        Ok(())
+    }
+
+    /// A process comes, which has the next number.
+    pub(crate) fn come_process(&mut self, alloc: Global, born: Newborn) -> Result<(), AllocError>
+        requires room { 0 < self.old.room }
+        requires number { born.fields.pid ≡ self.old.state.next_object }
+        requires fits { self.old.state.next_object < 2 ^ 32 - 1 }
+        ensures ok { OnOk result (self.new.state ≡ with_object (object.Process (process_born born)) self.old.state) }
+        ensures err { OnErr result (self.new.state ≡ self.old.state) }
+        ensures room { self.old.room ≤ self.new.room + 1 }
+        ensures marked { self.new.marked ≡ self.old.marked }
+    {
+        let pid = born.fields.pid;
+        let count = born.channels.len();
+        reserve_names(&mut self.contents.channels, alloc, count, self.room)?;
+        bind_pairs(&mut self.contents.channels, pid, &born.channels);
+        let kept = KeptProcess::of(born.fields);
+        self.contents.objects.push(pid, Kept::Process(kept));
+        self.contents.values.push(born.values);
+        self.contents.lists.push(born.lists);
         self.contents.numbers.next_object += 1;
         self.room -= 1;
         Ok(())
