@@ -2,6 +2,7 @@ pub mod ChannelLemmas
 pub mod FoundLemmas
 pub mod LookLemmas
 pub mod PotentialLemmas
+pub mod SeekLemmas
 pub mod TogetherLemmas
 pub mod PlaceLemmas
 pub mod ProcessLemmas
@@ -13,3 +14,5 @@ pub mod ComingLemmas
 pub mod PairLemmas
 pub mod ReplacingLemmas
 pub mod BirthLemmas
+pub mod UsingLemmas
+pub mod WalkLemmas

@@ -119,9 +119,13 @@ types_of (slot ∷ slots) = option_to_list (option_map (λ t. (slot.number, t)) 
 
 -- ---- what holds of slots, rows and cells
 
+-- where a value is brought, it stands in the row
+abbrev pub HasValue : SeenPayload → ValueRow → Type 0
+HasValue brought values = brought ≡ seen.Value → 1 ≤ length values
+
 -- a message that brings a value has it in its row
 abbrev pub BringsIt : Option Kept → ValueRow → Type 0
-BringsIt (Some (kept.Message k)) values = k.brings ≡ seen.Value → 1 ≤ length values
+BringsIt (Some (kept.Message k)) values = HasValue k.brings values
 BringsIt _ values = Unit {0}
 
 abbrev pub AreBrought : List (Slot Kept) → List ValueRow → Type 0

@@ -11,4 +11,6 @@ mod kept;
 mod leaving;
 mod looking;
 mod marking;
+mod seeking;
+mod sight;
 mod weights;
