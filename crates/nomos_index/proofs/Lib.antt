@@ -5,5 +5,15 @@ pub mod PotentialLemmas
 pub mod SeekLemmas
 pub mod TidyLemmas
 pub mod TogetherLemmas
+pub mod PlaceLemmas
+pub mod ProcessLemmas
+pub mod AgainLemmas
+pub mod RebindLemmas
+pub mod ChangingLemmas
+pub mod LeavingLemmas
+pub mod ComingLemmas
+pub mod PairLemmas
+pub mod ReplacingLemmas
+pub mod BirthLemmas
 pub mod UsingLemmas
 pub mod WalkLemmas

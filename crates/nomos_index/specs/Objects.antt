@@ -7,6 +7,7 @@ use Rattle.nomos_ir.specs.declared.ids.TypeId.{TypeId}
 use Rattle.nomos_ir.specs.declared.ids.VarId.{VarId}
 use Rattle.nomos_deeds.specs.declared.sight.SeenPayload.{SeenPayload}
 use Rattle.nomos_deeds.specs.declared.sight.SeenPayload.TheVariants as seen
+use Rattle.nomos_deeds.specs.declared.sight.SeenProcess.{SeenProcess}
 use Rattle.nomos_machine.specs.Optional.{◌>>=◌}
 use Rattle.nomos_machine.specs.State.{NameTypes}
 use Rattle.nomos_machine.specs.declared.object.Message.{Message}
@@ -79,6 +80,17 @@ message_held number values k = record {
   next = k.next;
   payload = payload_of k.brings values;
   purse = k.purse;
+}
+
+-- what is kept of a process with these plain fields
+abbrev pub kept_of : SeenProcess → KeptProcess
+kept_of fields = record {
+  mode = fields.mode;
+  code = fields.code;
+  offers = fields.offers;
+  base = fields.base;
+  purse = fields.purse;
+  payer = fields.payer;
 }
 
 -- the object of a number

@@ -1,6 +1,8 @@
 //! Objects as an indexed state keeps them: plain records. Values, lists and channels stand beside them.
+ghost use Rattle.std.specs.Prelude.{◌≡◌};
+ghost use Rattle.nomos_index.specs.Objects.{kept_of};
 
-use nomos_deeds::sight::SeenPayload;
+use nomos_deeds::sight::{SeenPayload, SeenProcess};
 use nomos_ir::ids::CodeId;
 use nomos_ir::mode::Mode;
 
@@ -13,6 +15,22 @@ pub(crate) struct KeptProcess {
     pub(crate) base: Option<u32>,
     pub(crate) purse: u128,
     pub(crate) payer: u32,
+}
+
+impl KeptProcess {
+    /// What is kept of a process with these plain fields.
+    pub(crate) fn of(fields: SeenProcess) -> KeptProcess
+        ensures { result ≡ kept_of fields }
+    {
+        KeptProcess {
+            mode: fields.mode,
+            code: fields.code,
+            offers: fields.offers,
+            base: fields.base,
+            purse: fields.purse,
+            payer: fields.payer,
+        }
+    }
 }
 
 /// A message without its number and the value that it may bring. Its purse counts Dths.

@@ -2,9 +2,13 @@
 #![tactic(auto)]
 
 mod accounts;
+mod binding;
+mod changing;
+mod coming;
 mod copying;
 mod inside;
 mod kept;
+mod leaving;
 mod looking;
 mod marking;
 mod naming;
