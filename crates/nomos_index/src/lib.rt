@@ -12,6 +12,8 @@ mod leaving;
 mod looking;
 mod marking;
 mod naming;
+mod reading;
 mod seeking;
 mod sight;
+mod walking;
 mod weights;
