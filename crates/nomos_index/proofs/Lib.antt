@@ -16,3 +16,4 @@ pub mod ReplacingLemmas
 pub mod BirthLemmas
 pub mod UsingLemmas
 pub mod WalkLemmas
+pub mod RowLemmas

@@ -6,3 +6,4 @@ pub mod Coming
 pub mod Together
 pub mod Walks
 pub mod Sought
+pub mod Rebound
