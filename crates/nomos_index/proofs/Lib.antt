@@ -17,3 +17,4 @@ pub mod BirthLemmas
 pub mod UsingLemmas
 pub mod WalkLemmas
 pub mod RowLemmas
+pub mod RedirectLemmas

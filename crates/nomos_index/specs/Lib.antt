@@ -7,3 +7,4 @@ pub mod Together
 pub mod Walks
 pub mod Sought
 pub mod Rebound
+pub mod Instead

@@ -11,6 +11,7 @@ mod kept;
 mod leaving;
 mod looking;
 mod marking;
+mod redirecting;
 mod rows;
 mod seeking;
 mod sight;
