@@ -1,5 +1,5 @@
 -- What a look by number finds.
-use Rattle.std.proofs.Common.{◌≡◌, ◌≢◌, ◌∙◌, ℕ, [], All, Option, Some, None, refl, sym, ap, subst}
+use Rattle.std.proofs.Common.{◌≡◌, ◌∙◌, ℕ, [], Option, Some, None, refl, sym, ap}
 use Rattle.std.proofs.lemmas.Option.{none-some, same_Some}
 use Rattle.std.specs.List.{slice_get, slice_index_or}
 use Rattle.std.specs.Option.{option_map}
@@ -8,7 +8,7 @@ use Rattle.nomos_machine.specs.Optional.{◌>>=◌}
 use Rattle.nomos_machine.specs.declared.object.Object.{Object}
 use Rattle.nomos_slots.specs.Numbers.{numbers}
 use Rattle.nomos_slots.specs.declared.numbered.Slot.{Slot}
-use Rattle.nomos_index.specs.Indexed.{Holding, IsHolding, standing_at, state_of}
+use Rattle.nomos_index.specs.Indexed.{Holding, IsHolding, state_of}
 use Rattle.nomos_index.specs.Looked.{ObjectIsAt, lists_at, values_at}
 use Rattle.nomos_index.specs.Objects.{kept_at, kept_in, object_of}
 use Rattle.nomos_index.specs.declared.kept.Kept.{Kept}
@@ -20,7 +20,7 @@ pub found-gap : (h : Holding) → IsHolding h → (place n : ℕ) → slice_get 
 found-gap h is place n at gap =
     number-found h is place n at
     ∙ ap (λ (o : Option (ℕ × Kept)). o >>= λ k.
-        Some (object_of h.cells k.0 (slice_index_or h.value_rows place []) (slice_index_or h.list_rows place []) k.1)) gap
+    Some (object_of h.cells k.0 (slice_index_or h.value_rows place []) (slice_index_or h.list_rows place []) k.1)) gap
 
 -- what is kept in the slot of the number is what its object is made of
 pub found-kept : (h : Holding) → IsHolding h → (place n m : ℕ) (k : Kept) → slice_get (numbers h.slots) place ≡ Some n
@@ -33,11 +33,11 @@ found-kept h is place n m k at holds =
     record {
       at = holds ∙ ap (λ (i : ℕ). Some (i, k)) number;
       found =
-        number-found h is place n at
-        ∙ ap (λ (o : Option (ℕ × Kept)). o >>= λ k.
-            Some (object_of h.cells k.0 (slice_index_or h.value_rows place []) (slice_index_or h.list_rows place []) k.1))
-            holds
-        ∙ ap shown number;
+          number-found h is place n at
+          ∙ ap (λ (o : Option (ℕ × Kept)). o >>= λ k.
+          Some (object_of h.cells k.0 (slice_index_or h.value_rows place []) (slice_index_or h.list_rows place []) k.1))
+          holds
+          ∙ ap shown number;
     }
   where
     number-kept : (s : Slot Kept) (item : Option Kept) → s.item ≡ item → kept_in s ≡ Some (m, k) → m ≡ s.number

@@ -3,6 +3,7 @@ pub mod FoundLemmas
 pub mod LookLemmas
 pub mod PotentialLemmas
 pub mod SeekLemmas
+pub mod TidyLemmas
 pub mod TogetherLemmas
 pub mod PlaceLemmas
 pub mod ProcessLemmas

@@ -1,9 +1,9 @@
 -- What stands at the first place that passes a test is what a scan of the objects finds.
-use Rattle.std.proofs.Common.{◌≡◌, ◌≢◌, ◌∙◌, ◌<◌, ◌≤◌, ◌==◌, ◌||◌, inl, inr, ℕ, zero, suc, Bool, true, false, cond, List, [], ◌∷◌, ◌++◌, map, find, length, min, All, Contains, Option, Some, None, refl, sym, ap, subst, arith}
+use Rattle.std.proofs.Common.{◌≡◌, ◌∙◌, ◌<◌, ℕ, zero, suc, Bool, true, false, cond, List, [], ◌∷◌, ◌++◌, find, length, Option, Some, None, refl, sym, ap, subst, arith}
 use Rattle.std.proofs.lemmas.Option.{none-some, same_Some}
-use Rattle.std.specs.List.{slice_get, slice_index_or, list_any}
-use Rattle.std.specs.Option.{MatchOption, is_some, option_map, option_to_list}
-use Rattle.nomos_machine.specs.Objects.{object_at, object_number, process_of, message_of}
+use Rattle.std.specs.List.{slice_get, slice_index_or}
+use Rattle.std.specs.Option.{MatchOption, option_map, option_to_list}
+use Rattle.nomos_machine.specs.Objects.{object_number}
 use Rattle.nomos_machine.specs.Optional.{◌>>=◌}
 use Rattle.nomos_machine.specs.declared.object.Object.{Object}
 use Rattle.nomos_machine.specs.declared.object.Object.TheVariants as object
@@ -13,7 +13,7 @@ use Rattle.nomos_slots.specs.Cells.{Cell}
 use Rattle.nomos_slots.specs.declared.numbered.Slot.{Slot}
 use Rattle.nomos_index.specs.Indexed.{Holding, IsHolding, standing_at, state_of}
 use Rattle.nomos_index.specs.Objects.{BringsIt, HasValue, ListRow, ValueRow, kept_at, kept_in, message_held, object_of, objects_of, process_held}
-use Rattle.nomos_index.specs.Sought.{IsFirstPlace, passes_at, some_passes}
+use Rattle.nomos_index.specs.Sought.{IsFirstPlace, some_passes}
 use Rattle.nomos_index.specs.declared.kept.Kept.{Kept}
 use Rattle.nomos_index.specs.declared.kept.Kept.TheVariants as kept
 use Rattle.nomos_index.specs.declared.kept.KeptMessage.{KeptMessage}

@@ -1,36 +1,35 @@
 -- Who uses a name, and whether anyone mentions it, is told by the cells and by the messages.
-use Rattle.std.proofs.Common.{◌≡◌, ◌≢◌, ◌∙◌, ◌<◌, ◌≤◌, ◌==◌, ◌||◌, ◌⊎◌, inl, inr, ℕ, zero, suc, Bool, true, false, cond, List, [], ◌∷◌, ◌++◌, map, find, min, Contains, Option, Some, None, IsSome, Less, option_and_then, refl, sym, ap, subst, arith, eq-eqb, eqb-true}
+use Rattle.std.proofs.Common.{◌≡◌, ◌≢◌, ◌∙◌, ◌<◌, ◌==◌, ◌||◌, ◌⊎◌, inl, inr, ℕ, suc, Bool, true, false, cond, List, [], ◌∷◌, ◌++◌, map, find, min, Contains, Option, Some, None, IsSome, Less, option_and_then, refl, sym, ap, subst, arith, eq-eqb, eqb-true}
 use Rattle.std.proofs.lemmas.Bool.{cases_eq, cases_lt}
 use Rattle.std.proofs.lemmas.Cmp.{ranked}
-use Rattle.std.proofs.lemmas.List.Elements.{Contains-append_cases, Contains-append_left, Contains-append_right}
+use Rattle.std.proofs.lemmas.List.Elements.{Contains-append_cases, Contains-append_right}
 use Rattle.std.proofs.lemmas.Map.Keys.{sorted_head, sorted_tail}
-use Rattle.std.proofs.lemmas.Option.{none-some, same_Some}
+use Rattle.std.proofs.lemmas.Option.{none-some}
 use Rattle.std.specs.List.{slice_get, slice_index_or, list_any, AllByRecursion}
 use Rattle.std.specs.Map.{keys_of}
 use Rattle.std.specs.Option.{MatchOption, is_some, option_map, option_to_list}
-use Rattle.nomos_ir.specs.Bindings.{bound_to, bindings_of, by_number, IsAscending}
+use Rattle.nomos_ir.specs.Bindings.{bound_to, by_number, IsAscending}
 use Rattle.nomos_ir.specs.declared.ids.VarId.{VarId}
 use Rattle.nomos_ir.proofs.BindingLaws.{bindings_of-ascending}
 use Rattle.nomos_machine.specs.Change.{is_mentioned}
-use Rattle.nomos_machine.specs.Objects.{based, mentioned, object_at, object_number, process_of, provided, used}
-use Rattle.nomos_machine.specs.Sight.{owner, user_of}
+use Rattle.nomos_machine.specs.Objects.{mentioned, object_at, object_number, process_of, used}
+use Rattle.nomos_machine.specs.Sight.{owner}
 use Rattle.nomos_machine.specs.State.{process_at}
 use Rattle.nomos_machine.specs.declared.object.Object.{Object}
 use Rattle.nomos_machine.specs.declared.object.Object.TheVariants as object
 use Rattle.nomos_machine.specs.declared.object.Process.{Process}
 use Rattle.nomos_machine.proofs.ObjectLaws.{bound-among}
 use Rattle.nomos_machine.proofs.PutLaws.{InOrder, contains-one, object_at-found, object_at-own}
-use Rattle.nomos_deeds.proofs.LowestLaws.{IsFirst, first-found, none-passes}
-use Rattle.nomos_slots.specs.Cells.{Cell, name_in}
+use Rattle.nomos_deeds.proofs.LowestLaws.{first-found, none-passes}
+use Rattle.nomos_slots.specs.Cells.{name_in}
 use Rattle.nomos_slots.specs.Numbers.{found}
 use Rattle.nomos_slots.specs.Users.{HasName, IsLowestUser}
 use Rattle.nomos_slots.specs.declared.numbered.Slot.{Slot}
 use Rattle.nomos_index.specs.Indexed.{Holding, IsHolding, standing_at, state_of}
 use Rattle.nomos_index.specs.Objects.{IsProcess, channels_of, entries_of, process_held}
-use Rattle.nomos_index.specs.Sought.{IsFirstPlace, is_message_using, lower_of, mentions_plainly, passes_at, some_passes}
+use Rattle.nomos_index.specs.Sought.{IsFirstPlace, is_message_using, lower_of, mentions_plainly, some_passes}
 use Rattle.nomos_index.specs.declared.kept.Kept.{Kept}
 use Rattle.nomos_index.specs.declared.kept.Kept.TheVariants as kept
-use Rattle.nomos_index.specs.declared.kept.KeptProcess.{KeptProcess}
 use Rattle.nomos_index.proofs.ChannelLemmas.{bound-in_channels}
 use Rattle.nomos_index.proofs.LookLemmas.{process-stands, standing-found, standing-is, state-in_order}
 use Rattle.nomos_index.proofs.SeekLemmas.{first-found as first-standing}

@@ -8,3 +8,4 @@ pub mod Walks
 pub mod Sought
 pub mod Rebound
 pub mod Instead
+pub mod Tidying

@@ -1,5 +1,5 @@
 -- What is looked for among objects, and what is found first.
-use Rattle.std.specs.Prelude.{◌≡◌, ◌==◌, ◌||◌, ◌<◌, min, ℕ, Bool, true, false, List, Option, Some, None, MatchOption}
+use Rattle.std.specs.Prelude.{◌≡◌, ◌==◌, ◌||◌, ◌<◌, min, ℕ, Bool, true, false, Option, Some, None, MatchOption}
 use Rattle.std.specs.List.{list_any}
 use Rattle.nomos_machine.specs.Objects.{mentioned, used}
 use Rattle.nomos_machine.specs.Sight.{is_offered, is_read_on}

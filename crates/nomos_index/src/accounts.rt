@@ -25,9 +25,7 @@ impl Inside {
         ensures marked { self.new.marked ≡ self.old.marked }
     {
         if let Some(before) = self.contents.balances.get(account as usize) {
-            self.contents
-                .balances
-                .put(account as usize, before + dths);
+            self.contents.balances.put(account as usize, before + dths);
         }
     }
 
@@ -40,9 +38,7 @@ impl Inside {
         ensures marked { self.new.marked ≡ self.old.marked }
     {
         if let Some(before) = self.contents.balances.get(account as usize) {
-            self.contents
-                .balances
-                .put(account as usize, before - dths);
+            self.contents.balances.put(account as usize, before - dths);
         }
     }
 

@@ -80,10 +80,7 @@ fn copy_list_rows(
 }
 
 // A copy of what processes emitted.
-fn copy_results(
-    alloc: Global,
-    results: &[(u32, Value)],
-) -> Result<Tail<(u32, Value)>, AllocError>
+fn copy_results(alloc: Global, results: &[(u32, Value)]) -> Result<Tail<(u32, Value)>, AllocError>
     ensures now { IfOk result (λ made. made.now ≡ results.now) }
     ensures marked { IfOk result (λ made. made.marked ≡ None) }
 {

@@ -11,6 +11,7 @@ mod kept;
 mod leaving;
 mod looking;
 mod marking;
+mod naming;
 mod redirecting;
 mod rows;
 mod seeking;

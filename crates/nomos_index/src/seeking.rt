@@ -193,7 +193,10 @@ pub(crate) fn message_on(contents: &Contents, to_client: bool, name: u32) -> Opt
     requires { IsHolding (held_now contents.now) }
     ensures { result ≡ option_map seen_message (message_on (state_of (held_now contents.now)).objects to_client name) }
 {
-    message_in(contents, first(contents, Sought::Message { to_client, name }))
+    message_in(
+        contents,
+        first(contents, Sought::Message { to_client, name }),
+    )
 }
 
 /// The first process that offers this name.

@@ -3,7 +3,6 @@ use Rattle.std.specs.Option.{option_map}
 use Rattle.nomos_machine.specs.declared.object.Object.{Object}
 use Rattle.nomos_index.specs.Indexed.{held_now}
 use Rattle.nomos_deeds.specs.Readers.{stands_for}
-use Rattle.nomos_deeds.specs.Seen.{seen_process}
 use Rattle.nomos_machine.specs.Objects.{process_of}
 use Rattle.nomos_index.proofs.SeekLemmas.{first-found, pid-seen}
 use Rattle.nomos_index.proofs.seeking.keeper.Goals as goal
