@@ -18,3 +18,5 @@ pub mod TidyLemmas
 pub mod TogetherLemmas
 pub mod UsingLemmas
 pub mod WalkLemmas
+pub mod RowLemmas
+pub mod RedirectLemmas

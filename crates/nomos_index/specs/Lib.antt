@@ -6,4 +6,6 @@ pub mod Coming
 pub mod Together
 pub mod Walks
 pub mod Sought
+pub mod Rebound
+pub mod Instead
 pub mod Tidying

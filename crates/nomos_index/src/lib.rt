@@ -13,6 +13,8 @@ mod looking;
 mod marking;
 mod naming;
 mod reading;
+mod redirecting;
+mod rows;
 mod seeking;
 mod sight;
 mod walking;

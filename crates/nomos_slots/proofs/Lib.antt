@@ -1,4 +1,5 @@
 pub mod CellLemmas
+pub mod ChangedLaws
 pub mod EntryLemmas
 pub mod FillLemmas
 pub mod GapLemmas

@@ -3,7 +3,7 @@ use Rattle.std.proofs.lemmas.Bool.{and_from}
 use Rattle.nomos_slots.specs.Marking.{Marking}
 use Rattle.nomos_slots.specs.Cells.{Cell, cell_at}
 use Rattle.nomos_slots.specs.Sweeps.{renamed_cell}
-use Rattle.nomos_slots.proofs.SweepLemmas.{changed_first, changed-read, changed-same, changed-next, changed-all, length-changed}
+use Rattle.nomos_slots.proofs.ChangedLaws.{changed_first, changed-read, changed-same, changed-next, changed-all, length-changed}
 use Rattle.nomos_slots.proofs.sweeps.rename_in.Goals as goal
 use Rattle.nomos_slots.proofs.sweeps.rename_in.Goals.{in-Some+then-entry-process+then-entry-old, in-Some+else-entry-process, else-entry-process-via-then-entry-process+else-entry-old, else-entry-process-via-else-entry-process, in_default}
 

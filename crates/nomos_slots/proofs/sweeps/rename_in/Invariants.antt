@@ -1,6 +1,6 @@
 use Rattle.std.proofs.Common.{◌≡◌}
 use Rattle.nomos_slots.specs.Sweeps.{renamed_cell}
-use Rattle.nomos_slots.proofs.SweepLemmas.{changed_first}
+use Rattle.nomos_slots.proofs.ChangedLaws.{changed_first}
 use Rattle.nomos_slots.proofs.sweeps.rename_in.Given as goal
 
 abbrev pub invariant-loop-at : goal.invariant-loop-at
