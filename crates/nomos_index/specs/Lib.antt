@@ -9,3 +9,4 @@ pub mod Sought
 pub mod Rebound
 pub mod Instead
 pub mod Tidying
+pub mod State

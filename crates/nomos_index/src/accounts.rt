@@ -57,6 +57,13 @@ impl Inside {
         Ok(account)
     }
 
+    /// The gas spent, in Dths.
+    pub(crate) fn spent(&self) -> u128
+        ensures { result ≡ self.now.state.spent }
+    {
+        self.contents.numbers.spent
+    }
+
     /// So many Dths are spent. It takes no room.
     pub(crate) fn burn(&mut self, dths: u128)
         requires { self.old.state.spent + dths < 2 ^ 128 }

@@ -7,6 +7,7 @@ mod changes;
 mod changing;
 mod coming;
 mod copying;
+pub mod indexed;
 mod inside;
 mod kept;
 mod leaving;
