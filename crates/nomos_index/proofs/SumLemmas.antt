@@ -1,16 +1,15 @@
 -- What objects carry, place by place; and the types of names, place by place.
-use Rattle.std.proofs.Common.{◌≡◌, ◌∙◌, ◌<◌, ◌+◌, ℕ, zero, suc, Bool, true, false, cond, List, [], ◌∷◌, ◌++◌, map, find, drop, length, sum_by, Option, Some, None, refl, sym, ap, arith, zero-add}
+use Rattle.std.proofs.Common.{◌≡◌, ◌∙◌, ◌<◌, ◌+◌, ℕ, zero, suc, Bool, true, false, cond, List, [], ◌∷◌, ◌++◌, find, drop, length, sum_by, Option, Some, None, refl, sym, ap, arith, zero-add}
 use Rattle.std.proofs.lemmas.List.Sums.{sum_by-append}
-use Rattle.std.specs.List.{slice_get, slice_index_or}
-use Rattle.std.specs.Option.{MatchOption, option_map, option_to_list}
+use Rattle.std.specs.Option.{option_map, option_to_list}
 use Rattle.nomos_ir.specs.declared.ids.TypeId.{TypeId}
 use Rattle.nomos_machine.specs.Objects.{purse_of}
 use Rattle.nomos_machine.specs.Optional.{◌>>=◌}
 use Rattle.nomos_machine.specs.declared.object.Object.{Object}
 use Rattle.nomos_slots.specs.Cells.{Cell}
 use Rattle.nomos_slots.specs.declared.numbered.Slot.{Slot}
-use Rattle.nomos_index.specs.Indexed.{Holding, IsHolding, standing_at, state_of}
-use Rattle.nomos_index.specs.Objects.{ListRow, ValueRow, kept_at, object_of, objects_of, types_of}
+use Rattle.nomos_index.specs.Indexed.{Holding, IsHolding, standing_at}
+use Rattle.nomos_index.specs.Objects.{ListRow, ValueRow, object_of, objects_of, types_of}
 use Rattle.nomos_index.specs.Sought.{IsFirstName, some_passes, typed_at, typed_in}
 use Rattle.nomos_index.specs.Walks.{purse_in}
 use Rattle.nomos_index.specs.declared.kept.Kept.{Kept}

@@ -1,6 +1,7 @@
 -- What an indexed state is seen as, with room counted in firings.
 use Rattle.std.specs.Prelude.{◌≤◌, ◌*◌, ℕ, Option}
 use Rattle.nomos_machine.specs.State.{State}
+use Rattle.nomos_parts.specs.declared.performing.TheConstants.{ROOM_OF_AN_ACT}
 use Rattle.nomos_index.specs.declared.indexed.IndexedState.TheInside.{Inside}
 
 -- the state, the one that is marked, and for how many firings ahead there is room
@@ -14,4 +15,4 @@ machine_of s = record { state = s.inside.state; marked = s.inside.marked; spare 
 
 -- each firing ahead has the room of an act
 abbrev pub HasSpare : Inside → Type 0
-HasSpare s = s.spare * 8 ≤ s.inside.room
+HasSpare s = s.spare * ROOM_OF_AN_ACT ≤ s.inside.room

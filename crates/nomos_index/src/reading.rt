@@ -110,7 +110,12 @@ fn channel(contents: &Contents, pid: u32, v: VarId) -> Option<u32>
 }
 
 /// The shared name for which a process waits, where it stands at `acquire`.
-pub(crate) fn acquires(accepted: &Accepted, contents: &Contents, pid: u32, p: &KeptProcess) -> Option<u32>
+pub(crate) fn acquires(
+    accepted: &Accepted,
+    contents: &Contents,
+    pid: u32,
+    p: &KeptProcess,
+) -> Option<u32>
     ensures { (values : ValueRow) (its_lists : ListRow)
         → result ≡ acquires accepted.now (process_held contents.now.channels.now pid values its_lists p.now) }
 {
