@@ -1,5 +1,5 @@
 -- What is kept is in order again, where objects, rows and channels changed and the marks stayed.
-use Rattle.std.proofs.Common.{◌≡◌, ◌≤◌, ℕ, Option, Result, Ok, Err, OnErr, refl}
+use Rattle.std.proofs.Common.{◌≡◌, ℕ, Result, Ok, Err, OnErr, refl}
 use Rattle.std.specs.Option.{option_map}
 use Rattle.nomos_ir.specs.Value.{Value}
 use Rattle.nomos_ir.specs.declared.ids.VarId.{VarId}

@@ -1,5 +1,5 @@
 -- A process comes to an indexed state: room is made for its channels, they are bound, and it comes with its rows.
-use Rattle.std.proofs.Common.{◌≡◌, ◌≢◌, ◌≤◌, ◌-◌, ◌∙◌, ◌++◌, ◌∷◌, ℕ, List, [], Option, Some, refl, sym, ap, subst}
+use Rattle.std.proofs.Common.{◌≡◌, ◌-◌, ◌∙◌, ◌++◌, ◌∷◌, ℕ, List, [], Some, refl, sym, ap, subst}
 use Rattle.std.specs.Option.{option_map}
 use Rattle.nomos_ir.specs.Bindings.{bindings_of}
 use Rattle.nomos_ir.specs.Value.{Value}
@@ -31,13 +31,13 @@ module _ (s : Inside) (is : IsIndexed s) (born : Newborn) (k : KeptProcess) (obj
     (values : Shelving (VarId × Value)) (its_lists : Shelving (VarId × PotentialList)) (reserved after : Marking Cell)
     (names : (p w : ℕ) → name_in reserved.now p w ≡ name_in s.contents.channels.now p w)
     (come : (p w : ℕ) → name_in after.now p w
-        ≡ name_with born.fields.pid born.channels.items p w (name_in reserved.now p w))
+    ≡ name_with born.fields.pid born.channels.items p w (name_in reserved.now p w))
     (marked : HaveSameNames s.contents.channels.marked reserved.marked) (again : after.marked ≡ reserved.marked)
     (o : objects.marked ≡ s.contents.objects.marked) (v : values.marked ≡ s.contents.values.marked)
     (l : its_lists.marked ≡ s.contents.lists.marked) (next : born.fields.pid ≡ s.contents.numbers.next_object)
     (fields : k ≡ kept_of born.fields)
     (slots : objects.now
-        ≡ s.contents.objects.now ++ (record { number = born.fields.pid; item = Some (kept.Process k) }) ∷ [])
+    ≡ s.contents.objects.now ++ (record { number = born.fields.pid; item = Some (kept.Process k) }) ∷ [])
     (rows : values.now ≡ s.contents.values.now ++ born.values.items ∷ [])
     (list_rows : its_lists.now ≡ s.contents.lists.now ++ born.lists.items ∷ []) where
   pub its_marks : HaveSameNames s.contents.channels.marked after.marked

@@ -1,10 +1,9 @@
 -- A process of an indexed state changes: one part of what is kept of it at a time.
-use Rattle.std.proofs.Common.{◌≡◌, ◌≢◌, ◌≤◌, ◌+◌, ◌-◌, ◌∙◌, ◌&&◌, ℕ, [], List, Option, Some, None, cond, eqb, refl, sym, ap, arith}
+use Rattle.std.proofs.Common.{◌≡◌, ◌≢◌, ◌≤◌, ◌+◌, ◌-◌, ◌∙◌, ℕ, [], List, Some, refl, sym, ap, arith}
 use Rattle.std.proofs.lemmas.List.{set-get_or}
 use Rattle.std.specs.List.{slice_set}
 use Rattle.nomos_ir.specs.Value.{Value}
 use Rattle.nomos_ir.specs.declared.ids.VarId.{VarId}
-use Rattle.nomos_machine.specs.Revised.{with_channel, without_channel}
 use Rattle.nomos_machine.specs.declared.object.PotentialList.{PotentialList}
 use Rattle.nomos_machine.specs.declared.object.Process.{Process}
 use Rattle.nomos_parts.specs.SmallChanges.{Becomes}
@@ -15,7 +14,7 @@ use Rattle.nomos_slots.specs.Tables.{HaveSameNames}
 use Rattle.nomos_slots.specs.Shelving.{Shelving}
 use Rattle.nomos_slots.specs.declared.numbered.Slot.{Slot}
 use Rattle.nomos_slots.proofs.NumberLaws.{put_at-own}
-use Rattle.nomos_index.specs.Indexed.{Holding, IsIndexed, held_now, state_of}
+use Rattle.nomos_index.specs.Indexed.{IsIndexed, held_now, state_of}
 use Rattle.nomos_index.specs.Looked.{ProcessIsAt, lists_at, values_at}
 use Rattle.nomos_index.specs.Objects.{ListRow, ValueRow, channels_of, process_held}
 use Rattle.nomos_index.specs.Placing.{ProcessComes}

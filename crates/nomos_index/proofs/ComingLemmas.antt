@@ -1,10 +1,9 @@
 -- An object comes to an indexed state.
-use Rattle.std.proofs.Common.{◌≡◌, ◌≢◌, ◌≤◌, ◌<◌, ◌+◌, ◌-◌, ◌∙◌, ℕ, zero, suc, [], List, ◌∷◌, ◌++◌, map, All, Option, Some, None, IsSome, length, refl, sym, ap, subst, arith, inl, inr, append_assoc, length-append, cond, ne_eqb}
+use Rattle.std.proofs.Common.{◌≡◌, ◌≢◌, ◌≤◌, ◌<◌, ◌+◌, ◌-◌, ◌∙◌, ℕ, zero, suc, [], List, ◌∷◌, ◌++◌, All, Option, Some, None, IsSome, length, refl, sym, ap, subst, arith, inl, inr, append_assoc, length-append, cond, ne_eqb}
 use Rattle.std.proofs.lemmas.Bool.{both_ways, cases_eq}
 use Rattle.std.proofs.lemmas.List.Elements.{All-cons, All-head, All-nil, All-tail}
 use Rattle.std.proofs.lemmas.Option.{none-some, same_Some}
-use Rattle.std.specs.List.{slice_get, slice_index_or}
-use Rattle.std.specs.Option.{is_some, option_map, option_to_list}
+use Rattle.std.specs.Option.{is_some, option_to_list}
 use Rattle.nomos_ir.specs.Value.{Value}
 use Rattle.nomos_ir.specs.declared.ids.VarId.{VarId}
 use Rattle.nomos_ir.specs.declared.ids.TypeId.{TypeId}
@@ -23,14 +22,13 @@ use Rattle.nomos_slots.specs.declared.numbered.Slot.{Slot}
 use Rattle.nomos_slots.proofs.NumberLaws.{ascending-push, found-push, found-push_other}
 use Rattle.nomos_index.specs.Coming.{ObjectComes}
 use Rattle.nomos_index.specs.Indexed.{Holding, HasRoom, IsHolding, IsIndexed, held_now, state_of}
-use Rattle.nomos_index.specs.Objects.{AreBrought, AreHeld, BringsIt, IsProcess, ListRow, ValueRow, message_held, object_of, objects_of, process_held}
+use Rattle.nomos_index.specs.Objects.{AreBrought, AreHeld, BringsIt, IsProcess, ListRow, ValueRow, message_held, object_of, objects_of}
 use Rattle.nomos_index.specs.declared.inside.Contents.{Contents}
 use Rattle.nomos_index.specs.declared.inside.Inside.TheInside.{Inside}
 use Rattle.nomos_index.specs.declared.inside.Numbers.{Numbers}
 use Rattle.nomos_index.specs.declared.kept.Kept.{Kept}
 use Rattle.nomos_index.specs.declared.kept.Kept.TheVariants as kept
 use Rattle.nomos_index.specs.declared.kept.KeptMessage.{KeptMessage}
-use Rattle.nomos_index.specs.declared.kept.KeptProcess.{KeptProcess}
 use Rattle.nomos_index.proofs.AgainLemmas.{contents_again, indexed-again}
 use Rattle.nomos_index.proofs.PlaceLemmas.{object_in, objects-apart}
 use Rattle.nomos_index.proofs.TogetherLemmas.{same-names}
@@ -208,36 +206,36 @@ module _ (s : Inside) (is : IsIndexed s) (n : ℕ) (k : KeptMessage) (row : Valu
     (brings : k.brings ≡ seen.Value → 1 ≤ length row)
     (slots : objects.now ≡ s.contents.objects.now ++ (record { number = n; item = Some (kept.Message k) }) ∷ [])
     (rows : values.now ≡ s.contents.values.now ++ row ∷ []) (list_rows : its_lists.now ≡ s.contents.lists.now ++ [] ∷ [])
-    where
-  abbrev message_after : Contents
-  message_after =
-      coming_after s is n (kept.Message k) row [] objects values its_lists s.contents.channels o v l
-      (same-names s.contents.channels.marked s.contents.channels.marked refl)
+  where
+    abbrev message_after : Contents
+    message_after =
+        coming_after s is n (kept.Message k) row [] objects values its_lists s.contents.channels o v l
+        (same-names s.contents.channels.marked s.contents.channels.marked refl)
 
-  message-comes : ObjectComes (held_now s.contents) (held_now message_after) n (kept.Message k) row []
-  message-comes = record {
-    is_next = next;
-    brings = brings;
-    its_own = λ w some. absurd (both_ways _ (ap is_some (next-unnamed (held_now s.contents) is.now n w next)) some);
-    others = λ p w other. refl;
-    slots = slots;
-    value_rows = rows;
-    list_rows = list_rows;
-    names = refl;
-    balances = refl;
-    outside = refl;
-    results = refl;
-    drawn = refl;
-  }
+    message-comes : ObjectComes (held_now s.contents) (held_now message_after) n (kept.Message k) row []
+    message-comes = record {
+      is_next = next;
+      brings = brings;
+      its_own = λ w some. absurd (both_ways _ (ap is_some (next-unnamed (held_now s.contents) is.now n w next)) some);
+      others = λ p w other. refl;
+      slots = slots;
+      value_rows = rows;
+      list_rows = list_rows;
+      names = refl;
+      balances = refl;
+      outside = refl;
+      results = refl;
+      drawn = refl;
+    }
 
-  pub message-indexed : HasRoom message_after (s.room - 1)
-      → IsIndexed (record s { contents = message_after; room = s.room - 1 })
-  message-indexed has =
-      come-indexed s is n (kept.Message k) row [] objects values its_lists s.contents.channels o v l
-      (same-names s.contents.channels.marked s.contents.channels.marked refl) message-comes has
+    pub message-indexed : HasRoom message_after (s.room - 1)
+        → IsIndexed (record s { contents = message_after; room = s.room - 1 })
+    message-indexed has =
+        come-indexed s is n (kept.Message k) row [] objects values its_lists s.contents.channels o v l
+        (same-names s.contents.channels.marked s.contents.channels.marked refl) message-comes has
 
-  pub message-state : (m : Message) → object.Message (message_held n row k) ≡ object.Message m
-      → state_of (held_now message_after) ≡ with_object (object.Message m) (state_of (held_now s.contents))
-  message-state m same =
-      coming-state (held_now s.contents) (held_now message_after) is.now n (kept.Message k) row [] message-comes
-      ∙ ap (λ (x : Object). with_object x (state_of (held_now s.contents))) same
+    pub message-state : (m : Message) → object.Message (message_held n row k) ≡ object.Message m
+        → state_of (held_now message_after) ≡ with_object (object.Message m) (state_of (held_now s.contents))
+    message-state m same =
+        coming-state (held_now s.contents) (held_now message_after) is.now n (kept.Message k) row [] message-comes
+        ∙ ap (λ (x : Object). with_object x (state_of (held_now s.contents))) same

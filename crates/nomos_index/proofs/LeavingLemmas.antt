@@ -1,5 +1,5 @@
 -- An object leaves an indexed state, with its rows and its channels.
-use Rattle.std.proofs.Common.{◌≡◌, ◌≢◌, ◌≤◌, ◌<◌, ◌+◌, ◌-◌, ◌∙◌, ℕ, [], List, ◌∷◌, ◌++◌, Bool, true, false, Option, Some, None, IsSome, length, cond, eqb, eq-eqb, ne_eqb, refl, sym, ap, arith}
+use Rattle.std.proofs.Common.{◌≡◌, ◌≢◌, ◌<◌, ◌-◌, ◌∙◌, ℕ, [], List, ◌∷◌, ◌++◌, Bool, true, false, Option, Some, None, length, cond, eqb, eq-eqb, ne_eqb, refl, sym, ap}
 use Rattle.std.proofs.lemmas.Bool.{both_ways}
 use Rattle.std.proofs.lemmas.Option.{none-some, slice_get_within}
 use Rattle.std.specs.List.{slice_set}
@@ -17,13 +17,13 @@ use Rattle.nomos_slots.specs.Numbers.{put_at}
 use Rattle.nomos_slots.specs.Shelving.{Shelving}
 use Rattle.nomos_slots.specs.Tables.{HaveSameNames}
 use Rattle.nomos_slots.specs.declared.numbered.Slot.{Slot}
-use Rattle.nomos_index.specs.Indexed.{Holding, HasRoom, IsHolding, IsIndexed, held_now, state_of}
+use Rattle.nomos_index.specs.Indexed.{Holding, HasRoom, IsIndexed, held_now, state_of}
 use Rattle.nomos_index.specs.Looked.{ObjectIsAt}
 use Rattle.nomos_index.specs.Placing.{CanPlace, PlaceComes}
 use Rattle.nomos_index.specs.declared.inside.Contents.{Contents}
 use Rattle.nomos_index.specs.declared.inside.Inside.TheInside.{Inside}
 use Rattle.nomos_index.specs.declared.kept.Kept.{Kept}
-use Rattle.nomos_index.proofs.AgainLemmas.{contents_again, indexed-again, marks-again}
+use Rattle.nomos_index.proofs.AgainLemmas.{contents_again, indexed-again}
 use Rattle.nomos_index.proofs.PlaceLemmas.{comes-holding, comes-state}
 use Rattle.nomos_index.proofs.ProcessLemmas.{slot-kept}
 

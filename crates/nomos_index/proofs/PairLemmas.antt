@@ -1,5 +1,5 @@
 -- Pairs are bound for a process, the last one first.
-use Rattle.std.proofs.Common.{◌≡◌, ◌≢◌, ◌<◌, ◌≤◌, ◌+◌, ◌∙◌, ◌&&◌, zero, suc, ℕ, Bool, true, false, cond, eqb, List, [], ◌∷◌, length, drop, get_or, Option, Some, None, refl, sym, ap, arith, eq-eqb, ne_eqb}
+use Rattle.std.proofs.Common.{◌≡◌, ◌≢◌, ◌<◌, ◌+◌, ◌∙◌, ◌&&◌, ℕ, Bool, true, false, cond, eqb, List, ◌∷◌, length, drop, get_or, Option, Some, None, refl, sym, ap, arith, eq-eqb, ne_eqb}
 use Rattle.std.proofs.lemmas.List.{at_drop_more}
 use Rattle.std.proofs.Math.ListN.{drop_of_length-le}
 use Rattle.nomos_ir.specs.Bindings.{bound_to}

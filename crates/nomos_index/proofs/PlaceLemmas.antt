@@ -1,5 +1,5 @@
 -- The objects, where something else stands at a place: another object stands under its number.
-use Rattle.std.proofs.Common.{◌≡◌, ◌≢◌, ◌∙◌, ◌<◌, ◌≤◌, ℕ, zero, suc, cond, List, [], ◌∷◌, ◌++◌, set, length, All, IfSome, IsSome, Option, Some, None, Less, refl, sym, ap, subst, arith, eqb, eq-eqb, ne_eqb, inl, inr}
+use Rattle.std.proofs.Common.{◌≡◌, ◌≢◌, ◌∙◌, ◌<◌, ℕ, zero, suc, cond, List, [], ◌∷◌, ◌++◌, set, length, All, IsSome, Option, Some, None, Less, refl, sym, ap, subst, arith, eq-eqb, ne_eqb, inl, inr}
 use Rattle.std.proofs.lemmas.Bool.{cases_eq}
 use Rattle.std.proofs.lemmas.Cmp.{ranked}
 use Rattle.std.proofs.lemmas.List.{length-set, get_or-set_same, get_or-set_other}
@@ -11,7 +11,6 @@ use Rattle.std.specs.Ordering.{nat_cmp}
 use Rattle.std.specs.Option.{option_map, option_to_list}
 use Rattle.nomos_machine.specs.Change as change
 use Rattle.nomos_machine.specs.Objects.{object_number}
-use Rattle.nomos_machine.specs.State.{State}
 use Rattle.nomos_machine.specs.declared.object.Object.{Object}
 use Rattle.nomos_slots.specs.Cells.{Cell, name_in}
 use Rattle.nomos_slots.specs.Numbers.{IsAscending, found, numbers, put_at}

@@ -1,11 +1,10 @@
 -- Whoever uses a name uses another one instead.
-use Rattle.std.proofs.Common.{◌≡◌, ◌≢◌, ◌≤◌, ◌<◌, ◌∙◌, ℕ, zero, suc, Bool, true, false, cond, eqb, eq-eqb, ne_eqb, List, [], ◌∷◌, map, length, Option, Some, None, IsSome, refl, sym, ap, subst, arith}
+use Rattle.std.proofs.Common.{◌≡◌, ◌≢◌, ◌≤◌, ◌<◌, ◌∙◌, ℕ, zero, suc, cond, eqb, eq-eqb, ne_eqb, List, [], ◌∷◌, map, length, Option, Some, None, refl, sym, ap, subst, arith}
 use Rattle.std.proofs.lemmas.List.{set-get_or}
 use Rattle.std.proofs.lemmas.Option.{none-some, same_Some}
-use Rattle.std.specs.List.{slice_get, slice_index_or}
+use Rattle.std.specs.List.{slice_get}
 use Rattle.std.specs.Option.{option_map, option_to_list}
 use Rattle.nomos_ir.specs.Bindings.{each_bound}
-use Rattle.nomos_ir.specs.declared.ids.VarId.{VarId}
 use Rattle.nomos_deeds.specs.declared.sight.SeenPayload.{SeenPayload}
 use Rattle.nomos_deeds.specs.declared.sight.SeenPayload.TheVariants as seen
 use Rattle.nomos_machine.specs.Change as change
@@ -14,26 +13,24 @@ use Rattle.nomos_machine.specs.Optional.{◌>>=◌}
 use Rattle.nomos_machine.specs.Revised.{renamed, renamed_payload, uses_instead}
 use Rattle.nomos_machine.specs.Sight.{owner, user_of}
 use Rattle.nomos_machine.specs.State.{State}
-use Rattle.nomos_machine.specs.declared.object.Message.{Message}
 use Rattle.nomos_machine.specs.declared.object.Object.{Object}
 use Rattle.nomos_machine.specs.declared.object.Object.TheVariants as object
 use Rattle.nomos_machine.specs.declared.object.Payload.{Payload}
 use Rattle.nomos_machine.specs.declared.object.Process.{Process}
 use Rattle.nomos_machine.proofs.ForwardLaws.{user_of-found}
 use Rattle.nomos_machine.proofs.PutLaws.{InOrder, object_at-own}
-use Rattle.nomos_parts.specs.SmallChanges.{redirected, with_process}
+use Rattle.nomos_parts.specs.SmallChanges.{redirected}
 use Rattle.nomos_slots.specs.Cells.{Cell, name_in}
 use Rattle.nomos_slots.specs.Marking.{Marking}
 use Rattle.nomos_slots.specs.Numbers.{found, put_at}
 use Rattle.nomos_slots.specs.Sweeps.{instead_of}
 use Rattle.nomos_slots.specs.declared.numbered.Slot.{Slot}
 use Rattle.nomos_slots.proofs.NumberLaws.{found-at}
-use Rattle.nomos_index.specs.Indexed.{Holding, IsHolding, IsIndexed, held_now, state_of}
+use Rattle.nomos_index.specs.Indexed.{Holding, IsIndexed, held_now, state_of}
 use Rattle.nomos_index.specs.Instead.{brings_instead, kept_instead}
 use Rattle.nomos_index.specs.Looked.{ObjectIsAt, ProcessIsAt, lists_at, values_at}
-use Rattle.nomos_index.specs.Objects.{BringsIt, IsProcess, ValueRow, channels_of, message_held, payload_of, process_held}
+use Rattle.nomos_index.specs.Objects.{IsProcess, ValueRow, channels_of, message_held, payload_of, process_held}
 use Rattle.nomos_index.specs.Placing.{CanPlace, PlaceComes}
-use Rattle.nomos_index.specs.declared.inside.Contents.{Contents}
 use Rattle.nomos_index.specs.declared.inside.Inside.TheInside.{Inside}
 use Rattle.nomos_index.specs.declared.kept.Kept.{Kept}
 use Rattle.nomos_index.specs.declared.kept.Kept.TheVariants as kept
@@ -41,7 +38,6 @@ use Rattle.nomos_index.specs.declared.kept.KeptMessage.{KeptMessage}
 use Rattle.nomos_index.specs.declared.kept.KeptProcess.{KeptProcess}
 use Rattle.nomos_index.proofs.AgainLemmas.{indexed-again}
 use Rattle.nomos_index.proofs.ChangingLemmas.{channels-become}
-use Rattle.nomos_index.proofs.LookLemmas.{state-in_order}
 use Rattle.nomos_index.proofs.PlaceLemmas.{comes-holding, comes-state}
 use Rattle.nomos_index.proofs.ProcessLemmas.{slot-kept}
 use Rattle.nomos_index.proofs.RebindLemmas.{channels-each}
@@ -96,8 +92,8 @@ module _ (s : Inside) (is : IsIndexed s) (old new number place : ℕ) (k : KeptP
     (at : ObjectIsAt (held_now s.contents) number place (kept.Process k))
     (user : UserStands (state_of (held_now s.contents)).objects old number)
     (names : (p w : ℕ) → name_in channels.now p w
-        ≡ cond (eqb number p) (option_map (instead_of old new) (name_in s.contents.channels.now p w))
-        (name_in s.contents.channels.now p w))
+    ≡ cond (eqb number p) (option_map (instead_of old new) (name_in s.contents.channels.now p w))
+    (name_in s.contents.channels.now p w))
     (marked : channels.marked ≡ s.contents.channels.marked) (room : s.contents.channels.room ≤ channels.room) where
   stands : ProcessIsAt (held_now s.contents) number place k
   stands = record { at = at.at; found = ap (λ (o : Option Object). o >>= process_of) at.found }

@@ -1,7 +1,7 @@
 -- The channels of a process are replaced: room is made for the new ones, the old ones go, and the new ones come.
-use Rattle.std.proofs.Common.{◌≡◌, ◌≢◌, ◌≤◌, ◌∙◌, ℕ, List, Option, None, cond, eqb, eq-eqb, ne_eqb, refl, sym, ap, subst, arith}
+use Rattle.std.proofs.Common.{◌≡◌, ◌≢◌, ◌≤◌, ◌∙◌, ℕ, List, None, cond, eqb, eq-eqb, ne_eqb, refl, sym, ap, subst, arith}
 use Rattle.std.specs.Option.{option_map}
-use Rattle.nomos_ir.specs.Bindings.{bindings_of, bound_to}
+use Rattle.nomos_ir.specs.Bindings.{bindings_of}
 use Rattle.nomos_ir.specs.declared.ids.VarId.{VarId}
 use Rattle.nomos_parts.specs.SmallChanges.{Becomes, with_channels}
 use Rattle.nomos_slots.specs.Cells.{Cell, name_in}

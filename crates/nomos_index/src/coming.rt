@@ -39,11 +39,7 @@ fn carried(
 
 impl Inside {
     /// A message comes, which has the next number. It takes no memory where it brings no value.
-    pub(crate) fn come_message(
-        &mut self,
-        alloc: Global,
-        message: Message,
-    ) -> Result<(), AllocError>
+    pub(crate) fn come_message(&mut self, alloc: Global, message: Message) -> Result<(), AllocError>
         requires room { 0 < self.old.room }
         requires number { message.number ≡ self.old.state.next_object }
         requires fits { self.old.state.next_object < 2 ^ 32 - 1 }

@@ -17,14 +17,8 @@ impl Inside {
             return;
         };
         self.contents.channels.drop_all(number);
-        let _values = self
-            .contents
-            .values
-            .replace(place, Vec::new(self.alloc));
-        let _lists = self
-            .contents
-            .lists
-            .replace(place, Vec::new(self.alloc));
+        let _values = self.contents.values.replace(place, Vec::new(self.alloc));
+        let _lists = self.contents.lists.replace(place, Vec::new(self.alloc));
         self.contents.objects.put(place, None);
         self.room -= 1;
     }

@@ -1,4 +1,4 @@
-use Rattle.std.proofs.Common.{◌≡◌, ◌<◌, ◌≤◌, ◌+◌, ◌-◌, ◌&&◌, ℕ, eqb, cond, Option, Some, length, get_or, drop, refl, sym, ap, ◌∙◌, arith}
+use Rattle.std.proofs.Common.{◌≡◌, ◌<◌, ◌+◌, ◌-◌, ◌&&◌, ℕ, eqb, cond, Option, Some, length, get_or, drop, refl, ap, ◌∙◌, arith}
 use Rattle.nomos_ir.specs.declared.ids.VarId.{VarId}
 use Rattle.nomos_slots.specs.Cells.{name_in}
 use Rattle.nomos_index.specs.Coming.{name_with}

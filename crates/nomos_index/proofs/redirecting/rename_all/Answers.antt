@@ -1,6 +1,5 @@
-use Rattle.std.proofs.Common.{◌≡◌, ◌<◌, ◌≤◌, ℕ, length, eqb, cond, List, None, Some, map, set, get_or, refl, sym, ap, ◌∙◌, arith, eq-eqb, ne_eqb}
-use Rattle.std.proofs.lemmas.Option.{get_or_from_slice_get, slice_get_within}
-use Rattle.std.specs.List.{slice_get}
+use Rattle.std.proofs.Common.{◌≡◌, ◌<◌, ◌≤◌, ℕ, length, cond, List, set, get_or, sym, ap, ◌∙◌, arith, eq-eqb, ne_eqb}
+use Rattle.std.proofs.lemmas.Option.{get_or_from_slice_get}
 use Rattle.nomos_machine.specs.Revised.{renamed}
 use Rattle.nomos_slots.specs.Marking.{Marking}
 use Rattle.nomos_slots.proofs.ChangedLaws.{changed_first, changed-read, changed-same, changed-next, changed-all, length-changed}

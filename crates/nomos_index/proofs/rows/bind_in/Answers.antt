@@ -1,9 +1,6 @@
-use Rattle.std.proofs.Common.{◌≡◌, ◌≤◌, nat_lt, ℕ, List, [], set, sym, ap, ◌∙◌, subst, slice_index_or, slice_set, slice_get}
+use Rattle.std.proofs.Common.{nat_lt, List, [], sym, ap, ◌∙◌, subst, slice_index_or, slice_set, slice_get}
 use Rattle.std.proofs.lemmas.Bool.{both_ways}
 use Rattle.std.specs.List.{insert, prefix_len}
-use Rattle.nomos_ir.specs.Bindings.{bind}
-use Rattle.nomos_ir.specs.Value.{Value}
-use Rattle.nomos_ir.specs.declared.ids.VarId.{VarId}
 use Rattle.nomos_index.specs.Rebound.{IsBoundAt}
 use Rattle.nomos_index.specs.Objects.{ValueRow}
 use Rattle.nomos_index.proofs.RowLemmas.{bind-insert, bind-set}

@@ -1,5 +1,4 @@
-use Rattle.std.proofs.Common.{◌≤◌, ◌-◌, ◌++◌, ◌∷◌, ℕ, [], sym, ap, ◌∙◌, arith}
-use Rattle.nomos_machine.specs.declared.object.Message.{Message}
+use Rattle.std.proofs.Common.{◌++◌, ◌∷◌, [], sym, ap, ◌∙◌, arith}
 use Rattle.nomos_machine.specs.declared.object.Object.TheVariants as object
 use Rattle.nomos_machine.specs.declared.object.Payload.{Payload}
 use Rattle.nomos_parts.specs.SmallChanges.{with_object}
@@ -22,7 +21,7 @@ invariant_of-self c =
     } in
     let next = c.requires.number ∙ sym (ap (λ (i : Indexed). i.state.next_object) c.self.view_is) in
     let list_rows = c.push-3.ensures.now
-        ∙ ap (λ (row : ListRow). s.contents.lists.now ++ row ∷ []) c.new.ensures.items in
+    ∙ ap (λ (row : ListRow). s.contents.lists.now ++ row ∷ []) c.new.ensures.items in
     message-indexed s c.self.invariant m.number k c.in_ok-brings.row.items c.push.new.self c.push-2.new.self
     c.push-3.new.self c.push.ensures.marked c.push-2.ensures.marked c.push-3.ensures.marked next c.in_ok-brings.ensures.row
     c.push.ensures.now c.push-2.ensures.now list_rows
@@ -47,7 +46,7 @@ returns-clause-ok c =
     } in
     let next = c.requires.number ∙ sym (ap (λ (i : Indexed). i.state.next_object) c.self.view_is) in
     let list_rows = c.push-3.ensures.now
-        ∙ ap (λ (row : ListRow). s.contents.lists.now ++ row ∷ []) c.new.ensures.items in
+    ∙ ap (λ (row : ListRow). s.contents.lists.now ++ row ∷ []) c.new.ensures.items in
     let payload = c.in_ok-brings.ensures.payload in
     message-state s c.self.invariant m.number k c.in_ok-brings.row.items c.push.new.self c.push-2.new.self
     c.push-3.new.self c.push.ensures.marked c.push-2.ensures.marked c.push-3.ensures.marked next c.in_ok-brings.ensures.row

@@ -1,8 +1,7 @@
-use Rattle.std.proofs.Common.{◌≡◌, ◌<◌, ◌≤◌, ◌-◌, ℕ, [], List, length, None, subst, sym, ap, ◌∙◌, arith}
+use Rattle.std.proofs.Common.{◌≡◌, List, None, subst, ap, ◌∙◌, arith}
 use Rattle.std.proofs.lemmas.Option.{MatchOption-at_none, MatchOption-at_some}
 use Rattle.std.specs.List.{slice_set}
 use Rattle.nomos_parts.specs.SmallChanges.{without_object}
-use Rattle.nomos_machine.specs.State.{State}
 use Rattle.nomos_machine.specs.declared.object.Object.{Object}
 use Rattle.nomos_index.specs.Indexed.{Indexed, held_now, state_of}
 use Rattle.nomos_index.specs.Looked.{ObjectIsAt}
@@ -49,9 +48,9 @@ invariant_of-self c =
     let at : ObjectIsAt (held_now s.contents) c.args.number place k =
     MatchOption-at_some _ _ (place, k) c.in-Some.is c.object_at.ensures in
     let rows = c.replace-values.ensures.now
-        ∙ ap (λ (row : List _). slice_set s.contents.values.now place row) c.new.ensures.items in
+    ∙ ap (λ (row : List _). slice_set s.contents.values.now place row) c.new.ensures.items in
     let list_rows = c.replace-lists.ensures.now
-        ∙ ap (λ (row : List _). slice_set s.contents.lists.now place row) c.new-2.ensures.items in
+    ∙ ap (λ (row : List _). slice_set s.contents.lists.now place row) c.new-2.ensures.items in
     leaving-indexed s c.self.invariant c.args.number place k at c.put.new.self c.replace-values.new.self
     c.replace-lists.new.self c.drop_all.new.self c.put.ensures.marked c.replace-values.ensures.marked
     c.replace-lists.ensures.marked (same-names _ _ c.drop_all.ensures.marked) c.put.ensures.now rows list_rows
@@ -72,9 +71,9 @@ returns-clause-state c =
     let at : ObjectIsAt (held_now s.contents) c.args.number place k =
     MatchOption-at_some _ _ (place, k) c.in-Some.is c.object_at.ensures in
     let rows = c.replace-values.ensures.now
-        ∙ ap (λ (row : List _). slice_set s.contents.values.now place row) c.new.ensures.items in
+    ∙ ap (λ (row : List _). slice_set s.contents.values.now place row) c.new.ensures.items in
     let list_rows = c.replace-lists.ensures.now
-        ∙ ap (λ (row : List _). slice_set s.contents.lists.now place row) c.new-2.ensures.items in
+    ∙ ap (λ (row : List _). slice_set s.contents.lists.now place row) c.new-2.ensures.items in
     leaving-state s c.self.invariant c.args.number place k at c.put.new.self c.replace-values.new.self
     c.replace-lists.new.self c.drop_all.new.self c.put.ensures.marked c.replace-values.ensures.marked
     c.replace-lists.ensures.marked (same-names _ _ c.drop_all.ensures.marked) c.put.ensures.now rows list_rows

@@ -1,15 +1,9 @@
-use Rattle.std.proofs.Common.{◌≤◌, ◌-◌, ◌&&◌, ℕ, Option, Some, None, cond, eqb, refl, sym, ap, ◌∙◌, subst, arith}
+use Rattle.std.proofs.Common.{refl, subst}
 use Rattle.std.proofs.lemmas.Option.{MatchOption-at_some}
-use Rattle.nomos_ir.specs.Bindings.{bind, unbind}
-use Rattle.nomos_machine.specs.Revised.{with_channel, without_channel}
-use Rattle.nomos_parts.specs.SmallChanges.{Becomes, with_fields, with_lists, with_values}
-use Rattle.nomos_slots.specs.Cells.{name_in}
+use Rattle.nomos_parts.specs.SmallChanges.{Becomes, with_values}
 use Rattle.nomos_index.specs.Indexed.{Indexed, held_now, state_of}
 use Rattle.nomos_index.specs.Looked.{ProcessIsAt}
-use Rattle.nomos_index.specs.Objects.{channels_of}
-use Rattle.nomos_index.specs.declared.kept.KeptProcess.{KeptProcess}
-use Rattle.nomos_index.proofs.ChangingLemmas.{channels-become, channels-indexed, fields-become, fields-indexed, lists-become, lists-indexed, values-become, values-indexed}
-use Rattle.nomos_index.proofs.RebindLemmas.{channels-bound, channels-unbound, other-test}
+use Rattle.nomos_index.proofs.ChangingLemmas.{values-become, values-indexed}
 use Rattle.nomos_index.proofs.inside.Inside.put_values.Goals as goal
 
 pub invariant_of-self : goal.invariant_of-self

@@ -1,14 +1,11 @@
-use Rattle.std.proofs.Common.{◌≡◌, List, sym, ap, ◌∙◌, subst}
+use Rattle.std.proofs.Common.{sym, ap, ◌∙◌, subst}
 use Rattle.std.proofs.lemmas.Option.{MatchOption-at_none, MatchOption-at_some, none-some}
-use Rattle.nomos_machine.specs.State.{State}
-use Rattle.nomos_machine.specs.declared.object.Object.{Object}
 use Rattle.nomos_parts.specs.SmallChanges.{redirected}
 use Rattle.nomos_index.specs.Indexed.{Indexed, held_now, state_of}
 use Rattle.nomos_index.specs.Looked.{ObjectIsAt}
 use Rattle.nomos_index.specs.declared.kept.Kept.{Kept}
-use Rattle.nomos_index.specs.declared.kept.Kept.TheVariants as kept
 use Rattle.nomos_index.proofs.LookLemmas.{state-in_order}
-use Rattle.nomos_index.proofs.RedirectLemmas.{UserStands, message-indexed, message-redirected, process-redirected, user-stands}
+use Rattle.nomos_index.proofs.RedirectLemmas.{message-indexed, message-redirected, process-redirected, user-stands}
 use Rattle.nomos_index.proofs.inside.Inside.redirect_user.Goals as goal
 
 pub invariant_of-self-in-Some-default-Message : goal.invariant_of-self-in-Some-default-Message

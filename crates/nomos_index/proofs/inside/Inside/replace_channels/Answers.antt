@@ -1,10 +1,8 @@
-use Rattle.std.proofs.Common.{◌≡◌, ◌≢◌, ◌≤◌, ◌+◌, ◌∙◌, ℕ, List, length, Option, None, cond, eqb, eq-eqb, ne_eqb, refl, sym, ap, subst, arith}
+use Rattle.std.proofs.Common.{◌≤◌, ◌∙◌, ℕ, List, length, ap, subst, arith}
 use Rattle.std.proofs.lemmas.Option.{MatchOption-at_some}
-use Rattle.nomos_ir.specs.Bindings.{bindings_of}
 use Rattle.nomos_ir.specs.declared.ids.VarId.{VarId}
 use Rattle.nomos_parts.specs.SmallChanges.{Becomes, with_channels}
-use Rattle.nomos_slots.specs.Cells.{Cell, name_in}
-use Rattle.nomos_slots.specs.Tables.{HaveSameNames}
+use Rattle.nomos_slots.specs.Cells.{name_in}
 use Rattle.nomos_index.specs.Coming.{name_with}
 use Rattle.nomos_index.specs.Indexed.{Indexed, held_now, state_of}
 use Rattle.nomos_index.specs.Looked.{ProcessIsAt}
