@@ -19,27 +19,13 @@ use Rattle.nomos_index.specs.declared.kept.Kept.TheVariants as kept
 use Rattle.nomos_index.specs.declared.kept.KeptMessage.{KeptMessage}
 use Rattle.nomos_index.specs.declared.kept.KeptProcess.{KeptProcess}
 
-module _ (test : Object → Bool) (cells : List Cell) where
+module _ (cells : List Cell) where
   -- what stands at a place of slots and rows
-  abbrev standing_in : List (Slot Kept) → List ValueRow → List ListRow → ℕ → Option Object
+  abbrev pub standing_in : List (Slot Kept) → List ValueRow → List ListRow → ℕ → Option Object
   standing_in slots vs ls place = kept_at slots place >>= λ k.
       Some (object_of cells k.0 (slice_index_or vs place []) (slice_index_or ls place []) k.1)
 
-  abbrev FirstIn : List (Slot Kept) → List ValueRow → List ListRow → Option ℕ → Type 0
-  FirstIn slots vs ls result =
-      MatchOption
-      result
-      ((place : ℕ) → some_passes test (standing_in slots vs ls place) ≡ false)
-      (λ place. (some_passes test (standing_in slots vs ls place) ≡ true)
-      × ((before : ℕ) → before < place → some_passes test (standing_in slots vs ls before) ≡ false))
-
-  -- the scan goes over the first object, or stops there
-  find-first : (o : Option Object) (rest : List Object)
-      → find test (option_to_list o ++ rest) ≡ cond (some_passes test o) o (find test rest)
-  find-first None rest = refl
-  find-first (Some x) rest = refl
-
-  first-is : (s : Slot Kept) (slots : List (Slot Kept)) (v : ValueRow) (vs : List ValueRow) (l : ListRow)
+  pub first-is : (s : Slot Kept) (slots : List (Slot Kept)) (v : ValueRow) (vs : List ValueRow) (l : ListRow)
       (ls : List ListRow)
       → standing_in (s ∷ slots) (v ∷ vs) (l ∷ ls) 0 ≡ option_map (object_of cells s.number v l) s.item
   first-is s slots v vs l ls = at s.item
@@ -52,9 +38,24 @@ module _ (test : Object → Bool) (cells : List Cell) where
       at None = refl
       at (Some k) = refl
 
+module _ (test : Object → Bool) (cells : List Cell) where
+  abbrev FirstIn : List (Slot Kept) → List ValueRow → List ListRow → Option ℕ → Type 0
+  FirstIn slots vs ls result =
+      MatchOption
+      result
+      ((place : ℕ) → some_passes test (standing_in cells slots vs ls place) ≡ false)
+      (λ place. (some_passes test (standing_in cells slots vs ls place) ≡ true)
+      × ((before : ℕ) → before < place → some_passes test (standing_in cells slots vs ls before) ≡ false))
+
+  -- the scan goes over the first object, or stops there
+  find-first : (o : Option Object) (rest : List Object)
+      → find test (option_to_list o ++ rest) ≡ cond (some_passes test o) o (find test rest)
+  find-first None rest = refl
+  find-first (Some x) rest = refl
+
   found-in : (slots : List (Slot Kept)) (vs : List ValueRow) (ls : List ListRow) (r : Option ℕ)
       → length vs ≡ length slots → length ls ≡ length slots → FirstIn slots vs ls r
-      → find test (objects_of cells slots vs ls) ≡ (r >>= standing_in slots vs ls)
+      → find test (objects_of cells slots vs ls) ≡ (r >>= standing_in cells slots vs ls)
   found-in [] vs ls None long also first = refl
   found-in [] vs ls (Some place) long also first = absurd (false-true (first.0))
     where
@@ -64,20 +65,20 @@ module _ (test : Object → Bool) (cells : List Cell) where
   found-in (s ∷ slots) (v ∷ vs) [] r long also first = absurd (omega arith)
   found-in (s ∷ slots) (v ∷ vs) (l ∷ ls) None long also none =
       let o = option_map (object_of cells s.number v l) s.item in
-      let here : some_passes test o ≡ false = ap (some_passes test) (sym (first-is s slots v vs l ls)) ∙ none 0 in
+      let here : some_passes test o ≡ false = ap (some_passes test) (sym (first-is cells s slots v vs l ls)) ∙ none 0 in
       find-first o (objects_of cells slots vs ls)
       ∙ ap (λ b. cond b o (find test (objects_of cells slots vs ls))) here
       ∙ found-in slots vs ls None (omega arith) (omega arith) (λ place. none (suc place))
   found-in (s ∷ slots) (v ∷ vs) (l ∷ ls) (Some zero) long also (passed, before) =
       let o = option_map (object_of cells s.number v l) s.item in
-      let here : some_passes test o ≡ true = ap (some_passes test) (sym (first-is s slots v vs l ls)) ∙ passed in
+      let here : some_passes test o ≡ true = ap (some_passes test) (sym (first-is cells s slots v vs l ls)) ∙ passed in
       find-first o (objects_of cells slots vs ls)
       ∙ ap (λ b. cond b o (find test (objects_of cells slots vs ls))) here
-      ∙ sym (first-is s slots v vs l ls)
+      ∙ sym (first-is cells s slots v vs l ls)
   found-in (s ∷ slots) (v ∷ vs) (l ∷ ls) (Some (suc place)) long also (passed, before) =
       let o = option_map (object_of cells s.number v l) s.item in
       let here : some_passes test o ≡ false =
-      ap (some_passes test) (sym (first-is s slots v vs l ls)) ∙ before 0 (omega arith)
+      ap (some_passes test) (sym (first-is cells s slots v vs l ls)) ∙ before 0 (omega arith)
       in
       find-first o (objects_of cells slots vs ls)
       ∙ ap (λ b. cond b o (find test (objects_of cells slots vs ls))) here

@@ -38,20 +38,7 @@ and-told false c is = absurd cc
 and-shown : (b c : Bool) → b ≡ true → c ≡ true → (b && c) ≡ true
 and-shown b c first second = ap (λ t. t && c) first ∙ second
 
--- what is found passes
-find-passed : {X : Type 0} (passes : X → Bool) (xs : List X) (x : X) → find passes xs ≡ Some x → passes x ≡ true
-find-passed passes [] x found = absurd cc
-find-passed {X} passes (e ∷ xs) x found = at (find-passed passes xs x) (passes e) refl found
-  where
-    at : (find passes xs ≡ Some x → passes x ≡ true) → (b : Bool) → passes e ≡ b
-        → cond b (Some e) (find passes xs) ≡ Some x → passes x ≡ true
-    at rest true is found = let same : e ≡ x = cc in ap passes (sym same) ∙ is
-    at rest false is found = rest found
-
 -- ---- processes
-
-abbrev pid_in : Option Object → Option ℕ
-pid_in o = option_map (λ p. p.pid) (o >>= process_of)
 
 module _ (P : ℕ → Type 0) (after : ℕ) (test : Process → Bool) (objects : List Object) (order : InOrder objects)
     (told : (p : Process) → object_at objects p.pid ≡ Some (object.Process p) → test p ≡ true → P p.pid)
@@ -71,17 +58,8 @@ module _ (P : ℕ → Type 0) (after : ℕ) (test : Process → Bool) (objects :
       let higher : after < p.pid = omega (arith, over, number) in
       (object.Process p, there, number, and-shown (nat_lt after p.pid) (test p) (lt-ltb after p.pid higher) tested)
 
-  number-pid : (o : Option Object) → find (is_over after test) objects ≡ o → option_map object_number o ≡ pid_in o
-  number-pid (Some (object.Process p)) found = refl
-  number-pid (Some (object.Message m)) found =
-      let passed : false ≡ true = find-passed (is_over after test) objects (object.Message m) found in
-      absurd cc
-  number-pid None found = refl
-
-  over-next : FindsNext P after (pid_in (find (is_over after test) objects))
-  over-next =
-      subst (FindsNext P after) (number-pid (find (is_over after test) objects) refl)
-      (finds-next object_number (is_over after test) P after objects order passing-told passing-each)
+  over-next : FindsNext P after (option_map object_number (find (is_over after test) objects))
+  over-next = finds-next object_number (is_over after test) P after objects order passing-told passing-each
 
 -- the same of what was found
 pub walk-next : (P : ℕ → Type 0) (after : ℕ) (test : Process → Bool) (objects : List Object)
@@ -90,16 +68,16 @@ pub walk-next : (P : ℕ → Type 0) (after : ℕ) (test : Process → Bool) (ob
     → ((q : ℕ) → P q
     → (p : Process) × (object_at objects q ≡ Some (object.Process p)) × (test p ≡ true))
     → (found : Option Object) → found ≡ find (is_over after test) objects
-    → (answer : Option ℕ) → answer ≡ pid_in found → FindsNext P after answer
+    → (answer : Option ℕ) → answer ≡ option_map object_number found → FindsNext P after answer
 walk-next P after test objects order told each found is answer same =
-    subst (FindsNext P after) (sym (same ∙ ap pid_in is))
+    subst (FindsNext P after) (sym (same ∙ ap (option_map object_number) is))
     (over-next P after test objects order told each)
 
 -- ---- what is walked over
 
 pub transactions-next : (after : ℕ) (objects : List Object) → InOrder objects
     → (found : Option Object) → found ≡ find (is_over after is_transaction) objects
-    → (answer : Option ℕ) → answer ≡ pid_in found
+    → (answer : Option ℕ) → answer ≡ option_map object_number found
     → FindsNext (IsTransaction objects) after answer
 transactions-next after objects order found is answer same =
     walk-next (IsTransaction objects) after is_transaction objects order
@@ -132,7 +110,7 @@ process-there objects q p found = at (object_at objects q) found
 
 pub waiting-next : (a : Acceptance) (after : ℕ) (objects : List Object) → InOrder objects
     → (found : Option Object) → found ≡ find (is_over after (is_acquiring a)) objects
-    → (answer : Option ℕ) → answer ≡ pid_in found
+    → (answer : Option ℕ) → answer ≡ option_map object_number found
     → FindsNext (IsWaiting a objects) after answer
 waiting-next a after objects order found is answer same =
     walk-next (IsWaiting a os) after (is_acquiring a) objects order
@@ -160,7 +138,7 @@ waiting-next a after objects order found is answer same =
 pub ready-next : (a : Acceptance) (s : State) → IsAccepted a → IsTyped a s → (after : ℕ) (objects : List Object)
     → s.objects ≡ objects
     → (found : Option Object) → found ≡ find (is_over after (is_ready_in a s)) objects
-    → (answer : Option ℕ) → answer ≡ pid_in found
+    → (answer : Option ℕ) → answer ≡ option_map object_number found
     → MatchOption answer (NoneReady a s after) (IsNextReady a s after)
 ready-next a s accepted typed after objects kept found is answer same =
     next-ready a s after answer

@@ -57,6 +57,11 @@ payload_of (seen.Channel name) values = payload.Channel name
 payload_of seen.Pay values = payload.Pay
 payload_of seen.Close values = payload.Close
 
+-- the value that stands first in a row
+abbrev pub first_value : ValueRow → Option Value
+first_value [] = None
+first_value (e ∷ values) = Some e.1
+
 -- the process, and the message, of a number
 abbrev pub process_held : List Cell → ℕ → ValueRow → ListRow → KeptProcess → Process
 process_held cells number values its_lists k = record {

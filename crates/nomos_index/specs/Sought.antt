@@ -1,11 +1,15 @@
 -- What is looked for among objects, and what is found first.
-use Rattle.std.specs.Prelude.{◌≡◌, ◌==◌, ◌||◌, ◌<◌, min, ℕ, Bool, true, false, Option, Some, None, MatchOption}
+use Rattle.std.specs.Prelude.{◌≡◌, ◌==◌, ◌||◌, ◌<◌, min, ℕ, Bool, true, false, List, Option, Some, None, MatchOption, slice_get}
 use Rattle.std.specs.List.{list_any}
+use Rattle.std.specs.Option.{option_map}
+use Rattle.nomos_ir.specs.declared.ids.TypeId.{TypeId}
 use Rattle.nomos_machine.specs.Objects.{mentioned, used}
+use Rattle.nomos_machine.specs.Optional.{◌>>=◌}
 use Rattle.nomos_machine.specs.Sight.{is_offered, is_read_on}
 use Rattle.nomos_machine.specs.declared.object.Object.{Object}
 use Rattle.nomos_machine.specs.declared.object.Object.TheVariants as object
 use Rattle.nomos_deeds.specs.Readers.{stands_for}
+use Rattle.nomos_slots.specs.declared.numbered.Slot.{Slot}
 use Rattle.nomos_index.specs.Indexed.{Holding, standing_at}
 use Rattle.nomos_index.specs.Walks.{is_over, is_transaction}
 use Rattle.nomos_index.specs.declared.seeking.Sought.{Sought}
@@ -46,6 +50,22 @@ IsFirstPlace test h result =
     result
     ((place : ℕ) → passes_at test h place ≡ false)
     (λ place. (passes_at test h place ≡ true) × ((before : ℕ) → before < place → passes_at test h before ≡ false))
+
+-- the name at a place with its type, where it has one
+abbrev pub typed_in : Slot TypeId → Option (ℕ × TypeId)
+typed_in s = option_map (λ t. (s.number, t)) s.item
+
+abbrev pub typed_at : List (Slot TypeId) → ℕ → Option (ℕ × TypeId)
+typed_at names place = slice_get names place >>= typed_in
+
+-- the first place of a name that passes a test, and none where none passes
+abbrev pub IsFirstName : (ℕ × TypeId → Bool) → List (Slot TypeId) → Option ℕ → Type 0
+IsFirstName test names result =
+    MatchOption
+    result
+    ((place : ℕ) → some_passes test (typed_at names place) ≡ false)
+    (λ place. (some_passes test (typed_at names place) ≡ true)
+    × ((before : ℕ) → before < place → some_passes test (typed_at names before) ≡ false))
 
 -- the lower one of two numbers that are there
 abbrev pub lower_of : Option ℕ → Option ℕ → Option ℕ

@@ -137,8 +137,8 @@ pub(crate) fn first(contents: &Contents, sought: Sought) -> Option<usize>
     None
 }
 
-// What is seen of a message.
-fn seen_message(number: u32, m: &KeptMessage) -> SeenMessage
+/// What is seen of a message.
+pub(crate) fn seen_message(number: u32, m: &KeptMessage) -> SeenMessage
     ensures { (values : ValueRow) → HasValue m.now.brings values
         → result ≡ seen_message (message_held number values m.now) }
 {
@@ -228,11 +228,11 @@ pub(crate) fn next_transaction(contents: &Contents, after: u32) -> Option<u32>
     requires { IsHolding (held_now contents.now) }
     ensures { FindsNext (IsTransaction (state_of (held_now contents.now)).objects) after result }
 {
-    pid_of(process_in(contents, first(contents, Sought::TransactionOver(after))))
+    number_in(contents, first(contents, Sought::TransactionOver(after)))
 }
 
-// The number of the object at a place, if one stands there.
-fn number_in(contents: &Contents, place: Option<usize>) -> Option<u32>
+/// The number of the object at a place, if one stands there.
+pub(crate) fn number_in(contents: &Contents, place: Option<usize>) -> Option<u32>
     ensures { result ≡ option_map object_number (option_and_then (standing_at (held_now contents.now)) place) }
 {
     let (number, _) = kept_at(contents, place?)?;

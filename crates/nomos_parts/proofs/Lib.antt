@@ -1,0 +1,15 @@
+pub mod BecomesLemmas
+pub mod BeginActLemmas
+pub mod BeginLemmas
+pub mod BehindLemmas
+pub mod BirthLemmas
+pub mod GivenLemmas
+pub mod HandLemmas
+pub mod MadeLemmas
+pub mod MessageLemmas
+pub mod PairLemmas
+pub mod PotentialLemmas
+pub mod RevisionLemmas
+pub mod SendActLemmas
+pub mod SharingLemmas
+pub mod StartingLemmas

@@ -10,7 +10,7 @@ use Rattle.nomos_machine.specs.Change.{put_at, put_all}
 use Rattle.nomos_deeds.specs.Acts.{message_at}
 use Rattle.nomos_machine.specs.Deeds.{value_in}
 use Rattle.nomos_machine.specs.Optional.{◌>>=◌}
-use Rattle.nomos_machine.specs.Revised.{renamed, uses_instead}
+use Rattle.nomos_machine.specs.Revised.{uses_instead}
 use Rattle.nomos_machine.specs.Sight.{user_of}
 use Rattle.nomos_machine.specs.Objects.{object_number}
 use Rattle.nomos_machine.specs.State.{State, process_at}

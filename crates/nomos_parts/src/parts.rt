@@ -95,13 +95,7 @@ pub trait Parts: Sight {
         ensures marked { marked self.new ≡ marked self.old };
 
     /// A variable of the process is bound to a value.
-    fn bind_value(
-        &mut self,
-        alloc: Global,
-        pid: u32,
-        v: VarId,
-        x: Value,
-    ) -> Result<(), AllocError>
+    fn bind_value(&mut self, alloc: Global, pid: u32, v: VarId, x: Value) -> Result<(), AllocError>
         requires room { 0 < room self.old }
         ensures ok { OnOk result (Becomes (Self.state self.old) pid (with_value v x) (Self.state self.new)) }
         ensures err { OnErr result (Self.state self.new ≡ Self.state self.old) }

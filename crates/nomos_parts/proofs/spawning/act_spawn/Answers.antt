@@ -1,0 +1,48 @@
+use Rattle.std.proofs.Common.{◌≡◌, ◌∙◌, ℕ, sym, ap, arith, refl}
+use Rattle.nomos_ir.specs.declared.declaration.ProcDecl.{ProcDecl}
+use Rattle.nomos_types.specs.Amount.{dths}
+use Rattle.nomos_deeds.specs.declared.act.Act.TheVariants as act
+use Rattle.nomos_machine.specs.Change.{Change}
+use Rattle.nomos_machine.specs.Deeds.{spawns}
+use Rattle.nomos_machine.specs.Given.{Given, begins}
+use Rattle.nomos_parts.specs.Beginnings.{HasBegun}
+use Rattle.nomos_parts.proofs.BeginActLemmas.{begun-change, comes-in, spawn-made}
+use Rattle.nomos_parts.proofs.BeginLemmas.{begun-is}
+use Rattle.nomos_parts.proofs.MadeLemmas.{can-acts}
+use Rattle.nomos_parts.proofs.BecomesLemmas.{on_ok}
+use Rattle.nomos_parts.proofs.spawning.act_spawn.Goals as goal
+
+pub spawn_child-requires-clause-fits : goal.spawn_child-requires-clause-fits
+spawn_child-requires-clause-fits g c p d args gives there begins_with =
+    let s = g.P.Sight.state c.args.parts.now in
+    let a = c.args.accepted.now in
+    let spawn = c.args.spawn in
+    let acts = can-acts a s spawn.pid c.args.values (act.Spawn spawn.variable spawn.declaration spawn.next) c.requires.can in
+    let own = acts.process in
+    let got = begun-change a s own spawn.declaration c.args.values acts.change
+    (λ d args g. spawns a s own spawn.variable d args g spawn.next) acts.changes in
+    let has : HasBegun a s spawn.pid spawn.declaration c.args.values got.declaration got.args got.gives own.payer =
+    record { process = own; there = acts.there; begins = got.begins; payer_is = refl } in
+    let same = begun-is a s spawn.pid spawn.declaration c.args.values got.declaration d got.args args got.gives gives own.payer p
+    has there begins_with in
+    let child = comes-in s acts.change _ (ap (λ (c : Change). c.comes) got.is) in
+    let alike : (begins got.declaration got.gives s.next_object s.next_name (dths a.annotations got.declaration.amount) own.payer).purse
+    ≡ (begins d gives s.next_object s.next_name (dths a.annotations d.amount) p.payer).purse =
+    ap (λ (d : ProcDecl). (begins d got.gives s.next_object s.next_name (dths a.annotations d.amount) own.payer).purse) same.declaration
+    ∙ ap (λ (g : Given). (begins d g s.next_object s.next_name (dths a.annotations d.amount) own.payer).purse) same.gives
+    ∙ ap (λ (payer : ℕ). (begins d gives s.next_object s.next_name (dths a.annotations d.amount) payer).purse) same.payer_is
+    in
+    omega (arith, child, alike, acts.gas_after)
+
+pub returns-clause-ok : goal.returns-clause-ok
+returns-clause-ok g c =
+    let s = g.P.Sight.state c.args.parts.now in
+    let a = c.args.accepted.now in
+    let spawn = c.args.spawn in
+    let acts = can-acts a s spawn.pid c.args.values (act.Spawn spawn.variable spawn.declaration spawn.next) c.requires.can in
+    let p = acts.process in
+    let got = begun-change a s p spawn.declaration c.args.values acts.change
+    (λ d args g. spawns a s p spawn.variable d args g spawn.next) acts.changes in
+    on_ok c.spawn_child.result
+    (λ is. is ∙ spawn-made a s p spawn got.declaration got.args got.gives acts.change got.is ∙ sym acts.makes)
+    (c.spawn_child.ensures.ok p got.declaration got.args got.gives acts.there got.begins)
