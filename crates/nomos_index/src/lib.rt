@@ -3,6 +3,7 @@
 
 mod accounts;
 mod binding;
+mod changes;
 mod changing;
 mod coming;
 mod copying;
