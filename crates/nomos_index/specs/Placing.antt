@@ -17,8 +17,8 @@ with_place place item values its_lists cells h = record h {
   cells = cells;
 }
 
--- An object is kept there; what comes in its place has what it brings in its row, and only a process has channels. Those
--- of other processes stay.
+-- An object is kept there; what comes in its place has what it brings in its row, and only a process has channels.
+-- Those of other processes stay.
 pub record CanPlace (h : Holding) (place number : ℕ) (before : Kept) (item : Option Kept) (values : ValueRow)
     (cells : List Cell) : Type 0 where
   pub stood : slice_get h.slots place ≡ Some (record { number = number; item = Some before })

@@ -201,7 +201,8 @@ impl Channels {
     /// Variables of a process that have the one name have the other one instead. It takes no memory.
     pub fn rename(&mut self, process: u32, old: u32, new: u32)
         ensures names { (p v : ℕ) → name_in self.new.now p v
-            ≡ cond (process == p) (option_map (instead_of old new) (name_in self.old.now p v)) (name_in self.old.now p v) }
+            ≡ cond (process == p) (option_map (instead_of old new) (name_in self.old.now p v))
+            (name_in self.old.now p v) }
         ensures marked { self.new.marked ≡ self.old.marked }
         ensures room { self.old.room ≤ self.new.room }
     {

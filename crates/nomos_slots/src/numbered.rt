@@ -92,8 +92,8 @@ impl<T: Copy> Numbered<T> {
         }
     }
 
-    /// Makes room for so many slots more. Want of memory leaves the slots and the mark as they were; where there is room
-    /// already, it cannot fail.
+    /// Makes room for so many slots more. Want of memory leaves the slots and the mark as they were; where there is
+    /// room already, it cannot fail.
     pub fn reserve(&mut self, n: usize) -> Result<(), AllocError>
         ensures now { self.new.now ≡ self.old.now }
         ensures marked { self.new.marked ≡ self.old.marked }
@@ -166,8 +166,8 @@ impl<T: Copy> Numbered<T> {
         }
     }
 
-    /// The slots before this place stay, and of the others, none of which is marked, those with an item, in their order.
-    /// It takes no room and no memory.
+    /// The slots before this place stay, and of the others, none of which is marked, those with an item, in their
+    /// order. It takes no room and no memory.
     pub fn close_gaps(&mut self, from: usize)
         requires { IfSome self.old.marked (λ list. length list ≤ from) }
         ensures now { self.new.now ≡ close_gaps from self.old.now }
