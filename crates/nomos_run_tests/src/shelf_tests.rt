@@ -58,6 +58,23 @@ fn finds_channels_by_process_and_variable(rt: HostRuntime) -> Result<(), Fail> {
 }
 
 #[test]
+fn renames_and_drops_channels_of_a_process(rt: HostRuntime) -> Result<(), Fail> {
+    let mut channels = Channels::new(rt.alloc());
+    channels.reserve(rt.alloc(), 3)?;
+    channels.bind(1, 0, 100);
+    channels.bind(1, 2, 102);
+    channels.bind(2, 0, 100);
+    channels.rename(1, 100, 7);
+    assert_eq!(rt; channels.get(1, 0), Some(7));
+    assert_eq!(rt; channels.get(2, 0), Some(100));
+    channels.drop_all(1);
+    assert_eq!(rt; channels.get(1, 0), None);
+    assert_eq!(rt; channels.get(1, 2), None);
+    assert_eq!(rt; channels.get(2, 0), Some(100));
+    Ok(())
+}
+
+#[test]
 fn puts_channels_back(rt: HostRuntime) -> Result<(), Fail> {
     let mut channels = Channels::new(rt.alloc());
     channels.reserve(rt.alloc(), 3)?;

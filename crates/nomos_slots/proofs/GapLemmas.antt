@@ -1,5 +1,5 @@
 -- What slots are left, and in what order, where gaps are closed.
-use Rattle.std.proofs.Common.{◌≡◌, ◌<◌, ◌≤◌, ◌+◌, ◌-◌, zero, suc, ℕ, true, false, cond, List, [], ◌∷◌, ◌++◌, length, get_or, set, take, drop, filter, Option, Some, None, refl, sym, ap, subst, ◌∙◌, inl, inr, arith, append_assoc, drop-set-lt, eqb, eq-eqb, ne_eqb}
+use Rattle.std.proofs.Common.{◌≡◌, ◌<◌, ◌≤◌, ◌+◌, ◌-◌, zero, suc, ℕ, true, false, cond, List, [], ◌∷◌, ◌++◌, length, min, get_or, set, take, drop, filter, Option, Some, None, refl, sym, ap, subst, ◌∙◌, inl, inr, arith, append_assoc, drop-set-lt, eqb, eq-eqb, ne_eqb}
 use Rattle.std.specs.List.{slice_get}
 use Rattle.std.specs.Option.{is_some}
 use Rattle.std.proofs.lemmas.Bool.{cases_eq, cond_both}
@@ -9,7 +9,7 @@ use Rattle.std.proofs.Math.ListN.{drop_of_length-le}
 use Rattle.nomos_slots.specs.Marking.{Marking}
 use Rattle.nomos_slots.specs.Numbers.{close_gaps, found, IsAscending}
 use Rattle.nomos_slots.specs.declared.numbered.Slot.{Slot}
-use Rattle.nomos_slots.proofs.NumberLemmas.{AllOver, ascending-nil, ascending-cons, ascending-head, ascending-tail, found-over}
+use Rattle.nomos_slots.proofs.NumberLaws.{AllOver, ascending-nil, ascending-cons, ascending-head, ascending-tail, found-over}
 
 module _ {X : Type 0} where
   -- the slots with an item
@@ -125,8 +125,9 @@ module _ {X : Type 0} where
     pub behind : to ≤ place
     pub reach : place - start ≤ length old.now - start
     pub len : length kept.now ≡ length old.now
-    pub room : length kept.now - place ≤ kept.room
-    pub taken : old.room ≤ kept.room + (place - start)
+    pub seated : length kept.now ≤ kept.seats
+    pub seats : kept.seats ≡ old.seats
+    pub room : min old.room (old.seats - length old.now) ≤ kept.room
     pub marked : kept.marked ≡ old.marked
     pub now : moved to place kept.now ≡ close_gaps start old.now
 
@@ -140,17 +141,19 @@ module _ {X : Type 0} where
         behind = omega (arith, is.behind);
         reach = omega (arith, is.len, is.from, is.behind);
         len = is.len;
-        room = omega (arith, is.room);
-        taken = omega (arith, is.taken);
+        seated = is.seated;
+        seats = is.seats;
+        room = is.room;
         marked = is.marked;
         now = moved-gap to place kept.now s (sym read) gap ∙ is.now;
       }
 
   pub moved-one_up : (from : ℕ) (old : Marking (Slot X)) (to place : ℕ) (kept new : Marking (Slot X)) (s : Slot X)
       → IsMoved from old to place kept → Some s ≡ slice_get kept.now place → is_some s.item ≡ true
-      → new.now ≡ set kept.now to s → new.marked ≡ kept.marked → kept.room ≤ new.room + 1
+      → new.now ≡ set kept.now to s → new.marked ≡ kept.marked
+      → min kept.room (kept.seats - length kept.now) ≤ new.room → new.seats ≡ kept.seats
       → IsMoved from old (to + 1) (place + 1) new
-  moved-one_up from old to place kept new s is read has set_to same left =
+  moved-one_up from old to place kept new s is read has set_to same left seats =
       let l : place < length kept.now = slice_get_within kept.now place s (sym read) in
       let long : length new.now ≡ length kept.now = ap length set_to ∙ length-set kept.now to s in
       record {
@@ -158,8 +161,9 @@ module _ {X : Type 0} where
         behind = omega (arith, is.behind);
         reach = omega (arith, is.len, is.from, is.behind);
         len = long ∙ is.len;
-        room = omega (arith, is.room);
-        taken = omega (arith, is.taken, is.from, is.behind);
+        seated = omega (arith, is.seated);
+        seats = seats ∙ is.seats;
+        room = omega (arith, is.room, is.seats, is.len, left);
         marked = same ∙ is.marked;
         now =
             ap (moved (to + 1) (place + 1)) set_to

@@ -1,5 +1,5 @@
 -- The log of a column has each place once, so it is never longer than what is marked.
-use Rattle.std.proofs.Common.{◌≡◌, ◌<◌, ◌≤◌, ◌||◌, ℕ, true, false, eqb, List, [], ◌∷◌, ◌++◌, Option, map, length, sym, ap, ◌∙◌, refl, inl, inr, arith}
+use Rattle.std.proofs.Common.{◌≡◌, ◌<◌, ◌≤◌, ◌+◌, ◌||◌, ℕ, true, false, eqb, List, [], ◌∷◌, ◌++◌, Option, map, length, sym, ap, ◌∙◌, refl, inl, inr, arith}
 use Rattle.std.specs.List.{AllByRecursion, IsDistinct, list_any}
 use Rattle.std.specs.Global.{Vec}
 use Rattle.std.specs.Vec.{vec_len, vec_capacity}
@@ -70,6 +70,15 @@ module _ {X : Type 0} where
               length-map es.items (λ (e : Entry X). e.item),
             )
       ]
+
+  -- one more record that is to be logged leaves the log no longer than what is marked
+  pub one-more : (es : List (Entry X)) (log : List (ℕ × X)) (marked : Option ℕ) (at : ℕ) (x : X)
+      → IsSound es log marked → at < mark_len marked → is_kept es at ≡ false → length log + 1 ≤ length es
+  one-more es log marked at x sound within not =
+      let once = IsOnce-push log at x (sym (sound.kept at) ∙ not) sound.once in
+      let below = All-push (λ (s : ℕ × X). s.0 < mark_len marked) log (at, x) sound.below within in
+      let few : length (log ++ (at, x) ∷ []) ≤ mark_len marked = length-below _ _ once below in
+      omega (arith, few, length-append log ((at, x) ∷ []), sound.within)
 
   pub log-within : (es : List (Entry X)) (log : List (ℕ × X)) (marked : Option ℕ)
       → IsSound es log marked → length log ≤ length es

@@ -9,5 +9,7 @@ pub mod Places
 pub mod Rows
 pub mod Seen
 pub mod Shelving
+pub mod Sweeps
 pub mod Tables
 pub mod Tails
+pub mod Users

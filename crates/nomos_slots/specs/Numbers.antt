@@ -1,5 +1,5 @@
 -- Slots under numbers: what stands under one, and what changes of slots make of a list of them.
-use Rattle.std.specs.Prelude.{◌≡◌, ◌≢◌, ◌==◌, ◌++◌, ℕ, zero, suc, cond, List, [], ◌∷◌, map, filter, take, drop, slice_get, is_some, Option, Some, None, MatchOption, IfSome, All, refl}
+use Rattle.std.specs.Prelude.{◌≡◌, ◌≢◌, ◌≤◌, ◌==◌, ◌-◌, ◌++◌, ℕ, zero, suc, cond, List, [], ◌∷◌, length, min, map, filter, take, drop, slice_get, is_some, Option, Some, None, MatchOption, IfSome, All, refl}
 use Rattle.std.specs.List.Sorted.{IsStrictlySortedBy}
 use Rattle.std.specs.Ordering.{nat_cmp}
 use Rattle.std.specs.Coded.{Coded, code_by, coded×, coded_ℕ, coded_option}
@@ -48,7 +48,12 @@ module _ {X : Type 0} where
   abbrev pub close_gaps : ℕ → List (Slot X) → List (Slot X)
   close_gaps from slots = take from slots ++ filter (λ slot. is_some slot.item) (drop from slots)
 
-  -- the numbers of the slots ascend, now and where they are marked
+  -- as a column is seen here: there is room for as many slots more as there are seats beside those that are there
+  abbrev pub numbered_of : Marking (Slot X) → Marking (Slot X)
+  numbered_of kept = record kept { room = min kept.room (kept.seats - length kept.now) }
+
+  -- The numbers of the slots ascend, now and where they are marked; and the log has a seat for each slot.
   pub record IsInOrder (kept : Marking (Slot X)) : Type 0 where
     pub now : IsAscending kept.now
     pub marked : IfSome kept.marked IsAscending
+    pub seats : length kept.now ≤ kept.seats

@@ -164,6 +164,7 @@ pub(crate) fn unbind_in(
     ensures names { (p v : ℕ) → name_in cells.new.now p v
         ≡ cond (process == p && variable == v) None (name_in cells.old.now p v) }
     ensures entries { entries cells.new.now + result ≡ entries cells.old.now }
+    ensures one { IsSome (name_in cells.old.now process variable) → result ≡ 1 }
     ensures len { length cells.new.now ≡ length cells.old.now }
     ensures marked { cells.new.marked ≡ cells.old.marked }
     ensures seats { cells.new.seats ≡ cells.old.seats }

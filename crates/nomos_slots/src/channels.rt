@@ -1,10 +1,15 @@
 //! The channels of all processes: names by process and variable.
 ghost use Rattle.std.specs.Prelude.{◌≡◌, ◌≤◌, ◌<◌, ◌+◌, ◌&&◌, ◌==◌, ◌^◌, ℕ, [], cond, IsOk, IsSome, IfSome, IfOk, OnOk, OnErr, Some, None, max, length};
 ghost use Rattle.nomos_slots.specs.Cells.{IsOnce, IsProbed, cell_at, entries, name_in};
+ghost use Rattle.std.specs.Option.{option_map};
+ghost use Rattle.nomos_slots.specs.Sweeps.{instead_of};
 ghost use Rattle.nomos_slots.specs.Tables.{HaveSameNames, marked_entries};
+ghost use Rattle.nomos_slots.specs.Users.{IsLowestUser};
 
 use crate::cells::{Named, bind_in, blank, cell, empty_all, fill, place_in, unbind_in};
 use crate::column::Column;
+use crate::sweeps::{drop_in, rename_in};
+use crate::users::lowest_user_in;
 use std::alloc::{AllocError, Global};
 use std::marker::Model;
 
@@ -150,6 +155,13 @@ impl Channels {
         Some(entry.name)
     }
 
+    /// The lowest process that has this name for one of its variables. It goes over all names.
+    pub fn lowest_user(&self, name: u32) -> Option<u32>
+        ensures { IsLowestUser self.now.now name result }
+    {
+        lowest_user_in(&self.cells, name)
+    }
+
     /// Binds a variable of a process to a name. Who calls it has made room, so it takes no memory.
     pub fn bind(&mut self, process: u32, variable: u32, name: u32)
         requires { 0 < self.old.room }
@@ -174,6 +186,27 @@ impl Channels {
         ensures room { self.old.room ≤ self.new.room }
     {
         self.count -= unbind_in(&mut self.cells, self.homes, process, variable);
+    }
+
+    /// No variable of a process has a name any longer. It takes no memory.
+    pub fn drop_all(&mut self, process: u32)
+        ensures names { (p v : ℕ) → name_in self.new.now p v
+            ≡ cond (process == p) None (name_in self.old.now p v) }
+        ensures marked { self.new.marked ≡ self.old.marked }
+        ensures room { self.old.room ≤ self.new.room }
+    {
+        self.count -= drop_in(&mut self.cells, self.homes, process);
+    }
+
+    /// Variables of a process that have the one name have the other one instead. It takes no memory.
+    pub fn rename(&mut self, process: u32, old: u32, new: u32)
+        ensures names { (p v : ℕ) → name_in self.new.now p v
+            ≡ cond (process == p) (option_map (instead_of old new) (name_in self.old.now p v))
+            (name_in self.old.now p v) }
+        ensures marked { self.new.marked ≡ self.old.marked }
+        ensures room { self.old.room ≤ self.new.room }
+    {
+        rename_in(&mut self.cells, process, old, new);
     }
 
     /// Marks what it holds now. It takes no memory, and nothing may be marked yet.

@@ -1,5 +1,5 @@
 //! A column of plain records that can be marked and put back.
-ghost use Rattle.std.specs.Prelude.{◌≡◌, ◌≤◌, ◌<◌, ◌+◌, ℕ, [], ◌∷◌, ◌++◌, ◌↔◌, IsTrue, IsOk, IsSome, IfSome, IfOk, OnOk, false, length, map, take, slice_get, slice_set};
+ghost use Rattle.std.specs.Prelude.{◌≡◌, ◌≤◌, ◌<◌, ◌+◌, ◌-◌, ℕ, [], ◌∷◌, ◌++◌, ◌↔◌, IsTrue, IsOk, IsSome, IfSome, IfOk, OnOk, false, length, map, min, take, slice_get, slice_set};
 ghost use Rattle.std.specs.Vec.{vec_len, vec_capacity};
 ghost use Rattle.nomos_slots.specs.Log.{HasSeat, is_kept, mark_len, put_back, records, unkept, IsBelow, IsKeptAsLogged};
 
@@ -173,6 +173,7 @@ impl<T: Copy> Column<T> {
         ensures now { self.new.now ≡ slice_set self.old.now place item }
         ensures marked { self.new.marked ≡ self.old.marked }
         ensures room { self.old.room ≤ self.new.room + 1 }
+        ensures free { min self.old.room (self.old.seats - length self.old.now) ≤ self.new.room }
         ensures seats { self.new.seats ≡ self.old.seats }
     {
         let Entry { item: before, kept } = self.items[place];
@@ -196,12 +197,14 @@ impl<T: Copy> Column<T> {
         self.change(place, item);
     }
 
-    /// Puts a record in the place of another, where the log has a seat for each record. It takes no room and no memory.
+    /// Puts a record in the place of another, where the log has a seat for each record. It takes no memory, and no room
+    /// where there are as many seats beside those.
     pub fn put(&mut self, place: usize, item: T)
         requires seats { length self.old.now ≤ self.old.seats }
         requires within { place < length self.old.now }
         ensures now { self.new.now ≡ slice_set self.old.now place item }
         ensures marked { self.new.marked ≡ self.old.marked }
+        ensures room { min self.old.room (self.old.seats - length self.old.now) ≤ self.new.room }
         ensures seats { self.new.seats ≡ self.old.seats }
     {
         self.change(place, item);
@@ -246,6 +249,7 @@ impl<T: Copy> Column<T> {
     pub fn back(&mut self)
         requires { IsSome self.old.marked }
         ensures now { self.old.marked ≡ Some self.new.now }
+        ensures fewer { length self.new.now ≤ length self.old.now }
         ensures marked { self.new.marked ≡ None }
         ensures room { self.old.room ≤ self.new.room }
         ensures seats { self.new.seats ≡ self.old.seats }

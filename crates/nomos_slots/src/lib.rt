@@ -8,5 +8,7 @@ mod levels;
 pub mod numbered;
 pub mod places;
 pub mod shelf;
+mod sweeps;
 pub mod tail;
+mod users;
 mod words;

@@ -1,5 +1,5 @@
 //! Records under numbers, which are drawn in ascending order.
-ghost use Rattle.std.specs.Prelude.{◌≡◌, ◌≤◌, ◌<◌, ◌+◌, ◌-◌, ℕ, [], ◌∷◌, ◌++◌, IsOk, IsSome, IfSome, IfOk, OnOk, All, length, slice_get};
+ghost use Rattle.std.specs.Prelude.{◌≡◌, ◌≤◌, ◌<◌, ◌+◌, ◌-◌, ℕ, [], ◌∷◌, ◌++◌, IsOk, IsSome, IfSome, IfOk, OnOk, All, length, min, slice_get};
 ghost use Rattle.nomos_slots.specs.Numbers.{close_gaps, found, numbers, put_at, IsAscending, IsPlaceOf};
 
 use crate::column::Column;
@@ -16,8 +16,8 @@ pub struct Slot<T> {
 /// Records under numbers, in ascending order of their numbers.
 ///
 /// A number that is left stays as a gap until gaps are closed. What stands here can be marked, and put back to what it
-/// was there. Room is counted in changes. Who changes it makes room first, by [`Numbered::reserve`]: a push or a put
-/// takes one of it at most.
+/// was there. Room is counted in slots that come. Who adds one makes room first, by [`Numbered::reserve`]; nothing else
+/// takes any.
 #[derive(Drop, Debug)]
 pub struct Numbered<T: Copy> {
     slots: Column<Slot<T>>,
@@ -26,13 +26,13 @@ pub struct Numbered<T: Copy> {
 impl<T: Copy> Model for Numbered<T> {
     ghost use Rattle.nomos_slots.specs.Marking.{Marking, marking_code};
     ghost use Rattle.nomos_slots.specs.declared.numbered.Slot.{Slot};
-    ghost use Rattle.nomos_slots.specs.Numbers.{slot_code, IsInOrder};
+    ghost use Rattle.nomos_slots.specs.Numbers.{numbered_of, slot_code, IsInOrder};
 
     ghost Value = { Marking (Slot T) };
 
     ghost coded = { marking_code (slot_code T.code) };
 
-    ghost view = { λ n. n.slots };
+    ghost view = { λ n. numbered_of n.slots };
 
     ghost invariant = { λ n. IsInOrder n.slots };
 }
@@ -61,17 +61,19 @@ fn place_in<T: Copy>(slots: &Column<Slot<T>>, number: u32) -> Option<usize>
 
 // Of the slots from this place on, those with an item move up into the gaps, and no others stay.
 fn move_up<T: Copy>(slots: &mut Column<Slot<T>>, from: usize)
-    requires room { length slots.old.now - from ≤ slots.old.room }
+    requires seats { length slots.old.now ≤ slots.old.seats }
     requires marked { IfSome slots.old.marked (λ list. length list ≤ from) }
     ensures now { slots.new.now ≡ close_gaps from slots.old.now }
+    ensures fewer { length slots.new.now ≤ length slots.old.now }
     ensures marked { slots.new.marked ≡ slots.old.marked }
-    ensures room { slots.old.room ≤ slots.new.room + (length slots.old.now - from) }
+    ensures room { min slots.old.room (slots.old.seats - length slots.old.now) ≤ slots.new.room }
+    ensures seats { slots.new.seats ≡ slots.old.seats }
 {
     let mut to = from;
     for place in from..slots.len() {
         if let Some(slot) = slots.get(place) {
             if slot.item.is_some() {
-                slots.set(to, slot);
+                slots.put(to, slot);
                 to += 1;
             }
         }
@@ -90,8 +92,8 @@ impl<T: Copy> Numbered<T> {
         }
     }
 
-    /// Makes room for so many changes, that is pushes and puts. Want of memory leaves the slots and the mark as they
-    /// were; where there is room already, it cannot fail.
+    /// Makes room for so many slots more. Want of memory leaves the slots and the mark as they were; where there is
+    /// room already, it cannot fail.
     pub fn reserve(&mut self, n: usize) -> Result<(), AllocError>
         ensures now { self.new.now ≡ self.old.now }
         ensures marked { self.new.marked ≡ self.old.marked }
@@ -99,7 +101,7 @@ impl<T: Copy> Numbered<T> {
         ensures room { self.old.room ≤ self.new.room }
         ensures frugal { n ≤ self.old.room → IsOk result }
     {
-        self.slots.reserve(n)
+        self.slots.reserve_all(n)
     }
 
     /// The number of slots, gaps among them.
@@ -146,17 +148,15 @@ impl<T: Copy> Numbered<T> {
         });
     }
 
-    /// The slot at this place keeps its number and has this item, or is a gap. Who calls it has made room, so it takes
-    /// no memory.
+    /// The slot at this place keeps its number and has this item, or is a gap. It takes no room and no memory.
     pub fn put(&mut self, place: usize, item: Option<T>)
-        requires room { 0 < self.old.room }
-        requires within { place < length self.old.now }
+        requires { place < length self.old.now }
         ensures now { self.new.now ≡ put_at self.old.now place item }
         ensures marked { self.new.marked ≡ self.old.marked }
-        ensures room { self.old.room ≤ self.new.room + 1 }
+        ensures room { self.old.room ≤ self.new.room }
     {
         if let Some(slot) = self.slots.get(place) {
-            self.slots.set(
+            self.slots.put(
                 place,
                 Slot {
                     number: slot.number,
@@ -166,15 +166,14 @@ impl<T: Copy> Numbered<T> {
         }
     }
 
-    /// The slots before this place stay, and of the others those with an item, in their order. Who calls it has made
-    /// room for a change of each slot from there on, and none of those is marked. It takes no memory.
+    /// The slots before this place stay, and of the others, none of which is marked, those with an item, in their
+    /// order. It takes no room and no memory.
     pub fn close_gaps(&mut self, from: usize)
-        requires room { length self.old.now - from ≤ self.old.room }
-        requires marked { IfSome self.old.marked (λ list. length list ≤ from) }
+        requires { IfSome self.old.marked (λ list. length list ≤ from) }
         ensures now { self.new.now ≡ close_gaps from self.old.now }
         ensures found { (number : ℕ) → found self.new.now number ≡ found self.old.now number }
         ensures marked { self.new.marked ≡ self.old.marked }
-        ensures room { self.old.room ≤ self.new.room + (length self.old.now - from) }
+        ensures room { self.old.room ≤ self.new.room }
     {
         move_up(&mut self.slots, from);
     }
@@ -215,8 +214,8 @@ impl<T: Copy> Numbered<T> {
         ensures now { IfOk result (λ n. n.now ≡ self.now.now) }
         ensures marked { IfOk result (λ n. n.marked ≡ None) }
     {
-        Ok(Numbered {
-            slots: self.slots.copy(alloc)?,
-        })
+        let mut slots = self.slots.copy(alloc)?;
+        slots.reserve_all(0)?;
+        Ok(Numbered { slots })
     }
 }

@@ -1,7 +1,9 @@
 use Rattle.std.proofs.Common.{◌≡◌, ◌+◌, List, None, cond, set, sym, subst, ap, ◌∙◌, arith}
+use Rattle.std.specs.Option.{is_some}
+use Rattle.std.proofs.lemmas.Bool.{both_ways}
 use Rattle.nomos_slots.specs.Cells.{Cell, IsGap, entries, name_in}
 use Rattle.nomos_slots.proofs.CellLemmas.{some-within}
-use Rattle.nomos_slots.proofs.EntryLemmas.{entries-gone, gap-opened, key-same, names-gone, none-name_in}
+use Rattle.nomos_slots.proofs.EntryLemmas.{entries-gone, gap-opened, key-same, names-gone, none-name_in, nothing-named}
 use Rattle.nomos_slots.proofs.cells.unbind_in.Goals as goal
 
 pub close_up-requires-clause-gap : goal.close_up-requires-clause-gap
@@ -36,3 +38,7 @@ returns-clause-entries c =
     let gone : entries (set cells at None) + 1 ≡ entries cells =
     entries-gone homes cells at e c.requires.probed is (some-within cells at e is) in
     omega (arith, gone, c.close_up.ensures.entries, ap entries c.put.ensures.now)
+
+pub returns-in_default-clause-one : goal.returns-in_default-clause-one
+returns-in_default-clause-one c some =
+    absurd (both_ways _ (ap is_some (nothing-named c.args.cells.now.now c.args.process c.args.variable c.in_default.ensures)) some)

@@ -24,9 +24,9 @@ loop-place-preserved g c =
       | in-Some+then-is_some w ↦
           let slot = w.in-Some.slot in
           let has : is_some slot.item ≡ true = sym w.is_some.ensures ∙ w.if-is_some.true in
-          as_is (to + 1) w.set.new.self w.to-is w.slots-is
-          (moved-one_up from old to place slots w.set.new.self slot is w.in-Some.ensures has w.set.ensures.now
-          w.set.ensures.marked w.set.ensures.room)
+          as_is (to + 1) w.put.new.self w.to-is w.slots-is
+          (moved-one_up from old to place slots w.put.new.self slot is w.in-Some.ensures has w.put.ensures.now
+          w.put.ensures.marked w.put.ensures.room w.put.ensures.seats)
       | in-Some+else-is_some w ↦
           let slot = w.in-Some.slot in
           let gap : is_some slot.item ≡ false = sym w.is_some.ensures ∙ w.if-is_some.false in

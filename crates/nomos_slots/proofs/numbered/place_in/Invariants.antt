@@ -1,5 +1,5 @@
 use Rattle.std.proofs.Common.{◌-◌, ◌≤◌, length}
-use Rattle.nomos_slots.proofs.NumberLemmas.{BelowAre, OnwardsAre}
+use Rattle.nomos_slots.proofs.NumberLaws.{BelowAre, OnwardsAre}
 use Rattle.nomos_slots.proofs.numbered.place_in.Given as goal
 
 abbrev pub invariant-loop-from : goal.invariant-loop-from

@@ -2,7 +2,7 @@ use Rattle.std.proofs.Common.{◌<◌, true, refl, ap, sym, subst, ◌∙◌, le
 use Rattle.std.proofs.lemmas.Bool.{both_ways, true_from_ne_false}
 use Rattle.std.proofs.lemmas.List.{length-map}
 use Rattle.nomos_slots.specs.Log.{mark_len, HasSeat}
-use Rattle.nomos_slots.proofs.SeatLemmas.{seat-there}
+use Rattle.nomos_slots.proofs.SeatLemmas.{one-more, seat-there}
 use Rattle.nomos_slots.specs.Marking.{Marking}
 use Rattle.nomos_slots.specs.declared.column.Entry.{Entry}
 use Rattle.nomos_slots.proofs.MarkLemmas.{is_kept_read, records-set, IsSound_first, marked_first, IsSound_again, marked_again}
@@ -78,3 +78,27 @@ push_reserved-requires g c =
     let not = is_kept_read es at old l c.index.ensures ∙ due.1 in
     let seat = subst HasSeat (sym c.self.view_is) c.requires.room in
     seat-there s.items s.log s.marked at old.item c.self.invariant due.0 not seat
+
+pub returns-then-is_due-clause-free : goal.returns-then-is_due-clause-free
+returns-then-is_due-clause-free g c =
+    let s = c.self.inside in
+    let at = c.args.place in
+    let es = s.items.items in
+    let old = c.index.result.now in
+    let due = c.is_due.ensures.0 c.if-is_due.true in
+    let l : at < length es = omega (arith, c.self.invariant.within, due.0) in
+    let not = is_kept_read es at old l c.index.ensures ∙ due.1 in
+    let more = one-more es s.log.items s.marked at old.item c.self.invariant due.0 not in
+    let room = ap (λ (m : Marking _). m.room) c.self.view_is in
+    let seats = ap (λ (m : Marking _). m.seats) c.self.view_is in
+    let len = ap (λ (m : Marking _). length m.now) c.self.view_is in
+    omega (
+      arith,
+      room,
+      seats,
+      len,
+      more,
+      length-map es (λ (e : Entry _). e.item),
+      c.push_reserved.ensures.len,
+      c.push_reserved.ensures.capacity,
+    )

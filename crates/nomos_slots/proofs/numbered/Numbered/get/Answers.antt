@@ -3,7 +3,7 @@ use Rattle.std.proofs.lemmas.Option.{MatchOption-at_none, MatchOption-at_some}
 use Rattle.nomos_slots.specs.Marking.{Marking}
 use Rattle.nomos_slots.specs.Numbers.{found}
 use Rattle.nomos_slots.specs.declared.numbered.Slot.{Slot}
-use Rattle.nomos_slots.proofs.NumberLemmas.{found-none, found-read, not-past}
+use Rattle.nomos_slots.proofs.NumberLaws.{found-none, found-read, not-past}
 use Rattle.nomos_slots.proofs.numbered.Numbered.get.Goals as goal
 
 pub returns-in_err-place : goal.returns-in_err-place

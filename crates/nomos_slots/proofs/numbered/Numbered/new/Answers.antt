@@ -1,4 +1,4 @@
-use Rattle.nomos_slots.proofs.NumberLemmas.{in-order-new}
+use Rattle.nomos_slots.proofs.NumberLaws.{in-order-new}
 use Rattle.nomos_slots.proofs.numbered.Numbered.new.Goals as goal
 
 pub invariant_of-result : goal.invariant_of-result

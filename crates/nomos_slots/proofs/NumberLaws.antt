@@ -1,11 +1,12 @@
--- What stands under numbers, and where slots stay in order.
-use Rattle.std.proofs.Common.{◌≡◌, ◌≢◌, ◌<◌, ◌≤◌, ◌+◌, zero, suc, ℕ, cond, List, [], ◌∷◌, ◌++◌, length, get_or, set, Option, Some, None, IfSome, All, Less, refl, sym, ap, subst, ◌∙◌, inl, inr, arith, eq-eqb, ne_eqb}
+-- Laws of slots under numbers: what stands under them, and where they stay in order.
+use Rattle.std.proofs.Common.{◌≡◌, ◌≢◌, ◌<◌, ◌≤◌, ◌+◌, ◌-◌, zero, suc, ℕ, cond, List, [], ◌∷◌, ◌++◌, length, get_or, set, Option, Some, None, IfSome, All, Less, refl, sym, ap, subst, ◌∙◌, inl, inr, arith, eqb, eq-eqb, ne_eqb}
 use Rattle.std.specs.List.{slice_get, AllByRecursion}
 use Rattle.std.specs.List.Sorted.{IsStrictlySortedBy}
 use Rattle.std.specs.Ordering.{nat_cmp}
 use Rattle.std.specs.Cmp.{nat_cmp_is}
 use Rattle.std.proofs.lemmas.Cmp.{ranked}
 use Rattle.std.proofs.lemmas.Bool.{cases_eq, cases_lt}
+use Rattle.std.proofs.lemmas.List.{length-append}
 use Rattle.std.proofs.lemmas.List.Elements.{All-head, All-tail}
 use Rattle.std.proofs.lemmas.Map.Keys.{below_from_sorted, sorted_head, sorted_tail}
 use Rattle.std.proofs.lemmas.Option.{get_or_from_slice_get, none-some, same_Some, slice_get-map, slice_get_within}
@@ -57,6 +58,12 @@ module _ {X : Type 0} where
   numbers-put_at [] place item = refl
   numbers-put_at (s ∷ slots) zero item = refl
   numbers-put_at (s ∷ slots) (suc place) item = ap (λ ns. s.number ∷ ns) (numbers-put_at slots place item)
+
+  pub length-put_at : (slots : List (Slot X)) (place : ℕ) (item : Option X)
+      → length (put_at slots place item) ≡ length slots
+  length-put_at [] place item = refl
+  length-put_at (s ∷ slots) zero item = refl
+  length-put_at (s ∷ slots) (suc place) item = ap (λ n. suc n) (length-put_at slots place item)
 
   pub put_at-set : (slots : List (Slot X)) (place : ℕ) (s : Slot X) (item : Option X) → slice_get slots place ≡ Some s
       → set slots place (record { number = s.number; item = item }) ≡ put_at slots place item
@@ -128,6 +135,70 @@ module _ {X : Type 0} where
   not-past (e ∷ slots) zero number has none = none-some e (sym none)
   not-past (e ∷ slots) (suc place) number has none = not-past slots place number has none
 
+  -- ---- another item at a place
+
+  -- with the item that is there nothing changes
+  pub put_at-own : (slots : List (Slot X)) (place : ℕ) (s : Slot X) → slice_get slots place ≡ Some s
+      → put_at slots place s.item ≡ slots
+  put_at-own [] place s h = refl
+  put_at-own (e ∷ slots) zero s h =
+      let same : e ≡ s = same_Some e s h in
+      let changed : Slot X → List (Slot X) = λ x. record { number = e.number; item = x.item } ∷ slots in
+      ap changed (sym same)
+  put_at-own (e ∷ slots) (suc place) s h = ap (λ xs. e ∷ xs) (put_at-own slots place s h)
+
+  -- what stands at the place then, and at others
+  pub get-put_at : (slots : List (Slot X)) (place : ℕ) (s : Slot X) (item : Option X) → slice_get slots place ≡ Some s
+      → slice_get (put_at slots place item) place ≡ Some (record { number = s.number; item = item })
+  get-put_at [] place s item h = absurd (none-some s h)
+  get-put_at (e ∷ slots) zero s item h =
+      ap (λ (x : Slot X). Some (record { number = x.number; item = item })) (same_Some e s h)
+  get-put_at (e ∷ slots) (suc place) s item h = get-put_at slots place s item h
+
+  pub get-put_at_other : (slots : List (Slot X)) (place other : ℕ) (item : Option X) → other ≢ place
+      → slice_get (put_at slots place item) other ≡ slice_get slots other
+  get-put_at_other [] place other item apart = refl
+  get-put_at_other (e ∷ slots) zero zero item apart = absurd (apart refl)
+  get-put_at_other (e ∷ slots) zero (suc other) item apart = refl
+  get-put_at_other (e ∷ slots) (suc place) zero item apart = refl
+  get-put_at_other (e ∷ slots) (suc place) (suc other) item apart =
+      get-put_at_other slots place other item (λ same. apart (ap (λ n. suc n) same))
+
+  -- what stands under its number then, and under others
+  pub found-put_at : (slots : List (Slot X)) (place : ℕ) (s : Slot X) (item : Option X) → IsAscending slots
+      → slice_get slots place ≡ Some s → found (put_at slots place item) s.number ≡ item
+  found-put_at slots place s item order h =
+      found-at (put_at slots place item) place (record { number = s.number; item = item })
+      (subst (IsStrictlySortedBy nat_cmp) (sym (numbers-put_at slots place item)) order)
+      (get-put_at slots place s item h)
+
+  pub found-put_at_other : (slots : List (Slot X)) (place number : ℕ) (s : Slot X) (item : Option X)
+      → slice_get slots place ≡ Some s → s.number ≢ number → found (put_at slots place item) number ≡ found slots number
+  found-put_at_other [] place number s item h other = refl
+  found-put_at_other (e ∷ slots) zero number s item h other =
+      let same : e.number ≡ s.number = ap (λ (x : Slot X). x.number) (same_Some e s h) in
+      let apart : e.number ≢ number = λ is. other (sym same ∙ is) in
+      ap (λ b. cond b item (found slots number)) (ne_eqb e.number number apart)
+      ∙ sym (ap (λ b. cond b e.item (found slots number)) (ne_eqb e.number number apart))
+  found-put_at_other (e ∷ slots) (suc place) number s item h other =
+      ap (λ o. cond (eqb e.number number) e.item o) (found-put_at_other slots place number s item h other)
+
+  -- ---- one more slot
+
+  pub found-push_other : (slots : List (Slot X)) (s : Slot X) (number : ℕ) → s.number ≢ number
+      → found (slots ++ s ∷ []) number ≡ found slots number
+  found-push_other [] s number other = ap (λ b. cond b s.item None) (ne_eqb s.number number other)
+  found-push_other (e ∷ slots) s number other =
+      ap (λ o. cond (eqb e.number number) e.item o) (found-push_other slots s number other)
+
+  pub found-push : (slots : List (Slot X)) (s : Slot X) → All (λ n. n < s.number) (numbers slots)
+      → found (slots ++ s ∷ []) s.number ≡ s.item
+  found-push [] s below = ap (λ b. cond b s.item None) (eq-eqb s.number s.number refl)
+  found-push (e ∷ slots) s below =
+      let lower : e.number < s.number = All-head (λ n. n < s.number) e.number (numbers slots) below in
+      ap (λ b. cond b e.item (found (slots ++ s ∷ []) s.number)) (ne_eqb e.number s.number (λ same. absurd (omega arith)))
+      ∙ found-push slots s (All-tail (λ n. n < s.number) e.number (numbers slots) below)
+
   -- ---- halving
 
   -- below this place all numbers are below
@@ -180,26 +251,30 @@ module _ {X : Type 0} where
   -- ---- the order of all that is kept
 
   pub in-order : (old new : Marking (Slot X)) → IsInOrder old → IsAscending new.now → new.marked ≡ old.marked
-      → IsInOrder new
-  in-order old new order now same = record {
+      → length new.now ≤ new.seats → IsInOrder new
+  in-order old new order now same seats = record {
     now = now;
     marked = subst (λ m. IfSome m IsAscending) (sym same) order.marked;
+    seats = seats;
   }
 
   pub in-order-new : (new : Marking (Slot X)) → new.now ≡ [] → new.marked ≡ None → IsInOrder new
   in-order-new new now marked = record {
     now = subst IsAscending (sym now) (ascending-nil X);
     marked = subst (λ m. IfSome m IsAscending) (sym marked) tt;
+    seats = omega (arith, ap length now);
   }
 
   pub in-order-push : (old new : Marking (Slot X)) (s : Slot X) → IsInOrder old
       → All (λ n. n < s.number) (numbers old.now) → new.now ≡ old.now ++ s ∷ [] → new.marked ≡ old.marked
-      → IsInOrder new
-  in-order-push old new s order below is same =
+      → 0 < old.seats - length old.now → new.seats ≡ old.seats → IsInOrder new
+  in-order-push old new s order below is same free seats =
       in-order old new order (subst IsAscending (sym is) (ascending-push old.now s order.now below)) same
+      (omega (arith, ap length is, length-append old.now (s ∷ [])))
 
   pub in-order-put : (old new : Marking (Slot X)) (place : ℕ) (item : Option X) → IsInOrder old
-      → new.now ≡ put_at old.now place item → new.marked ≡ old.marked → IsInOrder new
-  in-order-put old new place item order is same =
+      → new.now ≡ put_at old.now place item → new.marked ≡ old.marked → new.seats ≡ old.seats → IsInOrder new
+  in-order-put old new place item order is same seats =
       let again : numbers new.now ≡ numbers old.now = ap numbers is ∙ numbers-put_at old.now place item in
       in-order old new order (subst (IsStrictlySortedBy nat_cmp) (sym again) order.now) same
+      (omega (arith, order.seats, length-put_at old.now place item, ap length is))

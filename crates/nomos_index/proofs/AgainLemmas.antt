@@ -1,0 +1,86 @@
+-- What is kept is in order again, where objects, rows and channels changed and the marks stayed.
+use Rattle.std.proofs.Common.{◌≡◌, ℕ, Result, Ok, Err, OnErr, refl}
+use Rattle.std.specs.Option.{option_map}
+use Rattle.nomos_ir.specs.Value.{Value}
+use Rattle.nomos_ir.specs.declared.ids.VarId.{VarId}
+use Rattle.nomos_machine.specs.declared.object.PotentialList.{PotentialList}
+use Rattle.nomos_slots.specs.Cells.{Cell, name_in}
+use Rattle.nomos_slots.specs.Marking.{Marking}
+use Rattle.nomos_slots.specs.Tables.{HaveSameNames}
+use Rattle.nomos_slots.specs.Shelving.{Shelving}
+use Rattle.nomos_slots.specs.declared.numbered.Slot.{Slot}
+use Rattle.nomos_index.specs.Indexed.{HasRoom, IsHolding, IsIndexed, held_marked, held_now, state_of}
+use Rattle.nomos_index.specs.Together.{MarksTheSame}
+use Rattle.nomos_index.specs.declared.inside.Contents.{Contents}
+use Rattle.nomos_index.specs.declared.inside.Inside.TheInside.{Inside}
+use Rattle.nomos_index.specs.declared.inside.Numbers.{Numbers}
+use Rattle.nomos_index.specs.declared.kept.Kept.{Kept}
+use Rattle.nomos_index.proofs.TogetherLemmas.{marked-holding, marked-same, state-same, together-same}
+
+module _ (s : Inside) (objects : Marking (Slot Kept)) (values : Shelving (VarId × Value))
+    (its_lists : Shelving (VarId × PotentialList)) (channels : Marking Cell) (numbers : Numbers)
+    (o : objects.marked ≡ s.contents.objects.marked) (v : values.marked ≡ s.contents.values.marked)
+    (l : its_lists.marked ≡ s.contents.lists.marked) (c : HaveSameNames s.contents.channels.marked channels.marked) where
+  abbrev pub contents_again : Contents
+  contents_again = record s.contents {
+    objects = objects;
+    values = values;
+    lists = its_lists;
+    channels = channels;
+    numbers = numbers;
+  }
+
+  marks : MarksTheSame s.contents contents_again
+  marks = record {
+    objects = o;
+    values = v;
+    its_lists = l;
+    channels = c;
+    names = refl;
+    balances = refl;
+    outside = refl;
+    results = refl;
+  }
+
+  pub marks-again : option_map state_of (held_marked contents_again s.marked)
+      ≡ option_map state_of (held_marked s.contents s.marked)
+  marks-again = marked-same s.contents contents_again s.marked marks
+
+  pub indexed-again : (room : ℕ) → IsIndexed s → IsHolding (held_now contents_again) → HasRoom contents_again room
+      → IsIndexed (record s { contents = contents_again; room = room })
+  indexed-again room is holding has = record {
+    now = holding;
+    together = together-same s.contents contents_again s.marked marks is.together;
+    marked = marked-holding s.contents contents_again s.marked marks is.marked;
+    has_room = has;
+    has_seats = record { balances = is.has_seats.balances; outside = is.has_seats.outside };
+  }
+
+-- ---- names that are kept elsewhere
+
+-- where a call failed
+pub on_any_err : {T E P : Type 0} (r : Result T E) → P → OnErr r P
+on_any_err (Ok x) holds = tt
+on_any_err (Err e) holds = holds
+
+module _ (s : Inside) (channels : Marking Cell)
+    (names : (p v : ℕ) → name_in channels.now p v ≡ name_in s.contents.channels.now p v)
+    (c : HaveSameNames s.contents.channels.marked channels.marked) where
+  abbrev pub moved : Contents
+  moved = record s.contents { channels = channels }
+
+  pub moved-state : state_of (held_now moved) ≡ state_of (held_now s.contents)
+  moved-state = state-same (held_now s.contents) (held_now moved) (record {
+    slots = refl;
+    value_rows = refl;
+    list_rows = refl;
+    channels = names;
+    names = refl;
+    balances = refl;
+    outside = refl;
+    results = refl;
+    drawn = refl;
+  })
+
+  pub moved-marks : option_map state_of (held_marked moved s.marked) ≡ option_map state_of (held_marked s.contents s.marked)
+  moved-marks = marks-again s s.contents.objects s.contents.values s.contents.lists channels s.contents.numbers refl refl refl c

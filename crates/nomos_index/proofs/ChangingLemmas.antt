@@ -1,0 +1,216 @@
+-- A process of an indexed state changes: one part of what is kept of it at a time.
+use Rattle.std.proofs.Common.{◌≡◌, ◌≢◌, ◌≤◌, ◌+◌, ◌-◌, ◌∙◌, ℕ, [], List, Some, refl, sym, ap, arith}
+use Rattle.std.proofs.lemmas.List.{set-get_or}
+use Rattle.std.specs.List.{slice_set}
+use Rattle.nomos_ir.specs.Value.{Value}
+use Rattle.nomos_ir.specs.declared.ids.VarId.{VarId}
+use Rattle.nomos_machine.specs.declared.object.PotentialList.{PotentialList}
+use Rattle.nomos_machine.specs.declared.object.Process.{Process}
+use Rattle.nomos_parts.specs.SmallChanges.{Becomes}
+use Rattle.nomos_slots.specs.Cells.{Cell, name_in}
+use Rattle.nomos_slots.specs.Marking.{Marking}
+use Rattle.nomos_slots.specs.Numbers.{put_at}
+use Rattle.nomos_slots.specs.Tables.{HaveSameNames}
+use Rattle.nomos_slots.specs.Shelving.{Shelving}
+use Rattle.nomos_slots.specs.declared.numbered.Slot.{Slot}
+use Rattle.nomos_slots.proofs.NumberLaws.{put_at-own}
+use Rattle.nomos_index.specs.Indexed.{IsIndexed, held_now, state_of}
+use Rattle.nomos_index.specs.Looked.{ProcessIsAt, lists_at, values_at}
+use Rattle.nomos_index.specs.Objects.{ListRow, ValueRow, channels_of, process_held}
+use Rattle.nomos_index.specs.Placing.{ProcessComes}
+use Rattle.nomos_index.specs.declared.inside.Contents.{Contents}
+use Rattle.nomos_index.specs.declared.inside.Inside.TheInside.{Inside}
+use Rattle.nomos_index.specs.declared.kept.Kept.{Kept}
+use Rattle.nomos_index.specs.declared.kept.Kept.TheVariants as kept
+use Rattle.nomos_index.specs.declared.kept.KeptProcess.{KeptProcess}
+use Rattle.nomos_index.proofs.AgainLemmas.{indexed-again}
+use Rattle.nomos_index.proofs.ProcessLemmas.{process-becomes, process-holding, slot-kept}
+use Rattle.nomos_index.proofs.TogetherLemmas.{same-names}
+
+module _ (s : Inside) (is : IsIndexed s) (pid place : ℕ) (k : KeptProcess)
+    (at : ProcessIsAt (held_now s.contents) pid place k) where
+  abbrev values_row : ValueRow
+  values_row = values_at (held_now s.contents) place
+
+  abbrev lists_row : ListRow
+  lists_row = lists_at (held_now s.contents) place
+
+  -- what is not changed, as a change
+  same_slots : s.contents.objects.now ≡ put_at s.contents.objects.now place (Some (kept.Process k))
+  same_slots = sym (put_at-own s.contents.objects.now place _ (slot-kept s.contents.objects.now place pid (kept.Process k) at.at))
+
+  same_values : s.contents.values.now ≡ slice_set s.contents.values.now place values_row
+  same_values = sym (set-get_or s.contents.values.now place [])
+
+  same_lists : s.contents.lists.now ≡ slice_set s.contents.lists.now place lists_row
+  same_lists = sym (set-get_or s.contents.lists.now place [])
+
+  same_cells : HaveSameNames s.contents.channels.marked s.contents.channels.marked
+  same_cells = same-names s.contents.channels.marked s.contents.channels.marked refl
+
+  -- ---- other plain fields
+
+  module _ (objects : Marking (Slot Kept)) (next : KeptProcess)
+      (now : objects.now ≡ put_at s.contents.objects.now place (Some (kept.Process next)))
+      (marked : objects.marked ≡ s.contents.objects.marked) (room : s.contents.objects.room ≤ objects.room) where
+    abbrev pub with_objects : Contents
+    with_objects = record s.contents { objects = objects }
+
+    fields-come : ProcessComes (held_now s.contents) (held_now with_objects) pid place next values_row lists_row
+    fields-come = record {
+      slots = now;
+      value_rows = same_values;
+      list_rows = same_lists;
+      others = λ p v other. refl;
+      names = refl;
+      balances = refl;
+      outside = refl;
+      results = refl;
+      drawn = refl;
+    }
+
+    pub fields-indexed : IsIndexed (record s { contents = with_objects })
+    fields-indexed =
+        indexed-again s objects s.contents.values s.contents.lists s.contents.channels s.contents.numbers marked refl refl
+        same_cells s.room is
+        (process-holding (held_now s.contents) (held_now with_objects) is.now pid place k next values_row lists_row at fields-come)
+        (record {
+          objects = omega (arith, room, is.has_room.objects);
+          values = is.has_room.values;
+          its_lists = is.has_room.its_lists;
+          channels = is.has_room.channels;
+          names = is.has_room.names;
+        })
+
+    pub fields-become : (f : Process → Process)
+        → f (process_held s.contents.channels.now pid values_row lists_row k)
+        ≡ process_held s.contents.channels.now pid values_row lists_row next
+        → Becomes (state_of (held_now s.contents)) pid f (state_of (held_now with_objects))
+    fields-become f same =
+        process-becomes (held_now s.contents) (held_now with_objects) is.now pid place k next values_row lists_row at
+        fields-come f same
+
+  -- ---- other channels
+
+  module _ (channels : Marking Cell) (room : ℕ)
+      (others : (p v : ℕ) → p ≢ pid → name_in channels.now p v ≡ name_in s.contents.channels.now p v)
+      (marked : HaveSameNames s.contents.channels.marked channels.marked) (less : room ≤ s.room) (has : room ≤ channels.room) where
+    abbrev pub with_cells : Contents
+    with_cells = record s.contents { channels = channels }
+
+    channels-come : ProcessComes (held_now s.contents) (held_now with_cells) pid place k values_row lists_row
+    channels-come = record {
+      slots = same_slots;
+      value_rows = same_values;
+      list_rows = same_lists;
+      others = others;
+      names = refl;
+      balances = refl;
+      outside = refl;
+      results = refl;
+      drawn = refl;
+    }
+
+    pub channels-indexed : IsIndexed (record s { contents = with_cells; room = room })
+    channels-indexed =
+        indexed-again s s.contents.objects s.contents.values s.contents.lists channels s.contents.numbers refl refl refl marked
+        room is
+        (process-holding (held_now s.contents) (held_now with_cells) is.now pid place k k values_row lists_row at channels-come)
+        (record {
+          objects = omega (arith, less, is.has_room.objects);
+          values = omega (arith, less, is.has_room.values);
+          its_lists = omega (arith, less, is.has_room.its_lists);
+          channels = has;
+          names = omega (arith, less, is.has_room.names);
+        })
+
+    pub channels-become : (b : List (VarId × ℕ)) (f : Process → Process) → channels_of channels.now pid ≡ b
+        → f (process_held s.contents.channels.now pid values_row lists_row k)
+        ≡ record (process_held s.contents.channels.now pid values_row lists_row k) { channels = b }
+        → Becomes (state_of (held_now s.contents)) pid f (state_of (held_now with_cells))
+    channels-become b f bound same =
+        process-becomes (held_now s.contents) (held_now with_cells) is.now pid place k k values_row lists_row at channels-come f
+        (same
+        ∙ ap (λ (c : List (VarId × ℕ)). record (process_held s.contents.channels.now pid values_row lists_row k) { channels = c })
+        (sym bound))
+
+  -- ---- other values
+
+  module _ (values : Shelving (VarId × Value)) (row : ValueRow) (now : values.now ≡ slice_set s.contents.values.now place row)
+      (marked : values.marked ≡ s.contents.values.marked) (less : s.contents.values.room ≤ values.room + 1) where
+    abbrev pub with_value_rows : Contents
+    with_value_rows = record s.contents { values = values }
+
+    values-come : ProcessComes (held_now s.contents) (held_now with_value_rows) pid place k row lists_row
+    values-come = record {
+      slots = same_slots;
+      value_rows = now;
+      list_rows = same_lists;
+      others = λ p v other. refl;
+      names = refl;
+      balances = refl;
+      outside = refl;
+      results = refl;
+      drawn = refl;
+    }
+
+    pub values-indexed : IsIndexed (record s { contents = with_value_rows; room = s.room - 1 })
+    values-indexed =
+        indexed-again s s.contents.objects values s.contents.lists s.contents.channels s.contents.numbers refl marked refl
+        same_cells (s.room - 1) is
+        (process-holding (held_now s.contents) (held_now with_value_rows) is.now pid place k k row lists_row at values-come)
+        (record {
+          objects = omega (arith, is.has_room.objects);
+          values = omega (arith, less, is.has_room.values);
+          its_lists = omega (arith, is.has_room.its_lists);
+          channels = omega (arith, is.has_room.channels);
+          names = omega (arith, is.has_room.names);
+        })
+
+    pub values-become : (f : Process → Process)
+        → f (process_held s.contents.channels.now pid values_row lists_row k)
+        ≡ process_held s.contents.channels.now pid row lists_row k
+        → Becomes (state_of (held_now s.contents)) pid f (state_of (held_now with_value_rows))
+    values-become f same =
+        process-becomes (held_now s.contents) (held_now with_value_rows) is.now pid place k k row lists_row at values-come f same
+
+  -- ---- other lists
+
+  module _ (its_lists : Shelving (VarId × PotentialList)) (row : ListRow)
+      (now : its_lists.now ≡ slice_set s.contents.lists.now place row)
+      (marked : its_lists.marked ≡ s.contents.lists.marked) (less : s.contents.lists.room ≤ its_lists.room + 1) where
+    abbrev pub with_list_rows : Contents
+    with_list_rows = record s.contents { lists = its_lists }
+
+    lists-come : ProcessComes (held_now s.contents) (held_now with_list_rows) pid place k values_row row
+    lists-come = record {
+      slots = same_slots;
+      value_rows = same_values;
+      list_rows = now;
+      others = λ p v other. refl;
+      names = refl;
+      balances = refl;
+      outside = refl;
+      results = refl;
+      drawn = refl;
+    }
+
+    pub lists-indexed : IsIndexed (record s { contents = with_list_rows; room = s.room - 1 })
+    lists-indexed =
+        indexed-again s s.contents.objects s.contents.values its_lists s.contents.channels s.contents.numbers refl refl marked
+        same_cells (s.room - 1) is
+        (process-holding (held_now s.contents) (held_now with_list_rows) is.now pid place k k values_row row at lists-come)
+        (record {
+          objects = omega (arith, is.has_room.objects);
+          values = omega (arith, is.has_room.values);
+          its_lists = omega (arith, less, is.has_room.its_lists);
+          channels = omega (arith, is.has_room.channels);
+          names = omega (arith, is.has_room.names);
+        })
+
+    pub lists-become : (f : Process → Process)
+        → f (process_held s.contents.channels.now pid values_row lists_row k)
+        ≡ process_held s.contents.channels.now pid values_row row k
+        → Becomes (state_of (held_now s.contents)) pid f (state_of (held_now with_list_rows))
+    lists-become f same =
+        process-becomes (held_now s.contents) (held_now with_list_rows) is.now pid place k k values_row row at lists-come f same

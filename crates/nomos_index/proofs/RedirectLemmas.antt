@@ -1,0 +1,216 @@
+-- Whoever uses a name uses another one instead.
+use Rattle.std.proofs.Common.{◌≡◌, ◌≢◌, ◌≤◌, ◌<◌, ◌∙◌, ℕ, zero, suc, cond, eqb, eq-eqb, ne_eqb, List, [], ◌∷◌, map, length, Option, Some, None, refl, sym, ap, subst, arith}
+use Rattle.std.proofs.lemmas.List.{set-get_or}
+use Rattle.std.proofs.lemmas.Option.{none-some, same_Some}
+use Rattle.std.specs.List.{slice_get}
+use Rattle.std.specs.Option.{option_map, option_to_list}
+use Rattle.nomos_ir.specs.Bindings.{each_bound}
+use Rattle.nomos_deeds.specs.declared.sight.SeenPayload.{SeenPayload}
+use Rattle.nomos_deeds.specs.declared.sight.SeenPayload.TheVariants as seen
+use Rattle.nomos_machine.specs.Change as change
+use Rattle.nomos_machine.specs.Objects.{object_at, object_number, process_of}
+use Rattle.nomos_machine.specs.Optional.{◌>>=◌}
+use Rattle.nomos_machine.specs.Revised.{renamed, renamed_payload, uses_instead}
+use Rattle.nomos_machine.specs.Sight.{owner, user_of}
+use Rattle.nomos_machine.specs.State.{State}
+use Rattle.nomos_machine.specs.declared.object.Object.{Object}
+use Rattle.nomos_machine.specs.declared.object.Object.TheVariants as object
+use Rattle.nomos_machine.specs.declared.object.Payload.{Payload}
+use Rattle.nomos_machine.specs.declared.object.Process.{Process}
+use Rattle.nomos_machine.proofs.ForwardLaws.{user_of-found}
+use Rattle.nomos_machine.proofs.PutLaws.{InOrder, object_at-own}
+use Rattle.nomos_parts.specs.SmallChanges.{redirected}
+use Rattle.nomos_slots.specs.Cells.{Cell, name_in}
+use Rattle.nomos_slots.specs.Marking.{Marking}
+use Rattle.nomos_slots.specs.Numbers.{found, put_at}
+use Rattle.nomos_slots.specs.Sweeps.{instead_of}
+use Rattle.nomos_slots.specs.declared.numbered.Slot.{Slot}
+use Rattle.nomos_slots.proofs.NumberLaws.{found-at}
+use Rattle.nomos_index.specs.Indexed.{Holding, IsIndexed, held_now, state_of}
+use Rattle.nomos_index.specs.Instead.{brings_instead, kept_instead}
+use Rattle.nomos_index.specs.Looked.{ObjectIsAt, ProcessIsAt, lists_at, values_at}
+use Rattle.nomos_index.specs.Objects.{IsProcess, ValueRow, channels_of, message_held, payload_of, process_held}
+use Rattle.nomos_index.specs.Placing.{CanPlace, PlaceComes}
+use Rattle.nomos_index.specs.declared.inside.Inside.TheInside.{Inside}
+use Rattle.nomos_index.specs.declared.kept.Kept.{Kept}
+use Rattle.nomos_index.specs.declared.kept.Kept.TheVariants as kept
+use Rattle.nomos_index.specs.declared.kept.KeptMessage.{KeptMessage}
+use Rattle.nomos_index.specs.declared.kept.KeptProcess.{KeptProcess}
+use Rattle.nomos_index.proofs.AgainLemmas.{indexed-again}
+use Rattle.nomos_index.proofs.ChangingLemmas.{channels-become}
+use Rattle.nomos_index.proofs.PlaceLemmas.{comes-holding, comes-state}
+use Rattle.nomos_index.proofs.ProcessLemmas.{slot-kept}
+use Rattle.nomos_index.proofs.RebindLemmas.{channels-each}
+use Rattle.nomos_index.proofs.TogetherLemmas.{same-names}
+
+-- a place within has an item
+pub no-item : {X : Type 0} (xs : List X) (at : ℕ) → at < length xs → None ≡ slice_get xs at → ⊥
+no-item [] at within none = absurd (omega arith)
+no-item (x ∷ xs) zero within none = none-some x none
+no-item (x ∷ xs) (suc at) within none = let l : at < length xs = omega arith in no-item xs at l none
+
+-- ---- the user of a name
+
+-- the user of the name stands under its number
+pub record UserStands (objects : List Object) (name number : ℕ) : Type 0 where
+  pub user : Object
+  pub found : user_of objects name ≡ Some user
+  pub stands : object_at objects number ≡ Some user
+  pub is_number : object_number user ≡ number
+
+pub user-stands : (s : State) (name number : ℕ) → InOrder s.objects → owner s name ≡ Some number
+    → UserStands s.objects name number
+user-stands s name number order owned = at (user_of s.objects name) refl
+  where
+    at : (o : Option Object) → user_of s.objects name ≡ o → UserStands s.objects name number
+    at None none =
+        absurd (none-some number (sym (ap (option_map object_number) none) ∙ owned))
+    at (Some u) is =
+        let own : object_number u ≡ number =
+        same_Some (object_number u) number (sym (ap (option_map object_number) is) ∙ owned) in
+        record {
+          user = u;
+          found = is;
+          stands =
+              ap (object_at s.objects) (sym own) ∙ object_at-own u s.objects order (user_of-found name u s.objects is).0;
+          is_number = own;
+        }
+
+-- another object stands under its number, where it is redirected
+pub redirected-user : (objects : List Object) (old new number : ℕ) (o : Object) → UserStands objects old number
+    → object_at objects number ≡ Some o → redirected old new objects ≡ change.put_at number (Some (uses_instead old new o)) objects
+redirected-user objects old new number o user at =
+    let same : user.user ≡ o = same_Some user.user o (sym user.stands ∙ at) in
+    ap (λ (u : Option Object).
+    change.put_all (map (λ o. (object_number o, Some (uses_instead old new o))) (option_to_list u)) objects) user.found
+    ∙ ap (λ n. change.put_at n (Some (uses_instead old new user.user)) objects) user.is_number
+    ∙ ap (λ (x : Object). change.put_at number (Some (uses_instead old new x)) objects) same
+
+-- ---- it is a process
+
+module _ (s : Inside) (is : IsIndexed s) (old new number place : ℕ) (k : KeptProcess) (channels : Marking Cell)
+    (at : ObjectIsAt (held_now s.contents) number place (kept.Process k))
+    (user : UserStands (state_of (held_now s.contents)).objects old number)
+    (names : (p w : ℕ) → name_in channels.now p w
+    ≡ cond (eqb number p) (option_map (instead_of old new) (name_in s.contents.channels.now p w))
+    (name_in s.contents.channels.now p w))
+    (marked : channels.marked ≡ s.contents.channels.marked) (room : s.contents.channels.room ≤ channels.room) where
+  stands : ProcessIsAt (held_now s.contents) number place k
+  stands = record { at = at.at; found = ap (λ (o : Option Object). o >>= process_of) at.found }
+
+  others : (p w : ℕ) → p ≢ number → name_in channels.now p w ≡ name_in s.contents.channels.now p w
+  others p w other =
+      names p w
+      ∙ ap (λ b. cond b (option_map (instead_of old new) (name_in s.contents.channels.now p w))
+      (name_in s.contents.channels.now p w)) (ne_eqb number p (λ same. other (sym same)))
+
+  own : channels_of channels.now number ≡ each_bound (renamed old new) (channels_of s.contents.channels.now number)
+  own =
+      channels-each s.contents.channels.now channels.now number (renamed old new)
+      (λ w.
+      names number w
+      ∙ ap (λ b. cond b (option_map (instead_of old new) (name_in s.contents.channels.now number w))
+      (name_in s.contents.channels.now number w)) (eq-eqb number number refl))
+
+  pub process-redirected : state_of (held_now (record s.contents { channels = channels }))
+      ≡ record (state_of (held_now s.contents)) { objects = redirected old new (state_of (held_now s.contents)).objects }
+  process-redirected =
+      let state = state_of (held_now s.contents) in
+      let held = process_held s.contents.channels.now number (values_at (held_now s.contents) place)
+      (lists_at (held_now s.contents) place) k in
+      let turned : Process → Process = λ p. record p { channels = each_bound (renamed old new) p.channels } in
+      channels-become s is number place k stands channels s.room others
+      (same-names s.contents.channels.marked channels.marked marked) (omega arith)
+      (omega (arith, room, is.has_room.channels))
+      (each_bound (renamed old new) (channels_of s.contents.channels.now number)) turned own refl held stands.found
+      ∙ sym (ap (λ (os : List Object). record state { objects = os })
+      (redirected-user state.objects old new number (object.Process held) user at.found))
+
+-- ---- it is a message
+
+payload-instead : (old new : ℕ) (brought : SeenPayload) (row : ValueRow)
+    → payload_of (brings_instead old new brought) row ≡ renamed_payload old new (payload_of brought row)
+payload-instead old new (seen.Label l) row = refl
+payload-instead old new seen.Value [] = refl
+payload-instead old new seen.Value (e ∷ row) = refl
+payload-instead old new (seen.Channel name) row = refl
+payload-instead old new seen.Pay row = refl
+payload-instead old new seen.Close row = refl
+
+brings-instead : (old new : ℕ) (brought : SeenPayload) → brings_instead old new brought ≡ seen.Value
+    → brought ≡ seen.Value
+brings-instead old new (seen.Label l) is = is
+brings-instead old new seen.Value is = is
+brings-instead old new (seen.Channel name) is = absurd cc
+brings-instead old new seen.Pay is = is
+brings-instead old new seen.Close is = is
+
+module _ (s : Inside) (is : IsIndexed s) (old new number place : ℕ) (m next : KeptMessage) (objects : Marking (Slot Kept))
+    (at : ObjectIsAt (held_now s.contents) number place (kept.Message m))
+    (user : UserStands (state_of (held_now s.contents)).objects old number)
+    (instead : next ≡ kept_instead old new m)
+    (now : objects.now ≡ put_at s.contents.objects.now place (Some (kept.Message next)))
+    (marked : objects.marked ≡ s.contents.objects.marked) (room : s.contents.objects.room ≤ objects.room) where
+  abbrev before : Holding
+  before = held_now s.contents
+
+  abbrev after : Holding
+  after = held_now (record s.contents { objects = objects })
+
+  stood : slice_get before.slots place ≡ Some (record { number = number; item = Some (kept.Message m) })
+  stood = slot-kept before.slots place number (kept.Message m) at.at
+
+  can : CanPlace before place number (kept.Message m) (Some (kept.Message next)) (values_at before place) after.cells
+  can = record {
+    stood = stood;
+    brings = λ brings.
+        is.now.brought place (record { number = number; item = Some (kept.Message m) }) stood
+        (brings-instead old new m.brings (sym (ap (λ (n : KeptMessage). n.brings) instead) ∙ brings));
+    others = λ p w other. refl;
+    its_own = λ w some.
+        let under : found before.slots number ≡ Some (kept.Message m) =
+        found-at before.slots place (record { number = number; item = Some (kept.Message m) }) is.now.ascending stood in
+        subst IsProcess under (is.now.held number w some);
+  }
+
+  comes : PlaceComes before after number place (Some (kept.Message next)) (values_at before place) (lists_at before place)
+  comes = record {
+    slots = now;
+    value_rows = sym (set-get_or before.value_rows place []);
+    list_rows = sym (set-get_or before.list_rows place []);
+    others = λ p w other. refl;
+    names = refl;
+    balances = refl;
+    outside = refl;
+    results = refl;
+    drawn = refl;
+  }
+
+  pub message-indexed : IsIndexed (record s { contents = record s.contents { objects = objects } })
+  message-indexed =
+      indexed-again s objects s.contents.values s.contents.lists s.contents.channels s.contents.numbers marked refl refl
+      (same-names s.contents.channels.marked s.contents.channels.marked refl) s.room is
+      (comes-holding before after is.now place number (kept.Message m) (Some (kept.Message next)) (values_at before place)
+      (lists_at before place) can comes)
+      (record {
+        objects = omega (arith, room, is.has_room.objects);
+        values = is.has_room.values;
+        its_lists = is.has_room.its_lists;
+        channels = is.has_room.channels;
+        names = is.has_room.names;
+      })
+
+  pub message-redirected : state_of after
+      ≡ record (state_of before) { objects = redirected old new (state_of before).objects }
+  message-redirected =
+      let row = values_at before place in
+      let held = message_held number row m in
+      let put : Object → State = λ o.
+      record (state_of before) { objects = change.put_at number (Some o) (state_of before).objects } in
+      let turned : Payload → Object = λ payload.
+      object.Message (record (message_held number row (kept_instead old new m)) { payload = payload }) in
+      comes-state before after is.now place number (kept.Message m) (Some (kept.Message next)) row (lists_at before place) can comes
+      ∙ ap (λ (n : KeptMessage). put (object.Message (message_held number row n))) instead
+      ∙ ap (λ (payload : Payload). put (turned payload)) (payload-instead old new m.brings row)
+      ∙ sym (ap (λ (os : List Object). record (state_of before) { objects = os })
+      (redirected-user (state_of before).objects old new number (object.Message held) user at.found))

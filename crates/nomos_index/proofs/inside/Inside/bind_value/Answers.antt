@@ -1,0 +1,23 @@
+use Rattle.std.proofs.Common.{refl, subst}
+use Rattle.std.proofs.lemmas.Option.{MatchOption-at_some}
+use Rattle.nomos_ir.specs.Bindings.{bind}
+use Rattle.nomos_machine.specs.Revised.{with_value}
+use Rattle.nomos_parts.specs.SmallChanges.{Becomes}
+use Rattle.nomos_index.specs.Indexed.{Indexed, held_now, state_of}
+use Rattle.nomos_index.specs.Looked.{ProcessIsAt, values_at}
+use Rattle.nomos_index.specs.Objects.{ValueRow}
+use Rattle.nomos_index.proofs.ChangingLemmas.{values-become}
+use Rattle.nomos_index.proofs.inside.Inside.bind_value.Goals as goal
+
+pub returns-clause-ok : goal.returns-clause-ok
+returns-clause-ok c =
+    let s = c.self.inside in
+    let place = c.in-Some.place in
+    let k = c.in-Some.field-0-1 in
+    let at : ProcessIsAt (held_now s.contents) c.args.pid place k =
+    MatchOption-at_some _ _ (place, k) c.in-Some.is c.process_at.ensures in
+    let row : ValueRow = bind c.args.v c.args.x (values_at (held_now s.contents) place) in
+    let after = record s.contents { values = c.bind_in.new.values } in
+    subst (λ (i : Indexed). Becomes i.state c.args.pid (with_value c.args.v c.args.x) (state_of (held_now after))) c.self.view_is
+    (values-become s c.self.invariant c.args.pid place k at c.bind_in.new.values row c.in_ok-bind_in.ensures.ok
+    c.bind_in.ensures.marked c.bind_in.ensures.room (with_value c.args.v c.args.x) refl)

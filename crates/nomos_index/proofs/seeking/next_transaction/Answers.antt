@@ -1,0 +1,14 @@
+use Rattle.std.proofs.Common.{option_and_then, sym}
+use Rattle.nomos_index.specs.Indexed.{held_now, standing_at, state_of}
+use Rattle.nomos_index.specs.Walks.{is_over, is_transaction}
+use Rattle.nomos_index.proofs.LookLemmas.{state-in_order}
+use Rattle.nomos_index.proofs.SeekLemmas.{first-found}
+use Rattle.nomos_index.proofs.WalkLemmas.{transactions-next}
+use Rattle.nomos_index.proofs.seeking.next_transaction.Goals as goal
+
+pub returns : goal.returns
+returns c =
+    let h = held_now c.args.contents.now in
+    let found = first-found (is_over c.args.after is_transaction) h c.requires c.first.result c.first.ensures in
+    transactions-next c.args.after (state_of h).objects (state-in_order h c.requires)
+    (option_and_then (standing_at h) c.first.result) (sym found) c.number_in.result c.number_in.ensures

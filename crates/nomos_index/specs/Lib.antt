@@ -1,0 +1,12 @@
+pub mod Objects
+pub mod Indexed
+pub mod Looked
+pub mod Placing
+pub mod Coming
+pub mod Together
+pub mod Walks
+pub mod Sought
+pub mod Rebound
+pub mod Instead
+pub mod Tidying
+pub mod State

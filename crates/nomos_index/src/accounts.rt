@@ -1,0 +1,106 @@
+//! Accounts of an indexed state, the gas that is spent, and what is emitted.
+ghost use Rattle.std.specs.Prelude.{◌≡◌, ◌<◌, ◌+◌, ◌-◌, ◌++◌, ◌∷◌, ◌^◌, [], IfOk, OnErr, OnOk, None, Some, length, slice_get, slice_index};
+ghost use Rattle.nomos_machine.specs.Change.{CanGive, paid_in, paid_out};
+ghost use Rattle.nomos_machine.specs.Starting.{cleared, opened};
+
+use crate::inside::Inside;
+use nomos_ir::value::Value;
+use std::alloc::AllocError;
+
+impl Inside {
+    /// What an account has, in Dths, if there is one of that number.
+    pub(crate) fn balance(&self, account: u32) -> Option<u128>
+        ensures { result ≡ slice_get self.now.state.balances account }
+    {
+        self.contents.balances.get(account as usize)
+    }
+
+    /// An account has so many Dths more. It takes no room.
+    pub(crate) fn pay_in(&mut self, account: u32, dths: u128)
+        requires account { account < length self.old.state.balances }
+        requires fits { slice_index self.old.state.balances account + dths < 2 ^ 128 }
+        ensures state { self.new.state ≡ record self.old.state
+            { balances = paid_in (Some (account, dths)) self.old.state.balances } }
+        ensures room { self.new.room ≡ self.old.room }
+        ensures marked { self.new.marked ≡ self.old.marked }
+    {
+        if let Some(before) = self.contents.balances.get(account as usize) {
+            self.contents.balances.put(account as usize, before + dths);
+        }
+    }
+
+    /// An account has so many Dths less. It takes no room.
+    pub(crate) fn pay_out(&mut self, account: u32, dths: u128)
+        requires { CanGive (Some (account, dths)) self.old.state.balances }
+        ensures state { self.new.state ≡ record self.old.state
+            { balances = paid_out (Some (account, dths)) self.old.state.balances } }
+        ensures room { self.new.room ≡ self.old.room }
+        ensures marked { self.new.marked ≡ self.old.marked }
+    {
+        if let Some(before) = self.contents.balances.get(account as usize) {
+            self.contents.balances.put(account as usize, before - dths);
+        }
+    }
+
+    /// Makes the next account, with so many Dths, and gives its number. Want of memory leaves the state as it was.
+    pub(crate) fn open_account(&mut self, dths: u128) -> Result<u32, AllocError>
+        requires { length self.old.state.balances < 2 ^ 32 - 1 }
+        ensures ok { IfOk result (λ account. (account ≡ length self.old.state.balances)
+            × (self.new.state ≡ opened self.old.state dths)) }
+        ensures err { OnErr result (self.new.state ≡ self.old.state) }
+        ensures room { self.new.room ≡ self.old.room }
+        ensures marked { self.new.marked ≡ self.old.marked }
+    {
+        let account = self.contents.balances.len() as u32;
+        self.contents.balances.reserve_all(1)?;
+        self.contents.balances.push(dths);
+        Ok(account)
+    }
+
+    /// The gas spent, in Dths.
+    pub(crate) fn spent(&self) -> u128
+        ensures { result ≡ self.now.state.spent }
+    {
+        self.contents.numbers.spent
+    }
+
+    /// So many Dths are spent. It takes no room.
+    pub(crate) fn burn(&mut self, dths: u128)
+        requires { self.old.state.spent + dths < 2 ^ 128 }
+        ensures state { self.new.state ≡ record self.old.state { spent = self.old.state.spent + dths } }
+        ensures room { self.new.room ≡ self.old.room }
+        ensures marked { self.new.marked ≡ self.old.marked }
+    {
+        self.contents.numbers.spent += dths;
+    }
+
+    /// A value is emitted by the process of this number.
+    pub(crate) fn emit(&mut self, pid: u32, x: Value) -> Result<(), AllocError>
+        ensures ok { OnOk result (self.new.state ≡ record self.old.state
+            { results = self.old.state.results ++ (pid, x) ∷ [] }) }
+        ensures err { OnErr result (self.new.state ≡ self.old.state) }
+        ensures room { self.new.room ≡ self.old.room }
+        ensures marked { self.new.marked ≡ self.old.marked }
+    {
+        self.contents.results.reserve(1)?;
+        self.contents.results.push((pid, x));
+        Ok(())
+    }
+
+    /// What processes emitted: the number of the process, and the value.
+    pub(crate) fn results(&self) -> &[(u32, Value)]
+        ensures { result.now ≡ self.now.state.results }
+    {
+        self.contents.results.as_slice()
+    }
+
+    /// Forgets what was emitted. It takes no memory.
+    pub(crate) fn clear_results(&mut self)
+        requires { self.old.marked ≡ None }
+        ensures state { self.new.state ≡ cleared self.old.state }
+        ensures room { self.new.room ≡ self.old.room }
+        ensures marked { self.new.marked ≡ self.old.marked }
+    {
+        self.contents.results.clear();
+    }
+}

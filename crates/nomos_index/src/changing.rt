@@ -1,0 +1,105 @@
+//! A process of an indexed state changes: its plain fields, its channels, its values, its lists.
+ghost use Rattle.std.specs.Prelude.{◌≡◌, ◌≤◌, ◌<◌, ◌+◌, OnErr, OnOk};
+ghost use Rattle.nomos_machine.specs.Revised.{with_channel, with_value, without_channel};
+ghost use Rattle.nomos_parts.specs.SmallChanges.{Becomes, with_fields, with_lists, with_values};
+
+use crate::inside::Inside;
+use crate::kept::{Kept, KeptProcess};
+use crate::looking::process_at;
+use crate::rows::bind_in;
+use nomos_deeds::sight::SeenProcess;
+use nomos_ir::ids::VarId;
+use nomos_ir::value::Value;
+use nomos_machine::object::PotentialList;
+use std::alloc::{AllocError, Global};
+
+impl Inside {
+    /// The process of this number has these plain fields, but for the number, which it has already. It takes no room.
+    pub(crate) fn set_fields(&mut self, fields: SeenProcess)
+        ensures state { Becomes self.old.state fields.pid (with_fields fields) self.new.state }
+        ensures room { self.new.room ≡ self.old.room }
+        ensures marked { self.new.marked ≡ self.old.marked }
+    {
+        let Some((place, _)) = process_at(&self.contents, fields.pid) else {
+            return;
+        };
+        let next = KeptProcess::of(fields);
+        self.contents.objects.put(place, Some(Kept::Process(next)));
+    }
+
+    /// A channel of the process is bound to a variable.
+    pub(crate) fn bind_channel(&mut self, pid: u32, v: VarId, name: u32)
+        requires { 0 < self.old.room }
+        ensures state { Becomes self.old.state pid (with_channel v name) self.new.state }
+        ensures room { self.old.room ≤ self.new.room + 1 }
+        ensures marked { self.new.marked ≡ self.old.marked }
+    {
+        let Some(_) = process_at(&self.contents, pid) else {
+            return;
+        };
+        self.contents.channels.bind(pid, v.0, name);
+        self.room -= 1;
+    }
+
+    /// A variable of the process has no channel any longer. It takes no room.
+    pub(crate) fn unbind_channel(&mut self, pid: u32, v: VarId)
+        ensures state { Becomes self.old.state pid (without_channel v) self.new.state }
+        ensures room { self.new.room ≡ self.old.room }
+        ensures marked { self.new.marked ≡ self.old.marked }
+    {
+        let Some(_) = process_at(&self.contents, pid) else {
+            return;
+        };
+        self.contents.channels.unbind(pid, v.0);
+    }
+
+    /// A variable of the process is bound to a value.
+    pub(crate) fn bind_value(
+        &mut self,
+        alloc: Global,
+        pid: u32,
+        v: VarId,
+        x: Value,
+    ) -> Result<(), AllocError>
+        requires { 0 < self.old.room }
+        ensures ok { OnOk result (Becomes self.old.state pid (with_value v x) self.new.state) }
+        ensures err { OnErr result (self.new.state ≡ self.old.state) }
+        ensures room { self.old.room ≤ self.new.room + 1 }
+        ensures marked { self.new.marked ≡ self.old.marked }
+    {
+        let Some((place, _)) = process_at(&self.contents, pid) else {
+            return Ok(());
+        };
+        bind_in(&mut self.contents.values, alloc, place, v, x)?;
+        self.room -= 1;
+        Ok(())
+    }
+
+    /// The process has these values.
+    pub(crate) fn put_values(&mut self, pid: u32, values: Vec<(VarId, Value)>)
+        requires { 0 < self.old.room }
+        ensures state { Becomes self.old.state pid (with_values values.items) self.new.state }
+        ensures room { self.old.room ≤ self.new.room + 1 }
+        ensures marked { self.new.marked ≡ self.old.marked }
+    {
+        let Some((place, _)) = process_at(&self.contents, pid) else {
+            return;
+        };
+        let _before = self.contents.values.replace(place, values);
+        self.room -= 1;
+    }
+
+    /// The process has these lists.
+    pub(crate) fn put_lists(&mut self, pid: u32, lists: Vec<(VarId, PotentialList)>)
+        requires { 0 < self.old.room }
+        ensures state { Becomes self.old.state pid (with_lists lists.items) self.new.state }
+        ensures room { self.old.room ≤ self.new.room + 1 }
+        ensures marked { self.new.marked ≡ self.old.marked }
+    {
+        let Some((place, _)) = process_at(&self.contents, pid) else {
+            return;
+        };
+        let _before = self.contents.lists.replace(place, lists);
+        self.room -= 1;
+    }
+}

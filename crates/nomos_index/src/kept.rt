@@ -1,0 +1,51 @@
+//! Objects as an indexed state keeps them: plain records. Values, lists and channels stand beside them.
+ghost use Rattle.std.specs.Prelude.{◌≡◌};
+ghost use Rattle.nomos_index.specs.Objects.{kept_of};
+
+use nomos_deeds::sight::{SeenPayload, SeenProcess};
+use nomos_ir::ids::CodeId;
+use nomos_ir::mode::Mode;
+
+/// A process without its number, its values, its lists and its channels. Its purse counts Dths.
+#[derive(Clone, Copy, Debug)]
+pub(crate) struct KeptProcess {
+    pub(crate) mode: Mode,
+    pub(crate) code: CodeId,
+    pub(crate) offers: u32,
+    pub(crate) base: Option<u32>,
+    pub(crate) purse: u128,
+    pub(crate) payer: u32,
+}
+
+impl KeptProcess {
+    /// What is kept of a process with these plain fields.
+    pub(crate) fn of(fields: SeenProcess) -> KeptProcess
+        ensures { result ≡ kept_of fields }
+    {
+        KeptProcess {
+            mode: fields.mode,
+            code: fields.code,
+            offers: fields.offers,
+            base: fields.base,
+            purse: fields.purse,
+            payer: fields.payer,
+        }
+    }
+}
+
+/// A message without its number and the value that it may bring. Its purse counts Dths.
+#[derive(Clone, Copy, Debug)]
+pub(crate) struct KeptMessage {
+    pub(crate) to_client: bool,
+    pub(crate) from: u32,
+    pub(crate) next: Option<u32>,
+    pub(crate) brings: SeenPayload,
+    pub(crate) purse: u128,
+}
+
+/// A process or a message.
+#[derive(Clone, Copy, Debug)]
+pub(crate) enum Kept {
+    Process(KeptProcess),
+    Message(KeptMessage),
+}

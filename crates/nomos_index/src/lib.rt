@@ -1,0 +1,23 @@
+//! The indexed form of a state: objects under numbers and channels in one table, which can be marked and put back.
+#![tactic(auto)]
+
+mod accounts;
+mod binding;
+mod changes;
+mod changing;
+mod coming;
+mod copying;
+pub mod indexed;
+mod inside;
+mod kept;
+mod leaving;
+mod looking;
+mod marking;
+mod naming;
+mod reading;
+mod redirecting;
+mod rows;
+mod seeking;
+mod sight;
+mod walking;
+mod weights;
