@@ -1,0 +1,6 @@
+mod PaperLemmas
+mod RoomLemmas
+mod WalkLemmas
+mod CarryLemmas
+mod RetellLemmas
+pub mod CarriedLaws
