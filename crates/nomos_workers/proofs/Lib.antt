@@ -2,3 +2,5 @@ pub mod PolicyLaws
 pub mod OneLemmas
 pub mod ShopLemmas
 pub mod WorkLemmas
+pub mod FaultLemmas
+pub mod BatchLaws

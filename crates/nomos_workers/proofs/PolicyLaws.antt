@@ -33,7 +33,7 @@ chosen-ready policy.Round a s last pid (inl next) = next.ready
 chosen-ready policy.Round a s last pid (inr both) = both.1.ready
 
 -- no process has the number 0
-none-zero : {s : State} → Numbered s → (o : Option Process) → process_at s 0 ≡ o → process_at s 0 ≡ None
+pub none-zero : {s : State} → Numbered s → (o : Option Process) → process_at s 0 ≡ o → process_at s 0 ≡ None
 none-zero {s} numbered None is = is
 none-zero {s} numbered (Some p) is =
     let (there, number) = process_at-there s 0 p is in

@@ -1,6 +1,5 @@
 -- Shops: as they are opened, and which process fires next in them.
-use Rattle.std.proofs.Common.{◌≡◌, ◌≢◌, ◌∙◌, ℕ, ◌+◌, ◌<◌, ◌≤◌, List, [], ◌∷◌, ◌++◌, map, length, Option, Some, None, Result, Ok, Err, IfOk, OnErr, refl, sym, ap, subst, arith, inl, inr, length-append}
-use Rattle.std.proofs.lemmas.List.{map-append}
+use Rattle.std.proofs.Common.{◌≡◌, ℕ, ◌<◌, length, Option, Some, None, ap, arith}
 use Rattle.std.specs.Option.{MatchOption}
 use Rattle.nomos_types.specs.Acceptance.{Acceptance, IsAccepted}
 use Rattle.nomos_machine.specs.Run.{IsNextReady, IsQuiet, NoneReady}
@@ -8,18 +7,11 @@ use Rattle.nomos_machine.specs.State.{State}
 use Rattle.nomos_machine.specs.Step.{IsReady}
 use Rattle.nomos_machine.specs.TypedState.{IsTyped}
 use Rattle.nomos_deeds.specs.Acting.{HasNumbers}
-use Rattle.nomos_deeds.specs.declared.fire.Fire.{Fire}
-use Rattle.nomos_deeds.specs.declared.fire.Fire.TheVariants as fire
-use Rattle.nomos_legal.specs.Ledger.{LedgerState}
-use Rattle.nomos_legal.specs.StandsFor.{WorldStandsFor}
 use Rattle.nomos_legal.specs.World.{WorldState, start_of}
-use Rattle.nomos_legal.specs.declared.journal.Firing.{Firing}
 use Rattle.nomos_legal.proofs.WorldLaws.{world-rises}
-use Rattle.nomos_floor.specs.FloorPass.{AddsAtMostOne}
-use Rattle.nomos_ledger.specs.Calls.{FiresIn, HasFired}
 use Rattle.nomos_workers.specs.Batch.{MayRun}
-use Rattle.nomos_workers.specs.Shops.{IsShop, ShopState, history_of, opening, unfired}
-use Rattle.nomos_workers.proofs.OneLemmas.{fresh-start, same-start}
+use Rattle.nomos_workers.specs.Shops.{IsShop, ShopState}
+use Rattle.nomos_workers.proofs.OneLemmas.{fresh-start}
 use Rattle.nomos_workers.proofs.PolicyLaws.{none_ready-quiet}
 
 -- a batch that may be run makes a shop

@@ -1,5 +1,5 @@
 -- What a worker knows after its turns.
-use Rattle.std.proofs.Common.{◌≡◌, ◌∙◌, ℕ, ◌≤◌, List, [], ◌∷◌, map, length, Result, Ok, Err, Some, IfOk, IfSome, refl, sym, ap, subst, arith, inl, inr}
+use Rattle.std.proofs.Common.{◌≡◌, ◌∙◌, ℕ, List, [], ◌∷◌, map, length, Result, IfOk, IfSome, refl, sym, ap, subst, arith, inl, inr}
 use Rattle.std.proofs.lemmas.List.{length-map}
 use Rattle.nomos_types.specs.Acceptance.{Acceptance}
 use Rattle.nomos_machine.specs.Run.{run}
@@ -12,8 +12,6 @@ use Rattle.nomos_floor.proofs.HistoryLaws.{prefix_push}
 use Rattle.nomos_floor.specs.declared.floor.Pass.{Pass}
 use Rattle.nomos_workers.specs.Shops.{HasRun, IsShop, MayEnd, ShopState, history_of, opening}
 use Rattle.nomos_workers.specs.declared.batch.BatchEnd.{BatchEnd}
-use Rattle.nomos_workers.specs.declared.batch.BatchEnd.TheVariants as batch_end
-use Rattle.nomos_workers.specs.declared.shop.Known.{Known}
 use Rattle.nomos_workers.specs.declared.shop.Seeks.{Seeks}
 use Rattle.nomos_workers.specs.declared.shop.Turned.{Turned}
 use Rattle.nomos_workers.specs.declared.work.Onward.{Onward}
@@ -64,11 +62,11 @@ shop-run s shop e ends =
       ends = subst (λ (n : ℕ). MayEnd s.accepted s.world.state n s.limit e) (sym count) ends;
     }
 
-module _ {E : Type 0} (start : ShopState) (history : List (ℕ × ℕ)) (turned : Result Turned E)
-    (has : HasTurned start history turned) where
+module _ {A E : Type 0} (program : A → Acceptance) (start : ShopState) (history : List (ℕ × ℕ))
+    (turned : Result (Turned A) E) (has : HasTurned program start history turned) where
   -- what is evaluated after a turn is right
   pub turned-known : (o : Onward) (seeks : Seeks) → o ≡ onward.Seeks seeks
-      → ((s : ShopState) → IfOk turned (TurnsOut s) → LeadsTo s o) → IfSome seeks.known (IsKnown start.accepted)
+      → ((s : ShopState) → IfOk turned (TurnsOut program s) → LeadsTo s o) → IfSome seeks.known (IsKnown start.accepted)
   turned-known o seeks is leads =
       let same : has.shop.accepted ≡ start.accepted = ap (λ (s : ShopState). s.accepted) has.opened in
       let known : LeadsTo has.shop (onward.Seeks seeks) =
@@ -77,7 +75,7 @@ module _ {E : Type 0} (start : ShopState) (history : List (ℕ × ℕ)) (turned 
 
   -- and where the batch ends, the history has run
   pub turned-run : (o : Onward) (e : BatchEnd) → o ≡ onward.Ends e
-      → ((s : ShopState) → IfOk turned (TurnsOut s) → LeadsTo s o) → HasRun start history e
+      → ((s : ShopState) → IfOk turned (TurnsOut program s) → LeadsTo s o) → HasRun start history e
   turned-run o e is leads =
       let ends : LeadsTo has.shop (onward.Ends e) = subst (LeadsTo has.shop) is (leads has.shop has.turns_out) in
       let ran = shop-run has.shop has.is_shop e ends in

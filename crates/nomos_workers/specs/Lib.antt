@@ -1,4 +1,5 @@
 pub mod Batch
+pub mod Crews
 pub mod OneWorker
 pub mod Shops
 pub mod mirror

@@ -3,6 +3,9 @@
 
 pub mod batch;
 pub mod gate;
+pub mod lent;
 pub mod one;
+pub mod run;
+mod several;
 pub mod shop;
 pub mod work;

@@ -9,13 +9,13 @@ ghost use Rattle.nomos_workers.specs.Batch.{MayRun};
 ghost use Rattle.nomos_workers.specs.Shops.{IsShop, history_of, opening};
 ghost use Rattle.nomos_workers.specs.mirror.Turns.{IsKnown, TurnsOut};
 
+use crate::lent::Lent;
 use nomos_deeds::fire::Fire;
 use nomos_deeds::undo::Undo;
 use nomos_eval::wanted::{Outcome, Wanted};
 use nomos_floor::shared::Shared;
 use nomos_ledger::world::World;
 use nomos_legal::journal::{End, Firing};
-use nomos_types::accepted::Accepted;
 use std::alloc::{AllocError, Global};
 use std::marker::Model;
 
@@ -23,13 +23,13 @@ use std::marker::Model;
 /// floor its start is the batch before any firing, and its history the firings, each as the number of a pass and that
 /// of a process.
 #[derive(Drop)]
-pub struct Shop<'a, M: Undo + Drop> {
-    accepted: &'a Accepted,
+pub struct Shop<A: Lent, M: Undo + Drop> {
+    lent: A,
     world: World<M>,
     limit: u32,
 }
 
-impl<'a, M: Undo + Drop> Model for Shop<'a, M> {
+impl<A: Lent, M: Undo + Drop> Model for Shop<A, M> {
     ghost use Rattle.std.specs.Coded.{codes};
     ghost use Rattle.nomos_ir.specs.ValueCode.{value_code};
     ghost use Rattle.nomos_workers.specs.Shops.{ShopState, IsShop};
@@ -38,13 +38,13 @@ impl<'a, M: Undo + Drop> Model for Shop<'a, M> {
 
     ghost coded = { Prim.hlevel (codes, value_code) };
 
-    ghost view = { λ s. record { accepted = s.accepted.now; world = s.world; limit = s.limit } };
+    ghost view = { λ s. record { accepted = A.program s.lent; world = s.world; limit = s.limit } };
 
-    ghost invariant = { λ s. IsShop (record { accepted = s.accepted.now; world = s.world; limit = s.limit }) };
+    ghost invariant = { λ s. IsShop (record { accepted = A.program s.lent; world = s.world; limit = s.limit }) };
 }
 
-impl<'a, M: Undo + Drop> Shared for Shop<'a, M> {
-    type Start = Shop<'a, M>;
+impl<A: Lent, M: Undo + Drop> Shared for Shop<A, M> {
+    type Start = Shop<A, M>;
 
     type Entry = u32;
 
@@ -73,37 +73,33 @@ pub(crate) struct Seeks {
 
 // What is to be evaluated of a process, for a program.
 #[derive(Drop)]
-pub(crate) struct Asked<'a> {
-    pub(crate) accepted: &'a Accepted,
+pub(crate) struct Asked<A> {
+    pub(crate) lent: A,
     pub(crate) pid: u32,
     pub(crate) wanted: Wanted,
 }
 
 // What a turn of a worker comes to.
 #[derive(Drop)]
-pub(crate) enum Turned<'a> {
+pub(crate) enum Turned<A> {
     Fired(u32),
     Ends(End),
-    Wants(Asked<'a>),
+    Wants(Asked<A>),
 }
 
-impl<'a, M: Undo + Drop> Shop<'a, M> {
+impl<A: Lent, M: Undo + Drop> Shop<A, M> {
     /// The shop of a batch in which nothing has fired. It takes no memory.
-    pub fn of(accepted: &'a Accepted, world: World<M>, limit: u32) -> Shop<'a, M>
-        requires { MayRun accepted.now limit world }
-        ensures { result ≡ record { accepted = accepted.now; world = world; limit = limit } }
+    pub fn of(lent: A, world: World<M>, limit: u32) -> Shop<A, M>
+        requires { MayRun (A.program lent) limit world }
+        ensures { result ≡ record { accepted = A.program lent; world = world; limit = limit } }
     {
-        Shop {
-            accepted,
-            world,
-            limit,
-        }
+        Shop { lent, world, limit }
     }
 
     /// The batch as it has come to be. It takes no memory. The second clause also says what holds of every shop.
     pub fn into_world(self) -> World<M>
-        ensures world { result ≡ self.entry.world }
-        ensures shop { IsShop self.entry }
+        ensures world { result ≡ self.world }
+        ensures shop { IsShop self }
     {
         self.world
     }
@@ -114,10 +110,11 @@ impl<'a, M: Undo + Drop> Shop<'a, M> {
             (IsReady self.now.accepted self.now.world.state) }
     {
         // Where the program is read it is known to be accepted.
-        let _program = self.accepted.program();
-        match self.world.next_ready(self.accepted, after) {
+        let accepted = self.lent.accepted();
+        let _program = accepted.program();
+        match self.world.next_ready(accepted, after) {
             Some(pid) => Some(pid),
-            None => self.world.next_ready(self.accepted, 0),
+            None => self.world.next_ready(accepted, 0),
         }
     }
 
@@ -128,20 +125,20 @@ impl<'a, M: Undo + Drop> Shop<'a, M> {
             (EndsAs self.now.accepted self.now.world.state (length self.now.world.firings) self.now.limit) }
         ensures shop { IsShop self.now }
     {
-        self.world.end(self.accepted, self.limit)
+        let accepted = self.lent.accepted();
+        self.world.end(accepted, self.limit)
     }
 
     // What is to be evaluated of a process before it fires, if anything is and nothing was evaluated.
-    fn asked(&self, alloc: Global, pid: u32, seeks: &Seeks) -> Result<Option<Asked<'a>>, AllocError>
-        ensures { IfOk result (λ found. IfSome found (λ asked. asked.accepted.now ≡ self.now.accepted)) }
+    fn asked(&self, alloc: Global, pid: u32, seeks: &Seeks) -> Result<Option<Asked<A>>, AllocError>
+        ensures { IfOk result (λ found. IfSome found (λ asked. A.program asked.lent ≡ self.now.accepted)) }
     {
         if seeks.known.is_some() {
             return Ok(None);
         }
-        let accepted = self.accepted;
-        match self.world.wanted(alloc, accepted, pid)? {
+        match self.world.wanted(alloc, self.lent.accepted(), pid)? {
             Some(wanted) => Ok(Some(Asked {
-                accepted,
+                lent: self.lent.again(),
                 pid,
                 wanted,
             })),
@@ -165,17 +162,14 @@ impl<'a, M: Undo + Drop> Shop<'a, M> {
         ensures shop { IsShop self.new }
     {
         // Where the program is read it is known to be accepted.
-        let _program = self.accepted.program();
+        let accepted = self.lent.accepted();
+        let _program = accepted.program();
         match known {
             Some(known) => {
-                self.world.fire_with(
-                    alloc,
-                    self.accepted,
-                    firing,
-                    (&known.wanted, &known.outcome),
-                )
+                self.world
+                    .fire_with(alloc, accepted, firing, (&known.wanted, &known.outcome))
             }
-            None => self.world.fire(alloc, self.accepted, firing),
+            None => self.world.fire(alloc, accepted, firing),
         }
     }
 
@@ -185,12 +179,12 @@ impl<'a, M: Undo + Drop> Shop<'a, M> {
         alloc: Global,
         pass: u32,
         seeks: &Seeks,
-    ) -> Result<Turned<'a>, AllocError>
+    ) -> Result<Turned<A>, AllocError>
         requires known { IfSome seeks.now.known (IsKnown self.old.accepted) }
         ensures start { opening self.new ≡ opening self.old }
         ensures history { AddsAtMostOne pass (history_of self.old) (history_of self.new) }
         ensures shop { IsShop self.new }
-        ensures ok { IfOk result (TurnsOut self.new) }
+        ensures ok { IfOk result (TurnsOut A.program self.new) }
     {
         if let Some(end) = self.end() {
             return Ok(Turned::Ends(end));

@@ -8,6 +8,7 @@ ghost use Rattle.nomos_workers.specs.mirror.Turns.{HasTurned, IsKnown, LeadsTo, 
 
 use crate::batch::BatchEnd;
 use crate::gate::Gate;
+use crate::lent::Lent;
 use crate::shop::{Asked, Known, Seeks, Shop, Turned};
 use nomos_deeds::undo::Undo;
 use nomos_eval::wanted::evaluate;
@@ -17,16 +18,16 @@ use std::sync::Wait;
 
 /// What a worker comes to: its pass, and how the batch ended for it.
 #[derive(Drop)]
-pub struct Worked<'a, M: Undo + Drop> {
-    pub pass: Pass<Shop<'a, M>>,
+pub struct Worked<A: Lent, M: Undo + Drop> {
+    pub pass: Pass<Shop<A, M>>,
     pub end: BatchEnd,
 }
 
 // A pass after a turn, and what the turn came to.
 #[derive(Drop)]
-struct Took<'a, M: Undo + Drop> {
-    pass: Pass<Shop<'a, M>>,
-    turned: Result<Turned<'a>, AllocError>,
+struct Took<A: Lent, M: Undo + Drop> {
+    pass: Pass<Shop<A, M>>,
+    turned: Result<Turned<A>, AllocError>,
 }
 
 // What a worker does after a turn.
@@ -37,20 +38,20 @@ pub(crate) enum Onward {
 }
 
 // Takes one turn.
-fn take_one<'a, M: Undo + Drop, R: Wait>(
+fn take_one<A: Lent, M: Undo + Drop, R: Wait>(
     rt: &R,
     alloc: Global,
-    floor: &Floor<Shop<'a, M>>,
-    pass: Pass<Shop<'a, M>>,
+    floor: &Floor<Shop<A, M>>,
+    pass: Pass<Shop<A, M>>,
     seeks: &Seeks,
-) -> Took<'a, M>
+) -> Took<A, M>
     requires of_floor { IsPassOf floor.now pass }
     requires known { IfSome seeks.now.known (IsKnown (opened_work floor.now).accepted) }
     ensures of_floor { IsPassOf floor.now result.pass }
-    ensures kept { KeepsNumbers pass.entry result.pass }
-    ensures seen { IsPrefix (seen_by pass.entry) (seen_by result.pass) }
+    ensures kept { KeepsNumbers pass result.pass }
+    ensures seen { IsPrefix (seen_by pass) (seen_by result.pass) }
     ensures own { own_of result.pass ≡ mine (pass_number result.pass) (seen_by result.pass) }
-    ensures turned { HasTurned (opening (opened_work floor.now)) (seen_by result.pass) result.turned }
+    ensures turned { HasTurned A.program (opening (opened_work floor.now)) (seen_by result.pass) result.turned }
 {
     let mut turn = floor.take_turn(rt, pass);
     let number = turn.number();
@@ -60,16 +61,12 @@ fn take_one<'a, M: Undo + Drop, R: Wait>(
 }
 
 // Evaluates what was asked, outside the turn. The worker then looks from that process on.
-fn evaluate_asked<G: Gate>(alloc: Global, gate: &G, worker: u32, asked: Asked<'_>) -> Onward
-    ensures { (s : ShopState) → asked.entry.accepted.now ≡ s.accepted → LeadsTo s result }
+fn evaluate_asked<A: Lent, G: Gate>(alloc: Global, gate: &G, worker: u32, asked: Asked<A>) -> Onward
+    ensures { (s : ShopState) → A.program asked.lent ≡ s.accepted → LeadsTo s result }
 {
-    let Asked {
-        accepted,
-        pid,
-        wanted,
-    } = asked;
+    let Asked { lent, pid, wanted } = asked;
     gate.before_eval(worker, pid);
-    match evaluate(alloc, accepted.program(), &wanted) {
+    match evaluate(alloc, lent.accepted().program(), &wanted) {
         Ok(outcome) => Onward::Seeks(Seeks {
             after: pid.saturating_sub(1),
             known: Some(Known { wanted, outcome }),
@@ -79,13 +76,13 @@ fn evaluate_asked<G: Gate>(alloc: Global, gate: &G, worker: u32, asked: Asked<'_
 }
 
 // What the worker of a number does after a turn that came to this.
-fn go_on<G: Gate>(
+fn go_on<A: Lent, G: Gate>(
     alloc: Global,
     gate: &G,
     worker: u32,
-    turned: Result<Turned<'_>, AllocError>,
+    turned: Result<Turned<A>, AllocError>,
 ) -> Onward
-    ensures { (s : ShopState) → IfOk turned.entry (TurnsOut s) → LeadsTo s result }
+    ensures { (s : ShopState) → IfOk turned (TurnsOut A.program s) → LeadsTo s result }
 {
     match turned {
         Ok(Turned::Fired(pid)) => Onward::Seeks(Seeks {
@@ -103,17 +100,17 @@ fn go_on<G: Gate>(
 /// that. Terms are evaluated after the turn was given back and the gate was called; in its next turn the worker fires the
 /// first process that is ready from there on, and uses the outcome only where that process stands at this instruction
 /// with these values. Nothing says when the turns come.
-pub fn work<'a, M: Undo + Drop, G: Gate, R: Wait>(
+pub fn work<A: Lent, M: Undo + Drop, G: Gate, R: Wait>(
     rt: &R,
     alloc: Global,
-    floor: &Floor<Shop<'a, M>>,
-    mut pass: Pass<Shop<'a, M>>,
+    floor: &Floor<Shop<A, M>>,
+    mut pass: Pass<Shop<A, M>>,
     gate: &G,
-) -> Worked<'a, M>
+) -> Worked<A, M>
     requires { IsPassOf floor.now pass }
     ensures of_floor { IsPassOf floor.now result.pass }
-    ensures kept { KeepsNumbers pass.entry result.pass }
-    ensures seen { IsPrefix (seen_by pass.entry) (seen_by result.pass) }
+    ensures kept { KeepsNumbers pass result.pass }
+    ensures seen { IsPrefix (seen_by pass) (seen_by result.pass) }
     ensures own { own_of result.pass ≡ mine (pass_number result.pass) (seen_by result.pass) }
     ensures run { HasRun (opening (opened_work floor.now)) (seen_by result.pass) result.end }
 {

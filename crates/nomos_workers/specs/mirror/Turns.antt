@@ -15,20 +15,21 @@ use Rattle.nomos_workers.specs.declared.work.Onward.TheVariants as onward
 abbrev pub IsKnown : Acceptance → Known → Type 0
 IsKnown a k = outcome_of k.outcome ≡ instruction_evaluation a.program k.wanted.env k.wanted.code.0
 
--- an end is one that is allowed where the shop stands, and what is asked is asked for its program
-abbrev pub TurnsOut : ShopState → Turned → Type 0
-TurnsOut s (turned.Fired pid) = Unit {0}
-TurnsOut s (turned.Ends e) = IsAllowed s.accepted s.world.state (length s.world.firings) s.limit e
-TurnsOut s (turned.Wants asked) = asked.accepted.now ≡ s.accepted
+-- An end is one that is allowed where the shop stands, and what is asked is asked for its program, which is read off
+-- what lends it.
+abbrev pub TurnsOut : {A : Type 0} → (A → Acceptance) → ShopState → Turned A → Type 0
+TurnsOut program s (turned.Fired pid) = Unit {0}
+TurnsOut program s (turned.Ends e) = IsAllowed s.accepted s.world.state (length s.world.firings) s.limit e
+TurnsOut program s (turned.Wants asked) = program asked.lent ≡ s.accepted
 
 -- after a turn, which came to this, a shop of this start has this history
-pub record HasTurned {E : Type 0} (start : ShopState) (history : List (ℕ × ℕ)) (turned : Result Turned E) : Type 0
-  where
-    pub shop : ShopState
-    pub is_shop : IsShop shop
-    pub opened : opening shop ≡ start
-    pub seen : history_of shop ≡ history
-    pub turns_out : IfOk turned (TurnsOut shop)
+pub record HasTurned {A E : Type 0} (program : A → Acceptance) (start : ShopState) (history : List (ℕ × ℕ))
+    (turned : Result (Turned A) E) : Type 0 where
+  pub shop : ShopState
+  pub is_shop : IsShop shop
+  pub opened : opening shop ≡ start
+  pub seen : history_of shop ≡ history
+  pub turns_out : IfOk turned (TurnsOut program shop)
 
 -- what a worker does then
 abbrev pub LeadsTo : ShopState → Onward → Type 0

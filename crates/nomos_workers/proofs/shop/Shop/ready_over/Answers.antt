@@ -4,7 +4,8 @@ use Rattle.nomos_workers.proofs.shop.Shop.ready_over.Goals as goal
 
 pub returns-in-None : goal.returns-in-None
 returns-in-None g c =
-    let accepted = c.program-program.ensures.accepted in
+    let same = c.accepted-accepted.ensures in
+    let accepted = rw same at c.program-program.ensures.accepted in
+    let told = rw same at c.next_ready-in-None.ensures in
     let typed = world-typed accepted c.self.invariant.stands in
-    rw (← c.self.view_is)
-    (lowest-ready accepted typed c.next_ready-in-None.result c.next_ready-in-None.ensures)
+    rw (← c.self.view_is) (lowest-ready accepted typed c.next_ready-in-None.result told)

@@ -1,0 +1,30 @@
+-- Crews that may run a batch, and which process several workers abort it with.
+use Rattle.std.specs.Prelude.{◌≡◌, ℕ, ◌<◌, ◌≤◌, Some, None}
+use Rattle.nomos_ir.specs.declared.fault.Fault.{Fault}
+use Rattle.nomos_types.specs.Acceptance.{Acceptance}
+use Rattle.nomos_machine.specs.State.{State}
+use Rattle.nomos_machine.specs.Step.{fault}
+use Rattle.nomos_legal.specs.declared.journal.End.TheVariants as end
+use Rattle.nomos_workers.specs.declared.batch.BatchEnd.{BatchEnd}
+use Rattle.nomos_workers.specs.declared.batch.BatchEnd.TheVariants as batch_end
+use Rattle.nomos_workers.specs.declared.batch.Crew.{Crew}
+use Rattle.nomos_workers.specs.declared.batch.Crew.TheVariants as crew
+
+-- one worker, or two to sixteen
+abbrev pub IsCrew : Crew → Type 0
+IsCrew (crew.One policy) = Unit {0}
+IsCrew (crew.Many workers) = (2 ≤ workers) × (workers ≤ 16)
+
+-- no process has a fault
+abbrev pub IsFaultless : Acceptance → State → Type 0
+IsFaultless a s = (q : ℕ) → fault a s q ≡ None
+
+-- the lowest process that has a fault, and that fault
+pub record IsLowestFault (a : Acceptance) (s : State) (pid : ℕ) (f : Fault) : Type 0 where
+  pub has : fault a s pid ≡ Some f
+  pub lowest : (q : ℕ) → q < pid → fault a s q ≡ None
+
+-- an abort is that of the lowest process that has a fault
+abbrev pub AbortsAtLowest : Acceptance → State → BatchEnd → Type 0
+AbortsAtLowest a s (batch_end.Done (end.Aborted pid f)) = IsLowestFault a s pid f
+AbortsAtLowest a s _ = Unit {0}

@@ -1,0 +1,99 @@
+//! Batches run by a crew: one worker by a policy, or several that take turns over a floor.
+ghost use Rattle.std.specs.Prelude.{◌≡◌, ℕ, ◌≤◌, IfOk, MatchOption, length};
+ghost use Rattle.nomos_machine.specs.declared.policy.Policy.{Policy};
+ghost use Rattle.nomos_legal.specs.StandsFor.{WorldStandsFor};
+ghost use Rattle.nomos_workers.specs.Batch.{MayRun, RunsOn};
+ghost use Rattle.nomos_workers.specs.Crews.{AbortsAtLowest, IsCrew, IsFaultless, IsLowestFault};
+ghost use Rattle.nomos_workers.specs.OneWorker.{EndsBy, RunsBy};
+ghost use Rattle.nomos_workers.specs.Shops.{MayEnd};
+
+use crate::batch::{BatchEnd, Crew, Ran};
+use crate::gate::Gate;
+use crate::one::run_by;
+use crate::several::run_shop;
+use crate::shop::Shop;
+use nomos_deeds::undo::Undo;
+use nomos_ir::fault::Fault;
+use nomos_ledger::world::World;
+use nomos_legal::journal::End;
+use nomos_types::accepted::Accepted;
+use std::alloc::{AllocError, Global};
+use std::sync::Wait;
+use std::thread::Threads;
+
+// The lowest process that has a fault, with it, or none where no process has one.
+fn lowest_fault<M: Undo>(
+    alloc: Global,
+    accepted: &Accepted,
+    world: &World<M>,
+) -> Result<Option<(u32, Fault)>, AllocError>
+    requires { WorldStandsFor accepted.now world.now }
+    ensures { IfOk result (λ found. MatchOption found (IsFaultless accepted.now world.now.state)
+        (λ it. IsLowestFault accepted.now world.now.state it.0 it.1)) }
+{
+    // Where the program is read it is known to be accepted.
+    let _program = accepted.program();
+    let mut after = 0;
+    'processes: while let Some(pid) = world.next_ready(accepted, after) {
+        if let Some(fault) = world.fault(alloc, accepted, pid)? {
+            return Ok(Some((pid, fault)));
+        }
+        after = pid;
+    }
+    Ok(None)
+}
+
+// How a batch ends that several workers have left. Where it goes on, the lowest process that has a fault aborts it;
+// where none has one, a worker stopped for want of memory.
+fn end_of<M: Undo>(alloc: Global, accepted: &Accepted, world: &World<M>, limit: u32) -> BatchEnd
+    requires stands { WorldStandsFor accepted.now world.now }
+    requires within { length world.now.firings ≤ limit }
+    ensures ends { MayEnd accepted.now world.now.state (length world.now.firings) limit result }
+    ensures aborts { AbortsAtLowest accepted.now world.now.state result }
+{
+    if let Some(end) = world.end(accepted, limit) {
+        return BatchEnd::Done(end);
+    }
+    match lowest_fault(alloc, accepted, world) {
+        Ok(Some((pid, fault))) => BatchEnd::Done(End::Aborted(pid, fault)),
+        Ok(None) | Err(_) => BatchEnd::NoMemory,
+    }
+}
+
+/// Runs a batch to its end, which may make so many firings (docs/MACHINE.md, "Workers"). One worker fires as its policy
+/// says, and calls no gate; several take turns over a floor, each in a thread of its own, and nothing says when they get
+/// their turns. Where the batch is at its end already no thread is made. The world comes back whatever the end, and also
+/// where memory was wanting.
+pub fn run_batch<M: Undo + Drop + Send, G: Gate, R: Threads + Wait + Sync>(
+    rt: &R,
+    alloc: Global,
+    accepted: &Accepted,
+    world: World<M>,
+    limit: u32,
+    crew: Crew,
+    gate: &G,
+) -> Ran<M>
+    requires may { MayRun accepted.now limit world }
+    requires crew { IsCrew crew }
+    ensures runs { RunsOn accepted.now limit world result.world }
+    ensures ends { MayEnd accepted.now result.world.state (length result.world.firings) limit result.end }
+    ensures one { (policy : Policy) → crew ≡ Crew.One policy → RunsBy policy accepted.now limit world result.world
+        × EndsBy policy accepted.now limit result.world result.end }
+    ensures aborts { (workers : ℕ) → crew ≡ Crew.Many workers
+        → AbortsAtLowest accepted.now result.world.state result.end }
+{
+    let workers = match crew {
+        Crew::One(policy) => return run_by(alloc, accepted, world, limit, policy),
+        Crew::Many(workers) => workers,
+    };
+    if let Some(end) = world.end(accepted, limit) {
+        return Ran {
+            world,
+            end: BatchEnd::Done(end),
+        };
+    }
+    let shop = Shop::of(accepted, world, limit);
+    let world = run_shop(rt, alloc, shop, workers, gate).into_world();
+    let end = end_of(alloc, accepted, &world, limit);
+    Ran { world, end }
+}
