@@ -29,7 +29,10 @@ use Rattle.nomos_journal.specs.Line.{line_text}
 use Rattle.nomos_journal.specs.declared.line.Version.TheVariants as version
 use Rattle.nomos_report.proofs.PassageLaws.{report-next}
 use Rattle.nomos_report.specs.Reported as report
+use Rattle.nomos_workers.specs.Batch.{RunsOn}
 use Rattle.nomos_workers.specs.OneWorker.{AbortsBy, RunsBy}
+use Rattle.nomos_workers.specs.declared.batch.Crew.{Crew}
+use Rattle.nomos_workers.specs.declared.batch.Crew.TheVariants as crews
 use Rattle.nomos_run.proofs.RoomLemmas.{walk-made, walk-room}
 use Rattle.nomos_run.proofs.WalkLemmas.{aborts-by, begun-further, ended-passage, some_same}
 use Rattle.nomos_run.specs.Carried.{journal_text_of, where_wanted}
@@ -40,35 +43,36 @@ use Rattle.nomos_run.specs.declared.started.PassedItem.{PassedItem}
 use Rattle.nomos_run.specs.mirror.Papers.{papers_of, papers_with, with_lines}
 use Rattle.nomos_run.specs.mirror.Runs.{HasGone, RunsSoFar, RunsWhole, journal_of}
 use Rattle.nomos_run.specs.mirror.WalkState.{WalkState}
-use Rattle.nomos_run.specs.mirror.Walks.{CarriesOut, HasBegunBatch, HasRoomFor, ended_batch, left_by, walk_of, walk_with}
+use Rattle.nomos_run.specs.mirror.Walks.{CarriesOut, HasBegunBatch, HasRoomFor, ended_batch, settled_as, walk_of, walk_with}
 
 -- ---- a batch
 
--- a batch that one worker has run was carried out
-pub batch-carried : {M : Type 0} (policy : Policy) {before after : WalkState} {l : LedgerState} {i : ScriptItem}
+-- a batch that a crew has run was carried out
+pub batch-carried : {M : Type 0} (crew : Crew) {before after : WalkState} {l : LedgerState} {i : ScriptItem}
     {line spent : ℕ} {w v : WorldState} (e : End) (passed : PassedItem M)
     → HasBegunBatch before l i line spent w before
-    → RunsBy policy before.accepted (batch_limit before.limit before.made) w v
+    → RunsOn before.accepted (batch_limit before.limit before.made) w v
     → IsAllowed before.accepted v.state (length v.firings) (batch_limit before.limit before.made) e
-    → AbortsBy policy before.accepted v e → passed.ledger ≡ left_by v e
+    → ((policy : Policy) → crew ≡ crews.One policy → RunsBy policy before.accepted
+    (batch_limit before.limit before.made) w v × AbortsBy policy before.accepted v e)
+    → passed.ledger ≡ settled_as v e
     → passed.entry ≡ Some (record { line = line; firings = pids_of v.firings; end = e })
     → ((batch : Batch) → batch.line ≡ line → after ≡ walk_with (ended_batch before.accepted batch v e) before)
-    → CarriesOut policy before l i passed after
-batch-carried policy {before} {line = line} {v = v} e passed under runs allowed aborts ledger entry walk =
+    → CarriesOut crew before l i passed after
+batch-carried crew {before} {line = line} {v = v} e passed under runs allowed one ledger entry walk =
     let a : Acceptance = before.accepted in
     let batch : Batch = under.batch in
     let Kept : ℕ → Option Entry = λ n. Some (record { line = n; firings = pids_of v.firings; end = e }) in
     record {
       passage = ended_batch a batch v e;
       is =
-          ended-passage v batch e (begun-further v under.begun runs.runs.origin runs.runs.starts) runs.runs.stands
-          runs.runs.within allowed;
+          ended-passage v batch e (begun-further v under.begun runs.origin runs.starts) runs.stands runs.within allowed;
       item = sym under.item;
-      before_is = runs.runs.origin ∙ under.begun.origin;
+      before_is = runs.origin ∙ under.begun.origin;
       after_is = sym ledger;
       entry = ap Kept (sym under.line_is) ∙ sym entry;
       walk = walk batch (sym under.line_is);
-      by = (runs.chosen, aborts-by policy a v e aborts);
+      by = λ policy is. ((one policy is).0.chosen, aborts-by policy a v e (one policy is).1);
     }
 
 -- ---- one passage more
@@ -137,22 +141,22 @@ tells-next {a} {limit} {items} {entries} {ps} i p kept last tells before is item
 -- ---- runs
 
 -- before any item
-pub gone-none : (policy : Policy) (a : Acceptance) (limit : ℕ) (wanted : WantedTexts) → IsLimit limit
-    → HasGone policy a limit wanted [] [] empty_ledger (walk_of a limit wanted [])
-gone-none policy a limit wanted is =
-    record { passages = []; tells = tells-none a limit is; follows = follow-none policy a; walk = refl }
+pub gone-none : (crew : Crew) (a : Acceptance) (limit : ℕ) (wanted : WantedTexts) → IsLimit limit
+    → HasGone crew a limit wanted [] [] empty_ledger (walk_of a limit wanted [])
+gone-none crew a limit wanted is =
+    record { passages = []; tells = tells-none a limit is; follows = λ policy one. follow-none policy a; walk = refl }
 
 -- with one item more
-pub gone-more : {M : Type 0} {policy : Policy} {a : Acceptance} {limit : ℕ} {wanted : WantedTexts}
+pub gone-more : {M : Type 0} {crew : Crew} {a : Acceptance} {limit : ℕ} {wanted : WantedTexts}
     {items : List ScriptItem} {entries kept : List Entry} {l : LedgerState} {w v : WalkState} {i : ScriptItem}
-    (passed : PassedItem M) → HasGone policy a limit wanted items entries l w → CarriesOut policy w l i passed v
+    (passed : PassedItem M) → HasGone crew a limit wanted items entries l w → CarriesOut crew w l i passed v
     → kept ≡ entries ++ option_to_list passed.entry
-    → HasGone policy a limit wanted (items ++ i ∷ []) kept passed.ledger v
-gone-more {policy = policy} {a} {limit} {wanted} {entries = entries} {kept = kept} {l = l} {w = w} {v = v} {i = i}
+    → HasGone crew a limit wanted (items ++ i ∷ []) kept passed.ledger v
+gone-more {crew = crew} {a} {limit} {wanted} {entries = entries} {kept = kept} {l = l} {w = w} {v = v} {i = i}
     passed gone carried kept_is =
     let ps : List Passage = gone.passages in
-    let here : CarriesOut policy (walk_of a limit wanted ps) l i passed v =
-    subst (λ (x : WalkState). CarriesOut policy x l i passed v) gone.walk carried
+    let here : CarriesOut crew (walk_of a limit wanted ps) l i passed v =
+    subst (λ (x : WalkState). CarriesOut crew x l i passed v) gone.walk carried
     in
     let p : Passage = here.passage in
     record {
@@ -160,13 +164,13 @@ gone-more {policy = policy} {a} {limit} {wanted} {entries = entries} {kept = kep
       tells =
           tells-next i p kept passed.ledger gone.tells here.before_is here.is here.item
           (ap (λ (e : Option Entry). entries ++ option_to_list e) here.entry ∙ sym kept_is) here.after_is;
-      follows = follow-more policy a ps p gone.follows here.by;
+      follows = λ policy one. follow-more policy a ps p (gone.follows policy one) (here.by policy one);
       walk = here.walk ∙ walk-next a limit wanted ps p;
     }
 
-module _ {policy : Policy} {a : Acceptance} {limit : ℕ} {wanted : WantedTexts} (items : List ScriptItem) (n : ℕ)
+module _ {crew : Crew} {a : Acceptance} {limit : ℕ} {wanted : WantedTexts} (items : List ScriptItem) (n : ℕ)
     {entries : List Entry} {l : LedgerState} {w : WalkState}
-    (gone : HasGone policy a limit wanted (take n items) entries l w) where
+    (gone : HasGone crew a limit wanted (take n items) entries l w) where
   -- the ledger stands for the program
   pub gone-stands : IsAccepted a → StandsFor w.accepted l
   gone-stands accepted =
@@ -184,7 +188,7 @@ module _ {policy : Policy} {a : Acceptance} {limit : ℕ} {wanted : WantedTexts}
 -- where memory is wanting, the entries are those of the items before
 pub gone-so_far : {a : Acceptance} {wanted : WantedTexts} (items : List ScriptItem) (n : ℕ)
     {entries kept : List Entry} {l : LedgerState} {w : WalkState} (orders : Orders)
-    → HasGone orders.policy a orders.limit wanted (take n items) entries l w → kept ≡ entries
+    → HasGone orders.crew a orders.limit wanted (take n items) entries l w → kept ≡ entries
     → RunsSoFar a items orders kept
 gone-so_far {a} items n {l = l} orders gone same = record {
   count = n;
@@ -206,13 +210,13 @@ none-so_far a items entries orders is none = record {
   tells =
       subst (λ (es : List Entry). Tells a [] (journal_of orders.limit es) [] empty_ledger) (sym none)
       (tells-none a orders.limit is);
-  follows = follow-none orders.policy a;
+  follows = λ policy one. follow-none policy a;
 }
 
 -- behind all items the run is whole
 pub gone-whole : {M : Type 0} {a : Acceptance} (items : List ScriptItem) (n : ℕ) {entries : List Entry}
     {l : LedgerState} {w : WalkState} (orders : Orders) (whole : WholeRun M) → IsAccepted a
-    → HasGone orders.policy a orders.limit (record { report = true; text = orders.text }) (take n items) entries l w
+    → HasGone orders.crew a orders.limit (record { report = true; text = orders.text }) (take n items) entries l w
     → length items ≤ n → whole.ledger ≡ l → Some whole.report.items ≡ w.papers.report
     → option_map (λ t. t.items) whole.text ≡ w.papers.text → RunsWhole a items orders entries whole
 gone-whole {a = a} items n {entries} {l} orders whole accepted gone all ledger printed text =

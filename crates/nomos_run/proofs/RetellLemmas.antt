@@ -39,7 +39,7 @@ use Rattle.nomos_legal.specs.declared.refusal.Refusal.TheVariants as refusal
 use Rattle.nomos_legal.specs.declared.resolved.Resolved.{Resolved}
 use Rattle.nomos_ledger.specs.Calls.{HasFired}
 use Rattle.nomos_run.proofs.CarryLemmas.{tells-next, walk-next}
-use Rattle.nomos_run.proofs.RoomLemmas.{begun-may_run, walk-made, walk-room}
+use Rattle.nomos_run.proofs.RoomLemmas.{begun-room, walk-made, walk-room}
 use Rattle.nomos_run.proofs.WalkLemmas.{begun-further, ended-passage, some_same}
 use Rattle.nomos_run.specs.declared.papers.Papers.{Papers}
 use Rattle.nomos_run.specs.declared.papers.WantedTexts.{WantedTexts}
@@ -47,7 +47,7 @@ use Rattle.nomos_run.specs.declared.started.PassedItem.{PassedItem}
 use Rattle.nomos_run.specs.mirror.Papers.{papers_of}
 use Rattle.nomos_run.specs.mirror.Runs.{CanRun, ComesNext, EndsAsKept, HasTold, HaveFired, IsToldBy, journal_of, left_behind}
 use Rattle.nomos_run.specs.mirror.WalkState.{WalkState}
-use Rattle.nomos_run.specs.mirror.Walks.{HasBegunBatch, HasItemRoom, HasRoomFor, IsStill, PassesStill, ended_batch, left_by, walk_of, walk_with}
+use Rattle.nomos_run.specs.mirror.Walks.{HasBegunBatch, HasItemRoom, HasRoomFor, IsStill, PassesStill, ended_batch, settled_as, walk_of, walk_with}
 
 -- ---- firings
 
@@ -357,7 +357,7 @@ kept-fits {w} {after} {l} {i} {world = world} p e accepted room made under next 
     let room_there : HasItemRoom l (start_count (item.Batch under.batch ∷ [])) most =
     subst (λ (j : ScriptItem). HasItemRoom l (start_count (j ∷ [])) most) under.item room
     in
-    let may = begun-may_run accepted room_there under.begun under.stands in
+    let may = begun-room accepted room_there under.begun under.stands in
     let fits : KeptFits w world tells.entry.firings = record {
       can = tells.can;
       objects = omega (arith, may.objects, tells.within);
@@ -400,7 +400,7 @@ ok_both (Err e) one other gives = tt
 
 -- a batch that was fired has ended as its entry has it
 pub ends-kept : {w v : WalkState} {world there : WorldState} (batch : Batch) (e : Entry) (pids : List ℕ)
-    (last : LedgerState) → HaveFired w.accepted world pids there → pids ≡ e.firings → last ≡ left_by there e.end
+    (last : LedgerState) → HaveFired w.accepted world pids there → pids ≡ e.firings → last ≡ settled_as there e.end
     → v ≡ walk_with (ended_batch w.accepted batch there e.end) w → EndsAsKept w batch world e last v
 ends-kept {w} {world = world} {there} batch e pids last fired same ledger walk = record {
   world = there;

@@ -130,10 +130,10 @@ walk-made {entries = entries} tells =
 -- ---- worlds
 
 -- a batch that has begun may run
-pub begun-may_run : {a : Acceptance} → IsAccepted a → {l : LedgerState} {batch : Batch} {w : WorldState} {most : ℕ}
+pub begun-room : {a : Acceptance} → IsAccepted a → {l : LedgerState} {batch : Batch} {w : WorldState} {most : ℕ}
     → HasItemRoom l (start_count (item.Batch batch ∷ [])) most → HasBegun a l batch w → WorldStandsFor a w
     → MayRun a most w
-begun-may_run accepted {l} {batch} {w} {most} room begun stands =
+begun-room accepted {l} {batch} {w} {most} room begun stands =
     let at_origin = subst (λ (m : LedgerState). HasNumbered room.given m.state) (sym begun.origin) room.numbered in
     let numbered = world-numbers accepted stands room.given at_origin in
     let each = starts-length begun.starts in

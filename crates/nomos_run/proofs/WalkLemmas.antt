@@ -28,6 +28,7 @@ use Rattle.nomos_legal.specs.declared.resolved.Resolved.{Resolved}
 use Rattle.nomos_ledger.specs.Beginning.{HasBegun}
 use Rattle.nomos_report.specs.Reported.{HasNoFirings}
 use Rattle.nomos_workers.specs.OneWorker.{AbortsBy}
+use Rattle.nomos_workers.specs.declared.batch.Crew.{Crew}
 use Rattle.nomos_run.specs.declared.started.PassedItem.{PassedItem}
 use Rattle.nomos_run.specs.mirror.Papers.{papers_with}
 use Rattle.nomos_run.specs.mirror.WalkState.{WalkState}
@@ -132,9 +133,9 @@ still-by policy {a} {most} (passage.undone l batch starts pids last answer begun
 still-by policy (passage.shown l line) none = tt
 
 -- so it was carried out
-pub still-carried : {M : Type 0} (policy : Policy) {before after : WalkState} {l : LedgerState} {i : ScriptItem}
-    {passed : PassedItem M} → PassesStill before l i passed after → CarriesOut policy before l i passed after
-still-carried policy passes = record {
+pub still-carried : {M : Type 0} (crew : Crew) {before after : WalkState} {l : LedgerState} {i : ScriptItem}
+    {passed : PassedItem M} → PassesStill before l i passed after → CarriesOut crew before l i passed after
+still-carried crew passes = record {
   passage = passes.passage;
   is = passes.is _;
   item = passes.item;
@@ -142,7 +143,7 @@ still-carried policy passes = record {
   after_is = passes.after_is;
   entry = passes.entry;
   walk = passes.walk;
-  by = still-by policy (passes.is 0) passes.still;
+  by = λ policy one. still-by policy (passes.is 0) passes.still;
 }
 
 -- ---- batches

@@ -3,15 +3,23 @@
 use nomos_deeds::undo::Undo;
 use nomos_ledger::ledger::Ledger;
 use nomos_legal::journal::Journal;
-use nomos_machine::policy::Policy;
+use nomos_workers::batch::Crew;
 
-/// How a script is to be run: by which policy its batches are, the most firings of one batch, and whether the text of
-/// the journal is wanted.
+/// How a script is to be run: who runs its batches, the most firings of one batch, and whether the text of the journal is
+/// wanted.
 #[derive(Clone, Copy, Debug)]
 pub struct Orders {
-    pub policy: Policy,
+    pub crew: Crew,
     pub limit: u32,
     pub text: bool,
+}
+
+/// Who runs scripts: the runtime that makes threads and lets them wait, the gate that workers call before they evaluate,
+/// and the orders.
+pub struct Runner<'a, G, R> {
+    pub rt: &'a R,
+    pub gate: &'a G,
+    pub orders: Orders,
 }
 
 /// What a run comes to that carried out all items: its report, the text of its journal where it was wanted, and the last

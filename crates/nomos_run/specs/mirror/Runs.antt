@@ -7,21 +7,21 @@ use Rattle.nomos_script.specs.declared.item.Batch.{Batch}
 use Rattle.nomos_script.specs.declared.item.ScriptItem.{ScriptItem}
 use Rattle.nomos_script.specs.declared.item.ScriptItem.TheVariants as item
 use Rattle.nomos_legal.specs.Ledger.{LedgerState}
-use Rattle.nomos_legal.specs.Legal.{FollowPolicy, Leads, Tells, batch_limit, entries_of}
+use Rattle.nomos_legal.specs.Legal.{Leads, Tells, batch_limit, entries_of}
 use Rattle.nomos_legal.specs.Passage.{IsPassage, Passage}
 use Rattle.nomos_legal.specs.StandsFor.{WorldStandsFor}
 use Rattle.nomos_legal.specs.World.{WorldState, pids_of}
 use Rattle.nomos_legal.specs.declared.journal.Entry.{Entry}
 use Rattle.nomos_legal.specs.declared.journal.Journal.{Journal}
-use Rattle.nomos_machine.specs.declared.policy.Policy.{Policy}
-use Rattle.nomos_run.specs.Carried.{RunsScript}
+use Rattle.nomos_workers.specs.declared.batch.Crew.{Crew}
+use Rattle.nomos_run.specs.Carried.{FollowsCrew, RunsScript}
 use Rattle.nomos_run.specs.declared.orders.WholeRun.{WholeRun}
 use Rattle.nomos_run.specs.declared.orders.Orders.{Orders}
 use Rattle.nomos_run.specs.declared.papers.Papers.{Papers}
 use Rattle.nomos_run.specs.declared.papers.WantedTexts.{WantedTexts}
 use Rattle.nomos_run.specs.mirror.Papers.{papers_of}
 use Rattle.nomos_run.specs.mirror.WalkState.{WalkState}
-use Rattle.nomos_run.specs.mirror.Walks.{ended_batch, left_by, walk_of, walk_with}
+use Rattle.nomos_run.specs.mirror.Walks.{ended_batch, settled_as, walk_of, walk_with}
 
 -- a journal of its parts
 abbrev pub journal_of : ℕ → List Entry → Journal
@@ -30,11 +30,11 @@ journal_of limit entries = record { limit = limit; entries = entries }
 -- ---- runs
 
 -- What a run has come to behind these items: the entries that it keeps, the ledger, and the walk.
-pub record HasGone (policy : Policy) (a : Acceptance) (limit : ℕ) (wanted : WantedTexts) (items : List ScriptItem)
+pub record HasGone (crew : Crew) (a : Acceptance) (limit : ℕ) (wanted : WantedTexts) (items : List ScriptItem)
     (entries : List Entry) (l : LedgerState) (w : WalkState) : Type 0 where
   pub passages : List Passage
   pub tells : Tells a items (journal_of limit entries) passages l
-  pub follows : FollowPolicy policy a passages
+  pub follows : FollowsCrew crew a passages
   pub walk : w ≡ walk_of a limit wanted passages
 
 -- a run that has carried out all items
@@ -48,7 +48,7 @@ pub record RunsSoFar (a : Acceptance) (items : List ScriptItem) (orders : Orders
   pub passages : List Passage
   pub last : LedgerState
   pub tells : Tells a (take count items) (journal_of orders.limit entries) passages last
-  pub follows : FollowPolicy orders.policy a passages
+  pub follows : FollowsCrew orders.crew a passages
 
 -- ---- what a journal tells
 
@@ -68,7 +68,7 @@ pub record EndsAsKept (before : WalkState) (batch : Batch) (w : WorldState) (ent
     (after : WalkState) : Type 0 where
   pub world : WorldState
   pub fired : HaveFired before.accepted w entry.firings world
-  pub last_is : last ≡ left_by world entry.end
+  pub last_is : last ≡ settled_as world entry.end
   pub walk : after ≡ walk_with (ended_batch before.accepted batch world entry.end) before
 
 -- the entries that are left behind those of an item

@@ -17,6 +17,8 @@ use Rattle.nomos_legal.specs.declared.journal.End.TheVariants as end
 use Rattle.nomos_legal.specs.declared.journal.Entry.{Entry}
 use Rattle.nomos_ledger.specs.Beginning.{HasBegun}
 use Rattle.nomos_report.specs.Reported.{HasNoFirings}
+use Rattle.nomos_workers.specs.declared.batch.Crew.{Crew}
+use Rattle.nomos_workers.specs.declared.batch.Crew.TheVariants as crews
 use Rattle.nomos_run.specs.declared.papers.WantedTexts.{WantedTexts}
 use Rattle.nomos_run.specs.declared.started.PassedItem.{PassedItem}
 use Rattle.nomos_run.specs.declared.started.StartedItem.{StartedItem}
@@ -93,18 +95,18 @@ StartsAs before l i (started.UnderWay under) after =
     HasBegunBatch before l i under.outset.line under.outset.spent under.world after
 
 -- the ledger that a batch leaves which ends so
-abbrev pub left_by : WorldState → End → LedgerState
-left_by w end.Committed = committed w
-left_by w _ = w.origin
+abbrev pub settled_as : WorldState → End → LedgerState
+settled_as w end.Committed = committed w
+settled_as w _ = w.origin
 
 -- what became of a batch that has come to this world and ended so
 abbrev pub ended_batch : Acceptance → Batch → WorldState → End → Passage
-ended_batch a batch w e = runs batch (pids_of w.firings) e w.origin (start_of a w) w.state (left_by w e)
+ended_batch a batch w e = runs batch (pids_of w.firings) e w.origin (start_of a w) w.state (settled_as w e)
 
 -- ---- items that are carried out
 
--- An item was carried out: this became of it, and its firings are those that the policy chooses.
-pub record CarriesOut {M : Type 0} (policy : Policy) (before : WalkState) (l : LedgerState) (i : ScriptItem)
+-- An item was carried out: this became of it, and its firings are those of the crew.
+pub record CarriesOut {M : Type 0} (crew : Crew) (before : WalkState) (l : LedgerState) (i : ScriptItem)
     (passed : PassedItem M) (after : WalkState) : Type 0 where
   pub passage : Passage
   pub is : IsPassage before.accepted (batch_limit before.limit before.made) passage
@@ -113,4 +115,4 @@ pub record CarriesOut {M : Type 0} (policy : Policy) (before : WalkState) (l : L
   pub after_is : passage.after ≡ passed.ledger
   pub entry : passage.entry ≡ passed.entry
   pub walk : after ≡ walk_with passage before
-  pub by : PassesBy policy before.accepted passage passage.entry
+  pub by : (policy : Policy) → crew ≡ crews.One policy → PassesBy policy before.accepted passage passage.entry

@@ -5,7 +5,7 @@ use Rattle.nomos_script.specs.declared.item.ScriptItem.{ScriptItem}
 use Rattle.nomos_script.specs.declared.item.ScriptItem.TheVariants as item
 use Rattle.nomos_workers.specs.Batch.{MayRun}
 use Rattle.nomos_types.specs.Acceptance.{IsAccepted}
-use Rattle.nomos_run.proofs.RoomLemmas.{begun-may_run}
+use Rattle.nomos_run.proofs.RoomLemmas.{begun-room}
 use Rattle.nomos_run.proofs.WalkLemmas.{still-carried}
 use Rattle.nomos_run.specs.mirror.WalkState.{WalkState}
 use Rattle.nomos_run.specs.mirror.Walks.{HasBegunBatch, HasItemRoom, StartsAs}
@@ -13,12 +13,12 @@ use Rattle.nomos_run.proofs.running.carry_out.Goals as goal
 
 pub returns-in-Passed : goal.returns-in-Passed
 returns-in-Passed g c =
-    still-carried c.args.policy
+    still-carried c.args.runner.now.orders.crew
     (subst (λ s. StartsAs c.args.walk.now c.args.ledger c.args.item.now s c.start.new.self) c.in-Passed.is
     c.in_ok-passed.ensures)
 
 pub fire_batch-requires-clause-may : goal.fire_batch-requires-clause-may
-fire_batch-requires-clause-may g c =
+fire_batch-requires-clause-may g c = λ κs lives.
     let before : WalkState = c.args.walk.now in
     let most : ℕ = batch_limit before.limit before.made in
     let u = c.in-UnderWay.under in
@@ -33,5 +33,5 @@ fire_batch-requires-clause-may g c =
     let room : HasItemRoom c.args.ledger (start_count (item.Batch under.batch ∷ [])) most =
     subst (λ (i : ScriptItem). HasItemRoom c.args.ledger (start_count (i ∷ [])) most) under.item c.requires.room
     in
-    let may : MayRun before.accepted most u.world = begun-may_run accepted room under.begun under.stands in
+    let may : MayRun before.accepted most u.world = begun-room accepted room under.begun under.stands in
     subst (λ (x : WalkState). MayRun x.accepted (batch_limit x.limit x.made) u.world) (sym under.walk) may

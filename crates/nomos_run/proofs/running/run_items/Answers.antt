@@ -15,28 +15,28 @@ use Rattle.nomos_run.proofs.running.run_items.Goals as goal
 pub returns-in_err-walk-clause-err : goal.returns-in_err-walk-clause-err
 returns-in_err-walk-clause-err g c =
     on_err c.from_residual.result
-    (none-so_far c.args.accepted.now c.args.items.now c.args.entries.now.items c.args.orders c.requires.limit
+    (none-so_far c.args.accepted.now c.args.items.now c.args.entries.now.items c.args.runner.now.orders c.requires.limit
     c.requires.none)
 
 pub items-init : goal.items-init
 items-init g c =
     let a = c.args.accepted.now in
-    let orders = c.args.orders in
+    let orders = c.args.runner.now.orders in
     let wanted : WantedTexts = record { report = true; text = orders.text } in
-    subst (λ (w : WalkState). HasGone orders.policy a orders.limit wanted [] c.args.entries.now.items
+    subst (λ (w : WalkState). HasGone orders.crew a orders.limit wanted [] c.args.entries.now.items
     c.empty-ledger.result w) (sym c.in_ok-walk.ensures)
-    (subst (λ (es : List Entry). HasGone orders.policy a orders.limit wanted [] es c.empty-ledger.result
+    (subst (λ (es : List Entry). HasGone orders.crew a orders.limit wanted [] es c.empty-ledger.result
     (walk_of a orders.limit wanted [])) (sym c.requires.none)
-    (subst (λ (l : LedgerState). HasGone orders.policy a orders.limit wanted [] [] l
+    (subst (λ (l : LedgerState). HasGone orders.crew a orders.limit wanted [] [] l
     (walk_of a orders.limit wanted [])) (sym c.empty-ledger.ensures.empty)
-    (gone-none orders.policy a orders.limit wanted c.requires.limit)))
+    (gone-none orders.crew a orders.limit wanted c.requires.limit)))
 
 pub carry_out-requires-clause-stands : goal.carry_out-requires-clause-stands
-carry_out-requires-clause-stands g c =
+carry_out-requires-clause-stands g c = λ κs lives.
     gone-stands c.args.items.now c.items.item-index c.items.invariant c.program-program.ensures.accepted
 
 pub carry_out-requires-clause-room : goal.carry_out-requires-clause-room
-carry_out-requires-clause-room g c =
+carry_out-requires-clause-room g c = λ κs lives.
     let items = c.args.items.now in
     let i = c.item-item.result in
     let n = c.items.item-index in
@@ -46,36 +46,36 @@ carry_out-requires-clause-room g c =
     gone-room items n c.items.invariant c.program-program.ensures.accepted i c.requires.size more
 
 pub carry_out-requires-clause-made : goal.carry_out-requires-clause-made
-carry_out-requires-clause-made g c = gone-made c.args.items.now c.items.item-index c.items.invariant
+carry_out-requires-clause-made g c = λ κs lives. gone-made c.args.items.now c.items.item-index c.items.invariant
 
 pub returns-in_err-passed-clause-err : goal.returns-in_err-passed-clause-err
 returns-in_err-passed-clause-err g c =
     on_err c.from_residual-in_err-passed.result
-    (gone-so_far c.args.items.now c.items.item-index c.args.orders c.items.invariant refl)
+    (gone-so_far c.args.items.now c.items.item-index c.args.runner.now.orders c.items.invariant refl)
 
 pub returns-in_err-keep-clause-err : goal.returns-in_err-keep-clause-err
 returns-in_err-keep-clause-err g c =
     on_err c.from_residual-in_err-keep.result
-    (gone-so_far c.args.items.now c.items.item-index c.args.orders c.items.invariant c.in_err-keep.ensures.err)
+    (gone-so_far c.args.items.now c.items.item-index c.args.runner.now.orders c.items.invariant c.in_err-keep.ensures.err)
 
 pub items-preserved : goal.items-preserved
 items-preserved g c =
     let items = c.args.items.now in
     let i = c.item-item.result in
     let n = c.items.item-index in
-    let orders = c.args.orders in
+    let orders = c.args.runner.now.orders in
     let more : take (n + 1) items ≡ take n items ++ i ∷ [] =
     take_more items n i c.items-test.true ∙ ap (λ (x : ScriptItem). take n items ++ x ∷ []) (sym c.item-item.is)
     in
     subst
-    (λ (is : List ScriptItem). HasGone orders.policy c.args.accepted.now orders.limit
+    (λ (is : List ScriptItem). HasGone orders.crew c.args.accepted.now orders.limit
     (record { report = true; text = orders.text }) is c.keep.new.entries.items c.in_ok-passed.passed.ledger
     c.carry_out.new.walk) (sym more)
     (gone-more c.in_ok-passed.passed c.items.invariant c.in_ok-passed.ensures c.in_ok-keep.ensures.ok)
 
 pub returns-clause-ok : goal.returns-clause-ok
 returns-clause-ok g c =
-    gone-whole c.args.items.now c.items.item-index c.args.orders
+    gone-whole c.args.items.now c.items.item-index c.args.runner.now.orders
     (record { report = c.in-Some.report; text = c.into_text-in-Some.result; ledger = c.items.ledger })
     c.program-program.ensures.accepted c.items.invariant c.items-test.false refl
     (c.in-Some.ensures ∙ ap (λ (p : Papers). p.report) c.into_papers-report.ensures)

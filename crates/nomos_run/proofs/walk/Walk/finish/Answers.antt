@@ -6,7 +6,7 @@ use Rattle.nomos_run.proofs.WalkLemmas.{ended-firings, walk-more}
 use Rattle.nomos_run.specs.declared.papers.Papers.{Papers}
 use Rattle.nomos_run.specs.mirror.Papers.{papers_with}
 use Rattle.nomos_run.specs.mirror.WalkState.{WalkState}
-use Rattle.nomos_run.specs.mirror.Walks.{ended_batch, left_by}
+use Rattle.nomos_run.specs.mirror.Walks.{ended_batch, settled_as}
 use Rattle.nomos_run.proofs.walk.Walk.finish.Goals as goal
 
 pub returns-clause-walk : goal.returns-clause-walk
@@ -28,4 +28,4 @@ returns-clause-walk g c = λ batch same.
     let Written : Acceptance → Papers → Papers = λ b papers. papers_with b (ended_batch b batch w e) papers in
     walk-more before _ p
     (ap (λ (x : WalkState). x.accepted) view) (ap (λ (x : WalkState). x.limit) view) made
-    (c.in_ok-batch.ensures batch (left_by w e) same ∙ (λ i. Written (program i) (view i).papers))
+    (c.in_ok-batch.ensures batch (settled_as w e) same ∙ (λ i. Written (program i) (view i).papers))
