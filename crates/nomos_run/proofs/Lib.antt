@@ -4,3 +4,4 @@ mod WalkLemmas
 mod CarryLemmas
 mod RetellLemmas
 pub mod CarriedLaws
+pub mod EntryLaws

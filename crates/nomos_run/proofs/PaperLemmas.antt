@@ -92,7 +92,8 @@ batch-written a batch n w e last papers after stands at report text =
     text
     ∙ ap (λ (k : ℕ). Writes k (more (placed_lines a (pids_of w.firings) w.places))) (sym at)
     ∙ ap (λ (ls : List JournalLine). Writes batch.line (more ls)) (sym placed)
-    ∙ ap (Writes batch.line) (sym (append-nil (more (firing_lines version.Two a (start_of a w).state (pids_of w.firings)))))
+    ∙ ap (Writes batch.line)
+    (sym (append-nil (more (firing_lines version.Two a (start_of a w).state (pids_of w.firings)))))
     in
     λ j. record { report = printed j; text = written j }
 

@@ -203,7 +203,8 @@ still-entry (passage.refused l batch line cause refuses) none _ item before = ab
 still-entry (passage.stays l batch starts pids last begun reaches) none _ item before = absurd none
 still-entry (passage.undone l batch starts pids last end.Deposited begun reaches undoes) none _ item before =
     absurd reaches.allowed
-still-entry (passage.undone l batch starts pids last end.Committed begun reaches undoes) none _ item before = absurd none
+still-entry (passage.undone l batch starts pids last end.Committed begun reaches undoes) none _ item before =
+    absurd none
 still-entry (passage.undone l batch starts pids last end.Blocked begun reaches undoes) none _ item before = absurd none
 still-entry (passage.undone l batch starts pids last (end.Steps n) begun reaches undoes) none _ item before =
     absurd none

@@ -47,7 +47,7 @@ passage-accounts {a} (passage.stays l batch starts pids last begun reaches) =
 passage-accounts (passage.undone l batch starts pids last answer begun reaches undoes) = omega arith
 passage-accounts (passage.shown l line) = omega arith
 
-first-entries : (i : ScriptItem) (items : List ScriptItem)
+pub first-entries : (i : ScriptItem) (items : List ScriptItem)
     → entry_count (i ∷ items) ≡ entry_count (i ∷ []) + entry_count items
 first-entries (item.Deposit line name units) items = omega arith
 first-entries (item.Batch batch) items = omega arith

@@ -121,8 +121,8 @@ ran-not_still a s n most (end.Refused line cause) allowed none = allowed
 pub still-by : (policy : Policy) {a : Acceptance} {most : ℕ} {p : Passage} → IsPassage a most p → IsStill p.entry
     → PassesBy policy a p p.entry
 still-by policy {a} (passage.deposit l line units name fits) none =
-    still-follows policy a (item.Deposit line name units) l (deposited a.annotations.unit l name units) line end.Deposited
-    (λ P. tt)
+    still-follows policy a (item.Deposit line name units) l (deposited a.annotations.unit l name units) line
+    end.Deposited (λ P. tt)
 still-by policy {a} (passage.no_deposit l line units name never) none =
     still-follows policy a (item.Deposit line name units) l l line (end.Refused line refusal.TooMuchGas) (λ P. tt)
 still-by policy {a} (passage.refused l batch line cause refuses) none =

@@ -31,8 +31,8 @@ where_wanted false text = None
 abbrev pub FollowsCrew : Crew → Acceptance → List Passage → Type 0
 FollowsCrew crew a ps = (policy : Policy) → crew ≡ crews.One policy → FollowPolicy policy a ps
 
--- All items were carried out, and this became of them: what is given is their report, the text of their journal where it
--- was wanted, and the ledger to which they lead, which stands for the program.
+-- All items were carried out, and this became of them: what is given is their report, the text of their journal where
+-- it was wanted, and the ledger to which they lead, which stands for the program.
 pub record IsWholeRun {M : Type 0} (a : Acceptance) (orders : Orders) (ps : List Passage) (last : LedgerState)
     (finished : WholeRun M) : Type 0 where
   pub report : finished.report.items ≡ report_of a ps
@@ -42,12 +42,12 @@ pub record IsWholeRun {M : Type 0} (a : Acceptance) (orders : Orders) (ps : List
 
 -- So many first items were carried out, and this became of them: the journal is theirs, within the limit, and their
 -- firings are those of the crew. Where more than the journal is given, all items were carried out.
-pub record RunsScript {M : Type 0} (a : Acceptance) (items : List ScriptItem) (orders : Orders) (run : ScriptRun M) : Type 0
-  where
-    pub count : ℕ
-    pub passages : List Passage
-    pub last : LedgerState
-    pub limit : run.journal.limit ≡ orders.limit
-    pub tells : Tells a (take count items) run.journal passages last
-    pub follows : FollowsCrew orders.crew a passages
-    pub all : IfSome run.finished (λ f. (count ≡ length items) × IsWholeRun a orders passages last f)
+pub record RunsScript {M : Type 0} (a : Acceptance) (items : List ScriptItem) (orders : Orders) (run : ScriptRun M)
+    : Type 0 where
+  pub count : ℕ
+  pub passages : List Passage
+  pub last : LedgerState
+  pub limit : run.journal.limit ≡ orders.limit
+  pub tells : Tells a (take count items) run.journal passages last
+  pub follows : FollowsCrew orders.crew a passages
+  pub all : IfSome run.finished (λ f. (count ≡ length items) × IsWholeRun a orders passages last f)

@@ -5,8 +5,8 @@ use nomos_ledger::ledger::Ledger;
 use nomos_legal::journal::Journal;
 use nomos_workers::batch::Crew;
 
-/// How a script is to be run: who runs its batches, the most firings of one batch, and whether the text of the journal is
-/// wanted.
+/// How a script is to be run: who runs its batches, the most firings of one batch, from 1 to 10,000,000, and whether the
+/// text of the journal is wanted.
 #[derive(Clone, Copy, Debug)]
 pub struct Orders {
     pub crew: Crew,
@@ -14,16 +14,16 @@ pub struct Orders {
     pub text: bool,
 }
 
-/// Who runs scripts: the runtime that makes threads and lets them wait, the gate that workers call before they evaluate,
-/// and the orders.
+/// Who runs scripts: the runtime that makes threads and lets them wait, the gate that workers call before they
+/// evaluate, and the orders.
 pub struct Runner<'a, G, R> {
     pub rt: &'a R,
     pub gate: &'a G,
     pub orders: Orders,
 }
 
-/// What a run comes to that carried out all items: its report, the text of its journal where it was wanted, and the last
-/// ledger.
+/// What a run comes to that carried out all items: its report, the text of its journal in version 2 where it was wanted,
+/// and the last ledger.
 #[derive(Drop, Debug)]
 pub struct WholeRun<M: Undo> {
     pub report: Vec<u8>,

@@ -30,8 +30,8 @@ use std::marker::Model;
 /// The most firings of all batches of a script.
 const FIRINGS: u32 = 20_000_000;
 
-/// How far a script was gone along: what arguments are judged by, the most firings of one batch, the firings so far, and
-/// what is written. Contracts see the program in place of the first.
+/// How far a script was gone along: what arguments are judged by, the most firings of one batch, the firings so far,
+/// and what is written. Contracts see the program in place of the first.
 #[derive(Drop)]
 pub(crate) struct Walk<'a> {
     arguments: Arguments<'a>,

@@ -85,8 +85,8 @@ pub record ComesNext (w : WalkState) (l : LedgerState) (i : ScriptItem) (left : 
   pub others : List Passage
   pub left_is : left ≡ entries_of (p ∷ others)
 
--- The walk has come behind the first items of a journal of which all passages are these: behind the first ones, with these
--- to come, of which these are the entries that are left.
+-- The walk has come behind the first items of a journal of which all passages are these: behind the first ones, with
+-- these to come, of which these are the entries that are left.
 pub record HasTold (a : Acceptance) (limit : ℕ) (wanted : WantedTexts) (all : List Passage) (last : LedgerState)
     (first items : List ScriptItem) (l : LedgerState) (left : List Entry) (w : WalkState) : Type 0 where
   pub passages : List Passage
@@ -99,8 +99,8 @@ pub record HasTold (a : Acceptance) (limit : ℕ) (wanted : WantedTexts) (all : 
   pub walk : w ≡ walk_of a limit wanted passages
 
 -- what a journal tells of a script was written where it was wanted
-pub record IsToldBy (a : Acceptance) (items : List ScriptItem) (journal : Journal) (wanted : WantedTexts) (papers : Papers)
-    : Type 0 where
+pub record IsToldBy (a : Acceptance) (items : List ScriptItem) (journal : Journal) (wanted : WantedTexts)
+    (papers : Papers) : Type 0 where
   pub passages : List Passage
   pub last : LedgerState
   pub tells : Tells a items journal passages last

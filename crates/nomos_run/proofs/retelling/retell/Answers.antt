@@ -15,7 +15,8 @@ items-init g c =
     let journal = c.args.journal.now in
     let wanted = c.args.wanted in
     let left = c.as_slice-left.result.now in
-    subst (λ (w : WalkState). HasRetold a items journal wanted 0 c.empty-ledger.result left w) (sym c.in_ok-walk.ensures)
+    subst (λ (w : WalkState). HasRetold a items journal wanted 0 c.empty-ledger.result left w)
+    (sym c.in_ok-walk.ensures)
     (subst (λ (l : LedgerState). HasRetold a items journal wanted 0 l left (walk_of a journal.limit wanted []))
     (sym c.empty-ledger.ensures.empty)
     (subst

@@ -56,7 +56,8 @@ returns-in_err-passed-clause-err g c =
 pub returns-in_err-keep-clause-err : goal.returns-in_err-keep-clause-err
 returns-in_err-keep-clause-err g c =
     on_err c.from_residual-in_err-keep.result
-    (gone-so_far c.args.items.now c.items.item-index c.args.runner.now.orders c.items.invariant c.in_err-keep.ensures.err)
+    (gone-so_far c.args.items.now c.items.item-index c.args.runner.now.orders c.items.invariant
+    c.in_err-keep.ensures.err)
 
 pub items-preserved : goal.items-preserved
 items-preserved g c =
