@@ -4,3 +4,4 @@ pub mod ShopLemmas
 pub mod WorkLemmas
 pub mod FaultLemmas
 pub mod BatchLaws
+pub mod PassLemmas

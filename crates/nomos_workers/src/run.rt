@@ -1,9 +1,9 @@
 //! Batches run by a crew: one worker by a policy, or several that take turns over a floor.
-ghost use Rattle.std.specs.Prelude.{◌≡◌, ℕ, ◌≤◌, IfOk, MatchOption, length};
+ghost use Rattle.std.specs.Prelude.{◌≡◌, ℕ, ◌≤◌, All, IfOk, MatchOption, length};
 ghost use Rattle.nomos_machine.specs.declared.policy.Policy.{Policy};
 ghost use Rattle.nomos_legal.specs.StandsFor.{WorldStandsFor};
 ghost use Rattle.nomos_workers.specs.Batch.{MayRun, RunsOn};
-ghost use Rattle.nomos_workers.specs.Crews.{AbortsAtLowest, IsCrew, IsFaultless, IsLowestFault};
+ghost use Rattle.nomos_workers.specs.Crews.{AbortsAtLowest, IsCrew, IsFaultless, IsLowestFault, IsOfWorker};
 ghost use Rattle.nomos_workers.specs.OneWorker.{EndsBy, RunsBy};
 ghost use Rattle.nomos_workers.specs.Shops.{MayEnd};
 
@@ -79,6 +79,7 @@ pub fn run_batch<M: Undo + Drop + Send, G: Gate, R: Threads + Wait + Sync>(
     ensures ends { MayEnd accepted.now result.world.state (length result.world.firings) limit result.end }
     ensures one { (policy : Policy) → crew ≡ Crew.One policy → RunsBy policy accepted.now limit world result.world
         × EndsBy policy accepted.now limit result.world result.end }
+    ensures passes { (workers : ℕ) → crew ≡ Crew.Many workers → All (IsOfWorker workers) result.world.firings }
     ensures aborts { (workers : ℕ) → crew ≡ Crew.Many workers
         → AbortsAtLowest accepted.now result.world.state result.end }
 {

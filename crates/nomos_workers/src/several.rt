@@ -2,6 +2,7 @@
 ghost use Rattle.std.specs.Prelude.{◌≡◌, ◌+◌, ◌<◌, ◌^◌, [], All, length};
 ghost use Rattle.std.specs.Thread.{IsSend, IsSync};
 ghost use Rattle.nomos_floor.specs.FloorCrew.{IsManned, KeepsStation, KeepStations};
+ghost use Rattle.nomos_workers.specs.Crews.{IsOfWorker};
 ghost use Rattle.nomos_workers.specs.Shops.{history_of, opening};
 
 use crate::batch::BatchEnd;
@@ -72,7 +73,8 @@ pub(crate) fn run_shop<A: Lent, M: Undo + Drop + Send, G: Gate, R: Threads + Wai
     requires fresh { history_of shop ≡ [] }
     requires some { 0 < workers }
     requires few { workers + 1 < 2 ^ 32 }
-    ensures { opening result ≡ opening shop }
+    ensures opened { opening result ≡ opening shop }
+    ensures passes { All (IsOfWorker workers) result.world.firings }
 {
     let (floor, mut first) = match Floor::open(alloc, shop) {
         Ok(opened) => opened,
