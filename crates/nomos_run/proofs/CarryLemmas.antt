@@ -29,12 +29,13 @@ use Rattle.nomos_journal.specs.Line.{line_text}
 use Rattle.nomos_journal.specs.declared.line.Version.TheVariants as version
 use Rattle.nomos_report.proofs.PassageLaws.{report-next}
 use Rattle.nomos_report.specs.Reported as report
+use Rattle.nomos_workers.proofs.BatchLaws.{left_by, passage_of, ran-before, ran-follows, ran-passage}
 use Rattle.nomos_workers.specs.Batch.{RunsOn}
 use Rattle.nomos_workers.specs.OneWorker.{AbortsBy, RunsBy}
 use Rattle.nomos_workers.specs.declared.batch.Crew.{Crew}
 use Rattle.nomos_workers.specs.declared.batch.Crew.TheVariants as crews
 use Rattle.nomos_run.proofs.RoomLemmas.{walk-made, walk-room}
-use Rattle.nomos_run.proofs.WalkLemmas.{aborts-by, begun-further, ended-passage, some_same}
+use Rattle.nomos_run.proofs.WalkLemmas.{some_same}
 use Rattle.nomos_run.specs.Carried.{journal_text_of, where_wanted}
 use Rattle.nomos_run.specs.declared.orders.Orders.{Orders}
 use Rattle.nomos_run.specs.declared.orders.WholeRun.{WholeRun}
@@ -43,7 +44,7 @@ use Rattle.nomos_run.specs.declared.started.PassedItem.{PassedItem}
 use Rattle.nomos_run.specs.mirror.Papers.{papers_of, papers_with, with_lines}
 use Rattle.nomos_run.specs.mirror.Runs.{HasGone, RunsSoFar, RunsWhole, journal_of}
 use Rattle.nomos_run.specs.mirror.WalkState.{WalkState}
-use Rattle.nomos_run.specs.mirror.Walks.{CarriesOut, HasBegunBatch, HasRoomFor, ended_batch, settled_as, walk_of, walk_with}
+use Rattle.nomos_run.specs.mirror.Walks.{CarriesOut, HasBegunBatch, HasRoomFor, walk_of, walk_with}
 
 -- ---- a batch
 
@@ -55,24 +56,25 @@ pub batch-carried : {M : Type 0} (crew : Crew) {before after : WalkState} {l : L
     → IsAllowed before.accepted v.state (length v.firings) (batch_limit before.limit before.made) e
     → ((policy : Policy) → crew ≡ crews.One policy → RunsBy policy before.accepted
     (batch_limit before.limit before.made) w v × AbortsBy policy before.accepted v e)
-    → passed.ledger ≡ settled_as v e
+    → passed.ledger ≡ left_by e v
     → passed.entry ≡ Some (record { line = line; firings = pids_of v.firings; end = e })
-    → ((batch : Batch) → batch.line ≡ line → after ≡ walk_with (ended_batch before.accepted batch v e) before)
+    → ((batch : Batch) → batch.line ≡ line → after ≡ walk_with (passage_of before.accepted batch v e) before)
     → CarriesOut crew before l i passed after
-batch-carried crew {before} {line = line} {v = v} e passed under runs allowed one ledger entry walk =
+batch-carried crew {before} {line = line} {w = w} {v = v} e passed under runs allowed one ledger entry walk =
     let a : Acceptance = before.accepted in
     let batch : Batch = under.batch in
     let Kept : ℕ → Option Entry = λ n. Some (record { line = n; firings = pids_of v.firings; end = e }) in
     record {
-      passage = ended_batch a batch v e;
-      is =
-          ended-passage v batch e (begun-further v under.begun runs.origin runs.starts) runs.stands runs.within allowed;
+      passage = passage_of a batch v e;
+      is = ran-passage under.begun runs e allowed;
       item = sym under.item;
-      before_is = runs.origin ∙ under.begun.origin;
+      before_is = ran-before under.begun runs;
       after_is = sym ledger;
       entry = ap Kept (sym under.line_is) ∙ sym entry;
       walk = walk batch (sym under.line_is);
-      by = λ policy is. ((one policy is).0.chosen, aborts-by policy a v e (one policy is).1);
+      by = λ policy is.
+          let both = one policy is in
+          ran-follows policy a (batch_limit before.limit before.made) batch w v e both.0 both.1;
     }
 
 -- ---- one passage more

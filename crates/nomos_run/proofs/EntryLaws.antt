@@ -1,5 +1,5 @@
 -- How many entries a journal has: one for each deposit and each batch.
-use Rattle.std.proofs.Common.{◌≡◌, ℕ, ◌+◌, List, [], ◌∷◌, ◌++◌, length, map, ap, arith, length-append}
+use Rattle.std.proofs.Common.{◌≡◌, ℕ, List, [], ◌∷◌, length, map, ap, arith, length-append}
 use Rattle.std.specs.Option.{option_to_list}
 use Rattle.nomos_types.specs.Acceptance.{Acceptance}
 use Rattle.nomos_script.specs.Size.{entry_count}

@@ -38,16 +38,17 @@ use Rattle.nomos_legal.specs.declared.refusal.Refusal.{Refusal}
 use Rattle.nomos_legal.specs.declared.refusal.Refusal.TheVariants as refusal
 use Rattle.nomos_legal.specs.declared.resolved.Resolved.{Resolved}
 use Rattle.nomos_ledger.specs.Calls.{HasFired}
+use Rattle.nomos_workers.proofs.BatchLaws.{left_by, passage_of, ran-passage}
 use Rattle.nomos_run.proofs.CarryLemmas.{tells-next, walk-next}
 use Rattle.nomos_run.proofs.RoomLemmas.{begun-room, walk-made, walk-room}
-use Rattle.nomos_run.proofs.WalkLemmas.{begun-further, ended-passage, some_same}
+use Rattle.nomos_run.proofs.WalkLemmas.{some_same}
 use Rattle.nomos_run.specs.declared.papers.Papers.{Papers}
 use Rattle.nomos_run.specs.declared.papers.WantedTexts.{WantedTexts}
 use Rattle.nomos_run.specs.declared.started.PassedItem.{PassedItem}
 use Rattle.nomos_run.specs.mirror.Papers.{papers_of}
 use Rattle.nomos_run.specs.mirror.Runs.{CanRun, ComesNext, EndsAsKept, HasTold, HaveFired, IsToldBy, journal_of, left_behind}
 use Rattle.nomos_run.specs.mirror.WalkState.{WalkState}
-use Rattle.nomos_run.specs.mirror.Walks.{HasBegunBatch, HasItemRoom, HasRoomFor, IsStill, PassesStill, ended_batch, settled_as, walk_of, walk_with}
+use Rattle.nomos_run.specs.mirror.Walks.{HasBegunBatch, HasItemRoom, HasRoomFor, IsStill, PassesStill, walk_of, walk_with}
 
 -- ---- firings
 
@@ -271,7 +272,7 @@ pub record TellsBatch (w : WalkState) (world : WorldState) (left : List Entry) (
   pub within : length entry.firings ≤ batch_limit w.limit w.made
   -- where its firings were made, its end makes the passage
   pub ends : (batch : Batch) (v : WorldState) → p.item ≡ item.Batch batch → HaveFired w.accepted world entry.firings v
-      → ended_batch w.accepted batch v entry.end ≡ p
+      → passage_of w.accepted batch v entry.end ≡ p
 
 pub tells-batch : {w after : WalkState} {l : LedgerState} {i : ScriptItem} {line spent : ℕ} {world : WorldState}
     {left : List Entry} {p : Passage} → HasBegunBatch w l i line spent world after → ComesNext w l i left p
@@ -306,9 +307,6 @@ tells-batch {w} {l} {i} {world = world} {left} {p} under next =
           let firings : pids_of v.firings ≡ ran.pids =
           fired.firings ∙ ap (λ (ps : List ℕ). ps ++ ran.pids) none
           in
-          let begun_there : AllStart a v.origin under.batch.starts v.starts =
-          begun-further v under.begun fired.origin fired.starts
-          in
           let first : (start_of a v).state ≡ (start_of a world).state =
           (λ j. (after_starts a (fired.origin j) (fired.starts j)).state)
           in
@@ -325,15 +323,20 @@ tells-batch {w} {l} {i} {world = world} {left} {p} under next =
           subst (λ (n : ℕ). IsAllowed a v.state n most ran.answer) count
           (subst (λ (s : State). IsAllowed a s (length ran.pids) most ran.answer) last runs.allowed)
           in
-          let is_passage : IsPassage a most (ended_batch a under.batch v ran.answer) =
-          ended-passage v under.batch ran.answer begun_there fired.stands (omega (arith, count, runs.within)) allowed
+          let is_passage : IsPassage a most (passage_of a under.batch v ran.answer) =
+          ran-passage under.begun (record {
+            stands = fired.stands;
+            origin = fired.origin;
+            starts = fired.starts;
+            within = omega (arith, count, runs.within);
+          }) ran.answer allowed
           in
-          let one : ended_batch a under.batch v ran.answer ≡ p =
+          let one : passage_of a under.batch v ran.answer ≡ p =
           passage-one is_passage next.is (sym (next.item ∙ under.item))
           (ap (λ (ps : List ℕ). Some (record { line = under.batch.line; firings = ps; end = ran.answer })) firings
           ∙ sym ran.entry) (fired.origin ∙ sym origin)
           in
-          ap (λ (b : Batch). ended_batch a b v ran.answer) (sym same) ∙ one;
+          ap (λ (b : Batch). passage_of a b v ran.answer) (sym same) ∙ one;
     }
 
 -- The firings of the entry at the front can be made: they have room.
@@ -401,8 +404,8 @@ ok_both (Err e) one other gives = tt
 
 -- a batch that was fired has ended as its entry has it
 pub ends-kept : {w v : WalkState} {world there : WorldState} (batch : Batch) (e : Entry) (pids : List ℕ)
-    (last : LedgerState) → HaveFired w.accepted world pids there → pids ≡ e.firings → last ≡ settled_as there e.end
-    → v ≡ walk_with (ended_batch w.accepted batch there e.end) w → EndsAsKept w batch world e last v
+    (last : LedgerState) → HaveFired w.accepted world pids there → pids ≡ e.firings → last ≡ left_by e.end there
+    → v ≡ walk_with (passage_of w.accepted batch there e.end) w → EndsAsKept w batch world e last v
 ends-kept {w} {world = world} {there} batch e pids last fired same ledger walk = record {
   world = there;
   fired = subst (λ (ps : List ℕ). HaveFired w.accepted world ps there) same fired;

@@ -6,19 +6,19 @@ use Rattle.nomos_script.specs.declared.item.Batch.{Batch}
 use Rattle.nomos_script.specs.declared.item.ScriptItem.{ScriptItem}
 use Rattle.nomos_script.specs.declared.item.ScriptItem.TheVariants as item
 use Rattle.nomos_legal.proofs.LegalLaws.{tells-within}
-use Rattle.nomos_legal.proofs.NextNumberLaws.{last-numbers, world-numbers}
-use Rattle.nomos_legal.proofs.StartLaws.{starts-length, starts-same}
+use Rattle.nomos_legal.proofs.NextNumberLaws.{last-numbers}
+use Rattle.nomos_legal.proofs.StartLaws.{starts-same}
 use Rattle.nomos_legal.specs.Ledger.{LedgerState, account_of, accounts_with}
 use Rattle.nomos_legal.specs.Legal.{Leads, Tells, batch_limit, entries_of, firings_made, max_firings}
 use Rattle.nomos_legal.specs.Legal as legal
-use Rattle.nomos_legal.specs.NextNumbers.{HasNumbered, numbers_given}
+use Rattle.nomos_legal.specs.NextNumbers.{numbers_given}
 use Rattle.nomos_legal.specs.Passage.{IsPassage, Passage}
 use Rattle.nomos_legal.specs.Passage as passage
 use Rattle.nomos_legal.specs.StandsFor.{WorldStandsFor}
 use Rattle.nomos_legal.specs.World.{WorldState}
 use Rattle.nomos_legal.specs.declared.journal.Entry.{Entry}
-use Rattle.nomos_legal.specs.declared.journal.Firing.{Firing}
 use Rattle.nomos_ledger.specs.Beginning.{HasBegun}
+use Rattle.nomos_workers.proofs.BatchLaws.{begun-may_run}
 use Rattle.nomos_workers.specs.Batch.{MayRun}
 use Rattle.nomos_run.specs.declared.papers.WantedTexts.{WantedTexts}
 use Rattle.nomos_run.specs.mirror.Runs.{journal_of}
@@ -133,14 +133,5 @@ walk-made {entries = entries} tells =
 pub begun-room : {a : Acceptance} → IsAccepted a → {l : LedgerState} {batch : Batch} {w : WorldState} {most : ℕ}
     → HasItemRoom l (start_count (item.Batch batch ∷ [])) most → HasBegun a l batch w → WorldStandsFor a w
     → MayRun a most w
-begun-room accepted {l} {batch} {w} {most} room begun stands =
-    let at_origin = subst (λ (m : LedgerState). HasNumbered room.given m.state) (sym begun.origin) room.numbered in
-    let numbered = world-numbers accepted stands room.given at_origin in
-    let each = starts-length begun.starts in
-    let none = ap (λ (fs : List Firing). length fs) begun.firings in
-    record {
-      stands = stands;
-      fresh = begun.firings;
-      objects = omega (arith, numbered.objects, each, none, room.few);
-      names = omega (arith, numbered.names, each, none, room.few);
-    }
+begun-room accepted {most = most} room begun stands =
+    begun-may_run accepted begun stands room.given most room.numbered (omega (arith, room.few))

@@ -3,36 +3,33 @@ use Rattle.std.proofs.Common.{◌≡◌, ◌∙◌, ℕ, ◌+◌, ◌≤◌, ◌
 use Rattle.std.proofs.lemmas.Bool.{cases_lt}
 use Rattle.std.proofs.lemmas.List.{length-map}
 use Rattle.nomos_types.specs.Acceptance.{Acceptance}
-use Rattle.nomos_machine.specs.Policies.{IsChosenAfter}
 use Rattle.nomos_machine.specs.State.{State}
 use Rattle.nomos_machine.specs.declared.policy.Policy.{Policy}
 use Rattle.nomos_script.specs.declared.item.Batch.{Batch}
 use Rattle.nomos_script.specs.declared.item.ScriptItem.{ScriptItem}
 use Rattle.nomos_script.specs.declared.item.ScriptItem.TheVariants as item
 use Rattle.nomos_legal.proofs.FollowLaws.{still-follows}
-use Rattle.nomos_legal.proofs.LegalLaws.{deposit-passage, stays-passage, undone-passage}
-use Rattle.nomos_legal.specs.Batch.{AllStart, OneRefuses}
+use Rattle.nomos_legal.proofs.LegalLaws.{deposit-passage}
+use Rattle.nomos_legal.specs.Batch.{OneRefuses}
 use Rattle.nomos_legal.specs.Ending.{IsAllowed}
 use Rattle.nomos_legal.specs.Ledger.{FitsDeposits, LedgerState, deposited}
-use Rattle.nomos_legal.specs.Legal.{Aborts, PassesBy, firings_in}
+use Rattle.nomos_legal.specs.Legal.{PassesBy, firings_in}
 use Rattle.nomos_legal.specs.Passage.{IsPassage, Passage, RunsTo, bare, still}
 use Rattle.nomos_legal.specs.Passage as passage
-use Rattle.nomos_legal.specs.StandsFor.{Deposits, WorldStandsFor}
-use Rattle.nomos_legal.specs.World.{WorldState, pids_of, start_of}
+use Rattle.nomos_legal.specs.StandsFor.{Deposits}
+use Rattle.nomos_legal.specs.World.{WorldState}
 use Rattle.nomos_legal.specs.declared.journal.End.{End}
 use Rattle.nomos_legal.specs.declared.journal.End.TheVariants as end
 use Rattle.nomos_legal.specs.declared.journal.Firing.{Firing}
 use Rattle.nomos_legal.specs.declared.refusal.Refusal.{Refusal}
 use Rattle.nomos_legal.specs.declared.refusal.Refusal.TheVariants as refusal
-use Rattle.nomos_legal.specs.declared.resolved.Resolved.{Resolved}
-use Rattle.nomos_ledger.specs.Beginning.{HasBegun}
 use Rattle.nomos_report.specs.Reported.{HasNoFirings}
-use Rattle.nomos_workers.specs.OneWorker.{AbortsBy}
+use Rattle.nomos_workers.proofs.BatchLaws.{passage_of}
 use Rattle.nomos_workers.specs.declared.batch.Crew.{Crew}
 use Rattle.nomos_run.specs.declared.started.PassedItem.{PassedItem}
 use Rattle.nomos_run.specs.mirror.Papers.{papers_with}
 use Rattle.nomos_run.specs.mirror.WalkState.{WalkState}
-use Rattle.nomos_run.specs.mirror.Walks.{CarriesOut, IsStill, PassesStill, ended_batch, walk_with}
+use Rattle.nomos_run.specs.mirror.Walks.{CarriesOut, IsStill, PassesStill, walk_with}
 
 -- one value is given
 pub some_same : {X : Type 0} (x y : X) → Some x ≡ Some y → x ≡ y
@@ -148,37 +145,7 @@ still-carried crew passes = record {
 
 -- ---- batches
 
--- what was started in a world that has come further
-pub begun-further : {a : Acceptance} {l : LedgerState} {batch : Batch} {w : WorldState} (v : WorldState)
-    → HasBegun a l batch w
-    → v.origin ≡ w.origin → v.starts ≡ w.starts → AllStart a v.origin batch.starts v.starts
-begun-further {a} {l} {batch} {w} v begun origin starts =
-    subst (λ (rs : List Resolved). AllStart a v.origin batch.starts rs) (sym starts)
-    (subst (λ (m : LedgerState). AllStart a m batch.starts w.starts) (sym (origin ∙ begun.origin)) begun.starts)
-
--- a batch that ran to an end which is allowed passes
-pub ended-passage : {a : Acceptance} {most : ℕ} (v : WorldState) (batch : Batch) (e : End)
-    → AllStart a v.origin batch.starts v.starts → WorldStandsFor a v → length v.firings ≤ most
-    → IsAllowed a v.state (length v.firings) most e → IsPassage a most (ended_batch a batch v e)
-ended-passage v batch end.Committed begun stands within allowed = stays-passage batch begun stands within allowed
-ended-passage v batch end.Blocked begun stands within allowed = undone-passage batch begun stands within allowed tt
-ended-passage v batch (end.Steps n) begun stands within allowed = undone-passage batch begun stands within allowed tt
-ended-passage v batch (end.Aborted pid f) begun stands within allowed =
-    undone-passage batch begun stands within allowed tt
-ended-passage v batch end.Deposited begun stands within allowed = absurd allowed
-ended-passage v batch (end.Refused line cause) begun stands within allowed = absurd allowed
-
--- an abort by one worker is the policy's
-pub aborts-by : (policy : Policy) (a : Acceptance) (v : WorldState) (e : End) → AbortsBy policy a v e
-    → Aborts (IsChosenAfter policy a (start_of a v).state (pids_of v.firings) v.state) e
-aborts-by policy a v (end.Aborted pid f) by = by
-aborts-by policy a v end.Committed by = tt
-aborts-by policy a v end.Blocked by = tt
-aborts-by policy a v (end.Steps n) by = tt
-aborts-by policy a v end.Deposited by = tt
-aborts-by policy a v (end.Refused line cause) by = tt
-
 -- so many firings
 pub ended-firings : (a : Acceptance) (batch : Batch) (v : WorldState) (e : End)
-    → length (firings_in (ended_batch a batch v e).entry) ≡ length v.firings
+    → length (firings_in (passage_of a batch v e).entry) ≡ length v.firings
 ended-firings a batch v e = length-map v.firings (λ (f : Firing). f.pid)

@@ -7,8 +7,9 @@ ghost use Rattle.nomos_legal.specs.Legal.{batch_limit, max_firings};
 ghost use Rattle.nomos_legal.specs.Passage.{bare, still};
 ghost use Rattle.nomos_legal.specs.StandsFor.{StandsFor, WorldStandsFor};
 ghost use Rattle.nomos_report.specs.Reported.{HasNoFirings, shown_lines};
+ghost use Rattle.nomos_workers.proofs.BatchLaws.{left_by, passage_of};
 ghost use Rattle.nomos_run.specs.mirror.Papers.{papers_with};
-ghost use Rattle.nomos_run.specs.mirror.Walks.{HasRoomFor, StartsAs, ended_batch, settled_as, walk_of, walk_with};
+ghost use Rattle.nomos_run.specs.mirror.Walks.{HasRoomFor, StartsAs, walk_of, walk_with};
 
 use crate::papers::{Papers, WantedTexts};
 use crate::started::{BatchUnderWay, PassedItem, StartedItem};
@@ -69,7 +70,7 @@ fn bare(alloc: Global, line: u32, end: End) -> Entry
 
 // The ledger that a batch leaves which ended so.
 fn settle<M: Undo>(world: World<M>, end: &End) -> Ledger<M>
-    ensures { result ≡ settled_as world end.now }
+    ensures { result ≡ left_by end.now world }
 {
     match end {
         End::Committed => world.commit(),
@@ -233,9 +234,9 @@ impl<'a> Walk<'a> {
         requires stands { WorldStandsFor self.old.accepted under.world }
         requires spent { under.outset.spent ≡ under.world.origin.state.spent }
         requires few { self.old.made + length under.world.firings < 2 ^ 32 }
-        ensures ledger { IfOk result (λ ledger. ledger ≡ settled_as under.world end.now) }
+        ensures ledger { IfOk result (λ ledger. ledger ≡ left_by end.now under.world) }
         ensures walk { (batch : Batch) → batch.line ≡ under.outset.line
-            → OnOk result (self.new ≡ walk_with (ended_batch self.old.accepted batch under.world end.now) self.old) }
+            → OnOk result (self.new ≡ walk_with (passage_of self.old.accepted batch under.world end.now) self.old) }
     {
         let BatchUnderWay { outset, world } = under;
         self.papers

@@ -14,6 +14,7 @@ use Rattle.nomos_legal.specs.World.{WorldState, pids_of}
 use Rattle.nomos_legal.specs.declared.journal.Entry.{Entry}
 use Rattle.nomos_legal.specs.declared.journal.Journal.{Journal}
 use Rattle.nomos_workers.specs.declared.batch.Crew.{Crew}
+use Rattle.nomos_workers.proofs.BatchLaws.{left_by, passage_of}
 use Rattle.nomos_run.specs.Carried.{FollowsCrew, RunsScript}
 use Rattle.nomos_run.specs.declared.orders.WholeRun.{WholeRun}
 use Rattle.nomos_run.specs.declared.orders.Orders.{Orders}
@@ -21,7 +22,7 @@ use Rattle.nomos_run.specs.declared.papers.Papers.{Papers}
 use Rattle.nomos_run.specs.declared.papers.WantedTexts.{WantedTexts}
 use Rattle.nomos_run.specs.mirror.Papers.{papers_of}
 use Rattle.nomos_run.specs.mirror.WalkState.{WalkState}
-use Rattle.nomos_run.specs.mirror.Walks.{ended_batch, settled_as, walk_of, walk_with}
+use Rattle.nomos_run.specs.mirror.Walks.{walk_of, walk_with}
 
 -- a journal of its parts
 abbrev pub journal_of : ℕ → List Entry → Journal
@@ -68,8 +69,8 @@ pub record EndsAsKept (before : WalkState) (batch : Batch) (w : WorldState) (ent
     (after : WalkState) : Type 0 where
   pub world : WorldState
   pub fired : HaveFired before.accepted w entry.firings world
-  pub last_is : last ≡ settled_as world entry.end
-  pub walk : after ≡ walk_with (ended_batch before.accepted batch world entry.end) before
+  pub last_is : last ≡ left_by entry.end world
+  pub walk : after ≡ walk_with (passage_of before.accepted batch world entry.end) before
 
 -- the entries that are left behind those of an item
 abbrev pub left_behind : ScriptItem → List Entry → List Entry

@@ -9,11 +9,9 @@ use Rattle.nomos_script.specs.Size.{start_count}
 use Rattle.nomos_legal.specs.Ledger.{LedgerState}
 use Rattle.nomos_legal.specs.Legal.{PassesBy, batch_limit, entries_of, firings_in, firings_made}
 use Rattle.nomos_legal.specs.NextNumbers.{HasNumbered}
-use Rattle.nomos_legal.specs.Passage.{IsPassage, Passage, runs}
+use Rattle.nomos_legal.specs.Passage.{IsPassage, Passage}
 use Rattle.nomos_legal.specs.StandsFor.{WorldStandsFor}
-use Rattle.nomos_legal.specs.World.{WorldState, committed, pids_of, start_of}
-use Rattle.nomos_legal.specs.declared.journal.End.{End}
-use Rattle.nomos_legal.specs.declared.journal.End.TheVariants as end
+use Rattle.nomos_legal.specs.World.{WorldState}
 use Rattle.nomos_legal.specs.declared.journal.Entry.{Entry}
 use Rattle.nomos_ledger.specs.Beginning.{HasBegun}
 use Rattle.nomos_report.specs.Reported.{HasNoFirings}
@@ -93,15 +91,6 @@ abbrev pub StartsAs : {M : Type 0} → WalkState → LedgerState → ScriptItem 
 StartsAs before l i (started.Passed passed) after = PassesStill before l i passed after
 StartsAs before l i (started.UnderWay under) after =
     HasBegunBatch before l i under.outset.line under.outset.spent under.world after
-
--- the ledger that a batch leaves which ends so
-abbrev pub settled_as : WorldState → End → LedgerState
-settled_as w end.Committed = committed w
-settled_as w _ = w.origin
-
--- what became of a batch that has come to this world and ended so
-abbrev pub ended_batch : Acceptance → Batch → WorldState → End → Passage
-ended_batch a batch w e = runs batch (pids_of w.firings) e w.origin (start_of a w) w.state (settled_as w e)
 
 -- ---- items that are carried out
 

@@ -50,11 +50,12 @@ returns g c = λ l i under.
     let one : (policy : Policy) → crew ≡ crews.One policy
     → RunsBy policy before.accepted most w v × AbortsBy policy before.accepted v e =
     λ policy is.
-    let both = c.run_batch-world.ensures.one policy is in
-    (subst (λ (n : ℕ). RunsBy policy before.accepted n w v) limit
-    (subst (λ (b : Acceptance). RunsBy policy b given w v) c.accepted.ensures both.0),
-    subst (λ (b : Acceptance). AbortsBy policy b v e) c.accepted.ensures
-    (subst (λ (d : BatchEnd). EndsBy policy c.accepted.result.now given v d) c.in-Done.is both.1).1)
+    let both = c.run_batch-world.ensures.one policy is in (
+      subst (λ (n : ℕ). RunsBy policy before.accepted n w v) limit
+          (subst (λ (b : Acceptance). RunsBy policy b given w v) c.accepted.ensures both.0),
+      subst (λ (b : Acceptance). AbortsBy policy b v e) c.accepted.ensures
+          (subst (λ (d : BatchEnd). EndsBy policy c.accepted.result.now given v d) c.in-Done.is both.1).1,
+    )
     in
     let Kept : List ℕ → Option Entry = λ pids. Some (record { line = line; firings = pids; end = e }) in
     batch-carried crew e (record { ledger = c.in_ok-ledger.ledger; entry = Kept c.in_ok-firings.firings }) under runs
