@@ -1,17 +1,16 @@
 //! What a legal journal tells: its report and its text, made by firing what it has.
-ghost use Rattle.std.specs.Prelude.{◌≡◌, ◌+◌, ◌<◌, ◌≤◌, ◌^◌, ◌∷◌, ◌++◌, [], IfOk, OnOk, length};
-ghost use Rattle.nomos_script.specs.Size.{IsScriptSize, start_count};
+ghost use Rattle.std.specs.Prelude.{◌≡◌, ◌+◌, ◌<◌, ◌≤◌, ◌^◌, [], IfOk, OnOk, length};
+ghost use Rattle.nomos_script.specs.Size.{IsScriptSize};
 ghost use Rattle.nomos_script.specs.declared.item.Batch.{Batch};
 ghost use Rattle.nomos_script.specs.declared.item.ScriptItem.{ScriptItem};
-ghost use Rattle.nomos_legal.specs.Ledger.{LedgerState};
-ghost use Rattle.nomos_legal.specs.Legal.{IsLegal, batch_limit, max_firings};
+ghost use Rattle.nomos_legal.specs.Legal.{IsLegal, max_firings};
 ghost use Rattle.nomos_legal.specs.Passage.{Passage};
 ghost use Rattle.nomos_legal.specs.StandsFor.{StandsFor, WorldStandsFor};
 ghost use Rattle.nomos_journal.specs.JournalText.{IsTextOf};
 ghost use Rattle.nomos_journal.specs.declared.line.Version.TheVariants as version;
 ghost use Rattle.nomos_report.specs.Reported.{IsReport};
 ghost use Rattle.nomos_run.specs.mirror.Runs.{CanRun, ComesNext, EndsAsKept, HaveFired, IsToldBy, left_behind};
-ghost use Rattle.nomos_run.specs.mirror.Walks.{HasRoomFor, HasBegunBatch, walk_with};
+ghost use Rattle.nomos_run.specs.mirror.Walks.{HasRoomFor, walk_with};
 
 use crate::papers::{Papers, WantedTexts};
 use crate::started::{BatchUnderWay, StartedItem};

@@ -1,8 +1,8 @@
 //! Runs a script: each batch is fired by a crew.
-ghost use Rattle.std.specs.Prelude.{◌≡◌, ◌∷◌, [], ◌++◌, ◌≤◌, IfOk, OnErr, OnOk, length};
+ghost use Rattle.std.specs.Prelude.{◌≡◌, [], ◌++◌, ◌≤◌, IfOk, OnErr, OnOk};
 ghost use Rattle.std.specs.Option.{option_to_list};
 ghost use Rattle.nomos_script.specs.declared.item.ScriptItem.{ScriptItem};
-ghost use Rattle.nomos_script.specs.Size.{IsScriptSize, start_count};
+ghost use Rattle.nomos_script.specs.Size.{IsScriptSize};
 ghost use Rattle.nomos_legal.specs.Ledger.{LedgerState};
 ghost use Rattle.nomos_legal.specs.Legal.{IsLimit, batch_limit, max_firings};
 ghost use Rattle.nomos_legal.specs.StandsFor.{StandsFor};
@@ -11,7 +11,7 @@ ghost use Rattle.nomos_workers.specs.Batch.{MayRun};
 ghost use Rattle.nomos_workers.specs.Crews.{IsCrew};
 ghost use Rattle.nomos_run.specs.Carried.{RunsScript};
 ghost use Rattle.nomos_run.specs.mirror.Runs.{RunsSoFar, RunsWhole};
-ghost use Rattle.nomos_run.specs.mirror.Walks.{CarriesOut, HasItemRoom, HasRoomFor, HasBegunBatch};
+ghost use Rattle.nomos_run.specs.mirror.Walks.{CarriesOut, HasRoomFor, HasBegunBatch};
 
 use crate::orders::{Runner, ScriptRun, WholeRun};
 use crate::papers::{Papers, WantedTexts};

@@ -1,5 +1,5 @@
 //! The way along a script, item by item, with what is written of it.
-ghost use Rattle.std.specs.Prelude.{◌≡◌, ◌+◌, ◌-◌, ◌<◌, ◌≤◌, ◌^◌, [], ◌∷◌, IfOk, OnOk, Some, length};
+ghost use Rattle.std.specs.Prelude.{◌≡◌, ◌+◌, ◌-◌, ◌<◌, ◌≤◌, ◌^◌, [], IfOk, OnOk, Some, length};
 ghost use Rattle.nomos_script.specs.declared.item.Batch.{Batch};
 ghost use Rattle.nomos_script.specs.declared.item.ScriptItem.{ScriptItem};
 ghost use Rattle.nomos_legal.specs.Ledger.{LedgerState};
@@ -8,7 +8,6 @@ ghost use Rattle.nomos_legal.specs.Passage.{bare, still};
 ghost use Rattle.nomos_legal.specs.StandsFor.{StandsFor, WorldStandsFor};
 ghost use Rattle.nomos_report.specs.Reported.{HasNoFirings, shown_lines};
 ghost use Rattle.nomos_workers.proofs.BatchLaws.{left_by, passage_of};
-ghost use Rattle.nomos_run.specs.mirror.Papers.{papers_with};
 ghost use Rattle.nomos_run.specs.mirror.Walks.{HasRoomFor, StartsAs, walk_of, walk_with};
 
 use crate::papers::{Papers, WantedTexts};
