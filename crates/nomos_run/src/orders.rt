@@ -5,8 +5,8 @@ use nomos_ledger::ledger::Ledger;
 use nomos_legal::journal::Journal;
 use nomos_workers::batch::Crew;
 
-/// How a script is to be run: who runs its batches, the most firings of one batch, from 1 to 10,000,000, and whether the
-/// text of the journal is wanted.
+/// How a script is to be run: who runs its batches, the most firings of one batch, from 1 to 10,000,000, and whether
+/// the text of the journal is wanted.
 #[derive(Clone, Copy, Debug)]
 pub struct Orders {
     pub crew: Crew,
@@ -22,8 +22,8 @@ pub struct Runner<'a, G, R> {
     pub orders: Orders,
 }
 
-/// What a run comes to that carried out all items: its report, the text of its journal in version 2 where it was wanted,
-/// and the last ledger.
+/// What a run comes to that carried out all items: its report, the text of its journal in version 2 where it was
+/// wanted, and the last ledger.
 #[derive(Drop, Debug)]
 pub struct WholeRun<M: Undo> {
     pub report: Vec<u8>,
