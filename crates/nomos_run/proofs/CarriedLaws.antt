@@ -1,0 +1,55 @@
+-- What a whole run gives: its report, and the text of its journal.
+use Rattle.std.proofs.Common.{◌≡◌, ◌∙◌, ℕ, List, length, take, Option, Some, sym, ap, subst}
+use Rattle.std.specs.Prelude.{Bool, true, false, IfSome}
+use Rattle.std.proofs.Math.Seq.{take-length}
+use Rattle.nomos_types.specs.Acceptance.{Acceptance}
+use Rattle.nomos_script.specs.declared.item.ScriptItem.{ScriptItem}
+use Rattle.nomos_legal.specs.Legal.{Tells}
+use Rattle.nomos_journal.specs.JournalText.{IsTextOf}
+use Rattle.nomos_journal.specs.declared.line.Version.TheVariants as version
+use Rattle.nomos_report.specs.Reported.{IsReport}
+use Rattle.nomos_run.proofs.WalkLemmas.{some_same}
+use Rattle.nomos_run.specs.Carried.{IsWholeRun, RunsScript, journal_text_of, where_wanted}
+use Rattle.nomos_run.specs.declared.orders.Orders.{Orders}
+use Rattle.nomos_run.specs.declared.orders.ScriptRun.{ScriptRun}
+use Rattle.nomos_run.specs.declared.orders.WholeRun.{WholeRun}
+
+module _ {M : Type 0} {a : Acceptance} {items : List ScriptItem} {orders : Orders} {run : ScriptRun M}
+    (runs : RunsScript a items orders run) (whole : WholeRun M) (given : run.finished ≡ Some whole) where
+  is-whole : (runs.count ≡ length items) × IsWholeRun a orders runs.passages runs.last whole
+  is-whole =
+      subst
+      (λ (o : Option (WholeRun M)).
+      IfSome o (λ f. (runs.count ≡ length items) × IsWholeRun a orders runs.passages runs.last f)) given runs.all
+
+  -- the journal of a whole run is that of all items
+  pub whole-tells : Tells a items run.journal runs.passages runs.last
+  whole-tells =
+      subst (λ (is : List ScriptItem). Tells a is run.journal runs.passages runs.last)
+      (ap (λ (n : ℕ). take n items) is-whole.0 ∙ take-length items) runs.tells
+
+  -- its report is that of its journal
+  pub whole-report : IsReport a items run.journal whole.report.items
+  whole-report = record {
+    passages = runs.passages;
+    last = runs.last;
+    tells = whole-tells;
+    is = is-whole.1.report;
+  }
+
+written : (wanted : Bool) (text all : List ℕ) → Some text ≡ where_wanted wanted all → text ≡ all
+written true text all same = some_same text all same
+written false text all same = absurd cc
+
+-- and its text, where one was wanted
+pub whole-text : {M : Type 0} {a : Acceptance} {items : List ScriptItem} {orders : Orders} {run : ScriptRun M}
+    (runs : RunsScript a items orders run) (whole : WholeRun M) (given : run.finished ≡ Some whole) (text : List ℕ)
+    → Some text ≡ where_wanted orders.text (journal_text_of a orders.limit runs.passages)
+    → IsTextOf version.Two a items run.journal text
+whole-text {a = a} {orders = orders} runs whole given text is = record {
+  passages = runs.passages;
+  last = runs.last;
+  tells = whole-tells runs whole given;
+  lines =
+      written orders.text text _ is ∙ ap (λ (limit : ℕ). journal_text_of a limit runs.passages) (sym runs.limit);
+}

@@ -1,0 +1,7 @@
+mod PaperLemmas
+mod RoomLemmas
+mod WalkLemmas
+mod CarryLemmas
+mod RetellLemmas
+pub mod CarriedLaws
+pub mod EntryLaws

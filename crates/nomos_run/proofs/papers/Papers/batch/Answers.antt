@@ -1,0 +1,8 @@
+use Rattle.nomos_run.proofs.PaperLemmas.{batch-written}
+use Rattle.nomos_run.proofs.papers.Papers.batch.Goals as goal
+
+pub returns : goal.returns
+returns g c = λ batch after same.
+    batch-written c.args.accepted.now batch c.args.outset.line c.args.world.now c.args.end.now after c.args.self.now
+    (record { report = c.batch_on_report.new.sheet; text = c.batch_on_text.new.sheet }) c.requires.stands same
+    c.in_ok-batch_on_report.ensures c.in_ok-batch_on_text.ensures
