@@ -1,0 +1,4 @@
+mod FormLemmas
+mod LineLemmas
+mod ReadingLemmas
+pub mod OneAnswerLaws

@@ -1,0 +1,6 @@
+pub mod Told
+pub mod Stand
+pub mod Spoiled
+pub mod Answers
+pub mod Replayed
+pub mod mirror
