@@ -1,3 +1,5 @@
+mod EndLemmas
+mod FiringLemmas
 mod FormLemmas
 mod LineLemmas
 mod ReadingLemmas

@@ -1,11 +1,12 @@
 //! What a line says that was read.
 
-ghost use Rattle.std.specs.Prelude.{◌≡◌, ◌≢◌, ◌↔◌, ℕ, IsTrue, MatchOption};
+ghost use Rattle.std.specs.Prelude.{◌≡◌, ◌≢◌, ◌↔◌, ℕ, IsTrue, MatchOption, MatchResult};
 ghost use Rattle.nomos_legal.specs.Legal.{IsLimit};
 ghost use Rattle.nomos_legal.specs.declared.journal.End.{End};
 ghost use Rattle.nomos_journal.specs.declared.line.Version.{Version};
 
 use nomos_journal::line::{JournalLine, Version};
+use nomos_legal::journal::End;
 
 /// The most firings that a journal may allow a batch.
 const LIMIT: u32 = 10_000_000;
@@ -38,5 +39,16 @@ pub(crate) fn names_line(line: JournalLine, at: u32) -> bool
     match line {
         JournalLine::Line(named) => named == at,
         _ => false,
+    }
+}
+
+/// The end that a line says, or the line itself.
+pub(crate) fn end_in(line: JournalLine) -> Result<End, JournalLine>
+    ensures { MatchResult result (λ e. line ≡ JournalLine.End e)
+        (λ other. (other ≡ line) × ((e : End) → line ≢ JournalLine.End e)) }
+{
+    match line {
+        JournalLine::End(end) => Ok(end),
+        other => Err(other),
     }
 }

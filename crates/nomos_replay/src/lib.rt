@@ -1,8 +1,11 @@
 //! Journals that are read and run: what their texts tell, or the first line that spoils one.
 #![tactic(auto)]
 
+mod ends;
 pub mod error;
+mod firing;
 mod heading;
 mod kinds;
 mod same;
 mod source;
+mod trial;
