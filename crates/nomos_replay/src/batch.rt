@@ -1,6 +1,6 @@
 //! Batches that a text says, from their first firing to their end.
 
-ghost use Rattle.std.specs.Prelude.{◌≡◌, ◌≤◌, ◌+◌, ◌^◌, ℕ, List, MatchResult, length};
+ghost use Rattle.std.specs.Prelude.{◌≡◌, ◌≤◌, ◌+◌, ◌^◌, ℕ, List, IfOk, MatchResult, length};
 ghost use Rattle.nomos_script.specs.declared.item.Batch.{Batch};
 ghost use Rattle.nomos_script.specs.declared.item.ScriptItem.{ScriptItem};
 ghost use Rattle.nomos_legal.specs.Ending.{IsAllowed};
@@ -32,15 +32,19 @@ pub(crate) fn replay_firings<M: Undo>(
     requires within { length world.old.firings ≤ most }
     requires numbers { HasNumbersFor most world.old }
     ensures read { (all items : List ScriptItem) (batch : Batch) (told : Told) → next_limit told ≡ most → MatchResult result
-        (λ e. IsAllowed trial.now.accepted.now world.new.state (length world.new.firings) most e
-        × Carries trial.now.accepted.now all source.old (fires trial.now.version told (under_way batch world.old) items)
+        (λ e. Carries trial.now.accepted.now all source.old
+        (fires trial.now.version told (under_way batch world.old) items)
         source.new (before trial.now.version (told_run trial.now.accepted.now told (under_way batch world.new) e) items))
         (Stops trial.now.accepted.now all source.old
         (fires trial.now.version told (under_way batch world.old) items)) }
+    ensures allowed { IfOk result
+        (IsAllowed trial.now.accepted.now world.new.state (length world.new.firings) most) }
     ensures counted { IsCounted source.new }
-    ensures ran { RanOn trial.now.accepted.now most world.old world.new }
+    ensures ran { IfOk result (λ _. RanOn trial.now.accepted.now most world.old world.new) }
 {
-    loop {
+    // Where the program is read it is known to be accepted.
+    let _program = trial.accepted.program();
+    'lines: loop {
         let line = source.next_line(trial.alloc, trial.accepted)?;
         match end_in(line) {
             Ok(end) => {
