@@ -117,12 +117,12 @@ data Led (a : Acceptance) (all : List ScriptItem) : List JournalLine → Stand �
       → IsPassage a (next_limit told) (still i (bare at own) told.ledger after)
       → lines ≡ journal_lines v a told.limit told.passages ++ line.Line at ∷ []
       → Led a all lines (stand.owes v told i at own after items)
-  fires : (v : Version) (told : Told) (run : UnderWay) (items : List ScriptItem) (lines : List JournalLine)
-      → ToldSo a all told (item.Batch run.batch ∷ items) → AllStart a told.ledger run.batch.starts run.starts
-      → run a (after_starts a told.ledger run.starts).state run.firings ≡ Some run.state
-      → length run.firings ≤ next_limit told
-      → lines ≡ journal_lines v a told.limit told.passages ++ opened_lines v a told run
-      → Led a all lines (stand.fires v told run items)
+  fires : (v : Version) (told : Told) (way : UnderWay) (items : List ScriptItem) (lines : List JournalLine)
+      → ToldSo a all told (item.Batch way.batch ∷ items) → AllStart a told.ledger way.batch.starts way.starts
+      → run a (after_starts a told.ledger way.starts).state way.firings ≡ Some way.state
+      → length way.firings ≤ next_limit told
+      → lines ≡ journal_lines v a told.limit told.passages ++ opened_lines v a told way
+      → Led a all lines (stand.fires v told way items)
 
 -- the lines of one passage more
 lines-more : (v : Version) (a : Acceptance) (told : Told) (p : Passage) (lines own : List JournalLine)
@@ -131,6 +131,25 @@ lines-more : (v : Version) (a : Acceptance) (told : Told) (p : Passage) (lines o
 lines-more v a told p lines own are is =
     are ∙ ap (λ (ls : List JournalLine). journal_lines v a told.limit told.passages ++ ls) (sym is)
     ∙ flat_map_more (passage_lines v a) (line.Head v ∷ line.Steps told.limit ∷ []) told.passages p
+
+-- a batch that ended is a passage
+run-passage : {a : Acceptance} (told : Told) (run : UnderWay) (e : End) → AllStart a told.ledger run.batch.starts run.starts
+    → RunsTo a (next_limit told) (after_starts a told.ledger run.starts).state run.firings run.state e
+    → IsPassage a (next_limit told)
+    (passage.runs run.batch run.firings e told.ledger (after_starts a told.ledger run.starts) run.state
+    (ledger_after told.ledger (after_starts a told.ledger run.starts) run.state e))
+run-passage told run end.Committed begun reaches =
+    passage.stays told.ledger run.batch run.starts run.firings run.state begun reaches
+run-passage told run end.Blocked begun reaches =
+    passage.undone told.ledger run.batch run.starts run.firings run.state end.Blocked begun reaches tt
+run-passage told run (end.Aborted pid f) begun reaches =
+    passage.undone told.ledger run.batch run.starts run.firings run.state (end.Aborted pid f) begun reaches tt
+run-passage told run (end.Steps n) begun reaches =
+    passage.undone told.ledger run.batch run.starts run.firings run.state (end.Steps n) begun reaches tt
+run-passage told run end.Deposited begun reaches =
+    passage.undone told.ledger run.batch run.starts run.firings run.state end.Deposited begun reaches tt
+run-passage told run (end.Refused n cause) begun reaches =
+    passage.undone told.ledger run.batch run.starts run.firings run.state (end.Refused n cause) begun reaches tt
 
 module _ {a : Acceptance} {all : List ScriptItem} where
   -- what stands behind the `line` of an item
@@ -156,25 +175,6 @@ module _ {a : Acceptance} {all : List ScriptItem} where
         state = (after_starts a told.ledger starts).state;
       })
       items (lines ++ line.Line at ∷ []) so begun refl (omega arith) (λ i. are i ++ line.Line (same i) ∷ [])
-
-  -- a batch that ended is a passage
-  run-passage : (told : Told) (run : UnderWay) (e : End) → AllStart a told.ledger run.batch.starts run.starts
-      → RunsTo a (next_limit told) (after_starts a told.ledger run.starts).state run.firings run.state e
-      → IsPassage a (next_limit told)
-      (passage.runs run.batch run.firings e told.ledger (after_starts a told.ledger run.starts) run.state
-      (ledger_after told.ledger (after_starts a told.ledger run.starts) run.state e))
-  run-passage told run end.Committed begun reaches =
-      passage.stays told.ledger run.batch run.starts run.firings run.state begun reaches
-  run-passage told run end.Blocked begun reaches =
-      passage.undone told.ledger run.batch run.starts run.firings run.state end.Blocked begun reaches tt
-  run-passage told run (end.Aborted pid f) begun reaches =
-      passage.undone told.ledger run.batch run.starts run.firings run.state (end.Aborted pid f) begun reaches tt
-  run-passage told run (end.Steps n) begun reaches =
-      passage.undone told.ledger run.batch run.starts run.firings run.state (end.Steps n) begun reaches tt
-  run-passage told run end.Deposited begun reaches =
-      passage.undone told.ledger run.batch run.starts run.firings run.state end.Deposited begun reaches tt
-  run-passage told run (end.Refused n cause) begun reaches =
-      passage.undone told.ledger run.batch run.starts run.firings run.state (end.Refused n cause) begun reaches tt
 
   -- a line that is right leads on
   led-goes : {s t : Stand} {l : JournalLine} {lines : List JournalLine} → Led a all lines s → Goes a all s l t
@@ -224,16 +224,18 @@ module _ {a : Acceptance} {all : List ScriptItem} where
       before v (told_with told p) items lines (so-more a all told p items so refl (passage.shown told.ledger n))
       (lines-more v a told p lines [] (are ∙ sym (append-nil (journal_lines v a told.limit told.passages))) refl)
 
-  -- The lines that are read up to the end of the text are those of what is told.
-  record ReadTo (told : Told) (lines : List JournalLine) (text : List ℕ) : Type 0 where
+-- The lines that are read up to the end of the text are those of what is told.
+record ReadTo (a : Acceptance) (all : List ScriptItem) (told : Told) (lines : List JournalLine) (text : List ℕ) : Type 0
+  where
     version : Version
     so : ToldSo a all told []
     rest : List JournalLine
     text_is : text ≡ lines_text a.annotations.unit rest
     lines_are : lines ++ rest ≡ journal_lines version a told.limit told.passages
 
+module _ (a : Acceptance) (all : List ScriptItem) where
   read-to : {at : ℕ} {s : Stand} {text : List ℕ} {told : Told} (lines : List JournalLine) → Led a all lines s
-      → Reads a all at s text (Ok told) → ReadTo told lines text
+      → Reads a all at s text (Ok told) → ReadTo a all told lines text
   read-to lines (before w told2 items lines2 so are) (answers.ends at v told) = record {
     version = v;
     so = so;
@@ -241,7 +243,8 @@ module _ {a : Acceptance} {all : List ScriptItem} where
     text_is = refl;
     lines_are = append-nil lines ∙ are;
   }
-  read-to lines led (answers.shows at v told n items text answer rest) = read-to lines (led-show v told n items lines led) rest
+  read-to lines led (answers.shows at v told n items text answer rest) =
+      read-to lines (led-show v told n items lines led) rest
   read-to lines led (answers.goes at s next text left l answer begins goes rest) =
       let further = read-to (lines ++ l ∷ []) (led-goes led goes) rest in
       record {
@@ -264,7 +267,7 @@ pub record IsToldBy (a : Acceptance) (items : List ScriptItem) (text : List ℕ)
 pub answer-legal : {a : Acceptance} {items : List ScriptItem} {text : List ℕ} {told : Told}
     → Answers a items text (Ok told) → IsToldBy a items text told
 answer-legal {a} {items} {text} {told} (answers.reads answer within reads) =
-    let read = read-to [] at_head reads in
+    let read = read-to a items [] at_head reads in
     record {
       version = read.version;
       tells =

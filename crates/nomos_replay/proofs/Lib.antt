@@ -5,7 +5,11 @@ mod FormLemmas
 mod ItemLemmas
 mod LineLemmas
 mod OnwardLemmas
+mod PartLemmas
 mod ReadingLemmas
+mod RefusalLemmas
+mod ScriptLemmas
+mod WalkLemmas
 pub mod LegalTextLaws
 pub mod OneAnswerLaws
 pub mod RoundTripLaws

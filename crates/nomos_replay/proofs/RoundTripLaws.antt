@@ -3,8 +3,8 @@ use Rattle.std.proofs.Common.{◌≡◌, ◌∙◌, ◌+◌, ◌<◌, ◌≤◌,
 use Rattle.std.specs.List.{All, flat_map}
 use Rattle.std.specs.Option.{option_map, option_to_list}
 use Rattle.std.proofs.lemmas.List.Concat.{flat_map-append}
-use Rattle.std.proofs.lemmas.List.Elements.{All-cons, All-head, All-nil, All-tail}
-use Rattle.std.proofs.lemmas.Option.{same_Some}
+use Rattle.std.proofs.lemmas.List.Elements.{All-head, All-tail}
+use Rattle.std.proofs.lemmas.Option.{none-some, same_Some}
 use Rattle.nomos_ir.specs.Instruction.{code_form}
 use Rattle.nomos_ir.specs.declared.code_node.CodeNode.{CodeNode}
 use Rattle.nomos_ir.specs.declared.code_node.CodeNode.TheVariants as code
@@ -13,7 +13,9 @@ use Rattle.nomos_machine.specs.Deeds.{Deed}
 use Rattle.nomos_machine.specs.Optional.{◌>>=◌}
 use Rattle.nomos_machine.specs.Run.{run}
 use Rattle.nomos_machine.specs.State.{State, process_at}
-use Rattle.nomos_machine.specs.Step.{deed, state_after, step}
+use Rattle.nomos_ir.specs.CodeParts.{code_terms}
+use Rattle.nomos_ir.specs.TermsEvaluation.{terms_evaluation}
+use Rattle.nomos_machine.specs.Step.{deed, deed_by, state_after, step}
 use Rattle.nomos_machine.specs.declared.object.Process.{Process}
 use Rattle.nomos_script.specs.declared.item.Batch.{Batch}
 use Rattle.nomos_script.specs.declared.item.ScriptItem.{ScriptItem}
@@ -45,18 +47,7 @@ use Rattle.nomos_replay.specs.Stand.{Goes, Stand, UnderWay, before, fires, says_
 use Rattle.nomos_replay.specs.Stand as stand
 use Rattle.nomos_replay.specs.Told.{Told, next_limit, nothing_told, told_with}
 use Rattle.nomos_replay.specs.declared.error.ReplayError.{ReplayError}
-
--- ---- lists in a row
-
--- what holds of all in a row holds of the first ones and of the others
-all-front : {X : Type 0} (P : X → Type 0) (xs ys : List X) → All P (xs ++ ys) → All P xs
-all-front P [] ys all = All-nil P
-all-front P (x ∷ xs) ys all =
-    All-cons P x xs (All-head P x (xs ++ ys) all) (all-front P xs ys (All-tail P x (xs ++ ys) all))
-
-all-back : {X : Type 0} (P : X → Type 0) (xs ys : List X) → All P (xs ++ ys) → All P ys
-all-back P [] ys all = all
-all-back P (x ∷ xs) ys all = all-back P xs ys (All-tail P x (xs ++ ys) all)
+use Rattle.nomos_replay.proofs.PartLemmas.{all-back, all-front}
 
 -- ---- the line of a firing
 
@@ -85,7 +76,12 @@ step-line version.Two a s t pid steps = at (process_at s pid) refl steps
           ∙ ap (option_map (fired_line a.annotations pid)) there;
       says = says-fired_line a pid n;
     }
-    by p found None there is = absurd ?
+    by p found None there is =
+        absurd
+        (let never : None ≡ Some t =
+        ap (λ (o : Option CodeNode). (o >>= λ n. deed_by a s p n (terms_evaluation a.program p.values (code_terms n)))
+        >>= state_after s) (sym there) ∙ is in
+        none-some t never)
     at : (o : Option Process) → process_at s pid ≡ o → ((o >>= deed a s) >>= state_after s) ≡ Some t
         → HasLine version.Two a s pid
     at (Some p) found is = by p found (slice_get a.program.code p.code.0) refl is

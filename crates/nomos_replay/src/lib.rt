@@ -9,6 +9,8 @@ mod heading;
 mod item;
 mod kinds;
 mod notes;
+pub mod refused;
+pub mod replay;
 mod same;
 mod source;
 mod trial;

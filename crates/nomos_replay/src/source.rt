@@ -1,6 +1,6 @@
 //! The lines of a journal's text, as they are read and counted.
 
-ghost use Rattle.std.specs.Prelude.{IfOk, IfErr};
+ghost use Rattle.std.specs.Prelude.{◌≡◌, ◌↔◌, [], IfOk, IfErr, IsTrue};
 ghost use Rattle.nomos_replay.specs.mirror.Reading.{HasRead, IsCounted, IsNoLine};
 
 use crate::error::ReplayError;
@@ -41,6 +41,17 @@ impl<'a> Source<'a> {
             }
             Some(TextLine::Cut(_)) => Err(ReplayError::BadLine(self.at + 1)),
             None => Err(ReplayError::BadLine(self.at + 1)),
+        }
+    }
+
+    /// Whether no line is left. A line that is left is taken, and not counted.
+    pub(crate) fn is_over(&mut self) -> bool
+        ensures over { IsTrue result ↔ (self.old.lines ≡ []) }
+        ensures at { self.new.at ≡ self.old.at }
+    {
+        match self.lines.next_line() {
+            Some(_) => false,
+            None => true,
         }
     }
 }

@@ -1,17 +1,21 @@
 -- A mirror: what the code keeps of the items that were told.
-use Rattle.std.specs.Prelude.{◌≡◌, ◌≤◌, ◌+◌, ◌-◌, ◌^◌, ℕ, List, length}
+use Rattle.std.specs.Prelude.{◌≡◌, ◌≤◌, ◌+◌, ◌-◌, ◌^◌, ℕ, List, [], length, Ok}
 use Rattle.nomos_types.specs.Acceptance.{Acceptance}
 use Rattle.nomos_script.specs.declared.item.ScriptItem.{ScriptItem}
 use Rattle.nomos_legal.specs.Ledger.{LedgerState}
-use Rattle.nomos_legal.specs.Legal.{entries_of, firings_made, max_firings}
+use Rattle.nomos_legal.specs.Legal.{IsLimit, entries_of, firings_made, max_firings}
 use Rattle.nomos_legal.specs.NextNumbers.{HasNumbered}
 use Rattle.nomos_legal.specs.World.{WorldState, committed}
 use Rattle.nomos_legal.specs.declared.journal.End.{End}
 use Rattle.nomos_legal.specs.declared.journal.End.TheVariants as end
+use Rattle.nomos_legal.specs.declared.journal.Journal.{Journal}
 use Rattle.nomos_journal.specs.declared.line.Version.{Version}
+use Rattle.nomos_report.specs.Block.{accepted_block}
 use Rattle.nomos_report.specs.Reported.{report_of}
+use Rattle.nomos_replay.specs.Answers.{Answers, Reads}
 use Rattle.nomos_replay.specs.Stand.{Stand, before}
-use Rattle.nomos_replay.specs.Told.{Told}
+use Rattle.nomos_replay.specs.Told.{Told, journal_of, nothing_told}
+use Rattle.nomos_replay.specs.declared.item.Reading.{Reading}
 use Rattle.nomos_replay.specs.declared.notes.Notes.{Notes}
 use Rattle.nomos_replay.specs.declared.source.Source.{Source}
 use Rattle.nomos_replay.specs.mirror.Reading.{Carries}
@@ -48,3 +52,38 @@ pub record Rises (starts accounts made : ℕ) (l : LedgerState) (after : ℕ) (k
   pub more : made ≤ after
   pub few : after ≤ max_firings
   pub accounts_few : length k.accounts ≤ length l.accounts + accounts
+
+-- nothing was told yet
+pub record AreFresh (a : Acceptance) (notes : Notes) : Type 0 where
+  pub limit : IsLimit notes.limit
+  pub made : notes.made ≡ 0
+  pub entries : notes.entries.items ≡ []
+  pub report : notes.report.items ≡ accepted_block a
+
+-- From the first items others are left, and the notes are those of what was told of the ones before them.
+pub record ToldUpTo (a : Acceptance) (v : Version) (first later : Reading) (items left : List ScriptItem) (l : LedgerState)
+    : Type 0 where
+  pub told : Told
+  pub ledger : told.ledger ≡ l
+  pub keeps : Keeps a later.notes told
+  pub carries : (all : List ScriptItem)
+      → Carries a all first.source (before v (nothing_told first.notes.limit) items) later.source (before v told left)
+
+-- All is told, and the text ends.
+pub record AllTold (a : Acceptance) (v : Version) (first : Reading) (items : List ScriptItem) (journal : Journal)
+    (l : LedgerState) (printed : List ℕ) : Type 0 where
+  pub told : Told
+  pub ledger : told.ledger ≡ l
+  pub journal_is : journal_of told ≡ journal
+  pub report : report_of a told.passages ≡ printed
+  pub reads : (all : List ScriptItem)
+      → Reads a all (first.source.at + 1) (before v (nothing_told first.notes.limit) items) first.source.lines (Ok told)
+
+-- What is answered of the text: all of this is told.
+pub record IsAnswered (a : Acceptance) (items : List ScriptItem) (text : List ℕ) (journal : Journal) (l : LedgerState)
+    (printed : List ℕ) : Type 0 where
+  pub told : Told
+  pub answers : Answers a items text (Ok told)
+  pub ledger : told.ledger ≡ l
+  pub journal_is : journal_of told ≡ journal
+  pub report : report_of a told.passages ≡ printed
