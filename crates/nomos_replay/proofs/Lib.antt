@@ -10,6 +10,8 @@ mod ReadingLemmas
 mod RefusalLemmas
 mod ScriptLemmas
 mod WalkLemmas
+pub mod FormLaws
 pub mod LegalTextLaws
+pub mod LengthLaws
 pub mod OneAnswerLaws
 pub mod RoundTripLaws

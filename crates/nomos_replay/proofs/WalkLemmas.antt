@@ -3,27 +3,31 @@ use Rattle.std.proofs.Common.{◌≡◌, ◌≢◌, ◌∙◌, ◌+◌, ◌<◌,
 use Rattle.std.proofs.lemmas.Result.{MatchResult-weaker}
 use Rattle.nomos_types.specs.Acceptance.{Acceptance, IsAccepted}
 use Rattle.nomos_script.specs.declared.item.ScriptItem.{ScriptItem}
+use Rattle.nomos_script.specs.Size.{IsScriptSize}
 use Rattle.nomos_legal.specs.Ledger.{LedgerState, empty_ledger}
 use Rattle.nomos_legal.specs.Legal.{Tells}
 use Rattle.nomos_legal.specs.NextNumbers.{HasNumbered}
 use Rattle.nomos_legal.specs.declared.journal.Journal.{Journal}
-use Rattle.nomos_journal.specs.JournalText.{journal_lines}
+use Rattle.nomos_journal.specs.JournalText.{IsTextOf, journal_lines}
 use Rattle.nomos_journal.specs.Text.{lines_text}
 use Rattle.nomos_journal.specs.declared.line.JournalLine.{JournalLine}
 use Rattle.nomos_journal.specs.declared.line.Version.{Version}
 use Rattle.nomos_report.specs.Block.{accepted_block}
 use Rattle.nomos_replay.specs.Answers.{Answers, BeginsWith, HasNoForm, Reads, max_bytes}
 use Rattle.nomos_replay.specs.Answers as answers
-use Rattle.nomos_replay.specs.Replayed.{HasReplayed, IsLegalText, IsRefusedSo}
+use Rattle.nomos_replay.specs.Replayed.{HasReplayed, IsRefusedSo}
 use Rattle.nomos_replay.specs.Stand.{MayStand, Stand, at_head, at_steps, before}
 use Rattle.nomos_replay.specs.Told.{Told, journal_of, nothing_told}
+use Rattle.nomos_replay.specs.Written.{AreWritten}
 use Rattle.nomos_replay.specs.declared.error.ReplayError.{ReplayError}
 use Rattle.nomos_replay.specs.declared.error.ReplayError.TheVariants as error
 use Rattle.nomos_replay.specs.declared.item.Reading.{Reading}
 use Rattle.nomos_replay.specs.declared.source.Source.{Source}
-use Rattle.nomos_replay.specs.mirror.Items.{AllTold, AreFresh, IsAnswered, Keeps, Onward, ToldUpTo}
+use Rattle.nomos_replay.specs.mirror.Items.{AllTold, AreFresh, IsAnswered, IsLegalText, Keeps, Onward, ToldUpTo}
 use Rattle.nomos_replay.specs.mirror.Reading.{Carries, Stops}
+use Rattle.nomos_replay.proofs.FormLaws.{journal-form}
 use Rattle.nomos_replay.proofs.LegalTextLaws.{answer-legal}
+use Rattle.nomos_replay.proofs.LengthLaws.{journal-within}
 use Rattle.nomos_replay.proofs.OneAnswerLaws.{answers-one}
 use Rattle.nomos_replay.proofs.ReadingLemmas.{carries-on, carries-same, stops-later}
 use Rattle.nomos_replay.proofs.RoundTripLaws.{legal-answer}
@@ -214,3 +218,20 @@ module _ (a : Acceptance) (items : List ScriptItem) (text : List ℕ) (within : 
       answered a items text within v first (journal_in x) (ledger_in x) (printed_in x) carries all
   answer-all journal_in ledger_in printed_in (Err e) stops =
       refused-so a items text within e (stops-later a items carries e (stops items))
+
+-- the text of a legal journal has lines, and is short enough to be read
+pub text-legal : {a : Acceptance} → IsAccepted a → {items : List ScriptItem} → IsScriptSize items → AreWritten items
+    → (v : Version) (journal : Journal) {text : List ℕ} → IsTextOf v a items journal text
+    → IsLegalText a items journal text
+text-legal {a} accepted size written v journal {text} is =
+    let forms = journal-form accepted v size written is.tells in
+    record {
+      version = v;
+      passages = is.passages;
+      last = is.last;
+      tells = is.tells;
+      forms = forms;
+      lines = is.lines;
+      within =
+          subst (λ (t : List ℕ). length t ≤ max_bytes) (sym is.lines) (journal-within accepted v size written is.tells forms);
+    }

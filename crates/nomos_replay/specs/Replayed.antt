@@ -1,5 +1,5 @@
 -- What the reading of a journal gives, and why it is refused.
-use Rattle.std.specs.Prelude.{◌≡◌, ◌≤◌, ℕ, List, Ok, Err, All, length}
+use Rattle.std.specs.Prelude.{◌≡◌, ℕ, List, Err}
 use Rattle.nomos_types.specs.Acceptance.{Acceptance}
 use Rattle.nomos_script.specs.declared.item.ScriptItem.{ScriptItem}
 use Rattle.nomos_legal.specs.Ledger.{LedgerState}
@@ -7,11 +7,10 @@ use Rattle.nomos_legal.specs.Legal.{Tells}
 use Rattle.nomos_legal.specs.Passage.{Passage}
 use Rattle.nomos_legal.specs.declared.journal.Journal.{Journal}
 use Rattle.nomos_journal.specs.JournalText.{journal_lines}
-use Rattle.nomos_journal.specs.Line.{IsLine}
 use Rattle.nomos_journal.specs.Text.{lines_text}
 use Rattle.nomos_journal.specs.declared.line.Version.{Version}
 use Rattle.nomos_report.specs.Reported.{report_of}
-use Rattle.nomos_replay.specs.Answers.{Answers, max_bytes}
+use Rattle.nomos_replay.specs.Answers.{Answers}
 use Rattle.nomos_replay.specs.declared.error.ReplayError.{ReplayError}
 use Rattle.nomos_replay.specs.declared.error.ReplayError.TheVariants as error
 
@@ -29,14 +28,3 @@ pub record HasReplayed (a : Acceptance) (items : List ScriptItem) (text : List �
 abbrev pub IsRefusedSo : Acceptance → List ScriptItem → List ℕ → ReplayError → Type 0
 IsRefusedSo a items text error.NoMemory = Unit {0}
 IsRefusedSo a items text e = Answers a items text (Err e)
-
--- The text is that of this legal journal, in one of the versions. Each of its lines is a line, whose numbers are within
--- their bits, and it is not too long.
-pub record IsLegalText (a : Acceptance) (items : List ScriptItem) (journal : Journal) (text : List ℕ) : Type 0 where
-  pub version : Version
-  pub passages : List Passage
-  pub last : LedgerState
-  pub tells : Tells a items journal passages last
-  pub forms : All IsLine (journal_lines version a journal.limit passages)
-  pub lines : text ≡ lines_text a.annotations.unit (journal_lines version a journal.limit passages)
-  pub within : length text ≤ max_bytes

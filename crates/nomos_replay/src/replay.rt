@@ -6,7 +6,10 @@ ghost use Rattle.nomos_script.specs.declared.item.ScriptItem.{ScriptItem};
 ghost use Rattle.nomos_legal.specs.Legal.{IsLimit, Tells};
 ghost use Rattle.nomos_legal.specs.StandsFor.{StandsFor};
 ghost use Rattle.nomos_report.specs.Block.{accepted_block};
-ghost use Rattle.nomos_replay.specs.Replayed.{HasReplayed, IsLegalText, IsRefusedSo};
+ghost use Rattle.nomos_replay.specs.Replayed.{HasReplayed, IsRefusedSo};
+ghost use Rattle.nomos_replay.specs.Written.{AreWritten};
+ghost use Rattle.nomos_journal.specs.JournalText.{IsTextOf};
+ghost use Rattle.nomos_journal.specs.declared.line.Version.{Version};
 ghost use Rattle.nomos_replay.specs.Answers.{max_bytes};
 ghost use Rattle.nomos_legal.specs.declared.journal.Journal.{Journal};
 ghost use Rattle.nomos_replay.specs.Stand.{before};
@@ -156,12 +159,14 @@ pub fn replay<M: Undo + Drop>(
 ) -> Result<Replayed<M>, ReplayError>
     ensures ok { IfOk result (λ r. HasReplayed accepted.now script.now bytes.now r.journal r.ledger r.report.items) }
     ensures err { IfErr result (IsRefusedSo accepted.now script.now bytes.now) }
-    ensures legal { (journal : Journal) → IsLegalText accepted.now script.now journal bytes.now → MatchResult result
-        (λ r. r.journal ≡ journal) (λ e. e ≡ ReplayError.NoMemory) }
+    ensures legal { AreWritten script.now → (v : Version) (journal : Journal)
+        → IsTextOf v accepted.now script.now journal bytes.now
+        → MatchResult result (λ r. r.journal ≡ journal) (λ e. e ≡ ReplayError.NoMemory) }
     ensures stands { IfOk result (λ r. StandsFor accepted.now r.ledger) }
 {
-    // Where the program is read it is known to be accepted.
+    // Where the program is read it is known to be accepted, and where the items are, how many they are.
     let _program = accepted.program();
+    let _items = script.items();
     if bytes.len() > MAX_BYTES {
         return Err(ReplayError::TooLong);
     }

@@ -1,18 +1,22 @@
 -- A mirror: what the code keeps of the items that were told.
-use Rattle.std.specs.Prelude.{◌≡◌, ◌≤◌, ◌+◌, ◌-◌, ◌^◌, ℕ, List, [], length, Ok}
+use Rattle.std.specs.Prelude.{◌≡◌, ◌≤◌, ◌+◌, ◌-◌, ◌^◌, ℕ, List, [], length, Ok, All}
 use Rattle.nomos_types.specs.Acceptance.{Acceptance}
 use Rattle.nomos_script.specs.declared.item.ScriptItem.{ScriptItem}
 use Rattle.nomos_legal.specs.Ledger.{LedgerState}
-use Rattle.nomos_legal.specs.Legal.{IsLimit, entries_of, firings_made, max_firings}
+use Rattle.nomos_legal.specs.Legal.{IsLimit, Tells, entries_of, firings_made, max_firings}
 use Rattle.nomos_legal.specs.NextNumbers.{HasNumbered}
+use Rattle.nomos_legal.specs.Passage.{Passage}
 use Rattle.nomos_legal.specs.World.{WorldState, committed}
 use Rattle.nomos_legal.specs.declared.journal.End.{End}
 use Rattle.nomos_legal.specs.declared.journal.End.TheVariants as end
 use Rattle.nomos_legal.specs.declared.journal.Journal.{Journal}
+use Rattle.nomos_journal.specs.JournalText.{journal_lines}
+use Rattle.nomos_journal.specs.Line.{IsLine}
+use Rattle.nomos_journal.specs.Text.{lines_text}
 use Rattle.nomos_journal.specs.declared.line.Version.{Version}
 use Rattle.nomos_report.specs.Block.{accepted_block}
 use Rattle.nomos_report.specs.Reported.{report_of}
-use Rattle.nomos_replay.specs.Answers.{Answers, Reads}
+use Rattle.nomos_replay.specs.Answers.{Answers, Reads, max_bytes}
 use Rattle.nomos_replay.specs.Stand.{Stand, before}
 use Rattle.nomos_replay.specs.Told.{Told, journal_of, nothing_told}
 use Rattle.nomos_replay.specs.declared.item.Reading.{Reading}
@@ -87,3 +91,14 @@ pub record IsAnswered (a : Acceptance) (items : List ScriptItem) (text : List �
   pub ledger : told.ledger ≡ l
   pub journal_is : journal_of told ≡ journal
   pub report : report_of a told.passages ≡ printed
+
+-- The text is that of this legal journal, in one of the versions. Each of its lines is a line, whose numbers are within
+-- their bits, and it is not too long.
+pub record IsLegalText (a : Acceptance) (items : List ScriptItem) (journal : Journal) (text : List ℕ) : Type 0 where
+  pub version : Version
+  pub passages : List Passage
+  pub last : LedgerState
+  pub tells : Tells a items journal passages last
+  pub forms : All IsLine (journal_lines version a journal.limit passages)
+  pub lines : text ≡ lines_text a.annotations.unit (journal_lines version a journal.limit passages)
+  pub within : length text ≤ max_bytes
