@@ -54,8 +54,7 @@ module _ (a : Acceptance) (v : Version) (most : ℕ) (l : JournalLine) (before a
       → option_map (λ (q : Process). q.code) (process_at before.state pid) ≡ Some place → (same : Bool) → same ≡ false
       → Tells same → (s : State) × (step a before.state pid ≡ Some s) × (firing_line v a before.state pid ≢ Some l)
   fired-otherwise fired is fires at same false_is tells =
-      let has = has-fired fired is fires in
-      (
+      let has = has-fired fired is fires in (
         after.state,
         has.steps,
         λ is_line. false≢true (sym false_is ∙ (tells-here fired is fires at same tells).1 is_line),

@@ -202,6 +202,7 @@ rises-run {a} accepted {w} stands e made few = by e
       few = few;
       accounts_few = omega arith;
     }
+
     by : (e : End) → Rises (length w.starts) 0 made w.origin (made + length w.firings) (left_by w e)
     by end.Committed = record {
       numbered = λ n is.

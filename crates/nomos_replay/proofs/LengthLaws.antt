@@ -74,17 +74,24 @@ pid-bytes unit pid small =
 firing-bytes : (v : Version) (a : Acceptance) (s : State) (pid : ℕ) → All IsLine (option_to_list (firing_line v a s pid))
     → bytes_of a.annotations.unit (option_to_list (firing_line v a s pid)) ≤ 37
 firing-bytes version.One a s pid are =
-    omega (arith, bytes-one a.annotations.unit (line.Pid pid),
-    pid-bytes a.annotations.unit pid (All-head IsLine (line.Pid pid) [] are))
+    omega (
+      arith,
+      bytes-one a.annotations.unit (line.Pid pid),
+      pid-bytes a.annotations.unit pid (All-head IsLine (line.Pid pid) [] are),
+    )
 firing-bytes version.Two a s pid are = at (process_at s pid) are
   where
     by : (pid : ℕ) (o : Option CodeNode)
         → All IsLine (option_to_list (option_map (fired_line a.annotations pid) o))
         → bytes_of a.annotations.unit (option_to_list (option_map (fired_line a.annotations pid) o)) ≤ 37
     by pid (Some n) are =
-        omega (arith, bytes-one a.annotations.unit (fired_line a.annotations pid n),
-        fired-bytes a.annotations.unit a.annotations pid n (All-head IsLine (fired_line a.annotations pid n) [] are))
+        omega (
+          arith,
+          bytes-one a.annotations.unit (fired_line a.annotations pid n),
+          fired-bytes a.annotations.unit a.annotations pid n (All-head IsLine (fired_line a.annotations pid n) [] are),
+        )
     by pid None are = omega arith
+
     at : (o : Option Process) → All IsLine (option_to_list (o >>= λ q. placed_line a pid q.code))
         → bytes_of a.annotations.unit (option_to_list (o >>= λ q. placed_line a pid q.code)) ≤ 37
     at (Some p) are = by pid (slice_get a.program.code p.code.0) are
@@ -96,9 +103,12 @@ firings-bytes v a s [] are = omega arith
 firings-bytes v a s (pid ∷ pids) are =
     let first = option_to_list (firing_line v a s pid) in
     let rest = firing_lines v a (state_or s (step a s pid)) pids in
-    omega (arith, bytes-append a.annotations.unit first rest,
-    firing-bytes v a s pid (all-front IsLine first rest are),
-    firings-bytes v a (state_or s (step a s pid)) pids (all-back IsLine first rest are))
+    omega (
+      arith,
+      bytes-append a.annotations.unit first rest,
+      firing-bytes v a s pid (all-front IsLine first rest are),
+      firings-bytes v a (state_or s (step a s pid)) pids (all-back IsLine first rest are),
+    )
 
 -- ---- passages
 
@@ -112,9 +122,14 @@ entry-bytes a accepted at e firings most small below are few =
     let tail = All-tail IsLine (line.Line at) (firings ++ line.End e ∷ []) are in
     let is_end : IsEnd e = All-head IsLine (line.End e) [] (all-back IsLine firings (line.End e ∷ []) tail) in
     let unit_small : unit < 2 ^ 32 = omega (arith, accepted.small_unit) in
-    omega (arith, bytes-first unit (line.Line at) (firings ++ line.End e ∷ []),
-    bytes-append unit firings (line.End e ∷ []), bytes-one unit (line.End e),
-    length-frame_line unit at e unit_small small is_end below, few)
+    omega (
+      arith,
+      bytes-first unit (line.Line at) (firings ++ line.End e ∷ []),
+      bytes-append unit firings (line.End e ∷ []),
+      bytes-one unit (line.End e),
+      length-frame_line unit at e unit_small small is_end below,
+      few,
+    )
 
 -- an end that is allowed names no line
 allowed-below : (a : Acceptance) (s : State) (count most : ℕ) (e : End) → IsAllowed a s count most e → HasLineBelow 7 e
@@ -134,25 +149,36 @@ module _ {a : Acceptance} (accepted : IsAccepted a) (v : Version) where
   passage-bytes (passage.no_deposit l at units name never) written are =
       omega (arith, entry-bytes a accepted at (end.Refused at refusal.TooMuchGas) [] 0 written written are (omega arith))
   passage-bytes (passage.refused l b at cause refuses) written are =
-      omega (arith, entry-bytes a accepted b.line (end.Refused at cause) [] 0 written.0
-      (refuses-form accepted refuses written.1).0 are (omega arith))
+      omega (
+        arith,
+        entry-bytes a accepted b.line (end.Refused at cause) [] 0 written.0
+            (refuses-form accepted refuses written.1).0 are (omega arith),
+      )
   passage-bytes (passage.stays l b starts pids last begun reaches) written are =
       let lines = firing_lines v a (after_starts a l starts).state pids in
       let all = all-front IsLine (line.Line b.line ∷ (lines ++ line.End end.Committed ∷ [])) [] are in
       let inner = all-front IsLine lines (line.End end.Committed ∷ [])
       (All-tail IsLine (line.Line b.line) (lines ++ line.End end.Committed ∷ []) all) in
       let same = ap (bytes_of a.annotations.unit) (append-nil (line.Line b.line ∷ (lines ++ line.End end.Committed ∷ []))) in
-      omega (arith, same, entry-bytes a accepted b.line end.Committed lines (37 * length pids) written.0 tt all
-      (firings-bytes v a (after_starts a l starts).state pids inner))
+      omega (
+        arith,
+        same,
+        entry-bytes a accepted b.line end.Committed lines (37 * length pids) written.0 tt all
+            (firings-bytes v a (after_starts a l starts).state pids inner),
+      )
   passage-bytes (passage.undone l b starts pids last e begun reaches undoes) written are =
       let lines = firing_lines v a (after_starts a l starts).state pids in
       let all = all-front IsLine (line.Line b.line ∷ (lines ++ line.End e ∷ [])) [] are in
       let inner = all-front IsLine lines (line.End e ∷ [])
       (All-tail IsLine (line.Line b.line) (lines ++ line.End e ∷ []) all) in
       let same = ap (bytes_of a.annotations.unit) (append-nil (line.Line b.line ∷ (lines ++ line.End e ∷ []))) in
-      omega (arith, same, entry-bytes a accepted b.line e lines (37 * length pids) written.0
-      (allowed-below a last (length pids) _ e reaches.allowed) all
-      (firings-bytes v a (after_starts a l starts).state pids inner))
+      omega (
+        arith,
+        same,
+        entry-bytes a accepted b.line e lines (37 * length pids) written.0
+            (allowed-below a last (length pids) _ e reaches.allowed) all
+            (firings-bytes v a (after_starts a l starts).state pids inner),
+      )
   passage-bytes (passage.shown l at) written are = omega arith
 
   -- the entries of the first item, and those of the others
@@ -171,10 +197,14 @@ module _ {a : Acceptance} (accepted : IsAccepted a) (v : Version) where
       let item_of : Passage → ScriptItem = λ x. x.item in
       let first = passage_lines v a p in
       let others = flat_map (passage_lines v a) ps in
-      omega (arith, bytes-append a.annotations.unit first others,
-      passage-bytes is (All-head IsWritten p.item (map item_of ps) written) (all-front IsLine first others are),
-      leads-bytes rest (All-tail IsWritten p.item (map item_of ps) written) (all-back IsLine first others are),
-      first-entries p.item (map item_of ps), first-made p ps)
+      omega (
+        arith,
+        bytes-append a.annotations.unit first others,
+        passage-bytes is (All-head IsWritten p.item (map item_of ps) written) (all-front IsLine first others are),
+        leads-bytes rest (All-tail IsWritten p.item (map item_of ps) written) (all-back IsLine first others are),
+        first-entries p.item (map item_of ps),
+        first-made p ps,
+      )
 
   -- The text of a legal journal is short enough to be read, where the items are as a script has them.
   pub journal-within : {items : List ScriptItem} {journal : Journal} {ps : List Passage} {last : LedgerState}
@@ -188,16 +218,28 @@ module _ {a : Acceptance} (accepted : IsAccepted a) (v : Version) where
       let tail = All-tail IsLine (line.Head v) (line.Steps journal.limit ∷ rest) are in
       let entries = ap entry_count tells.items_are in
       let firings = ap firings_made tells.entries_are in
-      omega (arith, bytes-first unit (line.Head v) (line.Steps journal.limit ∷ rest),
-      bytes-first unit (line.Steps journal.limit) rest, head-bytes unit v,
-      steps-bytes unit journal.limit (omega (arith, tells.limit.few)),
-      leads-bytes tells.leads items_written (All-tail IsLine (line.Steps journal.limit) rest tail),
-      entries, firings, size.entries, tells-within tells)
+      omega (
+        arith,
+        bytes-first unit (line.Head v) (line.Steps journal.limit ∷ rest),
+        bytes-first unit (line.Steps journal.limit) rest,
+        head-bytes unit v,
+        steps-bytes unit journal.limit (omega (arith, tells.limit.few)),
+        leads-bytes tells.leads items_written (All-tail IsLine (line.Steps journal.limit) rest tail),
+        entries,
+        firings,
+        size.entries,
+        tells-within tells,
+      )
     where
       head-bytes : (unit : ℕ) (v : Version) → length (line_text unit (line.Head v) ++ 10 ∷ []) ≤ 16
       head-bytes unit version.One = omega arith
       head-bytes unit version.Two = omega arith
+
       steps-bytes : (unit n : ℕ) → n < 2 ^ 32 → length (line_text unit (line.Steps n) ++ 10 ∷ []) ≤ 17
       steps-bytes unit n small =
-          omega (arith, length-append (codes "steps " ++ decimal n) (10 ∷ []), length-append (codes "steps ") (decimal n),
-          length-decimal_32 n small)
+          omega (
+            arith,
+            length-append (codes "steps " ++ decimal n) (10 ∷ []),
+            length-append (codes "steps ") (decimal n),
+            length-decimal_32 n small,
+          )

@@ -1,5 +1,6 @@
 mod BatchLemmas
 mod EndLemmas
+mod Examples
 mod FiringLemmas
 mod FormLemmas
 mod ItemLemmas

@@ -82,6 +82,7 @@ step-line version.Two a s t pid steps = at (process_at s pid) refl steps
         ap (λ (o : Option CodeNode). (o >>= λ n. deed_by a s p n (terms_evaluation a.program p.values (code_terms n)))
         >>= state_after s) (sym there) ∙ is in
         none-some t never)
+
     at : (o : Option Process) → process_at s pid ≡ o → ((o >>= deed a s) >>= state_after s) ≡ Some t
         → HasLine version.Two a s pid
     at (Some p) found is = by p found (slice_get a.program.code p.code.0) refl is
@@ -296,8 +297,13 @@ module _ (a : Acceptance) (all : List ScriptItem) (v : Version) where
       let lines = passage_lines v a p in
       let others = flat_map (passage_lines v a) ps in
       let more : made + length (firings_in p.entry) ≡ firings_made (entries_of (qs ++ p ∷ [])) =
-      omega (arith, count, first-made p [], ap firings_made (entries_of-append qs (p ∷ [])),
-      firings_made-append (entries_of qs) (entries_of (p ∷ []))) in
+      omega (
+        arith,
+        count,
+        first-made p [],
+        ap firings_made (entries_of-append qs (p ∷ [])),
+        firings_made-append (entries_of qs) (entries_of (p ∷ [])),
+      ) in
       let rest = reads-leads limit leads (qs ++ p ∷ []) more (all-back IsLine lines others are) in
       let told = subst
       (λ (rs : List Passage). ReadsOn (before v (up_to limit (qs ++ p ∷ []) p.after) (map (λ (x : Passage). x.item) ps))

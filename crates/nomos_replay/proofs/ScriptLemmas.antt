@@ -42,10 +42,18 @@ item-at items k i within is =
       left = left;
       starts = omega (arith, starts, start_count-append (take k items) (i ∷ []));
       all_starts =
-          omega (arith, all_starts, start_count-append (take k items) (i ∷ drop (k + 1) items),
-          start_count-append (i ∷ []) (drop (k + 1) items));
+          omega (
+            arith,
+            all_starts,
+            start_count-append (take k items) (i ∷ drop (k + 1) items),
+            start_count-append (i ∷ []) (drop (k + 1) items),
+          );
       entries = omega (arith, entries, entry_count-append (take k items) (i ∷ []));
       all_entries =
-          omega (arith, all_entries, entry_count-append (take k items) (i ∷ drop (k + 1) items),
-          entry_count-append (i ∷ []) (drop (k + 1) items));
+          omega (
+            arith,
+            all_entries,
+            entry_count-append (take k items) (i ∷ drop (k + 1) items),
+            entry_count-append (i ∷ []) (drop (k + 1) items),
+          );
     }

@@ -163,8 +163,10 @@ module _ (a : Acceptance) (items : List ScriptItem) (text : List ℕ) where
     where
       given : Answers a items text (Ok (record { limit = journal.limit; passages = legal.passages; ledger = legal.last }))
       given = legal-answer legal.version legal.tells legal.forms text legal.lines legal.within
+
       never : (e : ReplayError) → Answers a items text (Err e) → ⊥
       never e other = let same = answers-one accepted other given in cc
+
       by : (e : ReplayError) → IsRefusedSo a items text e → e ≡ error.NoMemory
       by error.NoMemory is = refl
       by error.TooLong is = absurd (never error.TooLong is)

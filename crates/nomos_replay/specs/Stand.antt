@@ -84,23 +84,24 @@ pub data MayStand : Stand → JournalLine → Type 0 where
 
 -- What stands behind the `line` of an item, where the ledger before it is this one: a deposit, and a batch of which a
 -- line is refused, has an end of its own; the lines of another batch start.
-pub data Opens (a : Acceptance) (v : Version) (told : Told) (items : List ScriptItem) : ScriptItem → Stand → Type 0 where
-  deposit : (at : ℕ) (name : List ℕ) (units : ℕ) (own : End) (after : LedgerState)
-      → Deposits a told.ledger at name units own after
-      → Opens a v told items (item.Deposit at name units) (owes v told (item.Deposit at name units) at own after items)
-  refused : (batch : Batch) (at : ℕ) (cause : Refusal) → OneRefuses a told.ledger batch.starts at cause
-      → Opens a v told items (item.Batch batch)
-      (owes v told (item.Batch batch) batch.line (end.Refused at cause) told.ledger items)
-  started : (batch : Batch) (starts : List Resolved) → AllStart a told.ledger batch.starts starts
-      → Opens a v told items (item.Batch batch)
-      (fires v told
-      (record {
-        batch = batch;
-        starts = starts;
-        firings = [];
-        state = (after_starts a told.ledger starts).state;
-      })
-      items)
+pub data Opens (a : Acceptance) (v : Version) (told : Told) (items : List ScriptItem) : ScriptItem → Stand → Type 0
+  where
+    deposit : (at : ℕ) (name : List ℕ) (units : ℕ) (own : End) (after : LedgerState)
+        → Deposits a told.ledger at name units own after
+        → Opens a v told items (item.Deposit at name units) (owes v told (item.Deposit at name units) at own after items)
+    refused : (batch : Batch) (at : ℕ) (cause : Refusal) → OneRefuses a told.ledger batch.starts at cause
+        → Opens a v told items (item.Batch batch)
+        (owes v told (item.Batch batch) batch.line (end.Refused at cause) told.ledger items)
+    started : (batch : Batch) (starts : List Resolved) → AllStart a told.ledger batch.starts starts
+        → Opens a v told items (item.Batch batch)
+        (fires v told
+        (record {
+          batch = batch;
+          starts = starts;
+          firings = [];
+          state = (after_starts a told.ledger starts).state;
+        })
+        items)
 
 -- the ledger after a batch that ends so: it stays, or is undone
 abbrev pub ledger_after : LedgerState → LedgerState → State → End → LedgerState
@@ -126,8 +127,8 @@ pub data Goes (a : Acceptance) (all : List ScriptItem) : Stand → JournalLine �
       (items : List ScriptItem) (kept : End) → kept ≡ own
       → Goes a all (owes v told i at own after items) (line.End kept)
       (before v (told_with told (still i (bare at own) told.ledger after)) items)
-  firing : (v : Version) (told : Told) (run : UnderWay) (items : List ScriptItem) (l : JournalLine) (pid : ℕ) (s : State)
-      → SaysFiring v told run l pid → step a run.state pid ≡ Some s → firing_line v a run.state pid ≡ Some l
+  firing : (v : Version) (told : Told) (run : UnderWay) (items : List ScriptItem) (l : JournalLine) (pid : ℕ)
+      (s : State) → SaysFiring v told run l pid → step a run.state pid ≡ Some s → firing_line v a run.state pid ≡ Some l
       → Goes a all (fires v told run items) l
       (fires v told (record run { firings = run.firings ++ pid ∷ []; state = s }) items)
   batch_end : (v : Version) (told : Told) (run : UnderWay) (items : List ScriptItem) (kept : End)

@@ -31,10 +31,12 @@ pub(crate) fn replay_firings<M: Undo>(
     requires stands { WorldStandsFor trial.now.accepted.now world.old }
     requires within { length world.old.firings ≤ most }
     requires numbers { HasNumbersFor most world.old }
-    ensures read { (all items : List ScriptItem) (batch : Batch) (told : Told) → next_limit told ≡ most → MatchResult result
+    ensures read { (all items : List ScriptItem) (batch : Batch) (told : Told) → next_limit told ≡ most
+        → MatchResult result
         (λ e. Carries trial.now.accepted.now all source.old
         (fires trial.now.version told (under_way batch world.old) items)
-        source.new (before trial.now.version (told_run trial.now.accepted.now told (under_way batch world.new) e) items))
+        source.new
+        (before trial.now.version (told_run trial.now.accepted.now told (under_way batch world.new) e) items))
         (Stops trial.now.accepted.now all source.old
         (fires trial.now.version told (under_way batch world.old) items)) }
     ensures allowed { IfOk result
@@ -53,7 +55,11 @@ pub(crate) fn replay_firings<M: Undo>(
             }
             Err(line) => {
                 let at = source.at;
-                let read = FiringLine { line: &line, at, most };
+                let read = FiringLine {
+                    line: &line,
+                    at,
+                    most,
+                };
                 fire_line(trial, world, read)?;
             }
         }

@@ -98,7 +98,8 @@ pub(crate) fn fire_line<M: Undo>(
     requires numbers { length world.old.firings < read.most → HasNumbers world.old.state }
     ensures fires { MatchResult result
         (λ _. FiresBy trial.now.accepted.now trial.now.version read.entry.most read.entry.line.now world.old world.new)
-        (FireStops trial.now.accepted.now trial.now.version read.entry.most read.entry.at read.entry.line.now world.old) }
+        (FireStops trial.now.accepted.now trial.now.version read.entry.most read.entry.at read.entry.line.now
+        world.old) }
     ensures stands { WorldStandsFor trial.now.accepted.now world.new }
 {
     let Some(pid) = says_fired(trial.version, read.line) else {

@@ -58,7 +58,8 @@ struct Deposit<'a> {
 // Reads the line that names a line of the script.
 fn read_item_line(trial: &Trial<'_>, source: &mut Source<'_>, at: u32) -> Result<(), ReplayError>
     requires { IsCounted source.old }
-    ensures ok { OnOk result (HasRead trial.now.accepted.now.annotations.unit source.old (JournalLine.Line at) source.new) }
+    ensures ok { OnOk result
+        (HasRead trial.now.accepted.now.annotations.unit source.old (JournalLine.Line at) source.new) }
     ensures err { IfErr result (λ e. (told : Told) (i : ScriptItem) (all items : List ScriptItem) → entry_at i ≡ Some at
         → Stops trial.now.accepted.now all source.old (before trial.now.version told (i ∷ items)) e) }
     ensures counted { IsCounted source.new }
@@ -79,8 +80,8 @@ fn read_own_end(trial: &Trial<'_>, source: &mut Source<'_>, own: End) -> Result<
     requires { IsCounted source.old }
     ensures ok { IfOk result (λ e. (e ≡ own)
         × HasRead trial.now.accepted.now.annotations.unit source.old (JournalLine.End own) source.new) }
-    ensures err { IfErr result (λ e. (told : Told) (i : ScriptItem) (at : ℕ) (after : LedgerState) (all items : List ScriptItem)
-        → Stops trial.now.accepted.now all source.old (owes trial.now.version told i at own after items) e) }
+    ensures err { IfErr result (λ e. (told : Told) (i : ScriptItem) (at : ℕ) (after : LedgerState)
+        (all items : List ScriptItem) → Stops trial.now.accepted.now all source.old (owes trial.now.version told i at own after items) e) }
     ensures counted { IsCounted source.new }
 {
     // Where the program is read it is known to be accepted.
@@ -103,7 +104,12 @@ fn read_own_end(trial: &Trial<'_>, source: &mut Source<'_>, own: End) -> Result<
 }
 
 // Reads and notes the end of an item without firings at a line of the script.
-fn note_still(trial: &Trial<'_>, reading: &mut Reading<'_>, at: u32, own: End) -> Result<(), ReplayError>
+fn note_still(
+    trial: &Trial<'_>,
+    reading: &mut Reading<'_>,
+    at: u32,
+    own: End,
+) -> Result<(), ReplayError>
     requires counted { IsCounted reading.old.source }
     requires none { HasNoFirings own }
     requires few { reading.old.notes.made ≤ max_firings }

@@ -97,11 +97,7 @@ fn push_refused(text: &mut Vec<u8>, unit: u32, error: &ReplayError) -> Result<()
 
 /// Appends the line of a refusal, where a unit of gas has so many parts (docs/TEXTS.md, "How a journal is read"). Want
 /// of memory has no line.
-pub fn push_refusal(
-    text: &mut Vec<u8>,
-    unit: u32,
-    error: &ReplayError,
-) -> Result<(), AllocError>
+pub fn push_refusal(text: &mut Vec<u8>, unit: u32, error: &ReplayError) -> Result<(), AllocError>
     ensures { OnOk result (text.new.items ≡ text.old.items ++ refusal_line unit error.now) }
 {
     match error {

@@ -89,7 +89,8 @@ fn replay_all<M: Undo + Drop>(
     requires counted { IsCounted reading.source }
     requires fresh { AreFresh trial.now.accepted.now reading.notes }
     ensures tells { MatchResult result
-        (λ r. AllTold trial.now.accepted.now trial.now.version reading.entry script.now r.journal r.ledger r.report.items)
+        (λ r. AllTold trial.now.accepted.now trial.now.version reading.entry script.now r.journal r.ledger
+        r.report.items)
         (λ e. (all : List ScriptItem) → Stops trial.now.accepted.now all reading.entry.source
         (before trial.now.version (nothing_told reading.entry.notes.limit) script.now) e) }
     ensures stands { IfOk result (λ r. StandsFor trial.now.accepted.now r.ledger) }

@@ -32,8 +32,8 @@ pub record Keeps (a : Acceptance) (notes : Notes) (told : Told) : Type 0 where
   pub report : report_of a told.passages ≡ notes.report.items
 
 -- From where the text stood something more was told, up to this ledger.
-pub record Onward (a : Acceptance) (from : List ScriptItem → Stand) (v : Version) (source later : Source) (notes : Notes)
-    (l : LedgerState) : Type 0 where
+pub record Onward (a : Acceptance) (from : List ScriptItem → Stand) (v : Version) (source later : Source)
+    (notes : Notes) (l : LedgerState) : Type 0 where
   pub told : Told
   pub ledger : told.ledger ≡ l
   pub keeps : Keeps a notes told
@@ -65,8 +65,8 @@ pub record AreFresh (a : Acceptance) (notes : Notes) : Type 0 where
   pub report : notes.report.items ≡ accepted_block a
 
 -- From the first items others are left, and the notes are those of what was told of the ones before them.
-pub record ToldUpTo (a : Acceptance) (v : Version) (first later : Reading) (items left : List ScriptItem) (l : LedgerState)
-    : Type 0 where
+pub record ToldUpTo (a : Acceptance) (v : Version) (first later : Reading) (items left : List ScriptItem)
+    (l : LedgerState) : Type 0 where
   pub told : Told
   pub ledger : told.ledger ≡ l
   pub keeps : Keeps a later.notes told

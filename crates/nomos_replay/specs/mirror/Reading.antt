@@ -27,8 +27,8 @@ IsNoLine unit before (error.BadLine at) =
 IsNoLine unit before _ = ⊥
 
 -- what is answered where the text stands later is answered where it stood before
-pub record Carries (a : Acceptance) (all : List ScriptItem) (before : Source) (from : Stand) (after : Source) (to : Stand)
-    : Type 0 where
+pub record Carries (a : Acceptance) (all : List ScriptItem) (before : Source) (from : Stand) (after : Source)
+    (to : Stand) : Type 0 where
   pub answers : (answer : Result Told ReplayError) → Reads a all (after.at + 1) to after.lines answer
       → Reads a all (before.at + 1) from before.lines answer
 

@@ -56,12 +56,13 @@ FiresOrNot a before pid true after = HasFired a before (firing_by pid) after
 FiresOrNot a before pid false after = step a before.state pid ≡ None
 
 -- The line is that of a firing by which the first world becomes the second one.
-pub record FiresBy (a : Acceptance) (v : Version) (most : ℕ) (l : JournalLine) (before after : WorldState) : Type 0 where
-  pub pid : ℕ
-  pub says : says_fired v l ≡ Some pid
-  pub left : length before.firings < most
-  pub fired : HasFired a before (firing_by pid) after
-  pub line : firing_line v a before.state pid ≡ Some l
+pub record FiresBy (a : Acceptance) (v : Version) (most : ℕ) (l : JournalLine) (before after : WorldState) : Type 0
+  where
+    pub pid : ℕ
+    pub says : says_fired v l ≡ Some pid
+    pub left : length before.firings < most
+    pub fired : HasFired a before (firing_by pid) after
+    pub line : firing_line v a before.state pid ≡ Some l
 
 -- The line says that this process fires, for which firings are left.
 pub record Asks (v : Version) (most : ℕ) (l : JournalLine) (before : WorldState) (pid : ℕ) : Type 0 where
