@@ -1,9 +1,7 @@
 -- Batches under way: firing by firing, up to their end.
-use Rattle.std.proofs.Common.{◌≡◌, ◌≢◌, ◌∙◌, ◌+◌, ◌<◌, ◌≤◌, ◌^◌, ℕ, List, [], ◌∷◌, ◌++◌, length, length-append, map, Option, Some, None, Result, Ok, Err, IfOk, MatchResult, refl, sym, subst, ap, arith}
+use Rattle.std.proofs.Common.{◌≡◌, ◌≢◌, ◌∙◌, ◌+◌, ◌≤◌, ℕ, List, [], ◌∷◌, ◌++◌, length, length-append, Result, Ok, Err, IfOk, MatchResult, refl, sym, subst, ap, arith}
 use Rattle.std.proofs.lemmas.List.{length-map, map-append}
 use Rattle.nomos_types.specs.Acceptance.{Acceptance, IsAccepted}
-use Rattle.nomos_machine.specs.State.{State}
-use Rattle.nomos_machine.specs.Step.{step}
 use Rattle.nomos_deeds.specs.Acting.{HasNumbers}
 use Rattle.nomos_script.specs.declared.item.Batch.{Batch}
 use Rattle.nomos_script.specs.declared.item.ScriptItem.{ScriptItem}
@@ -19,7 +17,7 @@ use Rattle.nomos_journal.specs.declared.line.JournalLine.{JournalLine}
 use Rattle.nomos_journal.specs.declared.line.JournalLine.TheVariants as line
 use Rattle.nomos_journal.specs.declared.line.Version.{Version}
 use Rattle.nomos_ledger.specs.Calls.{HasFired}
-use Rattle.nomos_replay.specs.Answers.{Reads, WantsLine}
+use Rattle.nomos_replay.specs.Answers.{Reads}
 use Rattle.nomos_replay.specs.Spoiled.{Spoils}
 use Rattle.nomos_replay.specs.Spoiled as spoiled
 use Rattle.nomos_replay.specs.Stand.{Goes, MayStand, SaysFiring, Stand, UnderWay, before, fires, told_run}
@@ -31,7 +29,7 @@ use Rattle.nomos_replay.specs.declared.error.ReplayError.TheVariants as error
 use Rattle.nomos_replay.specs.declared.source.Source.{Source}
 use Rattle.nomos_replay.specs.mirror.Reading.{Carries, HasRead, Stops}
 use Rattle.nomos_replay.specs.mirror.Running.{Asks, CarriesFirings, EndStops, FireStops, FiresBy, HasNumbersFor, RanOn, firing_by, under_way}
-use Rattle.nomos_replay.proofs.ReadingLemmas.{carries-line, carries-on, carries-same, stops-later, stops-no_form, stops-spoiled}
+use Rattle.nomos_replay.proofs.ReadingLemmas.{carries-line, carries-on, stops-later, stops-no_form, stops-spoiled}
 
 -- ---- worlds
 

@@ -1,5 +1,5 @@
 -- Processes without faults.
-use Rattle.std.proofs.Common.{◌≡◌, ◌∙◌, ◌+◌, ◌<◌, ◌≤◌, inl, inr, ℕ, Option, Some, None, IsSome, refl, sym, ap, arith}
+use Rattle.std.proofs.Common.{◌≡◌, ◌∙◌, ◌<◌, ◌≤◌, inl, inr, ℕ, Option, Some, None, IsSome, refl, ap, arith}
 use Rattle.std.proofs.lemmas.Bool.{cases_lt}
 use Rattle.nomos_ir.specs.declared.fault.Fault.{Fault}
 use Rattle.nomos_types.specs.Acceptance.{Acceptance, IsAccepted}

@@ -1,5 +1,5 @@
 -- Small texts, tried on the definitions: journals of no items, and of one deposit of two units.
-use Rattle.std.proofs.Common.{◌≡◌, ◌≢◌, ◌≤◌, ◌++◌, ℕ, List, [], ◌∷◌, Some, Result, Ok, Err, refl, arith}
+use Rattle.std.proofs.Common.{◌≡◌, ◌++◌, ℕ, List, [], ◌∷◌, Some, Result, Ok, Err, refl, arith}
 use Rattle.std.specs.Prelude.{codes}
 use Rattle.std.specs.Fmt.{digits}
 use Rattle.nomos_types.specs.Acceptance.{Acceptance}
@@ -9,7 +9,6 @@ use Rattle.nomos_legal.specs.Ledger.{LedgerState, deposited, empty_ledger}
 use Rattle.nomos_legal.specs.Legal.{IsLimit}
 use Rattle.nomos_legal.specs.Passage.{bare, still}
 use Rattle.nomos_legal.specs.StandsFor.{Deposits}
-use Rattle.nomos_legal.specs.declared.journal.End.{End}
 use Rattle.nomos_legal.specs.declared.journal.End.TheVariants as end
 use Rattle.nomos_journal.specs.Line.{line_text}
 use Rattle.nomos_journal.specs.declared.line.JournalLine.TheVariants as line

@@ -1,8 +1,8 @@
 -- Firings that are those of a line.
-use Rattle.std.proofs.Common.{◌≡◌, ◌≢◌, ◌∙◌, ◌<◌, ◌↔◌, ℕ, Bool, true, false, Option, Some, None, IsTrue, length, refl, sym, subst, ap}
+use Rattle.std.proofs.Common.{◌≡◌, ◌≢◌, ◌∙◌, ◌↔◌, ℕ, Bool, true, false, Some, IsTrue, sym, ap}
 use Rattle.std.specs.Option.{option_map}
 use Rattle.std.proofs.lemmas.Bool.{false≢true}
-use Rattle.std.proofs.lemmas.Option.{none-some, same_Some}
+use Rattle.std.proofs.lemmas.Option.{same_Some}
 use Rattle.nomos_ir.specs.declared.ids.CodeId.{CodeId}
 use Rattle.nomos_types.specs.Acceptance.{Acceptance}
 use Rattle.nomos_machine.specs.State.{State, process_at}
@@ -13,7 +13,6 @@ use Rattle.nomos_journal.specs.JournalText.{firing_line}
 use Rattle.nomos_journal.specs.declared.line.JournalLine.{JournalLine}
 use Rattle.nomos_journal.specs.declared.line.Version.{Version}
 use Rattle.nomos_ledger.specs.Calls.{HasFired}
-use Rattle.nomos_replay.specs.Stand.{says_fired}
 use Rattle.nomos_replay.specs.mirror.Running.{Asks, FiresBy, FiresOrNot, firing_by}
 
 module _ (a : Acceptance) (v : Version) (most : ℕ) (l : JournalLine) (before after : WorldState) (pid : ℕ)

@@ -1,15 +1,13 @@
 -- Each line of a legal journal's text is a line: its numbers are within their bits.
-use Rattle.std.proofs.Common.{◌≡◌, ◌≢◌, ◌∙◌, ◌+◌, ◌-◌, ◌*◌, ◌<◌, ◌≤◌, ◌^◌, ◌++◌, inl, inr, zero, suc, ℕ, List, [], ◌∷◌, length, map, take, Option, Some, None, Err, IfSome, slice_get, slice_index, refl, sym, subst, ap, arith, append-nil}
+use Rattle.std.proofs.Common.{◌≡◌, ◌∙◌, ◌+◌, ◌-◌, ◌<◌, ◌≤◌, ◌^◌, ◌++◌, inl, inr, zero, suc, ℕ, List, [], ◌∷◌, length, map, take, Option, Some, None, Err, IfSome, slice_get, slice_index, refl, sym, subst, ap, arith}
 use Rattle.std.specs.List.{All, flat_map}
 use Rattle.std.specs.Option.{option_map, option_to_list}
 use Rattle.std.proofs.Math.Nat.{mul-le-mul_left}
 use Rattle.std.proofs.lemmas.Bool.{cases_lt}
 use Rattle.std.proofs.lemmas.List.{get_or_past, take_all}
 use Rattle.std.proofs.lemmas.List.Elements.{All-append, All-cons, All-contains, All-get_or, All-head, All-nil, All-tail}
-use Rattle.std.proofs.lemmas.Option.{none-some, same_Some}
-use Rattle.nomos_ir.specs.Amounts.{IsAmount, amounts_of, proc_amounts, star_of, star_count}
+use Rattle.nomos_ir.specs.Amounts.{IsAmount, amounts_of, proc_amounts}
 use Rattle.nomos_ir.specs.CodeParts.{code_amounts}
-use Rattle.nomos_ir.specs.Instruction.{code_form}
 use Rattle.nomos_ir.specs.TypeParts.{type_amounts}
 use Rattle.nomos_ir.specs.declared.amount.Amount.{Amount}
 use Rattle.nomos_ir.specs.declared.amount.Amount.TheVariants as amount
@@ -17,10 +15,8 @@ use Rattle.nomos_ir.specs.declared.code_node.CodeNode.{CodeNode}
 use Rattle.nomos_ir.specs.declared.code_node.CodeNode.TheVariants as code
 use Rattle.nomos_ir.specs.declared.declaration.ProcDecl.{ProcDecl}
 use Rattle.nomos_ir.specs.declared.fault.Fault.{Fault}
-use Rattle.nomos_types.specs.Acceptance.{Acceptance, IsAccepted, IsAmountOf}
+use Rattle.nomos_types.specs.Acceptance.{Acceptance, IsAccepted}
 use Rattle.nomos_types.specs.Amount.{dths}
-use Rattle.nomos_types.proofs.AmountLaws.{amounts-are_of}
-use Rattle.nomos_machine.specs.Deeds.{Deed}
 use Rattle.nomos_machine.specs.Objects.{object_number}
 use Rattle.nomos_machine.specs.Optional.{◌>>=◌}
 use Rattle.nomos_machine.specs.Run.{run}
@@ -35,7 +31,6 @@ use Rattle.nomos_script.specs.ScriptNames.{IsScriptName}
 use Rattle.nomos_script.specs.Size.{IsScriptSize}
 use Rattle.nomos_script.specs.declared.item.Batch.{Batch}
 use Rattle.nomos_script.specs.declared.item.ScriptItem.{ScriptItem}
-use Rattle.nomos_script.specs.declared.item.ScriptItem.TheVariants as item
 use Rattle.nomos_script.specs.declared.item.Start.{Start}
 use Rattle.nomos_legal.specs.Batch.{AllStart, OneRefuses, after_starts, state_or}
 use Rattle.nomos_legal.specs.Batch as batch

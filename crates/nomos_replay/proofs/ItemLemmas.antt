@@ -1,36 +1,32 @@
 -- What is kept of the items that were told, and how the numbers rise.
-use Rattle.std.proofs.Common.{◌≡◌, ◌≢◌, ◌∙◌, ◌+◌, ◌-◌, ◌*◌, ◌<◌, ◌≤◌, ◌^◌, ◌++◌, ℕ, List, [], ◌∷◌, length, length-append, map, Option, Some, None, Result, Ok, Err, IfOk, MatchResult, ⊎_elim, refl, sym, subst, ap, arith, append-nil}
+use Rattle.std.proofs.Common.{◌≡◌, ◌∙◌, ◌+◌, ◌-◌, ◌*◌, ◌<◌, ◌≤◌, ◌^◌, ◌++◌, ℕ, List, [], ◌∷◌, length, length-append, Option, Some, None, ⊎_elim, refl, sym, subst, ap, arith, append-nil}
 use Rattle.std.specs.Global.{Vec}
 use Rattle.std.specs.Option.{option_to_list}
 use Rattle.std.proofs.lemmas.Bool.{cases_lt}
 use Rattle.std.proofs.lemmas.List.{length-map}
 use Rattle.nomos_types.specs.Acceptance.{Acceptance, IsAccepted}
 use Rattle.nomos_machine.specs.State.{State}
-use Rattle.nomos_script.specs.Size.{entry_count, start_count}
 use Rattle.nomos_script.specs.declared.item.Batch.{Batch}
 use Rattle.nomos_script.specs.declared.item.ScriptItem.{ScriptItem}
 use Rattle.nomos_script.specs.declared.item.ScriptItem.TheVariants as item
 use Rattle.nomos_legal.specs.Batch.{after_starts}
-use Rattle.nomos_legal.specs.Ending.{EndsAs, IsAllowed}
-use Rattle.nomos_legal.specs.Ledger.{LedgerState, FitsDeposits, account_of, accounts_with, deposited, state_with}
-use Rattle.nomos_legal.specs.Legal.{batch_limit, entries_of, firings_made, max_firings}
+use Rattle.nomos_legal.specs.Ledger.{LedgerState, FitsDeposits, account_of, accounts_with, state_with}
+use Rattle.nomos_legal.specs.Legal.{entries_of, firings_made, max_firings}
 use Rattle.nomos_legal.specs.NextNumbers.{HasNumbered}
 use Rattle.nomos_legal.specs.Passage.{Passage, bare, runs, still}
-use Rattle.nomos_legal.specs.StandsFor.{Deposits, StandsFor, WorldStandsFor}
-use Rattle.nomos_legal.specs.World.{WorldState, committed, pids_of, start_of}
+use Rattle.nomos_legal.specs.StandsFor.{Deposits, WorldStandsFor}
+use Rattle.nomos_legal.specs.World.{WorldState, pids_of, start_of}
 use Rattle.nomos_legal.specs.declared.journal.End.{End}
 use Rattle.nomos_legal.specs.declared.journal.End.TheVariants as end
 use Rattle.nomos_legal.specs.declared.journal.Entry.{Entry}
 use Rattle.nomos_legal.proofs.LegalLaws.{entries_of-append, firings_made-append}
 use Rattle.nomos_legal.proofs.NextNumberLaws.{world-numbers}
-use Rattle.nomos_legal.proofs.StartLaws.{starts-length}
 use Rattle.nomos_legal.proofs.WorldLaws.{committed-is}
-use Rattle.nomos_ledger.specs.Beginning.{HasBegun}
-use Rattle.nomos_report.specs.Reported.{end_lines, passage_lines, report_of, shown_lines}
+use Rattle.nomos_report.specs.Reported.{end_lines, passage_lines, shown_lines}
 use Rattle.nomos_report.specs.Shown.{show_lines}
 use Rattle.nomos_report.proofs.PassageLaws.{batch-printed, report-next, show-printed, still-printed}
 use Rattle.nomos_replay.specs.Stand.{ledger_after, told_run}
-use Rattle.nomos_replay.specs.Told.{Told, next_limit, told_with}
+use Rattle.nomos_replay.specs.Told.{Told, told_with}
 use Rattle.nomos_replay.specs.declared.notes.Notes.{Notes}
 use Rattle.nomos_replay.specs.mirror.Items.{Keeps, Rises, left_by}
 use Rattle.nomos_replay.specs.mirror.Running.{under_way}

@@ -1,33 +1,27 @@
 -- What a text tells is what became of the items by a legal journal, whose text it is.
-use Rattle.std.proofs.Common.{◌≡◌, ◌∙◌, ◌+◌, ◌<◌, ◌≤◌, ◌^◌, ◌++◌, ℕ, List, [], ◌∷◌, length, length-append, map, Option, Some, None, Result, Ok, Err, ⊎_elim, refl, sym, subst, ap, arith, append-nil, append_assoc}
-use Rattle.std.specs.List.{flat_map}
+use Rattle.std.proofs.Common.{◌≡◌, ◌∙◌, ◌≤◌, ◌++◌, ℕ, List, [], ◌∷◌, length, length-append, Option, Some, None, Ok, refl, sym, subst, ap, arith, append-nil, append_assoc}
 use Rattle.std.specs.Option.{option_to_list}
-use Rattle.std.proofs.lemmas.Bool.{cases_lt}
 use Rattle.std.proofs.lemmas.List.{flat_map_more}
 use Rattle.std.proofs.lemmas.Option.{same_Some}
 use Rattle.nomos_types.specs.Acceptance.{Acceptance}
 use Rattle.nomos_machine.specs.Optional.{◌>>=◌}
 use Rattle.nomos_machine.specs.Run.{run}
-use Rattle.nomos_machine.specs.Starting.{cleared}
 use Rattle.nomos_machine.specs.State.{State}
 use Rattle.nomos_machine.specs.Step.{step}
 use Rattle.nomos_machine.proofs.RunLaws.{run-push}
-use Rattle.nomos_script.specs.declared.item.Batch.{Batch}
 use Rattle.nomos_script.specs.declared.item.ScriptItem.{ScriptItem}
 use Rattle.nomos_script.specs.declared.item.ScriptItem.TheVariants as item
 use Rattle.nomos_legal.specs.Batch.{AllStart, after_starts, state_or}
-use Rattle.nomos_legal.specs.Ending.{IsAllowed}
-use Rattle.nomos_legal.specs.Ledger.{LedgerState, FitsDeposits}
-use Rattle.nomos_legal.specs.Legal.{IsLimit, Tells, batch_limit, entries_of, firings_made}
+use Rattle.nomos_legal.specs.Ledger.{LedgerState}
+use Rattle.nomos_legal.specs.Legal.{IsLimit, Tells, entries_of}
 use Rattle.nomos_legal.specs.Passage.{IsPassage, Passage, RunsTo, Undoes, bare, still}
 use Rattle.nomos_legal.specs.Passage as passage
 use Rattle.nomos_legal.specs.declared.journal.End.{End}
 use Rattle.nomos_legal.specs.declared.journal.End.TheVariants as end
 use Rattle.nomos_legal.specs.declared.journal.Entry.{Entry}
 use Rattle.nomos_legal.specs.declared.journal.Journal.{Journal}
-use Rattle.nomos_legal.specs.declared.resolved.Resolved.{Resolved}
 use Rattle.nomos_legal.proofs.LegalLaws.{deposit-passage, entries_of-append, journal_with, tells-more, tells-none}
-use Rattle.nomos_journal.specs.JournalText.{IsTextOf, firing_line, firing_lines, journal_lines, passage_lines}
+use Rattle.nomos_journal.specs.JournalText.{firing_line, firing_lines, journal_lines, passage_lines}
 use Rattle.nomos_journal.specs.Line.{line_text}
 use Rattle.nomos_journal.specs.Text.{lines_text}
 use Rattle.nomos_journal.specs.declared.line.JournalLine.{JournalLine}
@@ -39,7 +33,6 @@ use Rattle.nomos_replay.specs.Answers as answers
 use Rattle.nomos_replay.specs.Stand.{Goes, Opens, Stand, UnderWay, entry_at, ledger_after, told_run}
 use Rattle.nomos_replay.specs.Stand as stand
 use Rattle.nomos_replay.specs.Told.{Told, journal_of, next_limit, nothing_told, told_with}
-use Rattle.nomos_replay.specs.declared.error.ReplayError.{ReplayError}
 
 -- ---- lines of firings
 

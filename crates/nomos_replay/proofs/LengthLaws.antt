@@ -1,5 +1,5 @@
 -- The text of a legal journal is short enough to be read.
-use Rattle.std.proofs.Common.{◌≡◌, ◌∙◌, ◌+◌, ◌*◌, ◌<◌, ◌≤◌, ◌^◌, ◌++◌, ℕ, List, [], ◌∷◌, length, length-append, map, Option, Some, None, slice_get, refl, sym, subst, ap, arith, append-nil}
+use Rattle.std.proofs.Common.{◌≡◌, ◌∙◌, ◌+◌, ◌*◌, ◌<◌, ◌≤◌, ◌^◌, ◌++◌, ℕ, List, [], ◌∷◌, length, length-append, map, Option, Some, None, slice_get, sym, subst, ap, arith, append-nil}
 use Rattle.std.specs.List.{All, flat_map}
 use Rattle.std.specs.Option.{option_map, option_to_list}
 use Rattle.std.specs.Prelude.{codes, decimal}

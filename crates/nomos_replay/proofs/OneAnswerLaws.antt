@@ -1,5 +1,5 @@
 -- A text has one answer.
-use Rattle.std.proofs.Common.{◌≡◌, ◌≢◌, ◌∙◌, ◌+◌, ◌<◌, ◌≤◌, ◌^◌, ◌++◌, inl, inr, ℕ, List, [], ◌∷◌, length, Option, Some, None, Result, Ok, Err, ⊎_elim, refl, sym, subst, ap, arith}
+use Rattle.std.proofs.Common.{◌≡◌, ◌∙◌, ◌+◌, ◌<◌, ◌≤◌, ◌^◌, ◌++◌, inl, inr, ℕ, List, [], ◌∷◌, Option, Some, None, Result, Err, ⊎_elim, refl, sym, subst, ap, arith}
 use Rattle.std.proofs.lemmas.Bool.{cases_lt}
 use Rattle.std.proofs.lemmas.Option.{none-some, same_Some}
 use Rattle.nomos_ir.specs.declared.fault.Fault.{Fault}
@@ -14,9 +14,6 @@ use Rattle.nomos_legal.specs.Ledger.{LedgerState, FitsDeposits}
 use Rattle.nomos_legal.specs.StandsFor.{Deposits}
 use Rattle.nomos_legal.specs.declared.journal.End.{End}
 use Rattle.nomos_legal.specs.declared.journal.End.TheVariants as end
-use Rattle.nomos_legal.specs.declared.refusal.Refusal.{Refusal}
-use Rattle.nomos_legal.specs.declared.refusal.Refusal.TheVariants as refusal
-use Rattle.nomos_legal.specs.declared.resolved.Resolved.{Resolved}
 use Rattle.nomos_legal.proofs.UniqueLaws.{all_start-one, ends-one, refuses-one, starts-or_refuses}
 use Rattle.nomos_journal.specs.JournalText.{firing_line}
 use Rattle.nomos_journal.specs.declared.line.JournalLine.{JournalLine}
@@ -28,7 +25,7 @@ use Rattle.nomos_replay.specs.Spoiled.{Finds, Spoils}
 use Rattle.nomos_replay.specs.Spoiled as spoiled
 use Rattle.nomos_replay.specs.Stand.{Goes, MayStand, Opens, SaysFiring, Stand, UnderWay, fires, says_fired}
 use Rattle.nomos_replay.specs.Stand as stand
-use Rattle.nomos_replay.specs.Told.{Told, next_limit}
+use Rattle.nomos_replay.specs.Told.{Told}
 use Rattle.nomos_replay.specs.declared.error.ReplayError.{ReplayError}
 use Rattle.nomos_replay.specs.declared.error.ReplayError.TheVariants as error
 use Rattle.nomos_replay.proofs.LineLemmas.{end-fires_none, one-line, some-line}

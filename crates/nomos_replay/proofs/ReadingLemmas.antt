@@ -1,5 +1,5 @@
 -- How lines that are read lead on, and how they are refused.
-use Rattle.std.proofs.Common.{◌≡◌, ◌∙◌, ◌+◌, ◌<◌, ◌^◌, ℕ, List, Result, Ok, Err, refl, sym, subst, ap, arith}
+use Rattle.std.proofs.Common.{◌+◌, ◌<◌, ◌^◌, ℕ, List, Err, sym, subst, arith}
 use Rattle.nomos_types.specs.Acceptance.{Acceptance, IsAccepted}
 use Rattle.nomos_script.specs.declared.item.ScriptItem.{ScriptItem}
 use Rattle.nomos_journal.specs.declared.line.JournalLine.{JournalLine}
@@ -7,7 +7,6 @@ use Rattle.nomos_replay.specs.Answers.{BeginsWith, HasNoForm, Reads, WantsLine}
 use Rattle.nomos_replay.specs.Answers as answers
 use Rattle.nomos_replay.specs.Spoiled.{Spoils}
 use Rattle.nomos_replay.specs.Stand.{Goes, MayStand, Stand}
-use Rattle.nomos_replay.specs.Told.{Told}
 use Rattle.nomos_replay.specs.declared.error.ReplayError.{ReplayError}
 use Rattle.nomos_replay.specs.declared.error.ReplayError.TheVariants as error
 use Rattle.nomos_replay.specs.declared.source.Source.{Source}

@@ -1,15 +1,13 @@
 -- The text of each legal journal tells that journal.
-use Rattle.std.proofs.Common.{◌≡◌, ◌∙◌, ◌+◌, ◌<◌, ◌≤◌, ◌^◌, ◌++◌, ℕ, List, [], ◌∷◌, length, length-append, map, Option, Some, None, Result, Ok, Err, refl, sym, subst, ap, arith, append-nil, append_assoc, slice_get}
+use Rattle.std.proofs.Common.{◌≡◌, ◌∙◌, ◌+◌, ◌≤◌, ◌++◌, ℕ, List, [], ◌∷◌, length, length-append, map, Option, Some, None, Result, Ok, refl, sym, subst, ap, arith, append-nil, append_assoc, slice_get}
 use Rattle.std.specs.List.{All, flat_map}
 use Rattle.std.specs.Option.{option_map, option_to_list}
 use Rattle.std.proofs.lemmas.List.Concat.{flat_map-append}
 use Rattle.std.proofs.lemmas.List.Elements.{All-head, All-tail}
 use Rattle.std.proofs.lemmas.Option.{none-some, same_Some}
-use Rattle.nomos_ir.specs.Instruction.{code_form}
 use Rattle.nomos_ir.specs.declared.code_node.CodeNode.{CodeNode}
 use Rattle.nomos_ir.specs.declared.code_node.CodeNode.TheVariants as code
 use Rattle.nomos_types.specs.Acceptance.{Acceptance}
-use Rattle.nomos_machine.specs.Deeds.{Deed}
 use Rattle.nomos_machine.specs.Optional.{◌>>=◌}
 use Rattle.nomos_machine.specs.Run.{run}
 use Rattle.nomos_machine.specs.State.{State, process_at}
@@ -33,7 +31,7 @@ use Rattle.nomos_legal.specs.declared.journal.Journal.{Journal}
 use Rattle.nomos_legal.specs.declared.refusal.Refusal.TheVariants as refusal
 use Rattle.nomos_legal.specs.declared.resolved.Resolved.{Resolved}
 use Rattle.nomos_legal.proofs.LegalLaws.{entries_of-append, first-made, firings_made-append}
-use Rattle.nomos_journal.specs.JournalText.{IsTextOf, firing_line, firing_lines, fired_line, journal_lines, passage_lines, placed_line}
+use Rattle.nomos_journal.specs.JournalText.{firing_line, firing_lines, fired_line, journal_lines, passage_lines, placed_line}
 use Rattle.nomos_journal.specs.Line.{IsLine, line_text}
 use Rattle.nomos_journal.specs.Text.{lines_text}
 use Rattle.nomos_journal.specs.declared.line.JournalLine.{JournalLine}

@@ -1,5 +1,5 @@
 -- The walk over the items of a script, and what is answered at its end.
-use Rattle.std.proofs.Common.{◌≡◌, ◌≢◌, ◌∙◌, ◌+◌, ◌<◌, ◌≤◌, ◌++◌, ℕ, List, [], ◌∷◌, length, Option, Some, None, Result, Ok, Err, IfOk, IfErr, MatchResult, refl, sym, subst, ap, arith, append-nil}
+use Rattle.std.proofs.Common.{◌≡◌, ◌≢◌, ◌∙◌, ◌+◌, ◌≤◌, ℕ, List, [], ◌∷◌, length, Result, Ok, Err, IfOk, IfErr, MatchResult, refl, sym, subst, ap, arith, append-nil}
 use Rattle.std.proofs.lemmas.Result.{MatchResult-weaker}
 use Rattle.nomos_types.specs.Acceptance.{Acceptance, IsAccepted}
 use Rattle.nomos_script.specs.declared.item.ScriptItem.{ScriptItem}
@@ -10,19 +10,17 @@ use Rattle.nomos_legal.specs.NextNumbers.{HasNumbered}
 use Rattle.nomos_legal.specs.declared.journal.Journal.{Journal}
 use Rattle.nomos_journal.specs.JournalText.{IsTextOf, journal_lines}
 use Rattle.nomos_journal.specs.Text.{lines_text}
-use Rattle.nomos_journal.specs.declared.line.JournalLine.{JournalLine}
 use Rattle.nomos_journal.specs.declared.line.Version.{Version}
 use Rattle.nomos_report.specs.Block.{accepted_block}
 use Rattle.nomos_replay.specs.Answers.{Answers, BeginsWith, HasNoForm, Reads, max_bytes}
 use Rattle.nomos_replay.specs.Answers as answers
 use Rattle.nomos_replay.specs.Replayed.{HasReplayed, IsRefusedSo}
-use Rattle.nomos_replay.specs.Stand.{MayStand, Stand, at_head, at_steps, before}
+use Rattle.nomos_replay.specs.Stand.{at_head, before}
 use Rattle.nomos_replay.specs.Told.{Told, journal_of, nothing_told}
 use Rattle.nomos_replay.specs.Written.{AreWritten}
 use Rattle.nomos_replay.specs.declared.error.ReplayError.{ReplayError}
 use Rattle.nomos_replay.specs.declared.error.ReplayError.TheVariants as error
 use Rattle.nomos_replay.specs.declared.item.Reading.{Reading}
-use Rattle.nomos_replay.specs.declared.source.Source.{Source}
 use Rattle.nomos_replay.specs.mirror.Items.{AllTold, AreFresh, IsAnswered, IsLegalText, Keeps, Onward, ToldUpTo}
 use Rattle.nomos_replay.specs.mirror.Reading.{Carries, Stops}
 use Rattle.nomos_replay.proofs.FormLaws.{journal-form}

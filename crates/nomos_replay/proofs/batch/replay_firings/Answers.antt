@@ -1,4 +1,4 @@
-use Rattle.std.proofs.Common.{length, refl}
+use Rattle.std.proofs.Common.{refl}
 use Rattle.std.proofs.lemmas.Result.{err_from_is_err_and}
 use Rattle.nomos_replay.specs.Stand.{fires}
 use Rattle.nomos_replay.specs.mirror.Running.{under_way}

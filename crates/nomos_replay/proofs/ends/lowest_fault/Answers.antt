@@ -1,6 +1,6 @@
 use Rattle.std.proofs.Common.{sym, ◌∙◌}
 use Rattle.nomos_legal.proofs.WorldLaws.{world-typed}
-use Rattle.nomos_replay.proofs.EndLemmas.{faultless-all, faultless-below, faultless-to, faultless-zero}
+use Rattle.nomos_replay.proofs.EndLemmas.{faultless-to, faultless-zero}
 use Rattle.nomos_replay.proofs.ends.lowest_fault.Goals as goal
 
 pub loop-pid-init : goal.loop-pid-init

@@ -1,4 +1,4 @@
-use Rattle.std.proofs.Common.{◌≡◌, ◌∙◌, ◌+◌, ◌++◌, ◌∷◌, [], length, sym, ap, arith}
+use Rattle.std.proofs.Common.{◌≡◌, ◌∙◌, ◌++◌, ◌∷◌, [], length, sym, ap, arith}
 use Rattle.nomos_legal.specs.World.{pids_of, start_of}
 use Rattle.nomos_report.specs.Reported.{end_lines}
 use Rattle.nomos_replay.proofs.BatchLemmas.{count-same}

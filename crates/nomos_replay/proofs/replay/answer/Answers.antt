@@ -1,6 +1,6 @@
 use Rattle.std.proofs.Common.{[], ℕ, List, refl, subst}
 use Rattle.std.proofs.lemmas.Result.{err_from_is_err_and}
-use Rattle.nomos_replay.specs.Stand.{at_head, at_steps, before}
+use Rattle.nomos_replay.specs.Stand.{at_head, before}
 use Rattle.nomos_replay.specs.Told.{nothing_told}
 use Rattle.nomos_replay.specs.mirror.Reading.{Carries, Stops}
 use Rattle.nomos_replay.proofs.ReadingLemmas.{carries-on, stops-later}
