@@ -5,7 +5,7 @@ use Rattle.nomos_texts.specs.End.{end_text}
 use Rattle.nomos_replay.specs.declared.error.ReplayError.{ReplayError}
 use Rattle.nomos_replay.specs.declared.error.ReplayError.TheVariants as error
 
--- the end that is found, if the batch has ended; amounts have so many Dths to the unit
+-- the end that is found, or that none is; amounts have so many Dths to the unit
 abbrev pub found_text : ℕ → Option End → List ℕ
 found_text unit (Some e) = end_text unit e
 found_text unit None = codes "running"

@@ -148,8 +148,8 @@ fn answer<M: Undo + Drop>(
     replay_all(&trial, Reading { source, notes }, script)
 }
 
-/// Reads the text of a journal of a script, of version 1 or 2, and runs it: what docs/TEXTS.md, "The journal", says of
-/// texts that are read. `Ok` comes exactly where the bytes are the text of a legal journal of the script's items: then
+/// Reads the text of a journal of a script, of version 1 or 2, and runs it: what docs/TEXTS.md, "How a journal is
+/// read", says. `Ok` comes exactly where the bytes are the text of a legal journal of the script's items: then
 /// it gives that journal, the ledger to which it leads, and its report. Otherwise the first line that spoils the text is
 /// refused, or the text is too long. Want of memory may come for every text.
 pub fn replay<M: Undo + Drop>(
