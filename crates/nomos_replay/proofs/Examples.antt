@@ -2,7 +2,10 @@
 use Rattle.std.proofs.Common.{◌≡◌, ◌++◌, ℕ, List, [], ◌∷◌, Some, Result, Ok, Err, refl, arith}
 use Rattle.std.specs.Prelude.{codes}
 use Rattle.std.specs.Fmt.{digits}
+use Rattle.std.proofs.lemmas.Option.{none-some}
+use Rattle.nomos_ir.specs.declared.code_form.CodeForm.TheVariants as form
 use Rattle.nomos_types.specs.Acceptance.{Acceptance}
+use Rattle.nomos_machine.specs.State.{empty}
 use Rattle.nomos_script.specs.declared.item.ScriptItem.{ScriptItem}
 use Rattle.nomos_script.specs.declared.item.ScriptItem.TheVariants as item
 use Rattle.nomos_legal.specs.Ledger.{LedgerState, deposited, empty_ledger}
@@ -16,6 +19,7 @@ use Rattle.nomos_journal.specs.declared.line.Version.TheVariants as version
 use Rattle.nomos_replay.specs.Answers.{Answers}
 use Rattle.nomos_replay.specs.Answers as answers
 use Rattle.nomos_replay.specs.Spoiled as spoiled
+use Rattle.nomos_replay.specs.Stand.{UnderWay}
 use Rattle.nomos_replay.specs.Stand as stand
 use Rattle.nomos_replay.specs.Told.{Told, nothing_told, told_with}
 use Rattle.nomos_replay.specs.declared.error.ReplayError.{ReplayError}
@@ -121,3 +125,24 @@ module _ (a : Acceptance) where
       (error.WrongEnd 4 end.Committed (Some end.Deposited)) (record { is = tt; joined = refl })
       (spoiled.not_own_end version.Two (nothing_told 9) one_item 1 end.Deposited after_deposit [] end.Committed
       (λ same. cc)))
+
+  -- a batch without lines under way, after these firings
+  abbrev way_after : List ℕ → UnderWay
+  way_after pids = record { batch = record { line = 1; starts = [] }; starts = []; firings = pids; state = empty }
+
+  -- a process that is not there has no step
+  nobody-fires : spoiled.Spoils a 4 (stand.fires version.Two (nothing_told 9) (way_after []) [])
+      (line.Fired 1 form.Close) (error.NotEnabled 4 1)
+  nobody-fires =
+      spoiled.not_enabled version.Two (nothing_told 9) (way_after []) [] (line.Fired 1 form.Close) 1
+      (record { process = refl; left = omega arith }) refl
+
+  -- under version 2 the number of a process alone is no firing
+  number-alone : stand.MayStand (stand.fires version.Two (nothing_told 9) (way_after []) []) (line.Pid 1) → ⊥
+  number-alone (stand.firing v told run items l pid says) = none-some pid says.process
+
+  -- and nothing fires past the limit
+  past-limit : stand.MayStand
+      (stand.fires version.Two (nothing_told 2) (way_after (1 ∷ 1 ∷ [])) []) (line.Fired 1 form.Close)
+      → ⊥
+  past-limit (stand.firing v told run items l pid says) = omega (arith, says.left)

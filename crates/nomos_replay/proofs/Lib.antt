@@ -15,4 +15,5 @@ pub mod FormLaws
 pub mod LegalTextLaws
 pub mod LengthLaws
 pub mod OneAnswerLaws
+pub mod ReplayedLaws
 pub mod RoundTripLaws
