@@ -1,0 +1,19 @@
+mod BatchLemmas
+mod EndLemmas
+mod Examples
+mod FiringLemmas
+mod FormLemmas
+mod ItemLemmas
+mod LineLemmas
+mod OnwardLemmas
+mod PartLemmas
+mod ReadingLemmas
+mod RefusalLemmas
+mod ScriptLemmas
+mod WalkLemmas
+pub mod FormLaws
+pub mod LegalTextLaws
+pub mod LengthLaws
+pub mod OneAnswerLaws
+pub mod ReplayedLaws
+pub mod RoundTripLaws

@@ -1,0 +1,4 @@
+-- Mirrors of the code, on which no promise stands.
+pub mod Reading
+pub mod Running
+pub mod Items

@@ -1,0 +1,67 @@
+//! Batches that a text says, from their first firing to their end.
+
+ghost use Rattle.std.specs.Prelude.{◌≡◌, ◌≤◌, ◌+◌, ◌^◌, ℕ, List, IfOk, MatchResult, length};
+ghost use Rattle.nomos_script.specs.declared.item.Batch.{Batch};
+ghost use Rattle.nomos_script.specs.declared.item.ScriptItem.{ScriptItem};
+ghost use Rattle.nomos_legal.specs.Ending.{IsAllowed};
+ghost use Rattle.nomos_legal.specs.StandsFor.{WorldStandsFor};
+ghost use Rattle.nomos_replay.specs.Stand.{before, fires, told_run};
+ghost use Rattle.nomos_replay.specs.Told.{Told, next_limit};
+ghost use Rattle.nomos_replay.specs.mirror.Reading.{Carries, IsCounted, Stops};
+ghost use Rattle.nomos_replay.specs.mirror.Running.{HasNumbersFor, RanOn, under_way};
+
+use crate::ends::{Kept, judge_end};
+use crate::error::ReplayError;
+use crate::firing::{FiringLine, fire_line};
+use crate::kinds::end_in;
+use crate::source::Source;
+use crate::trial::Trial;
+use nomos_deeds::undo::Undo;
+use nomos_ledger::world::World;
+use nomos_legal::journal::End;
+
+/// Reads and makes the firings of a batch that may make so many, up to its end.
+pub(crate) fn replay_firings<M: Undo>(
+    trial: &Trial<'_>,
+    source: &mut Source<'_>,
+    world: &mut World<M>,
+    most: u32,
+) -> Result<End, ReplayError>
+    requires counted { IsCounted source.old }
+    requires stands { WorldStandsFor trial.now.accepted.now world.old }
+    requires within { length world.old.firings ≤ most }
+    requires numbers { HasNumbersFor most world.old }
+    ensures read { (all items : List ScriptItem) (batch : Batch) (told : Told) → next_limit told ≡ most
+        → MatchResult result
+        (λ e. Carries trial.now.accepted.now all source.old
+        (fires trial.now.version told (under_way batch world.old) items)
+        source.new
+        (before trial.now.version (told_run trial.now.accepted.now told (under_way batch world.new) e) items))
+        (Stops trial.now.accepted.now all source.old
+        (fires trial.now.version told (under_way batch world.old) items)) }
+    ensures allowed { IfOk result
+        (IsAllowed trial.now.accepted.now world.new.state (length world.new.firings) most) }
+    ensures counted { IsCounted source.new }
+    ensures ran { IfOk result (λ _. RanOn trial.now.accepted.now most world.old world.new) }
+{
+    // Where the program is read it is known to be accepted.
+    let _program = trial.accepted.program();
+    'lines: loop {
+        let line = source.next_line(trial.alloc, trial.accepted)?;
+        match end_in(line) {
+            Ok(end) => {
+                let at = source.at;
+                return judge_end(trial.alloc, trial.accepted, world, most, Kept { at, end });
+            }
+            Err(line) => {
+                let at = source.at;
+                let read = FiringLine {
+                    line: &line,
+                    at,
+                    most,
+                };
+                fire_line(trial, world, read)?;
+            }
+        }
+    }
+}

@@ -1,0 +1,138 @@
+//! How a batch may end that is replayed, and which end is found of it.
+
+ghost use Rattle.std.specs.Prelude.{◌≡◌, ◌<◌, ◌↔◌, ℕ, IsTrue, IfOk, MatchOption, MatchResult, None, Some, length};
+ghost use Rattle.nomos_machine.specs.Step.{fault};
+ghost use Rattle.nomos_legal.specs.Ending.{EndsAs, IsAllowed};
+ghost use Rattle.nomos_legal.specs.StandsFor.{WorldStandsFor};
+ghost use Rattle.nomos_replay.specs.Spoiled.{Finds};
+ghost use Rattle.nomos_replay.specs.mirror.Running.{EndStops, IsLowestFault};
+
+use crate::error::ReplayError;
+use crate::same::is_same_end;
+use nomos_deeds::undo::Undo;
+use nomos_ir::fault::Fault;
+use nomos_ledger::world::World;
+use nomos_legal::journal::End;
+use nomos_types::accepted::Accepted;
+use std::alloc::{AllocError, Global};
+
+/// An end that is kept, and the number of its line in the text.
+#[derive(Drop)]
+pub(crate) struct Kept {
+    pub(crate) at: u32,
+    pub(crate) end: End,
+}
+
+// Whether the state of a world gives this end, faults apart.
+fn gives<M: Undo>(accepted: &Accepted, world: &World<M>, most: u32, end: &End) -> bool
+    requires { WorldStandsFor accepted.now world.now }
+    ensures { IsTrue result ↔ EndsAs accepted.now world.now.state (length world.now.firings) most end.now }
+{
+    match world.end(accepted, most) {
+        Some(given) => is_same_end(&given, end),
+        None => false,
+    }
+}
+
+// Whether the process of this number has this fault.
+fn has_fault<M: Undo>(
+    alloc: Global,
+    accepted: &Accepted,
+    world: &World<M>,
+    pid: u32,
+    cause: Fault,
+) -> Result<bool, AllocError>
+    requires { WorldStandsFor accepted.now world.now }
+    ensures { IfOk result (λ has. IsTrue has ↔ (fault accepted.now world.now.state pid ≡ Some cause)) }
+{
+    match world.fault(alloc, accepted, pid)? {
+        Some(found) => Ok(found == cause),
+        None => Ok(false),
+    }
+}
+
+// Whether a batch may end so.
+fn may_end<M: Undo>(
+    alloc: Global,
+    accepted: &Accepted,
+    world: &World<M>,
+    most: u32,
+    end: &End,
+) -> Result<bool, AllocError>
+    requires { WorldStandsFor accepted.now world.now }
+    ensures { IfOk result (λ may. IsTrue may
+        ↔ IsAllowed accepted.now world.now.state (length world.now.firings) most end.now) }
+{
+    if let End::Aborted(pid, cause) = end {
+        let has = has_fault(alloc, accepted, world, *pid, *cause)?;
+        return Ok(has && world.firings().len() < most as usize);
+    }
+    Ok(gives(accepted, world, most, end))
+}
+
+// The lowest process that has a fault, with its fault.
+fn lowest_fault<M: Undo>(
+    alloc: Global,
+    accepted: &Accepted,
+    world: &World<M>,
+) -> Result<Option<(u32, Fault)>, AllocError>
+    requires { WorldStandsFor accepted.now world.now }
+    ensures { IfOk result (λ found. MatchOption found
+        ((pid : ℕ) → fault accepted.now world.now.state pid ≡ None)
+        (λ f. IsLowestFault accepted.now world.now.state f.0 f.1)) }
+{
+    // Where the program is read it is known to be accepted.
+    let _program = accepted.program();
+    let mut after = 0;
+    while let Some(pid) = world.next_ready(accepted, after) {
+        if let Some(fault) = world.fault(alloc, accepted, pid)? {
+            return Ok(Some((pid, fault)));
+        }
+        after = pid;
+    }
+    Ok(None)
+}
+
+// The end that is found of a batch.
+fn found_end<M: Undo>(
+    alloc: Global,
+    accepted: &Accepted,
+    world: &World<M>,
+    most: u32,
+) -> Result<Option<End>, AllocError>
+    requires { WorldStandsFor accepted.now world.now }
+    ensures { IfOk result (Finds accepted.now world.now.state (length world.now.firings) most) }
+{
+    match world.end(accepted, most) {
+        Some(end) => Ok(Some(end)),
+        None => match lowest_fault(alloc, accepted, world)? {
+            Some((pid, fault)) => Ok(Some(End::Aborted(pid, fault))),
+            None => Ok(None),
+        },
+    }
+}
+
+/// The end of a batch that is kept, where the batch may end so.
+pub(crate) fn judge_end<M: Undo>(
+    alloc: Global,
+    accepted: &Accepted,
+    world: &World<M>,
+    most: u32,
+    kept: Kept,
+) -> Result<End, ReplayError>
+    requires { WorldStandsFor accepted.now world.now }
+    ensures { MatchResult result
+        (λ end. (end ≡ kept.end) × IsAllowed accepted.now world.now.state (length world.now.firings) most end)
+        (EndStops accepted.now world.now.state (length world.now.firings) most kept) }
+{
+    let Kept { at, end } = kept;
+    if may_end(alloc, accepted, world, most, &end)? {
+        return Ok(end);
+    }
+    let found = found_end(alloc, accepted, world, most)?;
+    Err(ReplayError::WrongEnd {
+        line: at,
+        kept: end,
+        found,
+    })
+}
