@@ -16,6 +16,7 @@ pub struct Orders {
 
 /// Who runs scripts: the runtime that makes threads and lets them wait, the gate that workers call before they
 /// evaluate, and the orders.
+#[derive(Drop)]
 pub struct Runner<'a, G, R> {
     pub rt: &'a R,
     pub gate: &'a G,
