@@ -1,6 +1,7 @@
 -- What a whole run gives: its report, and the text of its journal.
-use Rattle.std.proofs.Common.{◌≡◌, ◌∙◌, ℕ, List, length, take, Option, Some, sym, ap, subst}
+use Rattle.std.proofs.Common.{◌≡◌, ◌∙◌, ℕ, List, length, take, Option, Some, None, refl, sym, ap, subst}
 use Rattle.std.specs.Prelude.{Bool, true, false, IfSome}
+use Rattle.std.specs.Option.{option_map}
 use Rattle.std.proofs.Math.Seq.{take-length}
 use Rattle.nomos_types.specs.Acceptance.{Acceptance}
 use Rattle.nomos_script.specs.declared.item.ScriptItem.{ScriptItem}
@@ -53,3 +54,29 @@ whole-text {a = a} {orders = orders} runs whole given text is = record {
   lines =
       written orders.text text _ is ∙ ap (λ (limit : ℕ). journal_text_of a limit runs.passages) (sym runs.limit);
 }
+
+-- the report and the text of what is given, if the run is whole
+pub given-report : {M : Type 0} {a : Acceptance} {items : List ScriptItem} {orders : Orders} (run : ScriptRun M)
+    → RunsScript a items orders run → IfSome run.finished (λ f. IsReport a items run.journal f.report.items)
+given-report {M} {a} {items} run runs = at run.finished refl
+  where
+    at : (o : Option (WholeRun M)) → run.finished ≡ o → IfSome o (λ f. IsReport a items run.journal f.report.items)
+    at (Some whole) given = whole-report runs whole given
+    at None given = tt
+
+pub given-text : {M : Type 0} {a : Acceptance} {items : List ScriptItem} {orders : Orders} (run : ScriptRun M)
+    → RunsScript a items orders run
+    → IfSome run.finished (λ f. IfSome f.text (λ t. IsTextOf version.Two a items run.journal t.items))
+given-text {M} {a} {items} {orders} run runs = at run.finished refl
+  where
+    by : (whole : WholeRun M) → run.finished ≡ Some whole → (o : Option _) → whole.text ≡ o
+        → IfSome o (λ t. IsTextOf version.Two a items run.journal t.items)
+    by whole given (Some text) is =
+        whole-text runs whole given text.items
+        (ap (λ o. option_map (λ t. t.items) o) (sym is) ∙ (is-whole runs whole given).1.text)
+    by whole given None is = tt
+
+    at : (o : Option (WholeRun M)) → run.finished ≡ o
+        → IfSome o (λ f. IfSome f.text (λ t. IsTextOf version.Two a items run.journal t.items))
+    at (Some whole) given = by whole given whole.text refl
+    at None given = tt

@@ -1,6 +1,7 @@
 -- What becomes of the items of a script, one after another.
 use Rattle.std.proofs.Common.{◌≡◌, ◌∙◌, ℕ, ◌+◌, ◌≤◌, List, [], ◌∷◌, ◌++◌, length, take, Option, Some, refl, sym, ap, subst, arith}
-use Rattle.std.specs.Prelude.{Bool, true, false, Result, Ok, Err, OnErr}
+use Rattle.std.specs.Prelude.{Bool, true, false, Result, Ok, Err, IfOk, OnErr}
+use Rattle.std.specs.Result.{result_ok}
 use Rattle.std.specs.Option.{option_map, option_to_list}
 use Rattle.std.proofs.lemmas.Grind.{flat_map-append}
 use Rattle.std.proofs.Math.Seq.{take-length}
@@ -36,7 +37,7 @@ use Rattle.nomos_workers.specs.declared.batch.Crew.{Crew}
 use Rattle.nomos_workers.specs.declared.batch.Crew.TheVariants as crews
 use Rattle.nomos_run.proofs.RoomLemmas.{walk-made, walk-room}
 use Rattle.nomos_run.proofs.WalkLemmas.{some_same}
-use Rattle.nomos_run.specs.Carried.{journal_text_of, where_wanted}
+use Rattle.nomos_run.specs.Carried.{RunsScript, journal_text_of, where_wanted}
 use Rattle.nomos_run.specs.declared.orders.Orders.{Orders}
 use Rattle.nomos_run.specs.declared.orders.WholeRun.{WholeRun}
 use Rattle.nomos_run.specs.declared.papers.WantedTexts.{WantedTexts}
@@ -251,3 +252,31 @@ gone-whole {a = a} items n {entries} {l} orders whole accepted gone all ledger p
 pub on_err : {T E P : Type 0} (r : Result T E) → P → OnErr r P
 on_err (Ok x) holds = tt
 on_err (Err e) holds = holds
+
+-- what is given of a run, whole or not
+pub script-run : {M E : Type 0} (a : Acceptance) (items script : List ScriptItem) (orders : Orders)
+    (entries kept : List Entry) (r : Result (WholeRun M) E) (o : Option (WholeRun M)) → items ≡ script
+    → kept ≡ entries → o ≡ result_ok r → IfOk r (RunsWhole a items orders entries)
+    → OnErr r (RunsSoFar a items orders entries)
+    → RunsScript a script orders (record { journal = journal_of orders.limit kept; finished = o })
+script-run {M} {E} a items script orders entries kept r o items_are kept_is o_is whole so_far =
+    subst (λ (p : Option (WholeRun M)). RunsScript a script orders
+    (record { journal = journal_of orders.limit kept; finished = p })) (sym o_is)
+    (subst (λ (es : List Entry). RunsScript a script orders
+    (record { journal = journal_of orders.limit es; finished = result_ok r })) (sym kept_is)
+    (subst (λ (is : List ScriptItem). RunsScript a is orders
+    (record { journal = journal_of orders.limit entries; finished = result_ok r })) items_are (at r whole so_far)))
+  where
+    at : (q : Result (WholeRun M) E) → IfOk q (RunsWhole a items orders entries)
+        → OnErr q (RunsSoFar a items orders entries)
+        → RunsScript a items orders (record { journal = journal_of orders.limit entries; finished = result_ok q })
+    at (Ok f) is none = is
+    at (Err e) none is = record {
+      count = is.count;
+      passages = is.passages;
+      last = is.last;
+      limit = refl;
+      tells = is.tells;
+      follows = is.follows;
+      all = tt;
+    }

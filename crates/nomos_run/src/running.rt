@@ -1,5 +1,5 @@
 //! Runs a script: each batch is fired by a crew.
-ghost use Rattle.std.specs.Prelude.{◌≡◌, [], ◌++◌, ◌≤◌, IfOk, OnErr, OnOk};
+ghost use Rattle.std.specs.Prelude.{◌≡◌, [], ◌++◌, ◌≤◌, IfOk, IfSome, OnErr, OnOk};
 ghost use Rattle.std.specs.Option.{option_to_list};
 ghost use Rattle.nomos_script.specs.declared.item.ScriptItem.{ScriptItem};
 ghost use Rattle.nomos_script.specs.Size.{IsScriptSize};
@@ -7,6 +7,9 @@ ghost use Rattle.nomos_legal.specs.Ledger.{LedgerState};
 ghost use Rattle.nomos_legal.specs.Legal.{IsLimit, batch_limit, max_firings};
 ghost use Rattle.nomos_legal.specs.StandsFor.{StandsFor};
 ghost use Rattle.nomos_legal.specs.World.{pids_of};
+ghost use Rattle.nomos_journal.specs.JournalText.{IsTextOf};
+ghost use Rattle.nomos_journal.specs.declared.line.Version.TheVariants as version;
+ghost use Rattle.nomos_report.specs.Reported.{IsReport};
 ghost use Rattle.nomos_workers.specs.Batch.{MayRun};
 ghost use Rattle.nomos_workers.specs.Crews.{IsCrew};
 ghost use Rattle.nomos_run.specs.Carried.{RunsScript};
@@ -165,7 +168,10 @@ pub fn run_script<M: Undo + Drop + Send, G: Gate, R: Threads + Wait + Sync>(
 ) -> ScriptRun<M>
     requires crew { IsCrew runner.now.orders.crew }
     requires limit { IsLimit runner.now.orders.limit }
-    ensures { RunsScript accepted.now script.now runner.now.orders result }
+    ensures runs { RunsScript accepted.now script.now runner.now.orders result }
+    ensures report { IfSome result.finished (λ f. IsReport accepted.now script.now result.journal f.report.items) }
+    ensures text { IfSome result.finished (λ f.
+        IfSome f.text (λ t. IsTextOf version.Two accepted.now script.now result.journal t.items)) }
 {
     let mut entries = Vec::new(alloc);
     let items = script.items().as_slice();
