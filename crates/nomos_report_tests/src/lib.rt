@@ -1,0 +1,11 @@
+//! Tests: what is printed of scripts that run on contracts of the whole language, and what their journals tell.
+#![tactic(auto)]
+
+#[cfg(test)]
+mod auction;
+#[cfg(test)]
+mod journal_tests;
+#[cfg(test)]
+mod report_tests;
+#[cfg(test)]
+mod telling;
