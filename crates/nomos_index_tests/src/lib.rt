@@ -1,0 +1,5 @@
+//! Tests of the indexed state by itself.
+#![tactic(auto)]
+
+#[cfg(test)]
+mod state_tests;
