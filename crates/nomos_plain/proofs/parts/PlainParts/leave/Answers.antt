@@ -26,7 +26,8 @@ returns-in-Some-clause-sound c =
         types_fit = c.requires.room.types_fit;
         each = subst (All (HasRoom n)) (sym c.remove-object.ensures.items)
             (All-append (HasRoom n) (take at items) (drop (suc at) items)
-            (All-take (HasRoom n) at items c.requires.room.each) (All-drop (HasRoom n) (suc at) items c.requires.room.each));
+            (All-take (HasRoom n) at items c.requires.room.each)
+            (All-drop (HasRoom n) (suc at) items c.requires.room.each));
       };
       order = subst (StandInOrder c.args.self.now.next_object) (sym (ap (map object_in) c.remove-object.ensures.items))
           (removed_in_order c.args.number at c.args.self.now.next_object items found c.requires.order);

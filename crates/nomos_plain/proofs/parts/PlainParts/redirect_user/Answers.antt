@@ -35,14 +35,16 @@ returns-in-Some-place_of-clause-sound c =
       room = record {
         objects_fit = grind (arith, c.requires.room.objects_fit);
         types_fit = c.requires.room.types_fit;
-        each = All-set (HasRoom n) items at c.use_instead.new.self (c.use_instead.ensures.room n there) c.requires.room.each;
+        each = All-set (HasRoom n) items at c.use_instead.new.self (c.use_instead.ensures.room n there)
+            c.requires.room.each;
       };
-      order = placed_in_order number at c.args.self.now.next_object items found c.requires.order c.use_instead.new.self d
-          (ap object_number changed ∙ uses-numbered c.args.old c.args.new (object_in (slice_index_or items at d))
+      order = placed_in_order number at c.args.self.now.next_object items found c.requires.order
+          c.use_instead.new.self d (ap object_number changed ∙ uses-numbered c.args.old c.args.new (object_in (slice_index_or items at d))
           ∙ place_number number at items found d);
     }
 
 pub returns-in_default-place_of-clause-state : goal.returns-in_default-place_of-clause-state
 returns-in_default-place_of-clause-state c =
     let none : position (has_number c.in-Some.number) c.args.self.now.objects.items ≡ None = search rules in
-    absurd (user-placed c.args.old c.in-Some.number c.args.self.now.objects.items c.requires.order.ascending (search rules) none)
+    absurd (user-placed c.args.old c.in-Some.number c.args.self.now.objects.items c.requires.order.ascending
+    (search rules) none)
