@@ -2,6 +2,7 @@
 use Rattle.std.proofs.Common.{◌≡◌, ◌==◌, ◌||◌, ℕ, Bool, true, false, cond, List, [], ◌∷◌, map, filter, find, Option, Some, None, option_and_then, refl, sym, ap, ◌∙◌}
 use Rattle.std.specs.List.{list_any}
 use Rattle.std.specs.Option.{option_map}
+use Rattle.nomos_deeds.specs.Acts.{message_at}
 use Rattle.nomos_machine.specs.Change.{is_mentioned}
 use Rattle.nomos_machine.specs.Objects.{object_number, object_at, process_of, message_of, mentioned, used}
 use Rattle.nomos_machine.specs.Sight.{is_read_on, message_on, is_offered, offering, user_of}
@@ -58,6 +59,13 @@ pub process_found : (objects : List PlainObject) (number : ℕ)
 process_found objects number =
     ap (option_and_then process_of) (sym (find_mapped object_in (λ (o : Object). object_number o == number) objects))
     ∙ kept-mapped (find (λ (o : PlainObject). object_number (object_in o) == number) objects)
+
+pub message_numbered : (objects : List PlainObject) (number : ℕ)
+    → message_at (map object_in objects) number
+    ≡ option_and_then message_kept (find (λ o. object_number (object_in o) == number) objects)
+message_numbered objects number =
+    ap (option_and_then message_of) (sym (find_mapped object_in (λ (o : Object). object_number o == number) objects))
+    ∙ message-mapped (find (λ (o : PlainObject). object_number (object_in o) == number) objects)
 
 pub offering_found : (objects : List PlainObject) (name : ℕ)
     → offering (map object_in objects) name

@@ -1,10 +1,10 @@
 -- Objects at the place of the first one of a number.
-use Rattle.std.proofs.Common.{◌≡◌, ◌≢◌, ◌∙◌, ◌<◌, ◌==◌, ℕ, suc, Bool, true, false, not, cond, List, [], ◌∷◌, ◌++◌, map, length, Option, Some, None, slice_set, slice_index_or, refl, sym, ap, subst, arith, option_and_then, nat_lt, eq-eqb, eqb-true, ne_eqb, ◌+◌, ◌≤◌}
+use Rattle.std.proofs.Common.{◌≡◌, ◌∙◌, ◌<◌, ◌==◌, ℕ, suc, Bool, true, false, not, cond, List, [], ◌∷◌, ◌++◌, map, length, Option, Some, None, slice_set, slice_index_or, refl, sym, ap, subst, arith, option_and_then, nat_lt, eq-eqb, eqb-true, ◌+◌, ◌≤◌}
 use Rattle.std.proofs.lemmas.Bool.{ltb-true, ltb-false}
 use Rattle.std.specs.Option.{option_to_list}
 use Rattle.std.specs.List.{position, position_or_len, remove}
 use Rattle.nomos_machine.specs.Change.{put_at}
-use Rattle.nomos_machine.specs.Objects.{object_number, object_at, process_of, message_of}
+use Rattle.nomos_machine.specs.Objects.{object_number, object_at, process_of}
 use Rattle.nomos_machine.specs.Optional.{◌>>=◌}
 use Rattle.nomos_machine.specs.declared.object.Message.{Message}
 use Rattle.nomos_machine.specs.declared.object.Object.{Object}
@@ -204,41 +204,6 @@ pub put_back : (n : ℕ) (p : Process) (objects : List Object) → (object_at ob
 put_back n p objects there =
     put_in_hole n (object.Process p) objects
     ∙ put-same n (object.Process p) objects (process-found (object_at objects n) p there)
-
--- at two numbers it does not matter which comes first
-pub put-past : (n m : ℕ) (o : Object) (objects : List Object) → n ≢ m → object_number o ≡ n
-    → put_at n (Some o) (put_at m None objects) ≡ put_at m None (put_at n (Some o) objects)
-put-past n m o [] differ numbered = refl
-put-past n m o (e ∷ objects) differ numbered =
-    at (object_number e == n) refl (object_number e == m) refl (put-past n m o objects differ numbered)
-  where
-    at : (b : Bool) → (object_number e == n) ≡ b → (c : Bool) → (object_number e == m) ≡ c
-        → put_at n (Some o) (put_at m None objects) ≡ put_at m None (put_at n (Some o) objects)
-        → put_at n (Some o) (cond c objects (e ∷ put_at m None objects))
-        ≡ put_at m None (cond b (o ∷ objects) (e ∷ put_at n (Some o) objects))
-    at true here true there rest =
-        absurd (differ (sym (eqb-true (object_number e) n here) ∙ eqb-true (object_number e) m there))
-    at true here false there rest =
-        ap (λ b. cond b (o ∷ put_at m None objects) (e ∷ put_at n (Some o) (put_at m None objects))) here
-        ∙ sym (ap (λ b. cond b objects (o ∷ put_at m None objects))
-        (ne_eqb (object_number o) m (λ same. differ (sym numbered ∙ same))))
-    at false here true there rest =
-        sym (ap (λ b. cond b (put_at n (Some o) objects) (e ∷ put_at m None (put_at n (Some o) objects))) there)
-    at false here false there rest =
-        ap (λ b. cond b (o ∷ put_at m None objects) (e ∷ put_at n (Some o) (put_at m None objects))) here
-        ∙ ap (λ os. e ∷ os) rest
-        ∙ sym (ap (λ b. cond b (put_at n (Some o) objects) (e ∷ put_at m None (put_at n (Some o) objects))) there)
-
--- an object that is a message is no process
-pub numbers-differ : (n m : ℕ) (objects : List Object) (p : Process) (g : Message)
-    → (object_at objects n >>= process_of) ≡ Some p → (object_at objects m >>= message_of) ≡ Some g → n ≢ m
-numbers-differ n m objects p g there message same =
-    at (object_at objects m) (subst (λ (i : ℕ). (object_at objects i >>= process_of) ≡ Some p) same there) message
-  where
-    at : (o : Option Object) → (o >>= process_of) ≡ Some p → (o >>= message_of) ≡ Some g → ⊥
-    at (Some (object.Process q)) is other = cc
-    at (Some (object.Message g)) is other = cc
-    at None is other = cc
 
 -- ---- what is there when it is taken out
 

@@ -1,10 +1,10 @@
 //! Copies of a plain state.
 ghost use Rattle.std.specs.Prelude.{◌≡◌, ◌≤◌, IfOk, All, map};
 ghost use Rattle.std.specs.Vec.{vec_len, vec_capacity};
-ghost use Rattle.nomos_plain.specs.Parts.{HasRoom, HasSpare, object_in, process_in, state_of};
+ghost use Rattle.nomos_plain.specs.Parts.{HasRoom, IsSound, object_in, process_in, state_of};
 
 use crate::object::{PlainObject, PlainProcess};
-use crate::parts::Parts;
+use crate::parts::PlainParts;
 use nomos_ir::ids::VarId;
 use nomos_ir::value::Value;
 use nomos_machine::object::{Message, Payload, PotentialList};
@@ -130,13 +130,14 @@ fn copy_results(alloc: Global, results: &[(u32, Value)]) -> Result<Vec<(u32, Val
     Ok(made)
 }
 
-impl Parts {
+impl PlainParts {
     /// The same state once more. It has room for nothing ahead.
-    pub(crate) fn copy(&self, alloc: Global) -> Result<Parts, AllocError>
+    pub(crate) fn copy(&self, alloc: Global) -> Result<PlainParts, AllocError>
+        requires { IsSound self.now }
         ensures state { IfOk result (λ made. state_of made ≡ state_of self.now) }
-        ensures room { IfOk result (λ made. HasSpare made.spare made) }
+        ensures sound { IfOk result IsSound }
     {
-        Ok(Parts {
+        Ok(PlainParts {
             alloc,
             objects: copy_objects(alloc, &self.objects)?,
             next_object: self.next_object,
@@ -146,7 +147,7 @@ impl Parts {
             spent: self.spent,
             results: copy_results(alloc, &self.results)?,
             outside: copy_items(alloc, &self.outside)?,
-            spare: 0,
+            room: 0,
         })
     }
 }

@@ -6,6 +6,7 @@ ghost use Rattle.nomos_ir.specs.Bindings.{bound_to};
 ghost use Rattle.nomos_machine.specs.Objects.{object_number, object_at, process_of, message_of, mentioned, used};
 ghost use Rattle.nomos_machine.specs.declared.object.Object.TheVariants as object;
 ghost use Rattle.nomos_machine.specs.Sight.{same_way, is_read_on, message_on, is_offered, offering, user_of};
+ghost use Rattle.nomos_deeds.specs.Acts.{message_at};
 ghost use Rattle.nomos_deeds.specs.Seen.{seen_process, seen_payload, seen_message};
 ghost use Rattle.nomos_plain.specs.Parts.{any_mentions, has_number, object_in, process_in};
 
@@ -46,6 +47,17 @@ pub(crate) fn process_at(objects: &[PlainObject], pid: u32) -> Option<&PlainProc
 {
     match object_at(objects, pid) {
         Some(PlainObject::Process(p)) => Some(p),
+        _ => None,
+    }
+}
+
+/// The message of this number.
+#[tactic(auto, using(crate::proofs::FindLemmas::message_numbered))]
+pub(crate) fn message_at(objects: &[PlainObject], number: u32) -> Option<&Message>
+    ensures { option_copied result ≡ message_at (map object_in objects.now) number }
+{
+    match object_at(objects, number) {
+        Some(PlainObject::Message(m)) => Some(m),
         _ => None,
     }
 }

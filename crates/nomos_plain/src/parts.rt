@@ -1,15 +1,12 @@
-//! What a plain state keeps, and the small changes that acts are made of.
-ghost use Rattle.std.specs.Prelude.{◌≡◌, ◌≤◌, ◌<◌, ◌+◌, ◌-◌, ◌*◌, ◌∷◌, ◌++◌, ◌^◌, [], ℕ, All, IsOk, IsSome, IfSome, OnOk, OnErr, Some, None, filter, length, map, slice_index};
-ghost use Rattle.std.specs.Option.{option_map, option_to_list};
+//! What a plain state keeps, processes that are taken out of it and put back, and its room.
+ghost use Rattle.std.specs.Prelude.{◌≡◌, ◌≤◌, ◌+◌, ℕ, All, IsOk, IsSome, IfSome, OnOk, Some, filter, map};
 ghost use Rattle.std.specs.Vec.{vec_len, vec_capacity};
-ghost use Rattle.nomos_deeds.specs.Acting.{HasNumbers};
-ghost use Rattle.nomos_machine.specs.Change.{put_at, tidied, paid_in};
-ghost use Rattle.nomos_machine.specs.Objects.{object_at};
+ghost use Rattle.nomos_machine.specs.Change.{put_at, tidied};
 ghost use Rattle.nomos_machine.specs.State.{process_at};
 ghost use Rattle.nomos_machine.specs.declared.object.Object.TheVariants as object;
 ghost use Rattle.nomos_machine.specs.declared.object.Process.{Process};
 ghost use Rattle.nomos_plain.specs.declared.object.PlainProcess.{PlainProcess as Kept};
-ghost use Rattle.nomos_plain.specs.Parts.{any_mentions, HasRoom, HasSpare, HasSpareBut, KeepsRoom, hole, object_in, process_in, state_of};
+ghost use Rattle.nomos_plain.specs.Parts.{any_mentions, HasRoom, HasSpare, IsSound, hole, object_in, process_in, state_of};
 
 use crate::finds::{any_mentions, place_of};
 use crate::object::{PlainObject, PlainProcess};
@@ -21,7 +18,7 @@ use std::mem;
 
 /// What a plain state keeps.
 #[derive(Drop, Debug)]
-pub(crate) struct Parts {
+pub(crate) struct PlainParts {
     pub(crate) alloc: Global,
     pub(crate) objects: Vec<PlainObject>,
     pub(crate) next_object: u32,
@@ -31,8 +28,8 @@ pub(crate) struct Parts {
     pub(crate) spent: u128,
     pub(crate) results: Vec<(u32, Value)>,
     pub(crate) outside: Vec<u32>,
-    /// For how many firings ahead there is room.
-    pub(crate) spare: usize,
+    /// For how many small changes there is room.
+    pub(crate) room: usize,
 }
 
 // What stands for a while where an object of this number is taken out.
@@ -53,9 +50,8 @@ impl PlainObject {
     // Makes room for so many channels more, where it is a process.
     fn reserve(&mut self, channels: usize) -> Result<(), AllocError>
         ensures object { object_in self.new ≡ object_in self.old }
-        ensures ok { (n : ℕ) → channels ≡ 2 * n → OnOk result (HasRoom n self.new) }
+        ensures ok { OnOk result (HasRoom channels self.new) }
         ensures room { (n : ℕ) → HasRoom n self.old → HasRoom n self.new }
-        ensures frugal { (n : ℕ) → channels ≡ 2 * n → HasRoom n self.old → IsOk result }
     {
         match self {
             PlainObject::Process(process) => process.channels.reserve(channels),
@@ -69,9 +65,8 @@ fn reserve_channels(objects: &mut Vec<PlainObject>, channels: usize) -> Result<(
     ensures objects { map object_in objects.new.items ≡ map object_in objects.old.items }
     ensures len { vec_len objects.new ≡ vec_len objects.old }
     ensures capacity { vec_capacity objects.new ≡ vec_capacity objects.old }
-    ensures ok { (n : ℕ) → channels ≡ 2 * n → OnOk result (All (HasRoom n) objects.new.items) }
+    ensures ok { OnOk result (All (HasRoom channels) objects.new.items) }
     ensures room { (n : ℕ) → All (HasRoom n) objects.old.items → All (HasRoom n) objects.new.items }
-    ensures frugal { (n : ℕ) → channels ≡ 2 * n → All (HasRoom n) objects.old.items → IsOk result }
 {
     for at in 0..objects.len() {
         objects[at].reserve(channels)?;
@@ -88,10 +83,11 @@ fn drop_unmentioned(objects: &[PlainObject], types: &mut Vec<(u32, TypeId)>)
     types.retain(|t| any_mentions(objects, t.0));
 }
 
-impl Parts {
+impl PlainParts {
     /// Takes out the process of this number; a hole stands there meanwhile.
     #[tactic(auto, using(crate::proofs::PlaceLemmas::place_within, crate::proofs::PlaceLemmas::place_set, crate::proofs::PlaceLemmas::place_found))]
     pub(crate) fn take(&mut self, pid: u32) -> Option<PlainProcess>
+        requires { IsSound self.old }
         ensures found { (p : Process) → process_at (state_of self.old) pid ≡ Some p
             → IfSome result (λ k. process_in k ≡ p) }
         ensures some { (p : Process) → process_at (state_of self.old) pid ≡ Some p → IsSome result }
@@ -99,12 +95,9 @@ impl Parts {
         ensures pid { IfSome result (λ k. k.pid ≡ pid) }
         ensures state { IfSome result (λ k. state_of self.new ≡ record (state_of self.old)
             { objects = put_at pid (Some (object.Message (hole pid))) (state_of self.old).objects }) }
-        ensures next_object { self.new.next_object ≡ self.old.next_object }
-        ensures next_name { self.new.next_name ≡ self.old.next_name }
-        ensures spare { (n : ℕ) → HasSpare n self.old → HasSpare n self.new }
-        ensures keeps { KeepsRoom self.old self.new }
-        ensures room { (n : ℕ) (k : Kept) → HasSpare n self.old → result ≡ Some k
-            → vec_len k.channels + 2 * n ≤ vec_capacity k.channels }
+        ensures sound { IsSound self.new }
+        ensures channels { (k : Kept) → result ≡ Some k → vec_len k.channels + self.old.room ≤ vec_capacity k.channels }
+        ensures room { self.new.room ≡ self.old.room }
     {
         let at = place_of(&self.objects, pid)?;
         match mem::replace(&mut self.objects[at], hole(pid)) {
@@ -119,82 +112,55 @@ impl Parts {
     /// Puts a process where one of its number stands, or a hole.
     #[tactic(auto, using(crate::proofs::PlaceLemmas::place_within, crate::proofs::PlaceLemmas::place_set, crate::proofs::PlaceLemmas::put_nowhere))]
     pub(crate) fn put(&mut self, process: PlainProcess)
+        requires sound { IsSound self.old }
+        requires channels { vec_len process.channels + self.old.room ≤ vec_capacity process.channels }
         ensures state { state_of self.new ≡ record (state_of self.old)
             { objects = put_at process.pid (Some (object.Process (process_in process))) (state_of self.old).objects } }
-        ensures spare { (n : ℕ) → HasSpare n self.old → vec_len process.channels + 2 * n ≤ vec_capacity process.channels
-            → HasSpare n self.new }
-        ensures keeps { KeepsRoom self.old self.new }
+        ensures sound { IsSound self.new }
+        ensures room { self.new.room ≡ self.old.room }
     {
         if let Some(at) = place_of(&self.objects, process.pid) {
             self.objects[at] = PlainObject::Process(process);
         }
     }
 
-    /// Takes away the object of this number.
-    #[tactic(auto, using(crate::proofs::PlaceLemmas::place_within, crate::proofs::PlaceLemmas::place_removed, crate::proofs::PlaceLemmas::place_found, crate::proofs::PlaceLemmas::place_none, crate::proofs::PlaceLemmas::put_nowhere))]
-    pub(crate) fn remove(&mut self, number: u32) -> Option<PlainObject>
-        ensures state { state_of self.new ≡ record (state_of self.old)
-            { objects = put_at number None (state_of self.old).objects } }
-        ensures found { option_map object_in result ≡ object_at (state_of self.old).objects number }
-        ensures spare { (n : ℕ) → HasSpare n self.old → HasSpare n self.new }
-    {
-        let at = place_of(&self.objects, number)?;
-        Some(self.objects.remove(at))
-    }
-
-    /// Makes room for so many firings ahead. Want of memory leaves the state as it was.
-    pub(crate) fn reserve(&mut self, firings: usize) -> Result<(), AllocError>
+    // Makes room for so many small changes. Want of memory leaves the state as it was.
+    fn reserve(&mut self, changes: usize) -> Result<(), AllocError>
+        requires { IsSound self.old }
         ensures state { state_of self.new ≡ state_of self.old }
-        ensures ok { OnOk result (HasSpare firings self.new) }
-        ensures spare { (n : ℕ) → HasSpare n self.old → HasSpare n self.new }
-        ensures frugal { firings ≡ 1 → HasSpare 1 self.old → IsOk result }
-        ensures count { self.new.spare ≡ self.old.spare }
+        ensures ok { OnOk result (HasSpare changes self.new) }
+        ensures sound { IsSound self.new }
+        ensures room { self.new.room ≡ self.old.room }
     {
-        self.objects.reserve(firings)?;
-        self.types.reserve(firings)?;
-        let twice = firings.checked_mul(2).ok_or(AllocError)?;
-        reserve_channels(&mut self.objects, twice)
+        self.objects.reserve(changes)?;
+        self.types.reserve(changes)?;
+        reserve_channels(&mut self.objects, changes)
     }
 
-    /// An object comes, and the next name has a type, where there are such.
-    pub(crate) fn add(&mut self, comes: Option<PlainObject>, next_type: Option<TypeId>)
-        requires objects { vec_len self.old.objects < vec_capacity self.old.objects }
-        requires types { vec_len self.old.types < vec_capacity self.old.types }
-        requires numbers { HasNumbers (state_of self.old) }
-        ensures state { state_of self.new ≡ record (state_of self.old) {
-          objects = (state_of self.old).objects ++ option_to_list (option_map object_in comes);
-          next_object = self.old.next_object + length (option_to_list (option_map object_in comes));
-          next_name = self.old.next_name + length (option_to_list next_type);
-          types = self.old.types.items ++ map (λ t. (self.old.next_name, t)) (option_to_list next_type);
-        } }
-        ensures spare { (n : ℕ) → HasSpareBut n self.old → IfSome comes (λ o. HasRoom n o) → HasSpare n self.new }
+    /// Makes room for so many small changes, and counts it. Where there is room already, it cannot fail. Want of memory
+    /// leaves the state as it was.
+    pub(crate) fn make_room(&mut self, changes: usize) -> Result<(), AllocError>
+        requires { IsSound self.old }
+        ensures state { state_of self.new ≡ state_of self.old }
+        ensures ok { OnOk result (changes ≤ self.new.room) }
+        ensures sound { IsSound self.new }
+        ensures room { self.old.room ≤ self.new.room }
+        ensures frugal { changes ≤ self.old.room → IsOk result }
     {
-        if let Some(object) = comes {
-            self.objects.push_reserved(object);
-            self.next_object += 1;
+        if changes <= self.room {
+            return Ok(());
         }
-        if let Some(t) = next_type {
-            self.types.push_reserved((self.next_name, t));
-            self.next_name += 1;
-        }
-    }
-
-    /// An account gets so many Dths.
-    pub(crate) fn pay(&mut self, account: u32, dths: u128)
-        requires account { account < length self.old.balances.items }
-        requires fits { slice_index self.old.balances.items account + dths < 2 ^ 128 }
-        ensures state { state_of self.new ≡ record (state_of self.old)
-            { balances = paid_in (Some (account, dths)) self.old.balances.items } }
-        ensures spare { (n : ℕ) → HasSpare n self.old → HasSpare n self.new }
-    {
-        self.balances[account as usize] += dths;
+        self.reserve(changes)?;
+        self.room = changes;
+        Ok(())
     }
 
     /// Names that no object mentions have no type any more.
     pub(crate) fn tidy(&mut self)
+        requires { IsSound self.old }
         ensures state { state_of self.new ≡ tidied (state_of self.old) }
-        ensures spare { (n : ℕ) → HasSpare n self.old → HasSpare n self.new }
-        ensures count { self.new.spare ≡ self.old.spare }
+        ensures sound { IsSound self.new }
+        ensures room { self.new.room ≡ self.old.room }
     {
         drop_unmentioned(&self.objects, &mut self.types);
     }

@@ -2,11 +2,11 @@
 ghost use Rattle.std.specs.Prelude.{◌≡◌, IfOk};
 ghost use Rattle.nomos_deeds.specs.Seen.{seen_list};
 ghost use Rattle.nomos_machine.specs.State.{empty};
+ghost use Rattle.nomos_plain.specs.Plain.{spare};
 
 use crate::finds::{message_on, offering, process_at, seen_message, seen_process, user};
-use crate::given::list_of;
-use crate::parts::Parts;
-use crate::readers;
+use crate::parts::PlainParts;
+use crate::readers::{self, list_of};
 use crate::weights::{affords, is_light_with};
 use nomos_deeds::act::Act;
 use nomos_deeds::acting::Acting;
@@ -17,6 +17,9 @@ use nomos_ir::ids::{ProcId, TypeId, VarId};
 use nomos_ir::value::{Value, Values};
 use nomos_ir::value_node::ValueNode;
 use nomos_machine::object::PotentialList;
+use nomos_parts::parts::Parts;
+use nomos_parts::performing::{Intent, ROOM_OF_AN_ACT, perform};
+use nomos_parts::starting::{Line, start};
 use nomos_types::accepted::Accepted;
 use std::alloc::{AllocError, Global};
 use std::marker::Model;
@@ -24,13 +27,14 @@ use std::marker::Model;
 /// A state that is kept as plain lists, which are scanned. No state is ever marked.
 #[derive(Drop, Debug)]
 pub struct PlainState {
-    parts: Parts,
+    pub(crate) parts: PlainParts,
 }
 
 impl Model for PlainState {
     ghost use Rattle.std.specs.Coded.{codes};
     ghost use Rattle.nomos_ir.specs.ValueCode.{value_code};
-    ghost use Rattle.nomos_plain.specs.Plain.{Plain, plain_of, HasCountedRoom};
+    ghost use Rattle.nomos_plain.specs.Parts.{IsSound};
+    ghost use Rattle.nomos_plain.specs.Plain.{Plain, plain_of};
 
     ghost Value = { Plain };
 
@@ -38,7 +42,7 @@ impl Model for PlainState {
 
     ghost view = { λ s. plain_of s.parts };
 
-    ghost invariant = { λ s. HasCountedRoom s.parts };
+    ghost invariant = { λ s. IsSound s.parts };
 }
 
 // What is seen of a list.
@@ -114,10 +118,11 @@ impl Sight for PlainState {
 }
 
 impl Acting for PlainState {
-    ghost spare = { λ s. s.spare };
+    ghost spare = { spare };
 
     fn reserve(&mut self, firings: usize) -> Result<(), AllocError> {
-        self.parts.reserve_ahead(firings)
+        let changes = firings.checked_mul(ROOM_OF_AN_ACT).ok_or(AllocError)?;
+        self.make_room(changes)
     }
 
     fn perform(
@@ -128,7 +133,7 @@ impl Acting for PlainState {
         act: Act,
         values: Values,
     ) -> Result<(), AllocError> {
-        self.parts.perform(alloc, accepted, pid, act, values)
+        perform(self, alloc, accepted, Intent { pid, act, values })
     }
 }
 
@@ -159,7 +164,14 @@ impl Machine for PlainState {
         given: (&Values, &[u32]),
         payer: u32,
     ) -> Result<u32, AllocError> {
-        self.parts.start(alloc, accepted, declaration, given, payer)
+        let keep = self.parts.room;
+        let line = Line {
+            declaration,
+            values: given.0,
+            names: given.1,
+            payer,
+        };
+        start(self, alloc, accepted, line, keep)
     }
 
     fn balance(&self, account: u32) -> Option<u128> {
@@ -223,10 +235,10 @@ impl PlainState {
     /// The state with nothing in it, in which both next numbers are 1. It takes no memory.
     pub fn empty(alloc: Global) -> Self
         ensures state { result.state ≡ empty }
-        ensures spare { result.spare ≡ 0 }
+        ensures spare { spare result ≡ 0 }
     {
         PlainState {
-            parts: Parts {
+            parts: PlainParts {
                 alloc,
                 objects: Vec::new(alloc),
                 next_object: 1,
@@ -236,7 +248,7 @@ impl PlainState {
                 spent: 0,
                 results: Vec::new(alloc),
                 outside: Vec::new(alloc),
-                spare: 0,
+                room: 0,
             },
         }
     }

@@ -1,19 +1,25 @@
 //! What can be read of a plain state, and walks over it in ascending order.
-ghost use Rattle.std.specs.Prelude.{◌≡◌, ◌<◌, ◌^◌, ◌&&◌, nat_lt, map, find, MatchOption, None, option_and_then, option_copied, sum_by};
+ghost use Rattle.std.specs.Prelude.{◌≡◌, ◌<◌, ◌^◌, ◌&&◌, nat_lt, map, find, IfOk, MatchOption, None, Some, option_and_then, option_copied, sum_by};
 ghost use Rattle.std.specs.List.Sorted.{IsStrictlySortedBy};
 ghost use Rattle.std.specs.Option.{option_map};
 ghost use Rattle.std.specs.Ordering.{nat_cmp};
+ghost use Rattle.nomos_ir.specs.Bindings.{bound_to};
+ghost use Rattle.nomos_machine.specs.Deeds.{value_in};
 ghost use Rattle.nomos_machine.specs.Objects.{object_at, object_number, process_of, purse_of};
 ghost use Rattle.nomos_machine.specs.Run.{IsNextReady, NoneReady};
 ghost use Rattle.nomos_machine.specs.Sight.{user_of};
 ghost use Rattle.nomos_machine.specs.State.{type_of};
 ghost use Rattle.nomos_machine.specs.TypedState.{IsTyped};
+ghost use Rattle.nomos_machine.specs.declared.object.Message.{Message as Sent};
+ghost use Rattle.nomos_machine.specs.declared.object.Process.{Process};
+ghost use Rattle.nomos_deeds.specs.Acts.{message_at};
 ghost use Rattle.nomos_deeds.specs.Lowest.{FindsNext};
+ghost use Rattle.nomos_parts.specs.SmallChanges.{value_brought};
 ghost use Rattle.nomos_deeds.specs.Readers.{IsLinearName, IsTransaction, IsWaiting, acquires, keeper, looks_linear, stands_for, view_of, waits};
 ghost use Rattle.nomos_plain.specs.Parts.{object_in, process_in};
 ghost use Rattle.nomos_plain.specs.Walks.{is_acquiring, is_over, is_ready_in, is_transaction};
 
-use crate::finds::{process_at, user};
+use crate::finds::{message_at, process_at, user};
 use crate::object::{PlainObject, PlainProcess};
 use nomos_deeds::deeds::looks_ready;
 use nomos_deeds::machine::View;
@@ -22,9 +28,12 @@ use nomos_deeds::types::is_linear;
 use nomos_ir::bindings::bound_first;
 use nomos_ir::code_node::CodeNode;
 use nomos_ir::find::find_code;
-use nomos_ir::ids::TypeId;
+use nomos_ir::ids::{TypeId, VarId};
 use nomos_ir::mode::Mode;
+use nomos_ir::value::Value;
+use nomos_machine::object::{Payload, PotentialList};
 use nomos_types::accepted::Accepted;
+use std::alloc::{AllocError, Global};
 
 // What an object carries, in Dths.
 fn purse_of(o: &PlainObject) -> u128
@@ -56,6 +65,63 @@ pub(crate) fn view(objects: &[PlainObject], pid: u32) -> Option<View>
         base: p.base,
         purse: p.purse,
     })
+}
+
+/// The list of a variable.
+pub(crate) fn list_of(lists: &[(VarId, PotentialList)], w: VarId) -> Option<&PotentialList>
+    ensures { option_copied result ≡ bound_to w.0 lists.now }
+{
+    for pair in lists {
+        if pair.0 == w {
+            return Some(&pair.1);
+        }
+    }
+    None
+}
+
+/// The lists of the process of this number.
+pub(crate) fn lists(objects: &[PlainObject], pid: u32) -> &[(VarId, PotentialList)]
+    ensures { (p : Process) → option_and_then process_of (object_at (map object_in objects.now) pid) ≡ Some p
+        → result.now ≡ p.lists }
+{
+    match process_at(objects, pid) {
+        Some(p) => &p.lists,
+        None => &[],
+    }
+}
+
+/// What the message of this number carries, in Dths.
+pub(crate) fn message_purse(objects: &[PlainObject], number: u32) -> u128
+    ensures { (m : Sent) → message_at (map object_in objects.now) number ≡ Some m → result ≡ m.purse }
+{
+    match message_at(objects, number) {
+        Some(m) => m.purse,
+        None => 0,
+    }
+}
+
+// The value among what a message brings, once more.
+fn copy_brought(alloc: Global, payload: &Payload) -> Result<Option<Value>, AllocError>
+    ensures { IfOk result (λ found. found ≡ value_in payload.now) }
+{
+    match payload {
+        Payload::Value(x) => Ok(Some(x.copy(alloc)?)),
+        _ => Ok(None),
+    }
+}
+
+/// The value that the message of this number brings, if it brings one, once more.
+pub(crate) fn message_value(
+    alloc: Global,
+    objects: &[PlainObject],
+    number: u32,
+) -> Result<Option<Value>, AllocError>
+    ensures { IfOk result (λ found. found ≡ value_brought (map object_in objects.now) number) }
+{
+    match message_at(objects, number) {
+        Some(m) => copy_brought(alloc, &m.payload),
+        None => Ok(None),
+    }
 }
 
 // The shared name for which a process waits, where it stands at `acquire`.

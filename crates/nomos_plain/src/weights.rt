@@ -5,7 +5,8 @@ ghost use Rattle.nomos_ir.specs.ValueNode.{value_of};
 ghost use Rattle.nomos_ir.specs.Weight.{weight, list_weight};
 ghost use Rattle.nomos_machine.specs.Deeds.{is_light, lengthened};
 ghost use Rattle.nomos_machine.specs.Objects.{potential_of};
-ghost use Rattle.nomos_plain.specs.Parts.{potential_in, process_in};
+ghost use Rattle.nomos_parts.specs.Gives.{potential_in};
+ghost use Rattle.nomos_plain.specs.Parts.{process_in};
 
 use crate::object::PlainProcess;
 use nomos_ir::ids::VarId;

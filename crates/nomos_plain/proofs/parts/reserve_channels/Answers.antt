@@ -3,7 +3,6 @@ use Rattle.std.proofs.Math.Seq.{map-set_same, take-length}
 use Rattle.std.proofs.lemmas.Grind.{take-set_at}
 use Rattle.std.proofs.lemmas.List.Elements.{All-set, All-nil, All-cons, All-append}
 use Rattle.nomos_plain.specs.Parts.{HasRoom, object_in}
-use Rattle.nomos_plain.proofs.TakeLemmas.{not-ok}
 use Rattle.nomos_plain.proofs.parts.reserve_channels.Goals as goal
 
 pub returns-in_err-reserve-clause-objects : goal.returns-in_err-reserve-clause-objects
@@ -18,13 +17,6 @@ returns-in_err-reserve-clause-room c n all =
     (before c.loop-at.at c.index_mut.result.now (search rules)) in
     All-set (HasRoom n) c.loop-at.objects.items c.loop-at.at c.reserve.new.self (c.reserve.ensures.room n there) before
 
-pub returns-in_err-reserve-clause-frugal : goal.returns-in_err-reserve-clause-frugal
-returns-in_err-reserve-clause-frugal c n twice all =
-    let before = c.loop-at.invariant.3 n all in
-    let there : HasRoom n c.index_mut.result.now = subst (HasRoom n) (sym c.index_mut.ensures.value)
-    (before c.loop-at.at c.index_mut.result.now (search rules)) in
-    absurd (not-ok c.reserve.result c.in_err-reserve.field-0.0 c.in_err-reserve.was (c.reserve.ensures.frugal n twice there))
-
 pub loop-at-preserved : goal.loop-at-preserved
 loop-at-preserved c = (
   map-set_same object_in c.loop-at.objects.items c.loop-at.at c.reserve.new.self c.index_mut.result.now
@@ -36,17 +28,17 @@ loop-at-preserved c = (
       let there : HasRoom n c.index_mut.result.now = subst (HasRoom n) (sym c.index_mut.ensures.value)
       (before c.loop-at.at c.index_mut.result.now (search rules)) in
       All-set (HasRoom n) c.loop-at.objects.items c.loop-at.at c.reserve.new.self (c.reserve.ensures.room n there) before,
-  λ n twice.
+  let n = c.args.channels in
       let within : c.loop-at.at < length c.loop-at.objects.items = search rules in
       subst (All (HasRoom n))
       (sym (take-set_at c.loop-at.objects.items c.loop-at.at (c.loop-at.at + 1) c.reserve.new.self refl within))
       (All-append (HasRoom n) (take c.loop-at.at c.loop-at.objects.items) (c.reserve.new.self ∷ [])
-      (c.loop-at.invariant.4 n twice)
-      (All-cons (HasRoom n) c.reserve.new.self [] (c.in_ok-reserve.ensures.ok n twice) (All-nil (HasRoom n)))),
+      c.loop-at.invariant.4
+      (All-cons (HasRoom n) c.reserve.new.self [] c.in_ok-reserve.ensures.ok (All-nil (HasRoom n)))),
 )
 
 pub returns-clause-ok : goal.returns-clause-ok
-returns-clause-ok c n twice =
+returns-clause-ok c =
     let ends : c.loop-at.at ≡ length c.loop-at.objects.items = grind arith in
-    subst (All (HasRoom n)) (ap (λ (i : ℕ). take i c.loop-at.objects.items) ends ∙ take-length c.loop-at.objects.items)
-    (c.loop-at.invariant.4 n twice)
+    subst (All (HasRoom c.args.channels))
+    (ap (λ (i : ℕ). take i c.loop-at.objects.items) ends ∙ take-length c.loop-at.objects.items) c.loop-at.invariant.4

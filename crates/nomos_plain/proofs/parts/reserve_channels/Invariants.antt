@@ -1,4 +1,4 @@
-use Rattle.std.proofs.Common.{◌≡◌, ◌*◌, ℕ, All, map, take}
+use Rattle.std.proofs.Common.{◌≡◌, ℕ, All, map, take}
 use Rattle.std.specs.Vec.{vec_len, vec_capacity}
 use Rattle.nomos_plain.specs.Parts.{HasRoom, object_in}
 use Rattle.nomos_plain.proofs.parts.reserve_channels.Given as goal
@@ -10,4 +10,4 @@ invariant-loop-at l =
     × (vec_len l.objects ≡ vec_len l.fn.objects)
     × (vec_capacity l.objects ≡ vec_capacity l.fn.objects)
     × ((n : ℕ) → All (HasRoom n) l.fn.objects.items → All (HasRoom n) l.objects.items)
-    × ((n : ℕ) → l.fn.channels ≡ 2 * n → All (HasRoom n) (take l.at l.objects.items))
+    × All (HasRoom l.fn.channels) (take l.at l.objects.items)

@@ -1,0 +1,15 @@
+use Rattle.std.proofs.Common.{rules, ◌≡◌, ◌∙◌, option_and_then, option_copied, sym, ap}
+use Rattle.nomos_plain.proofs.FindLemmas.{message_kept, message_numbered}
+use Rattle.nomos_plain.proofs.finds.message_at.Goals as goal
+
+pub returns-in-Some-Message : goal.returns-in-Some-Message
+returns-in-Some-Message c =
+    let seen : option_and_then message_kept (option_copied c.object_at.result) ≡ _ = search rules in
+    sym (message_numbered c.args.objects.now c.args.number
+    ∙ ap (option_and_then message_kept) (sym c.object_at.ensures) ∙ seen)
+
+pub returns-in_default : goal.returns-in_default
+returns-in_default c =
+    let seen : option_and_then message_kept (option_copied c.object_at.result) ≡ _ = search rules in
+    sym (message_numbered c.args.objects.now c.args.number
+    ∙ ap (option_and_then message_kept) (sym c.object_at.ensures) ∙ seen)
