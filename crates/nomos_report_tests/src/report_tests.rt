@@ -1,8 +1,9 @@
 //! Tests: what is printed of scripts on contracts of the whole language.
 
-use crate::auction::{AUCTION, TWO_BIDS, TWO_BIDS_REPORT};
+use crate::auction::{TWO_BIDS, TWO_BIDS_REPORT};
 use crate::telling::{expect_bytes, tell, tell_by};
 use nomos_machine::policy::Policy;
+use nomos_words::load::auction_text;
 use nomos_workers::batch::Crew;
 use std::test::Fail;
 
@@ -52,8 +53,9 @@ type Case<'a> = (&'a str, &'a str, Policy, &'a str);
 // Batches that stay, with results, gas in parts of a unit, and what a `show` prints.
 #[test]
 fn batches_stay(rt: HostRuntime) -> Result<(), Fail> {
+    let auction = str::from_utf8(auction_text())?;
     let table: [Case; 5] = [
-        (AUCTION, TWO_BIDS, Policy::First, TWO_BIDS_REPORT),
+        (auction, TWO_BIDS, Policy::First, TWO_BIDS_REPORT),
         (
             TALKS,
             "deposit u 0
