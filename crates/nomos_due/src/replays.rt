@@ -1,6 +1,6 @@
 //! What is due where a journal is replayed.
 
-ghost use Rattle.std.specs.Prelude.{◌≡◌, ◌++◌, ℕ, List, Some, None, OnOk, IfOk, IfErr};
+ghost use Rattle.std.specs.Prelude.{◌≡◌, ◌≢◌, ℕ, List, Some, None, IfOk, IfErr};
 ghost use Rattle.nomos_script.specs.ScriptReading.{ReadsAs};
 ghost use Rattle.nomos_script.specs.declared.item.ScriptItem.{ScriptItem};
 ghost use Rattle.nomos_legal.specs.declared.journal.Journal.{Journal};
@@ -10,7 +10,6 @@ ghost use Rattle.nomos_replay.specs.Refusal.{refusal_line};
 ghost use Rattle.nomos_replay.specs.Written.{AreWritten};
 ghost use Rattle.nomos_report.specs.Reported.{run_status};
 ghost use Rattle.nomos_due.specs.Finding.{IsBare};
-ghost use Rattle.nomos_due.specs.Lines.{no_entries};
 ghost use Rattle.nomos_due.specs.Outside.{FaultCounts, source_state};
 ghost use Rattle.nomos_due.specs.Replays.{GivesJournal, no_journal, usual_limit};
 ghost use Rattle.nomos_due.specs.Sources.{IsJournalDueFor, IsReplayDueFor};
@@ -41,13 +40,25 @@ fn refusal_line(alloc: Global, unit: u32, why: &ReplayError) -> Result<Vec<u8>, 
 }
 
 // What is due of a journal that is refused.
-fn refused_due(alloc: Global, unit: u32, why: &ReplayError) -> Result<Due, Journal>
+fn refused_line_due(alloc: Global, unit: u32, why: &ReplayError) -> Result<Due, Journal>
     ensures ok { IfOk result (λ due. IsBare due 9 (refusal_line unit why.now) usual_limit) }
     ensures err { IfErr result (λ journal. journal ≡ no_journal) }
 {
     match refusal_line(alloc, unit, why) {
         Ok(out) => Ok(bare_due(alloc, USUAL_LIMIT, 9, out)),
         Err(_) => Err(no_entries(alloc, USUAL_LIMIT)),
+    }
+}
+
+// What is due of a journal that is refused, unless memory was wanting.
+fn refused_due(alloc: Global, unit: u32, why: &ReplayError) -> Result<Due, Journal>
+    ensures ok { IfOk result (λ due. IsBare due 9 (refusal_line unit why.now) usual_limit) }
+    ensures known { IfOk result (λ _. why.now ≢ ReplayError.NoMemory) }
+    ensures err { IfErr result (λ journal. journal ≡ no_journal) }
+{
+    match why {
+        ReplayError::NoMemory => Err(no_entries(alloc, USUAL_LIMIT)),
+        _ => refused_line_due(alloc, unit, why),
     }
 }
 
@@ -59,7 +70,9 @@ fn replayed_due<M: Undo + Drop>(replayed: Replayed<M>) -> Due
     ensures journal { result.journal ≡ replayed.journal }
 {
     let Replayed {
-        journal, report, ..
+        journal,
+        report,
+        ..
     } = replayed;
     Due {
         status: run_status(journal.entries.as_slice()),
@@ -85,7 +98,6 @@ fn text_due<M: Undo + Drop>(
 {
     match replay::<M>(alloc, accepted, script, bytes) {
         Ok(replayed) => Ok(replayed_due(replayed)),
-        Err(ReplayError::NoMemory) => Err(no_entries(alloc, USUAL_LIMIT)),
         Err(why) => refused_due(alloc, accepted.unit(), &why),
     }
 }

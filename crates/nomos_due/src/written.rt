@@ -1,24 +1,38 @@
 //! How what is due is written.
 
-ghost use Rattle.std.specs.Prelude.{◌≡◌, ◌⊎◌, None};
+ghost use Rattle.std.specs.Prelude.{◌≡◌, ◌⊎◌, ℕ, List, Some, None};
 ghost use Rattle.nomos_base.specs.Sink.{with_end};
-ghost use Rattle.nomos_due.specs.Outside.{sink_state};
+ghost use Rattle.nomos_due.specs.Outside.{SinkState, sink_state};
 ghost use Rattle.nomos_due.specs.Sources.{kept_text};
 ghost use Rattle.nomos_due.specs.Written.{IsWritten};
 
 use crate::due::Due;
 use nomos_base::{Sink, write_all};
 
-// Writes the text of a journal, if there is one.
+// Writes the text of a journal, behind the output.
+fn write_text<K: Sink>(status: u8, text: &[u8], journal_out: &mut K) -> u8
+    ensures { (bytes : List ℕ) (out : SinkState) → out.after ≡ with_end out.before bytes
+        → IsWritten status bytes (Some text.now) out
+        (sink_state (K.written journal_out.old) (K.written journal_out.new) (K.faults journal_out.old) (K.faults journal_out.new))
+        result }
+{
+    match write_all(journal_out, text) {
+        Ok(()) => status,
+        Err(_) => 6,
+    }
+}
+
+// Writes the text of a journal, if there is one, behind the output.
 fn write_kept<K: Sink>(due: &Due, journal_out: &mut K) -> u8
+    ensures written { (bytes : List ℕ) (out : SinkState) → out.after ≡ with_end out.before bytes
+        → IsWritten due.now.status bytes (kept_text due.now) out
+        (sink_state (K.written journal_out.old) (K.written journal_out.new) (K.faults journal_out.old) (K.faults journal_out.new))
+        result }
     ensures none { kept_text due.now ≡ None → journal_out.new ≡ journal_out.old }
 {
     match &due.kept {
         None => due.status,
-        Some(text) => match write_all(journal_out, text) {
-            Ok(()) => due.status,
-            Err(_) => 6,
-        },
+        Some(text) => write_text(due.status, text, journal_out),
     }
 }
 
