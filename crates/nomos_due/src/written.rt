@@ -51,6 +51,6 @@ pub fn write_due<K: Sink>(due: &Due, out: &mut K, journal_out: &mut K) -> u8
 {
     match write_all(out, &due.out) {
         Ok(()) => write_kept(due, journal_out),
-        Err(_) => 6,
+        Err(_fault) => 6,
     }
 }
