@@ -35,7 +35,7 @@ use nomos_types::accepted::Accepted;
 use std::alloc::{AllocError, Global};
 
 /// The most bytes of a journal's text.
-const MAX_BYTES: usize = 1_073_741_824;
+pub const MAX_BYTES: usize = 1_073_741_824;
 
 /// What the text of a legal journal gives: the journal, the ledger to which it leads, and its report.
 #[derive(Drop)]

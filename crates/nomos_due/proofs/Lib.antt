@@ -1,0 +1,3 @@
+mod DueLemmas
+mod SourceLemmas
+pub mod WrittenLaws

@@ -1,0 +1,7 @@
+pub mod Outside
+pub mod Lines
+pub mod Runs
+pub mod Replays
+pub mod Written
+pub mod Sources
+pub mod Finding
