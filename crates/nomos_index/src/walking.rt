@@ -61,8 +61,7 @@ fn is_ready_at<S: Sight>(
     place: usize,
     after: u32,
 ) -> bool
-    ensures { result
-        ≡ passes_at (is_over after (is_ready_in accepted.now (S.state sight.now))) (held_now contents.now) place }
+    ensures { result ≡ passes_at (is_over after (is_ready_in accepted.now (S.state sight.now))) (held_now contents.now) place }
 {
     match kept_at(contents, place) {
         Some((pid, Kept::Process(_))) => after < pid && looks_ready(sight, accepted, pid),
@@ -77,8 +76,7 @@ fn first_ready<S: Sight>(
     contents: &Contents,
     after: u32,
 ) -> Option<usize>
-    ensures { IsFirstPlace (is_over after (is_ready_in accepted.now (S.state sight.now))) (held_now contents.now)
-        result }
+    ensures { IsFirstPlace (is_over after (is_ready_in accepted.now (S.state sight.now))) (held_now contents.now) result }
 {
     for place in 0..contents.objects.len() {
         if is_ready_at(sight, accepted, contents, place, after) {
