@@ -7,12 +7,16 @@ import re
 from typing import NamedTuple
 
 PART = re.compile(r'"([^"]+)"|([A-Za-z]+)|([\[\](){}|=])')
-GROUPS = (("code", "an instruction"), ("type", "a type"), ("term", "a term"), ("vtype", "a kind of values"))
+GROUPS = (
+    ("code", "an instruction"), ("type", "a type"), ("term", "a term"), ("vtype", "a kind of values"),
+    ("value", "a value"),
+)
+PLAIN = {"NAME": "a name", "NUMBER": "a number", "N": "a number"}
 OPERATORS = {"::", "<", "=", "+", "-", "*", "/", "%", "and", "or"}
 
 
 class Leaf(NamedTuple):
-    """A token of a rule: a text, or NAME or NUMBER, which is the number-th leaf of its kind in the rule."""
+    """A token of a rule: a text, or NAME, NUMBER or N, which is the number-th leaf of its kind in the rule."""
 
     text: str
     rule: str
@@ -21,7 +25,7 @@ class Leaf(NamedTuple):
     def fits(self, token, reserved):
         if self.text == "NAME":
             return token.kind == "word" and token.text not in reserved
-        if self.text == "NUMBER":
+        if self.text in ("NUMBER", "N"):
             return token.kind == "number"
         return token.text == self.text
 
@@ -34,14 +38,17 @@ class Way(NamedTuple):
 
 
 class Grammar:
-    def __init__(self, page):
-        block = page.split("\n## Grammar\n", 1)[1].split("```\n", 2)[1]
-        self.rules, self.reserved = {}, set()
+    """The grammar that stands below a heading of a page, of which the words are reserved, or are not."""
+
+    def __init__(self, page, heading="Grammar", is_reserving=True):
+        block = page.split(f"\n## {heading}\n", 1)[1].split("```\n", 2)[1]
+        self.rules, self.reserved, self.is_reserving = {}, set(), is_reserving
         for rule in re.split(r"\n(?=\w+ +=)", block):
             name, body = rule.split("=", 1)
             self.rule, self.counts = name.strip(), {}
             self.rules[self.rule] = self._choice(PART.findall(body)[::-1])
-        self.firsts = {it: {leaf.text for leaf, _ in self._leaves(((("rule", it), ()),))} for it, _ in GROUPS}
+        groups = [it for it, _ in GROUPS if it in self.rules]
+        self.firsts = {it: {leaf.text for leaf, _ in self._leaves(((("rule", it), ()),))} for it in groups}
 
     def _choice(self, parts):
         """Takes the alternatives from parts, of which the next one stands last."""
@@ -63,7 +70,7 @@ class Grammar:
     def _leaf(self, text, is_written):
         number = self.counts.get(text, 0)
         self.counts[text] = number + 1
-        if is_written and text[0].isalpha():
+        if self.is_reserving and is_written and text[0].isalpha():
             self.reserved.add(text)
         return Leaf(text, self.rule, number)
 
@@ -89,9 +96,9 @@ class Grammar:
                 waiting += [below, (top[1], (top, below) if top[0] == "many" else below)]
         return found
 
-    def read(self, tokens):
-        """Gives how many tokens begin a text, and the ways in which these are read."""
-        ways = [Way((("rule", "file"), ()), ())]
+    def read(self, tokens, rule="file"):
+        """Gives how many tokens begin a text of a rule, and the ways in which these are read."""
+        ways = [Way((("rule", rule), ()), ())]
         for count, token in enumerate(tokens):
             further = [
                 Way(below, (leaf, it.read))
@@ -108,18 +115,29 @@ class Grammar:
         """Gives the texts of the leaves with which these ways go on."""
         return {leaf.text for leaf, _ in self._leaves([it.rest for it in ways])}
 
+    def may_end(self, ways):
+        """Whether one of these ways may end."""
+        return any(self._may_end(it.rest) for it in ways)
+
+    def _may_end(self, rest):
+        while rest:
+            (top, rest) = rest
+            if not (isinstance(top, tuple) and top[0] in ("may", "many")):
+                return False
+        return True
+
     def said(self, wanted):
         """Gives in words which tokens may stand."""
         left, words = set(wanted), []
         for rule, name in GROUPS:
-            if self.firsts[rule] <= left:
+            if self.firsts.get(rule, {""}) <= left:
                 left -= self.firsts[rule]
                 words.append(name)
         if OPERATORS <= left:
             left -= OPERATORS
             words.append("an operator")
-        words += [{"NAME": "a name", "NUMBER": "a number"}[it] for it in ("NAME", "NUMBER") if it in left]
-        return words + [f"`{it}`" for it in sorted(left - {"NAME", "NUMBER"})]
+        words += [said for it, said in PLAIN.items() if it in left]
+        return words + [f"`{it}`" for it in sorted(left - PLAIN.keys())]
 
     def leaves(self, tokens):
         """Gives for each token of a text the leaf as which it is read, or nothing where this is no text."""

@@ -1,5 +1,5 @@
 """What is wrong with a name that breaks a rule of "Names" in docs/LANGUAGE.md."""
-from .syntax import distance, is_near
+from .syntax import nearest
 
 # What a leaf NAME of the grammar is, by its rule and by which NAME of that rule it is.
 DECLARED = {
@@ -103,7 +103,7 @@ class Names:
         kinds = {self.used(at), "list"} if self.used(at) == "value" else {self.used(at)}
         name = self.tokens[at].text
         known = {it.text for place, it in enumerate(self.tokens) if self.declared(place) in kinds}
-        return sorted((it for it in known if is_near(name, it)), key=lambda it: (distance(name, it), it))
+        return nearest(name, known)
 
 
 def unused(text):

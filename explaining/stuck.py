@@ -2,6 +2,7 @@
 import itertools
 from typing import NamedTuple
 
+from .held import now
 from .names import Names, unused
 from .syntax import distance
 
@@ -221,4 +222,4 @@ def explained(text, answer, program, grammar):
     lines = [f"mend: {it}" for it in stuck.find()]
     if not lines:
         lines = stuck.given_away()
-    return [*lines, *(stuck.declaration() if stuck.form in ("spawn", "call") else [])]
+    return [*lines, *(stuck.declaration() if stuck.form in ("spawn", "call") else []), *now(text, answer, grammar)]

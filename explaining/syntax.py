@@ -42,6 +42,11 @@ def is_near(one, other):
     return 0 < distance(one, other) <= (0 if least < 2 else 1 if least < 5 else 2)
 
 
+def nearest(word, known):
+    """Gives the words that are spelt nearly so, the nearest first."""
+    return sorted((it for it in set(known) if is_near(word, it)), key=lambda it: (distance(word, it), it))
+
+
 class Slips:
     """The text behind the head of the declaration that the offence stands in, and what was read of it."""
 
@@ -73,15 +78,8 @@ class Slips:
         moved = len(new) - (end - start)
         if count < len(tokens):
             return max(self.start + tokens[count].at - moved, start)
-        is_whole = self.end < self.text.size or any(not it.rest or self.may_end(it.rest) for it in ways)
+        is_whole = self.end < self.text.size or self.grammar.may_end(ways)
         return self.text.size + 1 if is_whole else self.text.size
-
-    def may_end(self, rest):
-        while rest:
-            (top, rest) = rest
-            if not (isinstance(top, tuple) and top[0] in ("may", "many")):
-                return False
-        return True
 
     def goes_on(self, slip, tokens):
         """Whether the text is read with an edit, from the offence on, for more than so many tokens or to its end."""
@@ -155,6 +153,8 @@ class Slips:
         mark, before, behind = self.marked, self.token(-1), self.token(1)
         if mark.text == ";" and behind.text in ("}", "|"):
             yield Slip("Syntax last", "take this `;` out", (mark.at, mark.end, ""))
+        if mark.text == "(" and behind.text == ")":
+            yield Slip("Syntax", "take `()` out", (mark.at, behind.end, ""))
         if mark.text in ("=", "=>", "->", ":") and before.kind == "word":
             for sign in (":", "=>", "="):
                 if sign in self.wanted:
@@ -183,6 +183,11 @@ class Slips:
         if mark.text == "spawn" and third.text == "let" and before.text == "=":
             mend = f"write `spawn {first} =` in place of `let {first} = spawn`"
             yield Slip("Syntax", mend, (third.at, mark.end, f"spawn {first} ="))
+        if mark.text == "." and self.token(-4).text == "let" and first == "=":
+            asked = f"{before.text}.{self.token(1).text}"
+            mend = f"write `{asked}; take {before.text} {third.text}` in place of `let {third.text} = {asked}`"
+            edit = (self.token(-4).at, self.token(1).end, f"{asked}; take {before.text} {third.text}")
+            yield Slip("Syntax", mend, edit)
         if mark.text == "(" and before.kind == "word" and self.wanted == {"."}:
             mend = f"write `spawn .. =` before `{before.text}`, with a new name for its channel"
             yield Slip("Syntax", mend, (before.at, before.at, "spawn x = "))

@@ -30,6 +30,18 @@ def tokens_of(text):
     return [Token(it.lastgroup, it.group(), it.start()) for it in found if it.lastgroup != "blank"]
 
 
+def joined(tokens):
+    """Gives tokens in one line, without the comments between them."""
+    pairs = zip([None, *tokens], tokens)
+    return "".join(("" if not before or before.end == it.at else " ") + it.text for before, it in pairs)
+
+
+def listed(names):
+    """Gives names in a row, eight at most."""
+    names = list(dict.fromkeys(names))
+    return ", ".join(f"`{it}`" for it in names[:8]) + (", .." if len(names) > 8 else "")
+
+
 def cut(text, start):
     """Gives what is shown of a line, from so many bytes on."""
     return (".." if start else "") + text[start : start + WIDTH] + (".." if len(text) > start + WIDTH else "")

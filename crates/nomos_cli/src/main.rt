@@ -1,28 +1,47 @@
 //! The program: it hands its words, the files that they name and its standard output to `nomos`.
 #![tactic(auto)]
 
-ghost use Rattle.std.specs.Prelude.{◌≡◌, map, string_bytes};
-ghost use Rattle.std.specs.Option.{option_map};
-ghost use Rattle.nomos_top.specs.Words.{task_of};
-ghost use Rattle.nomos_cli.specs.Call.{EndsSilently};
-ghost use Rattle.nomos_cli.specs.FileWords.{contract_word, script_word};
+mod words;
 
+ghost use Rattle.std.specs.Prelude.{map, string_bytes};
+ghost use Rattle.nomos_cli.specs.Call.{EndsSilently};
+ghost use Rattle.nomos_cli.specs.FileWords.{Names, contract_file, journal_file, kept_file, script_file};
+
+use crate::words::{contract_word, journal_word, kept_word, script_word};
 use nomos_files::{FileSource, OutputSink};
-use nomos_top::{Job, nomos};
+use nomos_top::nomos;
+use nomos_workers::gate::OpenGate;
 use std::alloc::{AllocError, AllocGlobal};
 use std::env::Env;
 use std::fs::{File, Files};
 use std::io::ErrorKind;
 use std::process::ExitCode;
+use std::sync::Wait;
+use std::thread::Threads;
+
+// What is outside: the files of the contract, of the script and of the journal that is read; the standard output, and
+// the file of the journal that is kept.
+#[derive(Drop)]
+struct Outside<'a, F: Files<File = File>> {
+    contract: FileSource<'a>,
+    script: FileSource<'a>,
+    journal_in: FileSource<'a>,
+    out: OutputSink<'a, F>,
+    journal_out: OutputSink<'a, F>,
+}
 
 fn main(rt: HostRuntime) -> ExitCode {
     let Ok(words) = own_words(&rt) else {
         return ExitCode::from(7);
     };
-    let mut contract = FileSource::open(&rt, contract_word(&words));
-    let mut script = FileSource::open(&rt, script_word(&words));
-    let mut out = OutputSink::stdout(&rt, rt.stdout());
-    let status = status_of(&rt, &words, &mut contract, &mut script, &mut out);
+    let mut outside = Outside {
+        contract: FileSource::open(&rt, contract_word(&words)),
+        script: FileSource::open(&rt, script_word(&words)),
+        journal_in: FileSource::open(&rt, journal_word(&words)),
+        out: OutputSink::stdout(&rt, rt.stdout()),
+        journal_out: OutputSink::file(&rt, kept_word(&words)),
+    };
+    let status = status_of(&rt, &words, &mut outside);
     ExitCode::from(status)
 }
 
@@ -37,38 +56,33 @@ fn own_words<R: Env + AllocGlobal>(rt: &R) -> Result<Vec<String>, AllocError> {
 }
 
 // Does what the words say, over the files that they name, and gives the status that the program ends with.
-fn status_of<'a, R: AllocGlobal, F: Files<File = File>>(
+fn status_of<'a, R: AllocGlobal + Threads + Wait + Sync, F: Files<File = File>>(
     rt: &R,
     words: &[String],
-    contract: &mut FileSource<'a>,
-    script: &mut FileSource<'a>,
-    out: &mut OutputSink<'a, F>,
+    outside: &mut Outside<'a, F>,
 ) -> u8
-    requires contract { contract.old.word ≡ contract_word (task_of (map string_bytes words.now)) }
-    requires script { script.old.word ≡ script_word (task_of (map string_bytes words.now)) }
-    ensures { EndsSilently (map string_bytes words.now)
-        (record { before = contract.old.faults; after = contract.new.faults })
-        (record { before = script.old.faults; after = script.new.faults })
-        (record { before = out.old.faults; after = out.new.faults }) result }
+    requires contract { Names contract_file (map string_bytes words.now) outside.old.contract.word }
+    requires script { Names script_file (map string_bytes words.now) outside.old.script.word }
+    requires journal_in { Names journal_file (map string_bytes words.now) outside.old.journal_in.word }
+    requires journal_out { Names kept_file (map string_bytes words.now) outside.old.journal_out.word }
+    ensures { EndsSilently (map string_bytes words.now) (record {
+      contract = record { before = outside.old.contract.faults; after = outside.new.contract.faults };
+      script = record { before = outside.old.script.faults; after = outside.new.script.faults };
+      journal_in = record { before = outside.old.journal_in.faults; after = outside.new.journal_in.faults };
+      out = record { before = outside.old.out.faults; after = outside.new.out.faults };
+      journal_out = record { before = outside.old.journal_out.faults; after = outside.new.journal_out.faults };
+    }) result }
 {
-    nomos(rt.alloc(), words, contract, script, out).status
-}
-
-// The word that names the file of the contract, if the words have a form.
-fn contract_word(words: &[String]) -> Option<&str>
-    ensures { option_map (λ word. word.now) result ≡ contract_word (task_of (map string_bytes words.now)) }
-{
-    match nomos_top::words(words)? {
-        Job::Check { file } | Job::Run { file, script: _ } | Job::Least { file } => Some(file),
-    }
-}
-
-// The word that names the file of the script, if a run is asked for.
-fn script_word(words: &[String]) -> Option<&str>
-    ensures { option_map (λ word. word.now) result ≡ script_word (task_of (map string_bytes words.now)) }
-{
-    match nomos_top::words(words) {
-        Some(Job::Run { file: _, script }) => Some(script),
-        _ => None,
-    }
+    nomos(
+        rt,
+        rt.alloc(),
+        words,
+        &mut outside.contract,
+        &mut outside.script,
+        &mut outside.journal_in,
+        &mut outside.out,
+        &mut outside.journal_out,
+        &OpenGate,
+    )
+    .status
 }

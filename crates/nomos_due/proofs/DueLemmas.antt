@@ -1,6 +1,6 @@
 -- What is due, from its parts.
-use Rattle.std.proofs.Common.{◌≡◌, ◌≢◌, ℕ, ◌<◌, ◌≤◌, List, length, Option, Some, None, Result, Ok, Err, Vec, inl, inr, refl, ap, sym, ◌∙◌, arith}
-use Rattle.std.specs.Prelude.{IfOk, IfErr}
+use Rattle.std.proofs.Common.{◌≡◌, ◌≢◌, ℕ, ◌≤◌, List, length, Option, Some, None, Result, Ok, Err, Vec, inl, refl, arith}
+use Rattle.std.specs.Prelude.{IfOk}
 use Rattle.std.specs.Global.{Global}
 use Rattle.nomos_types.specs.Acceptance.{Acceptance, IsAccepted}
 use Rattle.nomos_script.specs.ScriptReading.{ReadsAs}
@@ -28,9 +28,9 @@ use Rattle.nomos_due.specs.Outside.{FaultCounts, HasText, Input, SourceState, in
 use Rattle.nomos_due.specs.Replays as replays
 use Rattle.nomos_due.specs.Replays.{IsJournalDue, IsReplayDue, GivesJournal, no_journal, usual_limit}
 use Rattle.nomos_due.specs.Runs as runs
-use Rattle.nomos_due.specs.Sources.{IsJournalDueFor, IsReplayDueFor, IsRunDueFor, IsRunPartFor, kept_text}
+use Rattle.nomos_due.specs.Sources.{IsJournalDueFor, IsReplayDueFor, IsRunDueFor, IsRunPartFor}
 use Rattle.nomos_due.specs.declared.due.Due.{Due}
-use Rattle.nomos_due.proofs.SourceLemmas.{some_text, told-same, if_ok-map, if_err-map}
+use Rattle.nomos_due.proofs.SourceLemmas.{some_text, told-same}
 
 -- ---- scripts
 

@@ -8,12 +8,15 @@ use Rattle.nomos_legal.specs.Passage.{Passage}
 use Rattle.nomos_legal.specs.StandsFor.{StandsFor}
 use Rattle.nomos_legal.specs.declared.journal.Journal.{Journal}
 use Rattle.nomos_report.specs.Reported.{report_of, run_status}
-use Rattle.nomos_run.specs.Carried.{journal_text_of, where_wanted}
+use Rattle.nomos_run.specs.Carried.{journal_text_of, result_behind, where_wanted}
 use Rattle.nomos_run.specs.declared.orders.Orders.{Orders}
+use Rattle.nomos_words.specs.Summary.{summary_text}
+use Rattle.nomos_due.specs.Benches.{figures_of}
 use Rattle.nomos_due.specs.Lines.{IsNoScript, no_entries}
 use Rattle.nomos_due.specs.Outside.{HasText, HaveRisen, Input, SourceState, input_of}
 use Rattle.nomos_due.specs.Runs.{HasRun}
 use Rattle.nomos_due.specs.Sources.{kept_text}
+use Rattle.nomos_due.specs.declared.benches.Load.{Load}
 use Rattle.nomos_due.specs.declared.due.Due.{Due}
 use Rattle.nomos_due.specs.declared.script.NoScript.{NoScript}
 use Rattle.nomos_due.specs.declared.script.NoScript.TheVariants as none
@@ -55,6 +58,17 @@ pub record HasRunAs (a : Acceptance) (items : List ScriptItem) (orders : Orders)
   pub status_is : due.status ≡ run_status due.journal.entries
   pub text_is : due.out.items ≡ report_of a passages
   pub kept_is : kept_text due ≡ where_wanted orders.text (journal_text_of a orders.limit passages)
+
+-- what is due of a load whose script has these items
+pub record HasRunLoad (a : Acceptance) (items : List ScriptItem) (orders : Orders) (load : Load) (due : Due)
+    : Type 0 where
+  pub passages : List Passage
+  pub last : LedgerState
+  pub run : HasRun a items orders due.journal passages last
+  pub stands : StandsFor a last
+  pub status_is : due.status ≡ run_status due.journal.entries
+  pub text_is : due.out.items ≡ summary_text (figures_of load a due.journal last) (result_behind None passages)
+  pub nothing_kept : kept_text due ≡ None
 
 -- the journal of a run of some first items
 pub record HasRunPart (a : Acceptance) (items : List ScriptItem) (orders : Orders) (journal : Journal) : Type 0 where

@@ -5,3 +5,4 @@ pub mod Replays
 pub mod Written
 pub mod Sources
 pub mod Finding
+pub mod Benches

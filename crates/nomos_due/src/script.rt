@@ -23,8 +23,8 @@ pub(crate) enum NoScript {
     NoMemory,
 }
 
-// The script of a text.
-fn script_of(alloc: Global, text: &[u8]) -> Result<Script, NoScript>
+/// The script of a text.
+pub(crate) fn script_of(alloc: Global, text: &[u8]) -> Result<Script, NoScript>
     ensures { (counts : FaultCounts) → FindsIn (record { text = text.now; counts = counts }) result }
 {
     match parse_script(alloc, text) {

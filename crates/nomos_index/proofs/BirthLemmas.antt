@@ -1,7 +1,7 @@
 -- A process comes to an indexed state: room is made for its channels, they are bound, and it comes with its rows.
-use Rattle.std.proofs.Common.{◌≡◌, ◌-◌, ◌∙◌, ◌++◌, ◌∷◌, ℕ, List, [], Some, refl, sym, ap, subst}
+use Rattle.std.proofs.Common.{◌≡◌, ◌-◌, ◌∙◌, ◌++◌, ◌∷◌, ℕ, List, [], IsSome, Option, Some, refl, sym, ap, subst}
 use Rattle.std.specs.Option.{option_map}
-use Rattle.nomos_ir.specs.Bindings.{bindings_of}
+use Rattle.nomos_ir.specs.Bindings.{bindings_of, bound_to}
 use Rattle.nomos_ir.specs.Value.{Value}
 use Rattle.nomos_ir.specs.declared.ids.VarId.{VarId}
 use Rattle.nomos_machine.specs.declared.object.Object.TheVariants as object
@@ -17,17 +17,19 @@ use Rattle.nomos_slots.specs.declared.numbered.Slot.{Slot}
 use Rattle.nomos_index.specs.Coming.{ObjectComes, name_with}
 use Rattle.nomos_index.specs.Indexed.{HasRoom, IsIndexed, held_marked, held_now, state_of}
 use Rattle.nomos_index.specs.Objects.{channels_of, kept_of, process_held}
+use Rattle.nomos_index.specs.Spanning.{HasVariable}
 use Rattle.nomos_index.specs.declared.inside.Contents.{Contents}
 use Rattle.nomos_index.specs.declared.inside.Inside.TheInside.{Inside}
 use Rattle.nomos_index.specs.declared.kept.Kept.{Kept}
 use Rattle.nomos_index.specs.declared.kept.Kept.TheVariants as kept
 use Rattle.nomos_index.specs.declared.kept.KeptProcess.{KeptProcess}
+use Rattle.nomos_index.specs.declared.span.Span.{Span}
 use Rattle.nomos_index.proofs.AgainLemmas.{marks-again}
 use Rattle.nomos_index.proofs.ComingLemmas.{come-indexed, coming-state, coming_after, drawn_next, next-unnamed}
 use Rattle.nomos_index.proofs.PairLemmas.{name-other, name-own}
 use Rattle.nomos_index.proofs.RebindLemmas.{channels-of_pairs}
 
-module _ (s : Inside) (is : IsIndexed s) (born : Newborn) (k : KeptProcess) (objects : Marking (Slot Kept))
+module _ (s : Inside) (is : IsIndexed s) (born : Newborn) (k : KeptProcess) (span : Option Span) (objects : Marking (Slot Kept))
     (values : Shelving (VarId × Value)) (its_lists : Shelving (VarId × PotentialList)) (reserved after : Marking Cell)
     (names : (p w : ℕ) → name_in reserved.now p w ≡ name_in s.contents.channels.now p w)
     (come : (p w : ℕ) → name_in after.now p w
@@ -35,11 +37,12 @@ module _ (s : Inside) (is : IsIndexed s) (born : Newborn) (k : KeptProcess) (obj
     (marked : HaveSameNames s.contents.channels.marked reserved.marked) (again : after.marked ≡ reserved.marked)
     (o : objects.marked ≡ s.contents.objects.marked) (v : values.marked ≡ s.contents.values.marked)
     (l : its_lists.marked ≡ s.contents.lists.marked) (next : born.fields.pid ≡ s.contents.numbers.next_object)
-    (fields : k ≡ kept_of born.fields)
+    (fields : k ≡ kept_of born.fields span)
     (slots : objects.now
     ≡ s.contents.objects.now ++ (record { number = born.fields.pid; item = Some (kept.Process k) }) ∷ [])
     (rows : values.now ≡ s.contents.values.now ++ born.values.items ∷ [])
-    (list_rows : its_lists.now ≡ s.contents.lists.now ++ born.lists.items ∷ []) where
+    (list_rows : its_lists.now ≡ s.contents.lists.now ++ born.lists.items ∷ [])
+    (spans : (w : ℕ) → IsSome (bound_to w born.channels.items) → HasVariable span w) where
   pub its_marks : HaveSameNames s.contents.channels.marked after.marked
   its_marks = subst (HaveSameNames s.contents.channels.marked) (sym again) marked
 
@@ -48,12 +51,21 @@ module _ (s : Inside) (is : IsIndexed s) (born : Newborn) (k : KeptProcess) (obj
       coming_after s is born.fields.pid (kept.Process k) born.values.items born.lists.items objects values its_lists after o v l
       its_marks
 
+  -- just the pairs are its channels
+  named : (w : ℕ) → name_in after.now born.fields.pid w ≡ bound_to w born.channels.items
+  named w =
+      come born.fields.pid w
+      ∙ name-own born.fields.pid w born.channels.items (name_in reserved.now born.fields.pid w)
+      (names born.fields.pid w ∙ next-unnamed (held_now s.contents) is.now born.fields.pid w next)
+
   born-comes : ObjectComes (held_now s.contents) (held_now born_after) born.fields.pid (kept.Process k) born.values.items
       born.lists.items
   born-comes = record {
     is_next = next;
     brings = tt;
-    its_own = λ w some. tt;
+    its_own = λ w some.
+        subst (λ (n : KeptProcess). HasVariable n.span w) (sym fields)
+        (spans w (subst (λ (o : Option ℕ). IsSome o) (named w) some));
     others = λ p w other.
         come p w
         ∙ name-other born.fields.pid p w born.channels.items (name_in reserved.now p w) (λ same. other (sym same))
@@ -69,12 +81,7 @@ module _ (s : Inside) (is : IsIndexed s) (born : Newborn) (k : KeptProcess) (obj
   }
 
   its_channels : channels_of after.now born.fields.pid ≡ bindings_of born.channels.items
-  its_channels =
-      channels-of_pairs after.now born.fields.pid born.channels.items
-      (λ w.
-      come born.fields.pid w
-      ∙ name-own born.fields.pid w born.channels.items (name_in reserved.now born.fields.pid w)
-      (names born.fields.pid w ∙ next-unnamed (held_now s.contents) is.now born.fields.pid w next))
+  its_channels = channels-of_pairs after.now born.fields.pid born.channels.items named
 
   pub born-indexed : HasRoom born_after (s.room - 1) → IsIndexed (record s { contents = born_after; room = s.room - 1 })
   born-indexed has =
@@ -90,7 +97,7 @@ module _ (s : Inside) (is : IsIndexed s) (born : Newborn) (k : KeptProcess) (obj
       born.lists.items born-comes
       ∙ ap (λ (n : KeptProcess). with_object (object.Process (held n (channels_of after.now born.fields.pid)))
       (state_of (held_now s.contents))) fields
-      ∙ ap (λ (channels : List (VarId × ℕ)). with_object (object.Process (held (kept_of born.fields) channels))
+      ∙ ap (λ (channels : List (VarId × ℕ)). with_object (object.Process (held (kept_of born.fields span) channels))
       (state_of (held_now s.contents))) its_channels
 
   pub born-marks : option_map state_of (held_marked born_after s.marked)

@@ -1,5 +1,5 @@
 -- A process of an indexed state changes: one part of what is kept of it at a time.
-use Rattle.std.proofs.Common.{◌≡◌, ◌≢◌, ◌≤◌, ◌+◌, ◌-◌, ◌∙◌, ℕ, [], List, Some, refl, sym, ap, arith}
+use Rattle.std.proofs.Common.{◌≡◌, ◌≢◌, ◌≤◌, ◌+◌, ◌-◌, ◌∙◌, ℕ, [], List, IsSome, Option, Some, refl, sym, ap, subst, arith}
 use Rattle.std.proofs.lemmas.List.{set-get_or}
 use Rattle.std.specs.List.{slice_set}
 use Rattle.nomos_ir.specs.Value.{Value}
@@ -18,13 +18,15 @@ use Rattle.nomos_index.specs.Indexed.{IsIndexed, held_now, state_of}
 use Rattle.nomos_index.specs.Looked.{ProcessIsAt, lists_at, values_at}
 use Rattle.nomos_index.specs.Objects.{ListRow, ValueRow, channels_of, process_held}
 use Rattle.nomos_index.specs.Placing.{ProcessComes}
+use Rattle.nomos_index.specs.Spanning.{HasVariable}
 use Rattle.nomos_index.specs.declared.inside.Contents.{Contents}
 use Rattle.nomos_index.specs.declared.inside.Inside.TheInside.{Inside}
 use Rattle.nomos_index.specs.declared.kept.Kept.{Kept}
 use Rattle.nomos_index.specs.declared.kept.Kept.TheVariants as kept
 use Rattle.nomos_index.specs.declared.kept.KeptProcess.{KeptProcess}
+use Rattle.nomos_index.specs.declared.span.Span.{Span}
 use Rattle.nomos_index.proofs.AgainLemmas.{indexed-again}
-use Rattle.nomos_index.proofs.ProcessLemmas.{process-becomes, process-holding, slot-kept}
+use Rattle.nomos_index.proofs.ProcessLemmas.{process-becomes, process-holding, slot-kept, spans-kept}
 use Rattle.nomos_index.proofs.TogetherLemmas.{same-names}
 
 module _ (s : Inside) (is : IsIndexed s) (pid place : ℕ) (k : KeptProcess)
@@ -48,10 +50,14 @@ module _ (s : Inside) (is : IsIndexed s) (pid place : ℕ) (k : KeptProcess)
   same_cells : HaveSameNames s.contents.channels.marked s.contents.channels.marked
   same_cells = same-names s.contents.channels.marked s.contents.channels.marked refl
 
+  -- its channels stand in its span
+  own_spans : (w : ℕ) → IsSome (name_in s.contents.channels.now pid w) → HasVariable k.span w
+  own_spans = spans-kept (held_now s.contents) is.now place pid (kept.Process k) at.at
+
   -- ---- other plain fields
 
   module _ (objects : Marking (Slot Kept)) (next : KeptProcess)
-      (now : objects.now ≡ put_at s.contents.objects.now place (Some (kept.Process next)))
+      (now : objects.now ≡ put_at s.contents.objects.now place (Some (kept.Process next))) (span : next.span ≡ k.span)
       (marked : objects.marked ≡ s.contents.objects.marked) (room : s.contents.objects.room ≤ objects.room) where
     abbrev pub with_objects : Contents
     with_objects = record s.contents { objects = objects }
@@ -69,11 +75,15 @@ module _ (s : Inside) (is : IsIndexed s) (pid place : ℕ) (k : KeptProcess)
       drawn = refl;
     }
 
+    fields_span : (w : ℕ) → IsSome (name_in s.contents.channels.now pid w) → HasVariable next.span w
+    fields_span w some = subst (λ o. HasVariable o w) (sym span) (own_spans w some)
+
     pub fields-indexed : IsIndexed (record s { contents = with_objects })
     fields-indexed =
         indexed-again s objects s.contents.values s.contents.lists s.contents.channels s.contents.numbers marked refl refl
         same_cells s.room is
-        (process-holding (held_now s.contents) (held_now with_objects) is.now pid place k next values_row lists_row at fields-come)
+        (process-holding (held_now s.contents) (held_now with_objects) is.now pid place k next values_row lists_row at
+        fields-come fields_span)
         (record {
           objects = omega (arith, room, is.has_room.objects);
           values = is.has_room.values;
@@ -88,19 +98,25 @@ module _ (s : Inside) (is : IsIndexed s) (pid place : ℕ) (k : KeptProcess)
         → Becomes (state_of (held_now s.contents)) pid f (state_of (held_now with_objects))
     fields-become f same =
         process-becomes (held_now s.contents) (held_now with_objects) is.now pid place k next values_row lists_row at
-        fields-come f same
+        fields-come fields_span f same
 
-  -- ---- other channels
+  -- ---- other channels, in another span
 
-  module _ (channels : Marking Cell) (room : ℕ)
+  module _ (objects : Marking (Slot Kept)) (span : Option Span) (channels : Marking Cell) (room : ℕ)
+      (now : objects.now ≡ put_at s.contents.objects.now place (Some (kept.Process (record k { span = span }))))
+      (also : objects.marked ≡ s.contents.objects.marked) (as_much : s.contents.objects.room ≤ objects.room)
       (others : (p v : ℕ) → p ≢ pid → name_in channels.now p v ≡ name_in s.contents.channels.now p v)
+      (spans : (w : ℕ) → IsSome (name_in channels.now pid w) → HasVariable span w)
       (marked : HaveSameNames s.contents.channels.marked channels.marked) (less : room ≤ s.room) (has : room ≤ channels.room) where
     abbrev pub with_cells : Contents
-    with_cells = record s.contents { channels = channels }
+    with_cells = record s.contents { objects = objects; channels = channels }
 
-    channels-come : ProcessComes (held_now s.contents) (held_now with_cells) pid place k values_row lists_row
+    abbrev spanning : KeptProcess
+    spanning = record k { span = span }
+
+    channels-come : ProcessComes (held_now s.contents) (held_now with_cells) pid place spanning values_row lists_row
     channels-come = record {
-      slots = same_slots;
+      slots = now;
       value_rows = same_values;
       list_rows = same_lists;
       others = others;
@@ -113,11 +129,12 @@ module _ (s : Inside) (is : IsIndexed s) (pid place : ℕ) (k : KeptProcess)
 
     pub channels-indexed : IsIndexed (record s { contents = with_cells; room = room })
     channels-indexed =
-        indexed-again s s.contents.objects s.contents.values s.contents.lists channels s.contents.numbers refl refl refl marked
+        indexed-again s objects s.contents.values s.contents.lists channels s.contents.numbers also refl refl marked
         room is
-        (process-holding (held_now s.contents) (held_now with_cells) is.now pid place k k values_row lists_row at channels-come)
+        (process-holding (held_now s.contents) (held_now with_cells) is.now pid place k spanning values_row lists_row at
+        channels-come spans)
         (record {
-          objects = omega (arith, less, is.has_room.objects);
+          objects = omega (arith, less, as_much, is.has_room.objects);
           values = omega (arith, less, is.has_room.values);
           its_lists = omega (arith, less, is.has_room.its_lists);
           channels = has;
@@ -129,10 +146,30 @@ module _ (s : Inside) (is : IsIndexed s) (pid place : ℕ) (k : KeptProcess)
         ≡ record (process_held s.contents.channels.now pid values_row lists_row k) { channels = b }
         → Becomes (state_of (held_now s.contents)) pid f (state_of (held_now with_cells))
     channels-become b f bound same =
-        process-becomes (held_now s.contents) (held_now with_cells) is.now pid place k k values_row lists_row at channels-come f
+        process-becomes (held_now s.contents) (held_now with_cells) is.now pid place k spanning values_row lists_row at
+        channels-come spans f
         (same
         ∙ ap (λ (c : List (VarId × ℕ)). record (process_held s.contents.channels.now pid values_row lists_row k) { channels = c })
         (sym bound))
+
+  -- ---- other channels, of variables that had some
+
+  module _ (channels : Marking Cell) (room : ℕ)
+      (others : (p v : ℕ) → p ≢ pid → name_in channels.now p v ≡ name_in s.contents.channels.now p v)
+      (fewer : (w : ℕ) → IsSome (name_in channels.now pid w) → IsSome (name_in s.contents.channels.now pid w))
+      (marked : HaveSameNames s.contents.channels.marked channels.marked) (less : room ≤ s.room) (has : room ≤ channels.room) where
+    pub fewer-indexed : IsIndexed (record s { contents = record s.contents { channels = channels }; room = room })
+    fewer-indexed =
+        channels-indexed s.contents.objects k.span channels room same_slots refl (omega arith) others
+        (λ w some. own_spans w (fewer w some)) marked less has
+
+    pub fewer-become : (b : List (VarId × ℕ)) (f : Process → Process) → channels_of channels.now pid ≡ b
+        → f (process_held s.contents.channels.now pid values_row lists_row k)
+        ≡ record (process_held s.contents.channels.now pid values_row lists_row k) { channels = b }
+        → Becomes (state_of (held_now s.contents)) pid f (state_of (held_now (record s.contents { channels = channels })))
+    fewer-become =
+        channels-become s.contents.objects k.span channels room same_slots refl (omega arith) others
+        (λ w some. own_spans w (fewer w some)) marked less has
 
   -- ---- other values
 
@@ -158,7 +195,8 @@ module _ (s : Inside) (is : IsIndexed s) (pid place : ℕ) (k : KeptProcess)
     values-indexed =
         indexed-again s s.contents.objects values s.contents.lists s.contents.channels s.contents.numbers refl marked refl
         same_cells (s.room - 1) is
-        (process-holding (held_now s.contents) (held_now with_value_rows) is.now pid place k k row lists_row at values-come)
+        (process-holding (held_now s.contents) (held_now with_value_rows) is.now pid place k k row lists_row at values-come
+        own_spans)
         (record {
           objects = omega (arith, is.has_room.objects);
           values = omega (arith, less, is.has_room.values);
@@ -172,7 +210,8 @@ module _ (s : Inside) (is : IsIndexed s) (pid place : ℕ) (k : KeptProcess)
         ≡ process_held s.contents.channels.now pid row lists_row k
         → Becomes (state_of (held_now s.contents)) pid f (state_of (held_now with_value_rows))
     values-become f same =
-        process-becomes (held_now s.contents) (held_now with_value_rows) is.now pid place k k row lists_row at values-come f same
+        process-becomes (held_now s.contents) (held_now with_value_rows) is.now pid place k k row lists_row at values-come
+        own_spans f same
 
   -- ---- other lists
 
@@ -199,7 +238,8 @@ module _ (s : Inside) (is : IsIndexed s) (pid place : ℕ) (k : KeptProcess)
     lists-indexed =
         indexed-again s s.contents.objects s.contents.values its_lists s.contents.channels s.contents.numbers refl refl marked
         same_cells (s.room - 1) is
-        (process-holding (held_now s.contents) (held_now with_list_rows) is.now pid place k k values_row row at lists-come)
+        (process-holding (held_now s.contents) (held_now with_list_rows) is.now pid place k k values_row row at lists-come
+        own_spans)
         (record {
           objects = omega (arith, is.has_room.objects);
           values = omega (arith, is.has_room.values);
@@ -213,4 +253,5 @@ module _ (s : Inside) (is : IsIndexed s) (pid place : ℕ) (k : KeptProcess)
         ≡ process_held s.contents.channels.now pid values_row row k
         → Becomes (state_of (held_now s.contents)) pid f (state_of (held_now with_list_rows))
     lists-become f same =
-        process-becomes (held_now s.contents) (held_now with_list_rows) is.now pid place k k values_row row at lists-come f same
+        process-becomes (held_now s.contents) (held_now with_list_rows) is.now pid place k k values_row row at lists-come
+        own_spans f same

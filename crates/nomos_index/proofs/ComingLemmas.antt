@@ -22,7 +22,8 @@ use Rattle.nomos_slots.specs.declared.numbered.Slot.{Slot}
 use Rattle.nomos_slots.proofs.NumberLaws.{ascending-push, found-push, found-push_other}
 use Rattle.nomos_index.specs.Coming.{ObjectComes}
 use Rattle.nomos_index.specs.Indexed.{Holding, HasRoom, IsHolding, IsIndexed, held_now, state_of}
-use Rattle.nomos_index.specs.Objects.{AreBrought, AreHeld, BringsIt, IsProcess, ListRow, ValueRow, message_held, object_of, objects_of}
+use Rattle.nomos_index.specs.Objects.{AreBrought, AreHeld, BringsIt, ListRow, ValueRow, message_held, object_of, objects_of}
+use Rattle.nomos_index.specs.Spanning.{Spans}
 use Rattle.nomos_index.specs.declared.inside.Contents.{Contents}
 use Rattle.nomos_index.specs.declared.inside.Inside.TheInside.{Inside}
 use Rattle.nomos_index.specs.declared.inside.Numbers.{Numbers}
@@ -100,7 +101,7 @@ next-unnamed h is n v same = at (name_in h.cells n v) refl
     at None named = refl
     at (Some name) named =
         let some : IsSome (name_in h.cells n v) = ap is_some named in
-        absurd (subst IsProcess (ap (found h.slots) same ∙ next-free h is) (is.held n v some))
+        absurd (subst (λ o. Spans o v) (ap (found h.slots) same ∙ next-free h is) (is.held n v some))
 
 -- ---- what is held
 
@@ -134,16 +135,16 @@ module _ (before after : Holding) (is : IsHolding before) (n : ℕ) (k : Kept) (
       let drawn = comes.drawn in
       cc
 
-  held-come : (p w : ℕ) → IsSome (name_in after.cells p w) → IsProcess (found (before.slots ++ slot ∷ []) p)
+  held-come : (p w : ℕ) → IsSome (name_in after.cells p w) → Spans (found (before.slots ++ slot ∷ []) p) w
   unfolding slot
   held-come p w some =
       elim (cases_eq p n) [
         | inl same ↦
             let own : found (before.slots ++ slot ∷ []) p ≡ Some k =
             ap (found (before.slots ++ slot ∷ [])) same ∙ found-push before.slots slot below in
-            subst IsProcess (sym own) (comes.its_own w (subst (λ i. IsSome (name_in after.cells i w)) same some))
+            subst (λ o. Spans o w) (sym own) (comes.its_own w (subst (λ i. IsSome (name_in after.cells i w)) same some))
         | inr other ↦
-            subst IsProcess (sym (found-push_other before.slots slot p (λ same. other (sym same))))
+            subst (λ o. Spans o w) (sym (found-push_other before.slots slot p (λ same. other (sym same))))
             (is.held p w (subst (λ (o : Option ℕ). IsSome o) (comes.others p w other) some))
       ]
 

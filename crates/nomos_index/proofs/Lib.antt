@@ -19,4 +19,7 @@ pub mod TogetherLemmas
 pub mod UsingLemmas
 pub mod WalkLemmas
 pub mod RowLemmas
+pub mod RedirectLaws
 pub mod RedirectLemmas
+pub mod SpanLemmas
+pub mod TellLemmas

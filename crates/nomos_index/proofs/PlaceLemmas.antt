@@ -17,8 +17,9 @@ use Rattle.nomos_slots.specs.Numbers.{IsAscending, found, numbers, put_at}
 use Rattle.nomos_slots.specs.declared.numbered.Slot.{Slot}
 use Rattle.nomos_slots.proofs.NumberLaws.{found-put_at, found-put_at_other, get-put_at, get-put_at_other, length-put_at, numbers-put_at}
 use Rattle.nomos_index.specs.Indexed.{Holding, IsHolding, state_of}
-use Rattle.nomos_index.specs.Objects.{BringsIt, IsProcess, ListRow, ValueRow, object_of, objects_of}
+use Rattle.nomos_index.specs.Objects.{BringsIt, ListRow, ValueRow, object_of, objects_of}
 use Rattle.nomos_index.specs.Placing.{CanPlace, PlaceComes, with_place}
+use Rattle.nomos_index.specs.Spanning.{Spans}
 use Rattle.nomos_index.specs.declared.kept.Kept.{Kept}
 use Rattle.nomos_index.specs.declared.kept.Kept.TheVariants as kept
 use Rattle.nomos_index.proofs.ChannelLemmas.{object-same}
@@ -142,15 +143,15 @@ module _ (h : Holding) (is : IsHolding h) (place n : ℕ) (k : Kept) (item : Opt
             (is.brought other slot (sym (get-put_at_other h.slots place other item apart) ∙ at))
       ]
 
-  held-placed : (p w : ℕ) → IsSome (name_in cells p w) → IsProcess (found (put_at h.slots place item) p)
+  held-placed : (p w : ℕ) → IsSome (name_in cells p w) → Spans (found (put_at h.slots place item) p) w
   held-placed p w some =
       elim (cases_eq p n) [
         | inl same ↦
             let own : found (put_at h.slots place item) p ≡ item =
             ap (found (put_at h.slots place item)) same ∙ found-put_at h.slots place _ item is.ascending can.stood in
-            subst IsProcess (sym own) (can.its_own w (subst (λ i. IsSome (name_in cells i w)) same some))
+            subst (λ o. Spans o w) (sym own) (can.its_own w (subst (λ i. IsSome (name_in cells i w)) same some))
         | inr apart ↦
-            subst IsProcess (sym (found-put_at_other h.slots place p _ item can.stood (λ same. apart (sym same))))
+            subst (λ o. Spans o w) (sym (found-put_at_other h.slots place p _ item can.stood (λ same. apart (sym same))))
             (is.held p w (subst (λ (o : Option ℕ). IsSome o) (can.others p w apart) some))
       ]
 

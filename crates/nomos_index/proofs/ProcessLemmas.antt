@@ -1,5 +1,5 @@
 -- A process becomes another one, where what is held of it changes.
-use Rattle.std.proofs.Common.{◌≡◌, ◌∙◌, ℕ, List, Option, Some, None, refl, sym, ap}
+use Rattle.std.proofs.Common.{◌≡◌, ◌∙◌, ℕ, List, IsSome, Option, Some, None, refl, sym, ap, subst}
 use Rattle.std.proofs.lemmas.Option.{none-some, same_Some}
 use Rattle.std.specs.List.{slice_get}
 use Rattle.std.specs.Option.{option_map}
@@ -7,11 +7,15 @@ use Rattle.nomos_machine.specs.Optional.{◌>>=◌}
 use Rattle.nomos_machine.specs.State.{State, process_at}
 use Rattle.nomos_machine.specs.declared.object.Process.{Process}
 use Rattle.nomos_parts.specs.SmallChanges.{Becomes, with_process}
+use Rattle.nomos_slots.specs.Cells.{name_in}
+use Rattle.nomos_slots.specs.Numbers.{found}
 use Rattle.nomos_slots.specs.declared.numbered.Slot.{Slot}
+use Rattle.nomos_slots.proofs.NumberLaws.{found-at}
 use Rattle.nomos_index.specs.Indexed.{Holding, IsHolding, state_of}
 use Rattle.nomos_index.specs.Looked.{ProcessIsAt, lists_at, values_at}
 use Rattle.nomos_index.specs.Objects.{ListRow, ValueRow, kept_at, kept_in, process_held}
 use Rattle.nomos_index.specs.Placing.{CanPlace, ProcessComes}
+use Rattle.nomos_index.specs.Spanning.{HasVariable, Spans}
 use Rattle.nomos_index.specs.declared.kept.Kept.{Kept}
 use Rattle.nomos_index.specs.declared.kept.Kept.TheVariants as kept
 use Rattle.nomos_index.specs.declared.kept.KeptProcess.{KeptProcess}
@@ -41,19 +45,31 @@ slot-kept slots place n k kept = at (slice_get slots place) refl
     at None none = absurd (none-some (n, k) (sym (ap (λ (o : Option (Slot Kept)). o >>= kept_in) none) ∙ kept))
     at (Some s) stands = by_item s s.item refl stands
 
+-- what is found under the number of what is kept at a place
+pub found-kept : (h : Holding) → IsHolding h → (place n : ℕ) (k : Kept) → kept_at h.slots place ≡ Some (n, k)
+    → found h.slots n ≡ Some k
+found-kept h is place n k at =
+    found-at h.slots place (record { number = n; item = Some k }) is.ascending (slot-kept h.slots place n k at)
+
+-- its channels stand in its span
+pub spans-kept : (h : Holding) → IsHolding h → (place n : ℕ) (k : Kept) → kept_at h.slots place ≡ Some (n, k)
+    → (w : ℕ) → IsSome (name_in h.cells n w) → Spans (Some k) w
+spans-kept h is place n k at w some = subst (λ o. Spans o w) (found-kept h is place n k at) (is.held n w some)
+
 -- where no process has the number, nothing is said
 pub nobody-becomes : (s t : State) (pid : ℕ) (f : Process → Process) → process_at s pid ≡ None → Becomes s pid f t
 nobody-becomes s t pid f none p found = absurd (none-some p (sym none ∙ found))
 
 module _ (before after : Holding) (is : IsHolding before) (pid place : ℕ) (k next : KeptProcess) (values : ValueRow)
     (its_lists : ListRow) (at : ProcessIsAt before pid place k)
-    (comes : ProcessComes before after pid place next values its_lists) where
+    (comes : ProcessComes before after pid place next values its_lists)
+    (spans : (w : ℕ) → IsSome (name_in after.cells pid w) → HasVariable next.span w) where
   can : CanPlace before place pid (kept.Process k) (Some (kept.Process next)) values after.cells
   can = record {
     stood = slot-kept before.slots place pid (kept.Process k) at.at;
     brings = tt;
     others = comes.others;
-    its_own = λ v some. tt;
+    its_own = spans;
   }
 
   pub process-holding : IsHolding after

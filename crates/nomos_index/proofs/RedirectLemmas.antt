@@ -1,9 +1,9 @@
 -- Whoever uses a name uses another one instead.
-use Rattle.std.proofs.Common.{◌≡◌, ◌≢◌, ◌≤◌, ◌<◌, ◌∙◌, ℕ, zero, suc, cond, eqb, eq-eqb, ne_eqb, List, [], ◌∷◌, map, length, Option, Some, None, refl, sym, ap, subst, arith}
+use Rattle.std.proofs.Common.{◌≡◌, ◌≢◌, ◌≤◌, ◌<◌, ◌∙◌, ℕ, zero, suc, cond, eqb, eq-eqb, ne_eqb, List, [], ◌∷◌, map, length, IsSome, true, Option, Some, None, refl, sym, ap, subst, arith}
 use Rattle.std.proofs.lemmas.List.{set-get_or}
-use Rattle.std.proofs.lemmas.Option.{none-some, same_Some}
+use Rattle.std.proofs.lemmas.Option.{none-some}
 use Rattle.std.specs.List.{slice_get}
-use Rattle.std.specs.Option.{option_map, option_to_list}
+use Rattle.std.specs.Option.{is_some, option_map, option_to_list}
 use Rattle.nomos_ir.specs.Bindings.{each_bound}
 use Rattle.nomos_deeds.specs.declared.sight.SeenPayload.{SeenPayload}
 use Rattle.nomos_deeds.specs.declared.sight.SeenPayload.TheVariants as seen
@@ -11,15 +11,11 @@ use Rattle.nomos_machine.specs.Change as change
 use Rattle.nomos_machine.specs.Objects.{object_at, object_number, process_of}
 use Rattle.nomos_machine.specs.Optional.{◌>>=◌}
 use Rattle.nomos_machine.specs.Revised.{renamed, renamed_payload, uses_instead}
-use Rattle.nomos_machine.specs.Sight.{owner, user_of}
 use Rattle.nomos_machine.specs.State.{State}
 use Rattle.nomos_machine.specs.declared.object.Object.{Object}
 use Rattle.nomos_machine.specs.declared.object.Object.TheVariants as object
 use Rattle.nomos_machine.specs.declared.object.Payload.{Payload}
 use Rattle.nomos_machine.specs.declared.object.Process.{Process}
-use Rattle.nomos_machine.proofs.ForwardLaws.{user_of-found}
-use Rattle.nomos_machine.proofs.PutLaws.{InOrder, object_at-own}
-use Rattle.nomos_parts.specs.SmallChanges.{redirected}
 use Rattle.nomos_slots.specs.Cells.{Cell, name_in}
 use Rattle.nomos_slots.specs.Marking.{Marking}
 use Rattle.nomos_slots.specs.Numbers.{found, put_at}
@@ -29,15 +25,17 @@ use Rattle.nomos_slots.proofs.NumberLaws.{found-at}
 use Rattle.nomos_index.specs.Indexed.{Holding, IsIndexed, held_now, state_of}
 use Rattle.nomos_index.specs.Instead.{brings_instead, kept_instead}
 use Rattle.nomos_index.specs.Looked.{ObjectIsAt, ProcessIsAt, lists_at, values_at}
-use Rattle.nomos_index.specs.Objects.{IsProcess, ValueRow, channels_of, message_held, payload_of, process_held}
+use Rattle.nomos_index.specs.Objects.{ValueRow, channels_of, message_held, payload_of, process_held}
 use Rattle.nomos_index.specs.Placing.{CanPlace, PlaceComes}
+use Rattle.nomos_index.specs.Redirected.{redirected_at}
+use Rattle.nomos_index.specs.Spanning.{Spans}
 use Rattle.nomos_index.specs.declared.inside.Inside.TheInside.{Inside}
 use Rattle.nomos_index.specs.declared.kept.Kept.{Kept}
 use Rattle.nomos_index.specs.declared.kept.Kept.TheVariants as kept
 use Rattle.nomos_index.specs.declared.kept.KeptMessage.{KeptMessage}
 use Rattle.nomos_index.specs.declared.kept.KeptProcess.{KeptProcess}
 use Rattle.nomos_index.proofs.AgainLemmas.{indexed-again}
-use Rattle.nomos_index.proofs.ChangingLemmas.{channels-become}
+use Rattle.nomos_index.proofs.ChangingLemmas.{fewer-become, fewer-indexed}
 use Rattle.nomos_index.proofs.PlaceLemmas.{comes-holding, comes-state}
 use Rattle.nomos_index.proofs.ProcessLemmas.{slot-kept}
 use Rattle.nomos_index.proofs.RebindLemmas.{channels-each}
@@ -49,48 +47,28 @@ no-item [] at within none = absurd (omega arith)
 no-item (x ∷ xs) zero within none = none-some x none
 no-item (x ∷ xs) (suc at) within none = let l : at < length xs = omega arith in no-item xs at l none
 
--- ---- the user of a name
+-- ---- an object of a number
 
--- the user of the name stands under its number
-pub record UserStands (objects : List Object) (name number : ℕ) : Type 0 where
-  pub user : Object
-  pub found : user_of objects name ≡ Some user
-  pub stands : object_at objects number ≡ Some user
-  pub is_number : object_number user ≡ number
-
-pub user-stands : (s : State) (name number : ℕ) → InOrder s.objects → owner s name ≡ Some number
-    → UserStands s.objects name number
-user-stands s name number order owned = at (user_of s.objects name) refl
-  where
-    at : (o : Option Object) → user_of s.objects name ≡ o → UserStands s.objects name number
-    at None none =
-        absurd (none-some number (sym (ap (option_map object_number) none) ∙ owned))
-    at (Some u) is =
-        let own : object_number u ≡ number =
-        same_Some (object_number u) number (sym (ap (option_map object_number) is) ∙ owned) in
-        record {
-          user = u;
-          found = is;
-          stands =
-              ap (object_at s.objects) (sym own) ∙ object_at-own u s.objects order (user_of-found name u s.objects is).0;
-          is_number = own;
-        }
-
--- another object stands under its number, where it is redirected
-pub redirected-user : (objects : List Object) (old new number : ℕ) (o : Object) → UserStands objects old number
-    → object_at objects number ≡ Some o → redirected old new objects ≡ change.put_at number (Some (uses_instead old new o)) objects
-redirected-user objects old new number o user at =
-    let same : user.user ≡ o = same_Some user.user o (sym user.stands ∙ at) in
+-- an object of the number stands there as it is redirected
+pub redirected-own : (objects : List Object) (old new number : ℕ) (o : Object) → object_number o ≡ number
+    → object_at objects number ≡ Some o
+    → redirected_at number old new objects ≡ change.put_at number (Some (uses_instead old new o)) objects
+redirected-own objects old new number o own at =
     ap (λ (u : Option Object).
-    change.put_all (map (λ o. (object_number o, Some (uses_instead old new o))) (option_to_list u)) objects) user.found
-    ∙ ap (λ n. change.put_at n (Some (uses_instead old new user.user)) objects) user.is_number
-    ∙ ap (λ (x : Object). change.put_at number (Some (uses_instead old new x)) objects) same
+    change.put_all (map (λ o. (object_number o, Some (uses_instead old new o))) (option_to_list u)) objects) at
+    ∙ ap (λ n. change.put_at n (Some (uses_instead old new o)) objects) own
+
+-- where there is none, all stay
+pub redirected-absent : (objects : List Object) (old new number : ℕ) → object_at objects number ≡ None
+    → objects ≡ redirected_at number old new objects
+redirected-absent objects old new number none =
+    sym (ap (λ (u : Option Object).
+    change.put_all (map (λ o. (object_number o, Some (uses_instead old new o))) (option_to_list u)) objects) none)
 
 -- ---- it is a process
 
 module _ (s : Inside) (is : IsIndexed s) (old new number place : ℕ) (k : KeptProcess) (channels : Marking Cell)
     (at : ObjectIsAt (held_now s.contents) number place (kept.Process k))
-    (user : UserStands (state_of (held_now s.contents)).objects old number)
     (names : (p w : ℕ) → name_in channels.now p w
     ≡ cond (eqb number p) (option_map (instead_of old new) (name_in s.contents.channels.now p w))
     (name_in s.contents.channels.now p w))
@@ -104,6 +82,20 @@ module _ (s : Inside) (is : IsIndexed s) (old new number place : ℕ) (k : KeptP
       ∙ ap (λ b. cond b (option_map (instead_of old new) (name_in s.contents.channels.now p w))
       (name_in s.contents.channels.now p w)) (ne_eqb number p (λ same. other (sym same)))
 
+  -- a variable that has a name had one
+  fewer : (w : ℕ) → IsSome (name_in channels.now number w) → IsSome (name_in s.contents.channels.now number w)
+  fewer w some =
+      subst (λ b. b ≡ true)
+      (ap is_some
+      (names number w
+      ∙ ap (λ b. cond b (option_map (instead_of old new) (name_in s.contents.channels.now number w))
+      (name_in s.contents.channels.now number w)) (eq-eqb number number refl))
+      ∙ mapped (name_in s.contents.channels.now number w)) some
+    where
+      mapped : (o : Option ℕ) → is_some (option_map (instead_of old new) o) ≡ is_some o
+      mapped None = refl
+      mapped (Some n) = refl
+
   own : channels_of channels.now number ≡ each_bound (renamed old new) (channels_of s.contents.channels.now number)
   own =
       channels-each s.contents.channels.now channels.now number (renamed old new)
@@ -112,19 +104,24 @@ module _ (s : Inside) (is : IsIndexed s) (old new number place : ℕ) (k : KeptP
       ∙ ap (λ b. cond b (option_map (instead_of old new) (name_in s.contents.channels.now number w))
       (name_in s.contents.channels.now number w)) (eq-eqb number number refl))
 
+  pub process-indexed : IsIndexed (record s { contents = record s.contents { channels = channels } })
+  process-indexed =
+      fewer-indexed s is number place k stands channels s.room others fewer
+      (same-names s.contents.channels.marked channels.marked marked) (omega arith) (omega (arith, room, is.has_room.channels))
+
   pub process-redirected : state_of (held_now (record s.contents { channels = channels }))
-      ≡ record (state_of (held_now s.contents)) { objects = redirected old new (state_of (held_now s.contents)).objects }
+      ≡ record (state_of (held_now s.contents)) { objects = redirected_at number old new (state_of (held_now s.contents)).objects }
   process-redirected =
       let state = state_of (held_now s.contents) in
       let held = process_held s.contents.channels.now number (values_at (held_now s.contents) place)
       (lists_at (held_now s.contents) place) k in
       let turned : Process → Process = λ p. record p { channels = each_bound (renamed old new) p.channels } in
-      channels-become s is number place k stands channels s.room others
+      fewer-become s is number place k stands channels s.room others fewer
       (same-names s.contents.channels.marked channels.marked marked) (omega arith)
       (omega (arith, room, is.has_room.channels))
       (each_bound (renamed old new) (channels_of s.contents.channels.now number)) turned own refl held stands.found
       ∙ sym (ap (λ (os : List Object). record state { objects = os })
-      (redirected-user state.objects old new number (object.Process held) user at.found))
+      (redirected-own state.objects old new number (object.Process held) refl at.found))
 
 -- ---- it is a message
 
@@ -147,7 +144,6 @@ brings-instead old new seen.Close is = is
 
 module _ (s : Inside) (is : IsIndexed s) (old new number place : ℕ) (m next : KeptMessage) (objects : Marking (Slot Kept))
     (at : ObjectIsAt (held_now s.contents) number place (kept.Message m))
-    (user : UserStands (state_of (held_now s.contents)).objects old number)
     (instead : next ≡ kept_instead old new m)
     (now : objects.now ≡ put_at s.contents.objects.now place (Some (kept.Message next)))
     (marked : objects.marked ≡ s.contents.objects.marked) (room : s.contents.objects.room ≤ objects.room) where
@@ -170,7 +166,7 @@ module _ (s : Inside) (is : IsIndexed s) (old new number place : ℕ) (m next : 
     its_own = λ w some.
         let under : found before.slots number ≡ Some (kept.Message m) =
         found-at before.slots place (record { number = number; item = Some (kept.Message m) }) is.now.ascending stood in
-        subst IsProcess under (is.now.held number w some);
+        subst (λ o. Spans o w) under (is.now.held number w some);
   }
 
   comes : PlaceComes before after number place (Some (kept.Message next)) (values_at before place) (lists_at before place)
@@ -201,7 +197,7 @@ module _ (s : Inside) (is : IsIndexed s) (old new number place : ℕ) (m next : 
       })
 
   pub message-redirected : state_of after
-      ≡ record (state_of before) { objects = redirected old new (state_of before).objects }
+      ≡ record (state_of before) { objects = redirected_at number old new (state_of before).objects }
   message-redirected =
       let row = values_at before place in
       let held = message_held number row m in
@@ -213,4 +209,4 @@ module _ (s : Inside) (is : IsIndexed s) (old new number place : ℕ) (m next : 
       ∙ ap (λ (n : KeptMessage). put (object.Message (message_held number row n))) instead
       ∙ ap (λ (payload : Payload). put (turned payload)) (payload-instead old new m.brings row)
       ∙ sym (ap (λ (os : List Object). record (state_of before) { objects = os })
-      (redirected-user (state_of before).objects old new number (object.Message held) user at.found))
+      (redirected-own (state_of before).objects old new number (object.Message held) refl at.found))

@@ -1,7 +1,8 @@
 -- What becomes of the types of names when names are tidied, and when one comes.
-use Rattle.std.proofs.Common.{◌≡◌, ◌∙◌, ◌<◌, ◌+◌, ℕ, zero, suc, Bool, true, false, cond, List, [], ◌∷◌, ◌++◌, map, filter, take, drop, length, All, Option, Some, None, refl, sym, ap, subst, arith}
+use Rattle.std.proofs.Common.{◌≡◌, ◌≢◌, ◌∙◌, ◌<◌, ◌+◌, ◌==◌, ℕ, zero, suc, Bool, true, false, not, cond, Less, eq-eqb, ne_eqb, List, [], ◌∷◌, ◌++◌, map, filter, take, drop, length, All, Option, Some, None, refl, sym, ap, subst, arith}
 use Rattle.std.proofs.lemmas.List.Elements.{All-nil, All-cons, All-head, All-tail}
-use Rattle.std.proofs.lemmas.Option.{same_Some}
+use Rattle.std.proofs.lemmas.Cmp.{ranked}
+use Rattle.std.proofs.lemmas.Option.{none-some, same_Some}
 use Rattle.std.specs.List.{slice_get}
 use Rattle.std.specs.List.Sorted.{IsStrictlySortedBy}
 use Rattle.std.specs.Option.{is_some, option_map, option_to_list}
@@ -10,12 +11,13 @@ use Rattle.nomos_ir.specs.declared.ids.TypeId.{TypeId}
 use Rattle.nomos_machine.specs.Change.{is_mentioned}
 use Rattle.nomos_machine.specs.State.{NameTypes}
 use Rattle.nomos_machine.specs.declared.object.Object.{Object}
-use Rattle.nomos_slots.specs.Numbers.{numbers, put_at}
+use Rattle.nomos_slots.specs.Numbers.{IsAscending, numbers, put_at}
 use Rattle.nomos_slots.specs.declared.numbered.Slot.{Slot}
 use Rattle.nomos_slots.proofs.NumberLaws.{ascending-push}
 use Rattle.nomos_index.specs.Indexed.{Holding, IsHolding}
 use Rattle.nomos_index.specs.Objects.{types_of}
 use Rattle.nomos_index.specs.Tidying.{tidied_at, tidied_slot}
+use Rattle.nomos_index.proofs.LookLemmas.{AllOver, over-other, slots-head, slots-tail}
 
 -- ---- a name comes
 
@@ -140,6 +142,62 @@ module _ (objects : List Object) where
       at (Some t) false is rest =
           rest
           ∙ sym (ap (λ b. cond b ((s.number, t) ∷ filter keeps (types_of names)) (filter keeps (types_of names))) is)
+
+-- ---- a name goes
+
+module _ (name : ℕ) where
+  -- the types of all other names
+  abbrev pub other_types : NameTypes → NameTypes
+  other_types types = filter (λ t. not (t.0 == name)) types
+
+  abbrev its_types : Slot TypeId → NameTypes
+  its_types s = option_to_list (option_map (λ t. (s.number, t)) s.item)
+
+  apart-kept : (n : ℕ) (item : Option TypeId) (rest : NameTypes) → n ≢ name
+      → other_types (option_to_list (option_map (λ t. (n, t)) item) ++ rest)
+      ≡ option_to_list (option_map (λ t. (n, t)) item) ++ other_types rest
+  apart-kept n None rest other = refl
+  apart-kept n (Some t) rest other =
+      ap (λ b. cond (not b) ((n, t) ∷ other_types rest) (other_types rest)) (ne_eqb n name other)
+
+  own-gone : (n : ℕ) (item : Option TypeId) (rest : NameTypes) → n ≡ name
+      → other_types (option_to_list (option_map (λ t. (n, t)) item) ++ rest) ≡ other_types rest
+  own-gone n None rest same = refl
+  own-gone n (Some t) rest same =
+      ap (λ b. cond (not b) ((n, t) ∷ other_types rest) (other_types rest)) (eq-eqb n name same)
+
+  -- where no slot has the number, all types stay
+  pub types-absent : (names : List (Slot TypeId)) → All (λ n. n ≢ name) (numbers names)
+      → types_of names ≡ other_types (types_of names)
+  types-absent [] apart = refl
+  types-absent (s ∷ names) apart =
+      let other : s.number ≢ name = All-head (λ n. n ≢ name) s.number (numbers names) apart in
+      ap (λ ts. its_types s ++ ts) (types-absent names (All-tail (λ n. n ≢ name) s.number (numbers names) apart))
+      ∙ sym (apart-kept s.number s.item (types_of names) other)
+
+  -- where the slot of the name becomes a gap, all others stay
+  pub types-dropped : (names : List (Slot TypeId)) (place : ℕ) → IsAscending names
+      → slice_get (numbers names) place ≡ Some name
+      → types_of (put_at names place None) ≡ other_types (types_of names)
+  types-dropped [] place order at = absurd (none-some name at)
+  types-dropped (s ∷ names) zero order at =
+      let same : s.number ≡ name = same_Some s.number name at in
+      let apart = over-other s.number names (slots-head s names order) in
+      types-absent names (subst (λ m. All (λ n. n ≢ m) (numbers names)) same apart)
+      ∙ sym (own-gone s.number s.item (types_of names) same)
+  types-dropped (s ∷ names) (suc place) order at =
+      let other : s.number ≢ name = lower-at names place (slots-head s names order) at in
+      ap (λ ts. its_types s ++ ts) (types-dropped names place (slots-tail s names order) at)
+      ∙ sym (apart-kept s.number s.item (types_of names) other)
+    where
+      lower-at : (among : List (Slot TypeId)) (p : ℕ) → AllOver s.number among
+          → slice_get (numbers among) p ≡ Some name → s.number ≢ name
+      lower-at [] p over at = absurd (none-some name at)
+      lower-at (f ∷ among) zero over at =
+          let lower : s.number < f.number = ranked s.number f.number Less (sym over.0) in
+          let same : f.number ≡ name = same_Some f.number name at in
+          omega arith
+      lower-at (f ∷ among) (suc p) over at = lower-at among p over.1 at
 
 -- what is held with other names of the same numbers is in order too
 pub holding-named : (h : Holding) (names : List (Slot TypeId)) → IsHolding h → numbers names ≡ numbers h.names

@@ -26,7 +26,8 @@ use Rattle.nomos_slots.specs.Numbers.{found}
 use Rattle.nomos_slots.specs.Users.{HasName, IsLowestUser}
 use Rattle.nomos_slots.specs.declared.numbered.Slot.{Slot}
 use Rattle.nomos_index.specs.Indexed.{Holding, IsHolding, standing_at, state_of}
-use Rattle.nomos_index.specs.Objects.{IsProcess, channels_of, entries_of, process_held}
+use Rattle.nomos_index.specs.Objects.{channels_of, entries_of, process_held}
+use Rattle.nomos_index.specs.Spanning.{Spans}
 use Rattle.nomos_index.specs.Sought.{IsFirstPlace, is_message_using, lower_of, mentions_plainly, some_passes}
 use Rattle.nomos_index.specs.declared.kept.Kept.{Kept}
 use Rattle.nomos_index.specs.declared.kept.Kept.TheVariants as kept
@@ -241,7 +242,7 @@ module _ (h : Holding) (is : IsHolding h) (name : ℕ) where
       Answer = (p : Process) × Contains objects (object.Process p) × (p.pid ≡ pid)
           × (has_name name (used (object.Process p)) ≡ true)
 
-      by_found : (o : Option Kept) → found h.slots pid ≡ o → IsProcess o → Answer
+      by_found : (o : Option Kept) → found h.slots pid ≡ o → Spans o v → Answer
       by_found None there process = absurd process
       by_found (Some (kept.Message k)) there process = absurd process
       by_found (Some (kept.Process k)) there process =

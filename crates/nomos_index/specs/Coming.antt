@@ -4,7 +4,8 @@ use Rattle.nomos_ir.specs.Bindings.{bound_to}
 use Rattle.nomos_ir.specs.declared.ids.VarId.{VarId}
 use Rattle.nomos_slots.specs.Cells.{name_in}
 use Rattle.nomos_index.specs.Indexed.{Holding}
-use Rattle.nomos_index.specs.Objects.{BringsIt, IsProcess, ListRow, ValueRow}
+use Rattle.nomos_index.specs.Objects.{BringsIt, ListRow, ValueRow}
+use Rattle.nomos_index.specs.Spanning.{Spans}
 use Rattle.nomos_index.specs.declared.kept.Kept.{Kept}
 
 -- the name, or the other one where there is none
@@ -17,12 +18,12 @@ abbrev pub name_with : ℕ → List (VarId × ℕ) → ℕ → ℕ → Option �
 name_with process pairs p v name = cond (process == p) (name_or (bound_to v pairs) name) name
 
 -- An object comes, under the next number, with its rows and its channels. A message has what it brings in its row, and
--- only a process has channels.
+-- only a process has channels, which stand in its span.
 pub record ObjectComes (before after : Holding) (number : ℕ) (k : Kept) (values : ValueRow) (its_lists : ListRow)
     : Type 0 where
   pub is_next : number ≡ before.drawn.next_object
   pub brings : BringsIt (Some k) values
-  pub its_own : (v : ℕ) → IsSome (name_in after.cells number v) → IsProcess (Some k)
+  pub its_own : (v : ℕ) → IsSome (name_in after.cells number v) → Spans (Some k) v
   pub others : (p v : ℕ) → p ≢ number → name_in after.cells p v ≡ name_in before.cells p v
   pub slots : after.slots ≡ before.slots ++ (record { number = number; item = Some k }) ∷ []
   pub value_rows : after.value_rows ≡ before.value_rows ++ values ∷ []

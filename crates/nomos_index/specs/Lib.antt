@@ -1,4 +1,5 @@
 pub mod Objects
+pub mod Spanning
 pub mod Indexed
 pub mod Looked
 pub mod Placing
@@ -8,5 +9,7 @@ pub mod Walks
 pub mod Sought
 pub mod Rebound
 pub mod Instead
+pub mod Redirected
 pub mod Tidying
 pub mod State
+pub mod Telling

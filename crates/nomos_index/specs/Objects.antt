@@ -24,6 +24,8 @@ use Rattle.nomos_index.specs.declared.kept.Kept.{Kept}
 use Rattle.nomos_index.specs.declared.kept.Kept.TheVariants as kept
 use Rattle.nomos_index.specs.declared.kept.KeptMessage.{KeptMessage}
 use Rattle.nomos_index.specs.declared.kept.KeptProcess.{KeptProcess}
+use Rattle.nomos_index.specs.declared.span.Span.{Span}
+use Rattle.nomos_index.specs.Spanning.{Spans}
 
 -- the values, and the lists, of the object at a place
 abbrev pub ValueRow : Type 0
@@ -87,15 +89,16 @@ message_held number values k = record {
   purse = k.purse;
 }
 
--- what is kept of a process with these plain fields
-abbrev pub kept_of : SeenProcess → KeptProcess
-kept_of fields = record {
+-- what is kept of a process with these plain fields, whose channels stand in this span
+abbrev pub kept_of : SeenProcess → Option Span → KeptProcess
+kept_of fields span = record {
   mode = fields.mode;
   code = fields.code;
   offers = fields.offers;
   base = fields.base;
   purse = fields.purse;
   payer = fields.payer;
+  span = span;
 }
 
 -- the object of a number
@@ -137,11 +140,6 @@ abbrev pub AreBrought : List (Slot Kept) → List ValueRow → Type 0
 AreBrought slots rows = (place : ℕ) (slot : Slot Kept) → slice_get slots place ≡ Some slot
     → BringsIt slot.item (slice_index_or rows place [])
 
--- a process stands there
-abbrev pub IsProcess : Option Kept → Type 0
-IsProcess (Some (kept.Process k)) = Unit {0}
-IsProcess _ = ⊥
-
--- channels are those of processes that are there
+-- channels are those of processes that are there, each in the span of its process
 abbrev pub AreHeld : List (Slot Kept) → List Cell → Type 0
-AreHeld slots cells = (process variable : ℕ) → IsSome (name_in cells process variable) → IsProcess (found slots process)
+AreHeld slots cells = (process variable : ℕ) → IsSome (name_in cells process variable) → Spans (found slots process) variable

@@ -1,7 +1,8 @@
--- Names that no object mentions lose their types, one after the other.
-use Rattle.std.specs.Prelude.{ℕ, zero, suc, cond, List, [], ◌∷◌, None}
+-- Names that no object mentions lose their types, one after the other or by themselves.
+use Rattle.std.specs.Prelude.{ℕ, zero, suc, ◌==◌, not, cond, List, [], ◌∷◌, filter, None}
 use Rattle.nomos_ir.specs.declared.ids.TypeId.{TypeId}
 use Rattle.nomos_machine.specs.Change.{is_mentioned}
+use Rattle.nomos_machine.specs.State.{State}
 use Rattle.nomos_machine.specs.declared.object.Object.{Object}
 use Rattle.nomos_slots.specs.declared.numbered.Slot.{Slot}
 
@@ -14,3 +15,11 @@ abbrev pub tidied_at : List Object → ℕ → List (Slot TypeId) → List (Slot
 tidied_at objects place [] = []
 tidied_at objects zero (s ∷ names) = tidied_slot objects s ∷ names
 tidied_at objects (suc place) (s ∷ names) = s ∷ tidied_at objects place names
+
+-- a name has no type any more
+abbrev pub without_type : ℕ → State → State
+without_type name s = record s { types = filter (λ t. not (t.0 == name)) s.types }
+
+-- so has one that no object mentions
+abbrev pub tidied_of : ℕ → State → State
+tidied_of name s = cond (is_mentioned s.objects name) s (without_type name s)

@@ -9,14 +9,14 @@ use std::alloc::AllocError;
 
 impl Inside {
     /// What an account has, in Dths, if there is one of that number.
-    pub(crate) fn balance(&self, account: u32) -> Option<u128>
+    pub fn balance(&self, account: u32) -> Option<u128>
         ensures { result ≡ slice_get self.now.state.balances account }
     {
         self.contents.balances.get(account as usize)
     }
 
     /// An account has so many Dths more. It takes no room.
-    pub(crate) fn pay_in(&mut self, account: u32, dths: u128)
+    pub fn pay_in(&mut self, account: u32, dths: u128)
         requires account { account < length self.old.state.balances }
         requires fits { slice_index self.old.state.balances account + dths < 2 ^ 128 }
         ensures state { self.new.state ≡ record self.old.state
@@ -30,7 +30,7 @@ impl Inside {
     }
 
     /// An account has so many Dths less. It takes no room.
-    pub(crate) fn pay_out(&mut self, account: u32, dths: u128)
+    pub fn pay_out(&mut self, account: u32, dths: u128)
         requires { CanGive (Some (account, dths)) self.old.state.balances }
         ensures state { self.new.state ≡ record self.old.state
             { balances = paid_out (Some (account, dths)) self.old.state.balances } }
@@ -43,7 +43,7 @@ impl Inside {
     }
 
     /// Makes the next account, with so many Dths, and gives its number. Want of memory leaves the state as it was.
-    pub(crate) fn open_account(&mut self, dths: u128) -> Result<u32, AllocError>
+    pub fn open_account(&mut self, dths: u128) -> Result<u32, AllocError>
         requires { length self.old.state.balances < 2 ^ 32 - 1 }
         ensures ok { IfOk result (λ account. (account ≡ length self.old.state.balances)
             × (self.new.state ≡ opened self.old.state dths)) }
@@ -58,14 +58,14 @@ impl Inside {
     }
 
     /// The gas spent, in Dths.
-    pub(crate) fn spent(&self) -> u128
+    pub fn spent(&self) -> u128
         ensures { result ≡ self.now.state.spent }
     {
         self.contents.numbers.spent
     }
 
     /// So many Dths are spent. It takes no room.
-    pub(crate) fn burn(&mut self, dths: u128)
+    pub fn burn(&mut self, dths: u128)
         requires { self.old.state.spent + dths < 2 ^ 128 }
         ensures state { self.new.state ≡ record self.old.state { spent = self.old.state.spent + dths } }
         ensures room { self.new.room ≡ self.old.room }
@@ -75,7 +75,7 @@ impl Inside {
     }
 
     /// A value is emitted by the process of this number.
-    pub(crate) fn emit(&mut self, pid: u32, x: Value) -> Result<(), AllocError>
+    pub fn emit(&mut self, pid: u32, x: Value) -> Result<(), AllocError>
         ensures ok { OnOk result (self.new.state ≡ record self.old.state
             { results = self.old.state.results ++ (pid, x) ∷ [] }) }
         ensures err { OnErr result (self.new.state ≡ self.old.state) }
@@ -88,14 +88,14 @@ impl Inside {
     }
 
     /// What processes emitted: the number of the process, and the value.
-    pub(crate) fn results(&self) -> &[(u32, Value)]
+    pub fn results(&self) -> &[(u32, Value)]
         ensures { result.now ≡ self.now.state.results }
     {
         self.contents.results.as_slice()
     }
 
     /// Forgets what was emitted. It takes no memory.
-    pub(crate) fn clear_results(&mut self)
+    pub fn clear_results(&mut self)
         requires { self.old.marked ≡ None }
         ensures state { self.new.state ≡ cleared self.old.state }
         ensures room { self.new.room ≡ self.old.room }

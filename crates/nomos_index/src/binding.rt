@@ -6,7 +6,9 @@ ghost use Rattle.nomos_parts.specs.SmallChanges.{Becomes, with_channels};
 ghost use Rattle.nomos_index.specs.Coming.{name_with};
 
 use crate::inside::Inside;
+use crate::kept::{Kept, KeptProcess};
 use crate::looking::process_at;
+use crate::span::{drop_span, span_of};
 use nomos_ir::ids::VarId;
 use nomos_slots::channels::Channels;
 use std::alloc::{AllocError, Global};
@@ -46,7 +48,7 @@ pub(crate) fn bind_pairs(channels: &mut Channels, process: u32, pairs: &[(VarId,
 
 impl Inside {
     /// The process has these channels; of a variable that stands twice the first pair counts. It takes no room.
-    pub(crate) fn replace_channels(
+    pub fn replace_channels(
         &mut self,
         alloc: Global,
         pid: u32,
@@ -57,13 +59,16 @@ impl Inside {
         ensures room { self.new.room ≡ self.old.room }
         ensures marked { self.new.marked ≡ self.old.marked }
     {
-        let Some(_) = process_at(&self.contents, pid) else {
+        let Some((place, before)) = process_at(&self.contents, pid) else {
             return Ok(());
         };
         let count = channels.len();
         reserve_names(&mut self.contents.channels, alloc, count, self.room)?;
-        self.contents.channels.drop_all(pid);
+        drop_span(&mut self.contents.channels, pid, before.span);
         bind_pairs(&mut self.contents.channels, pid, &channels);
+        let span = span_of(&channels);
+        let next = KeptProcess { span, ..before };
+        self.contents.objects.put(place, Some(Kept::Process(next)));
         Ok(())
     }
 }

@@ -7,6 +7,7 @@ use crate::inside::Inside;
 use crate::kept::{Kept, KeptProcess};
 use crate::looking::process_at;
 use crate::rows::bind_in;
+use crate::span::widened;
 use nomos_deeds::sight::SeenProcess;
 use nomos_ir::ids::VarId;
 use nomos_ir::value::Value;
@@ -15,34 +16,37 @@ use std::alloc::{AllocError, Global};
 
 impl Inside {
     /// The process of this number has these plain fields, but for the number, which it has already. It takes no room.
-    pub(crate) fn set_fields(&mut self, fields: SeenProcess)
+    pub fn set_fields(&mut self, fields: SeenProcess)
         ensures state { Becomes self.old.state fields.pid (with_fields fields) self.new.state }
         ensures room { self.new.room ≡ self.old.room }
         ensures marked { self.new.marked ≡ self.old.marked }
     {
-        let Some((place, _)) = process_at(&self.contents, fields.pid) else {
+        let Some((place, before)) = process_at(&self.contents, fields.pid) else {
             return;
         };
-        let next = KeptProcess::of(fields);
+        let next = KeptProcess::of(fields, before.span);
         self.contents.objects.put(place, Some(Kept::Process(next)));
     }
 
     /// A channel of the process is bound to a variable.
-    pub(crate) fn bind_channel(&mut self, pid: u32, v: VarId, name: u32)
+    pub fn bind_channel(&mut self, pid: u32, v: VarId, name: u32)
         requires { 0 < self.old.room }
         ensures state { Becomes self.old.state pid (with_channel v name) self.new.state }
         ensures room { self.old.room ≤ self.new.room + 1 }
         ensures marked { self.new.marked ≡ self.old.marked }
     {
-        let Some(_) = process_at(&self.contents, pid) else {
+        let Some((place, before)) = process_at(&self.contents, pid) else {
             return;
         };
         self.contents.channels.bind(pid, v.0, name);
+        let span = Some(widened(before.span, v.0));
+        let next = KeptProcess { span, ..before };
+        self.contents.objects.put(place, Some(Kept::Process(next)));
         self.room -= 1;
     }
 
     /// A variable of the process has no channel any longer. It takes no room.
-    pub(crate) fn unbind_channel(&mut self, pid: u32, v: VarId)
+    pub fn unbind_channel(&mut self, pid: u32, v: VarId)
         ensures state { Becomes self.old.state pid (without_channel v) self.new.state }
         ensures room { self.new.room ≡ self.old.room }
         ensures marked { self.new.marked ≡ self.old.marked }
@@ -54,7 +58,7 @@ impl Inside {
     }
 
     /// A variable of the process is bound to a value.
-    pub(crate) fn bind_value(
+    pub fn bind_value(
         &mut self,
         alloc: Global,
         pid: u32,
@@ -76,7 +80,7 @@ impl Inside {
     }
 
     /// The process has these values.
-    pub(crate) fn put_values(&mut self, pid: u32, values: Vec<(VarId, Value)>)
+    pub fn put_values(&mut self, pid: u32, values: Vec<(VarId, Value)>)
         requires { 0 < self.old.room }
         ensures state { Becomes self.old.state pid (with_values values.items) self.new.state }
         ensures room { self.old.room ≤ self.new.room + 1 }
@@ -90,7 +94,7 @@ impl Inside {
     }
 
     /// The process has these lists.
-    pub(crate) fn put_lists(&mut self, pid: u32, lists: Vec<(VarId, PotentialList)>)
+    pub fn put_lists(&mut self, pid: u32, lists: Vec<(VarId, PotentialList)>)
         requires { 0 < self.old.room }
         ensures state { Becomes self.old.state pid (with_lists lists.items) self.new.state }
         ensures room { self.old.room ≤ self.new.room + 1 }

@@ -8,6 +8,7 @@ ghost use Rattle.nomos_index.specs.Objects.{payload_of};
 use crate::binding::{bind_pairs, reserve_names};
 use crate::inside::Inside;
 use crate::kept::{Kept, KeptMessage, KeptProcess};
+use crate::span::span_of;
 use nomos_deeds::sight::SeenPayload;
 use nomos_ir::ids::VarId;
 use nomos_ir::value::Value;
@@ -39,7 +40,7 @@ fn carried(
 
 impl Inside {
     /// A message comes, which has the next number. It takes no memory where it brings no value.
-    pub(crate) fn come_message(&mut self, alloc: Global, message: Message) -> Result<(), AllocError>
+    pub fn come_message(&mut self, alloc: Global, message: Message) -> Result<(), AllocError>
         requires room { 0 < self.old.room }
         requires number { message.number ≡ self.old.state.next_object }
         requires fits { self.old.state.next_object < 2 ^ 32 - 1 }
@@ -68,7 +69,7 @@ impl Inside {
     }
 
     /// A process comes, which has the next number.
-    pub(crate) fn come_process(&mut self, alloc: Global, born: Newborn) -> Result<(), AllocError>
+    pub fn come_process(&mut self, alloc: Global, born: Newborn) -> Result<(), AllocError>
         requires room { 0 < self.old.room }
         requires number { born.fields.pid ≡ self.old.state.next_object }
         requires fits { self.old.state.next_object < 2 ^ 32 - 1 }
@@ -81,7 +82,7 @@ impl Inside {
         let count = born.channels.len();
         reserve_names(&mut self.contents.channels, alloc, count, self.room)?;
         bind_pairs(&mut self.contents.channels, pid, &born.channels);
-        let kept = KeptProcess::of(born.fields);
+        let kept = KeptProcess::of(born.fields, span_of(&born.channels));
         self.contents.objects.push(pid, Kept::Process(kept));
         self.contents.values.push(born.values);
         self.contents.lists.push(born.lists);

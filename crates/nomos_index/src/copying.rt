@@ -146,7 +146,7 @@ fn no_contents(alloc: Global) -> Contents
 
 impl Inside {
     /// The state with nothing in it, in which both next numbers are 1. It takes no memory.
-    pub(crate) fn empty(alloc: Global) -> Self
+    pub fn empty(alloc: Global) -> Self
         ensures state { result.state ≡ empty }
         ensures marked { result.marked ≡ None }
         ensures room { result.room ≡ 0 }
@@ -160,7 +160,7 @@ impl Inside {
     }
 
     /// The same state once more, with nothing marked and no room ahead.
-    pub(crate) fn copy(&self, alloc: Global) -> Result<Self, AllocError>
+    pub fn copy(&self, alloc: Global) -> Result<Self, AllocError>
         ensures state { IfOk result (λ made. made.state ≡ self.now.state) }
         ensures marked { IfOk result (λ made. made.marked ≡ None) }
     {

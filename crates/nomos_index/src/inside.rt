@@ -39,7 +39,7 @@ pub(crate) struct Contents {
 /// An indexed state: all that it keeps is marked together. Contracts see the state, the one that is marked, and for how
 /// many small changes there is room.
 #[derive(Drop, Debug)]
-pub(crate) struct Inside {
+pub struct Inside {
     pub(crate) alloc: Global,
     pub(crate) contents: Contents,
     pub(crate) marked: Option<Numbers>,

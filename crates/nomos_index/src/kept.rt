@@ -1,7 +1,9 @@
 //! Objects as an indexed state keeps them: plain records. Values, lists and channels stand beside them.
-ghost use Rattle.std.specs.Prelude.{◌≡◌};
+ghost use Rattle.std.specs.Prelude.{◌≡◌, ℕ, Some};
 ghost use Rattle.nomos_index.specs.Objects.{kept_of};
+ghost use Rattle.nomos_index.specs.Spanning.{HasVariable, Spans};
 
+use crate::span::Span;
 use nomos_deeds::sight::{SeenPayload, SeenProcess};
 use nomos_ir::ids::CodeId;
 use nomos_ir::mode::Mode;
@@ -15,12 +17,14 @@ pub(crate) struct KeptProcess {
     pub(crate) base: Option<u32>,
     pub(crate) purse: u128,
     pub(crate) payer: u32,
+    /// From which variable to which its channels may stand.
+    pub(crate) span: Option<Span>,
 }
 
 impl KeptProcess {
-    /// What is kept of a process with these plain fields.
-    pub(crate) fn of(fields: SeenProcess) -> KeptProcess
-        ensures { result ≡ kept_of fields }
+    /// What is kept of a process with these plain fields, whose channels stand in this span.
+    pub(crate) fn of(fields: SeenProcess, span: Option<Span>) -> KeptProcess
+        ensures { result ≡ kept_of fields span }
     {
         KeptProcess {
             mode: fields.mode,
@@ -29,6 +33,7 @@ impl KeptProcess {
             base: fields.base,
             purse: fields.purse,
             payer: fields.payer,
+            span,
         }
     }
 }
@@ -48,4 +53,16 @@ pub(crate) struct KeptMessage {
 pub(crate) enum Kept {
     Process(KeptProcess),
     Message(KeptMessage),
+}
+
+impl Kept {
+    /// From which variable to which its channels may stand.
+    pub(crate) fn span(&self) -> Option<Span>
+        ensures { (v : ℕ) → Spans (Some self.now) v → HasVariable result v }
+    {
+        match self {
+            Kept::Process(p) => p.span,
+            Kept::Message(_) => None,
+        }
+    }
 }

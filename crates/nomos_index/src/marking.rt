@@ -78,7 +78,7 @@ pub(crate) fn forget_all(contents: &mut Contents)
 
 impl Inside {
     /// Makes room for so many small changes. Where there is room already, it cannot fail.
-    pub(crate) fn make_room(&mut self, changes: usize) -> Result<(), AllocError>
+    pub fn make_room(&mut self, changes: usize) -> Result<(), AllocError>
         ensures state { self.new.state ≡ self.old.state }
         ensures ok { OnOk result (changes ≤ self.new.room) }
         ensures room { self.old.room ≤ self.new.room }
@@ -94,7 +94,7 @@ impl Inside {
     }
 
     /// Marks the state. It takes no memory.
-    pub(crate) fn mark(&mut self)
+    pub fn mark(&mut self)
         requires { self.old.marked ≡ None }
         ensures state { self.new.state ≡ self.old.state }
         ensures marked { self.new.marked ≡ Some self.old.state }
@@ -105,7 +105,7 @@ impl Inside {
     }
 
     /// Goes back to the state that is marked. It takes no memory.
-    pub(crate) fn back(&mut self)
+    pub fn back(&mut self)
         requires { IsSome self.old.marked }
         ensures state { self.old.marked ≡ Some self.new.state }
         ensures marked { self.new.marked ≡ None }
@@ -118,7 +118,7 @@ impl Inside {
     }
 
     /// Forgets which state is marked. It takes no memory.
-    pub(crate) fn forget(&mut self)
+    pub fn forget(&mut self)
         ensures state { self.new.state ≡ self.old.state }
         ensures marked { self.new.marked ≡ None }
         ensures room { self.old.room ≤ self.new.room }

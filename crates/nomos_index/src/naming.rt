@@ -1,9 +1,10 @@
 //! Names of an indexed state, and the numbers that are drawn next.
-ghost use Rattle.std.specs.Prelude.{◌≡◌, ◌≤◌, ◌<◌, ◌+◌, ◌-◌, ◌^◌, length, map};
+ghost use Rattle.std.specs.Prelude.{◌≡◌, ◌≤◌, ◌<◌, ◌+◌, ◌-◌, ◌^◌, ◌==◌, filter, length, map, not};
 ghost use Rattle.nomos_machine.specs.Change.{tidied};
 ghost use Rattle.nomos_parts.specs.SmallChanges.{with_name};
 ghost use Rattle.nomos_index.specs.Indexed.{IsHolding, held_now, state_of};
-ghost use Rattle.nomos_index.specs.Tidying.{tidied_at, tidied_slot};
+ghost use Rattle.nomos_index.specs.Objects.{types_of};
+ghost use Rattle.nomos_index.specs.Tidying.{tidied_at, tidied_of, tidied_slot, without_type};
 
 use crate::inside::{Contents, Inside};
 use crate::seeking::is_mentioned;
@@ -43,23 +44,39 @@ fn tidy_all(contents: &mut Contents)
     }
 }
 
+// A name has no type any more.
+fn drop_in(contents: &mut Contents, name: u32)
+    requires holding { IsHolding (held_now contents.old) }
+    ensures holding { IsHolding (held_now contents.new) }
+    ensures others { contents.new ≡ record contents.old { names = contents.new.names } }
+    ensures types { types_of contents.new.names.now
+        ≡ filter (λ t. not (t.0 == name)) (types_of contents.old.names.now) }
+    ensures marked { contents.new.names.marked ≡ contents.old.names.marked }
+    ensures room { contents.old.names.room ≤ contents.new.names.room }
+{
+    let Some(place) = contents.names.place_of(name) else {
+        return;
+    };
+    contents.names.put(place, None);
+}
+
 impl Inside {
     /// The number that the next object will have. This reader and the next take no memory.
-    pub(crate) fn next_number(&self) -> u32
+    pub fn next_number(&self) -> u32
         ensures { result ≡ self.now.state.next_object }
     {
         self.contents.numbers.next_object
     }
 
     /// The number that the next name will have.
-    pub(crate) fn fresh_name(&self) -> u32
+    pub fn fresh_name(&self) -> u32
         ensures { result ≡ self.now.state.next_name }
     {
         self.contents.numbers.next_name
     }
 
     /// The next name comes, and has this type.
-    pub(crate) fn come_name(&mut self, t: TypeId)
+    pub fn come_name(&mut self, t: TypeId)
         requires room { 0 < self.old.room }
         requires fits { self.old.state.next_name < 2 ^ 32 - 1 }
         ensures state { self.new.state ≡ with_name t self.old.state }
@@ -72,8 +89,28 @@ impl Inside {
         self.room -= 1;
     }
 
+    /// A name has no type any more. It takes no room, and costs a look-up.
+    pub fn drop_name(&mut self, name: u32)
+        ensures state { self.new.state ≡ without_type name self.old.state }
+        ensures room { self.new.room ≡ self.old.room }
+        ensures marked { self.new.marked ≡ self.old.marked }
+    {
+        drop_in(&mut self.contents, name);
+    }
+
+    /// This name has no type any more, where no object mentions it. It takes no room, and goes over the objects.
+    pub fn tidy_name(&mut self, name: u32)
+        ensures state { self.new.state ≡ tidied_of name self.old.state }
+        ensures room { self.new.room ≡ self.old.room }
+        ensures marked { self.new.marked ≡ self.old.marked }
+    {
+        if !is_mentioned(&self.contents, name) {
+            self.drop_name(name);
+        }
+    }
+
     /// Names that no object mentions have no type any more. It takes no room.
-    pub(crate) fn tidy(&mut self)
+    pub fn tidy(&mut self)
         ensures state { self.new.state ≡ tidied self.old.state }
         ensures room { self.new.room ≡ self.old.room }
         ensures marked { self.new.marked ≡ self.old.marked }

@@ -1,14 +1,16 @@
-//! Whoever uses a name uses another one instead.
+//! Whoever uses a name uses another one instead: the first that is found, or an object of which the number is known.
 ghost use Rattle.std.specs.Prelude.{◌≡◌, ◌≤◌, length, map};
 ghost use Rattle.std.specs.Option.{option_map};
 ghost use Rattle.nomos_machine.specs.Revised.{renamed};
 ghost use Rattle.nomos_parts.specs.SmallChanges.{redirected};
 ghost use Rattle.nomos_index.specs.Instead.{brings_instead, kept_instead};
+ghost use Rattle.nomos_index.specs.Redirected.{redirected_at};
 
 use crate::inside::Inside;
 use crate::kept::{Kept, KeptMessage};
 use crate::looking::object_at;
 use crate::seeking::user;
+use crate::span::rename_span;
 use nomos_deeds::sight::SeenPayload;
 use nomos_slots::column::Column;
 
@@ -70,18 +72,17 @@ fn rename_all(names: &mut Column<u32>, old: u32, new: u32)
 }
 
 impl Inside {
-    // The first object that uses the old name uses the new one instead. It takes no room.
-    fn redirect_user(&mut self, old: u32, new: u32)
+    /// The object of this number uses the new name wherever it used the old one. It takes no room.
+    pub fn redirect_object(&mut self, number: u32, old: u32, new: u32)
         ensures state { self.new.state ≡ record self.old.state
-            { objects = redirected old new self.old.state.objects } }
+            { objects = redirected_at number old new self.old.state.objects } }
         ensures room { self.new.room ≡ self.old.room }
         ensures marked { self.new.marked ≡ self.old.marked }
     {
-        let Some(number) = user(&self.contents, old) else {
-            return;
-        };
         match object_at(&self.contents, number) {
-            Some((_, Kept::Process(_))) => self.contents.channels.rename(number, old, new),
+            Some((_, Kept::Process(p))) => {
+                rename_span(&mut self.contents.channels, number, p.span, old, new);
+            }
             Some((place, Kept::Message(m))) => {
                 let next = message_renamed(old, new, m);
                 self.contents.objects.put(place, Some(Kept::Message(next)));
@@ -90,8 +91,30 @@ impl Inside {
         }
     }
 
+    /// An outside party uses the new name wherever it used the old one. It takes no room.
+    pub fn rename_outside(&mut self, old: u32, new: u32)
+        ensures state { self.new.state ≡ record self.old.state
+            { outside = map (renamed old new) self.old.state.outside } }
+        ensures room { self.new.room ≡ self.old.room }
+        ensures marked { self.new.marked ≡ self.old.marked }
+    {
+        rename_all(&mut self.contents.outside, old, new);
+    }
+
+    // The first object that uses the old name uses the new one instead. It takes no room.
+    fn redirect_user(&mut self, old: u32, new: u32)
+        ensures state { self.new.state ≡ record self.old.state
+            { objects = redirected old new self.old.state.objects } }
+        ensures room { self.new.room ≡ self.old.room }
+        ensures marked { self.new.marked ≡ self.old.marked }
+    {
+        if let Some(number) = user(&self.contents, old) {
+            self.redirect_object(number, old, new);
+        }
+    }
+
     /// Whoever uses the old name uses the new one instead, an outside party too. It takes no room.
-    pub(crate) fn redirect(&mut self, old: u32, new: u32)
+    pub fn redirect(&mut self, old: u32, new: u32)
         ensures state { self.new.state ≡ record self.old.state {
           objects = redirected old new self.old.state.objects;
           outside = map (renamed old new) self.old.state.outside;
@@ -100,6 +123,6 @@ impl Inside {
         ensures marked { self.new.marked ≡ self.old.marked }
     {
         self.redirect_user(old, new);
-        rename_all(&mut self.contents.outside, old, new);
+        self.rename_outside(old, new);
     }
 }

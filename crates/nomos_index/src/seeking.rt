@@ -54,8 +54,8 @@ fn brings(brought: SeenPayload, name: u32) -> bool
     }
 }
 
-// Whether a message uses this name: as the other end of its talk, or since it brings it.
-fn message_uses(m: &KeptMessage, name: u32) -> bool
+/// Whether a message uses this name: as the other end of its talk, or since it brings it.
+pub(crate) fn message_uses(m: &KeptMessage, name: u32) -> bool
     ensures { (number : ℕ) (values : ValueRow)
         → result ≡ list_any (λ k. k == name) (used (object.Message (message_held number values m.now))) }
 {
@@ -101,8 +101,8 @@ fn is_process_sought(number: u32, p: &KeptProcess, sought: Sought) -> bool
     }
 }
 
-// Whether a message is what is looked for.
-fn is_message_sought(m: &KeptMessage, sought: Sought) -> bool
+/// Whether a message is what is looked for.
+pub(crate) fn is_message_sought(m: &KeptMessage, sought: Sought) -> bool
     ensures { (number : ℕ) (values : ValueRow)
         → result ≡ is_sought sought (object.Message (message_held number values m.now)) }
 {

@@ -1,5 +1,5 @@
 -- Worlds that are kept in books, in a firing.
-use Rattle.std.proofs.Common.{◌≡◌, ◌≢◌, ◌∙◌, ℕ, List, [], ◌∷◌, ◌++◌, Option, Some, None, refl, sym, ap, subst, arith, take}
+use Rattle.std.proofs.Common.{◌≡◌, ◌≢◌, ◌∙◌, ℕ, zero, suc, length, slice_get, List, [], ◌∷◌, ◌++◌, Option, Some, None, refl, sym, ap, subst, arith, take}
 use Rattle.std.specs.Option.{option_map}
 use Rattle.nomos_ir.specs.declared.ids.CodeId.{CodeId}
 use Rattle.nomos_types.specs.Acceptance.{Acceptance, IsAccepted}
@@ -110,3 +110,11 @@ module _ {a : Acceptance} (accepted : IsAccepted a) {b c : BooksState} {f h g : 
     origin = subst IsLedger (sym (origin-same b kept c.now.state under.marked)) under.origin;
     ledger = fired-named accepted stands [] [] firing.pid c.now.state one.steps under.ledger;
   })
+
+-- ---- what a batch makes
+
+-- what stands behind the first ones of a list stands there in the list
+pub behind-taken : {X : Type 0} (count : ℕ) (xs : List X) → slice_get xs (length (take count xs)) ≡ slice_get xs count
+behind-taken zero xs = refl
+behind-taken (suc count) [] = refl
+behind-taken (suc count) (x ∷ xs) = behind-taken count xs

@@ -1,5 +1,5 @@
 //! What a ledger and a batch under way are kept in: the same memory, which the lines and the firings change in place.
-ghost use Rattle.std.specs.Prelude.{◌≡◌, ◌≢◌, ◌+◌, ◌-◌, ◌<◌, ◌^◌, None, IfOk, OnOk, OnErr, length};
+ghost use Rattle.std.specs.Prelude.{◌≡◌, ◌≢◌, ◌+◌, ◌-◌, ◌<◌, ◌^◌, None, IfOk, OnOk, OnErr, length, slice_get};
 ghost use Rattle.std.specs.Option.{option_map};
 ghost use Rattle.nomos_ir.specs.TermsEvaluation.{instruction_evaluation};
 ghost use Rattle.nomos_eval.specs.Outcomes.{outcome_of};
@@ -51,6 +51,16 @@ impl<M: Undo> Model for Books<M> {
 }
 
 impl<M: Undo> Books<M> {
+    /// The shared name of the contract of this place, if there is one.
+    pub(crate) fn shared_at(&self, place: usize) -> Option<u32>
+        ensures { result ≡ option_map (λ c. c.1) (slice_get self.now.now.contracts place) }
+    {
+        match self.contracts.contract(place) {
+            Some(made) => Some(made.shared),
+            None => None,
+        }
+    }
+
     // Makes the next account, with this name and this balance in Dths. Want of memory changes nothing.
     fn open(&mut self, alloc: Global, name: &ScriptName, dths: u128) -> Result<(), AllocError>
         requires new { account_of self.old.now.accounts name.now ≡ None }

@@ -1,5 +1,6 @@
 //! Worlds: a batch under way.
-ghost use Rattle.std.specs.Prelude.{◌≡◌, ℕ, IfOk, OnErr, MatchOption, length};
+ghost use Rattle.std.specs.Prelude.{◌≡◌, ℕ, IfOk, OnErr, MatchOption, length, slice_get};
+ghost use Rattle.std.specs.Option.{option_map};
 ghost use Rattle.nomos_ir.specs.CostAll.{IsUnderCostAll};
 ghost use Rattle.nomos_ir.specs.TermsEvaluation.{instruction_evaluation};
 ghost use Rattle.nomos_eval.specs.Outcomes.{outcome_of};
@@ -180,6 +181,20 @@ impl<M: Undo> World<M> {
         ensures { result.now ≡ self.now.places }
     {
         self.fired.places.as_slice()
+    }
+
+    /// How many starts the batch has.
+    pub fn starts(&self) -> usize
+        ensures { result ≡ length self.now.starts }
+    {
+        self.starts.len()
+    }
+
+    /// The shared name of the first contract that the batch makes, if it makes one.
+    pub fn first_made(&self) -> Option<u32>
+        ensures { result ≡ option_map (λ c. c.1) (slice_get self.now.contracts (length self.now.origin.contracts)) }
+    {
+        self.books.shared_at(self.kept)
     }
 
     /// The state of the machine. The clauses also say what holds of every world.

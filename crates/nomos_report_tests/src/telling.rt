@@ -54,6 +54,7 @@ fn told_of<R: Abort + AllocGlobal>(rt: &R, ran: ScriptRun<IndexedState>) -> Told
     let WholeRun {
         report,
         text,
+        last_result: _last_result,
         ledger: _ledger,
     } = whole;
     let Some(journal) = text else {
@@ -78,6 +79,7 @@ pub(crate) fn tell<R: Abort + AllocGlobal + Threads + Wait + Sync>(
         crew,
         limit,
         text: true,
+        result: true,
     };
     let gate = OpenGate;
     let runner = Runner {

@@ -1,11 +1,12 @@
 -- What becomes of the items of a script, one after another.
-use Rattle.std.proofs.Common.{◌≡◌, ◌∙◌, ℕ, ◌+◌, ◌≤◌, List, [], ◌∷◌, ◌++◌, length, take, Option, Some, refl, sym, ap, subst, arith}
+use Rattle.std.proofs.Common.{◌≡◌, ◌∙◌, ℕ, ◌+◌, ◌≤◌, List, [], ◌∷◌, ◌++◌, length, take, Option, Some, None, refl, sym, ap, subst, arith}
 use Rattle.std.specs.Prelude.{Bool, true, false, Result, Ok, Err, IfOk, OnErr}
 use Rattle.std.specs.Result.{result_ok}
 use Rattle.std.specs.Option.{option_map, option_to_list}
 use Rattle.std.proofs.lemmas.Grind.{flat_map-append}
 use Rattle.std.proofs.Math.Seq.{take-length}
 use Rattle.std.proofs.lemmas.List.{flat_map_more, take_all}
+use Rattle.nomos_ir.specs.Value.{Value}
 use Rattle.nomos_types.specs.Acceptance.{Acceptance, IsAccepted}
 use Rattle.nomos_machine.specs.declared.policy.Policy.{Policy}
 use Rattle.nomos_script.specs.Size.{IsScriptSize}
@@ -37,12 +38,12 @@ use Rattle.nomos_workers.specs.declared.batch.Crew.{Crew}
 use Rattle.nomos_workers.specs.declared.batch.Crew.TheVariants as crews
 use Rattle.nomos_run.proofs.RoomLemmas.{walk-made, walk-room}
 use Rattle.nomos_run.proofs.WalkLemmas.{some_same}
-use Rattle.nomos_run.specs.Carried.{RunsScript, journal_text_of, where_wanted}
+use Rattle.nomos_run.specs.Carried.{RunsScript, entry_result, journal_text_of, result_behind, result_where_wanted, where_wanted}
 use Rattle.nomos_run.specs.declared.orders.Orders.{Orders}
 use Rattle.nomos_run.specs.declared.orders.WholeRun.{WholeRun}
 use Rattle.nomos_run.specs.declared.papers.WantedTexts.{WantedTexts}
 use Rattle.nomos_run.specs.declared.started.PassedItem.{PassedItem}
-use Rattle.nomos_run.specs.mirror.Papers.{papers_of, papers_with, with_lines}
+use Rattle.nomos_run.specs.mirror.Papers.{kept_result, kept_where_wanted, papers_of, papers_with, result_with, with_lines}
 use Rattle.nomos_run.specs.mirror.Runs.{HasGone, RunsSoFar, RunsWhole, journal_of}
 use Rattle.nomos_run.specs.mirror.WalkState.{WalkState}
 use Rattle.nomos_run.specs.mirror.Walks.{CarriesOut, HasBegunBatch, HasRoomFor, walk_of, walk_with}
@@ -100,12 +101,30 @@ wanted-next : (wanted : Bool) (text more all : List ℕ) → text ++ more ≡ al
 wanted-next true text more all same = ap Some same
 wanted-next false text more all same = refl
 
+-- so does the last result
+result-next : (before : Option Value) (ps : List Passage) (p : Passage)
+    → entry_result p.last (result_behind before ps) p.entry ≡ result_behind before (ps ++ p ∷ [])
+result-next before [] p = refl
+result-next before (q ∷ ps) p = result-next (entry_result q.last before q.entry) ps p
+
+kept-next : (wanted : Bool) (before after : Option Value) (p : Passage) → entry_result p.last before p.entry ≡ after
+    → result_with p (kept_where_wanted wanted before) ≡ kept_where_wanted wanted after
+kept-next true before after p same = ap Some same
+kept-next false before after p same = refl
+
+-- the last result is given where it is wanted
+result-given : (wanted : Bool) (ps : List Passage)
+    → kept_result (kept_where_wanted wanted (result_behind None ps)) ≡ result_where_wanted wanted ps
+result-given true ps = refl
+result-given false ps = refl
+
 papers-next : (a : Acceptance) (limit : ℕ) (wanted : WantedTexts) (ps : List Passage) (p : Passage)
     → papers_with a p (papers_of a limit wanted ps) ≡ papers_of a limit wanted (ps ++ p ∷ [])
 papers-next a limit wanted ps p =
     let printed = wanted-next wanted.report _ _ _ (report-next a ps p) in
     let written = wanted-next wanted.text _ _ _ (text-next a limit ps p) in
-    λ i. record { report = printed i; text = written i }
+    let kept = kept-next wanted.result (result_behind None ps) _ p (result-next None ps p) in
+    λ i. record { report = printed i; text = written i; result = kept i }
 
 made-next : (ps : List Passage) (p : Passage)
     → firings_made (entries_of ps) + length (firings_in p.entry) ≡ firings_made (entries_of (ps ++ p ∷ []))
@@ -219,10 +238,11 @@ none-so_far a items entries orders is none = record {
 -- behind all items the run is whole
 pub gone-whole : {M : Type 0} {a : Acceptance} (items : List ScriptItem) (n : ℕ) {entries : List Entry}
     {l : LedgerState} {w : WalkState} (orders : Orders) (whole : WholeRun M) → IsAccepted a
-    → HasGone orders.crew a orders.limit (record { report = true; text = orders.text }) (take n items) entries l w
+    → HasGone orders.crew a orders.limit (record { report = true; text = orders.text; result = orders.result }) (take n items) entries l w
     → length items ≤ n → whole.ledger ≡ l → Some whole.report.items ≡ w.papers.report
-    → option_map (λ t. t.items) whole.text ≡ w.papers.text → RunsWhole a items orders entries whole
-gone-whole {a = a} items n {entries} {l} orders whole accepted gone all ledger printed text =
+    → option_map (λ t. t.items) whole.text ≡ w.papers.text → whole.last_result ≡ kept_result w.papers.result
+    → RunsWhole a items orders entries whole
+gone-whole {a = a} items n {entries} {l} orders whole accepted gone all ledger printed text result =
     let ps : List Passage = gone.passages in
     let items_are : take n items ≡ take (length items) items = take_all n items all ∙ sym (take-length items) in
     let reports : Some whole.report.items ≡ Some (report.report_of a ps) =
@@ -241,6 +261,10 @@ gone-whole {a = a} items n {entries} {l} orders whole accepted gone all ledger p
         record {
           report = some_same whole.report.items (report.report_of a ps) reports;
           text = text ∙ ap (λ (x : WalkState). x.papers.text) gone.walk;
+          result =
+              result
+              ∙ ap (λ (x : WalkState). kept_result x.papers.result) gone.walk
+              ∙ result-given orders.result ps;
           ledger = ledger;
           stands =
               subst (λ (m : LedgerState). StandsFor a m) (sym ledger) (legal-right accepted gone.tells).1;

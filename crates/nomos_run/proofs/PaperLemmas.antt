@@ -1,5 +1,7 @@
 -- What is written with one passage more.
 use Rattle.std.proofs.Common.{◌≡◌, ◌∙◌, ℕ, List, [], ◌∷◌, ◌++◌, length, Option, Some, None, refl, sym, ap, append-nil, append_assoc}
+use Rattle.std.specs.Option.{option_map}
+use Rattle.nomos_ir.specs.Value.{Value}
 use Rattle.nomos_types.specs.Acceptance.{Acceptance}
 use Rattle.nomos_machine.specs.State.{State, empty}
 use Rattle.nomos_script.specs.declared.item.Batch.{Batch}
@@ -23,12 +25,28 @@ use Rattle.nomos_report.specs.Block.{accepted_block}
 use Rattle.nomos_report.specs.Reported.{HasNoFirings, end_lines, report_of, shown_lines}
 use Rattle.nomos_report.specs.Shown.{show_lines}
 use Rattle.nomos_run.specs.declared.papers.Papers.{Papers}
-use Rattle.nomos_run.specs.mirror.Papers.{papers_with, with_lines}
+use Rattle.nomos_run.specs.Carried.{end_result}
+use Rattle.nomos_run.specs.mirror.Papers.{papers_with, result_with, with_lines}
 
 -- no lines change nothing
 pub with_lines-none : (text : Option (List ℕ)) → with_lines text [] ≡ text
 with_lines-none (Some t) = ap Some (append-nil t)
 with_lines-none None = refl
+
+-- a result is as it was where there is no entry
+kept-same : (kept : Option (Option Value)) → option_map (λ before. before) kept ≡ kept
+kept-same (Some value) = refl
+kept-same None = refl
+
+-- an item without firings has no result
+still-result : (i : ScriptItem) (n : ℕ) (e : End) (before last : LedgerState) (kept : Option (Option Value))
+    → HasNoFirings e → result_with (still i (bare n e) before last) kept ≡ option_map (λ _. None) kept
+still-result i n end.Deposited before last kept none = refl
+still-result i n (end.Refused m cause) before last kept none = refl
+still-result i n end.Committed before last kept none = absurd none
+still-result i n end.Blocked before last kept none = absurd none
+still-result i n (end.Steps k) before last kept none = absurd none
+still-result i n (end.Aborted pid f) before last kept none = absurd none
 
 -- a report begins with the block
 pub block-reports : (a : Acceptance) → accepted_block a ≡ report_of a []
@@ -37,11 +55,12 @@ block-reports a = sym (append-nil (accepted_block a))
 -- a `show`
 pub show-written : (a : Acceptance) (n : ℕ) (l : LedgerState) (papers after : Papers)
     → after.report ≡ with_lines papers.report (show_lines a n l) → after.text ≡ papers.text
-    → after ≡ papers_with a (still (item.Show n) None l l) papers
-show-written a n l papers after report text =
+    → after.result ≡ papers.result → after ≡ papers_with a (still (item.Show n) None l l) papers
+show-written a n l papers after report text result =
     let printed = report ∙ ap (with_lines papers.report) (sym (show-printed a l n)) in
     let same = text ∙ sym (with_lines-none papers.text) in
-    λ i. record { report = printed i; text = same i }
+    let kept = result ∙ sym (kept-same papers.result) in
+    λ i. record { report = printed i; text = same i; result = kept i }
 
 -- what is printed of an end without firings is the same in all states
 same-end : (a : Acceptance) (n spent other : ℕ) (s t : State) (e : End) → HasNoFirings e
@@ -58,14 +77,16 @@ pub still-written : (a : Acceptance) (i : ScriptItem) (n : ℕ) (e : End) (befor
     (papers after : Papers) → HasNoFirings e → shown_lines a before i ≡ []
     → after.report ≡ with_lines papers.report (end_lines a n 0 0 empty e)
     → after.text ≡ with_lines papers.text (lines_text a.annotations.unit (line.Line n ∷ line.End e ∷ []))
+    → after.result ≡ option_map (λ _. None) papers.result
     → after ≡ papers_with a (still i (bare n e) before last) papers
-still-written a i n e before last papers after still none report text =
+still-written a i n e before last papers after still none report text result =
     let printed =
     report
     ∙ ap (with_lines papers.report)
     (same-end a n 0 before.state.spent empty before.state e still ∙ sym (still-printed a i n e before last none))
     in
-    λ j. record { report = printed j; text = text j }
+    let cleared = result ∙ sym (still-result i n e before last papers.result still) in
+    λ j. record { report = printed j; text = text j; result = cleared j }
 
 -- a batch that has come to a world
 pub batch-written : (a : Acceptance) (batch : Batch) (n : ℕ) (w : WorldState) (e : End) (last : LedgerState)
@@ -74,8 +95,9 @@ pub batch-written : (a : Acceptance) (batch : Batch) (n : ℕ) (w : WorldState) 
     → after.text
     ≡ with_lines papers.text
     (lines_text a.annotations.unit (line.Line n ∷ (placed_lines a (pids_of w.firings) w.places ++ line.End e ∷ [])))
+    → after.result ≡ option_map (λ _. end_result w.state e) papers.result
     → after ≡ papers_with a (runs batch (pids_of w.firings) e w.origin (start_of a w) w.state last) papers
-batch-written a batch n w e last papers after stands at report text =
+batch-written a batch n w e last papers after stands at report text result =
     let Ends : ℕ → Option (List ℕ) =
     λ k. with_lines papers.report (end_lines a k (length w.firings) (start_of a w).state.spent w.state e)
     in
@@ -95,7 +117,7 @@ batch-written a batch n w e last papers after stands at report text =
     ∙ ap (Writes batch.line)
     (sym (append-nil (more (firing_lines version.Two a (start_of a w).state (pids_of w.firings)))))
     in
-    λ j. record { report = printed j; text = written j }
+    λ j. record { report = printed j; text = written j; result = result j }
 
 -- two lines
 pub two-lines : (unit : ℕ) (l m : JournalLine) (old mid : List ℕ) → mid ≡ old ++ (line_text unit l ++ 10 ∷ [])

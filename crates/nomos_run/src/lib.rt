@@ -2,6 +2,7 @@
 #![tactic(auto)]
 
 mod entry_text;
+mod last_result;
 pub mod orders;
 mod papers;
 pub mod retelling;

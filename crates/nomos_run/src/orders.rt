@@ -1,17 +1,19 @@
 //! How a script is to be run, and what its run comes to.
 
 use nomos_deeds::undo::Undo;
+use nomos_ir::value::Value;
 use nomos_ledger::ledger::Ledger;
 use nomos_legal::journal::Journal;
 use nomos_workers::batch::Crew;
 
-/// How a script is to be run: who runs its batches, the most firings of one batch, from 1 to 10,000,000, and whether
-/// the text of the journal is wanted.
+/// How a script is to be run: who runs its batches, the most firings of one batch, from 1 to 10,000,000, whether the
+/// text of the journal is wanted, and whether the last result is.
 #[derive(Clone, Copy, Debug)]
 pub struct Orders {
     pub crew: Crew,
     pub limit: u32,
     pub text: bool,
+    pub result: bool,
 }
 
 /// Who runs scripts: the runtime that makes threads and lets them wait, the gate that workers call before they
@@ -24,11 +26,12 @@ pub struct Runner<'a, G, R> {
 }
 
 /// What a run comes to that carried out all items: its report, the text of its journal in version 2 where it was
-/// wanted, and the last ledger.
+/// wanted, where it was wanted the last result of the last entry, which only a batch that stays has, and the last ledger.
 #[derive(Drop, Debug)]
 pub struct WholeRun<M: Undo> {
     pub report: Vec<u8>,
     pub text: Option<Vec<u8>>,
+    pub last_result: Option<Value>,
     pub ledger: Ledger<M>,
 }
 

@@ -1,4 +1,4 @@
-//! What is written of a run while it goes: its report, and the text of its journal.
+//! What is written of a run while it goes: its report, the text of its journal, and its last result.
 ghost use Rattle.std.specs.Prelude.{◌≡◌, [], ◌∷◌, ◌++◌, IfOk, None, OnOk, length};
 ghost use Rattle.nomos_machine.specs.State.{empty};
 ghost use Rattle.nomos_script.specs.declared.item.Batch.{Batch};
@@ -15,7 +15,9 @@ ghost use Rattle.nomos_run.specs.Carried.{journal_text_of, where_wanted};
 ghost use Rattle.nomos_run.specs.mirror.Papers.{papers_of, papers_with, with_lines};
 
 use crate::entry_text::{push_batch_entry, push_front, push_still_entry};
+use crate::last_result::LastResult;
 use crate::sheet::Sheet;
+use nomos_deeds::machine::Machine;
 use nomos_deeds::undo::Undo;
 use nomos_ledger::ledger::Ledger;
 use nomos_ledger::world::World;
@@ -26,18 +28,20 @@ use nomos_report::show::push_show;
 use nomos_types::accepted::Accepted;
 use std::alloc::{AllocError, Global};
 
-/// What is to be written: the report, and the text of the journal.
+/// What is to be written: the report, the text of the journal, and the last result.
 #[derive(Clone, Copy)]
 pub(crate) struct WantedTexts {
     pub(crate) report: bool,
     pub(crate) text: bool,
+    pub(crate) result: bool,
 }
 
-/// What is written of a run: its report, and the text of its journal, each where it is wanted.
+/// What is written of a run: its report, the text of its journal, and its last result, each where it is wanted.
 #[derive(Drop)]
 pub(crate) struct Papers {
     pub(crate) report: Sheet,
     pub(crate) text: Sheet,
+    pub(crate) result: LastResult,
 }
 
 // What a report begins with, where one is wanted.
@@ -81,7 +85,12 @@ impl Papers {
     {
         let report = new_report(alloc, accepted, wanted.report)?;
         let text = new_text(alloc, accepted, limit, wanted.text)?;
-        Ok(Papers { report, text })
+        let result = LastResult::new(alloc, wanted.result);
+        Ok(Papers {
+            report,
+            text,
+            result,
+        })
     }
 
     /// Writes the lines of a `show` of a ledger, which stands for the program.
@@ -114,6 +123,7 @@ impl Papers {
     {
         still_on_report(&mut self.report, accepted, line, end)?;
         still_on_text(&mut self.text, accepted.unit(), line, end)?;
+        self.result.clear();
         Ok(())
     }
 
@@ -134,6 +144,7 @@ impl Papers {
     {
         batch_on_report(&mut self.report, accepted, world, outset, end)?;
         batch_on_text(&mut self.text, accepted, world, outset.line, end)?;
+        self.result.note(world.state().results(), end)?;
         Ok(())
     }
 }

@@ -145,11 +145,13 @@ pub fn report<M: Undo + Drop>(
     let wanted = WantedTexts {
         report: true,
         text: false,
+        result: false,
     };
     let items = script.items().as_slice();
     let Papers {
         report,
         text: _text,
+        result: _result,
     } = retell::<M>(alloc, accepted, items, journal, wanted)?;
     match report.into_text() {
         Some(report) => Ok(report),
@@ -170,11 +172,13 @@ pub fn journal_text<M: Undo + Drop>(
     let wanted = WantedTexts {
         report: false,
         text: true,
+        result: false,
     };
     let items = script.items().as_slice();
     let Papers {
         report: _report,
         text,
+        result: _result,
     } = retell::<M>(alloc, accepted, items, journal, wanted)?;
     match text.into_text() {
         Some(text) => Ok(text),

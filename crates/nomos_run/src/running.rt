@@ -138,6 +138,7 @@ fn run_items<M: Undo + Drop + Send, G: Gate, R: Threads + Wait + Sync>(
     let wanted = WantedTexts {
         report: true,
         text: orders.text,
+        result: orders.result,
     };
     let mut walk = Walk::new(alloc, accepted, orders.limit, wanted)?;
     let mut ledger = Ledger::empty(alloc);
@@ -146,11 +147,16 @@ fn run_items<M: Undo + Drop + Send, G: Gate, R: Threads + Wait + Sync>(
         ledger = passed.ledger;
         keep(entries, passed.entry)?;
     }
-    let Papers { report, text } = walk.into_papers();
+    let Papers {
+        report,
+        text,
+        result,
+    } = walk.into_papers();
     match report.into_text() {
         Some(report) => Ok(WholeRun {
             report,
             text: text.into_text(),
+            last_result: result.into_value(),
             ledger,
         }),
         None => unreachable!(),

@@ -45,6 +45,11 @@ impl<'a> Model for Walk<'a> {
 
     ghost Value = { WalkState };
 
+    ghost use Rattle.std.specs.Coded.{codes};
+    ghost use Rattle.nomos_ir.specs.ValueCode.{value_code};
+
+    ghost coded = { Prim.hlevel (codes, value_code) };
+
     ghost view = { λ w. record { accepted = w.arguments; limit = w.limit; made = w.made; papers = w.papers } };
 }
 

@@ -1,11 +1,8 @@
-//! Tests of scripts, of columns and what is kept in them, of the states of the machine and of ledgers, as far as they
-//! need no accepted contract.
+//! Tests of scripts, and of columns and what is kept in them.
 #![tactic(auto)]
 
 #[cfg(test)]
 mod column_tests;
-#[cfg(test)]
-mod ledger_tests;
 #[cfg(test)]
 mod numbered_tests;
 #[cfg(test)]
@@ -14,5 +11,3 @@ mod places_tests;
 mod script_tests;
 #[cfg(test)]
 mod shelf_tests;
-#[cfg(test)]
-mod state_tests;

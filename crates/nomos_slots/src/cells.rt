@@ -150,6 +150,26 @@ pub(crate) fn bind_in(cells: &mut Column<Option<Named>>, homes: usize, entry: Na
     1
 }
 
+/// The entry stands in the place of that of the same variable of the same process.
+pub(crate) fn rebind_in(cells: &mut Column<Option<Named>>, homes: usize, entry: Named)
+    requires homes { 0 < homes }
+    requires probed { IsProbed homes cells.old.now }
+    requires seats { length cells.old.now ≤ cells.old.seats }
+    requires there { IsSome (name_in cells.old.now entry.process entry.variable) }
+    ensures probed { IsProbed homes cells.new.now }
+    ensures names { (p v : ℕ) → name_in cells.new.now p v
+        ≡ cond (is_of p v entry) (Some entry.name) (name_in cells.old.now p v) }
+    ensures entries { entries cells.new.now ≡ entries cells.old.now }
+    ensures len { length cells.new.now ≡ length cells.old.now }
+    ensures marked { cells.new.marked ≡ cells.old.marked }
+    ensures seats { cells.new.seats ≡ cells.old.seats }
+{
+    let Some(at) = place_in(cells, homes, entry.process, entry.variable) else {
+        unreachable!()
+    };
+    cells.put(at, Some(entry));
+}
+
 /// The entry of a variable of a process goes, where there is one. How many entries there are less.
 pub(crate) fn unbind_in(
     cells: &mut Column<Option<Named>>,

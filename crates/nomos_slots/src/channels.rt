@@ -6,7 +6,7 @@ ghost use Rattle.nomos_slots.specs.Sweeps.{instead_of};
 ghost use Rattle.nomos_slots.specs.Tables.{HaveSameNames, marked_entries};
 ghost use Rattle.nomos_slots.specs.Users.{IsLowestUser};
 
-use crate::cells::{Named, bind_in, blank, cell, empty_all, fill, place_in, unbind_in};
+use crate::cells::{Named, bind_in, blank, cell, empty_all, fill, place_in, rebind_in, unbind_in};
 use crate::column::Column;
 use crate::sweeps::{drop_in, rename_in};
 use crate::users::lowest_user_in;
@@ -207,6 +207,25 @@ impl Channels {
         ensures room { self.old.room ≤ self.new.room }
     {
         rename_in(&mut self.cells, process, old, new);
+    }
+
+    /// A variable of a process that has the one name has the other one instead. It takes no memory.
+    pub fn rename_one(&mut self, process: u32, variable: u32, old: u32, new: u32)
+        ensures names { (p v : ℕ) → name_in self.new.now p v
+            ≡ cond (process == p && variable == v) (option_map (instead_of old new) (name_in self.old.now p v))
+            (name_in self.old.now p v) }
+        ensures marked { self.new.marked ≡ self.old.marked }
+        ensures room { self.old.room ≤ self.new.room }
+    {
+        if self.get(process, variable) != Some(old) {
+            return;
+        }
+        let entry = Named {
+            process,
+            variable,
+            name: new,
+        };
+        rebind_in(&mut self.cells, self.homes, entry);
     }
 
     /// Marks what it holds now. It takes no memory, and nothing may be marked yet.

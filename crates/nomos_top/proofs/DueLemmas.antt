@@ -1,57 +1,60 @@
--- What is due, from its parts.
-use Rattle.std.proofs.Common.{◌≡◌, ℕ, ◌<◌, ◌≤◌, ◌+◌, List, [], length, replicate, Option, Some, None, Result, Ok, Err, true, false, refl, sym, subst, arith, lit≤}
-use Rattle.std.specs.Prelude.{IfOk, IfErr, IsSome, codes}
+-- What is due, from what the parts of the code found.
+use Rattle.std.proofs.Common.{◌≡◌, ℕ, ◌<◌, ◌+◌, List, [], length, replicate, Option, Some, None, Result, Ok, Err, inl, inr, refl, sym, ◌∙◌, subst, arith}
+use Rattle.std.specs.Prelude.{IfOk, IfErr}
 use Rattle.std.proofs.Math.ListN.{length-replicate}
-use Rattle.std.proofs.Math.Seq.{take-length}
 use Rattle.nomos_accept.specs.AcceptedText.{IsAcceptedAs, IsRefused}
-use Rattle.nomos_accept.specs.declared.refusal.Why.{Why}
 use Rattle.nomos_accept.specs.declared.refusal.Why.TheVariants as why
 use Rattle.nomos_base.proofs.ToldLaws.{TakesExactly-told}
 use Rattle.nomos_base.specs.Source.{TakesAll, TakesExactly}
+use Rattle.nomos_due.specs.Benches.{IsBenchDue, IsBenchPart, load_contract}
+use Rattle.nomos_due.specs.Outside.{HasText, HaveRisen, SourceState}
+use Rattle.nomos_due.specs.Replays.{no_journal}
+use Rattle.nomos_due.specs.Runs.{IsRunDue, IsRunPart}
+use Rattle.nomos_due.specs.Sources.{IsReplayDueFor, IsRunDueFor, IsRunPartFor, kept_text}
+use Rattle.nomos_due.specs.declared.due.Due.{Due}
 use Rattle.nomos_least.specs.LeastBounds.{IsLeastAs}
 use Rattle.nomos_least.specs.declared.least.LeastBounds.{LeastBounds}
-use Rattle.nomos_first_ledger.specs.declared.journal.Journal.{Journal}
-use Rattle.nomos_script.specs.declared.item.ScriptItem.{ScriptItem}
+use Rattle.nomos_legal.specs.declared.journal.Journal.{Journal}
+use Rattle.nomos_report.specs.Block.{accepted_block}
+use Rattle.nomos_run.specs.declared.orders.Orders.{Orders}
 use Rattle.nomos_simplex.specs.declared.solved.Stop.{Stop}
 use Rattle.nomos_syntax.specs.Limits.{text_limit}
-use Rattle.nomos_top.specs.Block.{accepted_block, read_fault_line, usage_line}
-use Rattle.nomos_top.specs.Judging.{IsDueFor, IsPartFor, IsUnaccepted, IsDueOut, FindsText, FindsOrFails, IsDueAs, IsPartAs, IsDueOf, IsPartOf, not_run, run_so_far, HasRunAs, HasRunPart, journal_of}
-use Rattle.nomos_top.specs.Commands.{IsCheck, IsRun, IsLeast, AsksPivots, HasStopped, HasLeastStopped}
-use Rattle.nomos_top.specs.Outcome.{IsRunOn, IsDue, usage, read_fault, refused, unsolved, least_unsolved, bounded, accepted, not_yet, ran, nothing, accepted_part, run_part, no_journal, steps}
-use Rattle.nomos_top.specs.Outside.{FaultCounts, HaveRisen, Input, SourceState, input_of, IsTextOf}
+use Rattle.nomos_top.specs.Call.{Call, HasEnded, Texts}
 use Rattle.nomos_top.specs.LeastBlock.{least_block}
-use Rattle.nomos_top.specs.Progress.{HasCome}
-use Rattle.nomos_top.specs.Refusal.{refusal, unsolved_line, not_yet_line}
-use Rattle.nomos_top.specs.Runnable.{is_runnable}
-use Rattle.nomos_top.specs.Taken.{IsTakenAs}
-use Rattle.nomos_top.specs.Words.{Task, task_of}
-use Rattle.nomos_top.specs.declared.due.Due.{Due}
+use Rattle.nomos_top.specs.Outcome as outcome
+use Rattle.nomos_top.specs.Outcome.{Outcome, IsTaskDue, bare, given}
+use Rattle.nomos_top.specs.Refusal.{refusal, unsolved_line}
+use Rattle.nomos_top.specs.Tasks.{AskNothing, HasStopped, HasStoppedFor, ReadsContract, bench_orders, contract_of, limit_of, run_orders}
+use Rattle.nomos_top.specs.declared.due.CallDue.{CallDue}
 use Rattle.nomos_top.specs.declared.due.DoneSoFar.{DoneSoFar}
 use Rattle.nomos_top.specs.declared.judging.Unaccepted.{Unaccepted}
 use Rattle.nomos_top.specs.declared.judging.Unaccepted.TheVariants as unaccepted
-use Rattle.nomos_top.specs.declared.running.Running.{Running}
-use Rattle.nomos_top.specs.declared.scripts.Found.{Found}
-use Rattle.nomos_top.specs.declared.scripts.Found.TheVariants as found
-use Rattle.nomos_top.proofs.ProgressLaws.{so_far-at}
-use Rattle.nomos_types.specs.Acceptance.{Acceptance}
+use Rattle.nomos_top.specs.mirror.Judging.{IsAgainst, Judges, JudgesText, IsDueOn, IsDueOut, IsNothing, IsPartOn, IsTaskDueOn, IsTaskPartOn, EndsDue, EndsPart, Sources, behind_of, given_of, inputs_on, outcome_of}
+use Rattle.nomos_types.specs.Acceptance.{Acceptance, IsAccepted}
+use Rattle.nomos_words.specs.FindsOne.{FindsOne}
+use Rattle.nomos_words.specs.Usage.{usage_line}
+use Rattle.nomos_words.specs.Words.{Task, check, run, replay, bench, least, Asks}
+use Rattle.nomos_words.specs.declared.workers.Workers.{Workers}
+
+-- ---- texts
 
 -- some text that a source may have
-pub some_text : (left : Option (List ℕ)) → (text : List ℕ) × IsTextOf left text
+pub some_text : (left : Option (List ℕ)) → (text : List ℕ) × HasText left text
 some_text None = ([], tt)
 some_text (Some text) = (text, refl)
 
 -- some text is longer than that
-pub some_longer : (n : ℕ) → (text : List ℕ) × (n < length text)
+some_longer : (n : ℕ) → (text : List ℕ) × (n < length text)
 some_longer n = (replicate (n + 1) 0, rw length-replicate (omega arith))
 
 -- a text past a limit, which the source has
 pub long_text : (limit : ℕ) (left now : Option (List ℕ)) → TakesExactly (limit + 1) left now
-    → (text : List ℕ) × IsTextOf left text × (limit < length text)
+    → (text : List ℕ) × HasText left text × (limit < length text)
 long_text limit None now h = let longer = some_longer limit in (longer.0, tt, longer.1)
 long_text limit (Some text) now h = (text, refl, omega (arith, TakesExactly-told (limit + 1) text now h))
 
 -- all that was taken is what the source had
-pub taken_text : (bytes : List ℕ) (left now : Option (List ℕ)) → TakesAll bytes left now → IsTextOf left bytes
+pub taken_text : (bytes : List ℕ) (left now : Option (List ℕ)) → TakesAll bytes left now → HasText left bytes
 taken_text bytes None now h = tt
 taken_text bytes (Some all) now h = h.0
 
@@ -59,8 +62,28 @@ taken_text bytes (Some all) now h = h.0
 pub too_long-refused : (text : List ℕ) → text_limit < length text → IsRefused text why.TooLong
 too_long-refused text long = record {
   cause = long;
-  never = λ lists x typed. let short : length text ≤ text_limit = typed.read.reads.plain.length_limit in omega arith;
+  never = λ lists x typed.
+      absurd (let short = typed.read.reads.plain.length_limit in omega (arith, long, short));
 }
+
+-- ---- contracts
+
+-- what stands against a text does so where reading may have failed
+against-more : (Stops : Stop → Type 0) (Fails : Type 0) (text : List ℕ) (u : Unaccepted) → IsAgainst Stops ⊥ text u
+    → IsAgainst Stops Fails text u
+against-more Stops Fails text (unaccepted.Refused why) is = is
+against-more Stops Fails text (unaccepted.Unsolved stop) is = is
+against-more Stops Fails text unaccepted.ReadFault is = absurd is
+against-more Stops Fails text unaccepted.NoMemory is = is
+
+-- what is found of a text is found of its source
+pub judged : (source : SourceState) (text : List ℕ) (r : Result Acceptance Unaccepted) → HasText source.left text
+    → JudgesText text r → Judges source r
+judged source text (Ok a) told is = (text, told, is)
+judged source text (Err u) told is =
+    (text, told, against-more (HasStopped text) (HaveRisen source.counts) text u is)
+
+-- ---- results
 
 -- what holds of a result's value, from what holds of it
 pub if_ok-map : {X E : Type 0} (r : Result X E) (P Q : X → Type 0) → ((x : X) → P x → Q x) → IfOk r P → IfOk r Q
@@ -72,230 +95,301 @@ pub if_err-map : {X E : Type 0} (r : Result X E) (P Q : E → Type 0) → ((e : 
 if_err-map (Ok x) P Q f h = tt
 if_err-map (Err e) P Q f h = f e h
 
--- words that have a task
-pub has-task : (words : List (List ℕ)) (t : Task) → Some t ≡ task_of words → IsSome (task_of words)
-has-task words t e =
-    let here : IsSome (Some t) = refl in subst (λ (o : Option Task). IsSome o) e here
+-- what is due behind acceptance, with the program
+pub behind-ok : (a : Acceptance) (due : Result Due Journal) (P : Due → Type 0) → IfOk due P
+    → IfOk (behind_of a due) (λ d. P d.due)
+behind-ok a (Ok d) P h = h
+behind-ok a (Err j) P h = tt
 
--- what is due consists of what is due
-pub due-as : (words : List (List ℕ)) (contract script : SourceState) (due : Due) (code : ℕ) (bytes : List ℕ)
-    (given : Option Acceptance) (kept : Journal) → IsDueFor words contract script code bytes given kept
-    → IsDueAs due code bytes given kept
-    → IsDueFor words contract script due.status due.text.items due.accepted due.journal
-due-as words contract script due code bytes given kept is_due parts =
-    rw (parts.status, parts.text, parts.accepted, parts.journal) is_due
+pub behind-err : (a : Acceptance) (due : Result Due Journal) (P : Journal → Type 0) → IfErr due P
+    → IfErr (behind_of a due) (λ part. P part.journal)
+behind-err a (Ok d) P h = tt
+behind-err a (Err j) P h = h
 
--- words without a form
-pub due-usage : (words : List (List ℕ)) (contract script : SourceState) → task_of words ≡ None
-    → IsDueFor words contract script 4 usage_line None no_journal
-due-usage words contract script none =
-    let t = some_text contract.left in
-    let s = some_text script.left in
-    record { text = t.0; script_text = s.0; told = t.1; script_told = s.1; due = usage none }
+pub behind-given : (a : Acceptance) (due : Result Due Journal) → given_of (behind_of a due) ≡ Some a
+behind-given a (Ok d) = refl
+behind-given a (Err j) = refl
 
--- a contract that could not be read
-pub due-fault : (words : List (List ℕ)) (contract script : SourceState) → IsSome (task_of words)
-    → HaveRisen contract.counts
-    → IsDueFor words contract script 5 (read_fault_line (codes "contract")) None no_journal
-due-fault words contract script some rose =
-    let t = some_text contract.left in
-    let s = some_text script.left in
-    record { text = t.0; script_text = s.0; told = t.1; script_told = s.1; due = read_fault some rose }
+-- two facts of a value
+pub if_ok-both : {X E : Type 0} (r : Result X E) (P Q : X → Type 0) → IfOk r P → IfOk r Q → IfOk r (λ x. P x × Q x)
+if_ok-both (Ok x) P Q h k = (h, k)
+if_ok-both (Err e) P Q h k = tt
 
--- a contract that is refused
-pub due-refused : (words : List (List ℕ)) (contract script : SourceState) (text : List ℕ) (why : Why)
-    → IsSome (task_of words) → IsTextOf contract.left text → IsRefused text why
-    → IsDueFor words contract script 1 (refusal why) None no_journal
-due-refused words contract script text why some told is_refused =
-    let s = some_text script.left in
-    record { text = text; script_text = s.0; told = told; script_told = s.1; due = refused why some is_refused }
+-- with the program that is given
+pub ok-given : (r : Result CallDue DoneSoFar) (a : Acceptance) (P Q : CallDue → Type 0) → given_of r ≡ Some a
+    → ((d : CallDue) → d.accepted ≡ Some a → P d → Q d) → IfOk r P → IfOk r Q
+ok-given (Ok d) a P Q gives f h = f d gives h
+ok-given (Err e) a P Q gives f h = tt
 
--- what is due of a contract that is not accepted, where the solver may have stopped so
-pub due-out : (words : List (List ℕ)) (contract script : SourceState) (text : List ℕ) (Stops : Stop → Type 0)
-    (u : Unaccepted) (due : Due) → IsSome (task_of words) → IsTextOf contract.left text
-    → ((stop : Stop) → Stops stop
-    → IsDue words (input_of contract text) (input_of script (some_text script.left).0) 8 (unsolved_line stop) None
-    no_journal)
-    → IsUnaccepted Stops text contract.counts u → IsDueOut u due
-    → IsDueFor words contract script due.status due.text.items due.accepted due.journal
-due-out words contract script text Stops (unaccepted.Refused why) due some told stops is_refused parts =
-    due-as words contract script due 1 (refusal why) None no_journal
-    (due-refused words contract script text why some told is_refused) parts
-due-out words contract script text Stops (unaccepted.Unsolved stop) due some told stops stopped parts =
-    let s = some_text script.left in
-    due-as words contract script due 8 (unsolved_line stop) None no_journal
-    (record { text = text; script_text = s.0; told = told; script_told = s.1; due = stops stop stopped }) parts
-due-out words contract script text Stops unaccepted.ReadFault due some told stops rose parts =
-    due-as words contract script due 5 (read_fault_line (codes "contract")) None no_journal
-    (due-fault words contract script some rose) parts
-due-out words contract script text Stops unaccepted.NoMemory due some told stops free parts = absurd parts
+pub err-given : (r : Result CallDue DoneSoFar) (a : Acceptance) (P Q : DoneSoFar → Type 0) → given_of r ≡ Some a
+    → ((part : DoneSoFar) → part.accepted ≡ Some a → P part → Q part) → IfErr r P → IfErr r Q
+err-given (Ok d) a P Q gives f h = tt
+err-given (Err e) a P Q gives f h = f e gives h
 
--- the same of a check and of a run, where it is the pivot run that stopped
-pub due-pivots_out : (words : List (List ℕ)) (contract script : SourceState) (text : List ℕ) (u : Unaccepted)
-    (due : Due)
-    → AsksPivots words → IsSome (task_of words) → IsTextOf contract.left text
-    → IsUnaccepted (HasStopped text) text contract.counts u → IsDueOut u due
-    → IsDueFor words contract script due.status due.text.items due.accepted due.journal
-due-pivots_out words contract script text u due asks some told out parts =
-    due-out words contract script text (HasStopped text) u due some told (λ stop h. unsolved stop asks h) out parts
+-- where nothing was done nothing is given
+pub given-some : (r : Result CallDue DoneSoFar) (a : Acceptance) {A : Type 0} → given_of r ≡ Some a → given_of r ≡ None
+    → A
+given-some r a gives none = absurd (let both : Some a ≡ None = sym gives ∙ none in cc)
 
--- and of a search for least bounds
-pub due-least_out : (words : List (List ℕ)) (contract script : SourceState) (text : List ℕ) (u : Unaccepted) (due : Due)
-    → IsLeast words → IsTextOf contract.left text → IsUnaccepted (HasLeastStopped text) text contract.counts u
-    → IsDueOut u due → IsDueFor words contract script due.status due.text.items due.accepted due.journal
-due-least_out words contract script text u due asks told out parts =
-    due-out words contract script text (HasLeastStopped text) u due (has-task words _ (sym asks.1)) told
-    (λ stop h. least_unsolved stop asks h) out parts
+-- ---- contracts that are not accepted
 
--- least bounds that are found
-pub due-bounded : (words : List (List ℕ)) (contract script : SourceState) (text : List ℕ) (b : LeastBounds)
-    → IsLeast words
-    → IsTextOf contract.left text → IsLeastAs text b
-    → IsDueFor words contract script 0 (least_block b) (Some b.accepted) no_journal
-due-bounded words contract script text b asks told is_least =
-    let s = some_text script.left in
-    record { text = text; script_text = s.0; told = told; script_told = s.1; due = bounded b asks is_least }
+module _ (s : Sources) where
+  -- the contract has this text, the others some
+  abbrev pub texts_with : List ℕ → Texts
+  texts_with text = record {
+    contract = text;
+    script = (some_text s.script.left).0;
+    journal = (some_text s.journal.left).0;
+  }
 
--- a contract that is checked and accepted
-pub due-accepted : (words : List (List ℕ)) (contract script : SourceState) (text : List ℕ) (a : Acceptance)
-    → IsCheck words
-    → IsTextOf contract.left text → IsAcceptedAs text a
-    → IsDueFor words contract script 0 (accepted_block a) (Some a) no_journal
-due-accepted words contract script text a checks told is_accepted =
-    let s = some_text script.left in
-    record { text = text; script_text = s.0; told = told; script_told = s.1; due = accepted a checks is_accepted }
+  -- what is due for this text of the contract
+  pub due-with : (task : Task) (text : List ℕ) (d : CallDue) (o : Outcome) → HasText s.contract.left text
+      → outcome_of d ≡ o → IsTaskDue (inputs_on s (texts_with text)) task o → IsTaskDueOn s task d
+  due-with task text d o told same due = record {
+    texts = texts_with text;
+    contract_told = told;
+    script_told = (some_text s.script.left).1;
+    journal_told = (some_text s.journal.left).1;
+    holds = subst (λ (x : Outcome). IsTaskDue (inputs_on s (texts_with text)) task x) (sym same) due;
+  }
 
--- a run that is asked for on an accepted contract
-pub due-of : (words : List (List ℕ)) (contract script : SourceState) (text : List ℕ) (a : Acceptance) (code : ℕ)
-    (bytes : List ℕ) (given : Option Acceptance) (kept : Journal) → IsRun words → IsTextOf contract.left text
-    → IsAcceptedAs text a → IsDueOf a script.left script.counts code bytes given kept
-    → IsDueFor words contract script code bytes given kept
-due-of words contract script text a code bytes given kept runs told is_accepted is_due = record {
-  text = text;
-  script_text = is_due.0;
-  told = told;
-  script_told = is_due.1;
-  due = is_due.2 words (input_of contract text) runs is_accepted;
-}
+  pub due-out : (task : Task) (text : List ℕ) (Fails : Type 0) (u : Unaccepted) (d : CallDue)
+      → HasText s.contract.left text → (Fails → ReadsContract task × HaveRisen s.contract.counts)
+      → IsAgainst (HasStoppedFor task (contract_of task text)) Fails (contract_of task text) u
+      → IsDueOut (limit_of task) u d → IsTaskDueOn s task d
+  due-out task text Fails (unaccepted.Refused why) d told fails is out =
+      due-with task text d (bare 1 (refusal why) (limit_of task)) told out
+      (outcome.unaccepted task 1 (refusal why) (outcome.refused why is))
+  due-out task text Fails (unaccepted.Unsolved stop) d told fails is out =
+      due-with task text d (bare 8 (unsolved_line stop) (limit_of task)) told out
+      (outcome.unaccepted task 8 (unsolved_line stop) (outcome.unsolved stop is))
+  due-out task text Fails unaccepted.ReadFault d told fails is out =
+      due-with task text d (bare 5 _ (limit_of task)) told out
+      (outcome.unaccepted task 5 _ (outcome.fault (fails is).0 (fails is).1))
+  due-out task text Fails unaccepted.NoMemory d told fails is out = absurd out
 
--- nothing was done
-pub part-nothing : (words : List (List ℕ)) (contract script : SourceState) (part : DoneSoFar)
-    → IsPartAs part None no_journal → IsPartFor words contract script part.accepted part.journal
-part-nothing words contract script part parts =
-    let t = some_text contract.left in
-    let s = some_text script.left in
-    rw (parts.accepted, parts.journal)
-    (record { text = t.0; script_text = s.0; told = t.1; script_told = s.1; part = nothing })
+  -- nothing was done
+  pub part-nothing : (task : Task) (part : DoneSoFar) → IsNothing (limit_of task) part → IsTaskPartOn s task part
+  part-nothing task part none =
+      let t = some_text s.contract.left in
+      record {
+        texts = texts_with t.0;
+        contract_told = t.1;
+        script_told = (some_text s.script.left).1;
+        journal_told = (some_text s.journal.left).1;
+        holds = rw (none.accepted, none.journal) (outcome.nothing task);
+      }
 
--- what was done of a run
-pub part-of : (words : List (List ℕ)) (contract script : SourceState) (text : List ℕ) (a : Acceptance)
-    (given : Option Acceptance) (kept : Journal) → IsRun words → IsTextOf contract.left text → IsAcceptedAs text a
-    → IsPartOf a script.left given kept → IsPartFor words contract script given kept
-part-of words contract script text a given kept runs told is_accepted not_run =
-    let s = some_text script.left in
-    record { text = text; script_text = s.0; told = told; script_told = s.1; part = accepted_part a runs is_accepted }
-part-of words contract script text a given kept runs told is_accepted
-    (run_so_far script_text items count journal runnable script_told reads run) =
-    let run_on : IsRunOn words text a = record { runs = runs; accepted = is_accepted; runnable = runnable } in
-    record {
-      text = text;
-      script_text = script_text;
-      told = told;
-      script_told = script_told;
-      part = run_part a items count journal run_on reads run;
-    }
+  -- ---- contracts alone
 
--- what is found of a script's text is found of the script
-pub finds-text : (text : List ℕ) (counts : FaultCounts) (f : Found) → FindsText text f → FindsOrFails text counts f
-finds-text text counts (found.Script items) h = h
-finds-text text counts found.TooLong h = h
-finds-text text counts (found.Syntax k) h = h
-finds-text text counts (found.NotYet k) h = h
-finds-text text counts found.ReadFault h = absurd h
-finds-text text counts found.NoMemory h = tt
+  pub due-checked : (file text : List ℕ) (a : Acceptance) (d : CallDue) → HasText s.contract.left text
+      → IsAcceptedAs text a → outcome_of d ≡ given 0 (accepted_block a) None a no_journal
+      → IsTaskDueOn s (check file) d
+  due-checked file text a d told is same =
+      due-with (check file) text d (given 0 (accepted_block a) None a no_journal) told same (outcome.checked file a is)
 
--- what is due where the contract is none that `run` takes
-pub due_of-not_yet : (a : Acceptance) (left : Option (List ℕ)) (counts : FaultCounts) (due : Due)
-    → is_runnable a.program ≡ false → IsDueAs due 1 not_yet_line (Some a) no_journal
-    → IsDueOf a left counts due.status due.text.items due.accepted due.journal
-due_of-not_yet a left counts due not_runnable parts =
-    let t = some_text left in (
-      t.0,
-      t.1,
-      λ words contract runs is_accepted.
-          rw (parts.status, parts.text, parts.accepted, parts.journal) (not_yet a runs is_accepted not_runnable),
-    )
+  pub due-bounded : (file text : List ℕ) (b : LeastBounds) (d : CallDue) → HasText s.contract.left text
+      → IsLeastAs text b → outcome_of d ≡ given 0 (least_block b) None b.accepted no_journal
+      → IsTaskDueOn s (least file) d
+  due-bounded file text b d told is same =
+      due-with (least file) text d (given 0 (least_block b) None b.accepted no_journal) told same
+      (outcome.bounded file b is)
 
--- what is due where the script can not be run, from its parts
-pub due_of-line : (a : Acceptance) (left : Option (List ℕ)) (counts : FaultCounts) (text : List ℕ) (due : Due)
-    (code : ℕ)
-    (bytes : List ℕ) → is_runnable a.program ≡ true → IsTextOf left text
-    → ((words : List (List ℕ)) (contract : Input) → IsRunOn words contract.text a
-    → IsDue words contract (record { text = text; counts = counts }) code bytes (Some a) no_journal)
-    → IsDueAs due code bytes (Some a) no_journal
-    → IsDueOf a left counts due.status due.text.items due.accepted due.journal
-due_of-line a left counts text due code bytes runnable told is_due parts = (
-  text,
-  told,
-  λ words contract runs is_accepted.
-      rw
-      (parts.status, parts.text, parts.accepted, parts.journal)
-      (is_due words contract (record { runs = runs; accepted = is_accepted; runnable = runnable })),
+  -- ---- scripts
+
+  pub due-run : (file words : List ℕ) (by : Workers) (steps : ℕ) (kept : Option (List ℕ)) (orders : Orders)
+      (text : List ℕ)
+      (a : Acceptance) (d : CallDue) → HasText s.contract.left text → IsAcceptedAs text a → d.accepted ≡ Some a
+      → orders ≡ run_orders by steps kept → IsRunDueFor a orders s.script d.due
+      → IsTaskDueOn s (run file words by steps kept) d
+  due-run file words by steps kept orders text a d told is gives same due =
+      let own = subst
+      (λ (o : Orders). IsRunDue a o (record { text = due.text; counts = s.script.counts }) d.due.status d.due.out.items
+      (kept_text d.due) d.due.journal) same due.is in
+      record {
+        texts = record { contract = text; script = due.text; journal = (some_text s.journal.left).0 };
+        contract_told = told;
+        script_told = due.told;
+        journal_told = (some_text s.journal.left).1;
+        holds =
+            rw gives (outcome.ran file words by steps kept a d.due.status d.due.out.items (kept_text d.due)
+            d.due.journal is own);
+      }
+
+  pub part-run : (file words : List ℕ) (by : Workers) (steps : ℕ) (kept : Option (List ℕ)) (orders : Orders)
+      (text : List ℕ)
+      (a : Acceptance) (part : DoneSoFar) → HasText s.contract.left text → IsAcceptedAs text a
+      → part.accepted ≡ Some a
+      → orders ≡ run_orders by steps kept → IsRunPartFor a orders s.script part.journal
+      → IsTaskPartOn s (run file words by steps kept) part
+  part-run file words by steps kept orders text a part told is gives same done =
+      let own = subst
+      (λ (o : Orders). IsRunPart a o (record { text = done.text; counts = s.script.counts }) part.journal) same
+      done.is in
+      record {
+        texts = record { contract = text; script = done.text; journal = (some_text s.journal.left).0 };
+        contract_told = told;
+        script_told = done.told;
+        journal_told = (some_text s.journal.left).1;
+        holds = rw gives (outcome.run_part file words by steps kept a part.journal is own);
+      }
+
+  pub due-replay : (file script journal text : List ℕ) (a : Acceptance) (d : CallDue) → HasText s.contract.left text
+      → IsAcceptedAs text a → d.accepted ≡ Some a → IsReplayDueFor a s.script s.journal d.due
+      → IsTaskDueOn s (replay file script journal) d
+  due-replay file script journal text a d told is gives due = record {
+    texts = record { contract = text; script = due.script_text; journal = due.text };
+    contract_told = told;
+    script_told = due.script_told;
+    journal_told = due.told;
+    holds =
+        rw (gives, due.nothing_kept)
+        (outcome.replayed file script journal a d.due.status d.due.out.items d.due.journal is due.is);
+  }
+
+  pub part-replay : (file script journal text : List ℕ) (a : Acceptance) (part : DoneSoFar)
+      → HasText s.contract.left text → IsAcceptedAs text a → part.accepted ≡ Some a → part.journal ≡ no_journal
+      → IsTaskPartOn s (replay file script journal) part
+  part-replay file script journal text a part told is gives none = record {
+    texts = texts_with text;
+    contract_told = told;
+    script_told = (some_text s.script.left).1;
+    journal_told = (some_text s.journal.left).1;
+    holds = rw (gives, none) (outcome.replay_part file script journal a is);
+  }
+
+  pub due-bench : (seed bidders : ℕ) (a : Acceptance) (d : CallDue) → IsAcceptedAs load_contract a
+      → d.accepted ≡ Some a → kept_text d.due ≡ None
+      → IsBenchDue a bench_orders (record { seed = seed; bidders = bidders }) d.due.status d.due.out.items d.due.journal
+      → IsTaskDueOn s (bench seed bidders) d
+  due-bench seed bidders a d is gives none due =
+      let t = some_text s.contract.left in
+      record {
+        texts = texts_with t.0;
+        contract_told = t.1;
+        script_told = (some_text s.script.left).1;
+        journal_told = (some_text s.journal.left).1;
+        holds =
+            rw (gives, none) (outcome.benched seed bidders a d.due.status d.due.out.items d.due.journal is due);
+      }
+
+  pub part-bench : (seed bidders : ℕ) (a : Acceptance) (part : DoneSoFar) → IsAcceptedAs load_contract a
+      → part.accepted ≡ Some a
+      → IsBenchPart a bench_orders (record { seed = seed; bidders = bidders }) part.journal
+      → IsTaskPartOn s (bench seed bidders) part
+  part-bench seed bidders a part is gives done =
+      let t = some_text s.contract.left in
+      record {
+        texts = texts_with t.0;
+        contract_told = t.1;
+        script_told = (some_text s.script.left).1;
+        journal_told = (some_text s.journal.left).1;
+        holds = rw gives (outcome.bench_part seed bidders a part.journal is done);
+      }
+
+  -- ---- words
+
+  pub due-usage : (words : List (List ℕ)) (d : CallDue) → AskNothing words
+      → outcome_of d ≡ bare 4 usage_line no_journal.limit → IsDueOn s words d
+  due-usage words d none same =
+      let t = some_text s.contract.left in
+      record {
+        texts = texts_with t.0;
+        contract_told = t.1;
+        script_told = (some_text s.script.left).1;
+        journal_told = (some_text s.journal.left).1;
+        holds =
+            subst (λ (x : Outcome). outcome.IsDue words (inputs_on s (texts_with t.0)) x) (sym same)
+            (outcome.usage none);
+      }
+
+  pub part-usage : (words : List (List ℕ)) (part : DoneSoFar) → AskNothing words → IsNothing no_journal.limit part
+      → IsPartOn s words part
+  part-usage words part none nothing =
+      let t = some_text s.contract.left in
+      record {
+        texts = texts_with t.0;
+        contract_told = t.1;
+        script_told = (some_text s.script.left).1;
+        journal_told = (some_text s.journal.left).1;
+        holds = rw (nothing.accepted, nothing.journal) (outcome.no_task none);
+      }
+
+  pub due-asked : (words : List (List ℕ)) (task : Task) (d : CallDue) → Asks words task → IsTaskDueOn s task d
+      → IsDueOn s words d
+  due-asked words task d asks due = record {
+    texts = due.texts;
+    contract_told = due.contract_told;
+    script_told = due.script_told;
+    journal_told = due.journal_told;
+    holds = outcome.asked task (outcome_of d) asks due.holds;
+  }
+
+  pub part-asked : (words : List (List ℕ)) (task : Task) (part : DoneSoFar) → Asks words task
+      → IsTaskPartOn s task part → IsPartOn s words part
+  part-asked words task part asks done = record {
+    texts = done.texts;
+    contract_told = done.contract_told;
+    script_told = done.script_told;
+    journal_told = done.journal_told;
+    holds = outcome.asked_part task part.accepted part.journal asks done.holds;
+  }
+
+-- ---- calls
+
+-- what was found of words
+pub found-none : (words : List (List ℕ)) (found : Option Task) → FindsOne (Asks words) found → found ≡ None
+    → AskNothing words
+found-none words found finds none =
+    λ task asks. absurd (let both : None ≡ Some task = sym none ∙ finds.each task asks in cc)
+
+pub found-asks : (words : List (List ℕ)) (found : Option Task) (task : Task) → FindsOne (Asks words) found
+    → found ≡ Some task → Asks words task
+found-asks words None task finds is = absurd (let both : None ≡ Some task = is in cc)
+found-asks words (Some own) task finds is =
+    let same : own ≡ task = cc in subst (Asks words) same finds.found
+
+-- how a call ends of which this is due
+pub call-ends : (c : Call) (r : Result CallDue DoneSoFar) (s : Sources) → s.contract ≡ c.contract → s.script ≡ c.script
+    → s.journal ≡ c.journal_in → ((a : Acceptance) → c.accepted ≡ Some a → IsAccepted a)
+    → IfOk r (IsDueOn s c.words) → IfErr r (IsPartOn s c.words) → IfOk r (EndsDue c) → IfErr r (EndsPart c)
+    → HasEnded c
+call-ends c (Ok d) s e f g fits due part ends other = (
+  due.texts,
+  record {
+    told =
+        record {
+          contract = subst (λ (x : SourceState). HasText x.left due.texts.contract) e due.contract_told;
+          script = subst (λ (x : SourceState). HasText x.left due.texts.script) f due.script_told;
+          journal = subst (λ (x : SourceState). HasText x.left due.texts.journal) g due.journal_told;
+        };
+    fits = fits;
+    ends =
+        inl (record {
+          status = d.due.status;
+          out = d.due.out.items;
+          kept = kept_text d.due;
+          due = rw (sym e, sym f, sym g, ends.accepted, ends.journal) due.holds;
+          written = ends.written;
+        });
+  },
 )
-
--- a run of a script, from its parts
-pub due_of-run : (a : Acceptance) (left : Option (List ℕ)) (counts : FaultCounts) (text : List ℕ)
-    (items : List ScriptItem)
-    (code : ℕ) (bytes : List ℕ) (given : Option Acceptance) (kept : Journal) → is_runnable a.program ≡ true
-    → IsTextOf left text → IsTakenAs text items → HasRunAs a items code bytes given kept
-    → IsDueOf a left counts code bytes given kept
-due_of-run a left counts text items code bytes given kept runnable told reads run = (
-  text,
-  told,
-  λ words contract runs is_accepted.
-      rw
-      (run.status_is, run.told, run.given)
-      (ran a items kept (record { runs = runs; accepted = is_accepted; runnable = runnable }) reads (record {
-        limit = run.limit;
-        last = run.last;
-        legal =
-            record { limit = rw run.limit (record { some = lit≤ tt; few = lit≤ tt }); leads = rw run.limit run.leads };
-        stands = run.stands;
-        first = run.first;
-      })),
+call-ends c (Err p) s e f g fits due part other ends = (
+  part.texts,
+  record {
+    told =
+        record {
+          contract = subst (λ (x : SourceState). HasText x.left part.texts.contract) e part.contract_told;
+          script = subst (λ (x : SourceState). HasText x.left part.texts.script) f part.script_told;
+          journal = subst (λ (x : SourceState). HasText x.left part.texts.journal) g part.journal_told;
+        };
+    fits = fits;
+    ends =
+        inr (record {
+          status = ends.status;
+          out = ends.out;
+          journal_out = ends.journal_out;
+          part = rw (sym e, sym f, sym g, ends.accepted, ends.journal) part.holds;
+        });
+  },
 )
-
--- what was done of a script that is not run
-pub part_of-line : (a : Acceptance) (left : Option (List ℕ)) (part : DoneSoFar) → IsPartAs part (Some a) no_journal
-    → IsPartOf a left part.accepted part.journal
-part_of-line a left part parts = rw (parts.accepted, parts.journal) not_run
-
--- what was done of a script that is run in part
-pub part_of-run : (a : Acceptance) (left : Option (List ℕ)) (text : List ℕ) (items : List ScriptItem)
-    (given : Option Acceptance) (kept : Journal) → is_runnable a.program ≡ true → IsTextOf left text
-    → IsTakenAs text items → HasRunPart a items given kept → IsPartOf a left given kept
-part_of-run a left text items given kept runnable told reads part =
-    let so_far = part.so_far in
-    rw part.given (run_so_far text items so_far.count kept runnable told reads (record {
-      limit = part.limit;
-      last = so_far.last;
-      legal =
-          record {
-            limit = rw part.limit (record { some = lit≤ tt; few = lit≤ tt });
-            leads = rw part.limit so_far.leads;
-          };
-      stands = so_far.stands;
-      first = so_far.first;
-    }))
-
--- what was done of a script that was run to its end
-pub ran-part : (a : Acceptance) (items : List ScriptItem) (running : Running) (part : DoneSoFar)
-    → HasCome a steps items running → IsPartAs part (Some a) (journal_of running.entries.items)
-    → HasRunPart a items part.accepted part.journal
-ran-part a items running part come parts = record {
-  limit = rw parts.journal refl;
-  so_far =
-      rw (parts.journal) (so_far-at a steps items (length items) running running.entries.items
-      (rw (take-length items) come) refl);
-  given = parts.accepted;
-}

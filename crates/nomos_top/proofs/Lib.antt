@@ -1,9 +1,12 @@
-pub mod CauseLemmas
-pub mod ClaimLaws
-pub mod DueLemmas
-pub mod JournalLaws
+mod CallLemmas
+mod CauseLemmas
+mod DueLemmas
+mod EndLaws
+mod RefusalLaws
+mod Views
+pub mod AcceptedLaws
+pub mod KeptLaws
 pub mod OneAnswerLaws
-pub mod ProgressLaws
-pub mod RefusalLaws
-pub mod StarLemmas
-pub mod WorldLaws
+pub mod RefusingLaws
+pub mod ReplayingLaws
+pub mod ShownLaws

@@ -5,9 +5,11 @@ use Rattle.nomos_accept.proofs.CauseLaws.{one-cause}
 use Rattle.nomos_accept.proofs.RowListLaws.{ends-once}
 use Rattle.nomos_accept.proofs.StarLaws.{no_stars-stop}
 use Rattle.nomos_least.proofs.OneLeastLaws.{least_ends-once, no_stars-least_stop}
-use Rattle.nomos_top.proofs.CauseLemmas.{cause-no_stop, cause-no_least_stop}
+use Rattle.nomos_replay.proofs.OneAnswerLaws.{answers-one}
+use Rattle.nomos_script.proofs.ReadingLaws.{reads_once, reads_without_syntax, syntax_once}
+use Rattle.nomos_top.proofs.CauseLemmas.{accepted-one, cause-no_stop, cause-no_least_stop}
 use Rattle.nomos_top.proofs.RefusalLaws.{one-refusal}
-use Rattle.nomos_top.specs.Claim.{HasOneAnswer}
+use Rattle.nomos_top.specs.Refusing.{HasOneAnswer, HasOneReading}
 
 pub one-answer : (text : List ℕ) → HasOneAnswer text
 one-answer text = record {
@@ -21,4 +23,13 @@ one-answer text = record {
     no_stars-stop lists stop none,
     no_stars-least_stop text lists stop read none,
   );
+  accepted_once = accepted-one text;
+}
+
+pub one-reading : (text : List ℕ) → HasOneReading text
+one-reading text = record {
+  reads_once = reads_once text;
+  one_line = syntax_once text;
+  not_both = λ items k. reads_without_syntax text k items;
+  told_once = λ a items x y accepted one other. answers-one accepted one other;
 }

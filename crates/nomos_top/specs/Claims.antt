@@ -1,31 +1,21 @@
--- All that is claimed of a call, of one and the same text of its contract, and of its script.
-use Rattle.std.specs.Prelude.{ℕ, List, Option}
-use Rattle.nomos_first_ledger.specs.declared.journal.Journal.{Journal}
-use Rattle.nomos_top.specs.Claim.{Call, IsCorrect, IsComplete, RefusesTruly}
-use Rattle.nomos_top.specs.Outcome.{Ends}
-use Rattle.nomos_top.specs.Outside.{SourceState, SinkState, IsTextOf, input_of}
-use Rattle.nomos_types.specs.Acceptance.{Acceptance}
+-- All that is claimed of a call, of one and the same texts of its sources.
+use Rattle.nomos_top.specs.Accepted.{AcceptedIsTyped}
+use Rattle.nomos_top.specs.Call.{Call, Texts, EndsOn}
+use Rattle.nomos_top.specs.Complete.{TypedIsAccepted}
+use Rattle.nomos_top.specs.Kept.{KeptIsLegal, KeptGoesRight, OneWorkerFollows}
+use Rattle.nomos_top.specs.Refusing.{RefusesTruly}
+use Rattle.nomos_top.specs.Replaying.{KeptReplays}
+use Rattle.nomos_top.specs.Shown.{WritesWhatIsDue, FailsTruly}
 
--- the call that is seen so, where the contract has this text
-abbrev pub call_on : List (List ℕ) → List ℕ → SinkState → ℕ → Option Acceptance → Call
-call_on words text out status accepted = record {
-  words = words;
-  text = text;
-  before = out.before;
-  after = out.after;
-  status = status;
-  accepted = accepted;
-}
-
--- There are a text of the contract and one of the script, those that the sources have left where they tell that, on
--- which the call ends as is due, or for want of memory, and of which the claim holds.
-pub record Claims (words : List (List ℕ)) (contract script : SourceState) (out : SinkState)
-    (status : ℕ) (accepted : Option Acceptance) (journal : Journal) : Type 0 where
-  pub text : List ℕ
-  pub script_text : List ℕ
-  pub told : IsTextOf contract.left text
-  pub script_told : IsTextOf script.left script_text
-  pub ends : Ends words (input_of contract text) (input_of script script_text) out status accepted journal
-  pub correct : IsCorrect (call_on words text out status accepted)
-  pub complete : IsComplete (call_on words text out status accepted)
-  pub refused : RefusesTruly (call_on words text out status accepted)
+pub record Claims (c : Call) : Type 0 where
+  pub texts : Texts
+  pub ends : EndsOn c texts
+  pub accepted_is_typed : AcceptedIsTyped c texts
+  pub typed_is_accepted : TypedIsAccepted c texts
+  pub refuses_truly : RefusesTruly c texts
+  pub kept_is_legal : KeptIsLegal c texts
+  pub kept_goes_right : KeptGoesRight c texts
+  pub one_worker_follows : OneWorkerFollows c texts
+  pub writes_what_is_due : WritesWhatIsDue c texts
+  pub fails_truly : FailsTruly c texts
+  pub kept_replays : KeptReplays c texts

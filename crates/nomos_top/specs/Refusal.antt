@@ -14,7 +14,7 @@ use Rattle.nomos_grammar.specs.declared.offence.Which.TheVariants as which
 use Rattle.nomos_ir.specs.CodeForm.{form_name}
 use Rattle.nomos_simplex.specs.declared.solved.Stop.{Stop}
 use Rattle.nomos_simplex.specs.declared.solved.Stop.TheVariants as stop
-use Rattle.nomos_top.specs.Block.{line}
+use Rattle.nomos_report.specs.Lines.{line}
 
 -- a limit
 abbrev pub which_text : Which → List ℕ
@@ -76,7 +76,3 @@ stop_text (stop.Large pivots) = codes "Large " ++ decimal pivots
 
 abbrev pub unsolved_line : Stop → List ℕ
 unsolved_line s = line (codes "unsolved " ++ stop_text s)
-
--- what is printed where a contract is accepted that `run` does not take
-abbrev pub not_yet_line : List ℕ
-not_yet_line = line (codes "refused NotYet")

@@ -1,22 +1,23 @@
-//! What is due: what is to be written, the status, what is accepted, and the journal.
+//! What is due of a call: what is to be written, the status, the journal, and what is accepted.
 
-ghost use Rattle.std.specs.Prelude.{◌≡◌, IfOk, IfErr};
-ghost use Rattle.nomos_top.specs.Outcome.{no_journal, steps};
-ghost use Rattle.nomos_top.specs.Judging.{IsDueAs, IsPartAs};
+ghost use Rattle.std.specs.Prelude.{◌≡◌, None, IfOk, IfErr};
+ghost use Rattle.nomos_due.specs.Lines.{no_entries};
+ghost use Rattle.nomos_due.specs.Replays.{no_journal};
+ghost use Rattle.nomos_top.specs.Outcome.{bare, given};
+ghost use Rattle.nomos_top.specs.mirror.Judging.{IsNothing, behind_of, outcome_of};
 
-use crate::running::STEPS;
-use nomos_first_ledger::journal::{Entries, Journal};
+use nomos_due::due::Due;
+use nomos_due::replays::USUAL_LIMIT;
 use nomos_ir::items::Items;
+use nomos_legal::journal::Journal;
 use nomos_types::accepted::Accepted;
 use std::alloc::Global;
 
-/// What is to be written, with the status that stands once it is.
+/// What is due of a call, with the program that is given.
 #[derive(Drop)]
-pub(crate) struct Due {
-    pub(crate) status: u8,
-    pub(crate) text: Vec<u8>,
+pub(crate) struct CallDue {
     pub(crate) accepted: Option<Accepted>,
-    pub(crate) journal: Journal,
+    pub(crate) due: Due,
 }
 
 /// What was done before memory ran out.
@@ -26,51 +27,89 @@ pub(crate) struct DoneSoFar {
     pub(crate) journal: Journal,
 }
 
-/// The journal of these entries.
-pub(crate) fn journal(entries: Entries) -> Journal
-    ensures { result ≡ record { limit = steps; entries = entries } }
+// The journal without entries.
+fn no_entries(alloc: Global, limit: u32) -> Journal
+    ensures { result ≡ no_entries limit }
 {
     Journal {
-        limit: STEPS,
-        entries,
+        limit,
+        entries: Items::of_vec(Vec::new(alloc)),
     }
 }
 
-/// What was done before a script was run.
-pub(crate) fn bare_part(alloc: Global, accepted: Option<Accepted>) -> DoneSoFar
-    ensures accepted { result.accepted ≡ accepted }
-    ensures journal { result.journal ≡ no_journal }
+/// Nothing was done before memory ran out.
+pub(crate) fn nothing_done(alloc: Global, limit: u32) -> DoneSoFar
+    ensures { IsNothing limit result }
 {
     DoneSoFar {
-        accepted,
-        journal: journal(Items::of_vec(Vec::new(alloc))),
+        accepted: None,
+        journal: no_entries(alloc, limit),
     }
 }
 
-/// A text with its status, where no script was run.
-pub(crate) fn text_due(alloc: Global, status: u8, text: Vec<u8>, accepted: Option<Accepted>) -> Due
-    ensures { IsDueAs result status text.items accepted no_journal }
+/// A text with its status, where nothing is accepted.
+pub(crate) fn bare_due(alloc: Global, limit: u32, status: u8, out: Vec<u8>) -> CallDue
+    ensures { outcome_of result ≡ bare status out.items limit }
 {
-    Due {
+    let due = Due {
         status,
-        text,
-        accepted,
-        journal: journal(Items::of_vec(Vec::new(alloc))),
+        out,
+        kept: None,
+        journal: no_entries(alloc, limit),
+    };
+    CallDue {
+        accepted: None,
+        due,
     }
 }
 
-/// A line with its status.
+/// A line with its status, where nothing is accepted.
 pub(crate) fn line_due(
     alloc: Global,
+    limit: u32,
     status: u8,
     line: &[u8],
-    accepted: Option<Accepted>,
-) -> Result<Due, DoneSoFar>
-    ensures ok { IfOk result (λ due. IsDueAs due status line.now accepted no_journal) }
-    ensures err { IfErr result (λ part. IsPartAs part accepted no_journal) }
+) -> Result<CallDue, DoneSoFar>
+    ensures ok { IfOk result (λ d. outcome_of d ≡ bare status line.now limit) }
+    ensures err { IfErr result (IsNothing limit) }
 {
     match Vec::from_slice(alloc, line) {
-        Ok(text) => Ok(text_due(alloc, status, text, accepted)),
-        Err(_) => Err(bare_part(alloc, accepted)),
+        Ok(out) => Ok(bare_due(alloc, limit, status, out)),
+        Err(_) => Err(nothing_done(alloc, limit)),
+    }
+}
+
+/// A text with status 0 for an accepted program, where nothing is run.
+pub(crate) fn alone_due(alloc: Global, out: Vec<u8>, accepted: Accepted) -> CallDue
+    ensures { outcome_of result ≡ given 0 out.items None accepted no_journal }
+{
+    let due = Due {
+        status: 0,
+        out,
+        kept: None,
+        journal: no_entries(alloc, USUAL_LIMIT),
+    };
+    CallDue {
+        accepted: Some(accepted),
+        due,
+    }
+}
+
+/// What is due behind the acceptance of a program, with it.
+pub(crate) fn due_behind(
+    accepted: Accepted,
+    due: Result<Due, Journal>,
+) -> Result<CallDue, DoneSoFar>
+    ensures { result ≡ behind_of accepted due }
+{
+    match due {
+        Ok(due) => Ok(CallDue {
+            accepted: Some(accepted),
+            due,
+        }),
+        Err(journal) => Err(DoneSoFar {
+            accepted: Some(accepted),
+            journal,
+        }),
     }
 }

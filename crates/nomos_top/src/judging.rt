@@ -1,7 +1,9 @@
 //! What is found of a contract.
 
 ghost use Rattle.std.specs.Prelude.{◌≡◌};
-ghost use Rattle.nomos_top.specs.Judging.{ReadsContract, unaccepted_of, Judges, JudgesLeast};
+ghost use Rattle.nomos_due.specs.Benches.{load_contract};
+ghost use Rattle.nomos_due.specs.Outside.{source_state};
+ghost use Rattle.nomos_top.specs.mirror.Judging.{ReadsContract, unaccepted_of, JudgesText, Judges, JudgesLeast};
 
 use nomos_accept::accepting::accept;
 use nomos_accept::refusal::{AcceptError, Why};
@@ -10,6 +12,7 @@ use nomos_least::least::{LeastBounds, least};
 use nomos_simplex::solved::Stop;
 use nomos_syntax::scan::TEXT_LIMIT;
 use nomos_types::accepted::Accepted;
+use nomos_words::load::auction_text;
 use std::alloc::Global;
 
 /// Why a contract is not accepted.
@@ -21,16 +24,19 @@ pub(crate) enum Unaccepted {
     NoMemory,
 }
 
+/// Accepts the auction of `bench`, or says why not.
+pub(crate) fn judge_auction(alloc: Global) -> Result<Accepted, Unaccepted>
+    ensures { JudgesText load_contract result }
+{
+    judge_text(alloc, auction_text())
+}
+
 /// Accepts a contract, or says why not.
 pub(crate) fn judge<S: Source>(alloc: Global, contract: &mut S) -> Result<Accepted, Unaccepted>
-    ensures { Judges (S.left contract.old)
-        (record { before = S.faults contract.old; after = S.faults contract.new }) result }
+    ensures { Judges (source_state (S.left contract.old) (S.faults contract.old) (S.faults contract.new)) result }
 {
     let text = read_contract(alloc, contract)?;
-    match accept(alloc, &text) {
-        Ok(accepted) => Ok(accepted),
-        Err(error) => Err(of_error(error)),
-    }
+    judge_text(alloc, &text)
 }
 
 /// Finds the least bounds of a contract, or says why it has none.
@@ -38,8 +44,7 @@ pub(crate) fn judge_least<S: Source>(
     alloc: Global,
     contract: &mut S,
 ) -> Result<LeastBounds, Unaccepted>
-    ensures { JudgesLeast (S.left contract.old)
-        (record { before = S.faults contract.old; after = S.faults contract.new }) result }
+    ensures { JudgesLeast (source_state (S.left contract.old) (S.faults contract.old) (S.faults contract.new)) result }
 {
     let text = read_contract(alloc, contract)?;
     match least(alloc, &text) {
@@ -48,10 +53,20 @@ pub(crate) fn judge_least<S: Source>(
     }
 }
 
+// Accepts a text, or says why not.
+fn judge_text(alloc: Global, text: &[u8]) -> Result<Accepted, Unaccepted>
+    ensures { JudgesText text.now result }
+{
+    match accept(alloc, text) {
+        Ok(accepted) => Ok(accepted),
+        Err(error) => Err(of_error(error)),
+    }
+}
+
 // The text of a contract.
 fn read_contract<S: Source>(alloc: Global, contract: &mut S) -> Result<Vec<u8>, Unaccepted>
-    ensures { ReadsContract (S.left contract.old)
-        (record { before = S.faults contract.old; after = S.faults contract.new }) result }
+    ensures { ReadsContract
+        (source_state (S.left contract.old) (S.faults contract.old) (S.faults contract.new)) result }
 {
     match read_all(alloc, contract, TEXT_LIMIT) {
         Ok(text) => Ok(text),

@@ -1,21 +1,29 @@
 //! The lines that are printed of least bounds.
 
 ghost use Rattle.std.specs.Prelude.{◌≡◌, ◌++◌, IfOk, OnOk};
-ghost use Rattle.nomos_top.specs.Block.{accepted_block};
-ghost use Rattle.nomos_top.specs.Judging.{HasEachStar};
+ghost use Rattle.nomos_report.specs.Block.{accepted_block};
 ghost use Rattle.nomos_top.specs.LeastBlock.{least_line, proof_lines, least_block};
 
-use crate::block::accepted_block;
 use crate::refusal::push_weights;
-use crate::report::push_number;
 use nomos_base::push_gas;
 use nomos_least::least::LeastBounds;
+use nomos_report::block::push_block;
 use nomos_simplex::solved::Proof;
+use nomos_texts::number::push_number;
+use nomos_types::accepted::Accepted;
 use std::alloc::{AllocError, Global};
+
+/// The block of an accepted program.
+pub(crate) fn accepted_block(alloc: Global, accepted: &Accepted) -> Result<Vec<u8>, AllocError>
+    ensures { IfOk result (λ text. text.items ≡ accepted_block accepted.now) }
+{
+    let mut text = Vec::new(alloc);
+    push_block(&mut text, accepted)?;
+    Ok(text)
+}
 
 /// The block of the accepted program, what its transactions declare in all, and the proof that this is the least.
 pub(crate) fn least_block(alloc: Global, bounds: &LeastBounds) -> Result<Vec<u8>, AllocError>
-    requires each_star { HasEachStar bounds.now.accepted }
     ensures { IfOk result (λ text. text.items ≡ least_block bounds.now) }
 {
     let mut text = accepted_block(alloc, &bounds.accepted)?;

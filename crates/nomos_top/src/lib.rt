@@ -1,19 +1,14 @@
-//! The whole program: from its words, its source and its sink to its status.
+//! The whole program: from its words, its sources and its sinks to its status.
 #![tactic(auto)]
 
-mod block;
+mod alone;
 mod due;
-mod job;
 mod judging;
 mod least_block;
 mod refusal;
-mod report;
-mod runnable;
-mod running;
 mod scripts;
-mod taken;
+mod stage;
 mod top;
+mod unaccepted;
 
-pub use job::{Job, words};
-pub use running::{Running, run_items};
 pub use top::{Ended, nomos};

@@ -4,10 +4,9 @@ ghost use Rattle.std.specs.Prelude.{◌≡◌, ◌++◌, codes, decimal, IfOk, O
 ghost use Rattle.std.specs.Fmt.{signed_decimal};
 ghost use Rattle.std.specs.List.{flat_map};
 ghost use Rattle.nomos_ir.specs.CodeForm.{form_name};
-ghost use Rattle.nomos_top.specs.Block.{line};
+ghost use Rattle.nomos_report.specs.Lines.{line};
 ghost use Rattle.nomos_top.specs.Refusal.{which_text, at_offset, why_text, row_text, of_text, weight_line, verdict_lines, certificate, refusal, stop_text, unsolved_line};
 
-use crate::report::push_number;
 use itoa::Buffer;
 use nomos_accept::refusal::Why;
 use nomos_forms::row::Row;
@@ -15,6 +14,7 @@ use nomos_forms::verdict::{Of, Verdict, Weight};
 use nomos_grammar::offence::Which;
 use nomos_ir::code_form::CodeForm;
 use nomos_simplex::solved::Stop;
+use nomos_texts::number::push_number;
 use std::alloc::{AllocError, Global};
 
 /// The lines of a refusal: its cause, and the weights that show it where it has some.

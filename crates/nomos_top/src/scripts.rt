@@ -1,185 +1,182 @@
-//! What is due for the script of a run.
+//! What is due where a script is run, or a journal is replayed.
 
-ghost use Rattle.std.specs.Prelude.{◌≡◌, ℕ, List, ◌++◌, Some, IfOk, IfErr, codes, decimal, true};
-ghost use Rattle.std.specs.List.{list_all};
+ghost use Rattle.std.specs.Prelude.{◌≡◌, ℕ, List, Option, Some, None, IfOk, IfErr, true};
+ghost use Rattle.nomos_due.specs.Benches.{IsBenchDue, IsBenchPart};
+ghost use Rattle.nomos_due.specs.Outside.{SourceState, source_state};
+ghost use Rattle.nomos_due.specs.Replays.{no_journal};
+ghost use Rattle.nomos_due.specs.Sources.{IsReplayDueFor, IsRunDueFor, IsRunPartFor, kept_text};
+ghost use Rattle.nomos_legal.specs.Legal.{IsLimit};
 ghost use Rattle.nomos_script.specs.ScriptReading.{ReadsAs};
-ghost use Rattle.nomos_top.specs.Block.{accepted_block};
-ghost use Rattle.nomos_top.specs.Outcome.{no_journal};
-ghost use Rattle.nomos_top.specs.Judging.{HasEachStar, Finds, FindsText, IsDueAs, IsPartAs, IsDueOf, IsPartOf, HasRunAs, HasRunPart, given_of, journal_of};
-ghost use Rattle.nomos_top.specs.Report.{run_status, is_well};
-ghost use Rattle.nomos_top.specs.Runnable.{is_runnable};
+ghost use Rattle.nomos_script.specs.declared.item.ScriptItem.{ScriptItem};
+ghost use Rattle.nomos_top.specs.Tasks.{run_orders, bench_orders};
+ghost use Rattle.nomos_top.specs.mirror.Judging.{IsTaskDueOn, IsTaskPartOn, given_of};
+ghost use Rattle.nomos_words.specs.Words.{run, replay, bench};
+ghost use Rattle.nomos_words.specs.declared.workers.Workers.{Workers};
+ghost use Rattle.nomos_workers.specs.Crews.{IsCrew};
 
-use crate::block::accepted_block;
-use crate::due::{DoneSoFar, Due, bare_part, journal, line_due};
-use crate::report::push_number;
-use crate::running::{Running, STEPS, run_items};
-use crate::taken::line_not_taken;
-use nomos_base::{ReadError, Source, read_all};
-use nomos_first_ledger::journal::{End, Entry};
-use nomos_ir::items::Items;
-use nomos_script::parsing::{ScriptError, TEXT_LIMIT, parse_script};
-use nomos_script::script::Script;
+use crate::due::{CallDue, DoneSoFar, due_behind};
+use crate::judging::{judge, judge_auction};
+use crate::stage::Stage;
+use crate::unaccepted::unaccepted_due;
+use nomos_base::Source;
+use nomos_due::benches::{self, Load};
+use nomos_due::replays::{self, USUAL_LIMIT};
+use nomos_due::runs;
+use nomos_index::indexed::IndexedState;
+use nomos_machine::policy::Policy;
+use nomos_run::orders::{Orders, Runner};
 use nomos_types::accepted::Accepted;
-use std::alloc::{AllocError, Global};
+use nomos_workers::batch::Crew;
+use nomos_workers::gate::Gate;
+use std::alloc::Global;
+use std::sync::Wait;
+use std::thread::Threads;
 
-/// What is found of a script.
-#[derive(Drop)]
-pub(crate) enum Found {
-    Script(Script),
-    TooLong,
-    Syntax(u32),
-    NotYet(u32),
-    ReadFault,
-    NoMemory,
-}
-
-// What is found of a script.
-fn find_script<S: Source>(alloc: Global, script: &mut S) -> Found
-    ensures { Finds (S.left script.old) (record { before = S.faults script.old; after = S.faults script.new }) result }
+/// What is due for a run by these orders.
+pub(crate) fn run_due<S: Source, G: Gate, R: Threads + Wait + Sync>(
+    stage: &Stage<'_, G, R>,
+    orders: Orders,
+    contract: &mut S,
+    script: &mut S,
+) -> Result<CallDue, DoneSoFar>
+    requires crew { IsCrew orders.crew }
+    requires limit { IsLimit orders.limit }
+    ensures ok { (file words : List ℕ) (by : Workers) (steps : ℕ) (kept : Option (List ℕ)) (journal : SourceState)
+        → orders ≡ run_orders by steps kept → IfOk result (IsTaskDueOn (record {
+          contract = source_state (S.left contract.old) (S.faults contract.old) (S.faults contract.new);
+          script = source_state (S.left script.old) (S.faults script.old) (S.faults script.new);
+          journal = journal;
+        }) (run file words by steps kept)) }
+    ensures err { (file words : List ℕ) (by : Workers) (steps : ℕ) (kept : Option (List ℕ)) (journal : SourceState)
+        → orders ≡ run_orders by steps kept → IfErr result (IsTaskPartOn (record {
+          contract = source_state (S.left contract.old) (S.faults contract.old) (S.faults contract.new);
+          script = source_state (S.left script.old) (S.faults script.old) (S.faults script.new);
+          journal = journal;
+        }) (run file words by steps kept)) }
+    ensures unread { given_of result ≡ None → script.new ≡ script.old }
 {
-    match read_all(alloc, script, TEXT_LIMIT) {
-        Ok(text) => read_script_text(alloc, &text),
-        Err(ReadError::TooLong) => Found::TooLong,
-        Err(ReadError::ReadFault) => Found::ReadFault,
-        Err(ReadError::NoMemory) => Found::NoMemory,
+    match judge(stage.alloc, contract) {
+        Ok(accepted) => accepted_run_due(stage, orders, accepted, script),
+        Err(unaccepted) => unaccepted_due(stage.alloc, orders.limit, unaccepted),
     }
 }
 
-// What is found of the text of a script.
-fn read_script_text(alloc: Global, text: &[u8]) -> Found
-    ensures { FindsText text.now result }
+// What is due for a run on an accepted contract.
+fn accepted_run_due<S: Source, G: Gate, R: Threads + Wait + Sync>(
+    stage: &Stage<'_, G, R>,
+    orders: Orders,
+    accepted: Accepted,
+    script: &mut S,
+) -> Result<CallDue, DoneSoFar>
+    requires crew { IsCrew orders.crew }
+    requires limit { IsLimit orders.limit }
+    ensures ok { IfOk result (λ d. IsRunDueFor accepted orders
+        (source_state (S.left script.old) (S.faults script.old) (S.faults script.new)) d.due) }
+    ensures err { IfErr result (λ part. IsRunPartFor accepted orders
+        (source_state (S.left script.old) (S.faults script.old) (S.faults script.new)) part.journal) }
+    ensures given { given_of result ≡ Some accepted }
 {
-    match parse_script(alloc, text) {
-        Ok(script) => found_script(script),
-        Err(ScriptError::TooLong) => Found::TooLong,
-        Err(ScriptError::Syntax(line)) => Found::Syntax(line),
-        Err(ScriptError::NoMemory) => Found::NoMemory,
+    let runner = Runner {
+        rt: stage.rt,
+        gate: stage.gate,
+        orders,
+    };
+    let due = runs::run_due::<IndexedState, S, G, R>(&runner, stage.alloc, &accepted, script);
+    due_behind(accepted, due)
+}
+
+/// What is due for the replay of a journal.
+pub(crate) fn replay_due<S: Source>(
+    alloc: Global,
+    contract: &mut S,
+    script: &mut S,
+    journal: &mut S,
+) -> Result<CallDue, DoneSoFar>
+    ensures ok { (file script_file journal_file : List ℕ) → IfOk result (IsTaskDueOn (record {
+      contract = source_state (S.left contract.old) (S.faults contract.old) (S.faults contract.new);
+      script = source_state (S.left script.old) (S.faults script.old) (S.faults script.new);
+      journal = source_state (S.left journal.old) (S.faults journal.old) (S.faults journal.new);
+    }) (replay file script_file journal_file)) }
+    ensures err { (file script_file journal_file : List ℕ) → IfErr result (IsTaskPartOn (record {
+      contract = source_state (S.left contract.old) (S.faults contract.old) (S.faults contract.new);
+      script = source_state (S.left script.old) (S.faults script.old) (S.faults script.new);
+      journal = source_state (S.left journal.old) (S.faults journal.old) (S.faults journal.new);
+    }) (replay file script_file journal_file)) }
+    ensures unread_script { given_of result ≡ None → script.new ≡ script.old }
+    ensures unread_journal { given_of result ≡ None → journal.new ≡ journal.old }
+    ensures unread { (text : List ℕ) → S.left script.old ≡ Some text
+        → ((items : List ScriptItem) → ¬ ReadsAs text items) → journal.new ≡ journal.old }
+{
+    match judge(alloc, contract) {
+        Ok(accepted) => accepted_replay_due(alloc, accepted, script, journal),
+        Err(unaccepted) => unaccepted_due(alloc, USUAL_LIMIT, unaccepted),
     }
 }
 
-// What is found of a script that reads.
-fn found_script(script: Script) -> Found
-    ensures { (text : List ℕ) → ReadsAs text script → FindsText text result }
-{
-    match line_not_taken(script.items().as_slice()) {
-        Some(line) => Found::NotYet(line),
-        None => Found::Script(script),
-    }
-}
-
-/// What is due where a script is to be run on an accepted contract that `run` takes.
-pub(crate) fn script_due<S: Source>(
+// What is due for the replay of a journal on an accepted contract.
+fn accepted_replay_due<S: Source>(
     alloc: Global,
     accepted: Accepted,
     script: &mut S,
-) -> Result<Due, DoneSoFar>
-    requires runnable { is_runnable accepted.program ≡ true }
-    requires each_star { HasEachStar accepted }
-    ensures ok { IfOk result (λ due. IsDueOf accepted (S.left script.old)
-        (record { before = S.faults script.old; after = S.faults script.new })
-        due.status due.text.items due.accepted due.journal) }
-    ensures err { IfErr result (λ part. IsPartOf accepted (S.left script.old) part.accepted part.journal) }
+    journal: &mut S,
+) -> Result<CallDue, DoneSoFar>
+    ensures ok { IfOk result (λ d. IsReplayDueFor accepted
+        (source_state (S.left script.old) (S.faults script.old) (S.faults script.new))
+        (source_state (S.left journal.old) (S.faults journal.old) (S.faults journal.new)) d.due) }
+    ensures err { IfErr result (λ part. part.journal ≡ no_journal) }
+    ensures given { given_of result ≡ Some accepted }
+    ensures unread { (text : List ℕ) → S.left script.old ≡ Some text
+        → ((items : List ScriptItem) → ¬ ReadsAs text items) → journal.new ≡ journal.old }
+{
+    let due = replays::replay_due::<IndexedState, S>(alloc, &accepted, script, journal);
+    due_behind(accepted, due)
+}
+
+/// What is due for the load of `bench`.
+pub(crate) fn bench_due<G: Gate, R: Threads + Wait + Sync>(
+    stage: &Stage<'_, G, R>,
+    load: Load,
+) -> Result<CallDue, DoneSoFar>
+    ensures ok { (contract script journal : SourceState) → IfOk result (IsTaskDueOn
+        (record { contract = contract; script = script; journal = journal }) (bench load.seed load.bidders)) }
+    ensures err { (contract script journal : SourceState) → IfErr result (IsTaskPartOn
+        (record { contract = contract; script = script; journal = journal }) (bench load.seed load.bidders)) }
+{
+    match judge_auction(stage.alloc) {
+        Ok(accepted) => accepted_bench_due(stage, load, accepted),
+        Err(unaccepted) => unaccepted_due(stage.alloc, USUAL_LIMIT, unaccepted),
+    }
+}
+
+// How `bench` runs its script.
+fn bench_orders() -> Orders
+    ensures { result ≡ bench_orders }
+{
+    Orders {
+        crew: Crew::One(Policy::First),
+        limit: USUAL_LIMIT,
+        text: false,
+        result: true,
+    }
+}
+
+// What is due for the load of `bench` on the accepted auction.
+fn accepted_bench_due<G: Gate, R: Threads + Wait + Sync>(
+    stage: &Stage<'_, G, R>,
+    load: Load,
+    accepted: Accepted,
+) -> Result<CallDue, DoneSoFar>
+    ensures ok { IfOk result (λ d.
+        IsBenchDue accepted bench_orders load d.due.status d.due.out.items d.due.journal) }
+    ensures kept { IfOk result (λ d. kept_text d.due ≡ None) }
+    ensures err { IfErr result (λ part. IsBenchPart accepted bench_orders load part.journal) }
     ensures given { given_of result ≡ Some accepted }
 {
-    match find_script(alloc, script) {
-        Found::NoMemory => Err(bare_part(alloc, Some(accepted))),
-        Found::ReadFault => line_due(alloc, 5, b"read fault script\n", Some(accepted)),
-        Found::TooLong => line_due(alloc, 2, b"script refused TooLong\n", Some(accepted)),
-        Found::Syntax(line) => refused_due(alloc, accepted, b"script refused Syntax ", line),
-        Found::NotYet(line) => refused_due(alloc, accepted, b"script refused NotYet ", line),
-        Found::Script(script) => ran_due(alloc, accepted, &script),
-    }
-}
-
-// The line of a script's refusal at a line, with status 2.
-fn refused_due(alloc: Global, accepted: Accepted, cause: &[u8], line: u32) -> Result<Due, DoneSoFar>
-    ensures ok { IfOk result (λ due.
-        IsDueAs due 2 (cause.now ++ decimal line ++ codes "\n") (Some accepted) no_journal) }
-    ensures err { IfErr result (λ part. IsPartAs part (Some accepted) no_journal) }
-{
-    match numbered(alloc, cause, line) {
-        Ok(text) => line_due(alloc, 2, &text, Some(accepted)),
-        Err(_) => Err(bare_part(alloc, Some(accepted))),
-    }
-}
-
-// A line that ends with a number.
-fn numbered(alloc: Global, cause: &[u8], line: u32) -> Result<Vec<u8>, AllocError>
-    ensures { IfOk result (λ text. text.items ≡ cause.now ++ decimal line ++ codes "\n") }
-{
-    let mut text = Vec::from_slice(alloc, cause)?;
-    push_number(&mut text, u64::from(line))?;
-    text.extend_from_slice(b"\n")?;
-    Ok(text)
-}
-
-// What is due for a script that reads.
-fn ran_due(alloc: Global, accepted: Accepted, script: &Script) -> Result<Due, DoneSoFar>
-    requires each_star { HasEachStar accepted }
-    ensures ok { IfOk result (λ due. HasRunAs accepted script.now
-        due.status due.text.items due.accepted due.journal) }
-    ensures err { IfErr result (λ part. HasRunPart accepted script.now part.accepted part.journal) }
-{
-    match run_items(alloc, &accepted, STEPS, script.items().as_slice()) {
-        Ok(running) => report_due(alloc, accepted, running),
-        Err(entries) => Err(DoneSoFar {
-            accepted: Some(accepted),
-            journal: journal(entries),
-        }),
-    }
-}
-
-// The report of a run.
-fn report_due(alloc: Global, accepted: Accepted, running: Running) -> Result<Due, DoneSoFar>
-    requires each_star { HasEachStar accepted }
-    ensures ok { IfOk result (λ due. IsDueAs due (run_status running.entries.items)
-        (accepted_block accepted ++ running.text.items) (Some accepted) (journal_of running.entries.items)) }
-    ensures err { IfErr result (λ part. IsPartAs part (Some accepted) (journal_of running.entries.items)) }
-{
-    let Running { entries, text, .. } = running;
-    let status = run_status(&entries);
-    let journal = journal(Items::of_vec(entries));
-    match whole(alloc, &accepted, &text) {
-        Ok(text) => Ok(Due {
-            status,
-            text,
-            accepted: Some(accepted),
-            journal,
-        }),
-        Err(_) => Err(DoneSoFar {
-            accepted: Some(accepted),
-            journal,
-        }),
-    }
-}
-
-// The accepted block with these lines behind it.
-fn whole(alloc: Global, accepted: &Accepted, lines: &[u8]) -> Result<Vec<u8>, AllocError>
-    requires each_star { HasEachStar accepted.now }
-    ensures { IfOk result (λ text. text.items ≡ accepted_block accepted.now ++ lines.now) }
-{
-    let mut text = accepted_block(alloc, accepted)?;
-    text.extend_from_slice(lines)?;
-    Ok(text)
-}
-
-// The status of a run.
-fn run_status(entries: &[Entry]) -> u8
-    ensures { result ≡ run_status entries.now }
-{
-    if are_well(entries) { 0 } else { 3 }
-}
-
-// Whether each entry was carried out.
-fn are_well(entries: &[Entry]) -> bool
-    ensures { result ≡ list_all (λ e. is_well e.end) entries.now }
-{
-    entries.iter().all(|e| is_well(&e.end))
-}
-
-// Whether it is the end of what was carried out.
-fn is_well(end: &End) -> bool
-    ensures { result ≡ is_well end.now }
-{
-    matches!(end, End::Deposited | End::Committed)
+    let runner = Runner {
+        rt: stage.rt,
+        gate: stage.gate,
+        orders: bench_orders(),
+    };
+    let due = benches::bench_due::<IndexedState, G, R>(&runner, stage.alloc, &accepted, load);
+    due_behind(accepted, due)
 }

@@ -1,33 +1,45 @@
 //! The top call.
 
-ghost use Rattle.std.specs.Prelude.{◌≡◌, ℕ, List, Some, None, IfOk, IfErr, map, string_bytes};
-ghost use Rattle.nomos_top.specs.Block.{accepted_block};
-ghost use Rattle.nomos_top.specs.Claim.{HasOneAnswer};
-ghost use Rattle.nomos_top.specs.Claims.{Claims};
-ghost use Rattle.nomos_top.specs.Commands.{IsCheck, IsRun, IsLeast};
-ghost use Rattle.nomos_top.specs.LeastBlock.{least_block};
-ghost use Rattle.nomos_top.specs.Outcome.{HasRunnable, ReadsScript, IsWritten, no_journal};
-ghost use Rattle.nomos_top.specs.Outside.{source_state, sink_state};
-ghost use Rattle.nomos_top.specs.Judging.{HasEachStar, IsDueAs, IsPartAs, IsDueFor, IsPartFor, IsDueOut, IsDueWhere, IsPartWhere, IsDueOf, IsPartOf, given_of};
-ghost use Rattle.nomos_top.specs.Jobs.{task};
-ghost use Rattle.nomos_top.specs.Refusal.{refusal, unsolved_line};
-ghost use Rattle.nomos_top.specs.Words.{task_of};
+ghost use Rattle.std.specs.Prelude.{◌≡◌, ◌⊎◌, ℕ, List, Some, None, IfOk, IfErr, map, string_bytes};
+ghost use Rattle.std.specs.Option.{option_map};
+ghost use Rattle.nomos_due.specs.Outside.{SourceState, sink_state, source_state};
+ghost use Rattle.nomos_due.specs.Sources.{kept_text};
+ghost use Rattle.nomos_due.specs.Written.{IsWritten};
+ghost use Rattle.nomos_script.specs.ScriptReading.{ReadsAs};
+ghost use Rattle.nomos_script.specs.declared.item.ScriptItem.{ScriptItem};
+ghost use Rattle.nomos_top.specs.Accepted.{AcceptedIsTyped};
+ghost use Rattle.nomos_top.specs.Call.{HasEnded, OfEachCall};
+ghost use Rattle.nomos_top.specs.Complete.{TypedIsAccepted};
+ghost use Rattle.nomos_top.specs.Kept.{KeptIsLegal, KeptGoesRight, OneWorkerFollows};
+ghost use Rattle.nomos_top.specs.Refusing.{RefusesTruly, HasOneAnswer, HasOneReading};
+ghost use Rattle.nomos_top.specs.Replaying.{KeptReplays};
+ghost use Rattle.nomos_top.specs.Shown.{WritesWhatIsDue, FailsTruly};
+ghost use Rattle.nomos_top.specs.Tasks.{ReadsContract, ReadsJournal, ReadsScript, run_orders};
+ghost use Rattle.nomos_top.specs.Turns.{WantsContract, WantsJournal, WantsScript, MayKeep};
+ghost use Rattle.nomos_top.specs.mirror.Judging.{EndsDue, EndsPart, IsDueOn, IsPartOn, IsTaskDueOn, IsTaskPartOn, given_of};
+ghost use Rattle.nomos_types.specs.Acceptance.{Acceptance, IsAccepted};
+ghost use Rattle.nomos_words.specs.Jobs.{task};
+ghost use Rattle.nomos_words.specs.Words.{Asks};
 
-use crate::block::accepted_block;
-use crate::due::{DoneSoFar, Due, bare_part, line_due, text_due};
-use crate::job::{self, Job};
-use crate::judging::{Unaccepted, judge, judge_least};
-use crate::least_block::least_block;
-use crate::refusal::{refusal, unsolved_line};
-use crate::runnable::is_runnable;
-use crate::scripts::script_due;
-use nomos_accept::refusal::Why;
-use nomos_base::{Sink, Source, write_all};
-use nomos_first_ledger::journal::Journal;
-use nomos_least::least::LeastBounds;
-use nomos_simplex::solved::Stop;
+use crate::alone::{check_due, least_due};
+use crate::due::{CallDue, DoneSoFar, line_due};
+use crate::scripts::{bench_due, replay_due, run_due};
+use crate::stage::Stage;
+use nomos_base::{Sink, Source};
+use nomos_due::benches::Load;
+use nomos_due::replays::USUAL_LIMIT;
+use nomos_due::written::write_due;
+use nomos_legal::journal::Journal;
+use nomos_run::orders::Orders;
 use nomos_types::accepted::Accepted;
+use nomos_words::job::{self, Job};
+use nomos_words::usage::usage_line;
+use nomos_words::workers::Workers;
+use nomos_workers::batch::Crew;
+use nomos_workers::gate::Gate;
 use std::alloc::Global;
+use std::sync::Wait;
+use std::thread::Threads;
 
 /// How a call ended.
 #[derive(Drop, Debug)]
@@ -35,44 +47,120 @@ pub struct Ended {
     /// The exit status, as docs/TEXTS.md has it.
     pub status: u8,
     /// What was accepted: for a check, and for a search for least bounds, given with status 0, and with 6 where the
-    /// contract was accepted before; for a run, given wherever the contract was accepted; with 7, at least where the
-    /// script was read.
+    /// contract was accepted before; otherwise given wherever the contract was accepted, with 7 too where it was
+    /// accepted before memory ran out.
     pub accepted: Option<Accepted>,
     /// What became of the script: an entry for each deposit and each batch with status 0 and 3, and with 6 where the
-    /// report was made; with 7 those of some of its first items, or none; otherwise none.
+    /// report was made; with 7 those of some of its first items, for a replay none; otherwise none.
     pub journal: Journal,
 }
 
-// The words that have a form.
-const USAGE: &[u8] = b"usage: nomos check FILE | run FILE SCRIPT | least FILE\n";
-
 /// Does all that the program does: reads the words (those after the program's own name), reads the contract and judges
-/// it, reads the script and runs it, and writes what is due. The contract is read only where the words have a form, and
-/// the script only where a run is asked for and `run` takes the program that is given. Nothing is written before the
-/// last memory is taken. Status 7, want of memory, is the one answer for which no reason is given.
-pub fn nomos<S: Source, K: Sink>(
+/// it, reads the script, reads the journal and replays it or runs the script, and writes what is due: the output, and
+/// behind it the text of the journal where that is wanted. Each source is read only where it is its turn. Nothing is
+/// written before the last memory is taken. Status 7, want of memory, is the one answer for which no reason is given.
+pub fn nomos<S: Source, K: Sink, G: Gate, R: Threads + Wait + Sync>(
+    rt: &R,
     alloc: Global,
     words: &[String],
     contract: &mut S,
     script: &mut S,
+    journal_in: &mut S,
     out: &mut K,
+    journal_out: &mut K,
+    gate: &G,
 ) -> Ended
-    // How the call ends, and that it is correct, complete and refuses truly: of one text.
-    ensures claim { Claims (map string_bytes words.now)
-        (source_state (S.left contract.old) (S.faults contract.old) (S.faults contract.new))
-        (source_state (S.left script.old) (S.faults script.old) (S.faults script.new))
-        (sink_state (K.written out.old) (K.written out.new) (K.faults out.old) (K.faults out.new))
-        result.status result.accepted result.journal }
-    // What holds of every text.
-    ensures one_answer { (text : List ℕ) → HasOneAnswer text }
+    // How the call ends: what is due of the texts of its sources was written, or a sink failed, or memory was wanting.
+    ensures ends { HasEnded (record {
+      words = map string_bytes words.now;
+      contract = source_state (S.left contract.old) (S.faults contract.old) (S.faults contract.new);
+      script = source_state (S.left script.old) (S.faults script.old) (S.faults script.new);
+      journal_in = source_state (S.left journal_in.old) (S.faults journal_in.old) (S.faults journal_in.new);
+      out = sink_state (K.written out.old) (K.written out.new) (K.faults out.old) (K.faults out.new);
+      journal_out = sink_state (K.written journal_out.old) (K.written journal_out.new)
+          (K.faults journal_out.old) (K.faults journal_out.new);
+      status = result.status;
+      accepted = result.accepted;
+      journal = result.journal;
+    }) }
 
-    // What is not due to be read stays as it was, and the output where memory ran out.
-    ensures no_task { task_of (map string_bytes words.now) ≡ None → contract.new ≡ contract.old }
-    ensures unread { ¬ ReadsScript (map string_bytes words.now) result.accepted → script.new ≡ script.old }
-    ensures unwritten { result.status ≡ 7 → out.new ≡ out.old }
+    // What this says of every call, on whatever texts it ends.
+    ensures accepted_is_typed { OfEachCall AcceptedIsTyped }
+    ensures typed_is_accepted { OfEachCall TypedIsAccepted }
+    ensures refuses_truly { OfEachCall RefusesTruly }
+    ensures kept_is_legal { OfEachCall KeptIsLegal }
+    ensures kept_goes_right { OfEachCall KeptGoesRight }
+    ensures one_worker_follows { OfEachCall OneWorkerFollows }
+    ensures writes_what_is_due { OfEachCall WritesWhatIsDue }
+    ensures fails_truly { OfEachCall FailsTruly }
+    ensures kept_replays { OfEachCall KeptReplays }
+
+    // What holds of every text: of a contract, and of a script or a journal.
+    ensures one_answer { (text : List ℕ) → HasOneAnswer text }
+    ensures one_reading { (text : List ℕ) → HasOneReading text }
+
+    // What is not due stays as it was: a source before its turn, the output where memory ran out, and the journal's
+    // sink where nothing is kept.
+    ensures contract_unread { ¬ WantsContract (map string_bytes words.now) → contract.new ≡ contract.old }
+    ensures script_unread { ¬ WantsScript (map string_bytes words.now) result.accepted → script.new ≡ script.old }
+    ensures journal_unread { ¬ WantsJournal (map string_bytes words.now) result.accepted
+        → journal_in.new ≡ journal_in.old }
+    ensures journal_after_script { (text : List ℕ) → S.left script.old ≡ Some text
+        → ((items : List ScriptItem) → ¬ ReadsAs text items) → journal_in.new ≡ journal_in.old }
+    ensures nothing_out { result.status ≡ 7 → out.new ≡ out.old }
+    ensures nothing_kept { ¬ MayKeep (map string_bytes words.now) result.status → journal_out.new ≡ journal_out.old }
 {
-    match job_due(alloc, words, contract, script) {
-        Ok(due) => write_due(due, out),
+    let stage = Stage { rt, gate, alloc };
+    let due = words_due(&stage, words, contract, script, journal_in);
+    let ended = end_call(due, out, journal_out);
+    know_accepted(&ended.accepted);
+    ended
+}
+
+// Where a program is given, it is known to be typed, and its numbers fit.
+fn know_accepted(accepted: &Option<Accepted>)
+    ensures { (a : Acceptance) → accepted.now ≡ Some a → IsAccepted a }
+{
+    if let Some(accepted) = accepted {
+        let _program = accepted.program();
+    }
+}
+
+// Ends the call: writes what is due, or nothing where memory was wanting.
+fn end_call<K: Sink>(due: Result<CallDue, DoneSoFar>, out: &mut K, journal_out: &mut K) -> Ended
+    ensures ok { (words : List (List ℕ)) (contract script journal_in : SourceState)
+        → IfOk due (EndsDue (record {
+          words = words;
+          contract = contract;
+          script = script;
+          journal_in = journal_in;
+          out = sink_state (K.written out.old) (K.written out.new) (K.faults out.old) (K.faults out.new);
+          journal_out = sink_state (K.written journal_out.old) (K.written journal_out.new)
+              (K.faults journal_out.old) (K.faults journal_out.new);
+          status = result.status;
+          accepted = result.accepted;
+          journal = result.journal;
+        })) }
+    ensures err { (words : List (List ℕ)) (contract script journal_in : SourceState)
+        → IfErr due (EndsPart (record {
+          words = words;
+          contract = contract;
+          script = script;
+          journal_in = journal_in;
+          out = sink_state (K.written out.old) (K.written out.new) (K.faults out.old) (K.faults out.new);
+          journal_out = sink_state (K.written journal_out.old) (K.written journal_out.new)
+              (K.faults journal_out.old) (K.faults journal_out.new);
+          status = result.status;
+          accepted = result.accepted;
+          journal = result.journal;
+        })) }
+    ensures given { result.accepted ≡ given_of due }
+    ensures nothing_out { IfErr due (λ _. out.new ≡ out.old) }
+    ensures nothing_kept { IfErr due (λ _. journal_out.new ≡ journal_out.old) }
+    ensures none_kept { IfOk due (λ d. kept_text d.due ≡ None → journal_out.new ≡ journal_out.old) }
+{
+    match due {
+        Ok(due) => write_call(due, out, journal_out),
         Err(part) => Ended {
             status: 7,
             accepted: part.accepted,
@@ -82,201 +170,113 @@ pub fn nomos<S: Source, K: Sink>(
 }
 
 // Writes what is due.
-fn write_due<K: Sink>(due: Due, out: &mut K) -> Ended
-    ensures written { IsWritten due.status due.text.items
-        (sink_state (K.written out.old) (K.written out.new) (K.faults out.old) (K.faults out.new)) result.status }
+fn write_call<K: Sink>(due: CallDue, out: &mut K, journal_out: &mut K) -> Ended
+    ensures written { IsWritten due.due.status due.due.out.items (kept_text due.due)
+        (sink_state (K.written out.old) (K.written out.new) (K.faults out.old) (K.faults out.new))
+        (sink_state (K.written journal_out.old) (K.written journal_out.new)
+        (K.faults journal_out.old) (K.faults journal_out.new))
+        result.status }
     ensures accepted { result.accepted ≡ due.accepted }
-    ensures journal { result.journal ≡ due.journal }
+    ensures journal { result.journal ≡ due.due.journal }
+    ensures none { kept_text due.due ≡ None → journal_out.new ≡ journal_out.old }
 {
-    let Due {
+    let CallDue { accepted, due } = due;
+    let status = write_due(&due, out, journal_out);
+    Ended {
         status,
-        text,
         accepted,
-        journal,
-    } = due;
-    match write_all(out, &text) {
-        Ok(()) => Ended {
-            status,
-            accepted,
-            journal,
-        },
-        Err(_) => Ended {
-            status: 6,
-            accepted,
-            journal,
-        },
+        journal: due.journal,
     }
 }
 
 // What is due for the words.
-fn job_due<S: Source>(
-    alloc: Global,
+fn words_due<S: Source, G: Gate, R: Threads + Wait + Sync>(
+    stage: &Stage<'_, G, R>,
     words: &[String],
     contract: &mut S,
     script: &mut S,
-) -> Result<Due, DoneSoFar>
-    ensures ok { IfOk result (λ due. IsDueFor (map string_bytes words.now)
-        (source_state (S.left contract.old) (S.faults contract.old) (S.faults contract.new))
-        (source_state (S.left script.old) (S.faults script.old) (S.faults script.new))
-        due.status due.text.items due.accepted due.journal) }
-    ensures err { IfErr result (λ part. IsPartFor (map string_bytes words.now)
-        (source_state (S.left contract.old) (S.faults contract.old) (S.faults contract.new))
-        (source_state (S.left script.old) (S.faults script.old) (S.faults script.new))
-        part.accepted part.journal) }
-    ensures no_task { task_of (map string_bytes words.now) ≡ None → contract.new ≡ contract.old }
-    ensures unread { ¬ ReadsScript (map string_bytes words.now) (given_of result) → script.new ≡ script.old }
+    journal_in: &mut S,
+) -> Result<CallDue, DoneSoFar>
+    ensures ok { IfOk result (IsDueOn (record {
+      contract = source_state (S.left contract.old) (S.faults contract.old) (S.faults contract.new);
+      script = source_state (S.left script.old) (S.faults script.old) (S.faults script.new);
+      journal = source_state (S.left journal_in.old) (S.faults journal_in.old) (S.faults journal_in.new);
+    }) (map string_bytes words.now)) }
+    ensures err { IfErr result (IsPartOn (record {
+      contract = source_state (S.left contract.old) (S.faults contract.old) (S.faults contract.new);
+      script = source_state (S.left script.old) (S.faults script.old) (S.faults script.new);
+      journal = source_state (S.left journal_in.old) (S.faults journal_in.old) (S.faults journal_in.new);
+    }) (map string_bytes words.now)) }
+    ensures contract_unread { ¬ WantsContract (map string_bytes words.now) → contract.new ≡ contract.old }
+    ensures script_unread { ¬ WantsScript (map string_bytes words.now) (given_of result) → script.new ≡ script.old }
+    ensures journal_unread { ¬ WantsJournal (map string_bytes words.now) (given_of result)
+        → journal_in.new ≡ journal_in.old }
+    ensures journal_after_script { (text : List ℕ) → S.left script.old ≡ Some text
+        → ((items : List ScriptItem) → ¬ ReadsAs text items) → journal_in.new ≡ journal_in.old }
 {
     match job::words(words) {
-        None => line_due(alloc, 4, USAGE, None),
-        Some(job) => work_due(alloc, job, contract, script),
+        None => line_due(stage.alloc, USUAL_LIMIT, 4, usage_line()),
+        Some(job) => job_due(stage, job, contract, script, journal_in),
     }
 }
 
-// What is due for a job.
-fn work_due<S: Source>(
-    alloc: Global,
+// How a script is run by the words.
+fn run_orders(workers: Workers, steps: u32, journal: Option<&str>) -> Orders
+    ensures { result ≡ run_orders workers steps (option_map (λ word. word.now) journal.entry) }
+{
+    let crew = match workers {
+        Workers::One(policy) => Crew::One(policy),
+        Workers::Many(count) => Crew::Many(count),
+    };
+    Orders {
+        crew,
+        limit: steps,
+        text: journal.is_some(),
+        result: false,
+    }
+}
+
+// What is due for a job that words ask for.
+fn job_due<S: Source, G: Gate, R: Threads + Wait + Sync>(
+    stage: &Stage<'_, G, R>,
     job: Job,
     contract: &mut S,
     script: &mut S,
-) -> Result<Due, DoneSoFar>
-    ensures ok { (words : List (List ℕ)) → Some (task job.entry) ≡ task_of words → IfOk result (λ due. IsDueFor words
-        (source_state (S.left contract.old) (S.faults contract.old) (S.faults contract.new))
-        (source_state (S.left script.old) (S.faults script.old) (S.faults script.new))
-        due.status due.text.items due.accepted due.journal) }
-    ensures err { (words : List (List ℕ)) → Some (task job.entry) ≡ task_of words
-        → IfErr result (λ part. IsPartFor words
-        (source_state (S.left contract.old) (S.faults contract.old) (S.faults contract.new))
-        (source_state (S.left script.old) (S.faults script.old) (S.faults script.new))
-        part.accepted part.journal) }
-    ensures unread { (words : List (List ℕ)) → Some (task job.entry) ≡ task_of words
-        → ¬ ReadsScript words (given_of result) → script.new ≡ script.old }
+    journal_in: &mut S,
+) -> Result<CallDue, DoneSoFar>
+    requires asked { (words : List (List ℕ)) × Asks words (task job) }
+    ensures ok { IfOk result (IsTaskDueOn (record {
+      contract = source_state (S.left contract.old) (S.faults contract.old) (S.faults contract.new);
+      script = source_state (S.left script.old) (S.faults script.old) (S.faults script.new);
+      journal = source_state (S.left journal_in.old) (S.faults journal_in.old) (S.faults journal_in.new);
+    }) (task job.entry)) }
+    ensures err { IfErr result (IsTaskPartOn (record {
+      contract = source_state (S.left contract.old) (S.faults contract.old) (S.faults contract.new);
+      script = source_state (S.left script.old) (S.faults script.old) (S.faults script.new);
+      journal = source_state (S.left journal_in.old) (S.faults journal_in.old) (S.faults journal_in.new);
+    }) (task job.entry)) }
+    ensures contract_unread { ¬ ReadsContract (task job.entry) → contract.new ≡ contract.old }
+    ensures script_unread { ¬ ReadsScript (task job.entry) ⊎ (given_of result ≡ None) → script.new ≡ script.old }
+    ensures journal_unread { ¬ ReadsJournal (task job.entry) ⊎ (given_of result ≡ None)
+        → journal_in.new ≡ journal_in.old }
+    ensures journal_after_script { (text : List ℕ) → S.left script.old ≡ Some text
+        → ((items : List ScriptItem) → ¬ ReadsAs text items) → journal_in.new ≡ journal_in.old }
 {
     match job {
-        Job::Check { file: _ } => check_due(alloc, contract),
-        Job::Run { file: _, script: _ } => run_due(alloc, contract, script),
-        Job::Least { file: _ } => least_due(alloc, contract),
-    }
-}
-
-// What is due for a check.
-fn check_due<S: Source>(alloc: Global, contract: &mut S) -> Result<Due, DoneSoFar>
-    ensures ok { IfOk result (IsDueWhere IsCheck
-        (source_state (S.left contract.old) (S.faults contract.old) (S.faults contract.new))) }
-    ensures err { IfErr result (IsPartWhere IsCheck
-        (source_state (S.left contract.old) (S.faults contract.old) (S.faults contract.new))) }
-{
-    match judge(alloc, contract) {
-        Ok(accepted) => accepted_due(alloc, accepted),
-        Err(unaccepted) => unaccepted_due(alloc, unaccepted),
-    }
-}
-
-// What is due for a search for least bounds.
-fn least_due<S: Source>(alloc: Global, contract: &mut S) -> Result<Due, DoneSoFar>
-    ensures ok { IfOk result (IsDueWhere IsLeast
-        (source_state (S.left contract.old) (S.faults contract.old) (S.faults contract.new))) }
-    ensures err { IfErr result (IsPartWhere IsLeast
-        (source_state (S.left contract.old) (S.faults contract.old) (S.faults contract.new))) }
-{
-    match judge_least(alloc, contract) {
-        Ok(bounds) => bounds_due(alloc, bounds),
-        Err(unaccepted) => unaccepted_due(alloc, unaccepted),
-    }
-}
-
-// What is due for a run.
-fn run_due<S: Source>(alloc: Global, contract: &mut S, script: &mut S) -> Result<Due, DoneSoFar>
-    ensures ok { (words : List (List ℕ)) → IsRun words → IfOk result (λ due. IsDueFor words
-        (source_state (S.left contract.old) (S.faults contract.old) (S.faults contract.new))
-        (source_state (S.left script.old) (S.faults script.old) (S.faults script.new))
-        due.status due.text.items due.accepted due.journal) }
-    ensures err { (words : List (List ℕ)) → IsRun words → IfErr result (λ part. IsPartFor words
-        (source_state (S.left contract.old) (S.faults contract.old) (S.faults contract.new))
-        (source_state (S.left script.old) (S.faults script.old) (S.faults script.new))
-        part.accepted part.journal) }
-    ensures unread { ¬ HasRunnable (given_of result) → script.new ≡ script.old }
-{
-    match judge(alloc, contract) {
-        Ok(accepted) => accepted_run_due(alloc, accepted, script),
-        Err(unaccepted) => unaccepted_due(alloc, unaccepted),
-    }
-}
-
-// What is due where a contract is not accepted.
-fn unaccepted_due(alloc: Global, unaccepted: Unaccepted) -> Result<Due, DoneSoFar>
-    ensures ok { IfOk result (IsDueOut unaccepted) }
-    ensures err { IfErr result (λ part. IsPartAs part None no_journal) }
-{
-    match unaccepted {
-        Unaccepted::NoMemory => Err(bare_part(alloc, None)),
-        Unaccepted::ReadFault => line_due(alloc, 5, b"read fault contract\n", None),
-        Unaccepted::Refused(why) => refusal_due(alloc, &why),
-        Unaccepted::Unsolved(stop) => unsolved_due(alloc, stop),
-    }
-}
-
-// The lines of a refusal, with status 1.
-fn refusal_due(alloc: Global, why: &Why) -> Result<Due, DoneSoFar>
-    ensures ok { IfOk result (λ due. IsDueAs due 1 (refusal why.now) None no_journal) }
-    ensures err { IfErr result (λ part. IsPartAs part None no_journal) }
-{
-    match refusal(alloc, why) {
-        Ok(text) => Ok(text_due(alloc, 1, text, None)),
-        Err(_) => Err(bare_part(alloc, None)),
-    }
-}
-
-// The line of a run of the solver that stopped, with status 8.
-fn unsolved_due(alloc: Global, stop: Stop) -> Result<Due, DoneSoFar>
-    ensures ok { IfOk result (λ due. IsDueAs due 8 (unsolved_line stop) None no_journal) }
-    ensures err { IfErr result (λ part. IsPartAs part None no_journal) }
-{
-    match unsolved_line(alloc, stop) {
-        Ok(text) => Ok(text_due(alloc, 8, text, None)),
-        Err(_) => Err(bare_part(alloc, None)),
-    }
-}
-
-// The block of an accepted program, with status 0.
-fn accepted_due(alloc: Global, accepted: Accepted) -> Result<Due, DoneSoFar>
-    requires each_star { HasEachStar accepted }
-    ensures ok { IfOk result (λ due. IsDueAs due 0 (accepted_block accepted) (Some accepted) no_journal) }
-    ensures err { IfErr result (λ part. IsPartAs part None no_journal) }
-{
-    match accepted_block(alloc, &accepted) {
-        Ok(text) => Ok(text_due(alloc, 0, text, Some(accepted))),
-        Err(_) => Err(bare_part(alloc, None)),
-    }
-}
-
-// The lines of least bounds, with status 0.
-fn bounds_due(alloc: Global, bounds: LeastBounds) -> Result<Due, DoneSoFar>
-    requires each_star { HasEachStar bounds.accepted }
-    ensures ok { IfOk result (λ due. IsDueAs due 0 (least_block bounds) (Some bounds.accepted) no_journal) }
-    ensures err { IfErr result (λ part. IsPartAs part None no_journal) }
-{
-    match least_block(alloc, &bounds) {
-        Ok(text) => Ok(text_due(alloc, 0, text, Some(bounds.accepted))),
-        Err(_) => Err(bare_part(alloc, None)),
-    }
-}
-
-// What is due for a run on an accepted contract: the script is read where `run` takes the contract.
-fn accepted_run_due<S: Source>(
-    alloc: Global,
-    accepted: Accepted,
-    script: &mut S,
-) -> Result<Due, DoneSoFar>
-    requires each_star { HasEachStar accepted }
-    ensures ok { IfOk result (λ due. IsDueOf accepted (S.left script.old)
-        (record { before = S.faults script.old; after = S.faults script.new })
-        due.status due.text.items due.accepted due.journal) }
-    ensures err { IfErr result (λ part. IsPartOf accepted (S.left script.old) part.accepted part.journal) }
-    ensures unread { ¬ HasRunnable (given_of result) → script.new ≡ script.old }
-{
-    if is_runnable(accepted.program()) {
-        script_due(alloc, accepted, script)
-    } else {
-        line_due(alloc, 1, b"refused NotYet\n", Some(accepted))
+        Job::Check { file: _ } => check_due(stage.alloc, contract),
+        Job::Run {
+            file: _,
+            script: _,
+            workers,
+            steps,
+            journal,
+        } => run_due(stage, run_orders(workers, steps, journal), contract, script),
+        Job::Replay {
+            file: _,
+            script: _,
+            journal: _,
+        } => replay_due(stage.alloc, contract, script, journal_in),
+        Job::Bench { seed, bidders } => bench_due(stage, Load { seed, bidders }),
+        Job::Least { file: _ } => least_due(stage.alloc, contract),
     }
 }

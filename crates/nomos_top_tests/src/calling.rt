@@ -1,9 +1,12 @@
 //! How the top call is made in the tests, and the texts that several of them use.
 use nomos_base::{MemorySink, MemorySource};
 use nomos_top::nomos;
+use nomos_workers::gate::OpenGate;
 use std::alloc::{AllocError, Global};
 use std::process::Abort;
+use std::sync::Wait;
 use std::test::Fail;
+use std::thread::Threads;
 
 // The words of a line, each behind one space.
 pub(crate) fn words_of(alloc: Global, line: &str) -> Result<Vec<String>, AllocError> {
@@ -14,13 +17,16 @@ pub(crate) fn words_of(alloc: Global, line: &str) -> Result<Vec<String>, AllocEr
     Ok(words)
 }
 
-// The numbers of the calls that fail: of the contract, of the script, and of the output.
-pub(crate) type Faults = (u64, u64, u64);
+// The texts of a contract, of a script, and of a journal that is read.
+pub(crate) type Texts<'a> = (&'a [u8], &'a [u8], &'a [u8]);
+
+// The numbers of the calls that fail: of the three sources, of the output, and of the sink of the journal.
+pub(crate) type Faults = ((u64, u64, u64), (u64, u64));
 
 // The number of a call that is never made.
 pub(crate) const NEVER: u64 = 1_000_000;
 
-pub(crate) const NO_FAULTS: Faults = (NEVER, NEVER, NEVER);
+pub(crate) const NO_FAULTS: Faults = ((NEVER, NEVER, NEVER), (NEVER, NEVER));
 
 // How bytes move: each read and write moves at most one byte more than this number, and some fail.
 pub(crate) type Moves = (u16, Faults);
@@ -40,45 +46,55 @@ fn sink(alloc: Global, piece: u16, fault: u64) -> Result<MemorySink, AllocError>
     MemorySink::new(alloc, EVERYTHING, usize::from(piece) + 1, failing)
 }
 
-// What a call works on.
+// What a call reads, and what it writes.
 #[derive(Drop)]
-struct Outside {
+struct Sources {
     contract: MemorySource,
     script: MemorySource,
-    out: MemorySink,
+    journal_in: MemorySource,
 }
 
-// A source over a script, and a sink.
-fn script_and_out(
-    alloc: Global,
-    script: &[u8],
+#[derive(Drop)]
+struct Sinks {
+    out: MemorySink,
+    journal_out: MemorySink,
+}
+
+// A source that is not there fails the test, as want of memory.
+fn source_or_fail<R: Abort + AllocGlobal>(
+    rt: &R,
+    text: &[u8],
     piece: u16,
-    faults: (u64, u64),
-) -> Result<(MemorySource, MemorySink), AllocError> {
-    let script = source(alloc, script, piece, faults.0)?;
-    match sink(alloc, piece, faults.1) {
-        Ok(out) => Ok((script, out)),
-        Err(error) => {
-            drop(script);
-            Err(error)
-        }
+    fault: u64,
+) -> MemorySource {
+    match source(rt.alloc(), text, piece, fault) {
+        Ok(source) => source,
+        Err(_) => panic!(rt; "memory was wanting"),
     }
 }
 
-// A contract and a script, whose bytes move so.
-fn outside_of(alloc: Global, texts: (&[u8], &[u8]), moves: Moves) -> Result<Outside, AllocError> {
-    let (piece, faults) = moves;
-    let contract = source(alloc, texts.0, piece, faults.0)?;
-    match script_and_out(alloc, texts.1, piece, (faults.1, faults.2)) {
-        Ok((script, out)) => Ok(Outside {
-            contract,
-            script,
-            out,
-        }),
-        Err(error) => {
-            drop(contract);
-            Err(error)
-        }
+fn sink_or_fail<R: Abort + AllocGlobal>(rt: &R, piece: u16, fault: u64) -> MemorySink {
+    match sink(rt.alloc(), piece, fault) {
+        Ok(sink) => sink,
+        Err(_) => panic!(rt; "memory was wanting"),
+    }
+}
+
+// Sources over texts, whose bytes move so.
+fn sources_of<R: Abort + AllocGlobal>(rt: &R, texts: Texts, moves: Moves) -> Sources {
+    let (piece, (faults, _)) = moves;
+    Sources {
+        contract: source_or_fail(rt, texts.0, piece, faults.0),
+        script: source_or_fail(rt, texts.1, piece, faults.1),
+        journal_in: source_or_fail(rt, texts.2, piece, faults.2),
+    }
+}
+
+fn sinks_of<R: Abort + AllocGlobal>(rt: &R, moves: Moves) -> Sinks {
+    let (piece, (_, faults)) = moves;
+    Sinks {
+        out: sink_or_fail(rt, piece, faults.0),
+        journal_out: sink_or_fail(rt, piece, faults.1),
     }
 }
 
@@ -86,9 +102,23 @@ fn outside_of(alloc: Global, texts: (&[u8], &[u8]), moves: Moves) -> Result<Outs
 type End = (u8, bool, usize);
 
 // How the call with these words ends.
-fn end_of(alloc: Global, words: &[String], outside: &mut Outside) -> End {
-    let (contract, script) = (&mut outside.contract, &mut outside.script);
-    let ended = nomos(alloc, words, contract, script, &mut outside.out);
+fn end_of<R: AllocGlobal + Threads + Wait + Sync>(
+    rt: &R,
+    words: &[String],
+    sources: &mut Sources,
+    sinks: &mut Sinks,
+) -> End {
+    let ended = nomos(
+        rt,
+        rt.alloc(),
+        words,
+        &mut sources.contract,
+        &mut sources.script,
+        &mut sources.journal_in,
+        &mut sinks.out,
+        &mut sinks.journal_out,
+        &OpenGate,
+    );
     let end = (
         ended.status,
         ended.accepted.is_some(),
@@ -99,37 +129,59 @@ fn end_of(alloc: Global, words: &[String], outside: &mut Outside) -> End {
 }
 
 // How the call with the words of a line ends.
-fn end_of_line(alloc: Global, line: &str, outside: &mut Outside) -> Result<End, AllocError> {
-    let words = words_of(alloc, line)?;
-    Ok(end_of(alloc, &words, outside))
+fn end_of_line<R: AllocGlobal + Threads + Wait + Sync>(
+    rt: &R,
+    line: &str,
+    sources: &mut Sources,
+    sinks: &mut Sinks,
+) -> Result<End, AllocError> {
+    let words = words_of(rt.alloc(), line)?;
+    Ok(end_of(rt, &words, sources, sinks))
 }
 
-// How a call ended, how many reads and writes failed, and what was written.
-fn whole_text(alloc: Global, end: End, outside: &Outside) -> Result<String, Fail> {
+// How many reads and writes failed.
+fn faults_text(alloc: Global, sources: &Sources, sinks: &Sinks) -> Result<String, AllocError> {
+    let contract = sources.contract.faults();
+    let script = sources.script.faults();
+    let journal_in = sources.journal_in.faults();
+    let out = sinks.out.faults();
+    let journal_out = sinks.journal_out.faults();
+    format!(in alloc; "({contract}, {script}, {journal_in}; {out}, {journal_out})")
+}
+
+// How a call ended, how many reads and writes failed, and what was written: to the output, and behind a line to the
+// sink of the journal.
+fn whole_text(alloc: Global, end: End, faults: &str, sinks: &Sinks) -> Result<String, Fail> {
     let (status, accepted, entries) = end;
-    let contract = outside.contract.faults();
-    let script = outside.script.faults();
-    let out = outside.out.faults();
-    let written = str::from_utf8(outside.out.written())?;
-    Ok(format!(in alloc; "{status} {accepted} {entries} ({contract}, {script}, {out})\n{written}")?)
+    let out = str::from_utf8(sinks.out.written())?;
+    let kept = str::from_utf8(sinks.journal_out.written())?;
+    Ok(format!(in alloc; "{status} {accepted} {entries} {faults}\n{out}--\n{kept}")?)
 }
 
-// What the call with the words of a line comes to.
-fn course_of_line(alloc: Global, line: &str, outside: &mut Outside) -> Result<String, Fail> {
-    let end = end_of_line(alloc, line, outside)?;
-    whole_text(alloc, end, outside)
+// What a call with the words of a line comes to.
+fn course_of_line<R: AllocGlobal + Threads + Wait + Sync>(
+    rt: &R,
+    line: &str,
+    sources: &mut Sources,
+    sinks: &mut Sinks,
+) -> Result<String, Fail> {
+    let end = end_of_line(rt, line, sources, sinks)?;
+    let faults = faults_text(rt.alloc(), sources, sinks)?;
+    whole_text(rt.alloc(), end, faults.as_str(), sinks)
 }
 
 // What is answered to the words of a line.
-pub(crate) fn answer_in_pieces(
-    alloc: Global,
+pub(crate) fn answer_in_pieces<R: Abort + AllocGlobal + Threads + Wait + Sync>(
+    rt: &R,
     line: &str,
-    texts: (&[u8], &[u8]),
+    texts: Texts,
     moves: Moves,
 ) -> Result<String, Fail> {
-    let mut outside = outside_of(alloc, texts, moves)?;
-    let answered = course_of_line(alloc, line, &mut outside);
-    drop(outside);
+    let mut sources = sources_of(rt, texts, moves);
+    let mut sinks = sinks_of(rt, moves);
+    let answered = course_of_line(rt, line, &mut sources, &mut sinks);
+    drop(sources);
+    drop(sinks);
     answered
 }
 
@@ -139,26 +191,26 @@ pub(crate) fn expect_text(rt: &impl Abort, found: String, wanted: &str) {
 }
 
 // Fails unless this is answered to the words of a line.
-pub(crate) fn expect_in_pieces(
-    rt: &(impl Abort + AllocGlobal),
+pub(crate) fn expect_in_pieces<R: Abort + AllocGlobal + Threads + Wait + Sync>(
+    rt: &R,
     line: &str,
-    texts: (&[u8], &[u8]),
+    texts: Texts,
     moves: Moves,
     wanted: &str,
 ) -> Result<(), Fail> {
-    let found = answer_in_pieces(rt.alloc(), line, texts, moves)?;
+    let found = answer_in_pieces(rt, line, texts, moves)?;
     expect_text(rt, found, wanted);
     Ok(())
 }
 
 // The same where no read and no write fails.
-pub(crate) fn expect(
-    rt: &(impl Abort + AllocGlobal),
+pub(crate) fn expect<R: Abort + AllocGlobal + Threads + Wait + Sync>(
+    rt: &R,
     line: &str,
-    texts: (&str, &str),
+    texts: (&str, &str, &str),
     wanted: &str,
 ) -> Result<(), Fail> {
-    let texts = (texts.0.as_bytes(), texts.1.as_bytes());
+    let texts = (texts.0.as_bytes(), texts.1.as_bytes(), texts.2.as_bytes());
     expect_in_pieces(rt, line, texts, (8191, NO_FAULTS), wanted)
 }
 
@@ -171,11 +223,11 @@ pub(crate) fn repeated(alloc: Global, piece: &str, times: usize) -> Result<Strin
     Ok(text)
 }
 
-pub(crate) const ACCEPTED: &str = "0 true 0 (0, 0, 0)\naccepted\nunit 1\nbound t = 0\n";
+pub(crate) const ACCEPTED: &str = "0 true 0 (0, 0, 0; 0, 0)\naccepted\nunit 1\nbound t = 0\n--\n";
 
-pub(crate) const EMPTY_ACCEPTED: &str = "0 true 0 (0, 0, 0)\naccepted\nunit 1\n";
+pub(crate) const EMPTY_ACCEPTED: &str = "0 true 0 (0, 0, 0; 0, 0)\naccepted\nunit 1\n--\n";
 
-pub(crate) const CUT_SHORT: &str = "1 false 0 (0, 0, 0)\nrefused Syntax 4\n";
+pub(crate) const CUT_SHORT: &str = "1 false 0 (0, 0, 0; 0, 0)\nrefused Syntax 4\n--\n";
 
 pub(crate) const FLIP: &str = "type R flip = +{ heads : 1 | tails : 1 };
 proc R toss(;) : flip = self.heads; close;

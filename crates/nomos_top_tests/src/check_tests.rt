@@ -1,12 +1,10 @@
 //! Tests: what is answered to words, to contracts that are checked, and to searches for least bounds.
-use crate::calling::{
-    ACCEPTED, CUT_SHORT, EMPTY_ACCEPTED, FLIP, HALVES, expect, expect_text, repeated, words_of,
-};
+use crate::calling::{ACCEPTED, CUT_SHORT, EMPTY_ACCEPTED, FLIP, HALVES, expect, repeated};
 use nomos_syntax::scan::TEXT_LIMIT;
-use nomos_top::words;
-use std::alloc::{AllocError, Global};
 use std::process::Abort;
+use std::sync::Wait;
 use std::test::Fail;
+use std::thread::Threads;
 
 #[test]
 fn answers_what_is_checked(rt: HostRuntime) -> Result<(), Fail> {
@@ -15,20 +13,21 @@ fn answers_what_is_checked(rt: HostRuntime) -> Result<(), Fail> {
         (FLIP, ACCEPTED),
         (
             HALVES,
-            "0 true 0 (0, 0, 0)\naccepted\nunit 1/2\nstar 1 = 1/2\nstar 2 = 1/2\nstar 3 = 1/2\n\
-            star 4 = 1/2\nstar 5 = 1/2\nbound t = 2/2\n",
+            "0 true 0 (0, 0, 0; 0, 0)\naccepted\nunit 1/2\nstar 1 = 1/2\nstar 2 = 1/2\nstar 3 = 1/2\n\
+            star 4 = 1/2\nstar 5 = 1/2\nbound t = 2/2\n--\n",
         ),
         (
             "type R coin = 1; proc R bad(; c : coin) : 1 = close;",
-            "1 false 0 (0, 0, 0)\nrefused ProcType 46 close\n",
+            "1 false 0 (0, 0, 0; 0, 0)\nrefused ProcType 46 close\n--\n",
         ),
         (
             "proc R p(;) {*} : 1 = work {2}; close; proc T f(;) {1} = spawn x = p(;); wait x; close;",
-            "1 false 0 (0, 0, 0)\nrefused NoPotential\ntimes 1 row -1 >= -1\ntimes 1 row 1 >= 2\ngives 0 >= 1\n",
+            "1 false 0 (0, 0, 0; 0, 0)\nrefused NoPotential\ntimes 1 row -1 >= -1\ntimes 1 row 1 >= 2\n\
+            gives 0 >= 1\n--\n",
         ),
     ];
     for (text, wanted) in table {
-        expect(&rt, "check it.nomos", (text, ""), wanted)?;
+        expect(&rt, "check it.nomos", (text, "", ""), wanted)?;
     }
     Ok(())
 }
@@ -44,33 +43,34 @@ fn finds_least_bounds(rt: HostRuntime) -> Result<(), Fail> {
     let table = [
         (
             "",
-            "0 true 0 (0, 0, 0)\naccepted\nunit 1\nleast 0\nscale 1\n",
+            "0 true 0 (0, 0, 0; 0, 0)\naccepted\nunit 1\nleast 0\nscale 1\n--\n",
         ),
         (
             TWO_JOBS,
-            "0 true 0 (0, 0, 0)\naccepted\nunit 1\nstar 1 = 3\nstar 2 = 0\nstar 3 = 3\nstar 4 = 3\n\
+            "0 true 0 (0, 0, 0; 0, 0)\naccepted\nunit 1\nstar 1 = 3\nstar 2 = 0\nstar 3 = 3\nstar 4 = 3\n\
             star 5 = 3\nbound t = 3\nleast 3\nscale 1\ntimes 1 star 2\ntimes 1 row -1 0 0 0 1 >= 0\n\
-            times 1 row 0 -2 0 1 -1 >= 0\ntimes 1 row 0 1 1 0 0 >= 3\ntimes 1 row 1 0 -1 0 0 >= 0\n",
+            times 1 row 0 -2 0 1 -1 >= 0\ntimes 1 row 0 1 1 0 0 >= 3\ntimes 1 row 1 0 -1 0 0 >= 0\n--\n",
         ),
         (
             "proc R p(;) {*} : 1 = work {2}; close; proc T f(;) {1} = spawn x = p(;); wait x; close;",
-            "1 false 0 (0, 0, 0)\nrefused NoPotential\ntimes 1 row -1 >= -1\ntimes 1 row 1 >= 2\ngives 0 >= 1\n",
+            "1 false 0 (0, 0, 0; 0, 0)\nrefused NoPotential\ntimes 1 row -1 >= -1\ntimes 1 row 1 >= 2\n\
+            gives 0 >= 1\n--\n",
         ),
     ];
     for (text, wanted) in table {
-        expect(&rt, "least it.nomos", (text, ""), wanted)?;
+        expect(&rt, "least it.nomos", (text, "", ""), wanted)?;
     }
     Ok(())
 }
 
 // Fails unless this is answered to a contract of so many blanks.
-fn expect_of_blanks(
-    rt: &(impl Abort + AllocGlobal),
+fn expect_of_blanks<R: Abort + AllocGlobal + Threads + Wait + Sync>(
+    rt: &R,
     times: usize,
     wanted: &str,
 ) -> Result<(), Fail> {
     let text = repeated(rt.alloc(), " ", times)?;
-    expect(rt, "check it.nomos", (text.as_str(), ""), wanted)
+    expect(rt, "check it.nomos", (text.as_str(), "", ""), wanted)
 }
 
 #[test]
@@ -79,48 +79,35 @@ fn contracts_have_a_limit(rt: HostRuntime) -> Result<(), Fail> {
     expect_of_blanks(
         &rt,
         TEXT_LIMIT + 1,
-        "1 false 0 (0, 0, 0)\nrefused TooLong\n",
+        "1 false 0 (0, 0, 0; 0, 0)\nrefused TooLong\n--\n",
     )
 }
 
-const USAGE: &str = "4 false 0 (0, 0, 0)\nusage: nomos check FILE | run FILE SCRIPT | least FILE\n";
+const USAGE: &str =
+    "4 false 0 (0, 0, 0; 0, 0)\nusage: nomos check FILE | run FILE SCRIPT [--workers N] \
+    [--policy first|round] [--steps N] [--journal FILE] | replay FILE SCRIPT JOURNAL | bench SEED BIDDERS \
+    | least FILE\n--\n";
 
-// The job that the words of a line name.
-fn job_text(alloc: Global, line: &str) -> Result<String, AllocError> {
-    let given = words_of(alloc, line)?;
-    format!(in alloc; "{:?}", words(&given))
-}
-
-// Fails unless the words of a line name this job, and this is answered to them under a contract that is cut short.
-fn expect_job(
-    rt: &(impl Abort + AllocGlobal),
-    line: &str,
-    job: &str,
-    wanted: &str,
-) -> Result<(), Fail> {
-    expect_text(rt, job_text(rt.alloc(), line)?, job);
-    expect(rt, line, ("type", ""), wanted)
-}
+// Lines whose words ask for a task, which all read a contract that is cut short.
+const TASKS: [&str; 6] = [
+    "check a-file",
+    "least a",
+    "run a b",
+    "run a b --workers 16 --steps 10000000 --journal c",
+    "run a b --journal c --policy round --workers 1",
+    "replay a b c",
+];
 
 #[test]
-fn words_name_a_job(rt: HostRuntime) -> Result<(), Fail> {
-    expect_job(
-        &rt,
-        "check a-file",
-        "Some(Check { file: \"a-file\" })",
-        CUT_SHORT,
-    )?;
-    expect_job(
-        &rt,
-        "run a b",
-        "Some(Run { file: \"a\", script: \"b\" })",
-        CUT_SHORT,
-    )?;
-    expect_job(&rt, "least a", "Some(Least { file: \"a\" })", CUT_SHORT)
+fn words_ask_for_a_task(rt: HostRuntime) -> Result<(), Fail> {
+    for line in TASKS {
+        expect(&rt, line, ("type", "", ""), CUT_SHORT)?;
+    }
+    Ok(())
 }
 
-// Lines whose words name no job.
-const NO_JOBS: [&str; 12] = [
+// Lines whose words ask for nothing.
+const NO_TASKS: [&str; 16] = [
     "",
     "least",
     "least -a",
@@ -131,15 +118,18 @@ const NO_JOBS: [&str; 12] = [
     "check a b",
     "run a",
     "run a -b",
+    "run a b --workers 17",
+    "run a b --steps 0",
+    "run a b --workers 2 --policy round",
+    "replay a b",
+    "bench 0 10001",
     "Check a",
-    "check -",
 ];
 
 #[test]
-fn other_words_name_no_job(rt: HostRuntime) -> Result<(), Fail> {
-    assert!(rt; words(&[]).is_none());
-    for line in NO_JOBS {
-        expect_job(&rt, line, "None", USAGE)?;
+fn other_words_ask_for_nothing(rt: HostRuntime) -> Result<(), Fail> {
+    for line in NO_TASKS {
+        expect(&rt, line, ("type", "", ""), USAGE)?;
     }
     Ok(())
 }

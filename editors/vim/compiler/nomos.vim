@@ -9,4 +9,4 @@ if exists(":CompilerSet") != 2
   command -nargs=* CompilerSet setlocal <args>
 endif
 execute "CompilerSet makeprg=" . escape(get(g:, "nomos_explain", "nomos-explain") . " %:S", " \\|\"")
-CompilerSet errorformat=%f:%l:%c:\ %m,%+Gmend:%.%#,%+Gsee:%.%#,%+Gmeans:%.%#,%-G%.%#
+CompilerSet errorformat=%f:%l:%c:\ %m,%+Gmend:%.%#,%+Gsee:%.%#,%+Gnow:%.%#,%+Gmeans:%.%#,%-G%.%#

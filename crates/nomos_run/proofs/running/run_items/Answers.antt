@@ -7,6 +7,7 @@ use Rattle.nomos_legal.specs.declared.journal.Entry.{Entry}
 use Rattle.nomos_run.proofs.CarryLemmas.{gone-made, gone-more, gone-none, gone-room, gone-so_far, gone-stands, gone-whole, none-so_far, on_err}
 use Rattle.nomos_run.specs.declared.papers.Papers.{Papers}
 use Rattle.nomos_run.specs.declared.papers.WantedTexts.{WantedTexts}
+use Rattle.nomos_run.specs.mirror.Papers.{kept_result}
 use Rattle.nomos_run.specs.mirror.Runs.{HasGone}
 use Rattle.nomos_run.specs.mirror.WalkState.{WalkState}
 use Rattle.nomos_run.specs.mirror.Walks.{walk_of}
@@ -22,7 +23,7 @@ pub items-init : goal.items-init
 items-init g c =
     let a = c.args.accepted.now in
     let orders = c.args.runner.now.orders in
-    let wanted : WantedTexts = record { report = true; text = orders.text } in
+    let wanted : WantedTexts = record { report = true; text = orders.text; result = orders.result } in
     subst (λ (w : WalkState). HasGone orders.crew a orders.limit wanted [] c.args.entries.now.items
     c.empty-ledger.result w) (sym c.in_ok-walk.ensures)
     (subst (λ (es : List Entry). HasGone orders.crew a orders.limit wanted [] es c.empty-ledger.result
@@ -70,14 +71,20 @@ items-preserved g c =
     in
     subst
     (λ (is : List ScriptItem). HasGone orders.crew c.args.accepted.now orders.limit
-    (record { report = true; text = orders.text }) is c.keep.new.entries.items c.in_ok-passed.passed.ledger
+    (record { report = true; text = orders.text; result = orders.result }) is c.keep.new.entries.items c.in_ok-passed.passed.ledger
     c.carry_out.new.walk) (sym more)
     (gone-more c.in_ok-passed.passed c.items.invariant c.in_ok-passed.ensures c.in_ok-keep.ensures.ok)
 
 pub returns-clause-ok : goal.returns-clause-ok
 returns-clause-ok g c =
     gone-whole c.args.items.now c.items.item-index c.args.runner.now.orders
-    (record { report = c.in-Some.report; text = c.into_text-in-Some.result; ledger = c.items.ledger })
+    (record {
+      report = c.in-Some.report;
+      text = c.into_text-in-Some.result;
+      last_result = c.into_value.result;
+      ledger = c.items.ledger;
+    })
     c.program-program.ensures.accepted c.items.invariant c.items-test.false refl
     (c.in-Some.ensures ∙ ap (λ (p : Papers). p.report) c.into_papers-report.ensures)
     (c.into_text-in-Some.ensures ∙ ap (λ (p : Papers). p.text) c.into_papers-report.ensures)
+    (c.into_value.ensures ∙ ap (λ (p : Papers). kept_result p.result) c.into_papers-report.ensures)

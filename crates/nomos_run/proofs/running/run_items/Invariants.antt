@@ -7,4 +7,4 @@ use Rattle.nomos_run.proofs.running.run_items.Given as goal
 abbrev pub invariant-items : goal.invariant-items
 invariant-items g l =
     HasGone l.runner.orders.crew l.accepted l.runner.orders.limit
-    (record { report = true; text = l.runner.orders.text }) (take l.item-index l.items) l.entries.items l.ledger l.walk
+    (record { report = true; text = l.runner.orders.text; result = l.runner.orders.result }) (take l.item-index l.items) l.entries.items l.ledger l.walk

@@ -1,4 +1,10 @@
+use Rattle.nomos_due.specs.Outside.{source_state}
+use Rattle.nomos_top.proofs.DueLemmas.{judged}
 use Rattle.nomos_top.proofs.judging.judge.Goals as goal
 
-pub returns-in-Ok : goal.returns-in-Ok
-returns-in-Ok g c = (c.in_ok-text.text.items, c.in_ok-text.ensures, rw c.deref.ensures.value at c.in-Ok.ensures)
+pub returns : goal.returns
+returns g c =
+    judged
+    (source_state (g.S.Source.left c.args.contract.now) (g.S.Source.faults c.args.contract.now)
+    (g.S.Source.faults c.read_contract.new.contract))
+    c.in_ok-text.text.items c.judge_text.result c.in_ok-text.ensures (rw c.deref.ensures.value at c.judge_text.ensures)

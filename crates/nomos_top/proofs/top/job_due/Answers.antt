@@ -1,32 +1,15 @@
-use Rattle.std.proofs.Common.{sym, map, string_bytes}
-use Rattle.nomos_top.proofs.DueLemmas.{if_ok-map, if_err-map, due-as, due-usage, part-nothing}
-use Rattle.nomos_top.specs.Outside.{source_state}
+use Rattle.nomos_top.proofs.DueLemmas.{if_err-map, part-nothing}
 use Rattle.nomos_top.proofs.top.job_due.Goals as goal
+use Rattle.nomos_words.specs.Words.{check, least}
 
-pub returns-in-None-clause-ok : goal.returns-in-None-clause-ok
-returns-in-None-clause-ok g c =
-    let words = map string_bytes c.args.words.now in
-    let contract = source_state (g.S.Source.left c.args.contract.now) (g.S.Source.faults c.args.contract.now)
-    (g.S.Source.faults c.args.contract.now) in
-    let script = source_state (g.S.Source.left c.args.script.now) (g.S.Source.faults c.args.script.now)
-    (g.S.Source.faults c.args.script.now) in
-    if_ok-map c.line_due.result _ _
-    (λ due parts. due-as words contract script due _ _ _ _ (due-usage words contract script (sym c.in-None.ensures))
-    parts)
-    c.line_due.ensures.ok
+pub returns-in-Check-clause-err : goal.returns-in-Check-clause-err
+returns-in-Check-clause-err g c =
+    rw c.in-Check.is
+    (if_err-map c.check_due.result _ _ (λ part none. part-nothing _ (check c.in-Check.file.now) part none)
+    c.check_due.ensures.err)
 
-pub returns-in-None-clause-err : goal.returns-in-None-clause-err
-returns-in-None-clause-err g c =
-    let words = map string_bytes c.args.words.now in
-    let contract = source_state (g.S.Source.left c.args.contract.now) (g.S.Source.faults c.args.contract.now)
-    (g.S.Source.faults c.args.contract.now) in
-    let script = source_state (g.S.Source.left c.args.script.now) (g.S.Source.faults c.args.script.now)
-    (g.S.Source.faults c.args.script.now) in
-    if_err-map c.line_due.result _ _ (λ part parts. part-nothing words contract script part parts)
-    c.line_due.ensures.err
-
-pub returns-in-Some-clause-ok : goal.returns-in-Some-clause-ok
-returns-in-Some-clause-ok g c = c.work_due.ensures.ok (map string_bytes c.args.words.now) c.in-Some.ensures
-
-pub returns-in-Some-clause-err : goal.returns-in-Some-clause-err
-returns-in-Some-clause-err g c = c.work_due.ensures.err (map string_bytes c.args.words.now) c.in-Some.ensures
+pub returns-in-Least-clause-err : goal.returns-in-Least-clause-err
+returns-in-Least-clause-err g c =
+    rw c.in-Least.is
+    (if_err-map c.least_due.result _ _ (λ part none. part-nothing _ (least c.in-Least.file.now) part none)
+    c.least_due.ensures.err)

@@ -1,4 +1,5 @@
-use Rattle.std.proofs.Common.{◌≤◌, ◌∙◌, ℕ, List, length, sym, ap, arith}
+use Rattle.std.proofs.Common.{◌≤◌, ◌∙◌, ℕ, List, IsSome, length, sym, ap, subst, arith}
+use Rattle.nomos_ir.specs.Bindings.{bound_to}
 use Rattle.nomos_ir.specs.declared.ids.VarId.{VarId}
 use Rattle.nomos_machine.specs.declared.object.Object.TheVariants as object
 use Rattle.nomos_parts.specs.SmallChanges.{process_born, with_object}
@@ -31,10 +32,13 @@ invariant_of-self-2 c =
     let next = c.requires.number ∙ sym (ap (λ (i : Indexed). i.state.next_object) c.self.view_is) in
     let has : s.room ≤ c.bind_pairs.new.channels.room =
     omega (arith, c.in_ok-reserve_names.ensures.ok, c.bind_pairs.ensures.room, c.len-count.ensures, ap length c.deref.ensures.value) in
-    born-indexed s c.self.invariant born c.of-kept.result c.push.new.self c.push-2.new.self c.push-3.new.self
+    let spans = λ (w : ℕ) (some : IsSome (bound_to w born.channels.items)).
+    c.span_of.ensures w
+    (subst (λ (ps : List (VarId × ℕ)). IsSome (bound_to w ps)) (sym c.deref-2.ensures.value) some) in
+    born-indexed s c.self.invariant born c.of-kept.result c.span_of.result c.push.new.self c.push-2.new.self c.push-3.new.self
     c.reserve_names.new.channels c.bind_pairs.new.channels c.reserve_names.ensures.names come c.reserve_names.ensures.marked
     c.bind_pairs.ensures.marked c.push.ensures.marked c.push-2.ensures.marked c.push-3.ensures.marked next c.of-kept.ensures
-    c.push.ensures.now c.push-2.ensures.now c.push-3.ensures.now
+    c.push.ensures.now c.push-2.ensures.now c.push-3.ensures.now spans
     (record {
       objects = omega (arith, c.push.ensures.room, c.self.invariant.has_room.objects);
       values = omega (arith, c.push-2.ensures.room, c.self.invariant.has_room.values);
@@ -52,10 +56,13 @@ returns-clause-ok c =
     ∙ ap (λ (ps : List (VarId × ℕ)). name_with born.fields.pid ps p w (name_in c.reserve_names.new.channels.now p w))
     c.deref.ensures.value in
     let next = c.requires.number ∙ sym (ap (λ (i : Indexed). i.state.next_object) c.self.view_is) in
-    born-state s c.self.invariant born c.of-kept.result c.push.new.self c.push-2.new.self c.push-3.new.self
+    let spans = λ (w : ℕ) (some : IsSome (bound_to w born.channels.items)).
+    c.span_of.ensures w
+    (subst (λ (ps : List (VarId × ℕ)). IsSome (bound_to w ps)) (sym c.deref-2.ensures.value) some) in
+    born-state s c.self.invariant born c.of-kept.result c.span_of.result c.push.new.self c.push-2.new.self c.push-3.new.self
     c.reserve_names.new.channels c.bind_pairs.new.channels c.reserve_names.ensures.names come c.reserve_names.ensures.marked
     c.bind_pairs.ensures.marked c.push.ensures.marked c.push-2.ensures.marked c.push-3.ensures.marked next c.of-kept.ensures
-    c.push.ensures.now c.push-2.ensures.now c.push-3.ensures.now
+    c.push.ensures.now c.push-2.ensures.now c.push-3.ensures.now spans
     ∙ ap (λ (i : Indexed). with_object (object.Process (process_born born)) i.state) c.self.view_is
 
 pub returns-clause-marked : goal.returns-clause-marked
@@ -67,8 +74,11 @@ returns-clause-marked c =
     ∙ ap (λ (ps : List (VarId × ℕ)). name_with born.fields.pid ps p w (name_in c.reserve_names.new.channels.now p w))
     c.deref.ensures.value in
     let next = c.requires.number ∙ sym (ap (λ (i : Indexed). i.state.next_object) c.self.view_is) in
-    born-marks s c.self.invariant born c.of-kept.result c.push.new.self c.push-2.new.self c.push-3.new.self
+    let spans = λ (w : ℕ) (some : IsSome (bound_to w born.channels.items)).
+    c.span_of.ensures w
+    (subst (λ (ps : List (VarId × ℕ)). IsSome (bound_to w ps)) (sym c.deref-2.ensures.value) some) in
+    born-marks s c.self.invariant born c.of-kept.result c.span_of.result c.push.new.self c.push-2.new.self c.push-3.new.self
     c.reserve_names.new.channels c.bind_pairs.new.channels c.reserve_names.ensures.names come c.reserve_names.ensures.marked
     c.bind_pairs.ensures.marked c.push.ensures.marked c.push-2.ensures.marked c.push-3.ensures.marked next c.of-kept.ensures
-    c.push.ensures.now c.push-2.ensures.now c.push-3.ensures.now
+    c.push.ensures.now c.push-2.ensures.now c.push-3.ensures.now spans
     ∙ ap (λ (i : Indexed). i.marked) c.self.view_is

@@ -7,8 +7,9 @@ use Rattle.nomos_slots.specs.Cells.{name_in}
 use Rattle.nomos_index.specs.Indexed.{Indexed, held_now, state_of}
 use Rattle.nomos_index.specs.Looked.{ProcessIsAt}
 use Rattle.nomos_index.specs.Objects.{channels_of}
-use Rattle.nomos_index.proofs.ChangingLemmas.{channels-become, channels-indexed}
+use Rattle.nomos_index.proofs.ChangingLemmas.{fewer-become, fewer-indexed}
 use Rattle.nomos_index.proofs.RebindLemmas.{channels-unbound, other-test}
+use Rattle.nomos_index.proofs.SpanLemmas.{unbound-fewer}
 use Rattle.nomos_index.proofs.TogetherLemmas.{same-names}
 use Rattle.nomos_index.proofs.inside.Inside.unbind_channel.Goals as goal
 
@@ -23,7 +24,8 @@ invariant_of-self c =
     c.unbind.ensures.names p w
     ∙ ap (λ t. cond t None (name_in s.contents.channels.now p w)) (other-test c.args.pid p c.args.v.0 w (λ same. other (sym same))) in
     let has : s.room ≤ c.unbind.new.self.room = omega (arith, c.unbind.ensures.room, c.self.invariant.has_room.channels) in
-    channels-indexed s c.self.invariant c.args.pid place k at c.unbind.new.self (s.room) others
+    fewer-indexed s c.self.invariant c.args.pid place k at c.unbind.new.self (s.room) others
+    (unbound-fewer s.contents.channels.now c.unbind.new.self.now c.args.pid c.args.v.0 (c.unbind.ensures.names c.args.pid))
     (same-names _ _ c.unbind.ensures.marked)
     (omega arith) has
 
@@ -40,7 +42,8 @@ returns-clause-state c =
     let has : s.room ≤ c.unbind.new.self.room = omega (arith, c.unbind.ensures.room, c.self.invariant.has_room.channels) in
     let after = record s.contents { channels = c.unbind.new.self } in
     subst (λ (i : Indexed). Becomes i.state c.args.pid (without_channel c.args.v) (state_of (held_now after))) c.self.view_is
-    (channels-become s c.self.invariant c.args.pid place k at c.unbind.new.self (s.room) others
+    (fewer-become s c.self.invariant c.args.pid place k at c.unbind.new.self (s.room) others
+    (unbound-fewer s.contents.channels.now c.unbind.new.self.now c.args.pid c.args.v.0 (c.unbind.ensures.names c.args.pid))
     (same-names _ _ c.unbind.ensures.marked)
     (omega arith) has
     (unbind c.args.v.0 (channels_of s.contents.channels.now c.args.pid))

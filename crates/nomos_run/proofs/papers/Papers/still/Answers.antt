@@ -14,5 +14,10 @@ returns c = λ i before after none.
     (lines_text unit (line.Line c.args.line ∷ line.End c.args.end.now ∷ []))) c.unit.ensures
     in
     still-written c.args.accepted.now i c.args.line c.args.end.now before after c.args.self.now
-    (record { report = c.still_on_report.new.sheet; text = c.still_on_text.new.sheet }) c.requires none
-    c.in_ok-still_on_report.ensures text
+    (record {
+      report = c.still_on_report.new.sheet;
+      text = c.still_on_text.new.sheet;
+      result = c.clear.new.self;
+    })
+    c.requires none
+    c.in_ok-still_on_report.ensures text c.clear.ensures

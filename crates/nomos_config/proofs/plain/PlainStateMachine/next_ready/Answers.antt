@@ -1,4 +1,0 @@
-use Rattle.nomos_config.proofs.plain.PlainStateMachine.next_ready.Goals as goal
-
-pub returns : goal.returns
-returns c = rw (← c.self.view_is) c.next_ready.ensures

@@ -1,0 +1,170 @@
+-- What becomes of the names of a process, one variable of its span after the other.
+use Rattle.std.proofs.Common.{◌≡◌, ◌≢◌, ◌≤◌, ◌<◌, ◌+◌, ◌∙◌, ◌&&◌, ◌⊎◌, ◌∷◌, ℕ, Bool, true, false, cond, eqb, eq-eqb, ne_eqb, List, length, drop, get_or, IsSome, Option, Some, None, refl, sym, ap, subst, inl, inr, arith}
+use Rattle.std.proofs.lemmas.Bool.{and_from, both_ways, cases_eq, cases_lt}
+use Rattle.std.proofs.lemmas.List.{at_drop_more}
+use Rattle.std.proofs.Math.ListN.{drop_of_length-le}
+use Rattle.std.specs.Option.{is_some}
+use Rattle.nomos_ir.specs.Bindings.{bound_to}
+use Rattle.nomos_ir.specs.declared.ids.VarId.{VarId}
+use Rattle.nomos_slots.specs.Cells.{Cell, name_in}
+use Rattle.nomos_index.specs.Spanning.{HasVariable}
+use Rattle.nomos_index.specs.declared.span.Span.{Span}
+
+-- the names of variables below this one are done, and all others are as they were
+pub record IsDoneBelow (f : Option ℕ → Option ℕ) (process : ℕ) (before : List Cell) (variable : ℕ) (after : List Cell)
+    : Type 0 where
+  pub others : (p v : ℕ) → process ≢ p → name_in after p v ≡ name_in before p v
+  pub done : (v : ℕ) → v < variable → name_in after process v ≡ f (name_in before process v)
+  pub later : (v : ℕ) → variable ≤ v → name_in after process v ≡ name_in before process v
+
+no-other : (a b : Bool) → b ≡ false → (a && b) ≡ false
+no-other true b not = not
+no-other false b not = refl
+
+none_of : (o : Option ℕ) → (IsSome o → ⊥) → o ≡ None
+none_of None not = refl
+none_of (Some n) not = absurd (not refl)
+
+module _ (f : Option ℕ → Option ℕ) (none : f None ≡ None) (process : ℕ) (before : List Cell) where
+  -- all names of the process are done
+  abbrev pub AreDone : List Cell → Type 0
+  AreDone after =
+      (p v : ℕ) → name_in after p v ≡ cond (eqb process p) (f (name_in before p v)) (name_in before p v)
+
+  -- a variable without a name is done
+  nothing-done : (v : ℕ) → (IsSome (name_in before process v) → ⊥)
+      → name_in before process v ≡ f (name_in before process v)
+  nothing-done v not =
+      let gone = none_of (name_in before process v) not in
+      gone ∙ sym none ∙ ap f (sym gone)
+
+  by-process : (after : List Cell) → ((p v : ℕ) → process ≢ p → name_in after p v ≡ name_in before p v)
+      → ((v : ℕ) → name_in after process v ≡ f (name_in before process v)) → AreDone after
+  by-process after others own p v =
+      let done : Bool → Option ℕ = λ b. cond b (f (name_in before p v)) (name_in before p v) in
+      elim (cases_eq process p) [
+        | inl same ↦
+            ap (λ q. name_in after q v) (sym same)
+            ∙ own v
+            ∙ ap (λ q. f (name_in before q v)) same
+            ∙ sym (ap done (eq-eqb process p same))
+        | inr other ↦ others p v other ∙ sym (ap done (ne_eqb process p other))
+      ]
+
+  -- where there is no span, nothing is to be done
+  pub done-none : (span : Option Span) → span ≡ None
+      → ((v : ℕ) → IsSome (name_in before process v) → HasVariable span v) → AreDone before
+  done-none None is spans =
+      by-process before (λ p v other. refl) (λ v. nothing-done v (spans v))
+  done-none (Some span) is spans = absurd cc
+
+  module _ (low high : ℕ) (spans : (v : ℕ) → IsSome (name_in before process v) → (low ≤ v) × (v ≤ high)) where
+    pub done-start : IsDoneBelow f process before low before
+    done-start = record {
+      others = λ p v other. refl;
+      done = λ v below.
+          nothing-done v (λ some. let from : low ≤ v = (spans v some).0 in absurd (omega arith));
+      later = λ v from. refl;
+    }
+
+    pub done-all : (variable : ℕ) (after : List Cell) → high < variable → IsDoneBelow f process before variable after
+        → AreDone after
+    done-all variable after past is =
+        by-process after is.others
+        (λ v. elim (cases_lt v variable) [
+          | inl below ↦ is.done v below
+          | inr from ↦
+              is.later v from
+              ∙ nothing-done v (λ some. let to : v ≤ high = (spans v some).1 in absurd (omega arith))
+        ])
+
+  -- one variable more is done
+  pub done-next : (variable : ℕ) (after next : List Cell) → IsDoneBelow f process before variable after
+      → ((p v : ℕ) → name_in next p v
+      ≡ cond (eqb process p && eqb variable v) (f (name_in after p v)) (name_in after p v))
+      → IsDoneBelow f process before (variable + 1) next
+  done-next variable after next is names =
+      let chosen : ℕ → ℕ → Bool → Option ℕ = λ p v b. cond b (f (name_in after p v)) (name_in after p v) in
+      let kept = λ (v : ℕ) (other : variable ≢ v).
+      names process v ∙ ap (chosen process v) (no-other (eqb process process) _ (ne_eqb variable v other)) in
+      record {
+        others = λ p v other.
+            names p v
+            ∙ ap (λ b. chosen p v (b && eqb variable v)) (ne_eqb process p other)
+            ∙ is.others p v other;
+        done = λ v below.
+            elim (cases_eq variable v) [
+              | inl same ↦
+                  names process v
+                  ∙ ap (chosen process v) (and_from _ _ (eq-eqb process process refl) (eq-eqb variable v same))
+                  ∙ ap f (is.later v (omega arith))
+              | inr other ↦ kept v other ∙ is.done v (omega arith)
+            ];
+        later = λ v from. let other : variable ≢ v = omega arith in kept v other ∙ is.later v (omega arith);
+      }
+
+-- a variable is bound beside others
+pub bound-spans : (before after : List Cell) (pid v name : ℕ) (span : Option Span) (next : Span)
+    → ((w : ℕ) → name_in after pid w ≡ cond (eqb pid pid && eqb v w) (Some name) (name_in before pid w))
+    → ((w : ℕ) → IsSome (name_in before pid w) → HasVariable span w)
+    → ((w : ℕ) → HasVariable span w → HasVariable (Some next) w) → HasVariable (Some next) v
+    → (w : ℕ) → IsSome (name_in after pid w) → HasVariable (Some next) w
+bound-spans before after pid v name span next names spans more own w some =
+    elim (cases_eq v w) [
+      | inl same ↦ subst (HasVariable (Some next)) same own
+      | inr other ↦
+          let was : name_in after pid w ≡ name_in before pid w =
+          names w
+          ∙ ap (λ b. cond b (Some name) (name_in before pid w)) (no-other (eqb pid pid) (eqb v w) (ne_eqb v w other)) in
+          more w (spans w (subst (λ (o : Option ℕ). IsSome o) was some))
+    ]
+
+-- one is bound no more
+pub unbound-fewer : (before after : List Cell) (pid v : ℕ)
+    → ((w : ℕ) → name_in after pid w ≡ cond (eqb pid pid && eqb v w) None (name_in before pid w))
+    → (w : ℕ) → IsSome (name_in after pid w) → IsSome (name_in before pid w)
+unbound-fewer before after pid v names w some =
+    elim (cases_eq v w) [
+      | inl same ↦
+          let gone : name_in after pid w ≡ None =
+          names w
+          ∙ ap (λ b. cond b None (name_in before pid w)) (and_from (eqb pid pid) (eqb v w) (eq-eqb pid pid refl) (eq-eqb v w same)) in
+          absurd (both_ways _ (ap is_some gone) some)
+      | inr other ↦
+          let was : name_in after pid w ≡ name_in before pid w =
+          names w ∙ ap (λ b. cond b None (name_in before pid w)) (no-other (eqb pid pid) (eqb v w) (ne_eqb v w other)) in
+          subst (λ (o : Option ℕ). IsSome o) was some
+    ]
+
+-- of the variables of pairs, those before this place are in the span
+abbrev pub AreSpanned : List (VarId × ℕ) → ℕ → Option Span → Type 0
+AreSpanned pairs at span =
+    (v : ℕ) → IsSome (bound_to v pairs) → HasVariable span v ⊎ IsSome (bound_to v (drop at pairs))
+
+pub spanned-next : (pairs : List (VarId × ℕ)) (at : ℕ) (d : VarId × ℕ) (span : Option Span) (next : Span) → at < length pairs
+    → AreSpanned pairs at span → ((v : ℕ) → HasVariable span v → HasVariable (Some next) v)
+    → HasVariable (Some next) (get_or pairs at d).0.0 → AreSpanned pairs (at + 1) (Some next)
+spanned-next pairs at d span next within is more own v some =
+    elim (is v some) [
+      | inl has ↦ inl (more v has)
+      | inr later ↦
+          let rest = bound_to v (drop (at + 1) pairs) in
+          let step : IsSome (bound_to v (get_or pairs at d ∷ drop (at + 1) pairs)) =
+          subst (λ (o : Option ℕ). IsSome o) (at_drop_more (bound_to v) pairs at d within) later in
+          elim (cases_eq (get_or pairs at d).0.0 v) [
+            | inl same ↦ inl (subst (HasVariable (Some next)) same own)
+            | inr other ↦
+                inr (subst (λ (o : Option ℕ). IsSome o)
+                (ap (λ b. cond b (Some (get_or pairs at d).1) rest) (ne_eqb (get_or pairs at d).0.0 v other)) step)
+          ]
+    ]
+
+pub spanned-all : (pairs : List (VarId × ℕ)) (at : ℕ) (span : Option Span) → length pairs ≤ at → AreSpanned pairs at span
+    → (v : ℕ) → IsSome (bound_to v pairs) → HasVariable span v
+spanned-all pairs at span past is v some =
+    elim (is v some) [
+      | inl has ↦ has
+      | inr later ↦
+          let none : bound_to v (drop at pairs) ≡ None = ap (bound_to v) (drop_of_length-le pairs past) in
+          absurd (both_ways _ (ap is_some none) later)
+    ]

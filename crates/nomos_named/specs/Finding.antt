@@ -1,0 +1,22 @@
+-- Who does something with a name, by tallies.
+use Rattle.std.specs.Prelude.{◌≡◌, ℕ, Bool, true, false, List}
+use Rattle.nomos_machine.specs.Objects.{times}
+use Rattle.nomos_machine.specs.declared.object.Object.{Object}
+use Rattle.nomos_index.specs.Telling.{DoesAt}
+use Rattle.nomos_tally.specs.Tallying.{names_of}
+use Rattle.nomos_tally.specs.declared.tally.Doing.{Doing}
+use Rattle.nomos_tally.specs.declared.tally.Doing.TheVariants as doing
+use Rattle.nomos_named.specs.declared.finding.Found.{Found}
+use Rattle.nomos_named.specs.declared.finding.Found.TheVariants as found
+
+-- Nobody does it; or the object of a number does, and it is done once; or nothing is said.
+abbrev pub IsFoundBy : Doing → List Object → ℕ → Found → Type 0
+IsFoundBy d objects name found.Nobody = times (names_of d) objects name ≡ 0
+IsFoundBy d objects name (found.One number) =
+    (times (names_of d) objects name ≡ 1) × DoesAt (names_of d) objects number name
+IsFoundBy d objects name found.Unknown = Unit {0}
+
+-- what a message that goes this way does with the name on which it is read
+abbrev pub doing_of : Bool → Doing
+doing_of true = doing.Provides
+doing_of false = doing.Uses

@@ -1,0 +1,116 @@
+//! Who provides or uses a name, found by tallies.
+ghost use Rattle.std.specs.Prelude.{◌≡◌, ◌==◌, true};
+ghost use Rattle.std.specs.Option.{option_map};
+ghost use Rattle.nomos_deeds.specs.Seen.{seen_message, seen_process};
+ghost use Rattle.nomos_index.specs.Telling.{DoesAt};
+ghost use Rattle.nomos_machine.specs.Objects.{times};
+ghost use Rattle.nomos_machine.specs.Sight.{message_on, offering, owner};
+ghost use Rattle.nomos_tally.specs.Tallying.{counted, names_of};
+ghost use Rattle.nomos_named.specs.Finding.{IsFoundBy, doing_of};
+
+use crate::tallied::Tallied;
+use nomos_deeds::sight::{SeenMessage, SeenProcess, Sight};
+use nomos_tally::tally::{Doing, Hint, Tally};
+
+/// Who does something with a name.
+#[derive(Clone, Copy, Debug)]
+pub enum Found {
+    /// No object does it.
+    Nobody,
+    /// The object of this number does it, once, and no other one.
+    One(u32),
+    /// It is not known without a look at all objects.
+    Unknown,
+}
+
+// Who was the last that came to do it.
+fn hint_of(tally: &Tally, doing: Doing) -> Hint {
+    match doing {
+        Doing::Provides => tally.provider,
+        Doing::Uses => tally.user,
+        Doing::Bases => tally.provider,
+    }
+}
+
+// What a message that goes this way does with the name on which it is read.
+fn doing_of(to_client: bool) -> Doing
+    ensures { result ≡ doing_of to_client }
+{
+    if to_client {
+        Doing::Provides
+    } else {
+        Doing::Uses
+    }
+}
+
+impl Tallied {
+    // Whether the object of the hint does it; of bases it is not told.
+    fn does(&self, doing: Doing, name: u32, hint: Hint) -> bool
+        ensures { result ≡ true → DoesAt (names_of doing) self.now.state.objects hint.object name }
+    {
+        match doing {
+            Doing::Provides => self.inside.provides(hint.object, name),
+            Doing::Uses => self.inside.uses(hint.object, hint.variable, name),
+            Doing::Bases => false,
+        }
+    }
+
+    // Who does it, by its tally.
+    fn told_by(&self, doing: Doing, name: u32, tally: &Tally) -> Found
+        requires { counted doing tally.now ≡ times (names_of doing) self.now.state.objects name }
+        ensures { IsFoundBy doing self.now.state.objects name result }
+    {
+        let hint = hint_of(tally, doing);
+        match tally.count(doing) {
+            0 => Found::Nobody,
+            1 if self.does(doing, name, hint) => Found::One(hint.object),
+            _ => Found::Unknown,
+        }
+    }
+
+    // Who does it.
+    fn found_by(&self, doing: Doing, name: u32) -> Found
+        ensures { IsFoundBy doing self.now.state.objects name result }
+    {
+        if !self.tallies.exact {
+            return Found::Unknown;
+        }
+        match self.tallies.names.get(name) {
+            Some(tally) => self.told_by(doing, name, &tally),
+            None => Found::Nobody,
+        }
+    }
+
+    /// The first message that is read on this name and goes this way.
+    pub(crate) fn message_on(&self, to_client: bool, name: u32) -> Option<SeenMessage>
+        ensures { result ≡ option_map seen_message (message_on self.now.state.objects to_client name) }
+    {
+        match self.found_by(doing_of(to_client), name) {
+            Found::Nobody => None,
+            Found::One(number) => self.inside.message_read(number, to_client, name),
+            Found::Unknown => self.inside.message_on(to_client, name),
+        }
+    }
+
+    /// The number of the first object that uses this name.
+    pub(crate) fn user(&self, name: u32) -> Option<u32>
+        ensures { result ≡ owner self.now.state name }
+    {
+        match self.found_by(Doing::Uses, name) {
+            Found::Nobody => None,
+            Found::One(number) => Some(number),
+            Found::Unknown => self.inside.user(name),
+        }
+    }
+
+    /// The first process that offers this name.
+    pub(crate) fn offering(&self, name: u32) -> Option<SeenProcess>
+        ensures { result ≡ option_map seen_process (offering self.now.state.objects name) }
+    {
+        match self.found_by(Doing::Provides, name) {
+            Found::Nobody => None,
+            Found::One(number) => self.inside.process_offering(number, name),
+            Found::Unknown => self.inside.offering(name),
+        }
+    }
+}

@@ -1,0 +1,5 @@
+//! How often objects provide names, use them and have them as base.
+#![tactic(auto)]
+
+pub mod tallies;
+pub mod tally;

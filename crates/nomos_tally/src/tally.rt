@@ -1,0 +1,111 @@
+//! How often objects do what with one name.
+ghost use Rattle.std.specs.Prelude.{◌≡◌, ◌+◌, ℕ, IfSome};
+ghost use Rattle.nomos_tally.specs.Tallying.{counted, one_if};
+ghost use Rattle.nomos_tally.specs.declared.tally.Doing.{Doing as Does};
+
+/// What an object does with a name.
+#[derive(Clone, Copy, Debug)]
+pub enum Doing {
+    /// It provides the name.
+    Provides,
+    /// It uses it.
+    Uses,
+    /// It has it as base.
+    Bases,
+}
+
+/// Who does it: the number of the object, and of a process that uses the name the variable.
+#[derive(Clone, Copy, Debug)]
+pub struct Hint {
+    pub object: u32,
+    pub variable: u32,
+}
+
+/// How often objects do each with a name, and who was the last that came to provide it and to use it. Nothing is
+/// promised of who that was.
+#[derive(Clone, Copy, Debug)]
+pub struct Tally {
+    pub provided: u32,
+    pub used: u32,
+    pub based: u32,
+    pub provider: Hint,
+    pub user: Hint,
+}
+
+impl Tally {
+    /// Nothing is done.
+    pub fn none() -> Tally
+        ensures { (d : Does) → counted d result ≡ 0 }
+    {
+        let nobody = Hint {
+            object: 0,
+            variable: 0,
+        };
+        Tally {
+            provided: 0,
+            used: 0,
+            based: 0,
+            provider: nobody,
+            user: nobody,
+        }
+    }
+
+    /// How often it is done.
+    pub fn count(&self, doing: Doing) -> u32
+        ensures { result ≡ counted doing self.now }
+    {
+        match doing {
+            Doing::Provides => self.provided,
+            Doing::Uses => self.used,
+            Doing::Bases => self.based,
+        }
+    }
+
+    /// It is done once more, by this one; nothing where that is too often for a number of 32 bits.
+    pub fn more(self, doing: Doing, by: Hint) -> Option<Tally>
+        ensures { IfSome result (λ t. (d : Does) → counted d t ≡ counted d self + one_if doing d) }
+    {
+        match doing {
+            Doing::Provides => {
+                let provided = self.provided.checked_add(1)?;
+                Some(Tally {
+                    provided,
+                    provider: by,
+                    ..self
+                })
+            }
+            Doing::Uses => {
+                let used = self.used.checked_add(1)?;
+                Some(Tally {
+                    used,
+                    user: by,
+                    ..self
+                })
+            }
+            Doing::Bases => {
+                let based = self.based.checked_add(1)?;
+                Some(Tally { based, ..self })
+            }
+        }
+    }
+
+    /// It is done once less; nothing where it is not done at all.
+    pub fn less(self, doing: Doing) -> Option<Tally>
+        ensures { IfSome result (λ t. (d : Does) → counted d t + one_if doing d ≡ counted d self) }
+    {
+        match doing {
+            Doing::Provides => {
+                let provided = self.provided.checked_sub(1)?;
+                Some(Tally { provided, ..self })
+            }
+            Doing::Uses => {
+                let used = self.used.checked_sub(1)?;
+                Some(Tally { used, ..self })
+            }
+            Doing::Bases => {
+                let based = self.based.checked_sub(1)?;
+                Some(Tally { based, ..self })
+            }
+        }
+    }
+}

@@ -1,4 +1,0 @@
-use Rattle.nomos_top.proofs.block.push_star.Goals as goal
-
-pub amount-amount-requires : goal.amount-amount-requires
-amount-amount-requires c = (c.requires.first, c.requires.within)

@@ -1,0 +1,107 @@
+-- Refusals are true: each has a cause, which is written, and comes wherever that cause is true and nothing before it
+-- stands against it. And one text has one answer.
+use Rattle.std.specs.Prelude.{◌≡◌, ℕ, List, Result, Err}
+use Rattle.nomos_accept.specs.AcceptedText.{IsReadAs, IsAcceptedAs, IsCauseOf, IsRefused, PivotRunEndsWith}
+use Rattle.nomos_accept.specs.Causes.{SameCause}
+use Rattle.nomos_accept.specs.declared.refusal.Why.{Why}
+use Rattle.nomos_due.specs.Lines.{IsNoScript}
+use Rattle.nomos_due.specs.Outside.{input_of}
+use Rattle.nomos_ir.specs.Amounts.{star_count}
+use Rattle.nomos_ir.specs.declared.lists.ProgramLists.{ProgramLists}
+use Rattle.nomos_least.specs.LeastBounds.{LeastRunEndsWith}
+use Rattle.nomos_replay.specs.Answers.{Answers}
+use Rattle.nomos_replay.specs.Refusal.{refusal_line}
+use Rattle.nomos_replay.specs.Told.{Told}
+use Rattle.nomos_replay.specs.declared.error.ReplayError.{ReplayError}
+use Rattle.nomos_script.specs.ScriptReading.{ReadsAs, IsSyntaxAt}
+use Rattle.nomos_script.specs.declared.item.ScriptItem.{ScriptItem}
+use Rattle.nomos_simplex.specs.declared.solved.Solved.{Solved}
+use Rattle.nomos_simplex.specs.declared.solved.Solved.TheVariants as solved
+use Rattle.nomos_simplex.specs.declared.solved.SolvedLeast.{SolvedLeast}
+use Rattle.nomos_simplex.specs.declared.solved.SolvedLeast.TheVariants as least
+use Rattle.nomos_simplex.specs.declared.solved.Stop.{Stop}
+use Rattle.nomos_top.specs.Call.{Call, Texts, HasWritten, Gives, IsOrFails}
+use Rattle.nomos_top.specs.Refusal.{refusal, unsolved_line}
+use Rattle.nomos_top.specs.Tasks.{AskNothing, ReadsScript, ReadsJournal, HasStopped, HasLeastStopped, HasStoppedFor, IsGivenFor, contract_of}
+use Rattle.nomos_types.specs.Acceptance.{Acceptance, IsAccepted}
+use Rattle.nomos_words.specs.Usage.{usage_line}
+use Rattle.nomos_words.specs.Words.{Task, Asks}
+
+-- the script is too long, or a line of it has no reading: what is written then
+abbrev pub IsBadScript : Call → Texts → List ℕ → Type 0
+IsBadScript c t line = IsNoScript (input_of c.script t.script) 2 line
+
+-- the journal is too long, or a line spoils it, on this program with the items of the script
+pub record IsBadJournal (t : Texts) (a : Acceptance) (why : ReplayError) : Type 0 where
+  pub items : List ScriptItem
+  pub reads : ReadsAs t.script items
+  pub answers : Answers a items t.journal (Err why)
+
+-- what is known where a task is asked for and a program is given for it
+pub record IsBehind (c : Call) (Reads : Task → Type 0) (a : Acceptance) : Type 0 where
+  pub task : Task
+  pub asks : Asks c.words task
+  pub reads : Reads task
+  pub gives : Gives c a
+
+pub record RefusesTruly (c : Call) (t : Texts) : Type 0 where
+  -- the words have no form
+  pub usage : c.status ≡ 4 → AskNothing c.words × HasWritten c usage_line
+  pub no_task : AskNothing c.words → IsOrFails c.status 4
+  -- the text of the contract has a cause of refusal, and is typed under no amounts over any unit
+  pub refused : c.status ≡ 1
+      → (task : Task) × (why : Why) × Asks c.words task × IsRefused (contract_of task t.contract) why
+      × HasWritten c (refusal why)
+  pub caused : (task : Task) (why : Why) → Asks c.words task → IsCauseOf (contract_of task t.contract) why
+      → IsOrFails c.status 1
+  -- each part of its program has a skeleton, and the run that the task asks for stops
+  pub stopped : c.status ≡ 8
+      → (task : Task) × (stop : Stop) × Asks c.words task × HasStoppedFor task (contract_of task t.contract) stop
+      × HasWritten c (unsolved_line stop)
+  pub stops : (task : Task) (stop : Stop) → Asks c.words task → HasStoppedFor task (contract_of task t.contract) stop
+      → IsOrFails c.status 8
+  -- the contract is accepted, and the script is too long or has a line without a reading
+  pub bad_script : c.status ≡ 2
+      → (a : Acceptance) × (line : List ℕ) × IsBehind c ReadsScript a × IsBadScript c t line × HasWritten c line
+  pub script_is_bad : (task : Task) (a : Acceptance) (line : List ℕ) → Asks c.words task → ReadsScript task
+      → IsGivenFor task (contract_of task t.contract) a → IsBadScript c t line → IsOrFails c.status 2
+  -- the contract is accepted, the script reads, and the journal is too long or has a line that spoils it
+  pub bad_journal : c.status ≡ 9
+      → (a : Acceptance) × (why : ReplayError) × IsBehind c ReadsJournal a × IsBadJournal t a why
+      × HasWritten c (refusal_line a.annotations.unit why)
+  pub journal_is_bad : (task : Task) (a : Acceptance) (why : ReplayError) → Asks c.words task → ReadsJournal task
+      → IsGivenFor task (contract_of task t.contract) a → IsBadJournal t a why → IsOrFails c.status 9
+
+-- ---- one answer, of every text
+
+pub record HasOneAnswer (text : List ℕ) : Type 0 where
+  -- it reads as one program at most
+  pub reads_once : (a b : ProgramLists) → IsReadAs text a → IsReadAs text b → a ≡ b
+  -- it is refused by one step of the checker at most, and at one place; a stuck instruction has one form
+  pub one_cause : (v w : Why) → IsCauseOf text v → IsCauseOf text w → SameCause v w
+  -- what is written of a refusal is fixed by it
+  pub one_refusal : (v w : Why) → IsCauseOf text v → IsCauseOf text w → refusal v ≡ refusal w
+  -- The pivot run on the rows of its program has one end: so the amounts of a check, the weights of a refusal without
+  -- potential, and a stop are fixed by it.
+  pub one_end : (lists : ProgramLists) (a b : Solved) → IsReadAs text lists → PivotRunEndsWith lists a
+      → PivotRunEndsWith lists b → a ≡ b
+  -- The least run on these rows and what its transactions declare has one end: so least bounds, with the weights that
+  -- show them, are fixed by it.
+  pub one_least_end : (lists : ProgramLists) (a b : SolvedLeast) → IsReadAs text lists → LeastRunEndsWith lists a
+      → LeastRunEndsWith lists b → a ≡ b
+  -- where a cause is true of it, neither run stops
+  pub caused_goes_on : (why : Why) (stop : Stop) → IsCauseOf text why
+      → ¬ (HasStopped text stop) × ¬ (HasLeastStopped text stop)
+  -- without a star neither run stops
+  pub solved_without_stars : (lists : ProgramLists) (stop : Stop) → IsReadAs text lists → star_count lists ≡ 0
+      → ¬ (PivotRunEndsWith lists (solved.Unsolved stop)) × ¬ (LeastRunEndsWith lists (least.Unsolved stop))
+  -- it is accepted as one program with amounts at most
+  pub accepted_once : (a b : Acceptance) → IsAcceptedAs text a → IsAcceptedAs text b → a ≡ b
+
+-- The same of a text as a script, and as the journal of a script on an accepted program.
+pub record HasOneReading (text : List ℕ) : Type 0 where
+  pub reads_once : (items others : List ScriptItem) → ReadsAs text items → ReadsAs text others → items ≡ others
+  pub one_line : (j k : ℕ) → IsSyntaxAt text j → IsSyntaxAt text k → j ≡ k
+  pub not_both : (items : List ScriptItem) (k : ℕ) → ReadsAs text items → ¬ (IsSyntaxAt text k)
+  pub told_once : (a : Acceptance) (items : List ScriptItem) (x y : Result Told ReplayError) → IsAccepted a
+      → Answers a items text x → Answers a items text y → x ≡ y

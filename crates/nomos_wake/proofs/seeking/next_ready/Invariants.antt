@@ -1,0 +1,17 @@
+use Rattle.std.proofs.Common.{◌≡◌, ◌≤◌, ◌-◌, ◌^◌, false}
+use Rattle.nomos_wake.specs.Covering.{Covers}
+use Rattle.nomos_wake.proofs.SeekLemmas.{NoneUpTo}
+use Rattle.nomos_wake.proofs.seeking.next_ready.Given as goal
+
+-- the set covers the state still, and none so far is ready
+abbrev pub invariant-looks : goal.invariant-looks
+invariant-looks g l = record {
+  known : l.awake.lost ≡ false;
+  covers : Covers l.accepted (g.M.Sight.state l.machine) l.awake;
+  over : l.after ≤ l.from;
+  none : NoneUpTo l.accepted (g.M.Sight.state l.machine) l.after l.from;
+}
+
+-- how many numbers are left
+abbrev pub decreases-looks : goal.decreases-looks
+decreases-looks g l = 2 ^ 32 - l.from

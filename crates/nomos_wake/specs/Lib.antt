@@ -1,0 +1,6 @@
+pub mod Beginning
+pub mod Covering
+pub mod Foreseeing
+pub mod Touching
+pub mod Woken
+pub mod mirror

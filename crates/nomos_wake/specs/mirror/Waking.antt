@@ -1,0 +1,35 @@
+-- A mirror of the code: what the parts of a waking tell one another. No promise stands on it.
+use Rattle.std.specs.Prelude.{◌≡◌, ◌⊎◌, ℕ, true, false, Option, Some, None, IsSome, slice_get}
+use Rattle.nomos_ir.specs.declared.code_node.CodeNode.{CodeNode}
+use Rattle.nomos_types.specs.Acceptance.{Acceptance}
+use Rattle.nomos_machine.specs.Sight.{offering, owner, accept_next, detach_next}
+use Rattle.nomos_machine.specs.State.{State, process_at}
+use Rattle.nomos_machine.specs.declared.object.Process.{Process}
+use Rattle.nomos_wake.specs.Covering.{IsFollowed, IsNoted, MayBeReady, Stays}
+use Rattle.nomos_wake.specs.declared.awake.Awake.{Awake}
+use Rattle.nomos_wake.specs.declared.touch.Heard.{Heard}
+
+-- who may read what is heard may be ready
+abbrev pub WakesHeard : State → Option Heard → Awake → Type 0
+WakesHeard t (Some h) w = (h.to_client ≡ true → (q : ℕ) → owner t h.name ≡ Some q → MayBeReady w q)
+    × (h.to_client ≡ false → (r : Process) → offering t.objects h.name ≡ Some r → MayBeReady w r.pid)
+WakesHeard t None w = Unit {0}
+
+-- the process of a number stands at this instruction
+pub record StandsAt (a : Acceptance) (t : State) (number : ℕ) (r : Process) (n : CodeNode) : Type 0 where
+  pub there : process_at t number ≡ Some r
+  pub stands : slice_get a.program.code r.code.0 ≡ Some n
+
+-- The process of a number may be ready, and so may who meets it where it stands, and who could be before.
+pub record WakesBy (a : Acceptance) (t : State) (number : ℕ) (v w : Awake) : Type 0 where
+  pub itself : MayBeReady w number
+  pub stays : Stays v w
+  pub releasing : (r : Process) (n : CodeNode) (q : ℕ) → StandsAt a t number r n → IsSome (detach_next n)
+      → owner t r.offers ≡ Some q → MayBeReady w q
+  pub acquiring : (r : Process) (n : CodeNode) (q : ℕ) → StandsAt a t number r n → IsSome (accept_next n)
+      → (IsFollowed v r.offers → MayBeReady v q ⊎ IsNoted v r.offers q) → MayBeReady w q
+
+-- the same of the process of a number, if there is one
+abbrev pub MayWakeBy : Acceptance → State → Option ℕ → Awake → Awake → Type 0
+MayWakeBy a t (Some number) v w = WakesBy a t number v w
+MayWakeBy a t None v w = Stays v w

@@ -1,0 +1,150 @@
+//! Who may be ready is kept beside a machine: before a firing, after it, and where the next ready process is sought.
+ghost use Rattle.std.specs.Prelude.{◌≡◌, ◌<◌, ℕ, Some, true, IsSome, MatchOption, slice_get};
+ghost use Rattle.nomos_ir.specs.declared.code_node.CodeNode.{CodeNode as Instruction};
+ghost use Rattle.nomos_machine.specs.Run.{IsNextReady, NoneReady};
+ghost use Rattle.nomos_machine.specs.Sight.{offering, owner};
+ghost use Rattle.nomos_machine.specs.State.{State, process_at};
+ghost use Rattle.nomos_machine.specs.Step.{IsReady, step};
+ghost use Rattle.nomos_machine.specs.TypedState.{IsTyped};
+ghost use Rattle.nomos_machine.specs.declared.object.Process.{Process};
+ghost use Rattle.nomos_wake.specs.Covering.{Covers, MayBeReady, Stays};
+ghost use Rattle.nomos_wake.specs.Foreseeing.{IsForeseen};
+ghost use Rattle.nomos_wake.specs.mirror.Waking.{MayWakeBy, WakesBy, WakesHeard};
+
+use crate::awake::Awake;
+use crate::touch::{Heard, Touch};
+use crate::touching::{node_at, touch_of};
+use nomos_deeds::machine::Machine;
+use nomos_ir::code_node::CodeNode;
+use nomos_types::accepted::Accepted;
+
+/// What is known before a firing of whom it may wake.
+#[derive(Clone, Copy, Debug)]
+pub struct Foreseen {
+    /// The process that fires.
+    pub pid: u32,
+    /// The number that the next object will have.
+    pub next: u32,
+    pub touch: Touch,
+}
+
+// Wakes who uses a name.
+fn wake_user<M: Machine>(awake: &mut Awake, machine: &M, name: u32)
+    ensures woken { (q : ℕ) → owner (M.state machine.now) name ≡ Some q → MayBeReady awake.new q }
+    ensures stays { Stays awake.old awake.new }
+{
+    if let Some(user) = machine.user(name) {
+        awake.wake(user);
+    }
+}
+
+// Wakes who offers a name.
+fn wake_provider<M: Machine>(awake: &mut Awake, machine: &M, name: u32)
+    ensures woken { (r : Process) → offering (M.state machine.now).objects name ≡ Some r
+        → MayBeReady awake.new r.pid }
+    ensures stays { Stays awake.old awake.new }
+{
+    if let Some(provider) = machine.offering(name) {
+        awake.wake(provider.pid);
+    }
+}
+
+// Wakes who may read what is heard.
+fn wake_heard<M: Machine>(awake: &mut Awake, machine: &M, heard: Option<Heard>)
+    ensures woken { WakesHeard (M.state machine.now) heard awake.new }
+    ensures stays { Stays awake.old awake.new }
+{
+    let Some(heard) = heard else { return };
+    if heard.to_client {
+        wake_user(awake, machine, heard.name);
+    } else {
+        wake_provider(awake, machine, heard.name);
+    }
+}
+
+// Wakes the process of a number, which changed, and who meets it where it stands now.
+fn wake_changed<M: Machine>(awake: &mut Awake, machine: &M, accepted: &Accepted, number: u32)
+    ensures { WakesBy accepted.now (M.state machine.now) number awake.old awake.new }
+{
+    awake.wake(number);
+    let Some(seen) = machine.process(number) else {
+        return;
+    };
+    match node_at(accepted, seen.code) {
+        Some(CodeNode::Detach(_, _)) => wake_user(awake, machine, seen.offers),
+        Some(CodeNode::Accept(_, _)) => awake.open(seen.offers),
+        _ => {}
+    }
+}
+
+// The same of the process of a number, if there is one.
+fn wake_partner<M: Machine>(
+    awake: &mut Awake,
+    machine: &M,
+    accepted: &Accepted,
+    number: Option<u32>,
+)
+    ensures { MayWakeBy accepted.now (M.state machine.now) number awake.old awake.new }
+{
+    if let Some(number) = number {
+        wake_changed(awake, machine, accepted, number);
+    }
+}
+
+// A process that is about to fire may acquire a contract: then all who wait for that are ready, and its name is followed
+// from now on.
+fn follow_acquired<M: Machine>(awake: &mut Awake, machine: &M, accepted: &Accepted, pid: u32)
+    requires typed { IsTyped accepted.now (M.state machine.now) }
+    requires ready { IsReady accepted.now (M.state machine.now) pid }
+    requires covers { Covers accepted.now (M.state machine.now) awake.old }
+    ensures { Covers accepted.now (M.state machine.now) awake.new }
+{
+    // Where the program is read it is known to be accepted.
+    let _program = accepted.program();
+    if let Some(name) = machine.waits(accepted, pid) {
+        awake.follow(name);
+    }
+}
+
+/// What is known before a ready process fires of whom that may wake. It is told to `wake_after` once the process has
+/// fired.
+pub fn foresee<M: Machine>(
+    awake: &mut Awake,
+    machine: &M,
+    accepted: &Accepted,
+    pid: u32,
+) -> Foreseen
+    requires typed { IsTyped accepted.now (M.state machine.now) }
+    requires ready { IsReady accepted.now (M.state machine.now) pid }
+    requires covers { Covers accepted.now (M.state machine.now) awake.old }
+    ensures covers { Covers accepted.now (M.state machine.now) awake.new }
+    ensures foreseen { IsForeseen accepted.now (M.state machine.now) pid result }
+{
+    follow_acquired(awake, machine, accepted, pid);
+    Foreseen {
+        pid,
+        next: machine.next_object(),
+        touch: touch_of(machine, accepted, pid),
+    }
+}
+
+/// Wakes whom the firing of a process may have woken that was foreseen: if the set covered the state before, it covers
+/// the state after.
+pub fn wake_after<M: Machine>(
+    awake: &mut Awake,
+    machine: &M,
+    accepted: &Accepted,
+    foreseen: Foreseen,
+)
+    requires { IsTyped accepted.now (M.state machine.now) }
+    ensures { (s : State) (pid : ℕ) → IsTyped accepted.now s → step accepted.now s pid ≡ Some (M.state machine.now)
+        → IsForeseen accepted.now s pid foreseen → Covers accepted.now s awake.old
+        → Covers accepted.now (M.state machine.now) awake.new }
+{
+    // Where the program is read it is known to be accepted.
+    let _program = accepted.program();
+    wake_changed(awake, machine, accepted, foreseen.pid);
+    wake_changed(awake, machine, accepted, foreseen.next);
+    wake_partner(awake, machine, accepted, foreseen.touch.partner);
+    wake_heard(awake, machine, foreseen.touch.heard);
+}

@@ -1,0 +1,143 @@
+"""Why a batch of a script was undone: who waits for whom, which term has a fault, or what does not end."""
+import collections
+
+from . import faults
+from .texts import listed
+from .tracks import track
+
+# A batch that does not end is looked at for so many firings.
+FIRINGS = 20_000
+
+
+class Waiting:
+    """A batch in which transactions are left that nothing is ready for."""
+
+    def __init__(self, run, entry, found):
+        self.run, self.number = run, int(entry[0][1])
+        self.left = [int(it[1]) for it in entry if it[0] == "left"]
+        self.waits = {int(it[1]): int(it[5]) for it in entry if it[0] == "waits"}
+        self.track = found[1] if found and found[0].entries[-1] == entry else None
+        self.names = {pid: name for name, pid in self.track.contracts.items()} if self.track else {}
+
+    def who(self, pid):
+        """Gives in words which process this is."""
+        standing = self.track.processes.get(pid) if self.track else None
+        if pid in self.names:
+            return f"the contract `{self.names[pid]}`"
+        if standing and standing.line:
+            return f"line {standing.line.number}"
+        return f"process {pid}" + (f", a `{standing.process.name}`" if standing else "")
+
+    def where(self, pid, forms):
+        """Gives the place in the contract at which a process stands, where that is sure, and who is turned to there."""
+        standing = self.track.processes.get(pid) if self.track else None
+        places = standing.at(forms) if standing else []
+        if len({it.step.at for it in places}) != 1:
+            return None, None
+        codes = self.run.codes
+        return codes.tokens[places[0].step.at].at, places[0]
+
+    def holder(self, contract):
+        """Gives the process that has acquired a contract, where that is sure."""
+        found = [
+            pid
+            for pid, it in self.track.processes.items()
+            if it.places and all(contract in place.held() for place in it.places)
+        ] if self.track else []
+        return found[0] if len(found) == 1 else None
+
+    def wait(self, pid):
+        """Gives a line on what a process waits for at an `acquire`, and the process that it waits for."""
+        contract = self.waits[pid]
+        at, _ = self.where(pid, ("acquire",))
+        place = f" at {self.run.text.place(at)}" if at is not None else ""
+        holder = self.holder(contract)
+        what = f"see: {self.who(pid)} waits{place} for {self.who(contract)}"
+        if contract == pid:
+            return f"{what}, which it is itself", pid
+        if holder == pid:
+            return f"{what}, which it has acquired already", pid
+        if holder is not None:
+            return f"{what}, which {self.who(holder)} has acquired", holder
+        return what, contract
+
+    def other(self, pid):
+        """Gives a line on a transaction that waits for what a contract does, and the process that it waits for."""
+        at, place = self.where(pid, ("case", "recv", "take", "get", "wait", "release"))
+        if at is None:
+            return f"see: {self.who(pid)} is left", None
+        names = self.track.names(place.step)
+        contract = place.contract(names[1])
+        whom = f" for {self.who(contract)}" if contract else f" for `{names[1]}`"
+        return f"see: {self.who(pid)} waits at {self.run.text.place(at)}{whom}", contract
+
+    def lines(self):
+        found, further = [], {}
+        for pid in [*self.left, *(it for it in self.waits if it not in self.left)]:
+            line, further[pid] = self.wait(pid) if pid in self.waits else self.other(pid)
+            found.append(line)
+        return [*self.mends(), *found, *self.ring(further)]
+
+    def ring(self, further):
+        """Gives a line on processes of which each waits for the next one and the last one for the first."""
+        for first in further:
+            way = [first]
+            while further.get(way[-1]) not in (None, *way):
+                way.append(further[way[-1]])
+            if len(way) > 1 and further.get(way[-1]) == first:
+                said = ", ".join(self.who(it) for it in way)
+                return [f"see: each waits for the next one, and the last one for the first: {said}"]
+        return []
+
+    def mends(self):
+        """Gives a line where the lines of the batch go through one after another."""
+        rows, end = self.run.script.batch(self.number)
+        if len(rows) < 2:
+            return []
+        begin, last = self.run.script.row(self.number), self.run.script.row(end)
+        answer = self.run.asked(end, (begin.at, begin.end, ""), (last.at, last.end, ""))
+        entries = answer.entries[-len(rows) :] if answer and answer.status in (0, 3) else [[["", "", ""]]]
+        if any(it[0][2] != "committed" for it in entries):
+            return []
+        return ["mend: take the `begin` and the `end` out, so that each line is a batch of its own"]
+
+
+def of_blocked(run, entry):
+    number = int(entry[0][1])
+    waiting = Waiting(run, entry, track(run, run.script.batch(number)[1]))
+    return run.script.row(number).tokens[0].at, "blocked", "blocked", waiting.lines()
+
+
+def of_steps(run, entry):
+    """Says which processes fire most."""
+    number = int(entry[0][1])
+    end, lines = run.script.batch(number)[1], []
+    options = run.program.options
+    found = track(run, end, *without(options, "--steps"), "--steps", str(firings_of(options)))
+    if found and [it[0][:3] for it in found[0].entries] == [it[:3] for it in firsts(run, number)]:
+        fired = [standing.process.name for standing, _ in found[1].fired]
+        most = [name for name, count in collections.Counter(fired).most_common(3) if count * 4 >= len(fired)]
+        lines = [f"see: most of the first {len(fired)} firings are of {listed(most)}"] if most else []
+    return run.script.row(number).tokens[0].at, "steps", "steps", lines
+
+
+def firings_of(options):
+    """Gives how many firings of a batch are looked at: not more than the options say that it may make."""
+    behind = options[options.index("--steps") + 1 :] if "--steps" in options else []
+    return min(int(behind[0]), FIRINGS) if behind and behind[0].isdecimal() else FIRINGS
+
+
+def without(options, word):
+    """Gives options without the one that begins with a word."""
+    at = options.index(word) if word in options else len(options)
+    return [*options[:at], *options[at + 2 :]]
+
+
+def firsts(run, number):
+    """Gives the first lines of the entries up to that of a line."""
+    return [it[0] for it in run.answer.entries if int(it[0][1]) <= number]
+
+
+def explained(run, entry):
+    """Gives the place in the script, the cause, the row of docs/CAUSES.md, and lines on what to do."""
+    return {"blocked": of_blocked, "steps": of_steps, "aborted": faults.explained}[entry[0][2]](run, entry)

@@ -1,0 +1,93 @@
+"""Which term of which instruction had a fault, and with which values."""
+from .tracks import track
+
+FORMS = ("put", "spawn", "let", "add", "emit", "if", "call")
+# The signs that can have a fault; any can come out of a function too.
+SIGNS = {"Overflow": "+-*/", "DivideByZero": "/%", "ListLength": ("::",), "TermSteps": (), "Depth": ()}
+STANDING_FOR = {"emit": ("0",), "if": ("true", "false"), "put": ("0", "true"), "let": ("0", "true")}
+
+
+class Fault:
+    """A batch that ended with a fault, the process that had it, and the instruction at which that is sure to stand."""
+
+    def __init__(self, run, entry, found):
+        words = entry[0]
+        self.run, self.number, self.pid, self.fault = run, int(words[1]), int(words[3]), words[4]
+        self.track = found[1] if found and found[0].entries[-1] == entry else None
+        self.standing = self.track.processes.get(self.pid) if self.track else None
+        places = self.standing.at(FORMS) if self.standing else []
+        is_one = len({it.step.at for it in places}) == 1
+        self.step = places[0].step if is_one else None
+
+    def who(self):
+        """Gives in words which process it is."""
+        line = self.standing.line if self.standing else None
+        if line and line.word == "exec":
+            return f"line {line.number}"
+        names = [name for name, pid in self.track.contracts.items() if pid == self.pid] if self.track else []
+        if names:
+            return f"the contract `{names[0]}`"
+        return f"process {self.pid}" + (f", a `{self.standing.process.name}`" if self.standing else "")
+
+    def within(self):
+        """Gives the numbers of the tokens of the instruction."""
+        return range(self.step.at, self.step.end)
+
+    def at(self):
+        """Gives the offset of what has the fault, or of the instruction where several parts may."""
+        codes, signs = self.run.codes, SIGNS[self.fault]
+        found = [
+            at
+            for at in self.within()
+            if codes.used(at) == "function"
+            or codes.tokens[at].text in signs and codes.rule(at) in ("sum", "prod", "cons")
+        ]
+        return codes.tokens[found[0] if len(found) == 1 else self.step.at].at
+
+    def values(self):
+        """Gives the variables that the terms of the instruction use and do not bind, in order."""
+        codes = self.run.codes
+        bound = {codes.tokens[at].text for at in self.within() if codes.declared(at)}
+        used = [codes.tokens[at].text for at in self.within() if codes.used(at) == "value"]
+        return [it for it in dict.fromkeys(used) if it not in bound]
+
+    def told(self):
+        """Gives a line on the values of the variables, which the process is made to tell before the instruction while
+        its term is left out, where the batch then comes to its end."""
+        names = self.values()
+        codes, step = self.run.codes, self.step
+        if not names or not self.standing.is_sure or step.form not in STANDING_FOR:
+            return []
+        at, end = codes.tokens[step.at].at, codes.tokens[step.end].at
+        words = codes.said(step.at, step.at + {"put": 2, "let": 3}.get(step.form, 1))
+        tells = "".join(f"emit {it}; " for it in names)
+        passed = self.standing.passed.get(id(step), 0)
+        emitted = sum(form == "emit" for standing, form in self.track.fired if standing is self.standing)
+        for term in STANDING_FOR[step.form]:
+            contract = self.run.text.edited((at, end, f"{tells}{words} {term}{' ' if step.form == 'if' else ''}"))
+            answer = self.run.asked(self.run.script.batch(self.number)[1], contract=contract)
+            if answer is None or answer.status not in (0, 3) or answer.entries[-1][0][2] != "committed":
+                continue
+            results = [it[2] for it in answer.entries[-1] if it[0] == "result" and it[1] == str(self.pid)]
+            first = emitted + passed * len(names)
+            values = results[first : first + len(names)]
+            if len(values) == len(names):
+                return ["see: there " + ", ".join(f"`{name}` is {it}" for name, it in zip(names, values))]
+        return []
+
+    def lines(self):
+        if self.step is None:
+            return [f"see: {self.who()} had the fault"]
+        at, text = self.at(), self.run.text
+        head = f"{text.place(at)}: {self.fault} in {self.who()}"
+        return [head, *text.shown(at), *self.told()]
+
+
+def explained(run, entry):
+    """Gives the place in the script, the cause, the row of docs/CAUSES.md, and lines on where the fault is."""
+    number = int(entry[0][1])
+    fault = Fault(run, entry, track(run, run.script.batch(number)[1]))
+    cause = f"aborted {fault.fault}"
+    line = fault.standing.line if fault.standing else None
+    row = line if line and line.number in [it.number for it in run.script.batch(number)[0]] else run.script.row(number)
+    return row.tokens[0].at, cause, cause, fault.lines()

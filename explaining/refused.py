@@ -1,0 +1,176 @@
+"""What is wrong in a text that is no script: the line, what may stand there, and an edit with which it has a form."""
+import re
+from typing import NamedTuple
+
+from .syntax import nearest
+from .texts import Token
+
+INSIDE, OUTSIDE = ("let", "exec", "end"), ("deposit", "let", "exec", "show", "begin")
+MOST_UNITS, MOST_NUMBER, MOST_BYTES, MOST_DEEP = 10**18, 2**63, 64, 64
+PUT_IN = {"NAME": "x", "NUMBER": "0", "N": "0"}
+
+
+class Slip(NamedTuple):
+    """An edit, and what it is in words."""
+
+    edit: tuple
+    mend: str
+
+
+class Line:
+    """The line that a script is refused by, and what was read of it."""
+
+    def __init__(self, program, contract, script, number, grammar):
+        self.program, self.contract, self.script, self.grammar = program, contract, script, grammar
+        self.row = script.row(number)
+        self.is_inside = self.inside(number)
+        words = INSIDE if self.is_inside else OUTSIDE
+        self.words = words
+        self.tokens = self.row.tokens
+        self.count, self.wanted, self.may_end = self.read()
+        end = Token("", "", self.row.end)
+        self.marked = self.tokens[self.count] if self.count < len(self.tokens) else end
+
+    def inside(self, number):
+        """Whether a batch is open before a line."""
+        words = [it.word for it in self.script.rows[: number - 1] if it.word in ("begin", "end")]
+        return words[-1:] == ["begin"]
+
+    def read(self):
+        """Gives how many tokens of the line begin a form, the tokens that may stand then, and whether none may."""
+        if not self.tokens or self.tokens[0].text not in self.words:
+            return 0, set(self.words), False
+        if self.tokens[0].text in ("begin", "end"):
+            return 1, set(), True
+        count, ways = self.grammar.read(self.tokens, "line")
+        return count, self.grammar.wanted(ways), self.grammar.may_end(ways)
+
+    def at(self, step):
+        """Gives the token so many behind the marked one, or an empty one."""
+        it = self.count + step
+        return self.tokens[it] if 0 <= it < len(self.tokens) else Token("", "", self.row.end)
+
+    def has_form(self, edit):
+        """Whether the program takes the line by itself with an edit."""
+        start, end, new = edit
+        line = self.script.text[self.row.at : start] + new + self.script.text[end : self.row.end]
+        text = f"begin\n{line}\nend\n" if self.is_inside and self.row.word != "end" else line
+        if line.split()[:1] == ["begin"]:
+            text += "\nend"
+        answer = self.program.run(self.contract, text.encode("latin-1"), seconds=5)
+        return answer is not None and answer.words[:3] != ["script", "refused", "Syntax"]
+
+    def slips(self):
+        """Gives edits of which one may be what is meant, the likeliest first."""
+        mark, before = self.marked, self.at(-1)
+        if mark.text == "#":
+            yield Slip((mark.at, mark.at + 1, "//"), "begin a comment with `//` in place of `#`")
+        yield from self.of_starts()
+        if mark.kind == "word" and not self.wanted & {"NAME", "N"}:
+            for it in nearest(mark.text, {word for word in self.wanted if word[0].isalpha()} - PUT_IN.keys()):
+                yield Slip((mark.at, mark.end, it), f"write `{it}` in place of `{mark.text}`")
+        if self.count and not self.is_part():
+            yield from self.of_sides()
+            yield from self.of_signs()
+        if self.count and mark.kind and mark.text != ".":
+            yield Slip((mark.at, mark.end, ""), f"take `{mark.text}` out")
+            yield Slip((mark.at, mark.end, "\n"), f"write what stands behind `{mark.text}` on another line")
+            yield Slip((mark.at, self.row.end, ""), f"take what stands behind `{before.text}` out")
+
+    def of_starts(self):
+        """Slips at the start of a line: what is left out there, or stands in another order."""
+        mark, before, behind = self.marked, self.at(-1), self.at(1)
+        if before.text == "deposit" and mark.kind == "number" and behind.kind == "word":
+            edit = (mark.at, behind.end, f"{behind.text} {mark.text}")
+            yield Slip(edit, f"write `{behind.text} {mark.text}` in place of `{mark.text} {behind.text}`")
+        if self.wanted == {"NAME"} and mark.text == ".":
+            yield Slip((mark.at, mark.end, " "), "write a blank in place of `.`")
+        if not self.count and mark.text == "new":
+            yield Slip((mark.at, mark.at, "let x = "), "write `let .. =` before `new`, with a name for the contract")
+        if self.wanted == {"new"} and behind.text == "(":
+            yield Slip((mark.at, mark.at, "new x "), f"write `new ..` before `{mark.text}`, with the account that pays")
+
+    def is_part(self):
+        """Whether a number that is not whole stands here."""
+        return self.marked.text == "." and self.at(-1).kind == self.at(1).kind == "number"
+
+    def of_sides(self):
+        """Slips in which values and names have changed their sides, and one in which the account is missing."""
+        mark, before = self.marked, self.at(-1)
+        if self.wanted == {"NAME"} and mark.text == "(":
+            yield Slip((before.at, before.at, "x "), f"write the account that pays before `{before.text}`")
+        texts = [it.text for it in self.tokens]
+        if texts.count("(") == 1 and texts[-1] == ")" and mark.text != ")":
+            opening, closing = self.tokens[texts.index("(")], self.tokens[-1]
+            parts = re.split(r"[,;](?![^\[]*\])", self.script.text[opening.end : closing.at])
+            parts = [it.strip() for it in parts if it.strip()]
+            names = [it for it in parts if it[0].isalpha() and it not in ("true", "false")]
+            values = ", ".join(it for it in parts if it not in names)
+            edit = (opening.end, closing.at, f"{values}; {', '.join(names)}")
+            yield Slip(edit, "write the values before the `;`, and the names of contracts behind it")
+
+    def of_signs(self):
+        """Each token that may stand, put in before the marked one, and a sign in place of another one."""
+        mark, before = self.marked, self.at(-1)
+        for it in sorted(self.wanted - PUT_IN.keys() - {"true", "false", "-", "["}, key=lambda it: (it != ";", it)):
+            edit = (before.end, before.end, f" {it} " if it[0].isalpha() else it)
+            yield Slip(edit, f"write `{it}` behind `{before.text}`")
+            if mark.text and mark.text in ",;:()[]{}=" and not it[0].isalpha():
+                yield Slip((mark.at, mark.end, it), f"write `{it}` in place of `{mark.text}`")
+
+    def mends(self):
+        if self.is_part():
+            return ["see: numbers are whole"]
+        found = next((it for it in self.slips() if self.has_form(it.edit)), None)
+        return [f"mend: {found.mend}"] if found else []
+
+    def said(self):
+        """Gives a line on the tokens that may stand at the marked one."""
+        words = self.grammar.said(self.wanted) + (["the end of the line"] if self.may_end else [])
+        return [f"here may stand: {', '.join(words)}"] if words else []
+
+    def of_batch(self):
+        """Gives what is said of a line that has a form and may not stand here."""
+        if self.row.word == "begin" and not self.is_inside and len(self.tokens) == 1:
+            return self.row.tokens[0].at, "script Syntax begin", []
+        word = self.row.word
+        if self.tokens and not self.count and word in INSIDE + OUTSIDE:
+            return self.tokens[0].at, "script Syntax batch", self.said()
+        return None
+
+    def of_limit(self):
+        """Gives the first token that is more than a script may have, with what is said of it."""
+        if self.count < len(self.tokens) or not self.may_end:
+            return None
+        is_sum = self.row.word == "deposit"
+        deep = 0
+        for before, it in zip([None, *self.tokens], self.tokens):
+            deep += (it.text == "[") - (it.text == "]")
+            most = MOST_UNITS if is_sum else MOST_NUMBER - (not before or before.text != "-")
+            if it.kind == "word" and len(it.text) > MOST_BYTES:
+                return it.at, [f"see: it has {len(it.text)} bytes, and a name has at most {MOST_BYTES}"]
+            if it.kind == "number" and (len(it.text) > 4000 or int(it.text) > most):
+                return it.at, [f"see: {most} is the most that stands here"]
+            if deep > MOST_DEEP:
+                return it.at, [f"see: lists stand at most {MOST_DEEP} deep in one another"]
+        return self.tokens[0].at, ["see: a list of this line weighs more than 10000"] if "[" in self.row.text else []
+
+    def explained(self):
+        batch = self.of_batch()
+        if batch:
+            return batch
+        limit = self.of_limit()
+        if limit:
+            return limit[0], "script Syntax limit", limit[1]
+        return self.marked.at, "script Syntax", [*self.mends(), *self.said()]
+
+
+def explained(program, contract, script, answer, grammar):
+    """Gives the row of docs/CAUSES.md and the lines above it."""
+    cause = " ".join(answer.words[:1] + answer.words[2:3])
+    if cause != "script Syntax":
+        at = script.row(int(answer.words[3])).at if answer.words[3:] else 1_048_576
+        return cause, [f"{script.place(at)}: {cause}", *script.shown(at)]
+    line = Line(program, contract, script, int(answer.words[3]), grammar)
+    at, row, lines = line.explained()
+    return row, [f"{script.place(at)}: {cause}", *script.shown(at), *lines]

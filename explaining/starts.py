@@ -1,0 +1,118 @@
+"""What to write in a line of a script that could not be carried out: a deposit, or the start of a process."""
+from .arguments import Arguments
+from .names import unused
+from .syntax import nearest
+from .texts import listed
+
+MOST_UNITS = 2**64 - 1
+
+
+def units(gas):
+    """Gives an amount of gas in whole units, rounded up."""
+    parts = [int(it) for it in gas.split("/")] + [1]
+    return -(-parts[0] // parts[1])
+
+
+class Refused:
+    """The line of a script that the deposit or the batch at a line was refused by."""
+
+    def __init__(self, run, words):
+        self.run, self.number, self.words = run, int(words[1]), words
+        self.line = run.script.row(int(words[4]))
+        self.cause = words[5]
+
+    def goes_on(self, *edits):
+        """Whether more of the batch is carried out with other texts in place of some pieces."""
+        return self.run.goes_on(self.number, self.cause, self.line.number, *edits)
+
+    def meant(self, token, known):
+        """Gives lines for the nearest of the names that may stand at a token, if the batch goes on with it."""
+        for name in nearest(token.text, known):
+            if self.goes_on((token.at, token.end, name)):
+                return [f"mend: did you mean `{name}`?"]
+        return []
+
+    def deposit(self, account, amount):
+        """Gives a line for a deposit that is made before."""
+        new = f"deposit {account} {amount}"
+        if not self.run.goes_on_behind(self.number, self.cause, self.line.number, new):
+            return []
+        return [f"mend: write `{new}` on a line before {'it' if self.number == self.line.number else 'the `begin`'}"]
+
+    def no_account(self):
+        token = self.line.sender
+        known = [it.tokens[1].text for it in self.run.before(self.number, "deposit")]
+        needs = units(self.run.bounds.get(self.line.process.text, "0"))
+        lines = self.meant(token, known) + self.deposit(token.text, needs)
+        see = f"see: the accounts so far are {listed(known)}" if known else "see: nothing was deposited so far"
+        return token.at, "NoAccount", [*lines, see]
+
+    def no_process(self):
+        token, codes = self.line.process, self.run.codes
+        if codes is None:
+            return token.at, "NoProcess", []
+        mode = "S" if self.line.word == "let" else "T"
+        other = codes.processes.get(token.text)
+        if other:
+            place = self.run.text.place(codes.tokens[other.at].at)
+            see = f"see: `{token.text}` is declared at {place}, with the mode {other.mode}"
+            return token.at, "NoProcess mode", [*self.other_word(other), see]
+        known = [it.name for it in codes.processes.values() if it.mode == mode]
+        lines = self.meant(token, known)
+        what = "contracts that can be made" if mode == "S" else "transactions"
+        see = f"see: the {what} are {listed(known)}" if known else f"see: the text declares no process of mode {mode}"
+        return token.at, "NoProcess", lines or [see]
+
+    def other_word(self, process):
+        """Gives lines for the other word that a line begins with, where that starts the process."""
+        first, sender = self.line.tokens[0], self.line.sender
+        if self.line.word == "let" and process.mode == "T":
+            new, said = "exec ", "`exec` in place of `let .. = new`"
+        elif self.line.word == "exec" and process.mode == "S":
+            new, said = f"let {unused(self.run.script)} = new ", "`let .. = new` in place of `exec`"
+        else:
+            return []
+        does = self.goes_on((first.at, sender.at, new))
+        return [f"mend: write {said}"] if does else []
+
+    def name_taken(self):
+        token = self.line.contract
+        other = self.run.contracts(self.number, self.line.number).get(token.text)
+        edit = (token.at, token.end, unused(self.run.script))
+        does = self.goes_on(edit)
+        mend = [f"mend: take another name than `{token.text}`"] if does else []
+        see = [f"see: `{token.text}` is made at {self.run.script.place(other.contract.at)}"] if other else []
+        return token.at, "NameTaken", [*mend, *see]
+
+    def no_gas(self):
+        has, needs = self.words[8], self.words[10]
+        parts = needs.split("/")[1:]
+        lacking = "/".join([str(int(needs.split("/")[0]) - int(has.split("/")[0])), *parts])
+        see = f"see: `{self.line.process.text}` declares {needs}, and {has} is what the account has here"
+        return self.line.sender.at, "NoGas", [*self.deposit(self.line.sender.text, units(lacking)), see]
+
+    def too_much(self):
+        token = self.line.tokens[2]
+        left = MOST_UNITS - sum(int(it.tokens[2].text) for it in self.run.before(self.number, "deposit"))
+        does = self.goes_on((token.at, token.end, str(left)))
+        return token.at, "TooMuchGas", [f"mend: write `{left}` at most, in place of `{token.text}`"] if does else []
+
+    def bad_arguments(self):
+        if self.run.codes is None:
+            return self.line.process.at, "BadArguments", []
+        return Arguments(self).find()
+
+
+def explained(run, entry):
+    """Gives the place in the script, the cause, the row of docs/CAUSES.md, and lines on what to do."""
+    it = Refused(run, entry[0])
+    explain = {
+        "NoAccount": it.no_account,
+        "NoProcess": it.no_process,
+        "BadArguments": it.bad_arguments,
+        "NameTaken": it.name_taken,
+        "NoGas": it.no_gas,
+        "TooMuchGas": it.too_much,
+    }[it.cause]
+    at, row, lines = explain()
+    return at, it.cause, row, lines
