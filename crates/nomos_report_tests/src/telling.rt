@@ -14,6 +14,7 @@ use nomos_script::script::Script;
 use nomos_types::accepted::Accepted;
 use nomos_workers::batch::Crew;
 use nomos_workers::gate::OpenGate;
+use std::alloc::Global;
 use std::process::Abort;
 use std::sync::Wait;
 use std::test::Fail;
@@ -63,6 +64,19 @@ fn told_of<R: Abort + AllocGlobal>(rt: &R, ran: ScriptRun<IndexedState>) -> Told
     Told { report, journal }
 }
 
+// The run of a script, over the indexed form of a state.
+fn ran<R: Threads + Wait + Sync>(
+    runner: &Runner<'_, OpenGate, R>,
+    alloc: Global,
+    accepted: &Accepted,
+    script: &Script,
+) -> ScriptRun<IndexedState>
+    requires crew { IsCrew runner.now.orders.crew }
+    requires limit { IsLimit runner.now.orders.limit }
+{
+    run_script(runner, alloc, accepted, script)
+}
+
 /// What is told of a script on a contract, run by a crew, each batch for at most so many firings.
 pub(crate) fn tell<R: Abort + AllocGlobal + Threads + Wait + Sync>(
     rt: &R,
@@ -87,7 +101,7 @@ pub(crate) fn tell<R: Abort + AllocGlobal + Threads + Wait + Sync>(
         gate: &gate,
         orders,
     };
-    told_of(rt, run_script(&runner, rt.alloc(), &accepted, &script))
+    told_of(rt, ran(&runner, rt.alloc(), &accepted, &script))
 }
 
 /// What is told of it, run by one worker, each batch for at most a million firings.
