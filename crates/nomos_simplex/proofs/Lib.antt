@@ -12,6 +12,7 @@ pub mod FractionOrderLemmas
 pub mod GcdLemmas
 pub mod GoalLemmas
 pub mod GoalLineLemmas
+pub mod KeepingLemmas
 pub mod LeastRunLaws
 pub mod LineLemmas
 pub mod LoweringLemmas

@@ -1,5 +1,5 @@
 -- The least run on rows and a goal has one end.
-use Rattle.std.proofs.Common.{◌≡◌, ◌+◌, ◌-◌, ◌<◌, ◌≤◌, ◌⊎◌, ℕ, Bool, true, false, List, Option, Some, None, slice_get, refl, sym, ap, subst, ◌∙◌, inl, inr, arith}
+use Rattle.std.proofs.Common.{◌≡◌, ◌+◌, ◌-◌, ◌<◌, ◌≤◌, ℕ, true, false, Option, Some, None, slice_get, refl, sym, ap, subst, ◌∙◌, inl, inr, arith}
 use Rattle.std.proofs.lemmas.Bool.{cases_lt}
 use Rattle.nomos_forms.specs.declared.form.Form.{Form}
 use Rattle.nomos_forms.specs.declared.found.Found.{Found}
@@ -12,7 +12,6 @@ use Rattle.nomos_simplex.specs.LeastRun.{PivotsTo, EndsFound, Exchanges, Lowers,
 use Rattle.nomos_simplex.specs.Lowest.{leaving}
 use Rattle.nomos_simplex.specs.Nearest.{lowering, nearest}
 use Rattle.nomos_simplex.specs.PivotRun.{turn, turn_from, answer_to}
-use Rattle.nomos_simplex.specs.declared.solved.Solved.{Solved}
 use Rattle.nomos_simplex.specs.declared.solved.Solved.TheVariants as solved
 use Rattle.nomos_simplex.specs.declared.solved.SolvedLeast.{SolvedLeast}
 use Rattle.nomos_simplex.specs.declared.solved.SolvedLeast.TheVariants as least
@@ -20,8 +19,7 @@ use Rattle.nomos_simplex.specs.declared.solved.Stop.{Stop}
 use Rattle.nomos_simplex.specs.declared.solved.Stop.TheVariants as stop
 use Rattle.nomos_simplex.specs.declared.table.Line.{Line}
 use Rattle.nomos_simplex.specs.declared.table.Table.{Table}
-use Rattle.nomos_simplex.specs.declared.turn.Turn.{Turn}
-use Rattle.nomos_simplex.specs.declared.turn.Turn.TheVariants.{Ends, Goes}
+use Rattle.nomos_simplex.specs.declared.turn.Turn.TheVariants.{Goes}
 
 same_some : {A : Type 0} (a b : A) → Some a ≡ Some b → a ≡ b
 same_some a b e = cc
@@ -49,7 +47,8 @@ reached-once rows n m t u e (PivotsTo.goes_on {pivots = p} {table = earlier} aft
 abbrev GoesOn : RowList → ℕ → Table → Type 0
 GoesOn rows n t = (after : Table) × (turn (2000 - n) n rows t ≡ Goes after)
 
-reached-before : (rows : RowList) (n m : ℕ) (t u : Table) → n < m → PivotsTo rows n t → PivotsTo rows m u → GoesOn rows n t
+reached-before : (rows : RowList) (n m : ℕ) (t u : Table) → n < m → PivotsTo rows n t → PivotsTo rows m u →
+    GoesOn rows n t
 reached-before rows n m t u less r PivotsTo.at_first = absurd (omega (arith, less))
 reached-before rows n m t u less r (PivotsTo.goes_on {pivots = q} {table = own} after s gives) =
     elim (cases_lt n q) [
@@ -303,5 +302,6 @@ comes-once rows goal a b (Comes.lowered n t l c d x) (Comes.lowered m u k e g y)
     lowered-answers rows goal n m t u l k a b d x g y
 
 -- The least run on rows and a goal has one answer.
-pub least-once : (rows : RowList) (goal : Form) (a b : SolvedLeast) → LeastRun rows goal a → LeastRun rows goal b → a ≡ b
+pub least-once : (rows : RowList) (goal : Form) (a b : SolvedLeast) → LeastRun rows goal a → LeastRun rows goal b →
+    a ≡ b
 least-once rows goal a b run other = comes-once rows goal a b (comes rows goal a run) (comes rows goal b other)

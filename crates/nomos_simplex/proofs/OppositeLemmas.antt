@@ -139,6 +139,9 @@ module _ (j : ℕ) (left : Line) (h : j < length left.coefs) (n : ¬ (coef_at j 
   pub oriented_width : length (oriented_of j left).coefs ≡ length left.coefs
   oriented_width = by_sign (λ l. length l.coefs ≡ length left.coefs) refl (length-map left.coefs neg_ℤ)
 
+  pub oriented_basic : (oriented_of j left).basic ≡ left.basic
+  oriented_basic = by_sign (λ l. l.basic ≡ left.basic) refl refl
+
   pub oriented_numbers : HasNumbers left → HasNumbers (oriented_of j left)
   oriented_numbers m = by_sign HasNumbers m (opposite_numbers left m)
 

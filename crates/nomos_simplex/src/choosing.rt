@@ -1,22 +1,12 @@
 //! The choice of the variables that are exchanged.
-ghost use Rattle.std.specs.Prelude.{◌≡◌, ◌<◌, ◌≤◌, length, All, slice_index, map, IfSome};
+ghost use Rattle.std.specs.Prelude.{◌≡◌, ◌<◌, length, pos, int_lt, slice_index, slice_index_or, map, IfSome};
+ghost use Rattle.nomos_forms.specs.declared.row_list.RowList.{RowList};
 ghost use Rattle.nomos_simplex.specs.Lowest as lowest;
-ghost use Rattle.nomos_simplex.specs.Lowest.{lower_of};
-ghost use Rattle.nomos_simplex.specs.Sizes.{IsLine};
+ghost use Rattle.nomos_simplex.specs.Lowest.{lower_of, lowest_place};
+ghost use Rattle.nomos_simplex.specs.mirror.Keeping.{Shows};
 
-use crate::bounds::{add_bounded, bound, sum_at_bounds};
+use crate::keeping::Kept;
 use crate::table::{Line, Table};
-use nomos_forms::row_list::RowList;
-
-/// Whether the basic variable of a line is below its bound, with the nonbasic variables at theirs.
-fn is_below(rows: &RowList, nonbasic: &[usize], line: &Line) -> bool
-    requires few { length nonbasic.now ≤ 64 }
-    requires line { IsLine (length nonbasic.now) line.now }
-    ensures { result ≡ lowest.is_below rows.now nonbasic.now line.now }
-{
-    let least = add_bounded(0, line.times, bound(rows, line.basic));
-    sum_at_bounds(rows, nonbasic, line.coefs.as_slice()) < least
-}
 
 /// The place of the line with the lower basic variable.
 fn lower_line(lines: &[Line], place: usize, best: Option<usize>) -> usize
@@ -37,16 +27,16 @@ fn lower_line(lines: &[Line], place: usize, best: Option<usize>) -> usize
     }
 }
 
-/// The place of the line of the lowest basic variable below its bound.
-fn leaving_of(rows: &RowList, nonbasic: &[usize], lines: &[Line]) -> Option<usize>
-    requires few { length nonbasic.now ≤ 64 }
-    requires lines { All (IsLine (length nonbasic.now)) lines.now }
-    ensures choice { result ≡ lowest.leaving rows.now (record { nonbasic = nonbasic.now; lines = lines.now }) }
+/// The place of the line of the lowest basic variable of those that are below their bounds.
+fn leaving_of(over: &[i128], lines: &[Line]) -> Option<usize>
+    requires { length over.now ≡ length lines.now }
+    ensures choice { result ≡ lowest_place (λ i. int_lt (slice_index_or over.now i (pos 0)) (pos 0))
+        (λ i. slice_index (map (λ line. line.basic) lines.now) i) (length lines.now) }
     ensures place { IfSome result (λ place. place < length lines.now) }
 {
     let mut best = None;
     for place in 0..lines.len() {
-        if is_below(rows, nonbasic, &lines[place]) {
+        if over[place] < 0 {
             best = Some(lower_line(lines, place, best));
         }
     }
@@ -54,13 +44,12 @@ fn leaving_of(rows: &RowList, nonbasic: &[usize], lines: &[Line]) -> Option<usiz
 }
 
 /// The place of the line of the lowest basic variable below its bound.
-pub fn leaving(rows: &RowList, table: &Table) -> Option<usize>
-    requires few { length table.now.nonbasic ≤ 64 }
-    requires lines { All (IsLine (length table.now.nonbasic)) table.now.lines }
-    ensures choice { result ≡ lowest.leaving rows.now table.now }
-    ensures place { IfSome result (λ place. place < length table.now.lines) }
+pub fn leaving(kept: &Kept) -> Option<usize>
+    requires { length kept.now.over ≡ length kept.now.table.lines }
+    ensures choice { (rows : RowList) → Shows rows kept.now → result ≡ lowest.leaving rows kept.now.table }
+    ensures place { IfSome result (λ place. place < length kept.now.table.lines) }
 {
-    leaving_of(rows, table.nonbasic.as_slice(), table.lines.as_slice())
+    leaving_of(kept.over.as_slice(), kept.table.lines.as_slice())
 }
 
 /// The column of the lower nonbasic variable.

@@ -1,53 +1,80 @@
 //! The exchange of a basic and a nonbasic variable.
-ghost use Rattle.std.specs.Prelude.{◌≡◌, ◌<◌, pos, ◌<ℤ◌, length, map, All, IfOk, slice_get, Some};
+ghost use Rattle.std.specs.Prelude.{◌≡◌, ◌<◌, ℕ, ◌≤◌, ◌++◌, [], ◌∷◌, pos, length, map, All, IfOk, slice_get, slice_index_or, Some};
 ghost use Rattle.std.specs.List.{list_any};
-ghost use Rattle.nomos_simplex.specs.Divisors.{in_lowest_terms};
-ghost use Rattle.nomos_simplex.specs.Exchange.{coef_at, put_into, lines_exchanged, exchanged, is_large as is_large_number, is_large_line, is_large_table};
+ghost use Rattle.nomos_simplex.specs.Exchange.{coef_at, exchanged, is_large as is_large_number, is_large_line};
 ghost use Rattle.nomos_simplex.specs.declared.table.Line.{Line};
 ghost use Rattle.nomos_simplex.specs.Sizes.{HasNumbers, IsLine, IsLowest};
+ghost use Rattle.nomos_simplex.specs.mirror.Keeping.{over_of as over_at, Shows, IsEntry, entered, solved_line, IsMade, AreMade, IsKeptOrLarge};
 ghost use Rattle.nomos_simplex.specs.mirror.Opposite.{oriented_of};
 
+use crate::bounds::over_of;
+use crate::keeping::Kept;
 use crate::lines::{enter, opposite_line, solved};
 use crate::table::{Line, Table};
+use nomos_forms::row_list::RowList;
 use nomos_ir::items::Items;
 use std::alloc::{AllocError, Global};
 
-/// Puts the entering variable into lines.
-fn enter_all(
-    alloc: Global,
-    column: usize,
-    left: &Line,
-    lines: &mut [Line],
-) -> Result<(), AllocError>
-    requires column { column < length left.now.coefs }
-    requires left { HasNumbers left.now }
-    requires over_zero { pos 0 <ℤ coef_at column left.now }
-    requires lines { All (IsLine (length left.now.coefs)) lines.old }
-    requires lowest { All IsLowest lines.old }
-    ensures { IfOk result (λ _. lines.new ≡ map (λ line. in_lowest_terms (put_into column left.now line)) lines.old) }
-{
-    for i in 0..lines.len() {
-        enter(alloc, column, left, &mut lines[i])?;
-    }
-    Ok(())
+/// What an exchange does to a line: a variable enters, whose column it is, by the line that is left, where its
+/// coefficient is over 0. The nonbasic variables are those after the exchange.
+#[derive(Drop)]
+pub(crate) struct Entry {
+    pub(crate) column: usize,
+    pub(crate) entering: usize,
+    pub(crate) left: Line,
+    pub(crate) nonbasic: Vec<usize>,
 }
 
-/// Puts the entering variable into the lines of a list.
-fn enter_others(
+/// Puts the entering variable into a line, whose own variable was so far over its bound, and says how far it then is,
+/// unless a number is then too large. A line without the entering variable stays as it is.
+fn enter_kept(
     alloc: Global,
-    column: usize,
-    left: &Line,
-    lines: &mut Vec<Line>,
-) -> Result<(), AllocError>
-    requires column { column < length left.now.coefs }
-    requires left { HasNumbers left.now }
-    requires over_zero { pos 0 <ℤ coef_at column left.now }
-    requires lines { All (IsLine (length left.now.coefs)) lines.old.items }
-    requires lowest { All IsLowest lines.old.items }
-    ensures { IfOk result
-        (λ _. lines.new.items ≡ map (λ line. in_lowest_terms (put_into column left.now line)) lines.old.items) }
+    rows: &RowList,
+    entry: &Entry,
+    line: &mut Line,
+    over: i128,
+) -> Result<Option<i128>, AllocError>
+    requires entry { IsEntry entry.now }
+    requires line { IsLine (length entry.now.left.coefs) line.old }
+    requires lowest { IsLowest line.old }
+    requires over { coef_at entry.now.column line.old ≡ pos 0 →
+        over ≡ over_at rows.now entry.now.nonbasic.items line.old }
+    ensures { IfOk result (IsMade rows.now entry.now (entered entry.now line.old) line.new) }
 {
-    enter_all(alloc, column, left, lines)
+    if line.coefs.as_slice()[entry.column] == 0 {
+        return Ok(Some(over));
+    }
+    enter(alloc, entry.column, &entry.left, line)?;
+    if has_large_number(line) {
+        return Ok(None);
+    }
+    Ok(Some(over_of(rows, &entry.nonbasic, line)))
+}
+
+/// Puts the entering variable into lines, and says whether a number is then too large.
+fn enter_all(
+    alloc: Global,
+    rows: &RowList,
+    entry: &Entry,
+    lines: &mut [Line],
+    over: &mut [i128],
+) -> Result<bool, AllocError>
+    requires entry { IsEntry entry.now }
+    requires lines { All (IsLine (length entry.now.left.coefs)) lines.old }
+    requires lowest { All IsLowest lines.old }
+    requires width { length over.old ≡ length lines.old }
+    requires over { (k : ℕ) → (d : Line) → k < length lines.old →
+        coef_at entry.now.column (slice_index_or lines.old k d) ≡ pos 0 → slice_index_or over.old k (pos 0) ≡
+        over_at rows.now entry.now.nonbasic.items (slice_index_or lines.old k d) }
+    ensures { IfOk result (AreMade rows.now entry.now (map (entered entry.now) lines.old) lines.new over.new) }
+{
+    for i in 0..lines.len() {
+        match enter_kept(alloc, rows, entry, &mut lines[i], over[i])? {
+            Some(next) => over[i] = next,
+            None => return Ok(true),
+        }
+    }
+    Ok(false)
 }
 
 /// A line, or its opposite where the coefficient in a column is below 0.
@@ -62,56 +89,85 @@ fn oriented(alloc: Global, column: usize, line: Line) -> Result<Line, AllocError
     Ok(line)
 }
 
-/// The lines with the entering variable put in, and at their end the line at a place, solved for it.
-fn exchanged_lines(
+/// Puts the entering variable into lines, puts the line that is left behind them, solved for it, and says whether a
+/// number is then too large.
+fn exchange_lines(
     alloc: Global,
-    mut lines: Vec<Line>,
-    place: usize,
-    column: usize,
-    entering: usize,
-) -> Result<Vec<Line>, AllocError>
-    requires place { place < length lines.items }
-    requires column { (left : Line) → slice_get lines.items place ≡ Some left → column < length left.coefs }
-    requires lines { (left : Line) → slice_get lines.items place ≡ Some left →
-        All (IsLine (length left.coefs)) lines.items }
-    requires lowest { All IsLowest lines.items }
-    requires not_zero { (left : Line) → slice_get lines.items place ≡ Some left → ¬ (coef_at column left ≡ pos 0) }
-    ensures { (left : Line) → slice_get lines.items place ≡ Some left →
-        IfOk result (λ made. made.items ≡ lines_exchanged place column entering left lines.items) }
+    rows: &RowList,
+    entry: &Entry,
+    lines: &mut Vec<Line>,
+    over: &mut Vec<i128>,
+) -> Result<bool, AllocError>
+    requires entry { IsEntry entry.now }
+    requires lines { All (IsLine (length entry.now.left.coefs)) lines.old.items }
+    requires lowest { All IsLowest lines.old.items }
+    requires width { length over.old.items ≡ length lines.old.items }
+    requires over { (k : ℕ) → (d : Line) → k < length lines.old.items →
+        coef_at entry.now.column (slice_index_or lines.old.items k d) ≡ pos 0 →
+        slice_index_or over.old.items k (pos 0) ≡
+        over_at rows.now entry.now.nonbasic.items (slice_index_or lines.old.items k d) }
+    ensures { IfOk result (AreMade rows.now entry.now
+        (map (entered entry.now) lines.old.items ++ solved_line entry.now ∷ []) lines.new.items over.new.items) }
 {
-    let left = oriented(alloc, column, lines.remove(place))?;
-    enter_others(alloc, column, &left, &mut lines)?;
-    let entered = solved(alloc, column, entering, &left)?;
-    lines.push(entered)?;
-    Ok(lines)
+    let large = enter_all(alloc, rows, entry, lines, over)?;
+    if large {
+        return Ok(true);
+    }
+    let line = solved(alloc, entry.column, entry.entering, &entry.left)?;
+    if has_large_number(&line) {
+        return Ok(true);
+    }
+    over.push(over_of(rows, &entry.nonbasic, &line))?;
+    lines.push(line)?;
+    Ok(false)
 }
 
-/// Exchanges the basic variable of the line at a place with the nonbasic variable of a column.
-pub fn exchange(
+/// Exchanges the basic variable of the line at a place with the nonbasic variable of a column, unless a number is then
+/// too large.
+pub(crate) fn exchange(
     alloc: Global,
-    table: Table,
+    rows: &RowList,
+    kept: Kept,
     place: usize,
     column: usize,
-) -> Result<Table, AllocError>
-    requires place { place < length table.lines }
-    requires column { column < length table.nonbasic }
-    requires lines { All (IsLine (length table.nonbasic)) table.lines }
-    requires lowest { All IsLowest table.lines }
-    requires not_zero { (left : Line) → slice_get table.lines place ≡ Some left → ¬ (coef_at column left ≡ pos 0) }
-    ensures { (left : Line) → slice_get table.lines place ≡ Some left →
-        IfOk result (λ made. made ≡ exchanged place column left table) }
+) -> Result<Option<Kept>, AllocError>
+    requires shows { Shows rows.now kept }
+    requires few { length kept.table.nonbasic ≤ 64 }
+    requires place { place < length kept.table.lines }
+    requires column { column < length kept.table.nonbasic }
+    requires lines { All (IsLine (length kept.table.nonbasic)) kept.table.lines }
+    requires lowest { All IsLowest kept.table.lines }
+    requires not_zero { (left : Line) → slice_get kept.table.lines place ≡ Some left →
+        ¬ (coef_at column left ≡ pos 0) }
+    ensures { (left : Line) → slice_get kept.table.lines place ≡ Some left →
+        IfOk result (IsKeptOrLarge rows.now (exchanged place column left kept.table)) }
 {
+    let Kept { table, over } = kept;
     let Table { nonbasic, lines } = table;
     let mut nonbasic = nonbasic.into_vec();
-    let lines = lines.into_vec();
-    let leaving = lines[place].basic;
+    let mut lines = lines.into_vec();
+    let mut over = over.into_vec();
+    let left = oriented(alloc, column, lines.remove(place))?;
+    let _over = over.remove(place);
     let entering = nonbasic[column];
-    nonbasic[column] = leaving;
-    let made = exchanged_lines(alloc, lines, place, column, entering)?;
-    Ok(Table {
-        nonbasic: Items::of_vec(nonbasic),
-        lines: Items::of_vec(made),
-    })
+    nonbasic[column] = left.basic;
+    let entry = Entry {
+        column,
+        entering,
+        left,
+        nonbasic,
+    };
+    let large = exchange_lines(alloc, rows, &entry, &mut lines, &mut over)?;
+    if large {
+        return Ok(None);
+    }
+    Ok(Some(Kept {
+        table: Table {
+            nonbasic: Items::of_vec(entry.nonbasic),
+            lines: Items::of_vec(lines),
+        },
+        over: Items::of_vec(over),
+    }))
 }
 
 /// The absolute value from which on a number is too large.
@@ -141,16 +197,4 @@ pub fn has_large_number(line: &Line) -> bool
     let times = is_large(line.times);
     let coefs = has_large(line.coefs.as_slice());
     times || coefs
-}
-
-/// Whether a number of the table is too large.
-pub fn is_too_large(table: &Table) -> bool
-    ensures { result ≡ is_large_table table.now }
-{
-    let mut large = false;
-    for line in table.lines.as_slice() {
-        let next = has_large_number(line);
-        large = large || next;
-    }
-    large
 }

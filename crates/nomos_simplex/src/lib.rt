@@ -7,6 +7,7 @@ mod divisors;
 mod exchanging;
 mod fractions;
 mod goal;
+mod keeping;
 mod lines;
 pub mod lowering;
 mod nearest;

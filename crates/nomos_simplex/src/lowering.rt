@@ -18,17 +18,19 @@ ghost use Rattle.nomos_simplex.specs.Sizes.{IsNumber, IsLine, IsLowest, IsTable,
 ghost use Rattle.nomos_simplex.specs.declared.solved.Proof.{Proof};
 ghost use Rattle.nomos_simplex.specs.declared.solved.SolvedLeast.TheVariants as least;
 ghost use Rattle.nomos_simplex.specs.declared.table.Line.{Line};
-ghost use Rattle.nomos_simplex.specs.mirror.Steps.{IsNext, IsNotFound, MayLeave, StandsAt};
+ghost use Rattle.nomos_simplex.specs.mirror.Keeping.{Shows};
+ghost use Rattle.nomos_simplex.specs.mirror.Steps.{IsNext, IsNotFound, MayLeave, StandsAt, IsAimedOrLarge};
 
-use crate::exchanging::{exchange, has_large_number, is_too_large};
+use crate::exchanging::{exchange, has_large_number};
 use crate::fractions::found;
 use crate::goal::goal_line;
+use crate::keeping::Kept;
 use crate::lines::{enter, negated, opposite_line};
 use crate::nearest::{lowering, nearest};
 use crate::refusing::{resolved, times_of, weights_of};
 use crate::solved::{Proof, Solved, SolvedLeast, Stop};
 use crate::solving::{BUDGET, Sought, seek};
-use crate::table::{Line, Table};
+use crate::table::Line;
 use nomos_forms::form::Form;
 use nomos_forms::found::Found;
 use nomos_forms::meeting::value_of;
@@ -36,10 +38,10 @@ use nomos_forms::row_list::RowList;
 use nomos_ir::items::Items;
 use std::alloc::{AllocError, Global};
 
-/// A table, and the line of the goal over its nonbasic variables.
+/// What is kept of a table, and the line of the goal over its nonbasic variables.
 #[derive(Drop)]
 pub(crate) struct Aimed {
-    pub(crate) table: Table,
+    pub(crate) kept: Kept,
     pub(crate) line: Line,
 }
 
@@ -51,28 +53,36 @@ pub(crate) enum LeastTurn {
 }
 
 /// Exchanges the basic variable of the line at a place, where the coefficient is below 0, with the nonbasic variable of
-/// a column, in the goal's line too.
+/// a column, in the goal's line too, unless a number is then too large.
 fn exchange_aimed(
     alloc: Global,
+    rows: &RowList,
     aimed: Aimed,
     place: usize,
     column: usize,
-) -> Result<Aimed, AllocError>
-    requires place { MayLeave aimed.table column place }
-    requires column { column < length aimed.table.nonbasic }
-    requires lines { All (IsLine (length aimed.table.nonbasic)) aimed.table.lines }
-    requires lowest { All IsLowest aimed.table.lines }
-    requires line { IsLine (length aimed.table.nonbasic) aimed.line }
+) -> Result<Option<Aimed>, AllocError>
+    requires shows { Shows rows.now aimed.kept }
+    requires few { length aimed.kept.table.nonbasic ≤ 64 }
+    requires place { MayLeave aimed.kept.table column place }
+    requires column { column < length aimed.kept.table.nonbasic }
+    requires lines { All (IsLine (length aimed.kept.table.nonbasic)) aimed.kept.table.lines }
+    requires lowest { All IsLowest aimed.kept.table.lines }
+    requires line { IsLine (length aimed.kept.table.nonbasic) aimed.line }
     requires lowest_line { IsLowest aimed.line }
-    ensures { (left : Line) → slice_get aimed.table.lines place ≡ Some left →
-        IfOk result (λ made. (made.table ≡ exchanged place column left aimed.table) ×
-        (made.line ≡ line_exchanged column left aimed.line)) }
+    ensures { (left : Line) → slice_get aimed.kept.table.lines place ≡ Some left →
+        IfOk result (IsAimedOrLarge rows.now (exchanged place column left aimed.kept.table)
+        (line_exchanged column left aimed.line)) }
 {
-    let Aimed { table, mut line } = aimed;
-    let left = opposite_line(alloc, &table.lines.as_slice()[place])?;
+    let Aimed { kept, mut line } = aimed;
+    let left = opposite_line(alloc, &kept.table.lines.as_slice()[place])?;
     enter(alloc, column, &left, &mut line)?;
-    let table = exchange(alloc, table, place, column)?;
-    Ok(Aimed { table, line })
+    if has_large_number(&line) {
+        return Ok(None);
+    }
+    match exchange(alloc, rows, kept, place, column)? {
+        Some(kept) => Ok(Some(Aimed { kept, line })),
+        None => Ok(None),
+    }
 }
 
 /// A goal's value as a total, if it is one.
@@ -96,12 +106,12 @@ const TOO_MUCH: i128 = 1 << 62;
 
 /// The weights of the coefficients over 0 of the goal's line, with its scale.
 fn proof_at(alloc: Global, rows: &RowList, aimed: &Aimed, total: u64) -> Result<Proof, AllocError>
-    requires line { IsLine (length aimed.now.table.nonbasic) aimed.now.line }
-    requires nonbasic { All (IsVariable rows.now) aimed.now.table.nonbasic }
-    ensures { IfOk result (λ made. made ≡ proof_of rows.now aimed.now.table aimed.now.line total) }
+    requires line { IsLine (length aimed.now.kept.table.nonbasic) aimed.now.line }
+    requires nonbasic { All (IsVariable rows.now) aimed.now.kept.table.nonbasic }
+    ensures { IfOk result (λ made. made ≡ proof_of rows.now aimed.now.kept.table aimed.now.line total) }
 {
     let negated = negated(alloc, aimed.line.coefs.as_slice())?;
-    let weights = weights_of(alloc, aimed.table.nonbasic.as_slice(), &negated)?;
+    let weights = weights_of(alloc, aimed.kept.table.nonbasic.as_slice(), &negated)?;
     let list = resolved(alloc, rows, &weights)?;
     Ok(Proof {
         scale: times_of(aimed.line.times),
@@ -119,11 +129,11 @@ fn end_at(
     pivots: u32,
 ) -> Result<SolvedLeast, AllocError>
     requires goal { IsForm rows.now.stars goal.now }
-    requires run { Lowers rows.now goal.now pivots aimed.now.table aimed.now.line }
-    ensures { IfOk result (λ answer. answer ≡ least_or_large pivots rows.now goal.now aimed.now.table aimed.now.line
-        (found_or_large pivots (fractions rows.now aimed.now.table))) }
+    requires run { Lowers rows.now goal.now pivots aimed.now.kept.table aimed.now.line }
+    ensures { IfOk result (λ answer. answer ≡ least_or_large pivots rows.now goal.now aimed.now.kept.table
+        aimed.now.line (found_or_large pivots (fractions rows.now aimed.now.kept.table))) }
 {
-    match found(alloc, rows, &aimed.table, pivots)? {
+    match found(alloc, rows, &aimed.kept.table, pivots)? {
         Solved::Found(found) => {
             let Some(total) = total_of(goal, &found) else {
                 return Ok(SolvedLeast::Unsolved(Stop::Large(pivots)));
@@ -147,23 +157,23 @@ fn turn_of(
     requires goal { IsForm rows.now.stars goal.now }
     requires coefs { All (λ c. pos 0 ≤ℤ c) goal.now.coefs }
     requires pivots { pivots ≤ 2000 }
-    requires run { Lowers rows.now goal.now pivots aimed.table aimed.line }
+    requires run { Lowers rows.now goal.now pivots aimed.kept.table aimed.line }
+    requires shows { Shows rows.now aimed.kept }
     ensures { IfOk result (IsNext rows.now goal.now pivots) }
 {
-    let Some(column) = lowering(&aimed.table, &aimed.line) else {
+    let Some(column) = lowering(&aimed.kept.table, &aimed.line) else {
         return Ok(LeastTurn::Ends(end_at(alloc, rows, goal, &aimed, pivots)?));
     };
-    let Some(place) = nearest(rows, &aimed.table, column) else {
+    let Some(place) = nearest(&aimed.kept, column) else {
         unreachable!()
     };
     if pivots >= BUDGET {
         return Ok(LeastTurn::Ends(SolvedLeast::Unsolved(Stop::Pivots)));
     }
-    let after = exchange_aimed(alloc, aimed, place, column)?;
-    if is_too_large(&after.table) || has_large_number(&after.line) {
-        return Ok(LeastTurn::Ends(SolvedLeast::Unsolved(Stop::Large(pivots + 1))));
+    match exchange_aimed(alloc, rows, aimed, place, column)? {
+        Some(after) => Ok(LeastTurn::Goes(after)),
+        None => Ok(LeastTurn::Ends(SolvedLeast::Unsolved(Stop::Large(pivots + 1)))),
     }
-    Ok(LeastTurn::Goes(after))
 }
 
 /// The least run from a table and the goal's line on, after so many pivots.
@@ -177,7 +187,8 @@ fn lower(
     requires goal { IsForm rows.now.stars goal.now }
     requires coefs { All (λ c. pos 0 ≤ℤ c) goal.now.coefs }
     requires pivots { pivots ≤ 2000 }
-    requires run { Lowers rows.now goal.now pivots aimed.table aimed.line }
+    requires run { Lowers rows.now goal.now pivots aimed.kept.table aimed.line }
+    requires shows { Shows rows.now aimed.kept }
     ensures { IfOk result (LeastRun rows.now goal.now) }
 {
     for made in pivots..BUDGET {
@@ -197,19 +208,20 @@ fn lower_from(
     alloc: Global,
     rows: &RowList,
     goal: &Form,
-    table: Table,
+    kept: Kept,
     pivots: u32,
 ) -> Result<SolvedLeast, AllocError>
     requires goal { IsForm rows.now.stars goal.now }
     requires coefs { All (λ c. pos 0 ≤ℤ c) goal.now.coefs }
     requires pivots { pivots ≤ 2000 }
-    requires run { EndsFound rows.now pivots table }
+    requires run { EndsFound rows.now pivots kept.table }
+    requires shows { Shows rows.now kept }
     ensures { IfOk result (LeastRun rows.now goal.now) }
 {
-    let Some(line) = goal_line(alloc, &table, goal)? else {
+    let Some(line) = goal_line(alloc, &kept.table, goal)? else {
         return Ok(SolvedLeast::Unsolved(Stop::Large(pivots)));
     };
-    lower(alloc, rows, goal, Aimed { table, line }, pivots)
+    lower(alloc, rows, goal, Aimed { kept, line }, pivots)
 }
 
 /// An answer of the pivot run without amounts, as one of the least run.
@@ -229,16 +241,16 @@ fn run_on(
     alloc: Global,
     rows: &RowList,
     goal: &Form,
-    table: Table,
+    kept: Kept,
     pivots: u32,
 ) -> Result<SolvedLeast, AllocError>
     requires goal { IsForm rows.now.stars goal.now }
     requires coefs { All (λ c. pos 0 ≤ℤ c) goal.now.coefs }
-    requires stands { StandsAt rows.now table pivots }
+    requires stands { StandsAt rows.now kept pivots }
     ensures { IfOk result (LeastRun rows.now goal.now) }
 {
-    match found(alloc, rows, &table, pivots)? {
-        Solved::Found(_) => lower_from(alloc, rows, goal, table, pivots),
+    match found(alloc, rows, &kept.table, pivots)? {
+        Solved::Found(_) => lower_from(alloc, rows, goal, kept, pivots),
         Solved::Refuted(verdict) => Ok(SolvedLeast::Refuted(verdict)),
         Solved::Unsolved(stop) => Ok(SolvedLeast::Unsolved(stop)),
     }
@@ -251,7 +263,7 @@ fn run_both(alloc: Global, rows: &RowList, goal: &Form) -> Result<SolvedLeast, A
     ensures { IfOk result (LeastRun rows.now goal.now) }
 {
     match seek(alloc, rows)? {
-        Sought::Stands(table, pivots) => run_on(alloc, rows, goal, table, pivots),
+        Sought::Stands(kept, pivots) => run_on(alloc, rows, goal, kept, pivots),
         Sought::Ends(solved) => Ok(without_amounts(solved)),
     }
 }

@@ -1,16 +1,15 @@
 //! The choice of the variables whose exchange lowers a goal.
-ghost use Rattle.std.specs.Prelude.{◌≡◌, ◌<◌, ◌≤◌, ◌^◌, pos, ◌<ℤ◌, length, All, IfSome};
-ghost use Rattle.nomos_simplex.specs.Exchange.{coef_at};
+ghost use Rattle.std.specs.Prelude.{◌≡◌, ◌<◌, length, IfSome};
 ghost use Rattle.nomos_simplex.specs.Lowest.{former_of};
 ghost use Rattle.nomos_simplex.specs.Nearest as nearest;
 ghost use Rattle.nomos_simplex.specs.Nearest.{line_at};
-ghost use Rattle.nomos_simplex.specs.Sizes.{IsLine};
-ghost use Rattle.nomos_simplex.specs.mirror.Steps.{IsReach, MayLeave, TableFits};
+ghost use Rattle.nomos_simplex.specs.mirror.Keeping.{Shows};
+ghost use Rattle.nomos_simplex.specs.mirror.Steps.{IsReach, MayLeave, KeptFits};
+ghost use Rattle.nomos_forms.specs.declared.row_list.RowList.{RowList};
 
 use crate::choosing::lower_column;
-use crate::refusing::missing;
+use crate::keeping::Kept;
 use crate::table::{Line, Table};
-use nomos_forms::row_list::RowList;
 
 /// The column of the lowest nonbasic variable with a coefficient below 0 in the goal's line.
 pub fn lowering(table: &Table, line: &Line) -> Option<usize>
@@ -32,17 +31,18 @@ pub fn lowering(table: &Table, line: &Line) -> Option<usize>
 /// A distance over the size of a coefficient.
 type Reach = (u128, u128);
 
-/// How far the variable of a column may rise before the variable of a line comes to its bound.
-fn reach(rows: &RowList, nonbasic: &[usize], column: usize, line: &Line) -> Reach
-    requires few { length nonbasic.now ≤ 64 }
-    requires line { IsLine (length nonbasic.now) line.now }
-    requires column { column < length nonbasic.now }
-    requires below { coef_at column line.now <ℤ pos 0 }
-    ensures value { result ≡ nearest.reach rows.now nonbasic.now column line.now }
+/// How far the variable of a column may rise before the variable of the line at a place comes to its bound.
+fn reach(kept: &Kept, column: usize, place: usize) -> Reach
+    requires table { KeptFits kept.now }
+    requires column { column < length kept.now.table.nonbasic }
+    requires place { MayLeave kept.now.table column place }
+    ensures value { (rows : RowList) → Shows rows kept.now →
+        result ≡ nearest.reach rows kept.now.table.nonbasic column (line_at kept.now.table.lines place) }
     ensures size { IsReach result }
 {
-    let coef = line.coefs.as_slice()[column];
-    (missing(rows, nonbasic, line), coef.unsigned_abs())
+    let over = kept.over.as_slice()[place];
+    let coef = kept.table.lines.as_slice()[place].coefs.as_slice()[column];
+    (over.unsigned_abs(), coef.unsigned_abs())
 }
 
 /// Whether one fraction is less than another. Products of the whole fractions would be too wide, so whole parts are
@@ -61,18 +61,17 @@ fn is_less(f: Reach, g: Reach) -> bool
 }
 
 /// Whether the line at a place comes before that at another.
-fn is_nearer(rows: &RowList, table: &Table, column: usize, place: usize, other: usize) -> bool
-    requires table { TableFits table.now }
-    requires column { column < length table.now.nonbasic }
-    requires place { MayLeave table.now column place }
-    requires other { MayLeave table.now column other }
-    ensures { result ≡ nearest.is_nearer rows.now table.now.nonbasic column
-        (line_at table.now.lines place) (line_at table.now.lines other) }
+fn is_nearer(kept: &Kept, column: usize, place: usize, other: usize) -> bool
+    requires table { KeptFits kept.now }
+    requires column { column < length kept.now.table.nonbasic }
+    requires place { MayLeave kept.now.table column place }
+    requires other { MayLeave kept.now.table column other }
+    ensures { (rows : RowList) → Shows rows kept.now → result ≡ nearest.is_nearer rows kept.now.table.nonbasic column
+        (line_at kept.now.table.lines place) (line_at kept.now.table.lines other) }
 {
-    let nonbasic = table.nonbasic.as_slice();
-    let lines = table.lines.as_slice();
-    let first = reach(rows, nonbasic, column, &lines[place]);
-    let second = reach(rows, nonbasic, column, &lines[other]);
+    let lines = kept.table.lines.as_slice();
+    let first = reach(kept, column, place);
+    let second = reach(kept, column, other);
     if is_less(first, second) {
         return true;
     }
@@ -83,24 +82,19 @@ fn is_nearer(rows: &RowList, table: &Table, column: usize, place: usize, other: 
 }
 
 /// The one of two places that comes first.
-fn nearer_line(
-    rows: &RowList,
-    table: &Table,
-    column: usize,
-    place: usize,
-    best: Option<usize>,
-) -> usize
-    requires table { TableFits table.now }
-    requires column { column < length table.now.nonbasic }
-    requires place { MayLeave table.now column place }
-    requires best { IfSome best (MayLeave table.now column) }
-    ensures nearer { result ≡ former_of (λ i k. nearest.is_nearer rows.now table.now.nonbasic column
-        (line_at table.now.lines i) (line_at table.now.lines k)) place best }
-    ensures place { MayLeave table.now column result }
+fn nearer_line(kept: &Kept, column: usize, place: usize, best: Option<usize>) -> usize
+    requires table { KeptFits kept.now }
+    requires column { column < length kept.now.table.nonbasic }
+    requires place { MayLeave kept.now.table column place }
+    requires best { IfSome best (MayLeave kept.now.table column) }
+    ensures nearer { (rows : RowList) → Shows rows kept.now → result ≡
+        former_of (λ i k. nearest.is_nearer rows kept.now.table.nonbasic column
+        (line_at kept.now.table.lines i) (line_at kept.now.table.lines k)) place best }
+    ensures place { MayLeave kept.now.table column result }
 {
     match best {
         Some(other) => {
-            if is_nearer(rows, table, column, place, other) {
+            if is_nearer(kept, column, place, other) {
                 place
             } else {
                 other
@@ -112,17 +106,18 @@ fn nearer_line(
 
 /// The place of the line whose variable leaves: of those with a coefficient below 0 in a column, the one that comes to
 /// its bound first as the variable of the column rises, and of equal ones the lowest.
-pub fn nearest(rows: &RowList, table: &Table, column: usize) -> Option<usize>
-    requires table { TableFits table.now }
-    requires column { column < length table.now.nonbasic }
-    ensures choice { result ≡ nearest.nearest rows.now table.now column }
-    ensures place { IfSome result (MayLeave table.now column) }
+pub(crate) fn nearest(kept: &Kept, column: usize) -> Option<usize>
+    requires table { KeptFits kept.now }
+    requires column { column < length kept.now.table.nonbasic }
+    ensures choice { (rows : RowList) → Shows rows kept.now →
+        result ≡ nearest.nearest rows kept.now.table column }
+    ensures place { IfSome result (MayLeave kept.now.table column) }
 {
-    let lines = table.lines.as_slice();
+    let lines = kept.table.lines.as_slice();
     let mut best = None;
     for place in 0..lines.len() {
         if lines[place].coefs.as_slice()[column] < 0 {
-            best = Some(nearer_line(rows, table, column, place, best));
+            best = Some(nearer_line(kept, column, place, best));
         }
     }
     best

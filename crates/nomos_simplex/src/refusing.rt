@@ -5,7 +5,7 @@ ghost use Rattle.nomos_simplex.specs.Exits.{with_weight, weights_below};
 ghost use Rattle.nomos_simplex.specs.Sizes.{IsNumber, IsLine, IsVariable};
 ghost use Rattle.nomos_simplex.specs.Tables.{bound_of, sum_at};
 
-use crate::bounds::{add_bounded, bound, sum_at_bounds};
+use crate::bounds::over_of;
 use crate::table::{Line, Table};
 use nomos_forms::row::Row;
 use nomos_forms::row_list::RowList;
@@ -112,36 +112,15 @@ pub fn resolved(
     Ok(list)
 }
 
-/// The bound of the variable of a line, times the number before it.
-fn least_of(rows: &RowList, line: &Line) -> i128
-    requires { IsNumber line.now.times }
-    ensures value { result ≡ line.now.times *ℤ bound_of rows.now line.now.basic }
-    ensures size { unsigned_abs result ≤ 2 ^ 113 }
-{
-    add_bounded(0, line.times, bound(rows, line.basic))
-}
-
-/// The distance of two sums.
-fn distance(a: i128, b: i128) -> u128
-    requires a { unsigned_abs a ≤ 2 ^ 113 }
-    requires b { unsigned_abs b ≤ 2 ^ 113 }
-    ensures value { result ≡ unsigned_abs (a -ℤ b) }
-    ensures size { result ≤ 2 ^ 114 }
-{
-    (a - b).unsigned_abs()
-}
-
 /// How far the variable of a line is from its bound, times the number before it.
-pub fn missing(rows: &RowList, nonbasic: &[usize], line: &Line) -> u128
+fn missing(rows: &RowList, nonbasic: &[usize], line: &Line) -> u128
     requires few { length nonbasic.now ≤ 64 }
     requires line { IsLine (length nonbasic.now) line.now }
     ensures value { result ≡ unsigned_abs (line.now.times *ℤ bound_of rows.now line.now.basic
         -ℤ sum_at (bound_of rows.now) nonbasic.now line.now.coefs) }
     ensures size { result ≤ 2 ^ 114 }
 {
-    let least = least_of(rows, line);
-    let sum = sum_at_bounds(rows, nonbasic, line.coefs.as_slice());
-    distance(least, sum)
+    over_of(rows, nonbasic, line).unsigned_abs()
 }
 
 /// The verdict of a line whose variable is below its bound, and that has no coefficient over 0.

@@ -2,6 +2,7 @@
 ghost use Rattle.std.specs.Prelude.{◌≡◌, ◌+◌, ◌-◌, ◌<◌, ◌≤◌, ◌^◌, length, IfOk, Ok, Some};
 ghost use Rattle.std.specs.List.{range_with_len};
 ghost use Rattle.nomos_simplex.specs.Lowest as lowest;
+ghost use Rattle.nomos_simplex.specs.mirror.Keeping.{IsNextOf, Shows};
 ghost use Rattle.nomos_simplex.specs.mirror.Steps.{IsSought};
 ghost use Rattle.nomos_simplex.specs.PivotRun.{turn, answer_to};
 ghost use Rattle.nomos_simplex.specs.Sizes.{IsTable};
@@ -14,12 +15,12 @@ ghost use Rattle.nomos_forms.specs.declared.found.Found.{Found};
 ghost use Rattle.nomos_forms.specs.declared.verdict.Verdict.{Verdict};
 
 use crate::choosing::{entering, leaving};
-use crate::exchanging::{exchange, is_too_large};
+use crate::exchanging::exchange;
 use crate::fractions::found;
+use crate::keeping::{Kept, Next, keep};
 use crate::refusing::verdict;
 use crate::solved::{Solved, Stop};
 use crate::table::{Line, Table};
-use crate::turn::Turn;
 use nomos_forms::row_list::RowList;
 use nomos_ir::items::Items;
 use std::alloc::{AllocError, Global};
@@ -79,10 +80,11 @@ fn first_table(alloc: Global, rows: &RowList) -> Result<Table, AllocError>
     })
 }
 
-/// Where the run comes to: a table where no basic variable is below its bound, after so many pivots, or another end.
+/// Where the run comes to: what is kept of a table where no basic variable is below its bound, after so many pivots, or
+/// another end.
 #[derive(Drop)]
 pub(crate) enum Sought {
-    Stands(Table, u32),
+    Stands(Kept, u32),
     Ends(Solved),
 }
 
@@ -90,50 +92,52 @@ pub(crate) enum Sought {
 fn turn_at(
     alloc: Global,
     rows: &RowList,
-    table: Table,
+    kept: Kept,
     place: usize,
     pivots: u32,
-) -> Result<Turn, AllocError>
+) -> Result<Next, AllocError>
     requires pivots { pivots ≤ 2000 }
-    requires table { IsTable rows.now table }
-    requires place { lowest.leaving rows.now table ≡ Some place }
-    requires within { place < length table.lines }
-    ensures { IfOk result (λ made. made ≡ turn (2000 - pivots) pivots rows.now table) }
+    requires table { IsTable rows.now kept.table }
+    requires shows { Shows rows.now kept }
+    requires place { lowest.leaving rows.now kept.table ≡ Some place }
+    requires within { place < length kept.table.lines }
+    ensures { IfOk result (IsNextOf rows.now (turn (2000 - pivots) pivots rows.now kept.table)) }
 {
+    let table = &kept.table;
     let line = &table.lines.as_slice()[place];
-    let Some(column) = entering(&table, line) else {
-        return Ok(Turn::Ends(Solved::Refuted(verdict(alloc, rows, &table, line)?)));
+    let Some(column) = entering(table, line) else {
+        return Ok(Next::Ends(Solved::Refuted(verdict(alloc, rows, table, line)?)));
     };
     if pivots >= BUDGET {
-        return Ok(Turn::Ends(Solved::Unsolved(Stop::Pivots)));
+        return Ok(Next::Ends(Solved::Unsolved(Stop::Pivots)));
     }
-    let after = exchange(alloc, table, place, column)?;
-    if is_too_large(&after) {
-        return Ok(Turn::Ends(Solved::Unsolved(Stop::Large(pivots + 1))));
+    match exchange(alloc, rows, kept, place, column)? {
+        Some(after) => Ok(Next::Goes(after)),
+        None => Ok(Next::Ends(Solved::Unsolved(Stop::Large(pivots + 1)))),
     }
-    Ok(Turn::Goes(after))
 }
 
 /// The run, up to where it ends.
 pub(crate) fn seek(alloc: Global, rows: &RowList) -> Result<Sought, AllocError>
     ensures { IfOk result (IsSought rows.now) }
 {
-    let mut table = first_table(alloc, rows)?;
+    let table = first_table(alloc, rows)?;
+    let mut kept = keep(alloc, rows, table)?;
     for pivots in 0..BUDGET {
-        let Some(place) = leaving(rows, &table) else {
-            return Ok(Sought::Stands(table, pivots));
+        let Some(place) = leaving(&kept) else {
+            return Ok(Sought::Stands(kept, pivots));
         };
-        match turn_at(alloc, rows, table, place, pivots)? {
-            Turn::Ends(solved) => return Ok(Sought::Ends(solved)),
-            Turn::Goes(after) => table = after,
+        match turn_at(alloc, rows, kept, place, pivots)? {
+            Next::Ends(solved) => return Ok(Sought::Ends(solved)),
+            Next::Goes(after) => kept = after,
         }
     }
-    let Some(place) = leaving(rows, &table) else {
-        return Ok(Sought::Stands(table, BUDGET));
+    let Some(place) = leaving(&kept) else {
+        return Ok(Sought::Stands(kept, BUDGET));
     };
-    match turn_at(alloc, rows, table, place, BUDGET)? {
-        Turn::Ends(solved) => Ok(Sought::Ends(solved)),
-        Turn::Goes(_) => Ok(Sought::Ends(Solved::Unsolved(Stop::Pivots))),
+    match turn_at(alloc, rows, kept, place, BUDGET)? {
+        Next::Ends(solved) => Ok(Sought::Ends(solved)),
+        Next::Goes(_) => Ok(Sought::Ends(Solved::Unsolved(Stop::Pivots))),
     }
 }
 
@@ -142,7 +146,7 @@ fn run_all(alloc: Global, rows: &RowList) -> Result<Solved, AllocError>
     ensures { IfOk result (λ answer. answer ≡ answer_to rows.now) }
 {
     match seek(alloc, rows)? {
-        Sought::Stands(table, pivots) => found(alloc, rows, &table, pivots),
+        Sought::Stands(kept, pivots) => found(alloc, rows, &kept.table, pivots),
         Sought::Ends(solved) => Ok(solved),
     }
 }

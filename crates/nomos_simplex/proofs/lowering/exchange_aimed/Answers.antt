@@ -1,13 +1,16 @@
-use Rattle.std.proofs.Common.{◌≡◌, ◌<◌, ◌<ℤ◌, ℤ, pos, neg_ℤ, length, get_or, ap, sym, subst, ◌∙◌, arith}
+use Rattle.std.proofs.Common.{◌≡◌, ℕ, ◌<◌, Bool, true, false, ◌||◌, refl, ◌<ℤ◌, ℤ, pos, neg_ℤ, length, get_or, ap, sym, subst, ◌∙◌, arith}
 use Rattle.std.proofs.lemmas.Int.{ints}
 use Rattle.std.proofs.lemmas.List.{get_or_default}
 use Rattle.std.proofs.lemmas.Option.{get_or_from_slice_get}
 use borrow.Author.Differences.{below_in, lt_out}
 use Rattle.nomos_simplex.specs.Divisors.{in_lowest_terms}
-use Rattle.nomos_simplex.specs.Exchange.{coef_at, put_into}
+use Rattle.nomos_simplex.specs.Exchange.{coef_at, put_into, exchanged, is_large_table, is_large_line}
+use Rattle.nomos_simplex.specs.LeastRun.{line_exchanged}
 use Rattle.nomos_simplex.specs.Nearest.{line_at}
 use Rattle.nomos_simplex.specs.Sizes.{IsLine, HasNumbers}
 use Rattle.nomos_simplex.specs.declared.table.Line.{Line}
+use Rattle.nomos_simplex.specs.mirror.Keeping.{IsKeptOrLarge}
+use Rattle.nomos_simplex.specs.mirror.Opposite.{opposite_of}
 use Rattle.nomos_simplex.proofs.ExchangedLemmas.{put_not_zero}
 use Rattle.nomos_simplex.proofs.OppositeLemmas.{opposite_numbers, coef-opposite, put_turned}
 use Rattle.nomos_simplex.proofs.lowering.exchange_aimed.Goals as goal
@@ -22,7 +25,7 @@ pub opposite_line-requires : goal.opposite_line-requires
 opposite_line-requires c =
     let line = c.index-as_slice-place.result in
     let is = c.index-as_slice-place.is ∙ ap (λ xs. get_or xs c.args.place line) c.as_slice.ensures in
-    let own = subst (IsLine (length c.args.aimed.table.nonbasic)) (sym is)
+    let own = subst (IsLine (length c.args.aimed.kept.table.nonbasic)) (sym is)
     (c.requires.lines c.args.place line c.requires.place.within) in
     record { times = own.times; coefs = own.coefs }
 
@@ -30,7 +33,7 @@ pub enter-requires-clause-left : goal.enter-requires-clause-left
 enter-requires-clause-left c =
     let line = c.index-as_slice-place.result in
     let is = c.index-as_slice-place.is ∙ ap (λ xs. get_or xs c.args.place line) c.as_slice.ensures in
-    let own = subst (IsLine (length c.args.aimed.table.nonbasic)) (sym is)
+    let own = subst (IsLine (length c.args.aimed.kept.table.nonbasic)) (sym is)
     (c.requires.lines c.args.place line c.requires.place.within) in
     subst HasNumbers (sym c.in_ok-left.ensures)
     (opposite_numbers line (record { times = own.times; coefs = own.coefs }))
@@ -40,11 +43,11 @@ enter-requires-clause-over_zero c =
     let line = c.index-as_slice-place.result in
     let j = c.args.column in
     let is = c.index-as_slice-place.is ∙ ap (λ xs. get_or xs c.args.place line) c.as_slice.ensures in
-    let own = subst (IsLine (length c.args.aimed.table.nonbasic)) (sym is)
+    let own = subst (IsLine (length c.args.aimed.kept.table.nonbasic)) (sym is)
     (c.requires.lines c.args.place line c.requires.place.within) in
     let column : j < length line.coefs = subst (λ n. j < n) (sym own.width) c.requires.column in
-    let same : line_at c.args.aimed.table.lines c.args.place ≡ line =
-    get_or_default c.args.aimed.table.lines c.args.place _ line c.requires.place.within ∙ sym is in
+    let same : line_at c.args.aimed.kept.table.lines c.args.place ≡ line =
+    get_or_default c.args.aimed.kept.table.lines c.args.place _ line c.requires.place.within ∙ sym is in
     let under = subst (λ (l : Line). coef_at j l <ℤ pos 0) same c.requires.place.below in
     subst (λ (l : Line). pos 0 <ℤ coef_at j l) (sym c.in_ok-left.ensures)
     (subst (λ z. pos 0 <ℤ z) (sym (coef-opposite j line column)) (over_from_under (coef_at j line) under))
@@ -52,25 +55,94 @@ enter-requires-clause-over_zero c =
 pub exchange-requires-clause-not_zero : goal.exchange-requires-clause-not_zero
 exchange-requires-clause-not_zero c = λ left h.
     let j = c.args.column in
-    let same : line_at c.args.aimed.table.lines c.args.place ≡ left =
-    get_or_from_slice_get c.args.aimed.table.lines c.args.place left _ h in
+    let same : line_at c.args.aimed.kept.table.lines c.args.place ≡ left =
+    get_or_from_slice_get c.args.aimed.kept.table.lines c.args.place left _ h in
     not_zero (coef_at j left) (subst (λ (l : Line). coef_at j l <ℤ pos 0) same c.requires.place.below)
 
-pub returns : goal.returns
-returns c = λ left h.
+line_turned : (j : ℕ) (line left own : Line) → j < length line.coefs → ¬ (coef_at j line ≡ pos 0) →
+    pos 0 <ℤ own.times → line ≡ left →
+    in_lowest_terms (put_into j (opposite_of line) own) ≡ line_exchanged j left own
+line_turned j line left own h n over same =
+    put_turned j line own h (put_not_zero j line own n over) ∙ ap (λ l. in_lowest_terms (put_into j l own)) same
+
+or_left : (x y : Bool) → x ≡ true → (x || y) ≡ true
+or_left true y h = refl
+or_left false y h = cc
+
+or_right : (x y : Bool) → y ≡ true → (x || y) ≡ true
+or_right true y h = refl
+or_right false y h = h
+
+or_neither : (x y : Bool) → x ≡ false → y ≡ false → (x || y) ≡ false
+or_neither true y h i = h
+or_neither false y h i = i
+
+pub returns-then-has_large_number : goal.returns-then-has_large_number
+returns-then-has_large_number c = λ left h.
+    let rows = c.args.rows.now in
     let j = c.args.column in
+    let table = c.args.aimed.kept.table in
+    let own = c.args.aimed.line in
     let line = c.index-as_slice-place.result in
-    let goal_line = c.args.aimed.line in
     let is = c.index-as_slice-place.is ∙ ap (λ xs. get_or xs c.args.place line) c.as_slice.ensures in
-    let own = subst (IsLine (length c.args.aimed.table.nonbasic)) (sym is)
+    let fits = subst (IsLine (length table.nonbasic)) (sym is)
     (c.requires.lines c.args.place line c.requires.place.within) in
-    let column : j < length line.coefs = subst (λ n. j < n) (sym own.width) c.requires.column in
-    let same : line ≡ left = is ∙ get_or_from_slice_get c.args.aimed.table.lines c.args.place left line h in
-    let at : line_at c.args.aimed.table.lines c.args.place ≡ line =
-    get_or_default c.args.aimed.table.lines c.args.place _ line c.requires.place.within ∙ sym is in
-    let n = not_zero (coef_at j line) (subst (λ (l : Line). coef_at j l <ℤ pos 0) at c.requires.place.below) in (
-      c.in_ok-table.ensures left h,
-      c.in_ok-enter.ensures ∙ ap (λ l. in_lowest_terms (put_into j l goal_line)) c.in_ok-left.ensures
-          ∙ put_turned j line goal_line column (put_not_zero j line goal_line n c.requires.line.positive)
-          ∙ ap (λ l. in_lowest_terms (put_into j l goal_line)) same,
+    let column : j < length line.coefs = subst (λ n. j < n) (sym fits.width) c.requires.column in
+    let same : line ≡ left = is ∙ get_or_from_slice_get table.lines c.args.place left line h in
+    let at : line_at table.lines c.args.place ≡ line =
+    get_or_default table.lines c.args.place _ line c.requires.place.within ∙ sym is in
+    let n = not_zero (coef_at j line) (subst (λ (l : Line). coef_at j l <ℤ pos 0) at c.requires.place.below) in
+    let made : c.enter.new.line ≡ line_exchanged j left own =
+    c.in_ok-enter.ensures ∙ ap (λ l. in_lowest_terms (put_into j l own)) c.in_ok-left.ensures
+    ∙ line_turned j line left own column n c.requires.line.positive same in
+    or_right (is_large_table (exchanged c.args.place j left table)) (is_large_line (line_exchanged j left own))
+    (ap is_large_line (sym made) ∙ sym c.has_large_number.ensures ∙ c.if-has_large_number.true)
+
+pub returns-in-None : goal.returns-in-None
+returns-in-None c = λ left h.
+    let rows = c.args.rows.now in
+    let j = c.args.column in
+    let table = c.args.aimed.kept.table in
+    let own = c.args.aimed.line in
+    let line = c.index-as_slice-place.result in
+    let is = c.index-as_slice-place.is ∙ ap (λ xs. get_or xs c.args.place line) c.as_slice.ensures in
+    let fits = subst (IsLine (length table.nonbasic)) (sym is)
+    (c.requires.lines c.args.place line c.requires.place.within) in
+    let column : j < length line.coefs = subst (λ n. j < n) (sym fits.width) c.requires.column in
+    let same : line ≡ left = is ∙ get_or_from_slice_get table.lines c.args.place left line h in
+    let at : line_at table.lines c.args.place ≡ line =
+    get_or_default table.lines c.args.place _ line c.requires.place.within ∙ sym is in
+    let n = not_zero (coef_at j line) (subst (λ (l : Line). coef_at j l <ℤ pos 0) at c.requires.place.below) in
+    let made : c.enter.new.line ≡ line_exchanged j left own =
+    c.in_ok-enter.ensures ∙ ap (λ l. in_lowest_terms (put_into j l own)) c.in_ok-left.ensures
+    ∙ line_turned j line left own column n c.requires.line.positive same in
+    let large = subst (IsKeptOrLarge rows (exchanged c.args.place j left table)) c.in-None.is
+    (c.in_ok-kept.ensures left h) in
+    or_left (is_large_table (exchanged c.args.place j left table)) (is_large_line (line_exchanged j left own)) large
+
+pub returns-in-Some : goal.returns-in-Some
+returns-in-Some c = λ left h.
+    let rows = c.args.rows.now in
+    let j = c.args.column in
+    let table = c.args.aimed.kept.table in
+    let own = c.args.aimed.line in
+    let line = c.index-as_slice-place.result in
+    let is = c.index-as_slice-place.is ∙ ap (λ xs. get_or xs c.args.place line) c.as_slice.ensures in
+    let fits = subst (IsLine (length table.nonbasic)) (sym is)
+    (c.requires.lines c.args.place line c.requires.place.within) in
+    let column : j < length line.coefs = subst (λ n. j < n) (sym fits.width) c.requires.column in
+    let same : line ≡ left = is ∙ get_or_from_slice_get table.lines c.args.place left line h in
+    let at : line_at table.lines c.args.place ≡ line =
+    get_or_default table.lines c.args.place _ line c.requires.place.within ∙ sym is in
+    let n = not_zero (coef_at j line) (subst (λ (l : Line). coef_at j l <ℤ pos 0) at c.requires.place.below) in
+    let made : c.enter.new.line ≡ line_exchanged j left own =
+    c.in_ok-enter.ensures ∙ ap (λ l. in_lowest_terms (put_into j l own)) c.in_ok-left.ensures
+    ∙ line_turned j line left own column n c.requires.line.positive same in
+    let kept = subst (IsKeptOrLarge rows (exchanged c.args.place j left table)) c.in-Some.is
+    (c.in_ok-kept.ensures left h) in (
+      kept.0,
+      made,
+      kept.1,
+      or_neither (is_large_table (exchanged c.args.place j left table)) (is_large_line (line_exchanged j left own))
+          kept.2 (ap is_large_line (sym made) ∙ sym c.has_large_number.ensures ∙ c.if-has_large_number.false),
     )

@@ -5,16 +5,16 @@ use Rattle.nomos_simplex.proofs.lowering.lower_from.Goals as goal
 
 pub goal_line-requires-clause-lines : goal.goal_line-requires-clause-lines
 goal_line-requires-clause-lines c =
-    lines-are_lines c.args.rows.now c.args.table
-    (reached-is_table c.args.rows.now c.args.pivots c.args.table c.requires.run.reaches)
+    lines-are_lines c.args.rows.now c.args.kept.table
+    (reached-is_table c.args.rows.now c.args.pivots c.args.kept.table c.requires.run.reaches)
 
 pub goal_line-requires-clause-lowest : goal.goal_line-requires-clause-lowest
 goal_line-requires-clause-lowest c =
-    (reached-is_table c.args.rows.now c.args.pivots c.args.table c.requires.run.reaches).lowest
+    (reached-is_table c.args.rows.now c.args.pivots c.args.kept.table c.requires.run.reaches).lowest
 
 pub returns-in_default : goal.returns-in_default
 returns-in_default c =
-    LeastRun.large_goal c.args.pivots c.args.table c.requires.run
+    LeastRun.large_goal c.args.pivots c.args.kept.table c.requires.run
     (sym c.in_ok-line.ensures ∙ c.in_default.is)
 
 pub lower-requires-clause-run : goal.lower-requires-clause-run

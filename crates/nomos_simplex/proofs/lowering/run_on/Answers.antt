@@ -5,13 +5,13 @@ use Rattle.nomos_simplex.proofs.lowering.run_on.Goals as goal
 
 pub found-requires-clause-few : goal.found-requires-clause-few
 found-requires-clause-few c =
-    few_columns c.args.rows.now c.args.table
-    (reached-is_table c.args.rows.now c.args.pivots c.args.table c.requires.stands.reaches)
+    few_columns c.args.rows.now c.args.kept.table
+    (reached-is_table c.args.rows.now c.args.pivots c.args.kept.table c.requires.stands.reaches)
 
 pub found-requires-clause-lines : goal.found-requires-clause-lines
 found-requires-clause-lines c =
-    lines-are_lines c.args.rows.now c.args.table
-    (reached-is_table c.args.rows.now c.args.pivots c.args.table c.requires.stands.reaches)
+    lines-are_lines c.args.rows.now c.args.kept.table
+    (reached-is_table c.args.rows.now c.args.pivots c.args.kept.table c.requires.stands.reaches)
 
 pub lower_from-requires-clause-run : goal.lower_from-requires-clause-run
 lower_from-requires-clause-run c = record {

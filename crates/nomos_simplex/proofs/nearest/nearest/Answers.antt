@@ -1,6 +1,7 @@
 use Rattle.std.proofs.Common.{◌<◌, ℕ, length, pos, int_lt, get_or, IfSome, ap, sym, subst, ◌∙◌, to_z, of_z, arith}
 use Rattle.std.specs.Int.{w128}
 use Rattle.std.proofs.lemmas.List.{get_or_default}
+use Rattle.nomos_forms.specs.declared.row_list.RowList.{RowList}
 use Rattle.nomos_simplex.specs.Exchange.{coef_at}
 use Rattle.nomos_simplex.specs.Nearest.{is_nearer, line_at}
 use Rattle.nomos_simplex.specs.mirror.Steps.{MayLeave}
@@ -13,7 +14,7 @@ use Rattle.nomos_simplex.proofs.nearest.nearest.Goals.{then-as_slice-column-lt0,
 -- one line more
 pub loop-place-preserved : goal.loop-place-preserved
 loop-place-preserved c =
-    let table = c.args.table.now in
+    let table = c.args.kept.now.table in
     let column = c.args.column in
     let place = c.loop-place.place in
     let low = c.loop-place-test.true in
@@ -27,18 +28,19 @@ loop-place-preserved c =
     (c.as_slice.ensures ∙ ap (λ (l : Line). l.coefs) is)
     ∙ number_back (coef_at column here) (own.coefs column (pos 0) (omega (arith, own.width, c.requires.column))) in
     let passes = λ (i : ℕ). int_lt (coef_at column (line_at table.lines i)) (pos 0) in
-    let is_former = λ (i : ℕ) (k : ℕ). is_nearer c.args.rows.now table.nonbasic column (line_at table.lines i)
+    let is_former = λ (rows : RowList) (i : ℕ) (k : ℕ). is_nearer rows table.nonbasic column (line_at table.lines i)
     (line_at table.lines k) in
     elim c.if-as_slice-column-lt0.branch [
       | then-as_slice-column-lt0 w ↦ record {
-        choice = w.best-is ∙ foremost_then passes is_former place c.loop-place.best w.nearer_line.result
-            (ap (λ z. int_lt z (pos 0)) (sym coef) ∙ w.if-as_slice-column-lt0.true) c.loop-place.invariant.choice
-            w.nearer_line.ensures.nearer;
+        choice = λ rows h. w.best-is ∙ foremost_then passes (is_former rows) place c.loop-place.best
+            w.nearer_line.result (ap (λ z. int_lt z (pos 0)) (sym coef) ∙ w.if-as_slice-column-lt0.true)
+            (c.loop-place.invariant.choice rows h) (w.nearer_line.ensures.nearer rows h);
         place = subst (λ o. IfSome o (MayLeave table column)) (sym w.best-is) w.nearer_line.ensures.place;
       }
       | else-as_slice-column-lt0 w ↦ record {
-        choice = w.best-is ∙ foremost_else passes is_former place c.loop-place.best
-            (ap (λ z. int_lt z (pos 0)) (sym coef) ∙ w.if-as_slice-column-lt0.false) c.loop-place.invariant.choice;
+        choice = λ rows h. w.best-is ∙ foremost_else passes (is_former rows) place c.loop-place.best
+            (ap (λ z. int_lt z (pos 0)) (sym coef) ∙ w.if-as_slice-column-lt0.false)
+            (c.loop-place.invariant.choice rows h);
         place = subst (λ o. IfSome o (MayLeave table column)) (sym w.best-is) c.loop-place.invariant.place;
       }
     ]

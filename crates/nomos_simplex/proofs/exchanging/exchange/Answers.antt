@@ -1,0 +1,151 @@
+use Rattle.std.proofs.Common.{◌≡◌, ℕ, ◌<◌, ◌≤◌, ◌++◌, [], ◌∷◌, List, ℤ, pos, ◌<ℤ◌, All, length, map, set, get_or, refl, ap, sym, subst, ◌∙◌}
+use Rattle.std.specs.List.{list_any}
+use Rattle.std.specs.Prelude.{remove}
+use Rattle.std.specs.Vec.{with_item}
+use Rattle.std.proofs.lemmas.List.{get_or_default, length-set}
+use Rattle.std.proofs.lemmas.Option.{get_or_from_slice_get, slice_get_read}
+use Rattle.nomos_simplex.specs.Divisors.{in_lowest_terms}
+use Rattle.nomos_simplex.specs.Exchange.{coef_at, put_into, solved_for, lines_exchanged, is_large_line}
+use Rattle.nomos_simplex.specs.Sizes.{IsLine, HasNumbers}
+use Rattle.nomos_simplex.specs.declared.exchanging.Entry.{Entry}
+use Rattle.nomos_simplex.specs.declared.table.Line.{Line}
+use Rattle.nomos_simplex.specs.mirror.Keeping.{over_of, entered, solved_line, AreMade}
+use Rattle.nomos_simplex.specs.mirror.Opposite.{oriented_of}
+use Rattle.nomos_simplex.proofs.KeepingLemmas.{removed_overs, unchanged_rest, lines_by_oriented}
+use Rattle.nomos_simplex.proofs.LineLemmas.{All-remove}
+use Rattle.nomos_simplex.proofs.OppositeLemmas.{oriented_over, oriented_width, oriented_numbers, oriented_basic}
+use Rattle.nomos_simplex.proofs.exchanging.exchange.Goals as goal
+
+pub exchange_lines-requires-clause-entry : goal.exchange_lines-requires-clause-entry
+exchange_lines-requires-clause-entry c =
+    let table = c.args.kept.table in
+    let j = c.args.column in
+    let own = c.remove.result in
+    let at : own ≡ get_or table.lines c.args.place own =
+    c.remove.ensures.value ∙ ap (λ ls. get_or ls c.args.place own) c.into_vec-lines.ensures in
+    let line = subst (IsLine (length table.nonbasic)) (sym at) (c.requires.lines c.args.place own c.requires.place) in
+    let there = slice_get_read table.lines _ c.args.place own refl c.requires.place at in
+    let z = c.requires.not_zero own there in
+    let column : j < length own.coefs = subst (λ n. j < n) (sym line.width) c.requires.column in
+    let is = c.in_ok-left.ensures in
+    let width = ap (λ (l : Line). length l.coefs) is ∙ oriented_width j own column z in
+    let size = length-set c.into_vec-nonbasic.result.items j c.in_ok-left.left.basic
+    ∙ ap length c.into_vec-nonbasic.ensures in
+    record {
+      column = subst (λ n. j < n) (sym width) column;
+      left = subst HasNumbers (sym is)
+          (oriented_numbers j own column z (record { times = line.times; coefs = line.coefs }));
+      over_zero = subst (λ (l : Line). pos 0 <ℤ coef_at j l) (sym is) (oriented_over j own column z);
+      width = size ∙ sym line.width ∙ sym width;
+      few = subst (λ n. n ≤ 64) (sym size) c.requires.few;
+    }
+
+pub exchange_lines-requires-clause-lines : goal.exchange_lines-requires-clause-lines
+exchange_lines-requires-clause-lines c =
+    let table = c.args.kept.table in
+    let j = c.args.column in
+    let own = c.remove.result in
+    let at : own ≡ get_or table.lines c.args.place own =
+    c.remove.ensures.value ∙ ap (λ ls. get_or ls c.args.place own) c.into_vec-lines.ensures in
+    let line = subst (IsLine (length table.nonbasic)) (sym at) (c.requires.lines c.args.place own c.requires.place) in
+    let there = slice_get_read table.lines _ c.args.place own refl c.requires.place at in
+    let z = c.requires.not_zero own there in
+    let column : j < length own.coefs = subst (λ n. j < n) (sym line.width) c.requires.column in
+    let width = ap (λ (l : Line). length l.coefs) c.in_ok-left.ensures ∙ oriented_width j own column z in
+    let P = IsLine (length c.in_ok-left.left.coefs) in
+    let rest = c.remove.ensures.items ∙ ap (λ ls. remove ls c.args.place) c.into_vec-lines.ensures in
+    subst (All P) (sym rest) (All-remove P table.lines c.args.place
+    (subst (λ n. All (IsLine n) table.lines) (sym line.width ∙ sym width) c.requires.lines))
+
+pub exchange_lines-requires-clause-over : goal.exchange_lines-requires-clause-over
+exchange_lines-requires-clause-over c =
+    let table = c.args.kept.table in
+    let rows = c.args.rows.now in
+    let j = c.args.column in
+    let v = c.in_ok-left.left.basic in
+    let lines = remove table.lines c.args.place in
+    let Q : List Line → List ℤ → List ℕ → Type 0 = λ rest over nonbasic.
+    (k : ℕ) (d : Line) → k < length rest → coef_at j (get_or rest k d) ≡ pos 0 →
+    get_or over k (pos 0) ≡ over_of rows (set nonbasic j v) (get_or rest k d) in
+    let rest = c.remove.ensures.items ∙ ap (λ ls. remove ls c.args.place) c.into_vec-lines.ensures in
+    let over = c.remove-over.ensures.items ∙ ap (λ zs. remove zs c.args.place) c.into_vec-over.ensures
+    ∙ removed_overs (over_of rows table.nonbasic) table.lines c.args.kept.over c.args.place c.requires.shows in
+    subst (λ ls. Q ls c.remove-over.new.self.items c.into_vec-nonbasic.result.items) (sym rest)
+    (subst (λ zs. Q lines zs c.into_vec-nonbasic.result.items) (sym over)
+    (subst (Q lines (map (over_of rows table.nonbasic) lines)) (sym c.into_vec-nonbasic.ensures)
+    (unchanged_rest rows table.nonbasic lines j v c.requires.column
+    (All-remove (IsLine (length table.nonbasic)) table.lines c.args.place c.requires.lines))))
+
+pub returns-then-large : goal.returns-then-large
+returns-then-large c = λ left h.
+    let table = c.args.kept.table in
+    let rows = c.args.rows.now in
+    let j = c.args.column in
+    let own = c.remove.result in
+    let e = c.index-entering.result.now in
+    let entry : Entry = record {
+      column = j;
+      entering = e;
+      left = c.in_ok-left.left;
+      nonbasic = with_item c.into_vec-nonbasic.result j c.in_ok-left.left.basic;
+    } in
+    let at : own ≡ get_or table.lines c.args.place own =
+    c.remove.ensures.value ∙ ap (λ ls. get_or ls c.args.place own) c.into_vec-lines.ensures in
+    let line = subst (IsLine (length table.nonbasic)) (sym at) (c.requires.lines c.args.place own c.requires.place) in
+    let z = c.requires.not_zero own (slice_get_read table.lines _ c.args.place own refl c.requires.place at) in
+    let column : j < length own.coefs = subst (λ n. j < n) (sym line.width) c.requires.column in
+    let own_is : own ≡ left = at ∙ get_or_from_slice_get table.lines c.args.place left own h in
+    let is : c.in_ok-left.left ≡ oriented_of j own = c.in_ok-left.ensures in
+    let rest = c.remove.ensures.items ∙ ap (λ ls. remove ls c.args.place) c.into_vec-lines.ensures in
+    let enters : e ≡ get_or table.nonbasic j 0 = c.index-entering.ensures
+    ∙ ap (λ xs. get_or xs j e) c.into_vec-nonbasic.ensures ∙ get_or_default table.nonbasic j e 0 c.requires.column in
+    let all = map (entered entry) c.remove.new.self.items ++ solved_line entry ∷ [] in
+    let same : all ≡ lines_exchanged c.args.place j (get_or table.nonbasic j 0) left table.lines =
+    (λ p. map (λ l. in_lowest_terms (put_into j (is p) l)) (rest p)
+    ++ in_lowest_terms (solved_for j (enters p) (is p)) ∷ [])
+    ∙ lines_by_oriented (length table.nonbasic) c.args.place j (get_or table.nonbasic j 0) own table.lines
+    c.requires.lines column z
+    ∙ ap (λ l. lines_exchanged c.args.place j (get_or table.nonbasic j 0) l table.lines) own_is in
+    let made = subst (AreMade rows entry all c.exchange_lines.new.lines.items c.exchange_lines.new.over.items)
+    c.if-large.true c.in_ok-large.ensures in
+    ap (list_any is_large_line) (sym same) ∙ made
+
+pub returns : goal.returns
+returns c = λ left h.
+    let table = c.args.kept.table in
+    let rows = c.args.rows.now in
+    let j = c.args.column in
+    let own = c.remove.result in
+    let e = c.index-entering.result.now in
+    let entry : Entry = record {
+      column = j;
+      entering = e;
+      left = c.in_ok-left.left;
+      nonbasic = with_item c.into_vec-nonbasic.result j c.in_ok-left.left.basic;
+    } in
+    let at : own ≡ get_or table.lines c.args.place own =
+    c.remove.ensures.value ∙ ap (λ ls. get_or ls c.args.place own) c.into_vec-lines.ensures in
+    let line = subst (IsLine (length table.nonbasic)) (sym at) (c.requires.lines c.args.place own c.requires.place) in
+    let z = c.requires.not_zero own (slice_get_read table.lines _ c.args.place own refl c.requires.place at) in
+    let column : j < length own.coefs = subst (λ n. j < n) (sym line.width) c.requires.column in
+    let own_is : own ≡ left = at ∙ get_or_from_slice_get table.lines c.args.place left own h in
+    let is : c.in_ok-left.left ≡ oriented_of j own = c.in_ok-left.ensures in
+    let rest = c.remove.ensures.items ∙ ap (λ ls. remove ls c.args.place) c.into_vec-lines.ensures in
+    let enters : e ≡ get_or table.nonbasic j 0 = c.index-entering.ensures
+    ∙ ap (λ xs. get_or xs j e) c.into_vec-nonbasic.ensures ∙ get_or_default table.nonbasic j e 0 c.requires.column in
+    let all = map (entered entry) c.remove.new.self.items ++ solved_line entry ∷ [] in
+    let same : all ≡ lines_exchanged c.args.place j (get_or table.nonbasic j 0) left table.lines =
+    (λ p. map (λ l. in_lowest_terms (put_into j (is p) l)) (rest p)
+    ++ in_lowest_terms (solved_for j (enters p) (is p)) ∷ [])
+    ∙ lines_by_oriented (length table.nonbasic) c.args.place j (get_or table.nonbasic j 0) own table.lines
+    c.requires.lines column z
+    ∙ ap (λ l. lines_exchanged c.args.place j (get_or table.nonbasic j 0) l table.lines) own_is in
+    let made = subst (AreMade rows entry all c.exchange_lines.new.lines.items c.exchange_lines.new.over.items)
+    c.if-large.false c.in_ok-large.ensures in
+    let basic = ap (λ (l : Line). l.basic) is ∙ oriented_basic j own column z ∙ ap (λ (l : Line). l.basic) own_is in
+    let nonbasic = c.of_vec.ensures ∙ (λ p. set (c.into_vec-nonbasic.ensures p) j (basic p)) in
+    let lines = c.of_vec-2.ensures ∙ made.0 in (
+      (λ p. record { nonbasic = nonbasic p; lines = (lines ∙ same) p }),
+      c.of_vec-3.ensures ∙ made.1 ∙ (λ p. map (over_of rows (sym c.of_vec.ensures p)) (sym lines p)),
+      ap (list_any is_large_line) (sym same) ∙ made.2,
+    )

@@ -1,0 +1,65 @@
+-- A mirror of the code: what is kept beside a table, so that its lines are not added up anew at each turn. No promise
+-- stands on it.
+use Rattle.std.specs.Prelude.{◌≡◌, ◌<◌, ◌≤◌, Bool, true, false, ℕ, ℤ, pos, ◌<ℤ◌, ◌*ℤ◌, ◌-ℤ◌, List, length, map, Option, Some, None}
+use Rattle.std.specs.List.{list_any}
+use Rattle.nomos_forms.specs.declared.row_list.RowList.{RowList}
+use Rattle.nomos_simplex.specs.Divisors.{in_lowest_terms}
+use Rattle.nomos_simplex.specs.Exchange.{coef_at, put_into, solved_for, is_large_line, is_large_table}
+use Rattle.nomos_simplex.specs.Sizes.{HasNumbers}
+use Rattle.nomos_simplex.specs.Tables.{bound_of, sum_at}
+use Rattle.nomos_simplex.specs.declared.exchanging.Entry.{Entry}
+use Rattle.nomos_simplex.specs.declared.keeping.Kept.{Kept}
+use Rattle.nomos_simplex.specs.declared.keeping.Next.{Next}
+use Rattle.nomos_simplex.specs.declared.keeping.Next.TheVariants as next
+use Rattle.nomos_simplex.specs.declared.table.Line.{Line}
+use Rattle.nomos_simplex.specs.declared.table.Table.{Table}
+use Rattle.nomos_simplex.specs.declared.turn.Turn.{Turn}
+use Rattle.nomos_simplex.specs.declared.turn.Turn.TheVariants.{Ends, Goes}
+
+-- how far the basic variable of a line is over its bound, times the number before it
+abbrev pub over_of : RowList → List ℕ → Line → ℤ
+over_of rows nonbasic line = sum_at (bound_of rows) nonbasic line.coefs -ℤ line.times *ℤ bound_of rows line.basic
+
+-- what is kept shows its table: of each line how far its variable is over its bound
+abbrev pub Shows : RowList → Kept → Type 0
+Shows rows kept = kept.over ≡ map (over_of rows kept.table.nonbasic) kept.table.lines
+
+-- ---- an exchange
+-- the line that is left has a coefficient over 0 in the column, and there are as many variables as columns
+pub record IsEntry (entry : Entry) : Type 0 where
+  pub column : entry.column < length entry.left.coefs
+  pub left : HasNumbers entry.left
+  pub over_zero : pos 0 <ℤ coef_at entry.column entry.left
+  pub width : length entry.nonbasic.items ≡ length entry.left.coefs
+  pub few : length entry.nonbasic.items ≤ 64
+
+-- a line with the entering variable put in
+abbrev pub entered : Entry → Line → Line
+entered entry line = in_lowest_terms (put_into entry.column entry.left line)
+
+-- the line that is left, solved for the entering variable
+abbrev pub solved_line : Entry → Line
+solved_line entry = in_lowest_terms (solved_for entry.column entry.entering entry.left)
+
+-- a line, and how far its variable is over its bound, unless a number is too large
+abbrev pub IsMade : RowList → Entry → Line → Line → Option ℤ → Type 0
+IsMade rows entry line made (Some over) =
+    (made ≡ line) × (over ≡ over_of rows entry.nonbasic.items line) × (is_large_line line ≡ false)
+IsMade rows entry line made None = is_large_line line ≡ true
+
+-- the same of lines; the last says whether a number is too large
+abbrev pub AreMade : RowList → Entry → List Line → List Line → List ℤ → Bool → Type 0
+AreMade rows entry lines made over false =
+    (made ≡ lines) × (over ≡ map (over_of rows entry.nonbasic.items) lines) × (list_any is_large_line lines ≡ false)
+AreMade rows entry lines made over true = list_any is_large_line lines ≡ true
+
+-- what is kept of a table, unless a number is too large
+abbrev pub IsKeptOrLarge : RowList → Table → Option Kept → Type 0
+IsKeptOrLarge rows table (Some kept) = (kept.table ≡ table) × Shows rows kept × (is_large_table table ≡ false)
+IsKeptOrLarge rows table None = is_large_table table ≡ true
+
+-- ---- a turn
+-- what is kept of the table at which the run goes on, or its end
+abbrev pub IsNextOf : RowList → Turn → Next → Type 0
+IsNextOf rows turn (next.Ends answer) = Ends answer ≡ turn
+IsNextOf rows turn (next.Goes kept) = (Goes kept.table ≡ turn) × Shows rows kept
