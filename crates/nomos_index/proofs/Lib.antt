@@ -22,4 +22,5 @@ pub mod RowLemmas
 pub mod RedirectLaws
 pub mod RedirectLemmas
 pub mod SpanLemmas
+pub mod StartLemmas
 pub mod TellLemmas

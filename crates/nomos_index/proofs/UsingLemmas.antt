@@ -393,12 +393,23 @@ module _ (h : Holding) (is : IsHolding h) (name : ℕ) where
       let (p, inside, number, uses) = named-uses pid has in
       sym (any-shown process_uses objects (object.Process p) inside uses)
 
+  -- the name is mentioned where it is plainly, or by a channel
+  either-mention : (list_any (mentions_plainly name) objects || list_any process_uses objects)
+      ≡ is_mentioned objects name
+  either-mention =
+      sym (same-test (λ o. has_name name (mentioned o)) (λ o. mentions_plainly name o || process_uses o) mention-parts
+      objects
+      ∙ two-tests (mentions_plainly name) process_uses objects)
+
   pub mention-is : (r process : Option ℕ) → IsFirstPlace (mentions_plainly name) h r
       → IsLowestUser h.cells name process
       → (is_some r || is_some process) ≡ is_mentioned objects name
   mention-is r process first lowest =
       ap (λ b. b || is_some process) (first-there r first)
       ∙ ap (λ b. list_any (mentions_plainly name) objects || b) (lowest-there process lowest)
-      ∙ sym (same-test (λ o. has_name name (mentioned o)) (λ o. mentions_plainly name o || process_uses o) mention-parts
-      objects
-      ∙ two-tests (mentions_plainly name) process_uses objects)
+      ∙ either-mention
+
+  pub mention-plain : (r : Option ℕ) → IsFirstPlace (mentions_plainly name) h r → is_some r ≡ true
+      → is_mentioned objects name ≡ true
+  mention-plain r first some =
+      sym either-mention ∙ ap (λ b. b || list_any process_uses objects) (sym (first-there r first) ∙ some)

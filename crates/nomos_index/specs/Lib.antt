@@ -7,9 +7,10 @@ pub mod Coming
 pub mod Together
 pub mod Walks
 pub mod Sought
+pub mod Starting
 pub mod Rebound
 pub mod Instead
 pub mod Redirected
 pub mod Tidying
-pub mod State
 pub mod Telling
+pub mod Mentions

@@ -43,6 +43,10 @@ is_sought (sought.TransactionOver after) o = is_over after is_transaction o
 abbrev pub passes_at : (Object → Bool) → Holding → ℕ → Bool
 passes_at test h place = some_passes test (standing_at h place)
 
+-- no object before a place passes a test
+abbrev pub StandsNotBefore : (Object → Bool) → Holding → ℕ → Type 0
+StandsNotBefore test h start = (before : ℕ) → before < start → passes_at test h before ≡ false
+
 -- the first place at which an object passes a test, and none where none passes
 abbrev pub IsFirstPlace : (Object → Bool) → Holding → Option ℕ → Type 0
 IsFirstPlace test h result =

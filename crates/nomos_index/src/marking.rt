@@ -1,5 +1,5 @@
 //! All parts of the contents are marked, put back and given room together.
-ghost use Rattle.std.specs.Prelude.{◌≡◌, ◌≤◌, IsOk, IsSome, None, OnOk, Some};
+ghost use Rattle.std.specs.Prelude.{◌≡◌, ◌≤◌, ◌↔◌, IsOk, IsSome, IsTrue, None, OnOk, Some};
 ghost use Rattle.nomos_index.specs.Indexed.{HasRoom, held_now};
 ghost use Rattle.nomos_index.specs.Together.{EachIsMarked, HoldsTheSame, KeepsRoom, MarksTheSame, MarksWhatIsHeld, NothingIsMarked};
 
@@ -77,6 +77,13 @@ pub(crate) fn forget_all(contents: &mut Contents)
 }
 
 impl Inside {
+    /// Whether there is room for so many small changes.
+    pub fn has_room(&self, changes: usize) -> bool
+        ensures { IsTrue result ↔ (changes ≤ self.now.room) }
+    {
+        changes <= self.room
+    }
+
     /// Makes room for so many small changes. Where there is room already, it cannot fail.
     pub fn make_room(&mut self, changes: usize) -> Result<(), AllocError>
         ensures state { self.new.state ≡ self.old.state }

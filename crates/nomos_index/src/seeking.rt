@@ -12,11 +12,12 @@ ghost use Rattle.nomos_machine.specs.declared.object.Object.TheVariants as objec
 ghost use Rattle.nomos_slots.specs.Cells.{Cell};
 ghost use Rattle.nomos_index.specs.Indexed.{IsHolding, held_now, standing_at, state_of};
 ghost use Rattle.nomos_index.specs.Objects.{HasValue, ListRow, ValueRow, message_held, payload_of, process_held};
-ghost use Rattle.nomos_index.specs.Sought.{IsFirstPlace, is_sought, lower_of, passes_at};
+ghost use Rattle.nomos_index.specs.Sought.{IsFirstPlace, StandsNotBefore, is_sought, lower_of, passes_at};
 
 use crate::inside::Contents;
 use crate::kept::{Kept, KeptMessage, KeptProcess};
 use crate::looking::kept_at;
+use crate::starting::start_over;
 use nomos_deeds::sight::{SeenMessage, SeenPayload, SeenProcess};
 use nomos_ir::mode::Mode;
 
@@ -125,16 +126,24 @@ fn is_sought_at(contents: &Contents, place: usize, sought: Sought) -> bool
     }
 }
 
-/// The first place at which what is looked for stands.
-pub(crate) fn first(contents: &Contents, sought: Sought) -> Option<usize>
+// The first place at which what is looked for stands, where it stands at none before this one.
+fn first_from(contents: &Contents, sought: Sought, start: usize) -> Option<usize>
+    requires { StandsNotBefore (is_sought sought) (held_now contents.now) start }
     ensures { IsFirstPlace (is_sought sought) (held_now contents.now) result }
 {
-    for place in 0..contents.objects.len() {
+    for place in start..contents.objects.len() {
         if is_sought_at(contents, place, sought) {
             return Some(place);
         }
     }
     None
+}
+
+/// The first place at which what is looked for stands.
+pub(crate) fn first(contents: &Contents, sought: Sought) -> Option<usize>
+    ensures { IsFirstPlace (is_sought sought) (held_now contents.now) result }
+{
+    first_from(contents, sought, 0)
 }
 
 /// What is seen of a message.
@@ -228,7 +237,11 @@ pub(crate) fn next_transaction(contents: &Contents, after: u32) -> Option<u32>
     requires { IsHolding (held_now contents.now) }
     ensures { FindsNext (IsTransaction (state_of (held_now contents.now)).objects) after result }
 {
-    number_in(contents, first(contents, Sought::TransactionOver(after)))
+    let start = start_over(&contents.objects, after);
+    number_in(
+        contents,
+        first_from(contents, Sought::TransactionOver(after), start),
+    )
 }
 
 /// The number of the object at a place, if one stands there.
@@ -266,7 +279,6 @@ pub(crate) fn is_mentioned(contents: &Contents, name: u32) -> bool
     requires { IsHolding (held_now contents.now) }
     ensures { result ≡ is_mentioned (state_of (held_now contents.now)).objects name }
 {
-    let plainly = first(contents, Sought::Mention(name));
-    let user = contents.channels.lowest_user(name);
-    plainly.is_some() || user.is_some()
+    first(contents, Sought::Mention(name)).is_some()
+        || contents.channels.lowest_user(name).is_some()
 }

@@ -109,4 +109,12 @@ impl Inside {
             _ => None,
         }
     }
+
+    /// The number that the next object will have, which no object has.
+    pub fn free_number(&self) -> u32
+        ensures next { result ≡ self.now.state.next_object }
+        ensures free { object_at self.now.state.objects result ≡ None }
+    {
+        self.contents.numbers.next_object
+    }
 }

@@ -15,6 +15,7 @@ use crate::kept::Kept;
 use crate::looking::kept_at;
 use crate::reading::acquires;
 use crate::seeking::number_in;
+use crate::starting::start_over;
 use nomos_deeds::deeds::looks_ready;
 use nomos_deeds::sight::Sight;
 use nomos_deeds::types::is_linear;
@@ -35,9 +36,11 @@ fn is_acquiring_at(accepted: &Accepted, contents: &Contents, place: usize, after
 
 // The first place at which one does.
 fn first_acquiring(accepted: &Accepted, contents: &Contents, after: u32) -> Option<usize>
+    requires { IsHolding (held_now contents.now) }
     ensures { IsFirstPlace (is_over after (is_acquiring accepted.now)) (held_now contents.now) result }
 {
-    for place in 0..contents.objects.len() {
+    let start = start_over(&contents.objects, after);
+    for place in start..contents.objects.len() {
         if is_acquiring_at(accepted, contents, place, after) {
             return Some(place);
         }
@@ -76,9 +79,11 @@ fn first_ready<S: Sight>(
     contents: &Contents,
     after: u32,
 ) -> Option<usize>
+    requires { IsHolding (held_now contents.now) }
     ensures { IsFirstPlace (is_over after (is_ready_in accepted.now (S.state sight.now))) (held_now contents.now) result }
 {
-    for place in 0..contents.objects.len() {
+    let start = start_over(&contents.objects, after);
+    for place in start..contents.objects.len() {
         if is_ready_at(sight, accepted, contents, place, after) {
             return Some(place);
         }
@@ -149,9 +154,11 @@ fn is_owned_at(accepted: &Accepted, contents: &Contents, place: usize, after: u3
 
 // The first place of such a name.
 fn first_owned(accepted: &Accepted, contents: &Contents, after: u32) -> Option<usize>
+    requires { IsHolding (held_now contents.now) }
     ensures { IsFirstName (is_owned_over accepted.now.program after) contents.now.names.now result }
 {
-    for place in 0..contents.names.len() {
+    let start = start_over(&contents.names, after);
+    for place in start..contents.names.len() {
         if is_owned_at(accepted, contents, place, after) {
             return Some(place);
         }

@@ -9,6 +9,7 @@ pub mod AlikeLemmas
 pub mod AnswerLemmas
 pub mod LineLemmas
 pub mod RestLemmas
+pub mod TransactionLemmas
 pub mod WorldLemmas
 pub mod ContractsLemmas
 pub mod ResolvingLemmas

@@ -45,24 +45,23 @@ left-numbered {s} numbered left = record {
   at_t = left.at_t;
 }
 
--- a transaction is left exactly where one is found over 0
-pub left-next : {s : State} → Numbered s → (next : Option ℕ) (some : Bool) → is_some next ≡ some
-    → FindsNext (IsTransaction s.objects) 0 next → IsTrue some ↔ HasTransaction s
-left-next {s} numbered None true e none = cc
-left-next {s} numbered None false e none = (λ yes. cc, λ left. absurd (nobody left))
+-- a transaction is left exactly where one is found over a number that all are over
+pub left-next : {s : State} → Numbered s → (after : ℕ) → ((pid : ℕ) → IsTransaction s.objects pid → after < pid)
+    → (next : Option ℕ) (some : Bool) → is_some next ≡ some → FindsNext (IsTransaction s.objects) after next
+    → IsTrue some ↔ HasTransaction s
+left-next {s} numbered after over None true e none = cc
+left-next {s} numbered after over None false e none = (λ yes. cc, λ left. absurd (nobody left))
   where
     nobody : HasTransaction s → ⊥
     nobody left =
-        let over =
-        All-contains (λ (o : Object). 0 < object_number o) s.objects (object.Process left.process) numbered.over left.there
-        in
-        none left.process.pid over (left-numbered numbered left)
-left-next {s} numbered (Some pid) true e first = (
+        let is = left-numbered numbered left in
+        none left.process.pid (over left.process.pid is) is
+left-next {s} numbered after over (Some pid) true e found = (
   λ yes. record {
-    process = first.holds.process;
-    there = (object_at-found pid (object.Process first.holds.process) s.objects first.holds.there).1;
-    at_t = first.holds.at_t;
+    process = found.holds.process;
+    there = (object_at-found pid (object.Process found.holds.process) s.objects found.holds.there).1;
+    at_t = found.holds.at_t;
   },
   λ left. refl,
 )
-left-next {s} numbered (Some pid) false e first = cc
+left-next {s} numbered after over (Some pid) false e found = cc

@@ -1,12 +1,12 @@
 //! Worlds: a batch under way.
-ghost use Rattle.std.specs.Prelude.{◌≡◌, ℕ, IfOk, OnErr, MatchOption, length, slice_get};
+ghost use Rattle.std.specs.Prelude.{◌≡◌, ◌≤◌, ◌+◌, ◌-◌, ℕ, IfOk, OnErr, MatchOption, length, slice_get};
 ghost use Rattle.std.specs.Option.{option_map};
 ghost use Rattle.nomos_ir.specs.CostAll.{IsUnderCostAll};
 ghost use Rattle.nomos_ir.specs.TermsEvaluation.{instruction_evaluation};
 ghost use Rattle.nomos_eval.specs.Outcomes.{outcome_of};
 ghost use Rattle.nomos_types.specs.Acceptance.{Acceptance, IsAccepted};
 ghost use Rattle.nomos_machine.specs.Costs.{PaysFor};
-ghost use Rattle.nomos_machine.specs.Run.{IsNextReady, NoneReady};
+ghost use Rattle.nomos_machine.specs.Run.{IsNextReady, IsQuiet, NoneReady};
 ghost use Rattle.nomos_machine.specs.Step.{IsReady, fault};
 ghost use Rattle.nomos_machine.specs.TypedState.{IsTyped};
 ghost use Rattle.nomos_deeds.specs.Acting.{HasNumbers};
@@ -19,7 +19,7 @@ ghost use Rattle.nomos_ledger.specs.Calls.{FiresIn};
 use crate::books::Books;
 use crate::fired::Fired;
 use crate::ledger::Ledger;
-use crate::rest::{has_transaction, is_quiet};
+use crate::rest::{has_transaction, is_quiet, lowered};
 use nomos_deeds::fire::Fire;
 use nomos_deeds::undo::Undo;
 use nomos_eval::wanted::{Outcome, Wanted};
@@ -205,14 +205,43 @@ impl<M: Undo> World<M> {
         &self.books.machine
     }
 
+    /// The number of the first object that came in the batch, or a lower one: lower by as many as there are firings by
+    /// which no object came. It takes no memory.
+    pub fn first_number(&self, accepted: &Accepted) -> u32
+        requires { WorldStandsFor accepted.now self.now }
+        ensures number { result ≡ self.now.state.next_object - (length self.now.starts + length self.now.firings) }
+        ensures low { result ≤ self.now.origin.state.next_object }
+    {
+        // Where the program is read it is known to be accepted.
+        let _program = accepted.program();
+        let without_firings = lowered(self.state().next_object(), self.firings().len());
+        lowered(without_firings, self.starts())
+    }
+
+    /// How a batch ends in which no process is ready: a transaction is left, or none is. It takes no memory, and looks
+    /// only among the objects that came in the batch.
+    pub fn end_at_rest(&self, accepted: &Accepted) -> End
+        requires stands { WorldStandsFor accepted.now self.now }
+        requires quiet { IsQuiet accepted.now self.now.state }
+        ensures { (count limit : ℕ) → EndsAs accepted.now self.now.state count limit result }
+    {
+        // Where the program is read it is known to be accepted.
+        let _program = accepted.program();
+        let before = self.first_number(accepted).saturating_sub(1);
+        if has_transaction(self.machine(accepted), before) {
+            End::Blocked
+        } else {
+            End::Committed
+        }
+    }
+
     /// How a batch ends here that may make so many firings, faults apart, or none where it goes on. It takes no memory.
     pub fn end(&self, accepted: &Accepted, limit: u32) -> Option<End>
         requires { WorldStandsFor accepted.now self.now }
         ensures { MatchOption result (GoesOn accepted.now self.now.state (length self.now.firings) limit)
             (EndsAs accepted.now self.now.state (length self.now.firings) limit) }
     {
-        let machine = self.machine(accepted);
-        if !is_quiet(machine, accepted) {
+        if !is_quiet(self.machine(accepted), accepted) {
             let made = self.fired.firings.len();
             return if made == limit as usize {
                 Some(End::Steps(limit))
@@ -220,11 +249,7 @@ impl<M: Undo> World<M> {
                 None
             };
         }
-        if has_transaction(machine) {
-            Some(End::Blocked)
-        } else {
-            Some(End::Committed)
-        }
+        Some(self.end_at_rest(accepted))
     }
 
     /// The ledger that a batch leaves which stays: the accounts' names and the deposits of the ledger before, with

@@ -1,12 +1,12 @@
 -- What is found first, where tallies tell who does it.
-use Rattle.std.proofs.Common.{◌≡◌, ◌≤◌, ◌∙◌, ◌==◌, ◌&&◌, ℕ, Bool, true, false, cond, List, [], ◌∷◌, ◌++◌, Option, Some, None, option_and_then, refl, sym, ap, subst, arith, eqb-true}
+use Rattle.std.proofs.Common.{◌≡◌, ◌≤◌, ◌∙◌, ◌==◌, ◌&&◌, ℕ, Bool, true, false, cond, List, [], ◌∷◌, ◌++◌, Option, Some, None, Contains, option_and_then, refl, sym, ap, subst, arith, eqb-true}
 use Rattle.std.specs.List.{list_any}
 use Rattle.std.specs.Option.{option_map, option_to_list}
 use Rattle.nomos_ir.specs.Order.{count_of}
 use Rattle.nomos_types.proofs.OccurrenceLaws.{count-here}
 use Rattle.nomos_deeds.specs.Seen.{seen_message, seen_process}
 use Rattle.nomos_machine.specs.Objects.{carried, message_of, object_number, process_of, times, used}
-use Rattle.nomos_machine.specs.Sight.{is_offered, is_read_on, message_on, offering, owner, same_way}
+use Rattle.nomos_machine.specs.Sight.{is_offered, is_read_on, message_on, offering, owner, same_way, user_of}
 use Rattle.nomos_machine.specs.State.{State}
 use Rattle.nomos_machine.specs.declared.object.Object.{Object}
 use Rattle.nomos_machine.specs.declared.object.Object.TheVariants as object
@@ -49,7 +49,7 @@ offers-does : (name : ℕ) (o : Object) → is_offered name o ≡ true → 1 ≤
 offers-does name (object.Process p) is = omega (arith, count-here name p.offers [] (eqb-true p.offers name is))
 offers-does name (object.Message m) is = absurd cc
 
-uses-does : (name : ℕ) (o : Object) → list_any (λ n. n == name) (used o) ≡ true
+pub uses-does : (name : ℕ) (o : Object) → list_any (λ n. n == name) (used o) ≡ true
     → 1 ≤ count_of name (names_of doing.Uses o)
 uses-does name o is = (names-told (used o) name).0 is
 
@@ -97,17 +97,20 @@ module _ (s : State) (name : ℕ) where
       sym (ap (option_map object_number)
       (find-none doing.Uses name (λ o. list_any (λ n. n == name) (used o)) (uses-does name) s.objects none))
 
-  pub owner-one : (number : ℕ) → times (names_of doing.Uses) s.objects name ≡ 1
-      → DoesAt (names_of doing.Uses) s.objects number name → Some number ≡ owner s name
-  owner-one number one (o, there, did) =
-      let (numbered, inside) = object_at-found number o s.objects there in
+  -- the one object that uses the name is the first that does
+  pub user-one : (o : Object) → times (names_of doing.Uses) s.objects name ≡ 1 → Contains s.objects o
+      → 1 ≤ count_of name (names_of doing.Uses o) → user_of s.objects name ≡ Some o
+  user-one o one inside did =
       let test : Object → Bool = λ e. list_any (λ n. n == name) (used e) in
-      let passes : test o ≡ true = told (test o) refl in
-      sym (ap (option_map object_number)
-      (find-one doing.Uses name test (uses-does name) o s.objects one inside did
-      ∙ ap (λ (b : Bool). cond b (Some o) None) passes)
-      ∙ ap (λ (n : ℕ). Some n) numbered)
+      find-one doing.Uses name test (uses-does name) o s.objects one inside did
+      ∙ ap (λ (b : Bool). cond b (Some o) None) (told (test o) refl)
     where
       told : (b : Bool) → list_any (λ n. n == name) (used o) ≡ b → b ≡ true
       told true is = refl
       told false is = absurd (omega (arith, (names-told (used o) name).1 is))
+
+  pub owner-one : (number : ℕ) → times (names_of doing.Uses) s.objects name ≡ 1
+      → DoesAt (names_of doing.Uses) s.objects number name → Some number ≡ owner s name
+  owner-one number one (o, there, did) =
+      let (numbered, inside) = object_at-found number o s.objects there in
+      sym (ap (option_map object_number) (user-one o one inside did) ∙ ap (λ (n : ℕ). Some n) numbered)

@@ -9,11 +9,11 @@ use Rattle.nomos_tally.specs.declared.tally.Doing.TheVariants as doing
 use Rattle.nomos_named.specs.declared.finding.Found.{Found}
 use Rattle.nomos_named.specs.declared.finding.Found.TheVariants as found
 
--- Nobody does it; or the object of a number does, and it is done once; or nothing is said.
+-- Nobody does it; or the object of the hint does, and it is done once; or nothing is said.
 abbrev pub IsFoundBy : Doing → List Object → ℕ → Found → Type 0
 IsFoundBy d objects name found.Nobody = times (names_of d) objects name ≡ 0
-IsFoundBy d objects name (found.One number) =
-    (times (names_of d) objects name ≡ 1) × DoesAt (names_of d) objects number name
+IsFoundBy d objects name (found.One by) =
+    (times (names_of d) objects name ≡ 1) × DoesAt (names_of d) objects by.object name
 IsFoundBy d objects name found.Unknown = Unit {0}
 
 -- what a message that goes this way does with the name on which it is read

@@ -1,2 +1,4 @@
 pub mod Tallied
 pub mod Finding
+pub mod Counting
+pub mod State

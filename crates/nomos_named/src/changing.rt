@@ -1,12 +1,14 @@
 //! A process changes what it does with names: by its plain fields and by its channels.
-ghost use Rattle.std.specs.Prelude.{◌≡◌, ◌≤◌, ◌<◌, ◌+◌};
+ghost use Rattle.std.specs.Prelude.{◌≡◌, ◌≤◌, ◌<◌, ◌+◌, OnErr, OnOk};
 ghost use Rattle.nomos_machine.specs.Revised.{with_channel, without_channel};
-ghost use Rattle.nomos_parts.specs.SmallChanges.{Becomes, with_fields};
+ghost use Rattle.nomos_parts.specs.SmallChanges.{Becomes, with_channels, with_fields};
 
+use crate::counting::{count_channels, uncount_channels};
 use crate::tallied::Tallied;
 use nomos_deeds::sight::{SeenProcess, Sight};
 use nomos_ir::ids::VarId;
 use nomos_tally::tally::{Doing, Hint};
+use std::alloc::{AllocError, Global};
 
 impl Tallied {
     /// A channel of the process is bound to a variable.
@@ -44,6 +46,27 @@ impl Tallied {
             variable: v.0,
         };
         self.tallies.exchange(Doing::Uses, before, None, by);
+    }
+
+    /// The process has these channels; of a variable that stands twice the first pair counts. It takes no room.
+    pub(crate) fn replace_channels(
+        &mut self,
+        alloc: Global,
+        pid: u32,
+        channels: Vec<(VarId, u32)>,
+    ) -> Result<(), AllocError>
+        ensures ok { OnOk result (Becomes self.old.state pid (with_channels channels.items) self.new.state) }
+        ensures err { OnErr result (self.new.state ≡ self.old.state) }
+        ensures room { self.new.room ≡ self.old.room }
+        ensures marked { self.new.marked ≡ self.old.marked }
+    {
+        let Some(_) = self.inside.process(pid) else {
+            return Ok(());
+        };
+        uncount_channels(&self.inside, &mut self.tallies, pid);
+        let outcome = self.inside.replace_channels(alloc, pid, channels);
+        count_channels(&self.inside, &mut self.tallies, pid);
+        outcome
     }
 
     /// The process of this number has these plain fields, but for the number, which it has already. It takes no room.

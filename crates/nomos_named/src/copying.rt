@@ -18,6 +18,7 @@ impl Tallied {
             inside: Inside::empty(alloc),
             tallies: Tallies::new(alloc),
             was_exact: true,
+            was_lost: true,
         }
     }
 
@@ -32,6 +33,7 @@ impl Tallied {
             inside,
             tallies,
             was_exact: true,
+            was_lost: true,
         })
     }
 }

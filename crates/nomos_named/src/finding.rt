@@ -1,6 +1,7 @@
 //! Who provides or uses a name, found by tallies.
-ghost use Rattle.std.specs.Prelude.{◌≡◌, ◌==◌, true};
+ghost use Rattle.std.specs.Prelude.{◌≡◌, ◌==◌, None, true};
 ghost use Rattle.std.specs.Option.{option_map};
+ghost use Rattle.nomos_deeds.specs.Readers.{IsLinearName};
 ghost use Rattle.nomos_deeds.specs.Seen.{seen_message, seen_process};
 ghost use Rattle.nomos_index.specs.Telling.{DoesAt};
 ghost use Rattle.nomos_machine.specs.Objects.{times};
@@ -10,15 +11,17 @@ ghost use Rattle.nomos_named.specs.Finding.{IsFoundBy, doing_of};
 
 use crate::tallied::Tallied;
 use nomos_deeds::sight::{SeenMessage, SeenProcess, Sight};
+use nomos_deeds::types::is_linear;
 use nomos_tally::tally::{Doing, Hint, Tally};
+use nomos_types::accepted::Accepted;
 
 /// Who does something with a name.
 #[derive(Clone, Copy, Debug)]
 pub enum Found {
     /// No object does it.
     Nobody,
-    /// The object of this number does it, once, and no other one.
-    One(u32),
+    /// This one does it, once, and no other one.
+    One(Hint),
     /// It is not known without a look at all objects.
     Unknown,
 }
@@ -63,13 +66,13 @@ impl Tallied {
         let hint = hint_of(tally, doing);
         match tally.count(doing) {
             0 => Found::Nobody,
-            1 if self.does(doing, name, hint) => Found::One(hint.object),
+            1 if self.does(doing, name, hint) => Found::One(hint),
             _ => Found::Unknown,
         }
     }
 
-    // Who does it.
-    fn found_by(&self, doing: Doing, name: u32) -> Found
+    /// Who does it.
+    pub(crate) fn found_by(&self, doing: Doing, name: u32) -> Found
         ensures { IsFoundBy doing self.now.state.objects name result }
     {
         if !self.tallies.exact {
@@ -87,7 +90,7 @@ impl Tallied {
     {
         match self.found_by(doing_of(to_client), name) {
             Found::Nobody => None,
-            Found::One(number) => self.inside.message_read(number, to_client, name),
+            Found::One(by) => self.inside.message_read(by.object, to_client, name),
             Found::Unknown => self.inside.message_on(to_client, name),
         }
     }
@@ -98,7 +101,7 @@ impl Tallied {
     {
         match self.found_by(Doing::Uses, name) {
             Found::Nobody => None,
-            Found::One(number) => Some(number),
+            Found::One(by) => Some(by.object),
             Found::Unknown => self.inside.user(name),
         }
     }
@@ -109,8 +112,22 @@ impl Tallied {
     {
         match self.found_by(Doing::Provides, name) {
             Found::Nobody => None,
-            Found::One(number) => self.inside.process_offering(number, name),
+            Found::One(by) => self.inside.process_offering(by.object, name),
             Found::Unknown => self.inside.offering(name),
+        }
+    }
+
+    /// The number of the object that uses a name whose type has mode R or L; nothing at any other name.
+    pub(crate) fn owner(&self, accepted: &Accepted, name: u32) -> Option<u32>
+        ensures linear { IsLinearName accepted.now.program self.now.state.types name
+            → result ≡ owner self.now.state name }
+        ensures other { ¬ (IsLinearName accepted.now.program self.now.state.types name) → result ≡ None }
+    {
+        let t = self.inside.type_of(name)?;
+        if is_linear(accepted, t) {
+            self.user(name)
+        } else {
+            None
         }
     }
 }

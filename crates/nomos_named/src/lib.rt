@@ -1,9 +1,18 @@
 //! An indexed state that finds who provides and who uses a name without going over its objects.
 #![tactic(auto)]
 
+mod accounts;
+mod carrying;
+mod changes;
 mod changing;
 mod coming;
 mod copying;
+mod counting;
 pub mod finding;
+pub mod indexed;
+mod leaving;
 mod marking;
+mod redirecting;
+mod sight;
 pub mod tallied;
+mod tidying;

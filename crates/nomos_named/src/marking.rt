@@ -13,6 +13,10 @@ impl Tallied {
         ensures frugal { changes ≤ self.old.room → IsOk result }
         ensures marked { self.new.marked ≡ self.old.marked }
     {
+        if self.inside.has_room(changes) {
+            return Ok(());
+        }
+        self.tallies.reserve(changes)?;
         self.inside.make_room(changes)
     }
 
@@ -26,6 +30,8 @@ impl Tallied {
         self.inside.mark();
         self.tallies.names.mark();
         self.was_exact = self.tallies.exact;
+        let suspects = &self.tallies.suspects;
+        self.was_lost = suspects.is_lost() || !suspects.is_empty();
     }
 
     /// Goes back to the state that is marked. It takes no memory.
@@ -38,6 +44,7 @@ impl Tallied {
         self.inside.back();
         self.tallies.names.back();
         self.tallies.exact = self.was_exact;
+        self.tallies.suspects.clear(self.was_lost);
     }
 
     /// Forgets which state is marked. It takes no memory.

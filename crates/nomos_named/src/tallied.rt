@@ -11,6 +11,8 @@ pub struct Tallied {
     pub(crate) tallies: Tallies,
     /// Whether tallies were exact where the state is marked.
     pub(crate) was_exact: bool,
+    /// Whether there were suspects there, or some were lost.
+    pub(crate) was_lost: bool,
 }
 
 impl Model for Tallied {

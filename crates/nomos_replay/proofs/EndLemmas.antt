@@ -5,17 +5,13 @@ use Rattle.nomos_ir.specs.declared.fault.Fault.{Fault}
 use Rattle.nomos_types.specs.Acceptance.{Acceptance, IsAccepted}
 use Rattle.nomos_machine.specs.Deeds.{Deed}
 use Rattle.nomos_machine.specs.Deeds as deeds
-use Rattle.nomos_machine.specs.Objects.{object_number}
 use Rattle.nomos_machine.specs.Optional.{◌>>=◌}
 use Rattle.nomos_machine.specs.Run.{IsNextReady, NoneReady}
 use Rattle.nomos_machine.specs.State.{State, process_at}
 use Rattle.nomos_machine.specs.Step.{IsReady, deed_of, fault, fault_in, state_after, step}
-use Rattle.nomos_machine.specs.TypedState.{IsTyped, Numbered}
-use Rattle.nomos_machine.specs.declared.object.Object.{Object}
-use Rattle.nomos_machine.specs.declared.object.Object.TheVariants as object
-use Rattle.nomos_machine.specs.declared.object.Process.{Process}
-use Rattle.nomos_machine.proofs.PreservationLaws.{process_at-there, ready-none}
-use Rattle.std.proofs.lemmas.List.Elements.{All-contains}
+use Rattle.nomos_machine.specs.TypedState.{IsTyped}
+use Rattle.nomos_machine.proofs.PreservationLaws.{ready-none}
+use Rattle.nomos_watch.proofs.ReadyLaws.{none-zero}
 
 module _ (a : Acceptance) (s : State) where
   -- a process that is not ready has no fault
@@ -74,15 +70,6 @@ module _ (a : Acceptance) (s : State) where
         | inl over ↦ no-fault other (rest other over)
         | inr least ↦ none other least
       ]
-
--- no process has the number 0
-none-zero : {s : State} → Numbered s → (o : Option Process) → process_at s 0 ≡ o → process_at s 0 ≡ None
-none-zero {s} numbered None is = is
-none-zero {s} numbered (Some p) is =
-    let (there, number) = process_at-there s 0 p is in
-    let over : 0 < object_number (object.Process p) =
-    All-contains (λ (o : Object). 0 < object_number o) s.objects (object.Process p) numbered.over there in
-    absurd (omega (arith, number, over))
 
 pub faultless-zero : {a : Acceptance} → IsAccepted a → {s : State} → IsTyped a s → (other : ℕ) → other ≤ 0
     → fault a s other ≡ None

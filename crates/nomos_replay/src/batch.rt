@@ -5,6 +5,7 @@ ghost use Rattle.nomos_script.specs.declared.item.Batch.{Batch};
 ghost use Rattle.nomos_script.specs.declared.item.ScriptItem.{ScriptItem};
 ghost use Rattle.nomos_legal.specs.Ending.{IsAllowed};
 ghost use Rattle.nomos_legal.specs.StandsFor.{WorldStandsFor};
+ghost use Rattle.nomos_watch.specs.Watching.{IsWatched};
 ghost use Rattle.nomos_replay.specs.Stand.{before, fires, told_run};
 ghost use Rattle.nomos_replay.specs.Told.{Told, next_limit};
 ghost use Rattle.nomos_replay.specs.mirror.Reading.{Carries, IsCounted, Stops};
@@ -17,32 +18,33 @@ use crate::kinds::end_in;
 use crate::source::Source;
 use crate::trial::Trial;
 use nomos_deeds::undo::Undo;
-use nomos_ledger::world::World;
 use nomos_legal::journal::End;
+use nomos_watch::watched::Watched;
 
 /// Reads and makes the firings of a batch that may make so many, up to its end.
 pub(crate) fn replay_firings<M: Undo>(
     trial: &Trial<'_>,
     source: &mut Source<'_>,
-    world: &mut World<M>,
+    watched: &mut Watched<M>,
     most: u32,
 ) -> Result<End, ReplayError>
     requires counted { IsCounted source.old }
-    requires stands { WorldStandsFor trial.now.accepted.now world.old }
-    requires within { length world.old.firings ≤ most }
-    requires numbers { HasNumbersFor most world.old }
+    requires stands { WorldStandsFor trial.now.accepted.now watched.old.world }
+    requires watched { IsWatched trial.now.accepted.now watched.old.world.state watched.old.awake }
+    requires within { length watched.old.world.firings ≤ most }
+    requires numbers { HasNumbersFor most watched.old.world }
     ensures read { (all items : List ScriptItem) (batch : Batch) (told : Told) → next_limit told ≡ most
         → MatchResult result
         (λ e. Carries trial.now.accepted.now all source.old
-        (fires trial.now.version told (under_way batch world.old) items)
+        (fires trial.now.version told (under_way batch watched.old.world) items)
         source.new
-        (before trial.now.version (told_run trial.now.accepted.now told (under_way batch world.new) e) items))
+        (before trial.now.version (told_run trial.now.accepted.now told (under_way batch watched.new.world) e) items))
         (Stops trial.now.accepted.now all source.old
-        (fires trial.now.version told (under_way batch world.old) items)) }
+        (fires trial.now.version told (under_way batch watched.old.world) items)) }
     ensures allowed { IfOk result
-        (IsAllowed trial.now.accepted.now world.new.state (length world.new.firings) most) }
+        (IsAllowed trial.now.accepted.now watched.new.world.state (length watched.new.world.firings) most) }
     ensures counted { IsCounted source.new }
-    ensures ran { IfOk result (λ _. RanOn trial.now.accepted.now most world.old world.new) }
+    ensures ran { IfOk result (λ _. RanOn trial.now.accepted.now most watched.old.world watched.new.world) }
 {
     // Where the program is read it is known to be accepted.
     let _program = trial.accepted.program();
@@ -51,7 +53,7 @@ pub(crate) fn replay_firings<M: Undo>(
         match end_in(line) {
             Ok(end) => {
                 let at = source.at;
-                return judge_end(trial.alloc, trial.accepted, world, most, Kept { at, end });
+                return judge_end(trial.alloc, trial.accepted, watched, most, Kept { at, end });
             }
             Err(line) => {
                 let at = source.at;
@@ -60,7 +62,7 @@ pub(crate) fn replay_firings<M: Undo>(
                     at,
                     most,
                 };
-                fire_line(trial, world, read)?;
+                fire_line(trial, watched, read)?;
             }
         }
     }

@@ -2,8 +2,11 @@
 
 ghost use Rattle.std.specs.Prelude.{◌≡◌, ◌<◌, ◌↔◌, ℕ, IsTrue, IfOk, MatchOption, MatchResult, None, Some, length};
 ghost use Rattle.nomos_machine.specs.Step.{fault};
-ghost use Rattle.nomos_legal.specs.Ending.{EndsAs, IsAllowed};
+ghost use Rattle.nomos_types.specs.Acceptance.{Acceptance};
+ghost use Rattle.nomos_machine.specs.State.{State};
+ghost use Rattle.nomos_legal.specs.Ending.{EndsAs, GoesOn, IsAllowed};
 ghost use Rattle.nomos_legal.specs.StandsFor.{WorldStandsFor};
+ghost use Rattle.nomos_watch.specs.Watching.{IsWatched};
 ghost use Rattle.nomos_replay.specs.Spoiled.{Finds};
 ghost use Rattle.nomos_replay.specs.mirror.Running.{EndStops, IsLowestFault};
 
@@ -14,6 +17,7 @@ use nomos_ir::fault::Fault;
 use nomos_ledger::world::World;
 use nomos_legal::journal::End;
 use nomos_types::accepted::Accepted;
+use nomos_watch::watched::Watched;
 use std::alloc::{AllocError, Global};
 
 /// An end that is kept, and the number of its line in the text.
@@ -23,13 +27,14 @@ pub(crate) struct Kept {
     pub(crate) end: End,
 }
 
-// Whether the state of a world gives this end, faults apart.
-fn gives<M: Undo>(accepted: &Accepted, world: &World<M>, most: u32, end: &End) -> bool
-    requires { WorldStandsFor accepted.now world.now }
-    ensures { IsTrue result ↔ EndsAs accepted.now world.now.state (length world.now.firings) most end.now }
+// Whether this end is given by a state, of which it is known how the batch ends there, faults apart.
+fn gives(given: &Option<End>, end: &End) -> bool
+    ensures { (a : Acceptance) (s : State) (count most : ℕ)
+        → MatchOption given.now (GoesOn a s count most) (EndsAs a s count most)
+        → (IsTrue result ↔ EndsAs a s count most end.now) }
 {
-    match world.end(accepted, most) {
-        Some(given) => is_same_end(&given, end),
+    match given {
+        Some(given) => is_same_end(given, end),
         None => false,
     }
 }
@@ -51,15 +56,18 @@ fn has_fault<M: Undo>(
     }
 }
 
-// Whether a batch may end so.
+// Whether a batch may end so, of which it is known how it ends here, faults apart.
 fn may_end<M: Undo>(
     alloc: Global,
     accepted: &Accepted,
     world: &World<M>,
     most: u32,
+    given: &Option<End>,
     end: &End,
 ) -> Result<bool, AllocError>
-    requires { WorldStandsFor accepted.now world.now }
+    requires stands { WorldStandsFor accepted.now world.now }
+    requires given { MatchOption given.now (GoesOn accepted.now world.now.state (length world.now.firings) most)
+        (EndsAs accepted.now world.now.state (length world.now.firings) most) }
     ensures { IfOk result (λ may. IsTrue may
         ↔ IsAllowed accepted.now world.now.state (length world.now.firings) most end.now) }
 {
@@ -67,7 +75,7 @@ fn may_end<M: Undo>(
         let has = has_fault(alloc, accepted, world, *pid, *cause)?;
         return Ok(has && world.firings().len() < most as usize);
     }
-    Ok(gives(accepted, world, most, end))
+    Ok(gives(given, end))
 }
 
 // The lowest process that has a fault, with its fault.
@@ -93,17 +101,19 @@ fn lowest_fault<M: Undo>(
     Ok(None)
 }
 
-// The end that is found of a batch.
+// The end that is found of a batch, of which it is known how it ends here, faults apart.
 fn found_end<M: Undo>(
     alloc: Global,
     accepted: &Accepted,
     world: &World<M>,
-    most: u32,
+    given: Option<End>,
 ) -> Result<Option<End>, AllocError>
     requires { WorldStandsFor accepted.now world.now }
-    ensures { IfOk result (Finds accepted.now world.now.state (length world.now.firings) most) }
+    ensures { (most : ℕ) → MatchOption given (GoesOn accepted.now world.now.state (length world.now.firings) most)
+        (EndsAs accepted.now world.now.state (length world.now.firings) most)
+        → IfOk result (Finds accepted.now world.now.state (length world.now.firings) most) }
 {
-    match world.end(accepted, most) {
+    match given {
         Some(end) => Ok(Some(end)),
         None => match lowest_fault(alloc, accepted, world)? {
             Some((pid, fault)) => Ok(Some(End::Aborted(pid, fault))),
@@ -116,20 +126,24 @@ fn found_end<M: Undo>(
 pub(crate) fn judge_end<M: Undo>(
     alloc: Global,
     accepted: &Accepted,
-    world: &World<M>,
+    watched: &mut Watched<M>,
     most: u32,
     kept: Kept,
 ) -> Result<End, ReplayError>
-    requires { WorldStandsFor accepted.now world.now }
-    ensures { MatchResult result
-        (λ end. (end ≡ kept.end) × IsAllowed accepted.now world.now.state (length world.now.firings) most end)
-        (EndStops accepted.now world.now.state (length world.now.firings) most kept) }
+    requires stands { WorldStandsFor accepted.now watched.old.world }
+    requires watched { IsWatched accepted.now watched.old.world.state watched.old.awake }
+    ensures world { watched.new.world ≡ watched.old.world }
+    ensures judged { MatchResult result
+        (λ end. (end ≡ kept.end)
+        × IsAllowed accepted.now watched.old.world.state (length watched.old.world.firings) most end)
+        (EndStops accepted.now watched.old.world.state (length watched.old.world.firings) most kept) }
 {
     let Kept { at, end } = kept;
-    if may_end(alloc, accepted, world, most, &end)? {
+    let given = watched.end(accepted, most);
+    if may_end(alloc, accepted, &watched.world, most, &given, &end)? {
         return Ok(end);
     }
-    let found = found_end(alloc, accepted, world, most)?;
+    let found = found_end(alloc, accepted, &watched.world, given)?;
     Err(ReplayError::WrongEnd {
         line: at,
         kept: end,

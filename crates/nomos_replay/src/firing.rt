@@ -7,6 +7,7 @@ ghost use Rattle.nomos_machine.specs.declared.object.Process.{Process};
 ghost use Rattle.nomos_deeds.specs.Acting.{HasNumbers};
 ghost use Rattle.nomos_legal.specs.StandsFor.{WorldStandsFor};
 ghost use Rattle.nomos_journal.specs.JournalText.{firing_line};
+ghost use Rattle.nomos_watch.specs.Watching.{IsWatched};
 ghost use Rattle.nomos_replay.specs.Stand.{says_fired};
 ghost use Rattle.nomos_replay.specs.mirror.Running.{FireStops, FiresBy, FiresOrNot, MayFire};
 
@@ -21,6 +22,7 @@ use nomos_journal::line::{JournalLine, Version};
 use nomos_ledger::world::World;
 use nomos_legal::journal::Firing;
 use nomos_types::accepted::Accepted;
+use nomos_watch::watched::Watched;
 use std::alloc::{AllocError, Global};
 
 /// A line that may say a firing, its number in the text, and the most firings of the batch.
@@ -70,19 +72,21 @@ fn place_of<M: Undo>(world: &World<M>, pid: u32) -> Option<CodeId>
 fn fire_if_ready<M: Undo>(
     alloc: Global,
     accepted: &Accepted,
-    world: &mut World<M>,
+    watched: &mut Watched<M>,
     pid: u32,
 ) -> Result<bool, AllocError>
-    requires { MayFire accepted.now world.old }
-    ensures ok { IfOk result (λ fired. FiresOrNot accepted.now world.old pid fired world.new) }
-    ensures stands { WorldStandsFor accepted.now world.new }
+    requires may { MayFire accepted.now watched.old.world }
+    requires watched { IsWatched accepted.now watched.old.world.state watched.old.awake }
+    ensures ok { IfOk result (λ fired. FiresOrNot accepted.now watched.old.world pid fired watched.new.world) }
+    ensures stands { WorldStandsFor accepted.now watched.new.world }
+    ensures watched { IsWatched accepted.now watched.new.world.state watched.new.awake }
 {
     // Where the program is read it is known to be accepted.
     let _program = accepted.program();
-    if !world.state().ready(accepted, pid) {
+    if !watched.world.state().ready(accepted, pid) {
         return Ok(false);
     }
-    match world.fire(alloc, accepted, Firing { pass: 0, pid })? {
+    match watched.fire(alloc, accepted, Firing { pass: 0, pid })? {
         Fire::Fired => Ok(true),
         Fire::Faulted(_) => Ok(false),
     }
@@ -91,27 +95,30 @@ fn fire_if_ready<M: Undo>(
 /// Fires the process of which a line says so. The line has to be that of its step, and a firing to be left.
 pub(crate) fn fire_line<M: Undo>(
     trial: &Trial<'_>,
-    world: &mut World<M>,
+    watched: &mut Watched<M>,
     read: FiringLine<'_>,
 ) -> Result<(), ReplayError>
-    requires stands { WorldStandsFor trial.now.accepted.now world.old }
-    requires numbers { length world.old.firings < read.most → HasNumbers world.old.state }
+    requires stands { WorldStandsFor trial.now.accepted.now watched.old.world }
+    requires numbers { length watched.old.world.firings < read.most → HasNumbers watched.old.world.state }
+    requires watched { IsWatched trial.now.accepted.now watched.old.world.state watched.old.awake }
     ensures fires { MatchResult result
-        (λ _. FiresBy trial.now.accepted.now trial.now.version read.entry.most read.entry.line.now world.old world.new)
+        (λ _. FiresBy trial.now.accepted.now trial.now.version read.entry.most read.entry.line.now watched.old.world
+        watched.new.world)
         (FireStops trial.now.accepted.now trial.now.version read.entry.most read.entry.at read.entry.line.now
-        world.old) }
-    ensures stands { WorldStandsFor trial.now.accepted.now world.new }
+        watched.old.world) }
+    ensures stands { WorldStandsFor trial.now.accepted.now watched.new.world }
+    ensures watched { IsWatched trial.now.accepted.now watched.new.world.state watched.new.awake }
 {
     let Some(pid) = says_fired(trial.version, read.line) else {
         return Err(ReplayError::BadLine(read.at));
     };
-    if world.firings().len() >= read.most as usize {
+    if watched.world.firings().len() >= read.most as usize {
         return Err(ReplayError::BadLine(read.at));
     }
-    let Some(place) = place_of(world, pid) else {
+    let Some(place) = place_of(&watched.world, pid) else {
         return Err(ReplayError::NotEnabled(read.at, pid));
     };
-    let fired = fire_if_ready(trial.alloc, trial.accepted, world, pid)?;
+    let fired = fire_if_ready(trial.alloc, trial.accepted, watched, pid)?;
     if !fired {
         return Err(ReplayError::NotEnabled(read.at, pid));
     }

@@ -38,6 +38,7 @@ use nomos_report::course::{Outset, push_batch_end, push_still_end};
 use nomos_report::show::push_show;
 use nomos_script::item::{Batch, ScriptItem};
 use nomos_script::name::ScriptName;
+use nomos_watch::watched::Watched;
 use std::alloc::{AllocError, Global};
 
 /// A text that is read, and what was told so far.
@@ -227,7 +228,7 @@ fn note_batch<M: Undo + Drop>(
 fn run_batch<M: Undo + Drop>(
     trial: &Trial<'_>,
     reading: &mut Reading<'_>,
-    mut world: World<M>,
+    world: World<M>,
     outset: Outset,
 ) -> Result<Ledger<M>, ReplayError>
     requires counted { IsCounted reading.old.source }
@@ -250,7 +251,10 @@ fn run_batch<M: Undo + Drop>(
     // Where the program is read it is known to be accepted.
     let _program = trial.accepted.program();
     let most = reading.notes.next_limit();
-    let end = replay_firings(trial, &mut reading.source, &mut world, most)?;
+    let mut watched = Watched::of(world);
+    watched.watch(trial.alloc, trial.accepted);
+    let end = replay_firings(trial, &mut reading.source, &mut watched, most)?;
+    let world = watched.into_world();
     let ledger = note_batch(trial, &mut reading.notes, world, outset, end)?;
     Ok(ledger)
 }

@@ -4,8 +4,14 @@
 #[cfg(test)]
 mod auction;
 #[cfg(test)]
+mod contracts;
+#[cfg(test)]
 mod journal_tests;
 #[cfg(test)]
 mod report_tests;
+#[cfg(test)]
+mod retelling_tests;
+#[cfg(test)]
+mod start_tests;
 #[cfg(test)]
 mod telling;

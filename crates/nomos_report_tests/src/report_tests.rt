@@ -1,7 +1,8 @@
-//! Tests: what is printed of scripts on contracts of the whole language.
+//! Tests: what is printed of batches, of those that stay and of those that are undone, and of ledgers.
 
 use crate::auction::{TWO_BIDS, TWO_BIDS_REPORT};
-use crate::telling::{expect_bytes, tell, tell_by};
+use crate::contracts::{CELLS, COUNTDOWN, CROSSED, DIVISION, HALVES, TWO_DIVIDE};
+use crate::telling::{Case, expect_bytes, expect_reports, tell};
 use nomos_machine::policy::Policy;
 use nomos_words::load::auction_text;
 use nomos_workers::batch::Crew;
@@ -14,55 +15,42 @@ proc R n(;) : 1 = close;
 proc R m(;) : 1 = spawn u = n(;); wait u; close;
 proc R q(;) : one = self.b; close;
 proc R p(;) : two = spawn y = q(;); spawn z = n(;); self.a; wait z; fwd y;
-proc T t(;) = spawn x = p(;); spawn w = m(;); wait w; case x { a => emit 1; case x { b => emit 2; wait x; close } };
+proc T t(;) =
+  spawn x = p(;); spawn w = m(;); wait w;
+  case x { a => emit 1; case x { b => emit 2; wait x; close } };
 ";
 
-// A process needs a unit of two sources that are of one type, so that each gives a half.
-const HALVES: &str = "type R src = |{*}> 1;
-proc R k(; a: src, b: src) : 1 = get a {*}; get b {*}; work {1}; wait a; wait b; close;
-proc R g(;) {*} : src = pay self {*}; close;
-proc T t(;) {1} = spawn a = g(;); spawn b = g(;); spawn c = k(; a, b); wait c; close;
-";
-
-// Two transactions each want two contracts, in opposite order.
-const CELLS: &str = "type S cell = up down cell;
-proc S c(;) : cell = accept; detach; call c(;);
-proc T two(; a: cell, b: cell) = acquire a as x; acquire b as y; release x as a2; release y as b2; close;
-";
-
-const CROSSED: &str = "deposit u 0
-let p = new u c(;)
-let q = new u c(;)
-begin
-exec u two(; p, q)
-exec u two(; q, p)
-end
-";
-
-// A transaction divides by what it is given.
-const DIVISION: &str = "proc T d(n: int;) = emit 10 / n; close;
-";
-
-// A transaction counts down to 0.
-const COUNTDOWN: &str = "proc T loop(n: int;) = if n < 1 { close } else { call loop(n - 1;) };
-";
-
-// Contract and script, the policy, and what is printed.
-type Case<'a> = (&'a str, &'a str, Policy, &'a str);
-
-// Batches that stay, with results, gas in parts of a unit, and what a `show` prints.
-#[test]
-fn batches_stay(rt: HostRuntime) -> Result<(), Fail> {
-    let auction = str::from_utf8(auction_text())?;
-    let table: [Case; 5] = [
-        (auction, TWO_BIDS, Policy::First, TWO_BIDS_REPORT),
-        (
-            TALKS,
-            "deposit u 0
+// A transaction without parameters, once.
+const ONCE: &str = "deposit u 0
 exec u t(;)
-",
-            Policy::First,
-            "accepted
+";
+
+// Values of all kinds are emitted.
+const VALUES: &str = "proc T v(l: list int, b: bool, m: list list int;) =
+  emit l; emit b; emit m; emit (0 - 7) / 2; emit (0 - 7) % 2; close;
+";
+
+// A list that carries potential is summed, and each of its elements pays.
+const SUMMED: &str = "proc R sum(s: int, xs: list {2} int;) : int /\\ 1 =
+  match xs { nil => put self s; close | h :: t => work {2}; call sum(s + h, t;) };
+proc T go(;) {4} =
+  let a = list {2} int; let b = list 5, a; let c = list 7, b;
+  spawn r = sum(0, c;); take r v; wait r; emit v; close;
+";
+
+// A contract is acquired and released by the process that made it.
+const ACQUIRED: &str = "type S cell = up down cell;
+proc S c(;) : cell = accept; detach; call c(;);
+proc T t(;) = spawn s = c(;); acquire s as x; release x as s2; close;
+";
+
+// Batches that stay.
+const STAYING: [Case<'static>; 7] = [
+    (
+        TALKS,
+        ONCE,
+        Policy::First,
+        "accepted
 unit 1
 bound t = 0
 line 1 deposited
@@ -70,14 +58,14 @@ line 2 committed firings 21 spent 0
 result 1 1
 result 1 2
 ",
-        ),
-        (
-            HALVES,
-            "deposit u 1
+    ),
+    (
+        HALVES,
+        "deposit u 1
 exec u t(;)
 ",
-            Policy::First,
-            "accepted
+        Policy::First,
+        "accepted
 unit 1/2
 star 1 = 1/2
 star 2 = 1/2
@@ -88,30 +76,146 @@ bound t = 2/2
 line 1 deposited
 line 2 committed firings 15 spent 2/2
 ",
-        ),
-        (
-            CELLS,
-            CROSSED,
-            Policy::First,
-            "accepted
+    ),
+    (
+        VALUES,
+        "deposit u 0
+exec u v([1,2,3], true, [[1],[]];)
+exec u v([], false, [];)
+",
+        Policy::Round,
+        "accepted
+unit 1
+bound v = 0
+line 1 deposited
+line 2 committed firings 6 spent 0
+result 1 [1,2,3]
+result 1 true
+result 1 [[1],[]]
+result 1 -3
+result 1 -1
+line 3 committed firings 6 spent 0
+result 2 []
+result 2 false
+result 2 []
+result 2 -3
+result 2 -1
+",
+    ),
+    (
+        SUMMED,
+        "deposit u 4
+exec u go(;)
+",
+        Policy::First,
+        "accepted
+unit 1
+bound go = 4
+line 1 deposited
+line 2 committed firings 17 spent 4
+result 1 12
+",
+    ),
+    (
+        ACQUIRED,
+        ONCE,
+        Policy::First,
+        "accepted
 unit 1
 bound c = 0
-bound two = 0
+bound t = 0
 line 1 deposited
-line 2 committed firings 0 spent 0
-line 3 committed firings 0 spent 0
-line 4 committed firings 14 spent 0
+line 2 committed firings 5 spent 0
 ",
-        ),
-        (
-            "proc T idle(;) {5} = close;
+    ),
+    (
+        "cost all;
+proc T f(;) {1} = close;
 ",
-            "deposit u 5
+        "deposit u 1
+exec u f(;)
+",
+        Policy::First,
+        "accepted
+unit 1
+bound f = 1
+line 1 deposited
+line 2 committed firings 2 spent 1
+",
+    ),
+    (
+        "cost sends;
+proc T f(;) {1} = emit 1; close;
+",
+        "deposit u 1
+exec u f(;)
+",
+        Policy::First,
+        "accepted
+unit 1
+bound f = 1
+line 1 deposited
+line 2 committed firings 3 spent 1
+result 1 1
+",
+    ),
+];
+
+// Batches that stay, with results, and with gas in parts of a unit.
+#[test]
+fn batches_stay(rt: HostRuntime) -> Result<(), Fail> {
+    let auction = str::from_utf8(auction_text())?;
+    expect_reports(&rt, &[(auction, TWO_BIDS, Policy::First, TWO_BIDS_REPORT)])?;
+    expect_reports(&rt, &STAYING)
+}
+
+// A contract keeps a source, whose potential waits in a message.
+const KEPT_SOURCE: &str = "type S cell = up down cell;
+type R src = |{2}> 1;
+proc S c(;) : cell = accept; detach; call c(;);
+proc R g(;) {2} : src = pay self {2}; close;
+proc S w(; y: src) : cell = accept; get y {2}; work {2}; wait y; detach; call c(;);
+proc S k(;) {2} : cell = spawn y = g(;); call w(; y);
+proc T t(; a: cell) = acquire a as x; release x as b; close;
+";
+
+// Ledgers that are shown.
+const SHOWN: [Case<'static>; 4] = [
+    (
+        "",
+        "show
+deposit b 2
+deposit a 0
+deposit b 3
+show
+",
+        Policy::First,
+        "accepted
+unit 1
+line 1 show
+stored 0
+spent 0
+deposits 0
+line 2 deposited
+line 3 deposited
+line 4 deposited
+line 5 show
+account b 5
+account a 0
+stored 0
+spent 0
+deposits 5
+",
+    ),
+    (
+        "proc T idle(;) {5} = close;
+",
+        "deposit u 5
 exec u idle(;)
 show
 ",
-            Policy::First,
-            "accepted
+        Policy::First,
+        "accepted
 unit 1
 bound idle = 5
 line 1 deposited
@@ -122,24 +226,92 @@ stored 0
 spent 0
 deposits 5
 ",
-        ),
-    ];
-    for (contract, script, policy, report) in table {
-        let told = tell_by(&rt, (contract, script), policy);
-        expect_bytes(&rt, &told.report, report)?;
-    }
-    Ok(())
+    ),
+    (
+        CELLS,
+        CROSSED,
+        Policy::First,
+        "accepted
+unit 1
+bound c = 0
+bound two = 0
+line 1 deposited
+line 2 committed firings 0 spent 0
+line 3 committed firings 0 spent 0
+line 4 committed firings 14 spent 0
+line 8 show
+account u 0
+contract p process 1 gas 0 free
+contract q process 2 gas 0 free
+stored 0
+spent 0
+deposits 0
+",
+    ),
+    (
+        KEPT_SOURCE,
+        "deposit u 7
+let q = new u k(;)
+show
+exec u t(; q)
+show
+",
+        Policy::First,
+        "accepted
+unit 1
+bound c = 0
+bound w = 0
+bound k = 2
+bound t = 0
+line 1 deposited
+line 2 committed firings 4 spent 0
+line 3 show
+account u 5
+contract q process 1 gas 0 free
+channel 2 owner 1
+channel 3 owner 3
+stored 2
+spent 0
+deposits 7
+line 4 committed firings 7 spent 2
+line 5 show
+account u 5
+contract q process 1 gas 0 free
+stored 0
+spent 2
+deposits 7
+",
+    ),
+];
+
+// What a `show` prints: accounts, contracts, channels, and gas wherever it is.
+#[test]
+fn ledgers_are_shown(rt: HostRuntime) -> Result<(), Fail> {
+    expect_reports(&rt, &SHOWN)
 }
 
-// Batches that are undone: blocked, aborted, at their limit.
-#[test]
-fn batches_are_undone(rt: HostRuntime) -> Result<(), Fail> {
-    let table: [Case; 2] = [
-        (
-            CELLS,
-            CROSSED,
-            Policy::Round,
-            "accepted
+// A transaction wants a contract that it has.
+const TWICE: &str = "type S cell = up down cell;
+proc S c(;) : cell = accept; detach; call c(;);
+proc T t(;) =
+  spawn s = c(;); acquire s as x; acquire s as y; release x as s2; release y as s3; close;
+";
+
+// Terms that need too much: one calls itself for ever, one calls itself twice, one is too great.
+const TOO_MUCH: &str = "fn spin(n: int): int = spin(n);
+fn f(n: int): int = if n < 2 then n else f(n - 1) + f(n - 2);
+proc T spins(n: int;) = emit spin(n); close;
+proc T fib(n: int;) = emit f(n); close;
+proc T add(n: int;) = emit n + 1; close;
+";
+
+// Batches that are undone.
+const UNDONE: [Case<'static>; 4] = [
+    (
+        CELLS,
+        CROSSED,
+        Policy::Round,
+        "accepted
 unit 1
 bound c = 0
 bound two = 0
@@ -151,117 +323,135 @@ left 3
 left 4
 waits 3 for 2 of 2
 waits 4 for 1 of 1
+line 8 show
+account u 0
+contract p process 1 gas 0 free
+contract q process 2 gas 0 free
+stored 0
+spent 0
+deposits 0
 ",
-        ),
-        (
-            DIVISION,
-            "deposit u 0
-begin
-exec u d(5;)
-exec u d(0;)
-end
+    ),
+    (
+        TWICE,
+        ONCE,
+        Policy::First,
+        "accepted
+unit 1
+bound c = 0
+bound t = 0
+line 1 deposited
+line 2 blocked firings 2
+left 1
+waits 1 for 2 of 2
 ",
-            Policy::First,
-            "accepted
+    ),
+    (
+        DIVISION,
+        TWO_DIVIDE,
+        Policy::First,
+        "accepted
 unit 1
 bound d = 0
 line 1 deposited
 line 2 aborted 2 DivideByZero firings 2
 ",
-        ),
-    ];
-    for (contract, script, policy, report) in table {
-        let told = tell_by(&rt, (contract, script), policy);
-        expect_bytes(&rt, &told.report, report)?;
-    }
-    Ok(())
-}
-
-// Lines that could not start, each cause, and a deposit too many.
-#[test]
-fn lines_are_refused(rt: HostRuntime) -> Result<(), Fail> {
-    let table: [Case; 2] = [
-        (
-            "proc T f(;) {3} = work {3}; close;
+    ),
+    (
+        TOO_MUCH,
+        "deposit u 0
+exec u spins(0;)
+exec u fib(10;)
+exec u fib(30;)
+exec u add(9223372036854775807;)
+exec u add(9223372036854775806;)
 ",
-            "deposit u 2
-exec u f(;)
-deposit u 1
-exec u f(;)
-",
-            Policy::First,
-            "accepted
+        Policy::First,
+        "accepted
 unit 1
-bound f = 3
+bound spins = 0
+bound fib = 0
+bound add = 0
 line 1 deposited
-line 2 refused at 2 NoGas u has 2 needs 3
-line 3 deposited
-line 4 committed firings 2 spent 3
+line 2 aborted 1 Depth firings 0
+line 3 committed firings 2 spent 0
+result 1 55
+line 4 aborted 2 TermSteps firings 0
+line 5 aborted 2 Overflow firings 0
+line 6 committed firings 2 spent 0
+result 2 9223372036854775807
 ",
-        ),
-        (
-            CELLS,
-            "exec v two(; p, q)
-deposit u 0
-exec u nope(;)
-exec u c(;)
-let p = new u c(;)
-let p = new u c(;)
-exec u two(; p)
-",
-            Policy::First,
-            "accepted
-unit 1
-bound c = 0
-bound two = 0
-line 1 refused at 1 NoAccount v
-line 2 deposited
-line 3 refused at 3 NoProcess nope
-line 4 refused at 4 NoProcess c
-line 5 committed firings 0 spent 0
-line 6 refused at 6 NameTaken p
-line 7 refused at 7 BadArguments two
-",
-        ),
-    ];
-    for (contract, script, policy, report) in table {
-        let told = tell_by(&rt, (contract, script), policy);
-        expect_bytes(&rt, &told.report, report)?;
-    }
-    Ok(())
+    ),
+];
+
+// Batches that are undone: blocked, or aborted by each fault but that of a list.
+#[test]
+fn batches_are_undone(rt: HostRuntime) -> Result<(), Fail> {
+    expect_reports(&rt, &UNDONE)
 }
 
-// Batches that may make a thousand firings.
-#[test]
-fn batches_have_a_limit(rt: HostRuntime) -> Result<(), Fail> {
-    let table: [(&str, &str, &str); 2] = [
-        (
-            COUNTDOWN,
-            "deposit u 0
+// A process calls itself for ever.
+const ENDLESS: &str = "proc R p(;) : 1 = spawn x = p(;); wait x; close;
+proc T t(;) = spawn x = p(;); wait x; close;
+";
+
+// Contract and script, the most firings of a batch, and what is printed.
+const LIMITED: [(&str, &str, u32, &str); 4] = [
+    (
+        COUNTDOWN,
+        "deposit u 0
 exec u loop(499;)
 ",
-            "accepted
+        1_000,
+        "accepted
 unit 1
 bound loop = 0
 line 1 deposited
 line 2 committed firings 1000 spent 0
 ",
-        ),
-        (
-            COUNTDOWN,
-            "deposit u 0
+    ),
+    (
+        COUNTDOWN,
+        "deposit u 0
 exec u loop(500;)
 ",
-            "accepted
+        1_000,
+        "accepted
 unit 1
 bound loop = 0
 line 1 deposited
 line 2 steps 1000
 ",
-        ),
-    ];
-    for (contract, script, report) in table {
-        let told = tell(&rt, (contract, script), Crew::One(Policy::First), 1_000);
+    ),
+    (
+        ENDLESS,
+        ONCE,
+        10,
+        "accepted
+unit 1
+bound t = 0
+line 1 deposited
+line 2 steps 10
+",
+    ),
+    (
+        ENDLESS,
+        ONCE,
+        1,
+        "accepted
+unit 1
+bound t = 0
+line 1 deposited
+line 2 steps 1
+",
+    ),
+];
+
+// Batches that may make so many firings.
+#[test]
+fn batches_have_a_limit(rt: HostRuntime) -> Result<(), Fail> {
+    for (contract, script, limit, report) in LIMITED {
+        let told = tell(&rt, (contract, script), Crew::One(Policy::First), limit);
         expect_bytes(&rt, &told.report, report)?;
     }
     Ok(())

@@ -1,10 +1,11 @@
 //! How scripts are run in the tests: on the indexed form of a state, from texts, by a crew.
-ghost use Rattle.nomos_legal.specs.Legal.{IsLimit};
+ghost use Rattle.nomos_legal.specs.Legal.{IsLegal, IsLimit};
+ghost use Rattle.nomos_run.specs.Carried.{RunsScript};
 ghost use Rattle.nomos_workers.specs.Crews.{IsCrew};
 
 use nomos_accept::accepting::accept;
-use nomos_index::indexed::IndexedState;
 use nomos_machine::policy::Policy;
+use nomos_named::indexed::IndexedState;
 use nomos_replay::refused::push_refusal;
 use nomos_replay::replay::replay;
 use nomos_run::orders::{Orders, Runner, ScriptRun, WholeRun};
@@ -14,7 +15,7 @@ use nomos_script::script::Script;
 use nomos_types::accepted::Accepted;
 use nomos_workers::batch::Crew;
 use nomos_workers::gate::OpenGate;
-use std::alloc::Global;
+use std::alloc::{AllocError, Global};
 use std::process::Abort;
 use std::sync::Wait;
 use std::test::Fail;
@@ -27,16 +28,16 @@ pub(crate) struct Told {
     pub(crate) journal: Vec<u8>,
 }
 
-// The acceptance of a contract.
-fn accepted_of<R: Abort + AllocGlobal>(rt: &R, contract: &str) -> Accepted {
+/// The acceptance of a contract.
+pub(crate) fn accepted_of<R: Abort + AllocGlobal>(rt: &R, contract: &str) -> Accepted {
     match accept(rt.alloc(), contract.as_bytes()) {
         Ok(accepted) => accepted,
         Err(_) => panic!(rt; "not accepted"),
     }
 }
 
-// The script of a text.
-fn script_of<R: Abort + AllocGlobal>(rt: &R, text: &str) -> Script {
+/// The script of a text.
+pub(crate) fn script_of<R: Abort + AllocGlobal>(rt: &R, text: &str) -> Script {
     match parse_script(rt.alloc(), text.as_bytes()) {
         Ok(script) => script,
         Err(_) => panic!(rt; "no script"),
@@ -64,8 +65,8 @@ fn told_of<R: Abort + AllocGlobal>(rt: &R, ran: ScriptRun<IndexedState>) -> Told
     Told { report, journal }
 }
 
-// The run of a script, over the indexed form of a state.
-fn ran<R: Threads + Wait + Sync>(
+/// The run of a script, over the indexed form of a state.
+pub(crate) fn ran<R: Threads + Wait + Sync>(
     runner: &Runner<'_, OpenGate, R>,
     alloc: Global,
     accepted: &Accepted,
@@ -73,6 +74,7 @@ fn ran<R: Threads + Wait + Sync>(
 ) -> ScriptRun<IndexedState>
     requires crew { IsCrew runner.now.orders.crew }
     requires limit { IsLimit runner.now.orders.limit }
+    ensures { RunsScript accepted.now script.now runner.now.orders result }
 {
     run_script(runner, alloc, accepted, script)
 }
@@ -113,7 +115,39 @@ pub(crate) fn tell_by<R: Abort + AllocGlobal + Threads + Wait + Sync>(
     tell(rt, texts, Crew::One(policy), 1_000_000)
 }
 
-/// What is answered of a journal of a script on a contract: its report, or why it is refused.
+/// Contract and script, the policy, and what is printed.
+pub(crate) type Case<'a> = (&'a str, &'a str, Policy, &'a str);
+
+/// Fails unless these reports are printed.
+pub(crate) fn expect_reports<R: Abort + AllocGlobal + Threads + Wait + Sync>(
+    rt: &R,
+    table: &[Case<'_>],
+) -> Result<(), Fail> {
+    for (contract, script, policy, report) in table {
+        let told = tell_by(rt, (contract, script), *policy);
+        expect_bytes(rt, &told.report, report)?;
+    }
+    Ok(())
+}
+
+/// What is answered of a journal of a script on an accepted contract: its report, or why it is refused.
+pub(crate) fn answer(
+    alloc: Global,
+    accepted: &Accepted,
+    script: &Script,
+    journal: &[u8],
+) -> Result<Vec<u8>, AllocError> {
+    match replay::<IndexedState>(alloc, accepted, script, journal) {
+        Ok(replayed) => Ok(replayed.report),
+        Err(error) => {
+            let mut line = Vec::new(alloc);
+            push_refusal(&mut line, accepted.unit(), &error)?;
+            Ok(line)
+        }
+    }
+}
+
+/// The same, where the contract is a text.
 pub(crate) fn replayed<R: Abort + AllocGlobal>(
     rt: &R,
     texts: (&str, &str),
@@ -121,14 +155,7 @@ pub(crate) fn replayed<R: Abort + AllocGlobal>(
 ) -> Result<Vec<u8>, Fail> {
     let accepted = accepted_of(rt, texts.0);
     let script = script_of(rt, texts.1);
-    match replay::<IndexedState>(rt.alloc(), &accepted, &script, journal) {
-        Ok(replayed) => Ok(replayed.report),
-        Err(error) => {
-            let mut line = Vec::new(rt.alloc());
-            push_refusal(&mut line, accepted.unit(), &error)?;
-            Ok(line)
-        }
-    }
+    Ok(answer(rt.alloc(), &accepted, &script, journal)?)
 }
 
 /// Fails unless these bytes were wanted.

@@ -19,7 +19,7 @@ use Rattle.nomos_machine.proofs.PutLaws.{contains-one, put-weight}
 use Rattle.nomos_machine.proofs.RenameLaws.{instead-based, instead-provides, instead-uses, renamed-gone, renamed-itself, renamed-new, renamed-third}
 use Rattle.nomos_types.proofs.OccurrenceLaws.{count-elsewhere, count-here}
 use Rattle.nomos_slots.specs.declared.numbered.Slot.{Slot}
-use Rattle.nomos_tally.specs.Tallying.{AreRight, Shifts, names_of, nothing, only}
+use Rattle.nomos_tally.specs.Tallying.{AreRight, Shifts, channels_used, names_of, nothing, only}
 use Rattle.nomos_tally.specs.declared.tally.Doing.{Doing}
 use Rattle.nomos_tally.specs.declared.tally.Doing.TheVariants as doing
 use Rattle.nomos_tally.specs.declared.tally.Tally.{Tally}
@@ -30,14 +30,11 @@ Exchanges o new less more = (d : Doing) (name : ℕ)
     → times (names_of d) (option_to_list new) name + count_of name (less d)
     ≡ count_of name (names_of d o) + count_of name (more d)
 
--- what a process does with names by its plain fields, and by its channels
+-- what a process does with names by its plain fields
 abbrev pub fields_of : Process → Doing → List ℕ
 fields_of p doing.Provides = p.offers ∷ []
 fields_of p doing.Uses = []
 fields_of p doing.Bases = option_to_list p.base
-
-abbrev pub channels_used : Process → Doing → List ℕ
-channels_used p d = only doing.Uses (map (λ e. e.1) p.channels) d
 
 -- ---- the objects as a whole
 

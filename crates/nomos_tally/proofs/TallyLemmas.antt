@@ -1,5 +1,5 @@
 -- What tallies say where one of them becomes another.
-use Rattle.std.proofs.Common.{◌≡◌, ◌≢◌, ◌∙◌, ℕ, ◌+◌, List, [], ◌∷◌, ◌++◌, ◌<◌, All, Some, refl, sym, ap, arith, inl, inr, ne_eqb, subst}
+use Rattle.std.proofs.Common.{◌≡◌, ◌≢◌, ◌∙◌, ℕ, ◌+◌, List, [], ◌∷◌, ◌++◌, ◌<◌, All, Contains, Bool, false, ◌≤◌, Some, None, refl, sym, ap, arith, inl, inr, ne_eqb, subst}
 use Rattle.std.proofs.lemmas.Bool.{cases_eq}
 use Rattle.std.proofs.lemmas.List.Elements.{All-cons, All-head, All-nil, All-tail}
 use Rattle.std.specs.List.{slice_get}
@@ -8,6 +8,7 @@ use Rattle.nomos_types.proofs.OccurrenceLaws.{count-elsewhere, count-here}
 use Rattle.nomos_slots.specs.Numbers.{IsAscending, numbers, put_at}
 use Rattle.nomos_slots.specs.declared.numbered.Slot.{Slot}
 use Rattle.nomos_slots.proofs.NumberLaws.{found-at, found-none, found-push, found-push_other, found-put_at, found-put_at_other}
+use Rattle.nomos_tally.specs.Suspecting.{IsIdle, KeepsSuspects, Suspicion}
 use Rattle.nomos_tally.specs.Tallying.{counted, counted_in, one_if, only, tallied}
 use Rattle.nomos_tally.specs.declared.tally.Doing.{Doing}
 use Rattle.nomos_tally.specs.declared.tally.Doing.TheVariants as doing
@@ -73,6 +74,49 @@ module _ (tallies : List (Slot Tally)) (ascending : IsAscending tallies) (place 
             (omega (arith, own-before d, own-after d, is d, one-counted a d name))
         | inr other ↦ omega (arith, other-after d n other, other-counted a d name n other)
       ]
+
+  -- whoever was a suspect, if nothing was done with it, is one still, where this name is one as soon as its tally says so
+  pub less-suspects : (was is : Suspicion) → (is.lost ≡ false → was.lost ≡ false)
+      → (is.lost ≡ false → (n : ℕ) → Contains was.names n → Contains is.names n)
+      → (is.lost ≡ false → ((d : Doing) → counted d next ≡ 0) → Contains is.names name)
+      → KeepsSuspects tallies changed was is
+  less-suspects was is lost kept suspected known = (
+    lost known,
+    λ n if_idle idle.
+        elim (cases_eq name n) [
+          | inl same ↦
+              subst (Contains is.names) same
+              (suspected known (λ d. sym (own-after d) ∙ subst (λ (m : ℕ). tallied changed d m ≡ 0) (sym same) (idle d)))
+          | inr other ↦ kept known n (if_idle (λ d. sym (other-after d n other) ∙ idle d))
+        ],
+  )
+
+  -- where nothing is done with the name its tally may go
+  pub gone-counted : IsIdle tallies name → (d : Doing) (n : ℕ)
+      → tallied (put_at tallies place None) d n ≡ tallied tallies d n
+  gone-counted idle d n =
+      elim (cases_eq name n) [
+        | inl same ↦
+            subst (λ (m : ℕ). tallied (put_at tallies place None) d m ≡ tallied tallies d m) same
+            (ap (counted_in d) (found-put_at tallies place _ None ascending at) ∙ sym (idle d))
+        | inr other ↦ ap (counted_in d) (found-put_at_other tallies place n _ None at other)
+      ]
+
+-- where nothing is done less with any name, and no suspects are lost, all stay suspects
+pub more-suspects : (before after : List (Slot Tally)) (was is : Suspicion)
+    → ((d : Doing) (n : ℕ) → tallied before d n ≤ tallied after d n)
+    → (is.lost ≡ false → was.lost ≡ false)
+    → (is.lost ≡ false → (n : ℕ) → Contains was.names n → Contains is.names n) → KeepsSuspects before after was is
+more-suspects before after was is grows lost kept known =
+    (lost known, λ n if_idle idle. kept known n (if_idle (λ d. omega (arith, grows d n, idle d))))
+
+-- one change after another keeps suspects
+pub suspects-both : (first second third : List (Slot Tally)) (a b c : Suspicion) → KeepsSuspects first second a b
+    → KeepsSuspects second third b c → KeepsSuspects first third a c
+suspects-both first second third a b c one other known =
+    let (still, then) = other known in
+    let (was, before) = one still in
+    (was, λ n if_idle. then n (before n if_idle))
 
 -- all numbers are below, so none is this one
 below-other : (n : ℕ) (numbers : List ℕ) → All (λ m. m < n) numbers → All (λ m. m ≢ n) numbers

@@ -1,8 +1,9 @@
 -- How often a name is provided, used and a base, as tallies say it.
-use Rattle.std.specs.Prelude.{◌≡◌, ◌+◌, ℕ, Bool, true, List, [], Option, Some, None, IfSome, slice_get}
+use Rattle.std.specs.Prelude.{◌≡◌, ◌+◌, ℕ, Bool, true, List, [], map, Option, Some, None, IfSome, slice_get}
 use Rattle.nomos_ir.specs.Order.{count_of}
 use Rattle.nomos_machine.specs.Objects.{based, provided, times, used}
 use Rattle.nomos_machine.specs.declared.object.Object.{Object}
+use Rattle.nomos_machine.specs.declared.object.Process.{Process}
 use Rattle.nomos_slots.specs.Numbers.{found}
 use Rattle.nomos_slots.specs.declared.numbered.Slot.{Slot}
 use Rattle.nomos_tally.specs.declared.tally.Doing.{Doing}
@@ -56,6 +57,10 @@ only doing.Provides names doing.Provides = names
 only doing.Uses names doing.Uses = names
 only doing.Bases names doing.Bases = names
 only _ names _ = []
+
+-- what a process does with names by its channels
+abbrev pub channels_used : Process → Doing → List ℕ
+channels_used p d = only doing.Uses (map (λ e. e.1) p.channels) d
 
 -- no names, whatever is done
 abbrev pub nothing : Doing → List ℕ

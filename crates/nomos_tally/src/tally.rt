@@ -1,5 +1,5 @@
 //! How often objects do what with one name.
-ghost use Rattle.std.specs.Prelude.{◌≡◌, ◌+◌, ℕ, IfSome};
+ghost use Rattle.std.specs.Prelude.{◌≡◌, ◌+◌, ◌↔◌, ℕ, IfSome, IsTrue};
 ghost use Rattle.nomos_tally.specs.Tallying.{counted, one_if};
 ghost use Rattle.nomos_tally.specs.declared.tally.Doing.{Doing as Does};
 
@@ -59,6 +59,13 @@ impl Tally {
             Doing::Uses => self.used,
             Doing::Bases => self.based,
         }
+    }
+
+    /// Whether nothing is done.
+    pub fn is_idle(&self) -> bool
+        ensures { IsTrue result ↔ ((d : Does) → counted d self.now ≡ 0) }
+    {
+        self.provided == 0 && self.used == 0 && self.based == 0
     }
 
     /// It is done once more, by this one; nothing where that is too often for a number of 32 bits.

@@ -20,10 +20,12 @@ use crate::stage::Stage;
 use crate::unaccepted::unaccepted_due;
 use nomos_base::Source;
 use nomos_due::benches::{self, Load};
+use nomos_due::due::Due;
 use nomos_due::replays::{self, USUAL_LIMIT};
 use nomos_due::runs;
-use nomos_index::indexed::IndexedState;
+use nomos_legal::journal::Journal;
 use nomos_machine::policy::Policy;
+use nomos_named::indexed::IndexedState;
 use nomos_run::orders::{Orders, Runner};
 use nomos_types::accepted::Accepted;
 use nomos_workers::batch::Crew;
@@ -61,6 +63,23 @@ pub(crate) fn run_due<S: Source, G: Gate, R: Threads + Wait + Sync>(
     }
 }
 
+// What is due for a run, over the indexed form of a state.
+fn indexed_run_due<S: Source, G: Gate, R: Threads + Wait + Sync>(
+    runner: &Runner<'_, G, R>,
+    alloc: Global,
+    accepted: &Accepted,
+    script: &mut S,
+) -> Result<Due, Journal>
+    requires crew { IsCrew runner.now.orders.crew }
+    requires limit { IsLimit runner.now.orders.limit }
+    ensures ok { IfOk result (IsRunDueFor accepted.now runner.now.orders
+        (source_state (S.left script.old) (S.faults script.old) (S.faults script.new))) }
+    ensures err { IfErr result (IsRunPartFor accepted.now runner.now.orders
+        (source_state (S.left script.old) (S.faults script.old) (S.faults script.new))) }
+{
+    runs::run_due::<IndexedState, S, G, R>(runner, alloc, accepted, script)
+}
+
 // What is due for a run on an accepted contract.
 fn accepted_run_due<S: Source, G: Gate, R: Threads + Wait + Sync>(
     stage: &Stage<'_, G, R>,
@@ -81,7 +100,7 @@ fn accepted_run_due<S: Source, G: Gate, R: Threads + Wait + Sync>(
         gate: stage.gate,
         orders,
     };
-    let due = runs::run_due::<IndexedState, S, G, R>(&runner, stage.alloc, &accepted, script);
+    let due = indexed_run_due(&runner, stage.alloc, &accepted, script);
     due_behind(accepted, due)
 }
 
@@ -160,6 +179,24 @@ fn bench_orders() -> Orders
     }
 }
 
+// What is due for the load of `bench`, over the indexed form of a state.
+fn indexed_bench_due<G: Gate, R: Threads + Wait + Sync>(
+    runner: &Runner<'_, G, R>,
+    alloc: Global,
+    accepted: &Accepted,
+    load: Load,
+) -> Result<Due, Journal>
+    requires crew { IsCrew runner.now.orders.crew }
+    requires limit { IsLimit runner.now.orders.limit }
+    requires result { runner.now.orders.result ≡ true }
+    ensures ok { IfOk result (λ due.
+        IsBenchDue accepted.now runner.now.orders load due.status due.out.items due.journal) }
+    ensures kept { IfOk result (λ due. kept_text due ≡ None) }
+    ensures err { IfErr result (IsBenchPart accepted.now runner.now.orders load) }
+{
+    benches::bench_due::<IndexedState, G, R>(runner, alloc, accepted, load)
+}
+
 // What is due for the load of `bench` on the accepted auction.
 fn accepted_bench_due<G: Gate, R: Threads + Wait + Sync>(
     stage: &Stage<'_, G, R>,
@@ -177,6 +214,6 @@ fn accepted_bench_due<G: Gate, R: Threads + Wait + Sync>(
         gate: stage.gate,
         orders: bench_orders(),
     };
-    let due = benches::bench_due::<IndexedState, G, R>(&runner, stage.alloc, &accepted, load);
+    let due = indexed_bench_due(&runner, stage.alloc, &accepted, load);
     due_behind(accepted, due)
 }

@@ -14,7 +14,7 @@ use Rattle.nomos_machine.specs.declared.object.Object.{Object}
 use Rattle.nomos_machine.specs.declared.object.Object.TheVariants as object
 use Rattle.nomos_machine.specs.declared.object.Process.{Process}
 use Rattle.nomos_machine.proofs.PreservationLaws.{process_at-there}
-use Rattle.nomos_workers.proofs.PolicyLaws.{none-zero}
+use Rattle.nomos_watch.proofs.ReadyLaws.{none-zero}
 
 -- no process up to this one has a fault
 abbrev pub NoFaultTo : Acceptance → State → ℕ → Type 0

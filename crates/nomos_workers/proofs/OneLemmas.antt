@@ -2,7 +2,6 @@
 use Rattle.std.proofs.Common.{◌≡◌, ◌∙◌, ℕ, ◌+◌, ◌<◌, ◌≤◌, List, [], ◌∷◌, ◌++◌, length, All, refl, sym, ap, subst, arith, length-append}
 use Rattle.std.proofs.lemmas.List.{map-append}
 use Rattle.std.proofs.lemmas.List.Elements.{All-nil, All-push}
-use Rattle.nomos_ir.specs.declared.ids.CodeId.{CodeId}
 use Rattle.nomos_types.specs.Acceptance.{Acceptance, IsAccepted}
 use Rattle.nomos_machine.specs.Policies.{FollowsPolicy, IsChosen}
 use Rattle.nomos_machine.specs.Policies as policies
@@ -11,13 +10,13 @@ use Rattle.nomos_machine.specs.declared.policy.Policy.{Policy}
 use Rattle.nomos_deeds.specs.Acting.{HasNumbers}
 use Rattle.nomos_legal.specs.Ending.{EndsAs, IsAllowed}
 use Rattle.nomos_legal.specs.StandsFor.{WorldStandsFor}
-use Rattle.nomos_legal.specs.World.{FiresAt, WorldState, pids_of, start_of}
-use Rattle.nomos_legal.specs.World as world
+use Rattle.nomos_legal.specs.World.{WorldState, pids_of, start_of}
 use Rattle.nomos_legal.specs.declared.journal.End.{End}
 use Rattle.nomos_legal.specs.declared.journal.End.TheVariants as end
 use Rattle.nomos_legal.specs.declared.journal.Firing.{Firing}
 use Rattle.nomos_legal.proofs.WorldLaws.{world-rises}
 use Rattle.nomos_ledger.specs.Calls.{HasFired}
+use Rattle.nomos_watch.proofs.StartLaws.{fresh-start}
 use Rattle.nomos_workers.specs.Batch.{MayRun}
 use Rattle.nomos_workers.specs.OneWorker.{AbortsBy, RunsBy}
 use Rattle.nomos_workers.specs.mirror.Steps.{AbortsAt, HasMade, firing_of}
@@ -27,16 +26,6 @@ use Rattle.nomos_workers.proofs.PolicyLaws.{follows-push}
 pub same-start : (a : Acceptance) (v w : WorldState) → w.origin ≡ v.origin → w.starts ≡ v.starts
     → start_of a w ≡ start_of a v
 same-start a v w origin starts = rw (origin, starts) refl
-
--- where nothing fired, the state is the first one
-nothing-fired : {a : Acceptance} {s t : State} (pids : List ℕ) {places : List CodeId} → FiresAt a s pids places t
-    → pids ≡ [] → s ≡ t
-nothing-fired [] (world.done s) none = refl
-nothing-fired (pid ∷ pids) all none = absurd cc
-
-pub fresh-start : (a : Acceptance) (w : WorldState) → WorldStandsFor a w → w.firings ≡ []
-    → (start_of a w).state ≡ w.state
-fresh-start a w stands fresh = nothing-fired (pids_of w.firings) stands.reached (ap pids_of fresh)
 
 -- ---- firings
 

@@ -9,10 +9,10 @@ use Rattle.nomos_machine.specs.TypedState.{IsTyped}
 use Rattle.nomos_deeds.specs.Acting.{HasNumbers}
 use Rattle.nomos_legal.specs.World.{WorldState, start_of}
 use Rattle.nomos_legal.proofs.WorldLaws.{world-rises}
+use Rattle.nomos_watch.proofs.ReadyLaws.{none_ready-quiet}
+use Rattle.nomos_watch.proofs.StartLaws.{fresh-start}
 use Rattle.nomos_workers.specs.Batch.{MayRun}
 use Rattle.nomos_workers.specs.Shops.{IsShop, ShopState}
-use Rattle.nomos_workers.proofs.OneLemmas.{fresh-start}
-use Rattle.nomos_workers.proofs.PolicyLaws.{none_ready-quiet}
 
 -- a batch that may be run makes a shop
 pub may-shop : (a : Acceptance) (limit : ℕ) (w : WorldState) → MayRun a limit w

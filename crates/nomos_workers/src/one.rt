@@ -1,12 +1,14 @@
 //! One worker: a batch is run by firing the process that the policy chooses, again and again.
 ghost use Rattle.std.specs.Prelude.{◌≡◌, ◌+◌, ◌<◌, ◌^◌, IfOk, OnErr, MatchOption, length};
 ghost use Rattle.nomos_machine.specs.Policies.{IsChosen};
-ghost use Rattle.nomos_machine.specs.Run.{IsNextReady, IsQuiet};
+ghost use Rattle.nomos_machine.specs.Run.{IsQuiet};
+ghost use Rattle.nomos_legal.specs.Ending.{EndsAs};
 ghost use Rattle.nomos_legal.specs.StandsFor.{WorldStandsFor};
 ghost use Rattle.nomos_deeds.specs.Acting.{HasNumbers};
 ghost use Rattle.nomos_workers.specs.Batch.{MayRun};
 ghost use Rattle.nomos_workers.specs.OneWorker.{EndsBy, RunsBy};
 ghost use Rattle.nomos_workers.specs.mirror.Steps.{Steps};
+ghost use Rattle.nomos_watch.specs.Watching.{IsWatched};
 
 use crate::batch::{BatchEnd, Ran};
 use nomos_deeds::fire::Fire;
@@ -15,6 +17,7 @@ use nomos_ledger::world::World;
 use nomos_legal::journal::{End, Firing};
 use nomos_machine::policy::Policy;
 use nomos_types::accepted::Accepted;
+use nomos_watch::watched::Watched;
 use std::alloc::{AllocError, Global};
 
 // By what a worker chooses: the policy, and the process that fired last, or 0 where none did.
@@ -31,29 +34,35 @@ pub(crate) enum Stepped {
     Ends(End),
 }
 
-// The lowest process that is ready, if one is.
-fn lowest<M: Undo>(accepted: &Accepted, world: &World<M>) -> Option<u32>
-    requires { WorldStandsFor accepted.now world.now }
-    ensures { MatchOption result (IsQuiet accepted.now world.now.state)
-        (IsNextReady accepted.now world.now.state 0) }
-{
-    // Where the program is read it is known to be accepted.
-    let _program = accepted.program();
-    world.next_ready(accepted, 0)
-}
-
 // The process that is chosen, or none where no process is ready.
-fn chosen<M: Undo>(accepted: &Accepted, world: &World<M>, chooser: Chooser) -> Option<u32>
-    requires { WorldStandsFor accepted.now world.now }
-    ensures { MatchOption result (IsQuiet accepted.now world.now.state)
-        (IsChosen chooser.policy accepted.now world.now.state chooser.last) }
+fn chosen<M: Undo>(accepted: &Accepted, watched: &mut Watched<M>, chooser: Chooser) -> Option<u32>
+    requires stands { WorldStandsFor accepted.now watched.old.world }
+    requires watched { IsWatched accepted.now watched.old.world.state watched.old.awake }
+    ensures world { watched.new.world ≡ watched.old.world }
+    ensures watched { IsWatched accepted.now watched.new.world.state watched.new.awake }
+    ensures chosen { MatchOption result (IsQuiet accepted.now watched.old.world.state)
+        (IsChosen chooser.policy accepted.now watched.old.world.state chooser.last) }
 {
     match chooser.policy {
-        Policy::First => lowest(accepted, world),
-        Policy::Round => match world.next_ready(accepted, chooser.last) {
+        Policy::First => watched.lowest(accepted),
+        Policy::Round => match watched.next_ready(accepted, chooser.last) {
             Some(pid) => Some(pid),
-            None => lowest(accepted, world),
+            None => watched.lowest(accepted),
         },
+    }
+}
+
+// How a batch ends that has made as many firings as it may.
+fn end_at_limit<M: Undo>(accepted: &Accepted, watched: &mut Watched<M>, limit: u32) -> End
+    requires stands { WorldStandsFor accepted.now watched.old.world }
+    requires full { length watched.old.world.firings ≡ limit }
+    requires watched { IsWatched accepted.now watched.old.world.state watched.old.awake }
+    ensures world { watched.new.world ≡ watched.old.world }
+    ensures ends { EndsAs accepted.now watched.old.world.state (length watched.old.world.firings) limit result }
+{
+    match watched.lowest(accepted) {
+        Some(_) => End::Steps(limit),
+        None => watched.world.end_at_rest(accepted),
     }
 }
 
@@ -61,25 +70,24 @@ fn chosen<M: Undo>(accepted: &Accepted, world: &World<M>, chooser: Chooser) -> O
 fn step<M: Undo>(
     alloc: Global,
     accepted: &Accepted,
-    world: &mut World<M>,
+    watched: &mut Watched<M>,
     limit: u32,
     chooser: Chooser,
 ) -> Result<Stepped, AllocError>
-    requires stands { WorldStandsFor accepted.now world.old }
-    requires room { length world.old.firings < limit }
-    requires numbers { HasNumbers world.old.state }
+    requires stands { WorldStandsFor accepted.now watched.old.world }
+    requires room { length watched.old.world.firings < limit }
+    requires numbers { HasNumbers watched.old.world.state }
+    requires watched { IsWatched accepted.now watched.old.world.state watched.old.awake }
     ensures ok { IfOk result (λ stepped.
-        Steps chooser.policy accepted.now limit chooser.last world.old stepped world.new) }
-    ensures err { OnErr result (world.new ≡ world.old) }
-    ensures stands { WorldStandsFor accepted.now world.new }
+        Steps chooser.policy accepted.now limit chooser.last watched.old.world stepped watched.new.world) }
+    ensures err { OnErr result (watched.new.world ≡ watched.old.world) }
+    ensures stands { WorldStandsFor accepted.now watched.new.world }
+    ensures watched { IsWatched accepted.now watched.new.world.state watched.new.awake }
 {
-    if let Some(end) = world.end(accepted, limit) {
-        return Ok(Stepped::Ends(end));
-    }
-    let Some(pid) = chosen(accepted, world, chooser) else {
-        unreachable!()
+    let Some(pid) = chosen(accepted, watched, chooser) else {
+        return Ok(Stepped::Ends(watched.world.end_at_rest(accepted)));
     };
-    match world.fire(alloc, accepted, Firing { pass: 0, pid })? {
+    match watched.fire(alloc, accepted, Firing { pass: 0, pid })? {
         Fire::Fired => Ok(Stepped::Fired(pid)),
         Fire::Faulted(fault) => Ok(Stepped::Ends(End::Aborted(pid, fault))),
     }
@@ -89,28 +97,26 @@ fn step<M: Undo>(
 fn fire_all<M: Undo>(
     alloc: Global,
     accepted: &Accepted,
-    world: &mut World<M>,
+    watched: &mut Watched<M>,
     limit: u32,
     policy: Policy,
 ) -> BatchEnd
-    requires { MayRun accepted.now limit world.old }
-    ensures runs { RunsBy policy accepted.now limit world.old world.new }
-    ensures ends { EndsBy policy accepted.now limit world.new result }
+    requires may { MayRun accepted.now limit watched.old.world }
+    requires watched { IsWatched accepted.now watched.old.world.state watched.old.awake }
+    ensures runs { RunsBy policy accepted.now limit watched.old.world watched.new.world }
+    ensures ends { EndsBy policy accepted.now limit watched.new.world result }
 {
     // Where the program is read it is known to be accepted.
     let _program = accepted.program();
     let mut chooser = Chooser { policy, last: 0 };
     'firings: for _made in 0..limit {
-        match step(alloc, accepted, world, limit, chooser) {
+        match step(alloc, accepted, watched, limit, chooser) {
             Ok(Stepped::Fired(pid)) => chooser.last = pid,
             Ok(Stepped::Ends(end)) => return BatchEnd::Done(end),
             Err(_) => return BatchEnd::NoMemory,
         }
     }
-    match world.end(accepted, limit) {
-        Some(end) => BatchEnd::Done(end),
-        None => unreachable!(),
-    }
+    BatchEnd::Done(end_at_limit(accepted, watched, limit))
 }
 
 /// Runs a batch by one worker, which fires the process that the policy chooses (docs/MACHINE.md, "Workers") until the
@@ -118,7 +124,7 @@ fn fire_all<M: Undo>(
 pub fn run_by<M: Undo>(
     alloc: Global,
     accepted: &Accepted,
-    mut world: World<M>,
+    world: World<M>,
     limit: u32,
     policy: Policy,
 ) -> Ran<M>
@@ -126,6 +132,11 @@ pub fn run_by<M: Undo>(
     ensures runs { RunsBy policy accepted.now limit world result.world }
     ensures ends { EndsBy policy accepted.now limit result.world result.end }
 {
-    let end = fire_all(alloc, accepted, &mut world, limit, policy);
-    Ran { world, end }
+    let mut watched = Watched::of(world);
+    watched.watch(alloc, accepted);
+    let end = fire_all(alloc, accepted, &mut watched, limit, policy);
+    Ran {
+        world: watched.into_world(),
+        end,
+    }
 }

@@ -9,7 +9,8 @@ use Rattle.nomos_replay.proofs.batch.replay_firings.Goals as goal
 pub lines-init : goal.lines-init
 lines-init g c = record {
   counted = c.requires.counted;
-  ran = ran-none c.args.most c.args.world.now c.requires.stands c.requires.within;
+  watched = c.requires.watched;
+  ran = ran-none c.args.most c.args.watched.now.world c.requires.stands c.requires.within;
   carries = λ all items batch told same. carries-same c.args.trial.now.accepted.now all c.args.source.now _;
 }
 
@@ -20,18 +21,20 @@ returns-in_err-line-clause-read g c = λ all items batch told same.
     rw (p.1, p.2)
     (stops-later a all (c.lines.invariant.carries all items batch told same) _
     (stops-no_line a all c.lines.source
-    (fires c.args.trial.now.version told (under_way batch c.lines.world) items) tt _ c.in_err-line.ensures.err))
+    (fires c.args.trial.now.version told (under_way batch c.lines.watched.world) items) tt _ c.in_err-line.ensures.err))
 
 pub returns-in-Ok-clause-read : goal.returns-in-Ok-clause-read
 returns-in-Ok-clause-read g c =
     let read = rw c.in-Ok.ensures at c.in_ok-line.ensures.ok in
-    judged c.args.trial.now.accepted.now c.args.trial.now.version c.args.most c.args.world.now c.lines.world _ c.lines.invariant.carries read refl
-    c.judge_end.result c.judge_end.ensures
+    rw c.judge_end.ensures.world
+    (judged c.args.trial.now.accepted.now c.args.trial.now.version c.args.most c.args.watched.now.world
+    c.lines.watched.world _ c.lines.invariant.carries read refl c.judge_end.result c.judge_end.ensures.judged)
 
 pub returns-in-Ok-clause-ran : goal.returns-in-Ok-clause-ran
 returns-in-Ok-clause-ran g c =
-    always-ok c.args.trial.now.accepted.now c.args.most c.args.world.now c.lines.world c.judge_end.result
-    c.lines.invariant.ran
+    rw c.judge_end.ensures.world
+    (always-ok c.args.trial.now.accepted.now c.args.most c.args.watched.now.world c.lines.watched.world
+    c.judge_end.result c.lines.invariant.ran)
 
 pub fire_line-requires-clause-numbers : goal.fire_line-requires-clause-numbers
 fire_line-requires-clause-numbers g c = λ _.
@@ -44,7 +47,7 @@ returns-in_err-fire_line-in-Err-clause-read g c = λ all items batch told same.
     let stops = rw c.in-Err.ensures.0 at c.in_err-fire_line-in-Err.ensures.fires in
     rw (p.1, p.2)
     (stops-later a all (c.lines.invariant.carries all items batch told same) _
-    (stops-firing a c.args.trial.now.version c.args.most c.program-program.ensures.accepted c.lines.world
+    (stops-firing a c.args.trial.now.version c.args.most c.program-program.ensures.accepted c.lines.watched.world
     c.in_ok-line.ensures.ok c.in-Err.ensures.1 _ stops all items batch told same))
 
 pub lines-preserved : goal.lines-preserved
@@ -52,12 +55,15 @@ lines-preserved g c =
     let by = rw c.in-Err.ensures.0 at c.in_ok-fire_line-in-Err.ensures.fires in
     record {
       counted = c.in_ok-line.ensures.counted;
+      watched = c.in_ok-fire_line-in-Err.ensures.watched;
       ran = ran-more c.lines.invariant.ran by c.in_ok-fire_line-in-Err.ensures.stands;
       carries =
-          carries-fired c.args.trial.now.accepted.now c.args.trial.now.version c.args.most c.args.world.now
-          c.lines.world c.fire_line.new.world c.lines.invariant.carries c.in_ok-line.ensures.ok by;
+          carries-fired c.args.trial.now.accepted.now c.args.trial.now.version c.args.most c.args.watched.now.world
+          c.lines.watched.world c.fire_line.new.watched.world c.lines.invariant.carries c.in_ok-line.ensures.ok by;
     }
 
 pub returns-in-Ok-clause-allowed : goal.returns-in-Ok-clause-allowed
 returns-in-Ok-clause-allowed g c =
-    judged-allowed c.args.trial.now.accepted.now c.args.most c.lines.world _ c.judge_end.result c.judge_end.ensures
+    rw c.judge_end.ensures.world
+    (judged-allowed c.args.trial.now.accepted.now c.args.most c.lines.watched.world _ c.judge_end.result
+    c.judge_end.ensures.judged)

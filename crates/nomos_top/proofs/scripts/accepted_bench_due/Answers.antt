@@ -3,15 +3,15 @@ use Rattle.nomos_top.proofs.scripts.accepted_bench_due.Goals as goal
 
 pub returns-clause-ok : goal.returns-clause-ok
 returns-clause-ok g c = rw c.due_behind.ensures
-    (behind-ok c.args.accepted c.bench_due-due.result _ (rw c.bench_orders.ensures at c.bench_due-due.ensures.ok))
+    (behind-ok c.args.accepted c.indexed_bench_due-due.result _ (rw c.bench_orders.ensures at c.indexed_bench_due-due.ensures.ok))
 
 pub returns-clause-kept : goal.returns-clause-kept
 returns-clause-kept g c =
-    rw c.due_behind.ensures (behind-ok c.args.accepted c.bench_due-due.result _ c.bench_due-due.ensures.kept)
+    rw c.due_behind.ensures (behind-ok c.args.accepted c.indexed_bench_due-due.result _ c.indexed_bench_due-due.ensures.kept)
 
 pub returns-clause-err : goal.returns-clause-err
 returns-clause-err g c = rw c.due_behind.ensures
-    (behind-err c.args.accepted c.bench_due-due.result _ (rw c.bench_orders.ensures at c.bench_due-due.ensures.err))
+    (behind-err c.args.accepted c.indexed_bench_due-due.result _ (rw c.bench_orders.ensures at c.indexed_bench_due-due.ensures.err))
 
 pub returns-clause-given : goal.returns-clause-given
-returns-clause-given g c = rw c.due_behind.ensures (behind-given c.args.accepted c.bench_due-due.result)
+returns-clause-given g c = rw c.due_behind.ensures (behind-given c.args.accepted c.indexed_bench_due-due.result)

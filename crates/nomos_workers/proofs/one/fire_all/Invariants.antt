@@ -1,10 +1,12 @@
 use Rattle.std.proofs.Common.{◌≡◌}
 use Rattle.nomos_workers.specs.mirror.Steps.{HasMade}
+use Rattle.nomos_watch.specs.Watching.{IsWatched}
 use Rattle.nomos_workers.proofs.one.fire_all.Given as goal
 
--- the firings so far are those of the policy
+-- the firings so far are those of the policy, and the processes that may be ready cover the state
 abbrev pub invariant-firings : goal.invariant-firings
 invariant-firings g l = record {
   policy : l.chooser.policy ≡ l.fn.policy;
-  made : HasMade l.fn.policy l.accepted l._made l.chooser.last l.fn.world l.world;
+  made : HasMade l.fn.policy l.accepted l._made l.chooser.last l.fn.watched.world l.watched.world;
+  watched : IsWatched l.accepted l.watched.world.state l.watched.awake;
 }

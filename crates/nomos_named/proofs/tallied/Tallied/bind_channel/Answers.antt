@@ -4,7 +4,8 @@ use Rattle.nomos_deeds.specs.Seen.{seen_process}
 use Rattle.nomos_machine.specs.Revised.{with_channel}
 use Rattle.nomos_machine.specs.State.{process_at}
 use Rattle.nomos_ir.specs.Bindings.{bound_to}
-use Rattle.nomos_tally.specs.Tallying.{Shifts, only}
+use Rattle.nomos_tally.specs.Moving.{Moves}
+use Rattle.nomos_tally.specs.Tallying.{only}
 use Rattle.nomos_tally.specs.declared.tally.Doing.TheVariants as doing
 use Rattle.nomos_tally.proofs.CountLaws.{binding-exchanges}
 use Rattle.nomos_named.proofs.KeepLemmas.{becomes-tallied, marked-kept, seen-there}
@@ -18,17 +19,15 @@ invariant_of-self c =
     let p = seen.0 in
     let there = seen.1 in
     let bound = c.bound-before.ensures.name p there in
-    let ascending = c.bound-before.ensures.order p there in
-    let before = t.tallies.names.now in
-    let after = c.exchange.new.self.names.now in
+    let after = c.exchange.new.self in
     record {
       now =
-          becomes-tallied t.tallies.exact c.exchange.new.self.exact before after s c.bind_channel.new.self.state c.args.pid p
-          (with_channel c.args.v c.args.name) (only doing.Uses (option_to_list (bound_to c.args.v.0 p.channels)))
-          (only doing.Uses (c.args.name ∷ [])) c.self.invariant.now there c.bind_channel.ensures.state
-          (binding-exchanges p c.args.v c.args.name ascending) c.exchange.ensures.order c.exchange.ensures.exact
-          (λ yes. subst (λ (o : Option ℕ). Shifts before after (only doing.Uses (option_to_list o))
-          (only doing.Uses (c.args.name ∷ []))) bound (c.exchange.ensures.counts yes));
+          becomes-tallied t.tallies after s c.bind_channel.new.self.state c.args.pid p (with_channel c.args.v c.args.name)
+          (only doing.Uses (option_to_list (bound_to c.args.v.0 p.channels))) (only doing.Uses (c.args.name ∷ []))
+          c.self.invariant.now there c.bind_channel.ensures.state (binding-exchanges p c.args.v c.args.name (c.bound-before.ensures.order p there))
+          (subst (λ (o : Option ℕ). Moves t.tallies after (only doing.Uses (option_to_list o)) (only doing.Uses (c.args.name ∷ [])))
+          bound c.exchange.ensures);
       marked =
-          marked-kept t.was_exact _ _ _ _ c.self.invariant.marked c.exchange.ensures.marked c.bind_channel.ensures.marked;
+          marked-kept t.was_exact t.was_lost _ _ _ _ c.self.invariant.marked c.exchange.ensures.marked
+          c.bind_channel.ensures.marked;
     }

@@ -22,9 +22,9 @@ returns-in-One c =
     let name = c.args.name in
     let (one, told) = c.in-One.ensures in
     let (o, there, did) = told in
-    let here = ap (λ (i : Indexed). object_at i.state.objects c.in-One.number) c.self.view_is ∙ there in
-    let does : DoesAt (names_of (doing_of c.args.to_client)) objects c.in-One.number name =
+    let here = ap (λ (i : Indexed). object_at i.state.objects c.in-One.by.object) c.self.view_is ∙ there in
+    let does : DoesAt (names_of (doing_of c.args.to_client)) objects c.in-One.by.object name =
     (o, there, subst (λ (d : Doing). 1 ≤ count_of name (names_of d o)) c.doing_of.ensures did) in
     c.message_read.ensures o here
-    ∙ message-one objects name c.in-One.number c.args.to_client
+    ∙ message-one objects name c.in-One.by.object c.args.to_client
     (subst (λ (d : Doing). times (names_of d) objects name ≡ 1) c.doing_of.ensures one) does

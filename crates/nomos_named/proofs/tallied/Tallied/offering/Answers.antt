@@ -12,6 +12,6 @@ returns-in-One c =
     let objects = c.args.self.now.state.objects in
     let (one, told) = c.in-One.ensures in
     let (o, there, did) = told in
-    let here = ap (λ (i : Indexed). object_at i.state.objects c.in-One.number) c.self.view_is ∙ there in
+    let here = ap (λ (i : Indexed). object_at i.state.objects c.in-One.by.object) c.self.view_is ∙ there in
     c.process_offering.ensures o here
-    ∙ offering-one objects c.args.name c.in-One.number one (o, there, did)
+    ∙ offering-one objects c.args.name c.in-One.by.object one (o, there, did)

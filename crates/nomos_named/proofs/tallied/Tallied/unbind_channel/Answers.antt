@@ -4,7 +4,8 @@ use Rattle.nomos_deeds.specs.Seen.{seen_process}
 use Rattle.nomos_machine.specs.Revised.{without_channel}
 use Rattle.nomos_machine.specs.State.{process_at}
 use Rattle.nomos_ir.specs.Bindings.{bound_to}
-use Rattle.nomos_tally.specs.Tallying.{Shifts, only}
+use Rattle.nomos_tally.specs.Moving.{Moves}
+use Rattle.nomos_tally.specs.Tallying.{only}
 use Rattle.nomos_tally.specs.declared.tally.Doing.TheVariants as doing
 use Rattle.nomos_tally.proofs.CountLaws.{unbinding-exchanges}
 use Rattle.nomos_named.proofs.KeepLemmas.{becomes-tallied, marked-kept, seen-there}
@@ -18,16 +19,15 @@ invariant_of-self c =
     let p = seen.0 in
     let there = seen.1 in
     let bound = c.bound-before.ensures.name p there in
-    let before = t.tallies.names.now in
-    let after = c.exchange.new.self.names.now in
+    let after = c.exchange.new.self in
     record {
       now =
-          becomes-tallied t.tallies.exact c.exchange.new.self.exact before after s c.unbind_channel.new.self.state c.args.pid p
-          (without_channel c.args.v) (only doing.Uses (option_to_list (bound_to c.args.v.0 p.channels)))
-          (only doing.Uses []) c.self.invariant.now there c.unbind_channel.ensures.state
-          (unbinding-exchanges p c.args.v) c.exchange.ensures.order c.exchange.ensures.exact
-          (λ yes. subst (λ (o : Option ℕ). Shifts before after (only doing.Uses (option_to_list o))
-          (only doing.Uses [])) bound (c.exchange.ensures.counts yes));
+          becomes-tallied t.tallies after s c.unbind_channel.new.self.state c.args.pid p (without_channel c.args.v)
+          (only doing.Uses (option_to_list (bound_to c.args.v.0 p.channels))) (only doing.Uses [])
+          c.self.invariant.now there c.unbind_channel.ensures.state (unbinding-exchanges p c.args.v)
+          (subst (λ (o : Option ℕ). Moves t.tallies after (only doing.Uses (option_to_list o)) (only doing.Uses []))
+          bound c.exchange.ensures);
       marked =
-          marked-kept t.was_exact _ _ _ _ c.self.invariant.marked c.exchange.ensures.marked c.unbind_channel.ensures.marked;
+          marked-kept t.was_exact t.was_lost _ _ _ _ c.self.invariant.marked c.exchange.ensures.marked
+          c.unbind_channel.ensures.marked;
     }

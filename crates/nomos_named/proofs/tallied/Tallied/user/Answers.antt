@@ -7,4 +7,4 @@ returns-in-Nobody c = owner-nobody c.args.self.now.state c.args.name c.in-Nobody
 pub returns-in-One : goal.returns-in-One
 returns-in-One c =
     let (one, does) = c.in-One.ensures in
-    owner-one c.args.self.now.state c.args.name c.in-One.number one does
+    owner-one c.args.self.now.state c.args.name c.in-One.by.object one does

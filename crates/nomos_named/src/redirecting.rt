@@ -1,0 +1,33 @@
+//! Whoever uses a name uses another one instead.
+ghost use Rattle.std.specs.Prelude.{◌≡◌, map};
+ghost use Rattle.nomos_machine.specs.Revised.{renamed};
+ghost use Rattle.nomos_parts.specs.SmallChanges.{redirected};
+
+use crate::finding::Found;
+use crate::tallied::Tallied;
+use nomos_tally::tally::Doing;
+
+impl Tallied {
+    /// Whoever uses the old name uses the new one instead, an outside party too. It takes no room.
+    pub(crate) fn redirect(&mut self, old: u32, new: u32)
+        ensures state { self.new.state ≡ record self.old.state {
+          objects = redirected old new self.old.state.objects;
+          outside = map (renamed old new) self.old.state.outside;
+        } }
+        ensures room { self.new.room ≡ self.old.room }
+        ensures marked { self.new.marked ≡ self.old.marked }
+    {
+        match self.found_by(Doing::Uses, old) {
+            Found::Nobody => self.inside.rename_outside(old, new),
+            Found::One(by) => {
+                self.inside.redirect_object(by.object, old, new);
+                self.inside.rename_outside(old, new);
+                self.tallies.exchange(Doing::Uses, Some(old), Some(new), by);
+            }
+            Found::Unknown => {
+                self.inside.redirect(old, new);
+                self.tallies.exact = false;
+            }
+        }
+    }
+}
