@@ -5,7 +5,12 @@ tried: with each amount written as is said, the program accepts the contract.
 """
 from typing import NamedTuple
 
+from .texts import Text
+
 STARS = 64
+# What a cost model puts before an instruction that it charges, and how many amounts of `work` are looked at.
+PRICE = "work {1}; "
+MOST_WORKS = 100
 # Amounts that are tried to be left as they are come in this order; so those that a payer declares are changed last.
 ORDER = ("type", "list", "get", "head", "pay", "bound")
 LEVELS = (("head", "bound", "pay", "get"), ("head", "bound", "pay", "get", "type", "list"))
@@ -144,7 +149,7 @@ class Mends:
         others = [it for it in self.all if it.kind in LEVELS[1]]
         works = [it for it in self.all if it.kind == "work" and it.value]
         opened = dict.fromkeys(others, "*")
-        if not works or not self.accepts({**opened, **dict.fromkeys(works, 0)}):
+        if not works or len(works) > MOST_WORKS or not self.accepts({**opened, **dict.fromkeys(works, 0)}):
             return []
         left = list(works)
         for it in works[::-1]:
@@ -164,8 +169,23 @@ def mend(amount, value):
     return f"{amount.value} {how}; write `{{{value}}}`"
 
 
-def explained(text, program):
-    """Gives the row that fits a text whose amounts do not do, and places with a line on what to write there."""
+def unpaid(text, program, charged):
+    """Gives the offset of each `work` that nobody has the gas for, and of each instruction that is charged by the cost
+    model, of which the offsets are given, with how much that is. The model is written out for that."""
+    edits = [(at, at, PRICE) for at in charged]
+    if edits:
+        edits.append((text.tokens[0].at, text.tokens[2].end, ""))
+    works = Mends(Text(text.name, text.edited(*edits)), program).unpaid()
+    head = text.tokens[2].end - text.tokens[0].at if edits else 0
+    prices = {at - head + number * len(PRICE) + PRICE.index("1"): at for number, at in enumerate(sorted(charged))}
+    for it in works:
+        before = sum(at < it.at for at in prices)
+        yield prices.get(it.at, it.at + head - before * len(PRICE)), it.value
+
+
+def explained(text, program, charged):
+    """Gives the row that fits a text whose amounts do not do, and places with a line on what to write there. The
+    offsets of the instructions that the cost model charges are given."""
     mends = Mends(text, program)
     values = mends.find()
     if values is None:
@@ -173,5 +193,5 @@ def explained(text, program):
     if values:
         places = sorted(values, key=lambda it: it.at)
         return "NoPotential amount", [(it.at, f"mend: {mend(it, values[it])}") for it in places]
-    works = [(it.at, f"see: {it.value} spent here, and nothing brings it") for it in mends.unpaid()]
-    return "NoPotential none", works
+    works = unpaid(text, program, charged)
+    return "NoPotential none", [(at, f"see: {value} spent here, and nothing brings it") for at, value in works]

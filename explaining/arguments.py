@@ -1,6 +1,7 @@
 """Which argument of a line of a script does not fit the parameter of the process that the line starts."""
+from .amounts import closing
 from .syntax import nearest
-from .texts import listed
+from .texts import listed, tokens_of
 
 
 # How many contracts are tried for a parameter.
@@ -50,8 +51,10 @@ class Arguments:
         return self.of_count() or self.of_values() or self.of_names() or (self.line.process.at, "BadArguments", [])
 
     def is_shared(self, type):
-        first = type.split()[0]
-        return first == "up" or first in self.run.codes.shared
+        while type.startswith("(") and closing(tokens_of(type), 0) == len(tokens_of(type)) - 1:
+            type = type[1:-1].strip()
+        words = type.split()
+        return words[0] == "up" or len(words) == 1 and words[0] in self.run.codes.shared
 
     def of_count(self):
         pairs = ((self.values, self.wanted_values, "value"), (self.names, self.wanted_names, "contract"))
@@ -79,12 +82,27 @@ class Arguments:
             if it.text not in self.known:
                 suits = self.suiting(wanted)
                 see = self.made(suits) if suits else f"see: no contract of the type `{wanted.type}` is made so far"
-                lines = self.refused.meant(it.tokens[0], nearest(it.text, suits)) or [see]
+                meant = self.refused.meant(it.tokens[0], nearest(it.text, suits))
+                lines = meant or self.made_elsewhere(it.text) or [*self.of_account(it.text), see]
                 return it.tokens[0].at, "BadArguments name", lines
         for it, wanted in zip(self.names, self.wanted_names):
             if self.suits(it.text, wanted.type) is False:
                 return self.of_type(it, wanted)
         return None
+
+    def made_elsewhere(self, name):
+        """Gives a line on the line of the script that makes a contract of this name, if one does."""
+        for row in self.run.script.rows:
+            if row.word == "let" and row.contract.text == name:
+                place = self.run.script.place(row.contract.at)
+                if row.number > self.line.number:
+                    return [f"see: `{name}` is made at {place}, behind this line"]
+                return [f"see: `{name}` was to be made at {place}, and that was not carried out"]
+        return []
+
+    def of_account(self, name):
+        accounts = [it.tokens[1].text for it in self.run.before(self.refused.number, "deposit")]
+        return [f"see: `{name}` is an account, and a contract is wanted here"] if name in accounts else []
 
     def suiting(self, wanted):
         """Gives the contracts that a parameter may be given, of the first ones that are made."""

@@ -2,13 +2,14 @@
 import os
 import subprocess
 import tempfile
+import time
 
 
 class Answer:
-    """What the program wrote, and the status that it ended with."""
+    """What the program wrote, the status that it ended with, and how many seconds it took."""
 
-    def __init__(self, written, status):
-        self.written, self.status = written, status
+    def __init__(self, written, status, took=0):
+        self.written, self.status, self.took = written, status, took
         self.lines = [it.split() for it in written.decode("latin-1").splitlines()]
         self.words = self.lines[0] if self.lines else []
 
@@ -60,7 +61,7 @@ class Program:
         """Only of the first call is it heard what the program says on standard error. Where it takes longer than so
         many seconds, there is no answer."""
         errors = subprocess.DEVNULL if self.is_asked else None
-        self.is_asked = True
+        self.is_asked, start = True, time.monotonic()
         try:
             ended = subprocess.run(
                 [self.name, *words], stdout=subprocess.PIPE, stderr=errors, check=False, timeout=seconds
@@ -68,7 +69,7 @@ class Program:
         except subprocess.TimeoutExpired:
             return None
         status = ended.returncode if ended.returncode >= 0 else 128 - ended.returncode
-        return Answer(ended.stdout, status)
+        return Answer(ended.stdout, status, time.monotonic() - start)
 
     def check(self, data):
         return self.call("check", self.kept("contract.nomos", data))

@@ -150,3 +150,12 @@ class Codes(Names):
         if self.model == "sends":
             return step.form in ("label", "send", "put", "close")
         return self.model == "all" and step.form != "work"
+
+    def charged(self):
+        """Gives the offset of each instruction that the cost model puts a `work` before."""
+        waiting = [it.first for it in self.processes.values()]
+        while waiting:
+            step = waiting.pop()
+            waiting += [further for _, further in step.behind]
+            if self.is_charged(step):
+                yield self.tokens[step.at].at

@@ -2,11 +2,21 @@
 from typing import NamedTuple
 
 from .codes import Codes
+from .texts import listed
 
 WIDEST = 100
 # The instructions behind which nothing is held, or that pass on what is, and those that turn to a channel.
 LEAVING = ("close", "fwd", "call", "spawn", "detach", "accept")
 TURNING = ("label", "case", "send", "recv", "put", "take", "pay", "get", "wait", "release", "acquire")
+# By the sign of a type what sends and what hears there, and the types at which the provider sends.
+TALK = {
+    "+": ("", "case {} {{ .. }}"), "&": ("", "case {} {{ .. }}"),
+    "*": ("send {} ..", "recv {} .."), "-o": ("send {} ..", "recv {} .."),
+    "/\\": ("put {} ..", "take {} .."), "->": ("put {} ..", "take {} .."),
+    "|": ("pay {} {{..}}", "get {} {{..}}"), "<": ("pay {} {{..}}", "get {} {{..}}"),
+    "1": ("close", "wait {}"), "up": ("accept", "acquire {} as .."), "down": ("detach", "release {} as .."),
+}
+PROVIDED = ("+", "*", "/\\", "|", "1", "up", "down")
 
 
 class Type(NamedTuple):
@@ -69,11 +79,15 @@ class Types(Codes):
             end = it.end
         return Type(at, end + 1, word, tuple(parts))
 
+    def name(self, it):
+        """Gives the name that a type is, which may stand in parentheses."""
+        return next(token.text for token in self.tokens[it.at :] if token.text != "(")
+
     def unfolded(self, it):
-        return self.bodies[self.tokens[it.at].text] if it.sign == "name" else it
+        return self.bodies[self.name(it)] if it.sign == "name" else it
 
     def is_shared(self, it):
-        return it.sign == "up" or it.sign == "name" and self.tokens[it.at].text in self.shared
+        return it.sign == "up" or it.sign == "name" and self.name(it) in self.shared
 
     def words(self, it):
         """Gives the text of a type, and of what its name stands for."""
@@ -82,6 +96,14 @@ class Types(Codes):
             body = self.unfolded(it)
             text = f"{text}`, which is `{self.said(body.at, body.end)}"
         return text if len(text) <= WIDEST else f"{text[:WIDEST]}.."
+
+    def talk(self, name, it):
+        """Gives the instructions with which the talk on a channel goes on, by its type."""
+        whole = self.unfolded(it)
+        is_sent = (whole.sign in PROVIDED) == (name == "self")
+        if is_sent and whole.sign in ("+", "&"):
+            return [f"{name}.{label}" for label, _ in whole.parts]
+        return [TALK[whole.sign][0 if is_sent else 1].format(name)]
 
     def start(self, process):
         """Gives the channels of a process at its start, with `self` where it offers something."""
@@ -145,8 +167,23 @@ class Types(Codes):
                 del held[name]
 
 
-def now(text, answer, grammar):
-    """Gives lines on what `self` is at and what is held where an instruction is stuck, or what its channel is at."""
+def turned(types, name, it, stuck, has_mend):
+    """Gives lines on the channel that a stuck instruction turns to."""
+    lines, is_shared = [f"now: `{name}` is at `{types.words(it.type)}`"], types.is_shared(it.type)
+    if stuck.form == "acquire" and not is_shared:
+        return [*lines, f"see: `{name}` is not shared, and is talked to without that"]
+    if name != "self" and stuck.form != "acquire" and is_shared:
+        return [*lines, f"see: `{name}` is shared, and is acquired before it is talked to"]
+    talk = types.talk(name, it.type)
+    first = f"{name}." if stuck.form == "label" else stuck.form
+    if has_mend or any(words.startswith(first) for words in talk):
+        return lines
+    return [*lines, f"see: `{name}` goes on by {listed(talk)}"]
+
+
+def now(text, answer, grammar, has_mend=False):
+    """Gives lines on what `self` is at and what is held where an instruction is stuck, or what its channel is at, and
+    where there is no mend how that goes on."""
     types = Types(text, grammar)
     index = text.index_at(answer.offset)
     process = [it for it in types.processes.values() if it.at < index][-1]
@@ -156,10 +193,7 @@ def now(text, answer, grammar):
         types.behind(held, step, label)
     if stuck.form in TURNING:
         name = text.tokens[index if stuck.form == "label" else index + 1].text
-        names = [name] if name in held else []
-        lines = [f"now: `{it}` is at `{types.words(held[it].type)}`" for it in names]
-        is_shared = names and name != "self" and stuck.form != "acquire" and types.is_shared(held[name].type)
-        return [*lines, *([f"see: `{name}` is shared, and is acquired before it is talked to"] if is_shared else [])]
+        return turned(types, name, held[name], stuck, has_mend) if name in held else []
     if stuck.form not in LEAVING:
         return []
     lines = [f"now: `self` is at `{types.words(held['self'].type)}`"] if "self" in held else []

@@ -103,6 +103,8 @@ class Names:
         kinds = {self.used(at), "list"} if self.used(at) == "value" else {self.used(at)}
         name = self.tokens[at].text
         known = {it.text for place, it in enumerate(self.tokens) if self.declared(place) in kinds}
+        if "value" in kinds:
+            known |= {"true", "false"}
         return nearest(name, known)
 
 

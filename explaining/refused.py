@@ -20,8 +20,8 @@ class Slip(NamedTuple):
 class Line:
     """The line that a script is refused by, and what was read of it."""
 
-    def __init__(self, program, contract, script, number, grammar):
-        self.program, self.contract, self.script, self.grammar = program, contract, script, grammar
+    def __init__(self, program, script, number, grammar):
+        self.program, self.script, self.grammar = program, script, grammar
         self.row = script.row(number)
         self.is_inside = self.inside(number)
         words = INSIDE if self.is_inside else OUTSIDE
@@ -50,19 +50,25 @@ class Line:
         it = self.count + step
         return self.tokens[it] if 0 <= it < len(self.tokens) else Token("", "", self.row.end)
 
+    def row_text(self):
+        return self.script.text[self.row.at : self.row.end]
+
     def has_form(self, edit):
-        """Whether the program takes the line by itself with an edit."""
+        """Whether the program takes the line by itself with an edit. A text without a line is a contract too."""
         start, end, new = edit
         line = self.script.text[self.row.at : start] + new + self.script.text[end : self.row.end]
-        text = f"begin\n{line}\nend\n" if self.is_inside and self.row.word != "end" else line
-        if line.split()[:1] == ["begin"]:
-            text += "\nend"
-        answer = self.program.run(self.contract, text.encode("latin-1"), seconds=5)
+        first = line.split()[:1]
+        is_open = first != ["end"] if self.is_inside else first == ["begin"]
+        text = ("begin\n" if self.is_inside else "") + line + ("\nend" if is_open else "")
+        answer = self.program.run(b"", text.encode("latin-1"), seconds=5)
         return answer is not None and answer.words[:3] != ["script", "refused", "Syntax"]
 
     def slips(self):
         """Gives edits of which one may be what is meant, the likeliest first."""
         mark, before = self.marked, self.at(-1)
+        if mark.text in ("\"", "'"):
+            new = self.row_text().replace(mark.text, "")
+            yield Slip((self.row.at, self.row.end, new), "take the quotes out")
         if mark.text == "#":
             yield Slip((mark.at, mark.at + 1, "//"), "begin a comment with `//` in place of `#`")
         yield from self.of_starts()
@@ -165,12 +171,12 @@ class Line:
         return self.marked.at, "script Syntax", [*self.mends(), *self.said()]
 
 
-def explained(program, contract, script, answer, grammar):
+def explained(program, script, answer, grammar):
     """Gives the row of docs/CAUSES.md and the lines above it."""
     cause = " ".join(answer.words[:1] + answer.words[2:3])
     if cause != "script Syntax":
         at = script.row(int(answer.words[3])).at if answer.words[3:] else 1_048_576
         return cause, [f"{script.place(at)}: {cause}", *script.shown(at)]
-    line = Line(program, contract, script, int(answer.words[3]), grammar)
+    line = Line(program, script, int(answer.words[3]), grammar)
     at, row, lines = line.explained()
     return row, [f"{script.place(at)}: {cause}", *script.shown(at), *lines]

@@ -5,9 +5,10 @@ from . import ends, starts
 from .codes import Codes
 from .names import MOST_TOKENS
 
-# How many lines are explained, and for how many seconds in all the program is asked about other scripts.
+# How many lines are explained, and for how many seconds in all the program is asked about other scripts: where the run
+# itself took long, for several times as long, but not for more than so many.
 MOST_LINES = 20
-SECONDS = 20
+SECONDS, TIMES, MOST_SECONDS = 20, 4, 60
 # The causes that a line is refused for, in the order in which they are looked for.
 CAUSES = ("TooMuchGas", "NoAccount", "NoProcess", "BadArguments", "NameTaken", "NoGas")
 
@@ -21,7 +22,7 @@ class Run:
         self.codes = Codes(text, grammar) if len(text.tokens) <= MOST_TOKENS else None
         self.bounds = {it[1]: it[3] for it in answer.lines if it[:1] == ["bound"]}
         self.ends = {int(it[0][1]): it[0][2:] for it in answer.entries}
-        self.until = time.monotonic() + SECONDS
+        self.until = time.monotonic() + min(max(SECONDS, TIMES * answer.took), MOST_SECONDS)
 
     def seconds(self):
         return max(self.until - time.monotonic(), 0.01)

@@ -43,9 +43,17 @@ class Refused:
         token = self.line.sender
         known = [it.tokens[1].text for it in self.run.before(self.number, "deposit")]
         needs = units(self.run.bounds.get(self.line.process.text, "0"))
-        lines = self.meant(token, known) + self.deposit(token.text, needs)
+        lines = self.changed(known) or self.meant(token, known) + self.deposit(token.text, needs)
         see = f"see: the accounts so far are {listed(known)}" if known else "see: nothing was deposited so far"
         return token.at, "NoAccount", [*lines, see]
+
+    def changed(self, known):
+        """Gives a line where the account and the process of the line have changed places."""
+        first, second = self.line.sender, self.line.process
+        new = f"{second.text} {first.text}"
+        if second.text not in known or not self.goes_on((first.at, second.end, new)):
+            return []
+        return [f"mend: write `{new}` in place of `{first.text} {second.text}`"]
 
     def no_process(self):
         token, codes = self.line.process, self.run.codes
@@ -61,7 +69,13 @@ class Refused:
         lines = self.meant(token, known)
         what = "contracts that can be made" if mode == "S" else "transactions"
         see = f"see: the {what} are {listed(known)}" if known else f"see: the text declares no process of mode {mode}"
-        return token.at, "NoProcess", lines or [see]
+        return token.at, "NoProcess", lines or self.offering(token.text, known) or [see]
+
+    def offering(self, name, known):
+        """Gives a line on the processes that offer a definition, where this is the name of one."""
+        codes = self.run.codes
+        found = [it for it in known if codes.processes[it].offers == name]
+        return [f"see: `{name}` is a definition, and {listed(found)} offers it"] if found else []
 
     def other_word(self, process):
         """Gives lines for the other word that a line begins with, where that starts the process."""

@@ -2,6 +2,7 @@
 import itertools
 from typing import NamedTuple
 
+from .amounts import closing
 from .held import now
 from .names import Names, unused
 from .syntax import distance
@@ -13,6 +14,8 @@ DEEP = 3
 LONGEST = 65_536
 # The leaves as which a channel is passed on or ended: by send, wait and release, and as an argument.
 ENDING = (("step", 1), ("step", 4), ("step", 7), ("args", 0), ("args", 1))
+# What the other side of a channel does at the same type.
+DUAL = {"put": "take", "take": "put", "send": "recv", "recv": "send", "pay": "get", "get": "pay"}
 TAKEN_OUT = ("label", "put", "take", "recv", "pay", "get", "wait", "accept", "detach", "work")
 
 
@@ -116,6 +119,14 @@ class Stuck:
             depth += (it.text in "({") - (it.text in ")}")
         return None
 
+    def behind(self):
+        """Gives the number of the token behind the stuck instruction."""
+        if self.form == "call":
+            return closing(self.tokens, self.index + 2) + 1
+        if self.form == "fwd":
+            return self.index + 2
+        return self.text.index_at(self.end() or self.tokens[self.index].end)
+
     def others(self):
         """Gives what may stand in the place of the stuck instruction."""
         token = self.tokens[self.index]
@@ -125,6 +136,8 @@ class Stuck:
                 yield Try((label.at, label.end, it), f"write `{it}` in place of `{label.text}`")
         if self.form == "case":
             yield from self.branches()
+        if self.form in DUAL:
+            yield from self.dual()
         if self.form == "send":
             via, sent = self.tokens[self.index + 1 : self.index + 3]
             it = f"{sent.text} {via.text}"
@@ -132,6 +145,17 @@ class Stuck:
         if self.form == "close" and self.tokens[self.index - 1].text != "=":
             call = self.call_again()
             yield Try((token.at, token.end, call), f"write `{call}` in place of `close`")
+
+    def dual(self):
+        """Gives what the other side would do, in place of the stuck instruction."""
+        word, end = DUAL[self.form], self.end()
+        via = self.tokens[self.index + 1]
+        behind = {"put": ["0", "true"], "send": self.channels()[1:]}.get(word, [self.new])
+        if self.form in ("pay", "get"):
+            behind = [self.text.text[via.end : end].strip()]
+        for it in behind:
+            said = it if word in ("send", "pay", "get") else ".."
+            yield Try((self.at, end, f"{word} {via.text} {it}"), f"write `{word} {via.text} {said}` in place of it")
 
     def call_again(self):
         """Gives the call by which the process goes on as what it is, with the parameters under their names."""
@@ -175,7 +199,7 @@ class Stuck:
         """Gives what lets the check go on past the stuck instruction, the furthest ones, three at most."""
         asked = ((self.reach(it), it) for it in self.others())
         found = [(reached, it) for reached, it in asked if reached is not None and reached > self.at]
-        if not found or self.form == "close":
+        if not found or self.form == "close" or self.form in DUAL:
             found = [*itertools.islice(self.instructions(), 3), *found]
         found = found or list(self.taken_out())
         furthest = max((reached for reached, _ in found), default=0)
@@ -187,30 +211,36 @@ class Stuck:
         name = self.tokens[at].text
         for place, kind in self.names.places(name):
             if kind == "process":
+                modes = self.tokens[self.head + 1].text, self.tokens[place - 1].text
                 start = self.tokens[place - 2].at
                 end = next(it.at for it in self.tokens[place:] if it.text == "=")
                 head = " ".join(self.text.text[start:end].split())
-                return [f"see: `{name}` is declared at {self.text.place(self.tokens[place].at)}, as {head[:200]}"]
+                see = f"see: `{name}` is declared at {self.text.place(self.tokens[place].at)}, as {head[:200]}"
+                is_other = self.form == "call" and modes[0] != modes[1]
+                why = "see: a process goes on as one of its own mode alone: `{}` is called in one of mode `{}`"
+                return [see, *([why.format(" ".join((modes[1], name)), modes[0])] if is_other else [])]
         return []
 
-
     def given_away(self):
-        """Gives where a channel of this instruction was passed on or ended on the way here."""
-        end = self.end() or self.tokens[self.index].end
+        """Gives where a channel of this instruction was passed on or ended on the way here, or a list used up."""
         lines = []
-        for at in range(self.index, self.text.index_at(end)):
+        for at in range(self.index, self.behind()):
             name = self.tokens[at].text
             uses = [
                 before
                 for before in range(self.head, self.index)
                 if self.tokens[before].text == name
-                and self.names.used(at) == "channel"
-                and self.names.key(before) in ENDING
+                and (self.names.used(at) == "channel" and self.is_ending(before) or self.names.used(before) == "list")
                 and self.names.leads(before, self.index)
             ]
             if uses:
-                lines.append(f"see: `{name}` was passed on or ended at {self.text.place(self.tokens[uses[-1]].at)}")
+                how = "passed on or ended" if self.is_ending(uses[-1]) else "used up"
+                lines.append(f"see: `{name}` was {how} at {self.text.place(self.tokens[uses[-1]].at)}")
         return list(dict.fromkeys(lines))
+
+
+    def is_ending(self, at):
+        return self.names.key(at) in ENDING
 
 
 def explained(text, answer, program, grammar):
@@ -220,6 +250,5 @@ def explained(text, answer, program, grammar):
         return []
     stuck = Stuck(text, answer, program, names)
     lines = [f"mend: {it}" for it in stuck.find()]
-    if not lines:
-        lines = stuck.given_away()
-    return [*lines, *(stuck.declaration() if stuck.form in ("spawn", "call") else []), *now(text, answer, grammar)]
+    declared = stuck.declaration() if stuck.form in ("spawn", "call") else []
+    return [*(lines or stuck.given_away()), *declared, *now(text, answer, grammar, bool(lines))]

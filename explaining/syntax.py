@@ -1,24 +1,19 @@
 """What is wrong where no contract goes on: the slip that was made, and an edit with which the text is read further."""
 import re
-from typing import NamedTuple
-
+from .habits import HEADS, KINDS, Habits, Slip
 from .texts import Token, tokens_of
 
 LETTERS = re.compile(r"[A-Za-z_0-9]")
 PARTED = {"==": "=", "&&": " and ", "||": " or ", "!=": "=", "<=": "<", ">=": "<"}
 LASTS = ("close", "fwd", "call", "if", "case", "match")
-KINDS = ("int", "bool", "list")
+# Rows that hold wherever these tokens may stand within a text.
+SURE = (
+    ("Syntax instruction", {"."}.__eq__), ("Syntax match", {"nil"}.__eq__), ("Syntax else", {"else"}.__eq__),
+    ("Syntax declaration", set(HEADS).issubset),
+)
 # How many tokens are looked at: of the declaration before the offence, and behind it.
 BEFORE = 5_000
 BEHIND = 400
-
-
-class Slip(NamedTuple):
-    """A row of docs/CAUSES.md, what to do, or nothing, and an edit that the text is read further with."""
-
-    row: str
-    mend: str
-    edit: tuple
 
 
 def distance(one, other):
@@ -47,13 +42,13 @@ def nearest(word, known):
     return sorted((it for it in set(known) if is_near(word, it)), key=lambda it: (distance(word, it), it))
 
 
-class Slips:
+class Slips(Habits):
     """The text behind the head of the declaration that the offence stands in, and what was read of it."""
 
     def __init__(self, text, at, grammar):
         self.text, self.at, self.grammar = text, at, grammar
         marked = text.index_at(at)
-        heads = [it for it in range(marked) if text.tokens[it].text in ("type", "fn", "proc")]
+        heads = [it for it in range(marked) if text.tokens[it].text in HEADS]
         self.start = text.tokens[heads[-1]].at if heads else 0
         self.tokens = text.tokens[heads[-1] if heads else 0 :]
         self.index = marked - (heads[-1] if heads else 0)
@@ -91,7 +86,8 @@ class Slips:
         """Gives the first slip whose edit lets the text be read further."""
         if not self.is_sure:
             return None
-        for slip in [*self.of_symbols(), *self.of_words(), *self.of_places(), *self.of_heads()]:
+        ways = (self.of_symbols, self.of_habits, self.of_words, self.of_places, self.of_heads, self.of_starts)
+        for slip in (slip for way in ways for slip in way()):
             if self.goes_on(slip, 1):
                 return slip
         found = [it for it in self.of_any() if self.goes_on(it, 6) or self.ends_declaration(it)]
@@ -100,7 +96,7 @@ class Slips:
         return best[0] if len(best) == 1 or best and "`;`" in best[0].mend else None
 
     def ends_declaration(self, slip):
-        heads = [it.at for it in self.tokens[self.index + 1 :] if it.text in ("type", "fn", "proc")]
+        heads = [it.at for it in self.tokens[self.index + 1 :] if it.text in HEADS]
         return self.reach(slip.edit) > (heads[0] if heads else self.text.size)
 
     def of_symbols(self):
@@ -130,6 +126,19 @@ class Slips:
         end = self.text.size if end < 0 else end + 2 if sign == "/*" else end
         yield Slip("Syntax comment", f"begin each line of it with `//` in place of `{sign}`", (at, end, " "))
 
+    def wants(self, group):
+        """Whether a text of this rule may begin at the offence."""
+        return self.grammar.firsts[group] <= self.wanted
+
+    def closing(self, step, opening, closing):
+        """Gives the token that closes what the token so many behind the offence opens."""
+        depth = 0
+        for it in self.tokens[self.index + step :]:
+            depth += (it.text == opening) - (it.text == closing)
+            if depth == 0:
+                return it
+        return self.token(len(self.tokens))
+
     def of_words(self):
         """Slips in words: one of other letters, and a reserved one in the place of a name."""
         for token in (self.marked, self.token(-1)):
@@ -144,7 +153,7 @@ class Slips:
                 mend = f"write `{word}` in place of `{token.text}` at {self.text.place(token.at)}"
                 yield Slip(row, mend, (token.at, token.end, word))
         mark = self.marked
-        if mark.text in self.grammar.reserved and "NAME" in self.wanted:
+        if mark.text in self.grammar.reserved and "NAME" in self.wanted and not self.wants("term"):
             name = "x" * len(mark.text)
             yield Slip("Syntax word", f"take another name than `{mark.text}`", (mark.at, mark.end, name))
 
@@ -163,6 +172,11 @@ class Slips:
         if "/\\" in self.wanted and "->" in self.wanted and before.text in KINDS:
             mend = f"write `{before.text} /\\ 1`, or what else is meant"
             yield Slip("Syntax value", mend, (mark.at, mark.at, " /\\ 1 "))
+        if mark.text == "if" and before.text == "else" and self.wanted == {"{"}:
+            mend = "write `{` before this `if`, and a `}` behind its end"
+            yield Slip("Syntax else", mend, (mark.at, mark.at, "{ "))
+        if mark.text in HEADS and self.wants("code"):
+            yield Slip("Syntax unfinished", "", (mark.at, mark.at, "close; "))
         if "proc" in self.wanted and self.index and self.begins_instruction():
             yield Slip("Syntax behind", "", (mark.at, mark.at, "proc T x(;) = "))
 
@@ -176,7 +190,8 @@ class Slips:
             modes = ", ".join(f"`{it}`" for it in sorted(self.wanted))
             yield Slip("Syntax", f"write a mode before `{mark.text}`, one of {modes}", (mark.at, mark.at, "R "))
         equal = next((it for it in self.tokens[self.index :] if it.text == "="), None)
-        if mark.text == ":" and equal and {"=", "{"} & self.wanted and self.tokens[1].text == "T":
+        in_head = {"=", "{"} & self.wanted and before.text in (")", "}")
+        if mark.text == ":" and equal and in_head and self.tokens[1].text == "T":
             offered = self.text.text[mark.at : equal.at].strip()
             mend = f"take `{offered}` out, since a transaction offers nothing"
             yield Slip("Syntax", mend, (mark.at, equal.at, ""))
@@ -188,9 +203,12 @@ class Slips:
             mend = f"write `{asked}; take {before.text} {third.text}` in place of `let {third.text} = {asked}`"
             edit = (self.token(-4).at, self.token(1).end, f"{asked}; take {before.text} {third.text}")
             yield Slip("Syntax", mend, edit)
-        if mark.text == "(" and before.kind == "word" and self.wanted == {"."}:
-            mend = f"write `spawn .. =` before `{before.text}`, with a new name for its channel"
-            yield Slip("Syntax", mend, (before.at, before.at, "spawn x = "))
+        if mark.text == "(" and first == "spawn":
+            mend = "write `.. =` behind `spawn`, with a new name for its channel"
+            yield Slip("Syntax", mend, (before.at, before.at, "x = "))
+        if self.wanted == {"as"}:
+            mend = f"write `as ..` behind `{before.text}`, with a new name"
+            yield Slip("Syntax", mend, (before.end, before.end, " as x"))
 
     def begins_instruction(self):
         word = self.marked.text
@@ -207,7 +225,7 @@ class Slips:
         for sign in signs:
             if mark.kind and mark.kind != "word":
                 yield Slip(row, f"write `{sign}` in place of `{mark.text}`", (mark.at, mark.end, sign))
-        if mark.kind and mark.text not in self.grammar.reserved:
+        if mark.kind and mark.text not in self.grammar.reserved and not self.is_known(mark.text):
             yield Slip(row, f"take `{mark.text}` out", (mark.at, mark.end, ""))
 
 
@@ -218,9 +236,14 @@ def explained(text, answer, program, grammar):
     slip = slips.find()
     if slip:
         start, end, new = slip.edit
-        after = program.check(text.edited(slip.edit))
-        if after.is_cause("Syntax") and after.offset <= at + len(new) - (end - start if end <= at else 0):
+        edited = text.edited(slip.edit)
+        after = program.check(edited)
+        reached = at + len(new) - (end - start if end <= at else 0)
+        is_whole = end > at and after.offset == len(edited)
+        if after.is_cause("Syntax") and after.offset <= reached and not is_whole:
             slip = None
+    if slip is None and at < text.size:
+        row = next((name for name, wanted in SURE if slips.wanted and wanted(slips.wanted)), row)
     if slip:
         row = slip.row
         lines += [f"mend: {slip.mend}"] if slip.mend else []

@@ -1,0 +1,198 @@
+"""Slips of those who write other languages, or who have not met yet how a thing is written in this one."""
+from typing import NamedTuple
+
+KINDS = ("int", "bool", "list")
+HEADS = ("type", "fn", "proc")
+# The instructions that are written with a channel behind them.
+WORDS = ("send", "recv", "put", "take", "wait", "pay", "get", "fwd", "acquire", "release")
+
+
+class Slip(NamedTuple):
+    """A row of docs/CAUSES.md, what to do, or nothing, and an edit that the text is read further with."""
+
+    row: str
+    mend: str
+    edit: tuple
+
+
+class Habits:
+    """What is found of the tokens around an offence, by the class that is made of this one."""
+
+    def of_habits(self):
+        for way in (self.of_order, self.of_terms, self.of_kinds, self.of_calls, self.of_braces):
+            yield from way()
+
+    def of_order(self):
+        """Slips where something stands behind what it stands before."""
+        mark, before, behind = self.marked, self.token(-1), self.token(1)
+        if mark.text == "self" and self.token(-2).text in ("put", "take", "send", "recv"):
+            word = self.token(-2).text
+            edit = (before.at, mark.end, f"self {before.text}")
+            yield Slip("Syntax", f"write `{word} self {before.text}` in place of `{word} {before.text} self`", edit)
+        if mark.text in KINDS and "NAME" in self.wanted and behind.kind == "word":
+            new = f"{behind.text}: {mark.text}"
+            yield Slip("Syntax", f"write `{new}` in place of `{mark.text} {behind.text}`", (mark.at, behind.end, new))
+        if before.text == "mut" and self.token(-2).text == "let":
+            yield Slip("Syntax", "take `mut` out, since a name never changes its value", (before.at, mark.at, ""))
+        is_value = mark.kind == "number" or mark.text in ("true", "false")
+        if is_value and before.text in (";", ",") and self.wanted <= {"NAME", ")"}:
+            yield from self.of_sides()
+
+    def of_terms(self):
+        """Slips where a term is wanted, or goes on."""
+        mark, before, behind = self.marked, self.token(-1), self.token(1)
+        if mark.text == "[" and self.wants("term"):
+            yield from self.of_list()
+        if mark.text in ("\"", "'"):
+            end = self.text.text.find(mark.text, mark.end) + 1
+            yield Slip("Syntax text", "", (mark.at, end if end else mark.end, "0"))
+        if before.kind == "number" and before.end == mark.at and (mark.text == "." or mark.kind == "word"):
+            end = behind.end if behind.kind == "number" and behind.at == mark.end else mark.end
+            yield Slip("Syntax number", "", (mark.at, end, ""))
+        if self.wants("vtype") and before.text in ("nil", "list"):
+            mend = f"write `int`, or another kind of values, behind `{before.text}`"
+            yield Slip("Syntax", mend, (before.end, before.end, " int"))
+        if self.wanted == {"nil"} and before.text == "{":
+            close = "close" if self.is_code(-3) else "0"
+            yield Slip("Syntax match", "", (mark.at, mark.at, f"nil => {close} | "))
+        if "else" in self.wanted:
+            yield from self.of_else()
+        if mark.text == "{" and "then" in self.wanted:
+            mend = "write `then .. else ..` in place of `{ .. } else { .. }`, since it is a term"
+            yield Slip("Syntax else", mend, (mark.at, mark.end, " then "))
+        if mark.text == "then" and "{" in self.wanted:
+            mend = "write `{ .. } else { .. }` in place of `then .. else ..`, since these are instructions"
+            yield Slip("Syntax else", mend, (mark.at, mark.end, " { "))
+
+    def of_kinds(self):
+        """Slips where a kind or a type is written where none is, or none where one is."""
+        mark, before = self.marked, self.token(-1)
+        end = next((it for it in self.tokens[self.index :] if it.text in ("=", ";")), None)
+        binds = self.token(-2).text in ("let", "spawn") or self.token(-3).text in ("take", "recv")
+        if mark.text == ":" and end and binds:
+            kind = self.text.text[mark.at : end.at].strip()
+            is_sign = (kind, end.text) == (":", "=")
+            mend = "write `=` in place of `:=`" if is_sign else f"take `{kind}` out, since the kind is found by itself"
+            yield Slip("Syntax", mend, (mark.at, end.at, ""))
+        if mark.text == "=" and ":" in self.wanted and before.text in (")", "}"):
+            is_term = self.tokens[0].text == "fn"
+            what = "`: int`, or another kind of values," if is_term else "`:` and the type that is offered"
+            yield Slip("Syntax", f"write {what} before this `=`", (mark.at, mark.at, ": int " if is_term else ": 1 "))
+        if mark.text in ("|", "}") and self.wanted == {":"} and before.kind == "word":
+            mend = f"write `: 1`, or how else the talk goes on, behind `{before.text}`"
+            yield Slip("Syntax label", mend, (before.end, before.end, " : 1"))
+
+    def of_calls(self):
+        """Slips in which something is written like a call."""
+        mark, before, behind = self.marked, self.token(-1), self.token(1)
+        end = self.closing(0, "(", ")")
+        if mark.text == "(" and behind.text != ")" and before.kind == "word" and self.token(-2).text == ".":
+            yield Slip("Syntax sent", "", (mark.at, end.end, ""))
+        if mark.text == "(" and before.text in WORDS:
+            inside = self.text.text[mark.end : end.at].replace(",", " ")
+            yield Slip("Syntax", "take the parentheses and the commas out", (mark.at, end.end, f" {inside} "))
+        if before.text == "." and mark.text == "wait":
+            name = self.token(-2)
+            end = self.token(2).end if (behind.text, self.token(2).text) == ("(", ")") else mark.end
+            mend = f"write `wait {name.text}` in place of `{name.text}.wait`"
+            yield Slip("Syntax word", mend, (name.at, end, f"wait {name.text}"))
+        if mark.kind == "word" and self.wanted == {"("} and self.is_declared(mark.text, "proc"):
+            yield Slip("Syntax", f"take `{before.text}` out", (before.at, mark.at, ""))
+
+    def of_braces(self):
+        """Slips with braces around the body of a declaration."""
+        mark, before = self.marked, self.token(-1)
+        if mark.text == "{" and self.tokens[0].text == "type" and (self.wants("type") or self.wanted == {"="}):
+            sign = "= " if self.wanted == {"="} else ""
+            mend = f"write `{sign}+` before this `{{` where the provider sends one of the labels, "
+            yield Slip("Syntax", f"{mend}and `{sign}&` where it hears one", (mark.at, mark.at, f"{sign}+"))
+        elif mark.text == "{" and before.text == "=":
+            yield self.without_braces(0, "", "take the braces out")
+        elif mark.text == "{" and "=" in self.wanted and self.tokens[0].text != "type":
+            yield self.without_braces(0, "= ", "write `=` in place of this `{`, and take its `}` out")
+        elif before.text == "{" and self.token(-2).text == ")" and self.wanted == {"NUMBER", "*"}:
+            yield self.without_braces(-1, "= ", "write `=` in place of the `{` before this, and take its `}` out")
+
+    def without_braces(self, step, sign, mend):
+        """Gives the slip where what stands in the braces that open so many tokens behind the offence has none."""
+        start, end = self.token(step), self.closing(step, "{", "}")
+        inside = self.text.text[start.end : end.at].rstrip(" ;\t\r\n")
+        return Slip("Syntax braces", mend, (start.at, end.end, f"{sign}{inside}"))
+
+    def is_code(self, step):
+        """Whether an instruction begins at the token so many behind the offence."""
+        count, ways = self.grammar.read(self.tokens[: self.index + step])
+        return self.grammar.firsts["code"] <= self.grammar.wanted(ways)
+
+    def of_list(self):
+        """A list that is written between brackets."""
+        end = self.closing(0, "[", "]")
+        parts = [it.strip() for it in self.text.text[self.marked.end : end.at].split(",")]
+        kinds = {"int" if it.isdecimal() else "bool" if it in ("true", "false") else "" for it in parts if it}
+        kind = kinds.pop() if len(kinds) == 1 else ""
+        new = " :: ".join([it for it in parts if it] + [f"nil {kind or 'int'}"])
+        yield Slip("Syntax list", f"write `{new}`" if kind else "", (self.marked.at, end.end, new))
+
+    def of_sides(self):
+        """Values behind the `;` of arguments, and channels before it."""
+        opening = next((at for at in range(self.index, -1, -1) if self.tokens[at].text == "("), 0)
+        start, end = self.tokens[opening], self.closing(opening - self.index, "(", ")")
+        names, _, values = self.text.text[start.end : end.at].partition(";")
+        mend = "let what stands before the `;` and what stands behind it change places"
+        yield Slip("Syntax", mend, (start.end, end.at, f"{values.strip()}; {names.strip()}"))
+
+    def of_starts(self):
+        """Slips at the first word of an instruction, which is a name and begins none."""
+        mark, before, behind = self.marked, self.token(-1), self.token(1)
+        if self.wanted == {"."} and before.kind == "word":
+            row = "Syntax instruction"
+            if mark.text == "(" and self.is_declared(before.text, "proc"):
+                mend = f"write `spawn .. =` before `{before.text}`, with a new name for its channel"
+                yield Slip(row, mend, (before.at, before.at, "spawn x = "))
+            if mark.text == "(" and self.is_declared(before.text, "fn"):
+                mend = f"write `let .. =` before `{before.text}`, with a new name for its value"
+                yield Slip(row, mend, (before.at, before.at, "let x = "))
+            if mark.text == "=":
+                word = self.binder(1)
+                mend = f"write `{word}` before `{before.text}`, and a new name where `{before.text}` is bound already"
+                yield Slip(row, mend, (before.at, before.at, f"{word} "))
+            if mark.kind == "word" and behind.text == "=":
+                word = self.binder(2)
+                yield Slip(row, f"write `{word}` in place of `{before.text}`", (before.at, before.end, word))
+            if mark.text in (";", "}", "|") and self.is_label(before.text):
+                mend = f"write the channel that it is sent on, and a `.`, before `{before.text}`"
+                yield Slip(row, mend, (before.at, before.at, "x."))
+        if mark.text in KINDS and behind.kind == "word" and self.token(2).text == "=":
+            word = self.binder(3)
+            yield Slip("Syntax instruction", f"write `{word}` in place of `{mark.text}`", (mark.at, mark.end, word))
+
+    def binder(self, step):
+        """Gives the word that binds a name to what begins at a token: a process or a value."""
+        return "spawn" if self.is_declared(self.token(step).text, "proc") else "let"
+
+    def of_else(self):
+        mark = self.marked
+        if not self.wanted == {"else"}:
+            yield Slip("Syntax else", "", (mark.at, mark.at, " else 0 "))
+        elif self.begins_instruction():
+            heads = [at for at, it in enumerate(self.tokens) if at > self.index and it.text in HEADS]
+            last = self.tokens[heads[0] - 1] if heads else self.tokens[-1]
+            inside = self.text.text[mark.at : last.at]
+            mend = f"write `else {{` before `{mark.text}`, and `}}` behind the last instruction"
+            yield Slip("Syntax else", mend, (mark.at, last.at, f"else {{ {inside} }}"))
+        elif mark.text in (";", "}", "|"):
+            yield Slip("Syntax else", "", (mark.at, mark.at, " else { close } "))
+
+    def is_declared(self, name, word):
+        """Whether a declaration that begins with this word has a name."""
+        tokens = self.text.tokens
+        heads = (at + (2 if word == "proc" else 1) for at, it in enumerate(tokens) if it.text == word)
+        return any(at < len(tokens) and tokens[at].text == name for at in heads)
+
+    def is_label(self, name):
+        """Whether a choice has a label of this name."""
+        rows = zip(self.text.tokens, self.text.tokens[1:], self.text.tokens[2:])
+        return any(one.text in ("{", "|") and (it.text, colon.text) == (name, ":") for one, it, colon in rows)
+
+    def is_known(self, name):
+        return any(self.is_declared(name, word) for word in ("fn", "proc"))
