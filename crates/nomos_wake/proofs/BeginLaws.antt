@@ -1,5 +1,5 @@
 -- A set of all processes that came since a quiet state covers the state to which starts have led from there.
-use Rattle.std.proofs.Common.{◌≡◌, ◌∙◌, ◌≤◌, ◌<◌, ◌+◌, ◌⊎◌, inl, inr, ℕ, Bool, List, [], ◌∷◌, ◌++◌, Contains, Option, Some, None, IsSome, slice_get, refl, sym, subst, ap, arith}
+use Rattle.std.proofs.Common.{◌≡◌, ◌≤◌, ◌<◌, inl, inr, ℕ, Bool, List, [], ◌∷◌, ◌++◌, Contains, Option, Some, None, IsSome, slice_get, refl, subst, arith}
 use Rattle.std.proofs.lemmas.List.Elements.{All-contains, Contains-append_cases, Contains-append_left, Contains-append_right}
 use Rattle.std.specs.Option.{option_map}
 use Rattle.nomos_ir.specs.Value.{Value}
@@ -14,14 +14,13 @@ use Rattle.nomos_machine.specs.Given.{Given, begins}
 use Rattle.nomos_machine.specs.Objects.{based, mentioned, object_number, provided, used}
 use Rattle.nomos_machine.specs.Optional.{◌>>=◌}
 use Rattle.nomos_machine.specs.Run.{IsQuiet}
-use Rattle.nomos_machine.specs.Sight.{detach_next, owner, user_of}
+use Rattle.nomos_machine.specs.Sight.{owner, user_of}
 use Rattle.nomos_machine.specs.Starting.{channel_bindings, started, started_with, value_bindings}
 use Rattle.nomos_machine.specs.State.{State, process_at, type_of}
 use Rattle.nomos_machine.specs.Step.{IsReady}
 use Rattle.nomos_machine.specs.TypedState.{IsTyped}
 use Rattle.nomos_machine.specs.declared.object.Object.{Object}
 use Rattle.nomos_machine.specs.declared.object.Object.TheVariants as object
-use Rattle.nomos_machine.specs.declared.object.Message.{Message}
 use Rattle.nomos_machine.specs.declared.object.Process.{Process}
 use Rattle.nomos_machine.proofs.ForwardLaws.{user_of-found}
 use Rattle.nomos_machine.proofs.NameLaws.{times-contains, type_of-below}
@@ -31,7 +30,7 @@ use Rattle.nomos_machine.proofs.PutLaws.{contains-one}
 use Rattle.nomos_types.proofs.OccurrenceLaws.{contained}
 use Rattle.nomos_deeds.specs.Readers.{acquires, acquires_at, waits}
 use Rattle.nomos_wake.specs.Beginning.{HasGrown, IsNewIn}
-use Rattle.nomos_wake.specs.Covering.{Covers, IsFollowed, MayBeReady}
+use Rattle.nomos_wake.specs.Covering.{Covers, IsFollowed, IsNoted, MayBeReady}
 use Rattle.nomos_wake.specs.Woken.{IsSameBut, Woken, itself, client, provider, releasing, acquiring}
 use Rattle.nomos_wake.specs.declared.awake.Awake.{Awake}
 use Rattle.nomos_wake.proofs.CoverLaws.{waiting-process}
@@ -40,7 +39,12 @@ use Rattle.nomos_wake.proofs.WakeLaws.{ready-or_woken}
 -- ---- states that grow
 
 pub grown-same : (s : State) → HasGrown s s
-grown-same s = record { each = λ o there. inl there; objects = omega arith; names = omega arith }
+grown-same s = record {
+  stays = λ o there. there;
+  each = λ o there. inl there;
+  objects = omega arith;
+  names = omega arith;
+}
 
 new-later : (s t : State) → s.next_object ≤ t.next_object → s.next_name ≤ t.next_name → (o : Object) → IsNewIn t o
     → IsNewIn s o
@@ -49,6 +53,7 @@ new-later s t objects names (object.Message m) is = is
 
 pub grown-twice : {s t u : State} → HasGrown s t → HasGrown t u → HasGrown s u
 grown-twice {s} {t} {u} one two = record {
+  stays = λ o there. two.stays o (one.stays o there);
   each = λ o there.
       elim (two.each o there) [
         | inl before ↦ one.each o before
@@ -61,6 +66,7 @@ grown-twice {s} {t} {u} one two = record {
 started-grown : (a : Acceptance) (s : State) (d : ProcDecl) (values : List (VarId × Value)) (channels : List (VarId × ℕ))
     (payer : ℕ) → HasGrown s (started a s d values channels payer)
 started-grown a s d values channels payer = record {
+  stays = λ o there. Contains-append_left s.objects (object.Process child ∷ []) o there;
   each = λ o there.
       elim (Contains-append_cases s.objects (object.Process child ∷ []) o there) [
         | inl before ↦ inl before
@@ -96,7 +102,8 @@ start-grown a s t number values names payer is = at (slice_get a.program.procs n
 module _ {a : Acceptance} (accepted : IsAccepted a) {s t : State} (typed_s : IsTyped a s) (typed_t : IsTyped a t)
     (grown : HasGrown s t) (quiet : IsQuiet a s) (w : Awake)
     (woken : (q : ℕ) → s.next_object ≤ q → q < t.next_object → MayBeReady w q)
-    (followed : (name : ℕ) → IsFollowed w name → s.next_name ≤ name) where
+    (followed : (name : ℕ) → IsFollowed w name → s.next_name ≤ name)
+    (noted : (name q : ℕ) → IsNoted w name q → ⊥) where
   -- a name that an object of the first state mentions is below the next one
   old-name : (o : Object) (name : ℕ) → Contains s.objects o → Contains (mentioned o) name → name < s.next_name
   old-name o name there among =
@@ -150,6 +157,7 @@ module _ {a : Acceptance} (accepted : IsAccepted a) {s t : State} (typed_s : IsT
 
   same-but_new : IsSameBut Came Silent s t
   same-but_new = record {
+    stays = λ r there. inl (grown.stays (object.Process r) there);
     processes = λ r there.
         elim (grown.each (object.Process r) there) [
           | inl before ↦ inl before
@@ -219,7 +227,8 @@ module _ {a : Acceptance} (accepted : IsAccepted a) {s t : State} (typed_s : IsT
     ready = λ q ready.
         elim (ready-or_woken accepted typed_s typed_t Came Silent same-but_new q ready) [
           | inl before ↦ absurd (quiet q before)
-          | inr is ↦ woken-came q ready is
+          | inr is ↦ inl (woken-came q ready is)
         ];
     waiting = λ q name is follows. inl (waiter-came q name is (followed name follows));
+    noted = λ q name is. absurd (noted name q is);
   }

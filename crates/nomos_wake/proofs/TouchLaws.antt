@@ -38,7 +38,10 @@ use Rattle.nomos_machine.proofs.DeedLaws.{deed-goes}
 use Rattle.nomos_machine.proofs.ForwardLaws.{user_of-found}
 use Rattle.nomos_machine.proofs.GoesLaws.{Goes, acts, faulty, waits}
 use Rattle.nomos_machine.proofs.PreservationLaws.{process_at-there}
-use Rattle.nomos_machine.proofs.PutLaws.{HasNumber, contains-one}
+use Rattle.nomos_machine.proofs.ApartLaws.{numbers-differ}
+use Rattle.nomos_machine.proofs.MessageLaws.{message_on-found}
+use Rattle.nomos_machine.proofs.PutLaws.{InOrder, HasNumber, contains-one, put-kept}
+use Rattle.std.proofs.lemmas.Bool.{cases_eq}
 use Rattle.nomos_machine.specs.Readiness.{looks_ready}
 use Rattle.nomos_wake.specs.Touching.{IsChanged, IsHeard, meets, says_on, touch_at, touch_by, touch_from, touch_of}
 use Rattle.nomos_wake.specs.Woken.{IsSameBut, WasThere}
@@ -48,9 +51,16 @@ use Rattle.nomos_wake.specs.declared.touch.Touch.{Touch}
 -- ---- what a change that is told does
 
 module _ (s : State) (p : Process) where
+  -- whose place is taken: the process's, the partner's, or that of a message
+  abbrev IsTaken : Touch → ℕ → Type 0
+  IsTaken touch n =
+      (n ≡ p.pid) ⊎ ((touch.partner ≡ Some n)
+      ⊎ ((m : Message) × Contains s.objects (object.Message m) × (n ≡ m.number)))
+
   -- what stands at a place instead: a process only at the process's own number or the partner's, and a message only
   -- where one was, or where one is heard
   record PlaceTold (touch : Touch) (e : ℕ × Option Object) : Type 0 where
+    taken : IsTaken touch e.0
     number : (r : Process) → e.1 ≡ Some (object.Process r) → (e.0 ≡ p.pid) ⊎ (touch.partner ≡ Some e.0)
     message : (m : Message) → e.1 ≡ Some (object.Message m) → WasThere s m ⊎ IsHeard touch m.to_client m.from
 
@@ -134,8 +144,32 @@ module _ (s : State) (p : Process) where
         | inr came ↦ inr (came-further (n, new) places o came)
       ]
 
-  module _ (touch : Touch) (c : Change) (olds : List Object) (replaces : Replaces c.places s.objects olds)
-      (told : ChangeTold touch c) where
+  -- who was there is there still, or its place is taken
+  record TakenAt (places : List (ℕ × Option Object)) (o : Object) : Type 0 where
+    place : ℕ × Option Object
+    among : Contains places place
+    numbered : place.0 ≡ object_number o
+
+  placed-stays : (places : List (ℕ × Option Object)) (objects : List Object) (o : Object) → Contains objects o
+      → Contains (put_all places objects) o ⊎ TakenAt places o
+  placed-stays [] objects o there = inl there
+  placed-stays (e ∷ places) objects o there =
+      elim (cases_eq (object_number o) e.0) [
+        | inl same ↦ inr (record { place = e; among = (0, omega arith, refl); numbered = sym same })
+        | inr other ↦
+            elim (placed-stays places (put_at e.0 e.1 objects) o (put-kept e.0 e.1 o objects other there)) [
+              | inl stays ↦ inl stays
+              | inr taken ↦
+                  inr (record {
+                    place = taken.place;
+                    among = Contains-append_right (e ∷ []) places taken.place taken.among;
+                    numbered = taken.numbered;
+                  })
+            ]
+      ]
+
+  module _ (order : InOrder s.objects) (touch : Touch) (c : Change) (olds : List Object)
+      (replaces : Replaces c.places s.objects olds) (told : ChangeTold touch c) where
     abbrev Changed : ℕ → Type 0
     Changed n = IsChanged s p.pid touch n
 
@@ -180,6 +214,20 @@ module _ (s : State) (p : Process) where
         differ is = cc
     comes-message m None comes there = absurd (omega (arith, there.1))
 
+    stays-process : (r : Process) → Contains s.objects (object.Process r) → TakenAt c.places (object.Process r)
+        → Changed r.pid
+    stays-process r there at =
+        elim ((All-contains (PlaceTold touch) c.places at.place told.places at.among).taken) [
+          | inl own ↦ inl (sym at.numbered ∙ own)
+          | inr others ↦
+              elim others [
+                | inl partner ↦ inr (inr (partner ∙ ap (λ (n : ℕ). Some n) at.numbered))
+                | inr message ↦
+                    absurd (numbers-differ s.objects order r message.0 there message.1
+                    (sym at.numbered ∙ message.2))
+              ]
+        ]
+
     told-same_but : IsSameBut Changed (IsHeard touch) s (changed s c)
     told-same_but = record {
       processes = λ r there.
@@ -190,6 +238,13 @@ module _ (s : State) (p : Process) where
                   | inr came ↦ inr (came-process r came)
                 ]
             | inr comes ↦ inr (comes-process r c.comes told.comes comes)
+          ];
+      stays = λ r there.
+          elim (placed-stays c.places s.objects (object.Process r) there) [
+            | inl placed ↦
+                inl (Contains-append_left (put_all c.places s.objects) (option_to_list c.comes) (object.Process r)
+                placed)
+            | inr taken ↦ inr (stays-process r there taken)
           ];
       messages = λ m there.
           elim (Contains-append_cases (put_all c.places s.objects) (option_to_list c.comes) (object.Message m) there) [
@@ -263,13 +318,18 @@ module _ (a : Acceptance) (s : State) (p : Process) (touch : Touch) where
   EachTold places = All (PlaceTold s p touch) places
 
   goes-on : (q : Process) → PlaceTold s p touch (p.pid, Some (object.Process q))
-  goes-on q = record { number = λ r is. inl refl; message = λ m is. absurd cc }
+  goes-on q = record { taken = inl refl; number = λ r is. inl refl; message = λ m is. absurd cc }
 
-  leaves-place : (n : ℕ) → PlaceTold s p touch (n, None)
-  leaves-place n = record { number = λ r is. absurd cc; message = λ m is. absurd cc }
+  own-gone : PlaceTold s p touch (p.pid, None)
+  own-gone = record { taken = inl refl; number = λ r is. absurd cc; message = λ m is. absurd cc }
+
+  message-gone : (m : Message) → Contains s.objects (object.Message m) → PlaceTold s p touch (m.number, None)
+  message-gone m there =
+      record { taken = inr (inr (m, there, refl)); number = λ r is. absurd cc; message = λ n is. absurd cc }
 
   partner-on : (n : ℕ) (q : Process) → touch.partner ≡ Some n → PlaceTold s p touch (n, Some (object.Process q))
-  partner-on n q is_partner = record { number = λ r is. inr is_partner; message = λ m is. absurd cc }
+  partner-on n q is_partner =
+      record { taken = inr (inl is_partner); number = λ r is. inr is_partner; message = λ m is. absurd cc }
 
   one-place : (e : ℕ × Option Object) → PlaceTold s p touch e → EachTold (e ∷ [])
   one-place e told = All-cons (PlaceTold s p touch) e [] told (All-nil (PlaceTold s p touch))
@@ -282,7 +342,7 @@ module _ (a : Acceptance) (s : State) (p : Process) (touch : Touch) where
   own-alone q = one-place (p.pid, Some (object.Process q)) (goes-on q)
 
   own-leaves : EachTold ((p.pid, None) ∷ [])
-  own-leaves = one-place (p.pid, None) (leaves-place p.pid)
+  own-leaves = one-place (p.pid, None) own-gone
 
   -- ---- the kinds of change
 
@@ -297,9 +357,9 @@ module _ (a : Acceptance) (s : State) (p : Process) (touch : Touch) where
           ap (λ (u : Touch). u.heard) is_touch
           ∙ ap (λ (o : Option ℕ). option_map (λ n. let h : Heard = record { to_client = is_own c; name = n } in h) o) is
 
-  takes-told : (m : Message) (q : Process) → IsTold (takes a s p m q)
-  takes-told m q = record {
-    places = two-places _ (m.number, None) (goes-on _) (leaves-place m.number);
+  takes-told : (m : Message) (q : Process) → Contains s.objects (object.Message m) → IsTold (takes a s p m q)
+  takes-told m q there = record {
+    places = two-places _ (m.number, None) (goes-on _) (message-gone m there);
     comes = tt;
   }
 
@@ -308,13 +368,15 @@ module _ (a : Acceptance) (s : State) (p : Process) (touch : Touch) where
       tells-bind (present_name p c) _ (λ from is.
       tells-bind (message_on s.objects (not (is_own c)) from) _ (λ m is_m.
       tells-bind m.next _ (λ name is_name.
-      tells-bind (reads m.payload (under_name c name p)) _ (λ q is_q. tells-some _ (takes-told m q)))))
+      tells-bind (reads m.payload (under_name c name p)) _ (λ q is_q.
+      tells-some _ (takes-told m q (message_on-found (not (is_own c)) from m s.objects is_m).waiting)))))
 
   hears-told : (v : VarId) (next : CodeId) → Tells (hears_end a s p v next)
   hears-told v next =
       tells-bind (bound_to v.0 p.channels) _ (λ from is.
       tells-bind (message_on s.objects true from) _ (λ m is_m.
-      tells-bind (close_in m.payload) _ (λ over is_over. tells-some _ (takes-told m _))))
+      tells-bind (close_in m.payload) _ (λ over is_over.
+      tells-some _ (takes-told m _ (message_on-found true from m s.objects is_m).waiting))))
 
   closes-told : (at : ℕ) (m : Mode) → touch ≡ touch_at s p (code.Close at) → IsTold (closes a s p m)
   closes-told at mode.R is_touch =
@@ -328,8 +390,9 @@ module _ (a : Acceptance) (s : State) (p : Process) (touch : Touch) where
       → IsHeard touch false name
       → PlaceTold s p touch (object_number u, Some (uses_instead p.offers name u))
   instead-told (object.Process q) name there partner hears =
-      record { number = λ r is. inr partner; message = λ m is. absurd cc }
+      record { taken = inr (inl partner); number = λ r is. inr partner; message = λ m is. absurd cc }
   instead-told (object.Message n) name there partner hears = record {
+    taken = inr (inl partner);
     number = λ r is. absurd cc;
     message = λ m is. by_way n.to_client refl m is;
   }
@@ -398,7 +461,7 @@ module _ (a : Acceptance) (s : State) (p : Process) (touch : Touch) where
       by_user (Some u) found =
           two-places (instead u) (p.pid, None)
           (instead-told u name (user_of-found p.offers u s.objects found).0 (partner u found) hears)
-          (leaves-place p.pid)
+          own-gone
 
   apart-told : (w : VarId) (empty_next : CodeId) (head tail : VarId) (full_next : CodeId) (l : PotentialList)
       (xs : List Value) → IsTold (takes_apart a s p w empty_next head tail full_next l xs)
@@ -524,7 +587,7 @@ step-same_but {a} accepted {s} {t} typed pid steps = at (process_at s pid) refl 
     goes-same p _ _ does (acts c olds replaces fits keeps) is =
         let touch : Touch = touch_by s p (slice_get a.program.code p.code.0) in
         subst (SameBut s p.pid touch) (one-state is)
-        (told-same_but s p touch c olds replaces (deed-told a s p touch c refl does))
+        (told-same_but s p typed.numbered.ascending touch c olds replaces (deed-told a s p touch c refl does))
       where
         one-state : Some (changed s c) ≡ Some t → changed s c ≡ t
         one-state e = cc

@@ -1,5 +1,5 @@
 -- What a set of processes that may be ready tells of a state.
-use Rattle.std.specs.Prelude.{◌≡◌, ◌≤◌, ◌⊎◌, ℕ, Some, true, IsTrue}
+use Rattle.std.specs.Prelude.{◌≡◌, ◌≤◌, ◌<◌, ◌⊎◌, ℕ, Some, true, IsTrue}
 use Rattle.std.specs.BTreeSet.{contains}
 use Rattle.std.specs.declared.cmp.Ordering.{Ordering}
 use Rattle.std.specs.Ordering.{nat_cmp, ordering_then}
@@ -25,16 +25,21 @@ IsNoted w name q = IsTrue (contains by_both w.waiting (name, q))
 abbrev pub IsFollowed : Awake → ℕ → Type 0
 IsFollowed w name = (w.first_name ≤ name) ⊎ IsTrue (contains nat_cmp w.acquired name)
 
--- Each process that is ready is told as one that may be; and each that waits for a name which is followed, as one that
--- may be ready or as one that waits.
+-- Of a crowd that waits for a shared name this process is noted, and one is told in its place as one that may be ready:
+-- it is noted for the name too, is no higher, and is over the number that is sought where this one is.
+pub record HasProxy (w : Awake) (name q : ℕ) : Type 0 where
+  pub noted : IsNoted w name q
+  pub proxy : ℕ
+  pub noted_too : IsNoted w name proxy
+  pub told : MayBeReady w proxy
+  pub low : proxy ≤ q
+  pub over : w.sought < q → w.sought < proxy
+
+-- Each process that is ready is told as one that may be, or one that waits for the same name is told in its place. Each
+-- that waits for a name which is followed is told as one that may be ready, or is noted. And who is noted waits for
+-- the name.
 pub record Covers (a : Acceptance) (s : State) (w : Awake) : Type 0 where
-  pub ready : (q : ℕ) → IsReady a s q → MayBeReady w q
+  pub ready : (q : ℕ) → IsReady a s q → MayBeReady w q ⊎ ((name : ℕ) × HasProxy w name q)
   pub waiting : (q name : ℕ) → waits a s.objects q ≡ Some name → IsFollowed w name
       → MayBeReady w q ⊎ IsNoted w name q
-
--- The second set tells no less than the first: whoever may be ready there may be here, and who is noted is so here, or
--- may be ready; and no other name is followed.
-pub record Stays (v w : Awake) : Type 0 where
-  pub ready : (q : ℕ) → MayBeReady v q → MayBeReady w q
-  pub noted : (name q : ℕ) → IsNoted v name q → MayBeReady w q ⊎ IsNoted w name q
-  pub followed : (name : ℕ) → IsFollowed w name → IsFollowed v name
+  pub noted : (q name : ℕ) → IsNoted w name q → waits a s.objects q ≡ Some name

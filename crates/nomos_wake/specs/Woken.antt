@@ -20,6 +20,8 @@ pub record WasThere (s : State) (m : Message) : Type 0 where
 pub record IsSameBut (changed : ℕ → Type 0) (heard : Bool → ℕ → Type 0) (s t : State) : Type 0 where
   pub processes : (r : Process) → Contains t.objects (object.Process r)
       → Contains s.objects (object.Process r) ⊎ changed r.pid
+  pub stays : (r : Process) → Contains s.objects (object.Process r)
+      → Contains t.objects (object.Process r) ⊎ changed r.pid
   pub messages : (m : Message) → Contains t.objects (object.Message m) → WasThere s m ⊎ heard m.to_client m.from
 
 -- Whom such changes may wake, in the second state: who changed; who reads what is heard; who wants to release a process

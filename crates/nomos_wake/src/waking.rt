@@ -1,15 +1,15 @@
 //! Who may be ready is kept beside a machine: before a firing, after it, and where the next ready process is sought.
-ghost use Rattle.std.specs.Prelude.{◌≡◌, ◌<◌, ℕ, Some, true, IsSome, MatchOption, slice_get};
-ghost use Rattle.nomos_ir.specs.declared.code_node.CodeNode.{CodeNode as Instruction};
-ghost use Rattle.nomos_machine.specs.Run.{IsNextReady, NoneReady};
+ghost use Rattle.std.specs.Prelude.{◌≡◌, ◌<◌, ℕ, Some, IfSome, option_and_then};
 ghost use Rattle.nomos_machine.specs.Sight.{offering, owner};
-ghost use Rattle.nomos_machine.specs.State.{State, process_at};
+ghost use Rattle.nomos_machine.specs.State.{State};
 ghost use Rattle.nomos_machine.specs.Step.{IsReady, step};
 ghost use Rattle.nomos_machine.specs.TypedState.{IsTyped};
 ghost use Rattle.nomos_machine.specs.declared.object.Process.{Process};
-ghost use Rattle.nomos_wake.specs.Covering.{Covers, MayBeReady, Stays};
+ghost use Rattle.nomos_deeds.specs.Readers.{waits};
+ghost use Rattle.nomos_wake.specs.Covering.{Covers, HasProxy, IsNoted, MayBeReady};
 ghost use Rattle.nomos_wake.specs.Foreseeing.{IsForeseen};
-ghost use Rattle.nomos_wake.specs.mirror.Waking.{MayWakeBy, WakesBy, WakesHeard};
+ghost use Rattle.nomos_wake.specs.mirror.Telling.{Tells};
+ghost use Rattle.nomos_wake.specs.mirror.Waking.{Leaves, MayWakeBy, WakesBy, WakesHeard};
 
 use crate::awake::Awake;
 use crate::touch::{Heard, Touch};
@@ -26,12 +26,16 @@ pub struct Foreseen {
     /// The number that the next object will have.
     pub next: u32,
     pub touch: Touch,
+    /// The shared name for which the process waits, if it does.
+    pub waits: Option<u32>,
+    /// The same of the other object that is touched.
+    pub partner_waits: Option<u32>,
 }
 
 // Wakes who uses a name.
 fn wake_user<M: Machine>(awake: &mut Awake, machine: &M, name: u32)
     ensures woken { (q : ℕ) → owner (M.state machine.now) name ≡ Some q → MayBeReady awake.new q }
-    ensures stays { Stays awake.old awake.new }
+    ensures tells { Tells awake.old awake.new }
 {
     if let Some(user) = machine.user(name) {
         awake.wake(user);
@@ -42,7 +46,7 @@ fn wake_user<M: Machine>(awake: &mut Awake, machine: &M, name: u32)
 fn wake_provider<M: Machine>(awake: &mut Awake, machine: &M, name: u32)
     ensures woken { (r : Process) → offering (M.state machine.now).objects name ≡ Some r
         → MayBeReady awake.new r.pid }
-    ensures stays { Stays awake.old awake.new }
+    ensures tells { Tells awake.old awake.new }
 {
     if let Some(provider) = machine.offering(name) {
         awake.wake(provider.pid);
@@ -52,7 +56,7 @@ fn wake_provider<M: Machine>(awake: &mut Awake, machine: &M, name: u32)
 // Wakes who may read what is heard.
 fn wake_heard<M: Machine>(awake: &mut Awake, machine: &M, heard: Option<Heard>)
     ensures woken { WakesHeard (M.state machine.now) heard awake.new }
-    ensures stays { Stays awake.old awake.new }
+    ensures tells { Tells awake.old awake.new }
 {
     let Some(heard) = heard else { return };
     if heard.to_client {
@@ -106,6 +110,13 @@ fn follow_acquired<M: Machine>(awake: &mut Awake, machine: &M, accepted: &Accept
     }
 }
 
+// For which shared name the process of a number waits, if there is one that does.
+fn waits_if<M: Machine>(machine: &M, accepted: &Accepted, number: Option<u32>) -> Option<u32>
+    ensures { result ≡ option_and_then (waits accepted.now (M.state machine.now).objects) number }
+{
+    machine.waits(accepted, number?)
+}
+
 /// What is known before a ready process fires of whom that may wake. It is told to `wake_after` once the process has
 /// fired.
 pub fn foresee<M: Machine>(
@@ -121,10 +132,34 @@ pub fn foresee<M: Machine>(
     ensures foreseen { IsForeseen accepted.now (M.state machine.now) pid result }
 {
     follow_acquired(awake, machine, accepted, pid);
+    let touch = touch_of(machine, accepted, pid);
     Foreseen {
         pid,
         next: machine.next_object(),
-        touch: touch_of(machine, accepted, pid),
+        touch,
+        waits: machine.waits(accepted, pid),
+        partner_waits: waits_if(machine, accepted, touch.partner),
+    }
+}
+
+// The processes that a firing changes wait for no name any more, and the one after it is sought.
+fn leave(awake: &mut Awake, foreseen: Foreseen)
+    ensures { Leaves foreseen awake.old awake.new }
+{
+    awake.pass(foreseen.pid);
+    awake.forget(foreseen.pid, foreseen.waits);
+    if let Some(partner) = foreseen.touch.partner {
+        awake.forget(partner, foreseen.partner_waits);
+    }
+}
+
+// Who is noted for a name may be ready, if there is one.
+fn offer_if(awake: &mut Awake, name: Option<u32>)
+    ensures told { IfSome name (λ n. (q : ℕ) → 0 < q → IsNoted awake.old n q → HasProxy awake.new n q) }
+    ensures tells { Tells awake.old awake.new }
+{
+    if let Some(name) = name {
+        awake.offer(name);
     }
 }
 
@@ -143,8 +178,11 @@ pub fn wake_after<M: Machine>(
 {
     // Where the program is read it is known to be accepted.
     let _program = accepted.program();
+    leave(awake, foreseen);
     wake_changed(awake, machine, accepted, foreseen.pid);
     wake_changed(awake, machine, accepted, foreseen.next);
     wake_partner(awake, machine, accepted, foreseen.touch.partner);
     wake_heard(awake, machine, foreseen.touch.heard);
+    offer_if(awake, foreseen.waits);
+    offer_if(awake, foreseen.partner_waits);
 }

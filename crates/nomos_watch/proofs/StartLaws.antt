@@ -8,7 +8,7 @@ use Rattle.nomos_types.specs.Acceptance.{Acceptance, IsAccepted}
 use Rattle.nomos_machine.specs.Starting.{started_with}
 use Rattle.nomos_machine.specs.State.{State}
 use Rattle.nomos_wake.specs.Beginning.{HasGrown}
-use Rattle.nomos_wake.specs.Covering.{Covers, IsFollowed, MayBeReady}
+use Rattle.nomos_wake.specs.Covering.{Covers, IsFollowed, IsNoted, MayBeReady}
 use Rattle.nomos_wake.specs.declared.awake.Awake.{Awake}
 use Rattle.nomos_wake.proofs.BeginLaws.{begun-covers, grown-same, grown-twice, start-grown}
 use Rattle.nomos_legal.specs.Batch.{after_start, after_starts, named, state_or}
@@ -143,12 +143,13 @@ module _ {a : Acceptance} (accepted : IsAccepted a) {w : WorldState} (stands : W
       }
 
   -- A set of all processes from a number on covers it, where that is no higher than the first new one, and no name is
-  -- followed that is not new.
+  -- followed that is not new, and nobody is noted.
   pub start-covers : (first first_name : ℕ) (awake : Awake) → first ≤ w.origin.state.next_object
       → w.origin.state.next_name ≤ first_name
       → ((q : ℕ) → first ≤ q → q < w.state.next_object → MayBeReady awake q)
-      → ((name : ℕ) → IsFollowed awake name → first_name ≤ name) → Covers a w.state awake
-  start-covers first first_name awake low high woken followed =
+      → ((name : ℕ) → IsFollowed awake name → first_name ≤ name) → ((name q : ℕ) → IsNoted awake name q → ⊥)
+      → Covers a w.state awake
+  start-covers first first_name awake low high woken followed noted =
       begun-covers accepted stands.origin.settled.typed (world-typed accepted stands) begun-world.grown
       stands.origin.quiet awake (λ q from below. woken q (omega (arith, from, low)) below)
-      (λ name is. omega (arith, followed name is, high))
+      (λ name is. omega (arith, followed name is, high)) noted

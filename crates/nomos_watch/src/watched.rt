@@ -23,7 +23,7 @@ use nomos_ledger::world::World;
 use nomos_legal::journal::{End, Firing};
 use nomos_types::accepted::Accepted;
 use nomos_wake::awake::Awake;
-use nomos_wake::seeking::{awake_from, next_ready};
+use nomos_wake::seeking::{any_ready, awake_from, next_ready};
 use nomos_wake::waking::{Foreseen, foresee, wake_after};
 use std::alloc::{AllocError, Global};
 
@@ -59,6 +59,19 @@ fn awake_at_start<M: Undo>(alloc: Global, accepted: &Accepted, world: &World<M>)
     let first = world.first_number(accepted);
     let name = first_name(accepted, world);
     awake_from(alloc, world.state(), first, name)
+}
+
+// A process that is ready, if one is: the lowest over a number, or the lowest of all.
+fn ready_in<M: Undo>(accepted: &Accepted, world: &World<M>, after: u32) -> Option<u32>
+    requires { WorldStandsFor accepted.now world.now }
+    ensures { MatchOption result (IsQuiet accepted.now world.now.state) (IsReady accepted.now world.now.state) }
+{
+    // Where the program is read it is known to be accepted.
+    let _program = accepted.program();
+    match world.next_ready(accepted, after) {
+        Some(pid) => Some(pid),
+        None => world.next_ready(accepted, 0),
+    }
 }
 
 impl<M: Undo> Watched<M> {
@@ -112,6 +125,23 @@ impl<M: Undo> Watched<M> {
         // Where the program is read it is known to be accepted.
         let _program = accepted.program();
         self.next_ready(accepted, 0)
+    }
+
+    /// A process that is ready, if one is: one over a number, where one is known there. It takes no memory.
+    pub fn any_ready(&mut self, accepted: &Accepted, after: u32) -> Option<u32>
+        requires stands { WorldStandsFor accepted.now self.old.world }
+        requires watched { IsWatched accepted.now self.old.world.state self.old.awake }
+        ensures world { self.new.world ≡ self.old.world }
+        ensures watched { IsWatched accepted.now self.new.world.state self.new.awake }
+        ensures any { MatchOption result (IsQuiet accepted.now self.old.world.state)
+            (IsReady accepted.now self.old.world.state) }
+    {
+        // Where the program is read it is known to be accepted.
+        let _program = accepted.program();
+        match &mut self.awake {
+            Some(awake) => any_ready(awake, self.world.state(), accepted, after),
+            None => ready_in(accepted, &self.world, after),
+        }
     }
 
     /// The batch as it has come to be. It takes no memory.

@@ -5,3 +5,4 @@ pub mod WorkLemmas
 pub mod FaultLemmas
 pub mod BatchLaws
 pub mod PassLemmas
+pub mod Sending

@@ -1,18 +1,14 @@
--- Shops: as they are opened, and which process fires next in them.
-use Rattle.std.proofs.Common.{◌≡◌, ℕ, ◌<◌, length, Option, Some, None, ap, arith}
-use Rattle.std.specs.Option.{MatchOption}
+-- Shops: as they are opened and left, and their next numbers.
+use Rattle.std.proofs.Common.{◌≡◌, ℕ, ◌<◌, ◌≤◌, length, ap, subst, arith}
 use Rattle.nomos_types.specs.Acceptance.{Acceptance, IsAccepted}
-use Rattle.nomos_machine.specs.Run.{IsNextReady, IsQuiet, NoneReady}
 use Rattle.nomos_machine.specs.State.{State}
-use Rattle.nomos_machine.specs.Step.{IsReady}
-use Rattle.nomos_machine.specs.TypedState.{IsTyped}
 use Rattle.nomos_deeds.specs.Acting.{HasNumbers}
+use Rattle.nomos_legal.specs.StandsFor.{WorldStandsFor}
 use Rattle.nomos_legal.specs.World.{WorldState, start_of}
 use Rattle.nomos_legal.proofs.WorldLaws.{world-rises}
-use Rattle.nomos_watch.proofs.ReadyLaws.{none_ready-quiet}
 use Rattle.nomos_watch.proofs.StartLaws.{fresh-start}
-use Rattle.nomos_workers.specs.Batch.{MayRun}
-use Rattle.nomos_workers.specs.Shops.{IsShop, ShopState}
+use Rattle.nomos_workers.specs.Batch.{MayRun, RunsOn}
+use Rattle.nomos_workers.specs.Shops.{IsShop, ShopState, opening}
 
 -- a batch that may be run makes a shop
 pub may-shop : (a : Acceptance) (limit : ℕ) (w : WorldState) → MayRun a limit w
@@ -28,12 +24,6 @@ may-shop a limit w may =
       names = omega (arith, names, may.names);
     }
 
--- where none over 0 is ready no process is, and the lowest over 0 is ready
-pub lowest-ready : {a : Acceptance} → IsAccepted a → {s : State} → IsTyped a s → (next : Option ℕ)
-    → MatchOption next (NoneReady a s 0) (IsNextReady a s 0) → MatchOption next (IsQuiet a s) (IsReady a s)
-lowest-ready accepted typed None none = none_ready-quiet accepted typed none
-lowest-ready accepted typed (Some pid) next = next.ready
-
 -- before the limit the next numbers are far from the greatest
 pub shop-numbers : (s : ShopState) → IsShop s → IsAccepted s.accepted → length s.world.firings < s.limit
     → HasNumbers s.world.state
@@ -42,4 +32,17 @@ shop-numbers s shop accepted room =
     record {
       object = omega (arith, rises.objects, shop.objects);
       name = omega (arith, rises.names, shop.names);
+    }
+
+-- what workers leave of a shop has run on from where it was opened
+pub shop-runs : (before after : ShopState) → IsShop after → opening after ≡ opening before
+    → RunsOn before.accepted before.limit before.world after.world
+shop-runs before after shop opened =
+    let accepted : after.accepted ≡ before.accepted = ap (λ (s : ShopState). s.accepted) opened in
+    let limit : after.limit ≡ before.limit = ap (λ (s : ShopState). s.limit) opened in
+    record {
+      stands = subst (λ (a : Acceptance). WorldStandsFor a after.world) accepted shop.stands;
+      origin = ap (λ (s : ShopState). s.world.origin) opened;
+      starts = ap (λ (s : ShopState). s.world.starts) opened;
+      within = subst (λ (n : ℕ). length after.world.firings ≤ n) limit shop.within;
     }

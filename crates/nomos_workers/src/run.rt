@@ -2,6 +2,7 @@
 ghost use Rattle.std.specs.Prelude.{◌≡◌, ℕ, ◌≤◌, All, IfOk, MatchOption, length};
 ghost use Rattle.nomos_machine.specs.declared.policy.Policy.{Policy};
 ghost use Rattle.nomos_legal.specs.StandsFor.{WorldStandsFor};
+ghost use Rattle.nomos_watch.specs.Watching.{IsWatched};
 ghost use Rattle.nomos_workers.specs.Batch.{MayRun, RunsOn};
 ghost use Rattle.nomos_workers.specs.Crews.{AbortsAtLowest, IsCrew, IsFaultless, IsLowestFault, IsOfWorker};
 ghost use Rattle.nomos_workers.specs.OneWorker.{EndsBy, RunsBy};
@@ -17,6 +18,7 @@ use nomos_ir::fault::Fault;
 use nomos_ledger::world::World;
 use nomos_legal::journal::End;
 use nomos_types::accepted::Accepted;
+use nomos_watch::watched::Watched;
 use std::alloc::{AllocError, Global};
 use std::sync::Wait;
 use std::thread::Threads;
@@ -45,16 +47,23 @@ fn lowest_fault<M: Undo>(
 
 // How a batch ends that several workers have left. Where it goes on, the lowest process that has a fault aborts it;
 // where none has one, a worker stopped for want of memory.
-fn end_of<M: Undo>(alloc: Global, accepted: &Accepted, world: &World<M>, limit: u32) -> BatchEnd
-    requires stands { WorldStandsFor accepted.now world.now }
-    requires within { length world.now.firings ≤ limit }
-    ensures ends { MayEnd accepted.now world.now.state (length world.now.firings) limit result }
-    ensures aborts { AbortsAtLowest accepted.now world.now.state result }
+fn end_of<M: Undo>(
+    alloc: Global,
+    accepted: &Accepted,
+    watched: &mut Watched<M>,
+    limit: u32,
+) -> BatchEnd
+    requires stands { WorldStandsFor accepted.now watched.old.world }
+    requires watched { IsWatched accepted.now watched.old.world.state watched.old.awake }
+    requires within { length watched.old.world.firings ≤ limit }
+    ensures world { watched.new.world ≡ watched.old.world }
+    ensures ends { MayEnd accepted.now watched.old.world.state (length watched.old.world.firings) limit result }
+    ensures aborts { AbortsAtLowest accepted.now watched.old.world.state result }
 {
-    if let Some(end) = world.end(accepted, limit) {
+    if let Some(end) = watched.end(accepted, limit) {
         return BatchEnd::Done(end);
     }
-    match lowest_fault(alloc, accepted, world) {
+    match lowest_fault(alloc, accepted, &watched.world) {
         Ok(Some((pid, fault))) => BatchEnd::Done(End::Aborted(pid, fault)),
         Ok(None) | Err(_) => BatchEnd::NoMemory,
     }
@@ -87,14 +96,19 @@ pub fn run_batch<M: Undo + Drop + Send, G: Gate, R: Threads + Wait + Sync>(
         Crew::One(policy) => return run_by(alloc, accepted, world, limit, policy),
         Crew::Many(workers) => workers,
     };
-    if let Some(end) = world.end(accepted, limit) {
+    let mut watched = Watched::of(world);
+    watched.watch(alloc, accepted);
+    if let Some(end) = watched.end(accepted, limit) {
         return Ran {
-            world,
+            world: watched.into_world(),
             end: BatchEnd::Done(end),
         };
     }
-    let shop = Shop::of(accepted, world, limit);
-    let world = run_shop(rt, alloc, shop, workers, gate).into_world();
-    let end = end_of(alloc, accepted, &world, limit);
-    Ran { world, end }
+    let shop = Shop::over(accepted, watched, limit);
+    let mut watched = run_shop(rt, alloc, shop, workers, gate).into_watched();
+    let end = end_of(alloc, accepted, &mut watched, limit);
+    Ran {
+        world: watched.into_world(),
+        end,
+    }
 }

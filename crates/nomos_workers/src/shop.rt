@@ -5,6 +5,7 @@ ghost use Rattle.nomos_machine.specs.Step.{IsReady};
 ghost use Rattle.nomos_legal.specs.Ending.{EndsAs, GoesOn};
 ghost use Rattle.nomos_floor.specs.FloorPass.{AddsAtMostOne};
 ghost use Rattle.nomos_ledger.specs.Calls.{FiresIn};
+ghost use Rattle.nomos_watch.specs.Watching.{IsWatched};
 ghost use Rattle.nomos_workers.specs.Batch.{MayRun};
 ghost use Rattle.nomos_workers.specs.Shops.{IsShop, history_of, opening};
 ghost use Rattle.nomos_workers.specs.mirror.Turns.{IsKnown, TurnsOut};
@@ -16,6 +17,7 @@ use nomos_eval::wanted::{Outcome, Wanted};
 use nomos_floor::shared::Shared;
 use nomos_ledger::world::World;
 use nomos_legal::journal::{End, Firing};
+use nomos_watch::watched::Watched;
 use std::alloc::{AllocError, Global};
 use std::marker::Model;
 
@@ -25,22 +27,24 @@ use std::marker::Model;
 #[derive(Drop)]
 pub struct Shop<A: Lent, M: Undo + Drop> {
     lent: A,
-    world: World<M>,
+    watched: Watched<M>,
     limit: u32,
 }
 
 impl<A: Lent, M: Undo + Drop> Model for Shop<A, M> {
     ghost use Rattle.std.specs.Coded.{codes};
     ghost use Rattle.nomos_ir.specs.ValueCode.{value_code};
-    ghost use Rattle.nomos_workers.specs.Shops.{ShopState, IsShop};
+    ghost use Rattle.nomos_workers.specs.Shops.{ShopState};
+    ghost use Rattle.nomos_workers.specs.mirror.WatchedShop.{IsWatchedShop};
 
     ghost Value = { ShopState };
 
     ghost coded = { Prim.hlevel (codes, value_code) };
 
-    ghost view = { λ s. record { accepted = A.program s.lent; world = s.world; limit = s.limit } };
+    ghost view = { λ s. record { accepted = A.program s.lent; world = s.watched.world; limit = s.limit } };
 
-    ghost invariant = { λ s. IsShop (record { accepted = A.program s.lent; world = s.world; limit = s.limit }) };
+    ghost invariant = { λ s. IsWatchedShop
+        (record { accepted = A.program s.lent; world = s.watched.world; limit = s.limit }) s.watched.awake };
 }
 
 impl<A: Lent, M: Undo + Drop> Shared for Shop<A, M> {
@@ -53,7 +57,7 @@ impl<A: Lent, M: Undo + Drop> Shared for Shop<A, M> {
     ghost history = { history_of };
 
     fn entries(&self) -> u64 {
-        self.world.firings().len() as u64
+        self.watched.world.firings().len() as u64
     }
 }
 
@@ -93,7 +97,21 @@ impl<A: Lent, M: Undo + Drop> Shop<A, M> {
         requires { MayRun (A.program lent) limit world }
         ensures { result ≡ record { accepted = A.program lent; world = world; limit = limit } }
     {
-        Shop { lent, world, limit }
+        let watched = Watched::of(world);
+        Shop::over(lent, watched, limit)
+    }
+
+    // The shop of a batch in which nothing has fired, beside which is known who may be ready.
+    pub(crate) fn over(lent: A, watched: Watched<M>, limit: u32) -> Shop<A, M>
+        requires may { MayRun (A.program lent) limit watched.world }
+        requires watched { IsWatched (A.program lent) watched.world.state watched.awake }
+        ensures { result ≡ record { accepted = A.program lent; world = watched.world; limit = limit } }
+    {
+        Shop {
+            lent,
+            watched,
+            limit,
+        }
     }
 
     /// The batch as it has come to be. It takes no memory. The second clause also says what holds of every shop.
@@ -101,32 +119,56 @@ impl<A: Lent, M: Undo + Drop> Shop<A, M> {
         ensures world { result ≡ self.world }
         ensures shop { IsShop self }
     {
-        self.world
+        self.into_watched().into_world()
     }
 
-    // A process that is ready: the lowest over a number, or the lowest of all.
-    fn ready_over(&self, after: u32) -> Option<u32>
-        ensures { MatchOption result (IsQuiet self.now.accepted self.now.world.state)
-            (IsReady self.now.accepted self.now.world.state) }
+    /// The batch as it has come to be, with the processes of it that may be ready. It takes no memory.
+    pub(crate) fn into_watched(self) -> Watched<M>
+        ensures world { result.world ≡ self.world }
+        ensures watched { IsWatched self.accepted result.world.state result.awake }
+        ensures shop { IsShop self }
+    {
+        let Shop {
+            lent: _lent,
+            watched,
+            limit: _limit,
+        } = self;
+        watched
+    }
+
+    // From here on it is known who may be ready, where nothing has fired yet.
+    fn watch(&mut self, alloc: Global)
+        ensures same { self.new ≡ self.old }
+        ensures shop { IsShop self.new }
+    {
+        let accepted = self.lent.accepted();
+        self.watched.watch(alloc, accepted);
+    }
+
+    // A process that is ready, if one is: one over a number, where one is known there.
+    fn ready_over(&mut self, after: u32) -> Option<u32>
+        ensures same { self.new ≡ self.old }
+        ensures ready { MatchOption result (IsQuiet self.old.accepted self.old.world.state)
+            (IsReady self.old.accepted self.old.world.state) }
     {
         // Where the program is read it is known to be accepted.
         let accepted = self.lent.accepted();
         let _program = accepted.program();
-        match self.world.next_ready(accepted, after) {
-            Some(pid) => Some(pid),
-            None => self.world.next_ready(accepted, 0),
-        }
+        self.watched.any_ready(accepted, after)
     }
 
-    // How the batch ends here, faults apart, or none where it goes on. The second clause says what holds of every shop.
-    fn end(&self) -> Option<End>
+    // How the batch ends here, faults apart, or none where it goes on; a process that is ready is known, if one is. The
+    // second clause says what holds of every shop.
+    fn end(&self, ready: Option<u32>) -> Option<End>
+        requires { MatchOption ready (IsQuiet self.now.accepted self.now.world.state)
+            (IsReady self.now.accepted self.now.world.state) }
         ensures end { MatchOption result
             (GoesOn self.now.accepted self.now.world.state (length self.now.world.firings) self.now.limit)
             (EndsAs self.now.accepted self.now.world.state (length self.now.world.firings) self.now.limit) }
         ensures shop { IsShop self.now }
     {
-        let accepted = self.lent.accepted();
-        self.world.end(accepted, self.limit)
+        self.watched
+            .end_where(self.lent.accepted(), self.limit, ready)
     }
 
     // What is to be evaluated of a process before it fires, if anything is and nothing was evaluated.
@@ -136,7 +178,7 @@ impl<A: Lent, M: Undo + Drop> Shop<A, M> {
         if seeks.known.is_some() {
             return Ok(None);
         }
-        match self.world.wanted(alloc, self.lent.accepted(), pid)? {
+        match self.watched.world.wanted(alloc, self.lent.accepted(), pid)? {
             Some(wanted) => Ok(Some(Asked {
                 lent: self.lent.again(),
                 pid,
@@ -166,10 +208,10 @@ impl<A: Lent, M: Undo + Drop> Shop<A, M> {
         let _program = accepted.program();
         match known {
             Some(known) => {
-                self.world
+                self.watched
                     .fire_with(alloc, accepted, firing, (&known.wanted, &known.outcome))
             }
-            None => self.world.fire(alloc, accepted, firing),
+            None => self.watched.fire(alloc, accepted, firing),
         }
     }
 
@@ -186,12 +228,12 @@ impl<A: Lent, M: Undo + Drop> Shop<A, M> {
         ensures shop { IsShop self.new }
         ensures ok { IfOk result (TurnsOut A.program self.new) }
     {
-        if let Some(end) = self.end() {
+        self.watch(alloc);
+        let ready = self.ready_over(seeks.after);
+        if let Some(end) = self.end(ready) {
             return Ok(Turned::Ends(end));
         }
-        let Some(pid) = self.ready_over(seeks.after) else {
-            unreachable!()
-        };
+        let Some(pid) = ready else { unreachable!() };
         if let Some(asked) = self.asked(alloc, pid, seeks)? {
             return Ok(Turned::Wants(asked));
         }

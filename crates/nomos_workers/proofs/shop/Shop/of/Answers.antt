@@ -1,5 +1,4 @@
-use Rattle.nomos_workers.proofs.ShopLemmas.{may-shop}
 use Rattle.nomos_workers.proofs.shop.Shop.of.Goals as goal
 
-pub invariant_of-result : goal.invariant_of-result
-invariant_of-result g c = may-shop (g.A.Lent.program c.args.lent) c.args.limit c.args.world c.requires
+pub over-requires-clause-watched : goal.over-requires-clause-watched
+over-requires-clause-watched g c κs within = c.of-watched.ensures.watched (g.A.Lent.program c.args.lent)

@@ -1,15 +1,16 @@
-use Rattle.std.proofs.Common.{◌≡◌, ◌≤◌, ◌-◌, ◌^◌, false}
+use Rattle.std.proofs.Common.{◌≡◌, ◌≤◌, ◌-◌, ◌^◌}
 use Rattle.nomos_wake.specs.Covering.{Covers}
 use Rattle.nomos_wake.proofs.SeekLemmas.{NoneUpTo}
-use Rattle.nomos_wake.proofs.seeking.next_ready.Given as goal
+use Rattle.nomos_wake.proofs.seeking.seek.Given as goal
 
 -- the set covers the state still, and none so far is ready
 abbrev pub invariant-looks : goal.invariant-looks
 invariant-looks g l = record {
-  known : l.awake.lost ≡ false;
+  lost : l.awake.lost ≡ l.fn.awake.lost;
+  sought : l.awake.sought ≡ l.fn.awake.sought;
   covers : Covers l.accepted (g.M.Sight.state l.machine) l.awake;
   over : l.after ≤ l.from;
-  none : NoneUpTo l.accepted (g.M.Sight.state l.machine) l.after l.from;
+  none : NoneUpTo l.accepted (g.M.Sight.state l.machine) l.awake l.after l.from;
 }
 
 -- how many numbers are left
