@@ -37,8 +37,23 @@ impl<T: Copy> Model for Numbered<T> {
     ghost invariant = { λ n. IsInOrder n.slots };
 }
 
+// The place of the slot of this number, where it is found as many places behind the first as the number is over the first
+// number: so it is where each number that was drawn has its slot.
+fn guessed_place<T: Copy>(slots: &Column<Slot<T>>, number: u32) -> Option<usize>
+    ensures { IfSome result (λ place. slice_get (numbers slots.now.now) place ≡ Some number) }
+{
+    let first = slots.get(0)?;
+    let place = number.checked_sub(first.number)? as usize;
+    let slot = slots.get(place)?;
+    if slot.number == number {
+        Some(place)
+    } else {
+        None
+    }
+}
+
 // The place of the slot of this number, by halving.
-fn place_in<T: Copy>(slots: &Column<Slot<T>>, number: u32) -> Option<usize>
+fn halved_place<T: Copy>(slots: &Column<Slot<T>>, number: u32) -> Option<usize>
     requires { IsAscending slots.now.now }
     ensures { IsPlaceOf number slots.now.now result }
 {
@@ -57,6 +72,17 @@ fn place_in<T: Copy>(slots: &Column<Slot<T>>, number: u32) -> Option<usize>
         }
     }
     None
+}
+
+// The place of the slot of this number.
+fn place_in<T: Copy>(slots: &Column<Slot<T>>, number: u32) -> Option<usize>
+    requires { IsAscending slots.now.now }
+    ensures { IsPlaceOf number slots.now.now result }
+{
+    match guessed_place(slots, number) {
+        Some(place) => Some(place),
+        None => halved_place(slots, number),
+    }
 }
 
 // Of the slots from this place on, those with an item move up into the gaps, and no others stay.
@@ -118,7 +144,8 @@ impl<T: Copy> Numbered<T> {
         self.slots.get(place)
     }
 
-    /// The place of the slot of this number, if there is one. It goes by halves.
+    /// The place of the slot of this number, if there is one: found at once where no gap before it was closed, and by
+    /// halves elsewhere.
     pub fn place_of(&self, number: u32) -> Option<usize>
         ensures { IsPlaceOf number self.now.now result }
     {

@@ -1,6 +1,6 @@
 use Rattle.std.proofs.Common.{◌≡◌, ◌<◌, ◌≤◌, ◌+◌, ◌-◌, ◌/◌, Some, slice_get, sym, ◌∙◌, arith}
 use Rattle.nomos_slots.proofs.NumberLaws.{below-more, onwards-more}
-use Rattle.nomos_slots.proofs.numbered.place_in.Goals as goal
+use Rattle.nomos_slots.proofs.numbered.halved_place.Goals as goal
 
 pub loop-from-preserved-then-slot-number-2 : goal.loop-from-preserved-then-slot-number-2
 loop-from-preserved-then-slot-number-2 g c =

@@ -1,6 +1,6 @@
 use Rattle.std.proofs.Common.{◌-◌, ◌≤◌, length}
 use Rattle.nomos_slots.proofs.NumberLaws.{BelowAre, OnwardsAre}
-use Rattle.nomos_slots.proofs.numbered.place_in.Given as goal
+use Rattle.nomos_slots.proofs.numbered.halved_place.Given as goal
 
 abbrev pub invariant-loop-from : goal.invariant-loop-from
 invariant-loop-from g l = record {
