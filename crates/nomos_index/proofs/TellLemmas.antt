@@ -6,6 +6,7 @@ use Rattle.std.specs.Option.{option_map, option_to_list}
 use Rattle.nomos_ir.specs.Bindings.{bound_to}
 use Rattle.nomos_ir.specs.Order.{count_of}
 use Rattle.nomos_ir.proofs.SumLaws.{count-after_unbind}
+use Rattle.nomos_deeds.specs.Readers.{stands_for}
 use Rattle.nomos_deeds.specs.Seen.{seen_message, seen_process}
 use Rattle.nomos_machine.specs.Objects.{message_of, object_at, process_of, provided, used}
 use Rattle.nomos_machine.specs.Sight.{is_offered, is_read_on}
@@ -28,6 +29,13 @@ pub offered-does : (objects : List Object) (number name : ℕ) (p : Process)
     → DoesAt provided objects number name
 offered-does objects number name p there is =
     told-does provided objects number name (object.Process p) there (ap (λ (b : Bool). b || false) is)
+
+-- what holds of whether the object of a number stands for a shared name, holds of whichever object has the number
+pub stands-told : (objects : List Object) (number shared : ℕ) (e o : Object) → object_at objects number ≡ Some e
+    → object_at objects number ≡ Some o → (b : Bool) → b ≡ stands_for shared e
+    → cond b (Some number) None ≡ cond (stands_for shared o) (Some number) None
+stands-told objects number shared e o there here b is =
+    ap (λ (t : Bool). cond t (Some number) None) (is ∙ ap (stands_for shared) (same_Some e o (sym there ∙ here)))
 
 -- a process uses the name that a variable has
 pub bound-does : (objects : List Object) (number name variable : ℕ) (p : Process)

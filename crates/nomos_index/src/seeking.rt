@@ -76,8 +76,8 @@ fn message_mentions(m: &KeptMessage, name: u32) -> bool
     m.from == name || m.next == Some(name) || brings(m.brings, name)
 }
 
-// Whether a process stands for a shared name.
-fn stands_for(p: &KeptProcess, name: u32) -> bool
+/// Whether a process stands for a shared name.
+pub(crate) fn stands_for(p: &KeptProcess, name: u32) -> bool
     ensures { (cells : List Cell) (pid : ℕ) (values : ValueRow) (its_lists : ListRow)
         → result ≡ stands_for name (object.Process (process_held cells pid values its_lists p.now)) }
 {

@@ -1,22 +1,26 @@
 //! What an object of an indexed state does with names, told by its number.
-ghost use Rattle.std.specs.Prelude.{◌≡◌, ◌==◌, ℕ, None, Some, cond, option_and_then, true};
+ghost use Rattle.std.specs.Prelude.{◌≡◌, ◌==◌, ℕ, List, None, Some, cond, option_and_then, true};
 ghost use Rattle.std.specs.List.{list_any};
 ghost use Rattle.std.specs.Option.{option_map};
+ghost use Rattle.nomos_deeds.specs.Readers.{stands_for};
 ghost use Rattle.nomos_deeds.specs.Seen.{seen_message, seen_process};
 ghost use Rattle.nomos_ir.specs.Bindings.{IsAscending, bound_to};
-ghost use Rattle.nomos_machine.specs.Objects.{message_of, object_at, process_of, provided, used};
+ghost use Rattle.nomos_machine.specs.Objects.{based, message_of, object_at, process_of, provided, used};
 ghost use Rattle.nomos_machine.specs.Sight.{is_offered, is_read_on};
 ghost use Rattle.nomos_machine.specs.State.{process_at};
 ghost use Rattle.nomos_machine.specs.declared.object.Object.{Object as Thing};
 ghost use Rattle.nomos_machine.specs.declared.object.Object.TheVariants as object;
 ghost use Rattle.nomos_machine.specs.declared.object.Process.{Process};
-ghost use Rattle.nomos_index.specs.Objects.{ValueRow, message_held};
+ghost use Rattle.nomos_slots.specs.Cells.{Cell};
+ghost use Rattle.nomos_index.specs.Objects.{ListRow, ValueRow, message_held, process_held};
 ghost use Rattle.nomos_index.specs.Telling.{DoesAt};
 
 use crate::inside::Inside;
-use crate::kept::{Kept, KeptMessage};
+use crate::kept::{Kept, KeptMessage, KeptProcess};
 use crate::looking::object_at;
-use crate::seeking::{Sought, is_message_sought, message_uses, seen_message, seen_process};
+use crate::seeking::{
+    Sought, is_message_sought, message_uses, seen_message, seen_process, stands_for,
+};
 use nomos_deeds::sight::{SeenMessage, SeenProcess};
 use nomos_ir::ids::VarId;
 
@@ -30,6 +34,14 @@ fn message_provides(m: &KeptMessage, name: u32) -> bool
     } else {
         m.next == Some(name)
     }
+}
+
+// Whether a process has this name as base.
+fn has_base(p: &KeptProcess, name: u32) -> bool
+    ensures { (cells : List Cell) (pid : ℕ) (values : ValueRow) (its_lists : ListRow)
+        → result ≡ list_any (λ k. k == name) (based (object.Process (process_held cells pid values its_lists p.now))) }
+{
+    p.base == Some(name)
 }
 
 impl Inside {
@@ -74,6 +86,16 @@ impl Inside {
         }
     }
 
+    /// Whether the object of this number has this name as base.
+    pub fn bases(&self, number: u32, name: u32) -> bool
+        ensures { result ≡ true → DoesAt based self.now.state.objects number name }
+    {
+        match object_at(&self.contents, number) {
+            Some((_, Kept::Process(p))) => has_base(&p, name),
+            _ => false,
+        }
+    }
+
     /// The message of this number, where it is read on this name and goes this way.
     pub fn message_read(&self, number: u32, to_client: bool, name: u32) -> Option<SeenMessage>
         ensures { (o : Thing) → object_at self.now.state.objects number ≡ Some o
@@ -102,6 +124,23 @@ impl Inside {
             Some((_, Kept::Process(p))) => {
                 if p.offers == name {
                     Some(seen_process(number, &p))
+                } else {
+                    None
+                }
+            }
+            _ => None,
+        }
+    }
+
+    /// This number, where it is that of a process that stands for this shared name.
+    pub fn standing_for(&self, number: u32, shared: u32) -> Option<u32>
+        ensures { (o : Thing) → object_at self.now.state.objects number ≡ Some o
+            → result ≡ cond (stands_for shared o) (Some number) None }
+    {
+        match object_at(&self.contents, number) {
+            Some((_, Kept::Process(p))) => {
+                if stands_for(&p, shared) {
+                    Some(number)
                 } else {
                     None
                 }

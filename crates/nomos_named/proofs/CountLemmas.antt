@@ -1,5 +1,5 @@
 -- The channels of a process are counted, variable by variable.
-use Rattle.std.proofs.Common.{◌≡◌, ◌<◌, ◌≤◌, ℕ, ◌+◌, ◌-◌, List, [], IsSome, Option, None, refl, ap, arith}
+use Rattle.std.proofs.Common.{◌≡◌, ◌<◌, ◌≤◌, ℕ, ◌+◌, ◌-◌, List, [], IsSome, Option, refl, ap, arith}
 use Rattle.std.specs.Option.{option_to_list}
 use Rattle.nomos_ir.specs.Bindings.{IsAscending, bound_to}
 use Rattle.nomos_ir.specs.Order.{count_of}

@@ -1,15 +1,20 @@
 -- What is found first, where tallies tell who does it.
-use Rattle.std.proofs.Common.{◌≡◌, ◌≤◌, ◌∙◌, ◌==◌, ◌&&◌, ℕ, Bool, true, false, cond, List, [], ◌∷◌, ◌++◌, Option, Some, None, Contains, option_and_then, refl, sym, ap, subst, arith, eqb-true}
+use Rattle.std.proofs.Common.{◌≡◌, ◌≤◌, ◌∙◌, ◌==◌, ◌&&◌, ℕ, Bool, true, false, cond, List, [], ◌∷◌, ◌++◌, Option, Some, None, Contains, option_and_then, ◌+◌, refl, sym, ap, subst, arith, eqb-true}
+use Rattle.std.proofs.lemmas.List.Sums.{sum_by-cons}
 use Rattle.std.specs.List.{list_any}
 use Rattle.std.specs.Option.{option_map, option_to_list}
 use Rattle.nomos_ir.specs.Order.{count_of}
-use Rattle.nomos_types.proofs.OccurrenceLaws.{count-here}
+use Rattle.nomos_ir.specs.declared.mode.Mode.{Mode}
+use Rattle.nomos_ir.specs.declared.mode.Mode.TheVariants as mode
+use Rattle.nomos_types.proofs.OccurrenceLaws.{count-append, count-here}
+use Rattle.nomos_deeds.specs.Readers.{keeper, stands_for}
 use Rattle.nomos_deeds.specs.Seen.{seen_message, seen_process}
-use Rattle.nomos_machine.specs.Objects.{carried, message_of, object_number, process_of, times, used}
+use Rattle.nomos_machine.specs.Objects.{carried, message_of, object_at, object_number, process_of, shared_of, times, used}
 use Rattle.nomos_machine.specs.Sight.{is_offered, is_read_on, message_on, offering, owner, same_way, user_of}
 use Rattle.nomos_machine.specs.State.{State}
 use Rattle.nomos_machine.specs.declared.object.Object.{Object}
 use Rattle.nomos_machine.specs.declared.object.Object.TheVariants as object
+use Rattle.nomos_machine.specs.declared.object.Process.{Process}
 use Rattle.nomos_machine.proofs.NameLaws.{names-told}
 use Rattle.nomos_machine.proofs.PutLaws.{object_at-found}
 use Rattle.nomos_index.specs.Telling.{DoesAt}
@@ -60,13 +65,13 @@ module _ (objects : List Object) (name : ℕ) where
       → None ≡ option_map seen_message (message_on objects way name)
   message-nobody way none =
       sym (ap (λ (o : Option Object). option_map seen_message (option_and_then message_of o))
-      (find-none (doing_of way) name (is_read_on way name) (read-does way name) objects none))
+      (find-none (names_of (doing_of way)) name (is_read_on way name) (read-does way name) objects none))
 
   pub offering-nobody : times (names_of doing.Provides) objects name ≡ 0
       → None ≡ option_map seen_process (offering objects name)
   offering-nobody none =
       sym (ap (λ (o : Option Object). option_map seen_process (option_and_then process_of o))
-      (find-none doing.Provides name (is_offered name) (offers-does name) objects none))
+      (find-none (names_of doing.Provides) name (is_offered name) (offers-does name) objects none))
 
   -- ---- one object does it
 
@@ -78,7 +83,7 @@ module _ (objects : List Object) (name : ℕ) where
     message-one way one does =
         let (o, there, did) = does in
         sym (ap (λ (r : Option Object). option_map seen_message (option_and_then message_of r))
-        (find-one (doing_of way) name (is_read_on way name) (read-does way name) o objects one
+        (find-one (names_of (doing_of way)) name (is_read_on way name) (read-does way name) o objects one
         (object_at-found number o objects there).1 did))
 
     pub offering-one : times (names_of doing.Provides) objects name ≡ 1
@@ -88,21 +93,21 @@ module _ (objects : List Object) (name : ℕ) where
     offering-one one does =
         let (o, there, did) = does in
         sym (ap (λ (r : Option Object). option_map seen_process (option_and_then process_of r))
-        (find-one doing.Provides name (is_offered name) (offers-does name) o objects one
+        (find-one (names_of doing.Provides) name (is_offered name) (offers-does name) o objects one
         (object_at-found number o objects there).1 did))
 
 module _ (s : State) (name : ℕ) where
   pub owner-nobody : times (names_of doing.Uses) s.objects name ≡ 0 → None ≡ owner s name
   owner-nobody none =
       sym (ap (option_map object_number)
-      (find-none doing.Uses name (λ o. list_any (λ n. n == name) (used o)) (uses-does name) s.objects none))
+      (find-none (names_of doing.Uses) name (λ o. list_any (λ n. n == name) (used o)) (uses-does name) s.objects none))
 
   -- the one object that uses the name is the first that does
   pub user-one : (o : Object) → times (names_of doing.Uses) s.objects name ≡ 1 → Contains s.objects o
       → 1 ≤ count_of name (names_of doing.Uses o) → user_of s.objects name ≡ Some o
   user-one o one inside did =
       let test : Object → Bool = λ e. list_any (λ n. n == name) (used e) in
-      find-one doing.Uses name test (uses-does name) o s.objects one inside did
+      find-one (names_of doing.Uses) name test (uses-does name) o s.objects one inside did
       ∙ ap (λ (b : Bool). cond b (Some o) None) (told (test o) refl)
     where
       told : (b : Bool) → list_any (λ n. n == name) (used o) ≡ b → b ≡ true
@@ -114,3 +119,89 @@ module _ (s : State) (name : ℕ) where
   owner-one number one (o, there, did) =
       let (numbered, inside) = object_at-found number o s.objects there in
       sym (ap (option_map object_number) (user-one o one inside did) ∙ ap (λ (n : ℕ). Some n) numbered)
+
+-- ---- who stands for a shared name: it provides it, or has it as base
+
+-- the names that an object provides, and the one that it has as base
+abbrev kept : Object → List ℕ
+kept o = names_of doing.Provides o ++ names_of doing.Bases o
+
+count-kept : (name : ℕ) (o : Object)
+    → count_of name (kept o) ≡ count_of name (names_of doing.Provides o) + count_of name (names_of doing.Bases o)
+count-kept name o = count-append name (names_of doing.Provides o) (names_of doing.Bases o)
+
+times-kept : (name : ℕ) (objects : List Object)
+    → times kept objects name ≡ times (names_of doing.Provides) objects name + times (names_of doing.Bases) objects name
+times-kept name [] = refl
+times-kept name (o ∷ objects) =
+    omega (
+      arith,
+      sum_by-cons (λ (e : Object). count_of name (kept e)) o objects,
+      sum_by-cons (λ (e : Object). count_of name (names_of doing.Provides e)) o objects,
+      sum_by-cons (λ (e : Object). count_of name (names_of doing.Bases e)) o objects,
+      count-kept name o,
+      times-kept name objects,
+    )
+
+stands-does : (name : ℕ) (o : Object) → stands_for name o ≡ true → 1 ≤ count_of name (kept o)
+stands-does name (object.Message m) is = absurd cc
+stands-does name (object.Process p) is = by_mode p.mode is
+  where
+    Kept : Type 0
+    Kept = 1 ≤ count_of name (kept (object.Process p))
+
+    parts : count_of name (kept (object.Process p))
+        ≡ count_of name (p.offers ∷ []) + count_of name (option_to_list p.base)
+    parts = count-kept name (object.Process p)
+
+    by_mode : (m : Mode) → list_any (λ n. n == name) (shared_of m p.offers p.base) ≡ true → Kept
+    by_mode mode.S among = omega (arith, parts, (names-told (p.offers ∷ []) name).0 among)
+    by_mode mode.L among = omega (arith, parts, (names-told (option_to_list p.base) name).0 among)
+    by_mode mode.R among = absurd cc
+    by_mode mode.T among = absurd cc
+
+module _ (objects : List Object) (name : ℕ) where
+  pub keeper-nobody : times (names_of doing.Provides) objects name ≡ 0 → times (names_of doing.Bases) objects name ≡ 0
+      → None ≡ keeper objects name
+  keeper-nobody provides bases =
+      let none : times kept objects name ≡ 0 = omega (arith, times-kept name objects, provides, bases) in
+      sym (ap (λ (o : Option Object). option_map (λ p. p.pid) (option_and_then process_of o))
+      (find-none kept name (stands_for name) (stands-does name) objects none))
+
+  module _ (number : ℕ) where
+    -- the one object that keeps the name is the keeper, if it stands for it
+    kept-one : times kept objects name ≡ 1 → (o : Object) → object_at objects number ≡ Some o
+        → 1 ≤ count_of name (kept o) → cond (stands_for name o) (Some number) None ≡ keeper objects name
+    kept-one one o there did =
+        let (numbered, inside) = object_at-found number o objects there in
+        sym (ap pid (find-one kept name (stands_for name) (stands-does name) o objects one inside did)
+        ∙ by_object o numbered)
+      where
+        pid : Option Object → Option ℕ
+        pid o = option_map (λ p. p.pid) (option_and_then process_of o)
+
+        by_test : (p : Process) → p.pid ≡ number → (b : Bool)
+            → pid (cond b (Some (object.Process p)) None) ≡ cond b (Some number) None
+        by_test p numbered true = ap (λ (n : ℕ). Some n) numbered
+        by_test p numbered false = refl
+
+        by_object : (e : Object) → object_number e ≡ number
+            → pid (cond (stands_for name e) (Some e) None) ≡ cond (stands_for name e) (Some number) None
+        by_object (object.Message m) numbered = refl
+        by_object (object.Process p) numbered = by_test p numbered (stands_for name (object.Process p))
+
+    pub keeper-provides : times (names_of doing.Provides) objects name ≡ 1
+        → times (names_of doing.Bases) objects name ≡ 0
+        → (does : DoesAt (names_of doing.Provides) objects number name)
+        → cond (stands_for name does.0) (Some number) None ≡ keeper objects name
+    keeper-provides one none does =
+        let (o, there, did) = does in
+        kept-one (omega (arith, times-kept name objects, one, none)) o there (omega (arith, count-kept name o, did))
+
+    pub keeper-bases : times (names_of doing.Provides) objects name ≡ 0
+        → times (names_of doing.Bases) objects name ≡ 1
+        → (does : DoesAt (names_of doing.Bases) objects number name)
+        → cond (stands_for name does.0) (Some number) None ≡ keeper objects name
+    keeper-bases none one does =
+        let (o, there, did) = does in
+        kept-one (omega (arith, times-kept name objects, one, none)) o there (omega (arith, count-kept name o, did))

@@ -1,5 +1,5 @@
 -- Whoever uses a name uses another one instead, where tallies tell who that is.
-use Rattle.std.proofs.Common.{◌≡◌, ◌≤◌, ◌∙◌, ◌==◌, ℕ, List, [], ◌∷◌, map, Contains, Option, Some, None, refl, sym, ap, subst, arith}
+use Rattle.std.proofs.Common.{◌≡◌, ◌∙◌, ◌==◌, ℕ, List, [], ◌∷◌, map, Option, Some, sym, ap, subst, arith}
 use Rattle.std.specs.Option.{option_to_list}
 use Rattle.nomos_ir.specs.Order.{count_of}
 use Rattle.nomos_machine.specs.Change.{put_all, put_at}
@@ -33,7 +33,8 @@ module _ (old new : ℕ) (s : State) where
 
   pub nobody-redirected : times (names_of doing.Uses) s.objects old ≡ 0 → s.objects ≡ redirected old new s.objects
   nobody-redirected none =
-      sym (ap instead (find-none doing.Uses old (λ o. list_any (λ n. n == old) (used o)) (uses-does old) s.objects none))
+      sym (ap instead
+      (find-none (names_of doing.Uses) old (λ o. list_any (λ n. n == old) (used o)) (uses-does old) s.objects none))
 
   module _ (number : ℕ) (one : times (names_of doing.Uses) s.objects old ≡ 1)
       (does : DoesAt (names_of doing.Uses) s.objects number old) where

@@ -1,12 +1,13 @@
-//! Who provides or uses a name, found by tallies.
+//! Who provides or uses a name, or stands for it, found by tallies.
 ghost use Rattle.std.specs.Prelude.{◌≡◌, ◌==◌, None, true};
 ghost use Rattle.std.specs.Option.{option_map};
-ghost use Rattle.nomos_deeds.specs.Readers.{IsLinearName};
+ghost use Rattle.nomos_deeds.specs.Readers.{IsLinearName, keeper};
 ghost use Rattle.nomos_deeds.specs.Seen.{seen_message, seen_process};
 ghost use Rattle.nomos_index.specs.Telling.{DoesAt};
 ghost use Rattle.nomos_machine.specs.Objects.{times};
 ghost use Rattle.nomos_machine.specs.Sight.{message_on, offering, owner};
 ghost use Rattle.nomos_tally.specs.Tallying.{counted, names_of};
+ghost use Rattle.nomos_tally.specs.declared.tally.Doing.TheVariants as doings;
 ghost use Rattle.nomos_named.specs.Finding.{IsFoundBy, doing_of};
 
 use crate::tallied::Tallied;
@@ -31,7 +32,7 @@ fn hint_of(tally: &Tally, doing: Doing) -> Hint {
     match doing {
         Doing::Provides => tally.provider,
         Doing::Uses => tally.user,
-        Doing::Bases => tally.provider,
+        Doing::Bases => tally.holder,
     }
 }
 
@@ -47,14 +48,14 @@ fn doing_of(to_client: bool) -> Doing
 }
 
 impl Tallied {
-    // Whether the object of the hint does it; of bases it is not told.
+    // Whether the object of the hint does it.
     fn does(&self, doing: Doing, name: u32, hint: Hint) -> bool
         ensures { result ≡ true → DoesAt (names_of doing) self.now.state.objects hint.object name }
     {
         match doing {
             Doing::Provides => self.inside.provides(hint.object, name),
             Doing::Uses => self.inside.uses(hint.object, hint.variable, name),
-            Doing::Bases => false,
+            Doing::Bases => self.inside.bases(hint.object, name),
         }
     }
 
@@ -114,6 +115,42 @@ impl Tallied {
             Found::Nobody => None,
             Found::One(by) => self.inside.process_offering(by.object, name),
             Found::Unknown => self.inside.offering(name),
+        }
+    }
+
+    // The number of the process that stands for a shared name that nobody provides.
+    fn keeper_by_base(&self, shared: u32) -> Option<u32>
+        requires { times (names_of doings.Provides) self.now.state.objects shared ≡ 0 }
+        ensures { result ≡ keeper self.now.state.objects shared }
+    {
+        match self.found_by(Doing::Bases, shared) {
+            Found::Nobody => None,
+            Found::One(by) => self.inside.standing_for(by.object, shared),
+            Found::Unknown => self.inside.keeper(shared),
+        }
+    }
+
+    // The number of the process that stands for a shared name that this object alone provides.
+    fn keeper_providing(&self, shared: u32, number: u32) -> Option<u32>
+        requires once { times (names_of doings.Provides) self.now.state.objects shared ≡ 1 }
+        requires does { DoesAt (names_of doings.Provides) self.now.state.objects number shared }
+        ensures { result ≡ keeper self.now.state.objects shared }
+    {
+        match self.found_by(Doing::Bases, shared) {
+            Found::Nobody => self.inside.standing_for(number, shared),
+            _ => self.inside.keeper(shared),
+        }
+    }
+
+    /// The number of the process that stands for a shared name. Such a process provides the name or has it as base: so
+    /// where one object alone does either, it is that one or none.
+    pub(crate) fn keeper(&self, shared: u32) -> Option<u32>
+        ensures { result ≡ keeper self.now.state.objects shared }
+    {
+        match self.found_by(Doing::Provides, shared) {
+            Found::Nobody => self.keeper_by_base(shared),
+            Found::One(by) => self.keeper_providing(shared, by.object),
+            Found::Unknown => self.inside.keeper(shared),
         }
     }
 

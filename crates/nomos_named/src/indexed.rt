@@ -181,7 +181,7 @@ impl Machine for IndexedState {
     }
 
     fn keeper(&self, shared: u32) -> Option<u32> {
-        self.tallied.inside.keeper(shared)
+        self.tallied.keeper(shared)
     }
 
     fn owner(&self, accepted: &Accepted, name: u32) -> Option<u32> {

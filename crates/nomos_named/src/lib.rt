@@ -1,4 +1,4 @@
-//! An indexed state that finds who provides and who uses a name without going over its objects.
+//! An indexed state that finds who provides and uses a name, and who stands for it, without going over its objects.
 #![tactic(auto)]
 
 mod accounts;

@@ -197,43 +197,43 @@ instead-exchanges old new o once =
 
 -- ---- what is found first, where it is told by how often something is done
 
-module _ (d : Doing) (name : ℕ) (test : Object → Bool)
-    (does : (o : Object) → test o ≡ true → 1 ≤ count_of name (names_of d o)) where
+module _ (names : Object → List ℕ) (name : ℕ) (test : Object → Bool)
+    (does : (o : Object) → test o ≡ true → 1 ≤ count_of name (names o)) where
   none-first : (e : Object) (objects : List Object) (t : Bool) → test e ≡ t
-      → times (names_of d) (e ∷ objects) name ≡ 0
-      → (times (names_of d) objects name ≡ 0 → find test objects ≡ None)
+      → times names (e ∷ objects) name ≡ 0
+      → (times names objects name ≡ 0 → find test objects ≡ None)
       → cond t (Some e) (find test objects) ≡ None
   none-first e objects true passes none rest =
-      absurd (omega (arith, does e passes, sum_by-cons (λ (o : Object). count_of name (names_of d o)) e objects))
+      absurd (omega (arith, does e passes, sum_by-cons (λ (o : Object). count_of name (names o)) e objects))
   none-first e objects false passes none rest =
-      rest (omega (arith, sum_by-cons (λ (o : Object). count_of name (names_of d o)) e objects))
+      rest (omega (arith, sum_by-cons (λ (o : Object). count_of name (names o)) e objects))
 
   -- where it is done no time, none passes
-  pub find-none : (objects : List Object) → times (names_of d) objects name ≡ 0 → find test objects ≡ None
+  pub find-none : (objects : List Object) → times names objects name ≡ 0 → find test objects ≡ None
   find-none [] none = refl
   find-none (e ∷ objects) none = none-first e objects (test e) refl none (find-none objects)
 
   -- where it is done once, and this object does it, this one is found or none
-  pub find-one : (o : Object) (objects : List Object) → times (names_of d) objects name ≡ 1 → Contains objects o
-      → 1 ≤ count_of name (names_of d o) → find test objects ≡ cond (test o) (Some o) None
+  pub find-one : (o : Object) (objects : List Object) → times names objects name ≡ 1 → Contains objects o
+      → 1 ≤ count_of name (names o) → find test objects ≡ cond (test o) (Some o) None
   find-one o [] one there it = absurd (omega (arith, there.1))
   find-one o (e ∷ objects) one there it =
-      let sum = sum_by-cons (λ (q : Object). count_of name (names_of d q)) e objects in
+      let sum = sum_by-cons (λ (q : Object). count_of name (names q)) e objects in
       elim (Contains-append_cases (e ∷ []) objects o there) [
         | inl first ↦
             let same : e ≡ o = contains-one e o first in
-            let own : count_of name (names_of d e) ≡ count_of name (names_of d o) =
-            ap (λ (q : Object). count_of name (names_of d q)) same in
+            let own : count_of name (names e) ≡ count_of name (names o) =
+            ap (λ (q : Object). count_of name (names q)) same in
             let rest = find-none objects (omega arith) in
             ap (λ (r : Option Object). cond (test e) (Some e) r) rest
             ∙ ap (λ (q : Object). cond (test q) (Some q) None) same
         | inr further ↦
-            let mine = times-one (names_of d) name objects o further in
+            let mine = times-one names name objects o further in
             let not : test e ≡ false = fails e (omega arith) (test e) refl in
             ap (λ (b : Bool). cond b (Some e) (find test objects)) not
             ∙ find-one o objects (omega arith) further it
       ]
     where
-      fails : (q : Object) → count_of name (names_of d q) ≡ 0 → (t : Bool) → test q ≡ t → t ≡ false
+      fails : (q : Object) → count_of name (names q) ≡ 0 → (t : Bool) → test q ≡ t → t ≡ false
       fails q none true passes = absurd (omega (arith, does q passes))
       fails q none false passes = refl

@@ -1,9 +1,8 @@
 -- What becomes of tallies where one thing is done after another.
-use Rattle.std.proofs.Common.{◌≡◌, ◌∙◌, ℕ, ◌+◌, true, false, List, refl, arith}
+use Rattle.std.proofs.Common.{◌≡◌, ◌∙◌, ℕ, ◌+◌, false, List, refl, arith}
 use Rattle.nomos_ir.specs.Order.{count_of}
 use Rattle.nomos_slots.specs.Numbers.{numbers}
 use Rattle.nomos_tally.specs.Moving.{Moves}
-use Rattle.nomos_tally.specs.Tallying.{tallied}
 use Rattle.nomos_tally.specs.declared.tallies.Tallies.{Tallies}
 use Rattle.nomos_tally.specs.declared.tally.Doing.{Doing}
 use Rattle.nomos_tally.proofs.TallyLemmas.{suspects-both}

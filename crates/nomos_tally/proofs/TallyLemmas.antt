@@ -1,5 +1,5 @@
 -- What tallies say where one of them becomes another.
-use Rattle.std.proofs.Common.{◌≡◌, ◌≢◌, ◌∙◌, ℕ, ◌+◌, List, [], ◌∷◌, ◌++◌, ◌<◌, All, Contains, Bool, false, ◌≤◌, Some, None, refl, sym, ap, arith, inl, inr, ne_eqb, subst}
+use Rattle.std.proofs.Common.{◌≡◌, ◌≢◌, ◌∙◌, ℕ, ◌+◌, List, [], ◌∷◌, ◌++◌, ◌<◌, All, Contains, false, ◌≤◌, Some, None, refl, sym, ap, arith, inl, inr, ne_eqb, subst}
 use Rattle.std.proofs.lemmas.Bool.{cases_eq}
 use Rattle.std.proofs.lemmas.List.Elements.{All-cons, All-head, All-nil, All-tail}
 use Rattle.std.specs.List.{slice_get}

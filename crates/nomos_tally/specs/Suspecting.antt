@@ -1,5 +1,5 @@
 -- Names that maybe no object mentions any more, beside tallies.
-use Rattle.std.specs.Prelude.{◌≡◌, ◌++◌, ℕ, Bool, true, false, List, [], ◌∷◌, Contains}
+use Rattle.std.specs.Prelude.{◌≡◌, ◌++◌, ℕ, Bool, false, List, [], ◌∷◌, Contains}
 use Rattle.nomos_slots.specs.declared.numbered.Slot.{Slot}
 use Rattle.nomos_tally.specs.Tallying.{tallied}
 use Rattle.nomos_tally.specs.declared.tally.Doing.{Doing}

@@ -21,8 +21,8 @@ pub struct Hint {
     pub variable: u32,
 }
 
-/// How often objects do each with a name, and who was the last that came to provide it and to use it. Nothing is
-/// promised of who that was.
+/// How often objects do each with a name, and who was the last that came to provide it, to use it and to have it as
+/// base. Nothing is promised of who that was.
 #[derive(Clone, Copy, Debug)]
 pub struct Tally {
     pub provided: u32,
@@ -30,6 +30,7 @@ pub struct Tally {
     pub based: u32,
     pub provider: Hint,
     pub user: Hint,
+    pub holder: Hint,
 }
 
 impl Tally {
@@ -47,6 +48,7 @@ impl Tally {
             based: 0,
             provider: nobody,
             user: nobody,
+            holder: nobody,
         }
     }
 
@@ -91,7 +93,11 @@ impl Tally {
             }
             Doing::Bases => {
                 let based = self.based.checked_add(1)?;
-                Some(Tally { based, ..self })
+                Some(Tally {
+                    based,
+                    holder: by,
+                    ..self
+                })
             }
         }
     }

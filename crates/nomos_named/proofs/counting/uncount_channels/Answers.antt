@@ -1,9 +1,6 @@
-use Rattle.std.proofs.Common.{◌≡◌, ◌∙◌, ◌≤◌, ◌<◌, ◌+◌, ◌-◌, ℕ, IsSome, Option, Some, None, refl, sym, subst, arith}
+use Rattle.std.proofs.Common.{◌≡◌, ◌∙◌, ◌+◌, ◌-◌, ℕ, Option, refl, sym, subst, arith}
 use Rattle.std.specs.List.Sorted.{IsStrictlySortedBy}
 use Rattle.std.specs.Ordering.{nat_cmp}
-use Rattle.nomos_ir.specs.Bindings.{bound_to}
-use Rattle.nomos_machine.specs.State.{process_at}
-use Rattle.nomos_machine.specs.declared.object.Process.{Process}
 use Rattle.nomos_tally.specs.Moving.{Moves}
 use Rattle.nomos_tally.specs.Tallying.{nothing}
 use Rattle.nomos_tally.proofs.MoveLaws.{moves-still}

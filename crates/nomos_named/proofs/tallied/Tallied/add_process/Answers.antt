@@ -1,11 +1,10 @@
-use Rattle.std.proofs.Common.{◌≡◌, ◌∙◌, Some, refl, sym, ap, subst, arith}
+use Rattle.std.proofs.Common.{◌≡◌, ◌∙◌, refl, sym, ap, subst, arith}
 use Rattle.std.specs.List.Sorted.{IsStrictlySortedBy}
 use Rattle.std.specs.Ordering.{nat_cmp}
 use Rattle.nomos_index.specs.Indexed.{Indexed}
 use Rattle.nomos_machine.specs.State.{State, process_at}
 use Rattle.nomos_machine.specs.declared.object.Object.TheVariants as object
 use Rattle.nomos_parts.specs.SmallChanges.{process_born}
-use Rattle.nomos_tally.specs.Moving.{Moves}
 use Rattle.nomos_tally.specs.Tallying.{channels_used, names_of, nothing}
 use Rattle.nomos_tally.proofs.MoveLaws.{moves-both}
 use Rattle.nomos_named.specs.Counting.{fields_seen}

@@ -1,11 +1,10 @@
-use Rattle.std.proofs.Common.{◌≡◌, ◌∙◌, List, map, sym, ap, subst}
+use Rattle.std.proofs.Common.{◌∙◌, map, sym, ap, subst}
 use Rattle.nomos_index.specs.Indexed.{Indexed}
 use Rattle.nomos_index.specs.Redirected.{redirected_at}
 use Rattle.nomos_index.specs.Telling.{DoesAt}
 use Rattle.nomos_machine.specs.Objects.{times}
 use Rattle.nomos_machine.specs.Revised.{renamed}
 use Rattle.nomos_machine.specs.State.{State}
-use Rattle.nomos_machine.specs.declared.object.Object.{Object}
 use Rattle.nomos_tally.specs.Tallying.{names_of}
 use Rattle.nomos_tally.specs.declared.tally.Doing.TheVariants as doing
 use Rattle.nomos_named.proofs.KeepLemmas.{marked-kept}

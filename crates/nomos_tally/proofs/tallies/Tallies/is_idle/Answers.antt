@@ -1,4 +1,4 @@
-use Rattle.std.proofs.Common.{◌≡◌, ◌∙◌, ℕ, Option, ap, sym}
+use Rattle.std.proofs.Common.{◌∙◌, ap, sym}
 use Rattle.nomos_tally.specs.Tallying.{counted_in}
 use Rattle.nomos_tally.proofs.tallies.Tallies.is_idle.Goals as goal
 

@@ -4,7 +4,7 @@ use Rattle.nomos_slots.specs.Numbers.{numbers}
 use Rattle.nomos_slots.specs.declared.numbered.Slot.{Slot}
 use Rattle.nomos_slots.proofs.NumberLaws.{numbers-put_at}
 use Rattle.nomos_tally.specs.Suspecting.{KeepsSuspects}
-use Rattle.nomos_tally.specs.Tallying.{nothing, only, tallied}
+use Rattle.nomos_tally.specs.Tallying.{only, tallied}
 use Rattle.nomos_tally.specs.declared.tally.Doing.{Doing}
 use Rattle.nomos_tally.specs.declared.tally.Tally.{Tally}
 use Rattle.nomos_tally.proofs.TallyLemmas.{less-counted, less-suspects}

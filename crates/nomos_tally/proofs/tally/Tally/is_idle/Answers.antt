@@ -1,4 +1,4 @@
-use Rattle.std.proofs.Common.{◌≡◌, ◌∙◌, ℕ, sym, arith, nat_eq, true, eqb-true, eq-eqb}
+use Rattle.std.proofs.Common.{◌≡◌, ◌∙◌, sym, arith, nat_eq, true, eqb-true, eq-eqb}
 use Rattle.nomos_tally.specs.Tallying.{counted}
 use Rattle.nomos_tally.specs.declared.tally.Doing.{Doing}
 use Rattle.nomos_tally.specs.declared.tally.Doing.TheVariants as doing
