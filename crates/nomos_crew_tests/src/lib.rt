@@ -8,6 +8,8 @@ mod gates;
 #[cfg(test)]
 mod script_tests;
 #[cfg(test)]
+mod shop_tests;
+#[cfg(test)]
 mod telling;
 #[cfg(test)]
 mod worlds;
