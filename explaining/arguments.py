@@ -25,6 +25,13 @@ def counted(count, what):
     return f"{count or 'no'} {what}{'s' if count > 1 else ''}"
 
 
+def taken(wanted, given, what):
+    """Gives in words how many arguments these parameters take, and how many stand there."""
+    rows = "".join(f", `{it.name}: {it.type}`" for it in wanted)
+    stands = "stand" if given > 1 else "stands"
+    return f"it takes {counted(len(wanted), what)}{rows}; here {stands} {counted(given, what)}"
+
+
 class Arguments:
     """The arguments of a line, and the parameters of its process."""
 
@@ -61,9 +68,7 @@ class Arguments:
         lines = []
         for given, wanted, what in pairs:
             if len(given) != len(wanted):
-                rows = "".join(f", `{it.name}: {it.type}`" for it in wanted)
-                takes = f"it takes {counted(len(wanted), what)}{rows}"
-                lines.append(f"see: {takes}; here stands {counted(len(given), what)}")
+                lines.append(f"see: {taken(wanted, len(given), what)}")
         if not lines:
             return None
         return self.line.process.at, "BadArguments count", [f"see: {self.declared()}", *lines]

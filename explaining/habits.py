@@ -1,8 +1,14 @@
 """Slips of those who write other languages, or who have not met yet how a thing is written in this one."""
 from typing import NamedTuple
 
+from .texts import joined
+
 KINDS = ("int", "bool", "list")
+# The kinds of values by the names that other languages have for them.
+ELSEWHERE = dict.fromkeys(("integer", "number", "nat", "uint", "uint256", "i32", "i64", "u64", "long"), "int")
+ELSEWHERE.update(dict.fromkeys(("boolean", "Boolean"), "bool"))
 HEADS = ("type", "fn", "proc")
+LOOPS = ("while", "for", "loop", "repeat", "foreach")
 # The instructions that are written with a channel behind them.
 WORDS = ("send", "recv", "put", "take", "wait", "pay", "get", "fwd", "acquire", "release")
 
@@ -19,7 +25,8 @@ class Habits:
     """What is found of the tokens around an offence, by the class that is made of this one."""
 
     def of_habits(self):
-        for way in (self.of_order, self.of_terms, self.of_kinds, self.of_calls, self.of_braces):
+        ways = (self.of_order, self.of_returns, self.of_terms, self.of_cases, self.of_kinds, self.of_calls)
+        for way in (*ways, self.of_loops, self.of_braces):
             yield from way()
 
     def of_order(self):
@@ -38,9 +45,74 @@ class Habits:
         if is_value and before.text in (";", ",") and self.wanted <= {"NAME", ")"}:
             yield from self.of_sides()
 
+    def of_returns(self):
+        """Slips with a `return`, which no word of the language is."""
+        mark, before = self.marked, self.token(-1)
+        if before.text != "return":
+            return
+        if self.wanted == {"."}:
+            end = next((it for it in self.tokens[self.index :] if it.text in (";", "}", "|")), mark)
+            term = self.text.text[mark.at : end.at].strip()
+            word = "emit" if self.tokens[1].text == "T" else "put self"
+            mend = f"write `{word} {term}; close` in place of `return {term}`"
+            yield Slip("Syntax instruction", mend, (before.at, end.at, f"{word} {term}; close"))
+        else:
+            yield Slip("Syntax", "take `return` out, since a term gives its value by itself", (before.at, mark.at, ""))
+
+    def of_loops(self):
+        """Slips with a loop, which is taken out with all that stands in its braces."""
+        before = self.token(-1)
+        if self.wanted == {"."} and before.text in LOOPS:
+            opening = next((at for at, it in enumerate(self.tokens) if at >= self.index and it.text == "{"), self.index)
+            last = self.closing(opening - self.index, "{", "}")
+            behind = next((it for it in self.tokens if it.at >= last.end), last)
+            yield Slip("Syntax loop", "", (before.at, behind.end if behind.text == ";" else last.end, ""))
+
+    def of_cases(self):
+        """Slips between `case`, which is on a channel, and `match`, which is on a list."""
+        mark, before, word = self.marked, self.token(-1), self.token(-3)
+        on_self = mark.text == "self" and before.text == "match"
+        on_label = self.wanted == {"nil"} and word.text == "match" and self.is_label(mark.text)
+        if on_self or on_label:
+            token = before if on_self else word
+            yield Slip("Syntax match", "write `case` in place of `match`", (token.at, token.end, "case"))
+        if mark.text == "nil" and before.text == "{" and word.text == "case":
+            yield Slip("Syntax match", "write `match` in place of `case`", (word.at, word.end, "match"))
+        if mark.text == "[" and self.token(1).text == "]" and self.wanted == {"nil"}:
+            yield Slip("Syntax match", "write `nil` in place of `[]`", (mark.at, self.token(1).end, "nil"))
+
+    def of_question(self):
+        """A choice between two terms that is written with `?` and `:`."""
+        start = next((at + 1 for at in range(self.index - 1, 0, -1) if self.begins_term(at)), 1)
+        colon = self.apart(self.index, (":",))
+        end = self.apart(colon + 1, (";", ")", ",", "}", "|", "{"))
+        parts = ((start, self.index), (self.index + 1, colon), (colon + 1, end))
+        texts = [joined(self.tokens[one:other]) for one, other in parts if one < other]
+        if len(texts) == 3:
+            new = "if {} then {} else {}".format(*texts)
+            yield Slip("Syntax else", f"write `{new}`", (self.tokens[start].at, self.tokens[end - 1].end, new))
+
+    def begins_term(self, at):
+        """Whether a term begins behind a token."""
+        text, words = self.tokens[at].text, [it.text for it in self.tokens[max(at - 2, 0) : at]]
+        is_equal = text == "=" and (words[:1] == ["let"] or "=" not in [it.text for it in self.tokens[:at]])
+        return is_equal or text in ("(", ",", "then", "else", "=>", "emit", ";", "{") or words[-1:] == ["put"]
+
+    def apart(self, start, signs):
+        """Gives the number of the next token with one of these texts that is in no brackets, or how many there are."""
+        depth = 0
+        for at in range(start, len(self.tokens)):
+            text = self.tokens[at].text
+            if depth == 0 and text in signs:
+                return at
+            depth += (text in ("(", "{")) - (text in (")", "}"))
+        return len(self.tokens)
+
     def of_terms(self):
         """Slips where a term is wanted, or goes on."""
         mark, before, behind = self.marked, self.token(-1), self.token(1)
+        if mark.text == "?":
+            yield from self.of_question()
         if mark.text == "[" and self.wants("term"):
             yield from self.of_list()
         if mark.text in ("\"", "'"):
@@ -78,9 +150,35 @@ class Habits:
             is_term = self.tokens[0].text == "fn"
             what = "`: int`, or another kind of values," if is_term else "`:` and the type that is offered"
             yield Slip("Syntax", f"write {what} before this `=`", (mark.at, mark.at, ": int " if is_term else ": 1 "))
+        if self.wants("vtype") and mark.text in ELSEWHERE:
+            mend = f"write `{ELSEWHERE[mark.text]}` in place of `{mark.text}`"
+            yield Slip("Syntax spelling", mend, (mark.at, mark.end, ELSEWHERE[mark.text]))
+        if self.wants("vtype") and self.tokens[0].text == "proc" and self.is_declared(mark.text, "type"):
+            yield from self.of_parameters()
+        if self.wanted == {":"} and before.kind == "word" and self.tokens[0].text in ("fn", "proc"):
+            is_value = self.tokens[0].text == "fn" or ";" not in [it.text for it in self.tokens[: self.index]]
+            kind, what = (": int", "another kind of values") if is_value else (": 1", "another type")
+            mend = f"write `{kind}`, or {what}, behind `{before.text}`"
+            yield Slip("Syntax", mend, (before.end, before.end, kind))
+        if mark.text == ";" and self.token(-2).text in ("put", "take", "send", "recv") and before.text != "self":
+            word = self.token(-2).text
+            mend = f"write the channel between `{word}` and `{before.text}`, as in `{word} self {before.text}`"
+            yield Slip("Syntax", mend, (before.at, before.at, "self "))
+        if mark.text == ";" and "=" in self.wanted and self.tokens[0].text in HEADS:
+            body = {"type": "1", "fn": "0", "proc": "close"}[self.tokens[0].text]
+            yield Slip("Syntax body", "", (mark.at, mark.at, f" = {body}"))
         if mark.text in ("|", "}") and self.wanted == {":"} and before.kind == "word":
             mend = f"write `: 1`, or how else the talk goes on, behind `{before.text}`"
             yield Slip("Syntax label", mend, (before.end, before.end, " : 1"))
+
+    def of_parameters(self):
+        """Channels among the parameters that stand before the `;`."""
+        opening = next((at for at in range(self.index, -1, -1) if self.tokens[at].text == "("), 0)
+        start, end = self.tokens[opening], self.closing(opening - self.index, "(", ")")
+        values = self.text.text[start.end : self.token(-2).at].strip(" ,\t\r\n")
+        channels = self.text.text[self.token(-2).at : end.at].rstrip(" ;\t\r\n").replace(";", ",")
+        new = f"({values}; {channels})"
+        yield Slip("Syntax", f"write `{new}`, since channels stand behind the `;`", (start.at, end.end, new))
 
     def of_calls(self):
         """Slips in which something is written like a call."""
@@ -91,6 +189,10 @@ class Habits:
         if mark.text == "(" and before.text in WORDS:
             inside = self.text.text[mark.end : end.at].replace(",", " ")
             yield Slip("Syntax", "take the parentheses and the commas out", (mark.at, end.end, f" {inside} "))
+        if before.text == "close" and mark.text not in HEADS and (mark.kind == "word" or mark.text == "("):
+            last = end if mark.text == "(" else mark
+            said = self.text.text[mark.at : last.end]
+            yield Slip("Syntax", f"take `{said}` out, since `close` stands alone", (mark.at, last.end, ""))
         if before.text == "." and mark.text == "wait":
             name = self.token(-2)
             end = self.token(2).end if (behind.text, self.token(2).text) == ("(", ")") else mark.end
@@ -146,6 +248,8 @@ class Habits:
         mark, before, behind = self.marked, self.token(-1), self.token(1)
         if self.wanted == {"."} and before.kind == "word":
             row = "Syntax instruction"
+            if mark.text == "(" and self.is_declared(before.text, "proc") and self.is_last():
+                yield Slip(row, f"write `call` before `{before.text}`", (before.at, before.at, "call "))
             if mark.text == "(" and self.is_declared(before.text, "proc"):
                 mend = f"write `spawn .. =` before `{before.text}`, with a new name for its channel"
                 yield Slip(row, mend, (before.at, before.at, "spawn x = "))
@@ -156,6 +260,13 @@ class Habits:
                 word = self.binder(1)
                 mend = f"write `{word}` before `{before.text}`, and a new name where `{before.text}` is bound already"
                 yield Slip(row, mend, (before.at, before.at, f"{word} "))
+            if mark.kind == "word" and self.is_label(before.text):
+                new = f"{mark.text}.{before.text}"
+                yield Slip(row, f"write `{new}` in place of `{before.text} {mark.text}`", (before.at, mark.end, new))
+            if mark.text in ("+", "-", "*", "/") and behind.text == "=":
+                new = f"let .. = {before.text} {mark.text}"
+                mend = f"write `{new}` in place of `{before.text} {mark.text}=`, with a new name for the value"
+                yield Slip(row, mend, (before.at, behind.end, new.replace("..", "x")))
             if mark.kind == "word" and behind.text == "=":
                 word = self.binder(2)
                 yield Slip(row, f"write `{word}` in place of `{before.text}`", (before.at, before.end, word))
@@ -165,6 +276,12 @@ class Habits:
         if mark.text in KINDS and behind.kind == "word" and self.token(2).text == "=":
             word = self.binder(3)
             yield Slip("Syntax instruction", f"write `{word}` in place of `{mark.text}`", (mark.at, mark.end, word))
+
+    def is_last(self):
+        """Whether what stands in the parentheses at the offence is the end of a code."""
+        end = self.closing(0, "(", ")")
+        behind = [it.text for it in self.tokens if it.at > end.at][:2]
+        return behind[:1] in (["|"], ["}"]) or behind[:1] == [";"] and (behind[1:] == [] or behind[1] in HEADS)
 
     def binder(self, step):
         """Gives the word that binds a name to what begins at a token: a process or a value."""
@@ -186,7 +303,7 @@ class Habits:
     def is_declared(self, name, word):
         """Whether a declaration that begins with this word has a name."""
         tokens = self.text.tokens
-        heads = (at + (2 if word == "proc" else 1) for at, it in enumerate(tokens) if it.text == word)
+        heads = (at + (1 if word == "fn" else 2) for at, it in enumerate(tokens) if it.text == word)
         return any(at < len(tokens) and tokens[at].text == name for at in heads)
 
     def is_label(self, name):

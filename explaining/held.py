@@ -181,9 +181,8 @@ def turned(types, name, it, stuck, has_mend):
     return [*lines, f"see: `{name}` goes on by {listed(talk)}"]
 
 
-def now(text, answer, grammar, has_mend=False):
-    """Gives lines on what `self` is at and what is held where an instruction is stuck, or what its channel is at, and
-    where there is no mend how that goes on."""
+def reached(text, answer, grammar):
+    """Gives the types of a text, the instruction that is stuck, and what is held there."""
     types = Types(text, grammar)
     index = text.index_at(answer.offset)
     process = [it for it in types.processes.values() if it.at < index][-1]
@@ -191,6 +190,13 @@ def now(text, answer, grammar, has_mend=False):
     held = types.start(process)
     for step, label in steps:
         types.behind(held, step, label)
+    return types, stuck, held
+
+
+def now(types, stuck, held, has_mend=False):
+    """Gives lines on what `self` is at and what is held where an instruction is stuck, or what its channel is at, and
+    where there is no mend how that goes on."""
+    text, index = types.text, stuck.at
     if stuck.form in TURNING:
         name = text.tokens[index if stuck.form == "label" else index + 1].text
         return turned(types, name, held[name], stuck, has_mend) if name in held else []

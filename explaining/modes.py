@@ -2,6 +2,10 @@
 HEADS = ("type", "fn", "proc")
 
 
+def words(text, at, count):
+    return [it.text for it in text.tokens[at : at + count]]
+
+
 def tries(text, at):
     """Gives edits, each with what it is in words."""
     token = text.tokens[at]
@@ -18,6 +22,11 @@ def tries(text, at):
         for letter in "RSLT":
             if letter != mode.text:
                 yield (mode.at, mode.end, letter), f"write `{letter}` {behind}"
+        offered = next((it for it in range(head, len(text.tokens)) if words(text, it, 3) == [":", "1", "="]), None)
+        equal = next((it for it in range(head, len(text.tokens)) if text.tokens[it].text == "="), None)
+        if text.tokens[head].text == "proc" and mode.text != "T" and offered and offered + 2 == equal:
+            new = f"T{text.text[mode.end : text.tokens[offered].at].rstrip()}"
+            yield (mode.at, text.tokens[offered + 1].end, new), f"write `T` {behind}, and take `: 1` out"
 
 
 def explained(text, answer, program):

@@ -1,5 +1,6 @@
 """What is wrong with a name that breaks a rule of "Names" in docs/LANGUAGE.md."""
 from .syntax import nearest
+from .texts import joined
 
 # What a leaf NAME of the grammar is, by its rule and by which NAME of that rule it is.
 DECLARED = {
@@ -96,7 +97,16 @@ class Names:
         """Gives the token that declares or binds the name of this one, and does not count here, with as what."""
         found = [it for it in self.places(self.tokens[at].text) if it[1] != "label"]
         near = [it for it in found if it[0] < at and self.leads(it[0], at)]
-        return near[-1] if near else found[0] if found else None
+        far = [it for it in found if it[1] in (*SPACES, self.used(at))]
+        return near[-1] if near else far[0] if far else None
+
+    def offering(self, name):
+        """Gives the processes that offer a definition."""
+        for at, it in enumerate(self.tokens):
+            if it.text == ":" and [token.text for token in self.tokens[at + 1 : at + 3]] == [name, "="]:
+                heads = [before for before in range(at) if self.tokens[before].text in ("type", "fn", "proc")]
+                if self.tokens[heads[-1]].text == "proc":
+                    yield self.tokens[heads[-1] + 2].text
 
     def near(self, at):
         """Gives the names that are used like this one's, and spelt nearly so, the nearest first."""
@@ -112,6 +122,45 @@ def unused(text):
     """Gives a name that does not stand in a text."""
     taken = {it.text for it in text.tokens}
     return next(it for it in (f"n{number}" for number in range(len(taken) + 1)) if it not in taken)
+
+
+def others(names, at, other):
+    """Gives edits for a name that is something else than is wanted, each with what it is in words: a process that
+    offers this definition, the two names of an instruction the other way round, and what is written for a channel or a
+    list where this is written for a value."""
+    tokens, token = names.tokens, names.tokens[at]
+    words = [it.text for it in tokens[max(at - 3, 0) : at + 2]] if at > 2 else []
+    if other == "definition" and names.used(at) == "process":
+        for name in names.offering(token.text):
+            yield (token.at, token.end, name), f"write `{name}`, which offers it, in place of `{token.text}`"
+    if words[2:3] and words[2] in ("take", "recv", "send") and names.used(at) == "channel":
+        pair = f"{words[4]} {token.text}"
+        mend = f"write `{words[2]} {pair}` in place of `{words[2]} {token.text} {words[4]}`"
+        yield (token.at, tokens[at + 1].end, pair), mend
+    if other == "channel" and (words[0:1], words[2:3], words[4:5]) == (["let"], ["="], [";"]):
+        new = f"take {token.text} {words[1]}"
+        yield (tokens[at - 3].at, token.end, new), f"write `{new}` in place of `let {words[1]} = {token.text}`"
+    around = [it.text for it in tokens[at - 1 : at + 3]]
+    if other == "channel" and (around[:1], around[2:]) == (["("], [";", ")"]):
+        new = f"(; {token.text})"
+        yield (tokens[at - 1].at, tokens[at + 2].end, new), f"write `{new}` in place of `({token.text};)`"
+    if other == "list" and words[2:3] == ["::"] and words[4:5] == [";"]:
+        start = next(before for before in range(at, 0, -1) if tokens[before].text == "=") + 1
+        term = joined(tokens[start : at - 1])
+        mend = f"write `list {term}, {token.text}` in place of `{term} :: {token.text}`"
+        yield (tokens[start].at, token.end, f"list {term}, {token.text}"), mend
+
+
+def mended(names, at, other, program):
+    """Gives lines for such edits, three at most, of which the check goes on past each."""
+    found = []
+    for edit, mend in others(names, at, other):
+        after = program.check(names.text.edited(edit))
+        is_stuck = after.is_cause("Name") or after.is_cause("ProcType")
+        is_behind = is_stuck and after.offset >= edit[0] + len(edit[2])
+        if after.is_accepted or after.is_cause("NoPotential") or is_behind:
+            found.append(f"mend: {mend}")
+    return found[:3]
 
 
 def explained(text, answer, program, grammar):
@@ -136,6 +185,9 @@ def explained(text, answer, program, grammar):
     wanted, other = names.used(at), names.known_otherwise(at)
     if wanted is None:
         return "Name", []
+    mends = mended(names, at, other and other[1], program)
+    if mends:
+        return ("Name other" if other else "Name unknown"), mends
     if other:
         place, kind = text.place(text.tokens[other[0]].at), other[1]
         if kind == wanted:

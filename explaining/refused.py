@@ -91,10 +91,22 @@ class Line:
             yield Slip(edit, f"write `{behind.text} {mark.text}` in place of `{mark.text} {behind.text}`")
         if self.wanted == {"NAME"} and mark.text == ".":
             yield Slip((mark.at, mark.end, " "), "write a blank in place of `.`")
+        if before.text == "deposit" and mark.kind == "number" and self.tokens[-1].kind == "word":
+            new = f"{self.tokens[-1].text} {mark.text}"
+            yield Slip((mark.at, self.row.end, new), f"write `deposit {new}`")
+        if self.wanted == {"new"} and mark.text == "exec":
+            said = self.script.text[self.row.at : mark.at].strip()
+            yield Slip((self.row.at, mark.at, ""), f"take `{said}` out, since results stand in the report alone")
+        if not self.count and behind.kind == "word" and mark.text in self.accounts():
+            yield Slip((mark.at, mark.at, "exec "), f"write `exec` before `{mark.text}`")
         if not self.count and mark.text == "new":
             yield Slip((mark.at, mark.at, "let x = "), "write `let .. =` before `new`, with a name for the contract")
         if self.wanted == {"new"} and behind.text == "(":
             yield Slip((mark.at, mark.at, "new x "), f"write `new ..` before `{mark.text}`, with the account that pays")
+
+    def accounts(self):
+        """Gives the names that the lines of the script deposit to."""
+        return {it.tokens[1].text for it in self.script.rows if it.word == "deposit" and len(it.tokens) > 1}
 
     def is_part(self):
         """Whether a number that is not whole stands here."""
@@ -105,6 +117,14 @@ class Line:
         mark, before = self.marked, self.at(-1)
         if self.wanted == {"NAME"} and mark.text == "(":
             yield Slip((before.at, before.at, "x "), f"write the account that pays before `{before.text}`")
+        if self.wanted == {"("} and mark.kind:
+            yield self.of_parentheses()
+        labels = [it for it, sign in zip(self.tokens, self.tokens[1:]) if it.kind == "word" and sign.text in "=:"]
+        labels = [it for it in labels if it.at > before.at and self.script.text[self.row.at : it.at].count("(") == 1]
+        if labels:
+            text, first = self.script.text[labels[0].at : self.row.end], labels[0]
+            new = re.sub(r"[A-Za-z_]\w*[ \t]*[=:]", "", text)
+            yield Slip((first.at, self.row.end, new), "write the arguments alone, in the order of the parameters")
         texts = [it.text for it in self.tokens]
         if texts.count("(") == 1 and texts[-1] == ")" and mark.text != ")":
             opening, closing = self.tokens[texts.index("(")], self.tokens[-1]
@@ -114,6 +134,14 @@ class Line:
             values = ", ".join(it for it in parts if it not in names)
             edit = (opening.end, closing.at, f"{values}; {', '.join(names)}")
             yield Slip(edit, "write the values before the `;`, and the names of contracts behind it")
+
+    def of_parentheses(self):
+        """Arguments without parentheses."""
+        rest = [it for it in self.tokens[self.count :] if it.text not in ",;"]
+        names = [it.text for it in rest if it.kind == "word" and it.text not in ("true", "false")]
+        values = [it.text for it in rest if it.text not in names]
+        new = f"({', '.join(values)}; {', '.join(names)})"
+        return Slip((self.at(-1).end, self.row.end, new), f"write `{self.at(-1).text}{new}`")
 
     def of_signs(self):
         """Each token that may stand, put in before the marked one, and a sign in place of another one."""

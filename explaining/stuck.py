@@ -3,19 +3,25 @@ import itertools
 from typing import NamedTuple
 
 from .amounts import closing
-from .held import now
+from .held import now, reached
+from .kinds import miscounted, other_parts
 from .names import Names, unused
+from .passing import passed
 from .syntax import distance
+from .texts import LONGEST, joined
 
-# How often the program is asked at most, how many instructions are put before a stuck one, and how long a
-# text is for which all that is done.
+# How often the program is asked at most, and how many instructions are put before a stuck one.
 ASKED = 200
 DEEP = 3
-LONGEST = 65_536
+# The modes that a process of each mode may spawn.
+SPAWNED = {"R": "R", "S": "RS", "L": "RS", "T": "RS"}
 # The leaves as which a channel is passed on or ended: by send, wait and release, and as an argument.
 ENDING = (("step", 1), ("step", 4), ("step", 7), ("args", 0), ("args", 1))
 # What the other side of a channel does at the same type.
 DUAL = {"put": "take", "take": "put", "send": "recv", "recv": "send", "pay": "get", "get": "pay"}
+# The instructions that may change places with the one behind them, and those that have terms.
+ORDERED = ("label", "send", "recv", "put", "take", "pay", "get", "wait", "acquire", "release", "accept", "detach")
+TERMS = ("put", "spawn", "let", "add", "emit", "if", "call")
 TAKEN_OUT = ("label", "put", "take", "recv", "pay", "get", "wait", "accept", "detach", "work")
 
 
@@ -110,10 +116,11 @@ class Stuck:
                         further.append((channel, edit, f"{said}{words} "))
             waiting = further
 
-    def end(self):
-        """Gives where the stuck instruction ends, if it is one that others follow: before its ;"""
+    def end(self, index=None):
+        """Gives where the stuck instruction, or the one at a token, ends, if it is one that others follow: before its
+        ;"""
         depth = 0
-        for it in self.tokens[self.index :]:
+        for it in self.tokens[self.index if index is None else index :]:
             if it.text == ";" and depth == 0:
                 return it.at
             depth += (it.text in "({") - (it.text in ")}")
@@ -125,11 +132,15 @@ class Stuck:
             return closing(self.tokens, self.index + 2) + 1
         if self.form == "fwd":
             return self.index + 2
+        if self.form == "if":
+            rest = range(self.index, len(self.tokens))
+            return next(at for at in rest if self.tokens[at].text == "{" and self.names.leaves[at].rule == "last")
         return self.text.index_at(self.end() or self.tokens[self.index].end)
 
     def others(self):
         """Gives what may stand in the place of the stuck instruction."""
         token = self.tokens[self.index]
+        yield from self.swapped()
         if self.form == "label":
             label = self.tokens[self.index + 2]
             for it in self.labels():
@@ -145,6 +156,16 @@ class Stuck:
         if self.form == "close" and self.tokens[self.index - 1].text != "=":
             call = self.call_again()
             yield Try((token.at, token.end, call), f"write `{call}` in place of `close`")
+
+    def swapped(self):
+        """Gives the stuck instruction and the one behind it the other way round."""
+        end = self.text.index_at(self.end()) if self.form in ORDERED else len(self.tokens)
+        behind = self.end(end + 1)
+        if behind is not None:
+            this, other = (joined(self.tokens[at:to]) for at, to in (
+                (self.index, end), (end + 1, self.text.index_at(behind)),
+            ))
+            yield Try((self.at, behind, f"{other}; {this}"), f"let it and `{other}` behind it change places")
 
     def dual(self):
         """Gives what the other side would do, in place of the stuck instruction."""
@@ -203,7 +224,15 @@ class Stuck:
             found = [*itertools.islice(self.instructions(), 3), *found]
         found = found or list(self.taken_out())
         furthest = max((reached for reached, _ in found), default=0)
-        return list(dict.fromkeys(it.mend for reached, it in found if reached == furthest))[:3]
+        return list(dict.fromkeys(it.mend for reached, it in found if reached == furthest))[:3] or self.parts()
+
+    def parts(self):
+        """Gives the parts of the terms of the stuck instruction of which another kind lets the check go on past it."""
+        def goes_on(edit):
+            reached = self.reach(Try(edit, ""))
+            return reached is not None and reached > self.at
+
+        return other_parts(self.names, self.index, self.behind(), goes_on) if self.form in TERMS else []
 
     def declaration(self):
         """Gives the place and the head of the process that a spawn or a call names."""
@@ -216,8 +245,10 @@ class Stuck:
                 end = next(it.at for it in self.tokens[place:] if it.text == "=")
                 head = " ".join(self.text.text[start:end].split())
                 see = f"see: `{name}` is declared at {self.text.place(self.tokens[place].at)}, as {head[:200]}"
-                is_other = self.form == "call" and modes[0] != modes[1]
                 why = "see: a process goes on as one of its own mode alone: `{}` is called in one of mode `{}`"
+                if self.form == "spawn":
+                    why = "see: a process may not spawn one of this mode: `{}` is spawned in one of mode `{}`"
+                is_other = modes[0] != modes[1] if self.form == "call" else modes[1] not in SPAWNED[modes[0]]
                 return [see, *([why.format(" ".join((modes[1], name)), modes[0])] if is_other else [])]
         return []
 
@@ -238,7 +269,6 @@ class Stuck:
                 lines.append(f"see: `{name}` was {how} at {self.text.place(self.tokens[uses[-1]].at)}")
         return list(dict.fromkeys(lines))
 
-
     def is_ending(self, at):
         return self.names.key(at) in ENDING
 
@@ -250,5 +280,10 @@ def explained(text, answer, program, grammar):
         return []
     stuck = Stuck(text, answer, program, names)
     lines = [f"mend: {it}" for it in stuck.find()]
+    types, step, held = reached(text, answer, grammar)
     declared = stuck.declaration() if stuck.form in ("spawn", "call") else []
-    return [*(lines or stuck.given_away()), *declared, *now(text, answer, grammar, bool(lines))]
+    if declared and not lines:
+        declared += passed(types, step, held, program)
+    if not lines and stuck.form in TERMS:
+        declared += miscounted(names, stuck.index, stuck.behind())
+    return [*(lines or stuck.given_away()), *declared, *now(types, step, held, bool(lines))]

@@ -246,7 +246,7 @@ def explained(text, answer, program, grammar):
         row = next((name for name, wanted in SURE if slips.wanted and wanted(slips.wanted)), row)
     if slip:
         row = slip.row
-        lines += [f"mend: {slip.mend}"] if slip.mend else []
+        lines += [f"mend: {' '.join(slip.mend.split())}"] if slip.mend else []
     words = grammar.said(slips.wanted)
     if words:
         lines.append(f"here may stand: {', '.join(words)}")

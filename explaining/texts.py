@@ -4,6 +4,8 @@ from typing import NamedTuple
 
 LIMIT = 1_048_576
 WIDTH = 110
+# How long a text is at most that is tried many times on the program.
+LONGEST = 65_536
 
 TOKEN = re.compile(
     r"(?P<word>[A-Za-z_][A-Za-z_0-9]*)|(?P<number>[0-9]+)|(?P<blank>[ \t\r\n]+|//[^\n]*)"
