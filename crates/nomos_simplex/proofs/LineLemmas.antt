@@ -5,10 +5,12 @@ use Rattle.std.proofs.lemmas.List.Elements.{All-append, All-take, All-drop}
 use Rattle.std.proofs.lemmas.Int.{ints}
 use Rattle.std.proofs.lemmas.List.{length-map, get_or-map}
 use Rattle.std.proofs.Math.IntN.{zero-*ℤ, *ℤ-zero, +ℤ_assoc}
-use Rattle.nomos_simplex.specs.Tables.{sum_at}
+use Rattle.nomos_forms.specs.declared.row_list.RowList.{RowList}
+use Rattle.nomos_simplex.specs.Tables.{bound_of, sum_at}
 use Rattle.nomos_simplex.specs.Divisors.{common, in_lowest_terms}
 use Rattle.nomos_simplex.specs.Exchange.{coef_at, eliminated, put_into}
 use Rattle.nomos_simplex.specs.declared.table.Line.{Line}
+use Rattle.nomos_simplex.specs.mirror.Keeping.{sum_of, over_by, over_of}
 use Rattle.nomos_simplex.proofs.DivisorLemmas.{lowest_times}
 
 pub eliminated_more : (p g : ℤ) (as' cs : List ℤ) (k : ℕ) → k < length as' → k < length cs →
@@ -89,6 +91,31 @@ sum_at_more y (v ∷ vs) (c ∷ cs) zero h i = one_only (c *ℤ y v)
 sum_at_more y (v ∷ vs) (c ∷ cs) (suc k) h i = rw add-one (ap (λ z. c *ℤ y v +ℤ z) (rw add-one at (sum_at_more y vs cs
     k (omega arith) (omega arith))) ∙ sym (+ℤ_assoc (c *ℤ y v) (sum_at y (take k vs) (take k cs)) (get_or cs k
     (pos 0) *ℤ y (get_or vs k 0))))
+
+pub sum_of_more : (bs cs : List ℤ) (k : ℕ) → k < length bs → k < length cs →
+    sum_of (take (k + 1) bs) (take (k + 1) cs) ≡ sum_of (take k bs) (take k cs) +ℤ get_or cs k (pos 0) *ℤ get_or bs k
+    (pos 0)
+sum_of_more [] cs k h i = absurd (omega arith)
+sum_of_more (b ∷ bs) [] k h i = absurd (omega arith)
+sum_of_more (b ∷ bs) (c ∷ cs) zero h i = one_only (c *ℤ b)
+  where
+    one_only : (z : ℤ) → z +ℤ pos 0 ≡ pos 0 +ℤ z
+    one_only z = omega (arith, ints)
+sum_of_more (b ∷ bs) (c ∷ cs) (suc k) h i = rw add-one (ap (λ z. c *ℤ b +ℤ z) (rw add-one at (sum_of_more bs cs k
+    (omega arith) (omega arith))) ∙ sym (+ℤ_assoc (c *ℤ b) (sum_of (take k bs) (take k cs)) (get_or cs k (pos 0) *ℤ
+    get_or bs k (pos 0))))
+
+-- the sum by the bounds of variables
+pub sum_of_bounds : (y : ℕ → ℤ) (vs : List ℕ) (cs : List ℤ) → sum_of (map y vs) cs ≡ sum_at y vs cs
+sum_of_bounds y [] cs = refl
+sum_of_bounds y (v ∷ vs) [] = refl
+sum_of_bounds y (v ∷ vs) (c ∷ cs) = ap (λ z. c *ℤ y v +ℤ z) (sum_of_bounds y vs cs)
+
+pub over_by_bounds : (rows : RowList) (nonbasic : List ℕ) (bounds : List ℤ) (line : Line) →
+    bounds ≡ map (bound_of rows) nonbasic → over_by rows bounds line ≡ over_of rows nonbasic line
+over_by_bounds rows nonbasic bounds line e =
+    ap (λ bs. over_by rows bs line) e
+    ∙ ap (λ z. z -ℤ line.times *ℤ bound_of rows line.basic) (sum_of_bounds (bound_of rows) nonbasic line.coefs)
 
 pub All-remove : {X : Type 0} (P : X → Type 0) (xs : List X) (i : ℕ) → All P xs → All P (remove xs i)
 All-remove P xs i h = All-append P (take i xs) (drop (suc i) xs) (All-take P i xs h) (All-drop P (suc i) xs h)

@@ -4,10 +4,10 @@ ghost use Rattle.std.specs.List.{list_any};
 ghost use Rattle.nomos_simplex.specs.Exchange.{coef_at, exchanged, is_large as is_large_number, is_large_line};
 ghost use Rattle.nomos_simplex.specs.declared.table.Line.{Line};
 ghost use Rattle.nomos_simplex.specs.Sizes.{HasNumbers, IsLine, IsLowest};
-ghost use Rattle.nomos_simplex.specs.mirror.Keeping.{over_of as over_at, Shows, IsEntry, entered, solved_line, IsMade, AreMade, IsKeptOrLarge};
+ghost use Rattle.nomos_simplex.specs.mirror.Keeping.{over_of as over_at, Shows, IsEntry, HasBounds, entered, solved_line, IsMade, AreMade, IsKeptOrLarge};
 ghost use Rattle.nomos_simplex.specs.mirror.Opposite.{oriented_of};
 
-use crate::bounds::over_of;
+use crate::bounds::{bounds_of, over_of};
 use crate::keeping::Kept;
 use crate::lines::{enter, opposite_line, solved};
 use crate::table::{Line, Table};
@@ -16,13 +16,14 @@ use nomos_ir::items::Items;
 use std::alloc::{AllocError, Global};
 
 /// What an exchange does to a line: a variable enters, whose column it is, by the line that is left, where its
-/// coefficient is over 0. The nonbasic variables are those after the exchange.
+/// coefficient is over 0. The nonbasic variables are those after the exchange, and the bounds are theirs.
 #[derive(Drop)]
 pub(crate) struct Entry {
     pub(crate) column: usize,
     pub(crate) entering: usize,
     pub(crate) left: Line,
     pub(crate) nonbasic: Vec<usize>,
+    pub(crate) bounds: Vec<i64>,
 }
 
 /// Puts the entering variable into a line, whose own variable was so far over its bound, and says how far it then is,
@@ -35,6 +36,7 @@ fn enter_kept(
     over: i128,
 ) -> Result<Option<i128>, AllocError>
     requires entry { IsEntry entry.now }
+    requires bounds { HasBounds rows.now entry.now }
     requires line { IsLine (length entry.now.left.coefs) line.old }
     requires lowest { IsLowest line.old }
     requires over { coef_at entry.now.column line.old ≡ pos 0 →
@@ -48,7 +50,7 @@ fn enter_kept(
     if has_large_number(line) {
         return Ok(None);
     }
-    Ok(Some(over_of(rows, &entry.nonbasic, line)))
+    Ok(Some(over_of(rows, &entry.bounds, line)))
 }
 
 /// Puts the entering variable into lines, and says whether a number is then too large.
@@ -60,6 +62,7 @@ fn enter_all(
     over: &mut [i128],
 ) -> Result<bool, AllocError>
     requires entry { IsEntry entry.now }
+    requires bounds { HasBounds rows.now entry.now }
     requires lines { All (IsLine (length entry.now.left.coefs)) lines.old }
     requires lowest { All IsLowest lines.old }
     requires width { length over.old ≡ length lines.old }
@@ -99,6 +102,7 @@ fn exchange_lines(
     over: &mut Vec<i128>,
 ) -> Result<bool, AllocError>
     requires entry { IsEntry entry.now }
+    requires bounds { HasBounds rows.now entry.now }
     requires lines { All (IsLine (length entry.now.left.coefs)) lines.old.items }
     requires lowest { All IsLowest lines.old.items }
     requires width { length over.old.items ≡ length lines.old.items }
@@ -117,7 +121,7 @@ fn exchange_lines(
     if has_large_number(&line) {
         return Ok(true);
     }
-    over.push(over_of(rows, &entry.nonbasic, &line))?;
+    over.push(over_of(rows, &entry.bounds, &line))?;
     lines.push(line)?;
     Ok(false)
 }
@@ -151,11 +155,13 @@ pub(crate) fn exchange(
     let _over = over.remove(place);
     let entering = nonbasic[column];
     nonbasic[column] = left.basic;
+    let bounds = bounds_of(alloc, rows, &nonbasic)?;
     let entry = Entry {
         column,
         entering,
         left,
         nonbasic,
+        bounds,
     };
     let large = exchange_lines(alloc, rows, &entry, &mut lines, &mut over)?;
     if large {

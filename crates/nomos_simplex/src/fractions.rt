@@ -1,13 +1,16 @@
 //! What the stars are where the run ends, as amounts over one unit.
-ghost use Rattle.std.specs.Prelude.{◌≡◌, ◌+◌, ◌*◌, ◌/◌, ◌<◌, ◌≤◌, ◌^◌, ◌==◌, nat_le, nat_lt, length, map, All, Some, None, IfOk, if◌then◌else◌, option_copied, find};
+ghost use Rattle.std.specs.Prelude.{◌≡◌, ℕ, List, ◌+◌, ◌*◌, ◌/◌, ◌<◌, ◌≤◌, ◌^◌, ◌==◌, nat_le, nat_lt, length, map, All, Some, None, IfOk, if◌then◌else◌, option_copied, find};
 ghost use Rattle.std.specs.List.{list_all, range_with_len};
 ghost use Rattle.std.specs.Int.{◌∣◌};
+ghost use Rattle.nomos_forms.specs.Bounds.{IsSmall};
+ghost use Rattle.nomos_forms.specs.declared.row_list.RowList.{RowList};
 ghost use Rattle.nomos_simplex.specs.Divisors.{lcm};
 ghost use Rattle.nomos_simplex.specs.Exits as exits;
 ghost use Rattle.nomos_simplex.specs.Exits.{IsFraction};
 ghost use Rattle.nomos_simplex.specs.Sizes.{IsLine};
+ghost use Rattle.nomos_simplex.specs.Tables.{bound_of};
 
-use crate::bounds::sum_at_bounds;
+use crate::bounds::{bounds_of, sum_at_bounds};
 use crate::divisors::greatest_divisor;
 use crate::solved::{Solved, Stop};
 use crate::table::{Line, Table};
@@ -26,16 +29,18 @@ pub fn line_of(lines: &[Line], variable: usize) -> Option<&Line>
     lines.iter().find(|line| line.basic == variable)
 }
 
-/// What a star is.
-fn fraction(rows: &RowList, nonbasic: &[usize], lines: &[Line], star: usize) -> Fraction
-    requires few { length nonbasic.now ≤ 64 }
-    requires lines { All (IsLine (length nonbasic.now)) lines.now }
-    ensures value { result ≡ exits.fraction_in rows.now nonbasic.now (find (λ line. line.basic == star) lines.now) }
+/// What a star is, by the bounds of the nonbasic variables.
+fn fraction(bounds: &[i64], lines: &[Line], star: usize) -> Fraction
+    requires few { length bounds.now ≤ 64 }
+    requires bounds { All IsSmall bounds.now }
+    requires lines { All (IsLine (length bounds.now)) lines.now }
+    ensures value { (rows : RowList) (nonbasic : List ℕ) → bounds.now ≡ map (bound_of rows) nonbasic →
+        result ≡ exits.fraction_in rows nonbasic (find (λ line. line.basic == star) lines.now) }
     ensures size { IsFraction result }
 {
     match line_of(lines, star) {
         Some(line) => {
-            let sum = sum_at_bounds(rows, nonbasic, line.coefs.as_slice());
+            let sum = sum_at_bounds(bounds, line.coefs.as_slice());
             (sum.unsigned_abs(), line.times.unsigned_abs())
         }
         None => (0, 1),
@@ -49,16 +54,11 @@ fn fractions(alloc: Global, rows: &RowList, table: &Table) -> Result<Vec<Fractio
     ensures value { IfOk result (λ v. v.items ≡ exits.fractions rows.now table.now) }
     ensures size { IfOk result (λ v. All IsFraction v.items) }
 {
+    let bounds = bounds_of(alloc, rows, table.nonbasic.as_slice())?;
     let mut list = Vec::new(alloc);
     for before in 0..rows.stars {
         let star = usize::from(before) + 1;
-        let next = fraction(
-            rows,
-            table.nonbasic.as_slice(),
-            table.lines.as_slice(),
-            star,
-        );
-        list.push(next)?;
+        list.push(fraction(&bounds, table.lines.as_slice(), star))?;
     }
     Ok(list)
 }

@@ -4,7 +4,7 @@ ghost use Rattle.nomos_simplex.specs.Sizes.{IsTable};
 ghost use Rattle.nomos_simplex.specs.mirror.Keeping as keeping;
 ghost use Rattle.nomos_simplex.specs.mirror.Keeping.{Shows};
 
-use crate::bounds::over_of;
+use crate::bounds::{bounds_of, over_of};
 use crate::solved::Solved;
 use crate::table::Table;
 use nomos_forms::row_list::RowList;
@@ -31,10 +31,10 @@ fn overs(alloc: Global, rows: &RowList, table: &Table) -> Result<Vec<i128>, Allo
     requires { IsTable rows.now table.now }
     ensures { IfOk result (λ v. v.items ≡ map (keeping.over_of rows.now table.now.nonbasic) table.now.lines) }
 {
-    let nonbasic = table.nonbasic.as_slice();
+    let bounds = bounds_of(alloc, rows, table.nonbasic.as_slice())?;
     let mut list = Vec::with_capacity(alloc, table.lines.len())?;
     for line in table.lines.as_slice() {
-        list.push(over_of(rows, nonbasic, line))?;
+        list.push(over_of(rows, &bounds, line))?;
     }
     Ok(list)
 }

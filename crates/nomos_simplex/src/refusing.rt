@@ -5,7 +5,7 @@ ghost use Rattle.nomos_simplex.specs.Exits.{with_weight, weights_below};
 ghost use Rattle.nomos_simplex.specs.Sizes.{IsNumber, IsLine, IsVariable};
 ghost use Rattle.nomos_simplex.specs.Tables.{bound_of, sum_at};
 
-use crate::bounds::over_of;
+use crate::bounds::{bounds_of, over_of};
 use crate::table::{Line, Table};
 use nomos_forms::row::Row;
 use nomos_forms::row_list::RowList;
@@ -113,14 +113,19 @@ pub fn resolved(
 }
 
 /// How far the variable of a line is from its bound, times the number before it.
-fn missing(rows: &RowList, nonbasic: &[usize], line: &Line) -> u128
+fn missing(
+    alloc: Global,
+    rows: &RowList,
+    nonbasic: &[usize],
+    line: &Line,
+) -> Result<u128, AllocError>
     requires few { length nonbasic.now ≤ 64 }
     requires line { IsLine (length nonbasic.now) line.now }
-    ensures value { result ≡ unsigned_abs (line.now.times *ℤ bound_of rows.now line.now.basic
-        -ℤ sum_at (bound_of rows.now) nonbasic.now line.now.coefs) }
-    ensures size { result ≤ 2 ^ 114 }
+    ensures { IfOk result (λ size. size ≡ unsigned_abs (line.now.times *ℤ bound_of rows.now line.now.basic
+        -ℤ sum_at (bound_of rows.now) nonbasic.now line.now.coefs)) }
 {
-    over_of(rows, nonbasic, line).unsigned_abs()
+    let bounds = bounds_of(alloc, rows, nonbasic)?;
+    Ok(over_of(rows, &bounds, line).unsigned_abs())
 }
 
 /// The verdict of a line whose variable is below its bound, and that has no coefficient over 0.
@@ -142,6 +147,6 @@ pub fn verdict(
     let list = resolved(alloc, rows, &weights)?;
     Ok(Verdict {
         weights: Items::of_vec(list),
-        gives: missing(rows, nonbasic, line),
+        gives: missing(alloc, rows, nonbasic, line)?,
     })
 }

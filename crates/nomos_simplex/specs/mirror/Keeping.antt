@@ -1,7 +1,8 @@
 -- A mirror of the code: what is kept beside a table, so that its lines are not added up anew at each turn. No promise
 -- stands on it.
-use Rattle.std.specs.Prelude.{◌≡◌, ◌<◌, ◌≤◌, Bool, true, false, ℕ, ℤ, pos, ◌<ℤ◌, ◌*ℤ◌, ◌-ℤ◌, List, length, map, Option, Some, None}
+use Rattle.std.specs.Prelude.{◌≡◌, ◌<◌, ◌≤◌, Bool, true, false, ℕ, ℤ, pos, ◌<ℤ◌, ◌+ℤ◌, ◌*ℤ◌, ◌-ℤ◌, List, [], ◌∷◌, length, map, All, Option, Some, None}
 use Rattle.std.specs.List.{list_any}
+use Rattle.nomos_forms.specs.Bounds.{IsSmall}
 use Rattle.nomos_forms.specs.declared.row_list.RowList.{RowList}
 use Rattle.nomos_simplex.specs.Divisors.{in_lowest_terms}
 use Rattle.nomos_simplex.specs.Exchange.{coef_at, put_into, solved_for, is_large_line, is_large_table}
@@ -20,6 +21,16 @@ use Rattle.nomos_simplex.specs.declared.turn.Turn.TheVariants.{Ends, Goes}
 abbrev pub over_of : RowList → List ℕ → Line → ℤ
 over_of rows nonbasic line = sum_at (bound_of rows) nonbasic line.coefs -ℤ line.times *ℤ bound_of rows line.basic
 
+-- the sum of coefficients times bounds
+abbrev pub sum_of : List ℤ → List ℤ → ℤ
+sum_of [] cs = pos 0
+sum_of (b ∷ bs) [] = pos 0
+sum_of (b ∷ bs) (c ∷ cs) = c *ℤ b +ℤ sum_of bs cs
+
+-- the same by the bounds of the nonbasic variables
+abbrev pub over_by : RowList → List ℤ → Line → ℤ
+over_by rows bounds line = sum_of bounds line.coefs -ℤ line.times *ℤ bound_of rows line.basic
+
 -- what is kept shows its table: of each line how far its variable is over its bound
 abbrev pub Shows : RowList → Kept → Type 0
 Shows rows kept = kept.over ≡ map (over_of rows kept.table.nonbasic) kept.table.lines
@@ -32,6 +43,11 @@ pub record IsEntry (entry : Entry) : Type 0 where
   pub over_zero : pos 0 <ℤ coef_at entry.column entry.left
   pub width : length entry.nonbasic.items ≡ length entry.left.coefs
   pub few : length entry.nonbasic.items ≤ 64
+
+-- what is kept of an exchange are the bounds of the nonbasic variables after it
+pub record HasBounds (rows : RowList) (entry : Entry) : Type 0 where
+  pub value : entry.bounds.items ≡ map (bound_of rows) entry.nonbasic.items
+  pub small : All IsSmall entry.bounds.items
 
 -- a line with the entering variable put in
 abbrev pub entered : Entry → Line → Line

@@ -88,6 +88,7 @@ returns-then-large c = λ left h.
       entering = e;
       left = c.in_ok-left.left;
       nonbasic = with_item c.into_vec-nonbasic.result j c.in_ok-left.left.basic;
+      bounds = c.in_ok-bounds.bounds;
     } in
     let at : own ≡ get_or table.lines c.args.place own =
     c.remove.ensures.value ∙ ap (λ ls. get_or ls c.args.place own) c.into_vec-lines.ensures in
@@ -122,6 +123,7 @@ returns c = λ left h.
       entering = e;
       left = c.in_ok-left.left;
       nonbasic = with_item c.into_vec-nonbasic.result j c.in_ok-left.left.basic;
+      bounds = c.in_ok-bounds.bounds;
     } in
     let at : own ≡ get_or table.lines c.args.place own =
     c.remove.ensures.value ∙ ap (λ ls. get_or ls c.args.place own) c.into_vec-lines.ensures in

@@ -5,8 +5,10 @@ use Rattle.std.proofs.lemmas.List.{length-map}
 use Rattle.nomos_simplex.specs.Exchange.{is_large_line}
 use Rattle.nomos_simplex.specs.Sizes.{IsLine}
 use Rattle.nomos_simplex.specs.declared.table.Line.{Line}
+use Rattle.nomos_simplex.specs.Tables.{bound_of}
 use Rattle.nomos_simplex.specs.mirror.Keeping.{over_of, entered, solved_line, AreMade}
 use Rattle.nomos_simplex.proofs.KeepingLemmas.{solved_is_line, written, map_behind, none_behind}
+use Rattle.nomos_simplex.proofs.LineLemmas.{over_by_bounds}
 use Rattle.nomos_simplex.proofs.NumberLemmas.{wide_back}
 use Rattle.nomos_simplex.proofs.exchanging.exchange_lines.Goals as goal
 
@@ -17,7 +19,8 @@ over_of-requires-clause-line c =
     let small : is_large_line (solved_line entry) ≡ false =
     ap is_large_line (sym is) ∙ sym c.has_large_number.ensures ∙ c.if-has_large_number.false in
     let width : length entry.left.coefs ≡ length c.deref.result.now =
-    sym c.requires.entry.width ∙ ap length (sym c.deref.ensures.value) in
+    sym c.requires.entry.width ∙ sym (length-map entry.nonbasic.items (bound_of c.args.rows.now))
+    ∙ ap length (sym c.requires.bounds.value ∙ sym c.deref.ensures.value) in
     subst (λ n. IsLine n c.in_ok-line.line) width
     (subst (IsLine (length entry.left.coefs)) (sym is) (solved_is_line entry c.requires.entry small))
 
@@ -42,7 +45,8 @@ returns c =
     ap is_large_line (sym is) ∙ sym c.has_large_number.ensures ∙ c.if-has_large_number.false in
     let value : to_z w128 (of_z w128 c.over_of.result) ≡ f (solved_line entry) =
     wide_back c.over_of.result (omega (arith, c.over_of.ensures.size)) ∙ c.over_of.ensures.value
-    ∙ (λ p. over_of rows (c.deref.ensures.value p) (is p)) in (
+    ∙ over_by_bounds rows entry.nonbasic.items c.deref.result.now c.in_ok-line.line (c.deref.ensures.value
+    ∙ c.requires.bounds.value) ∙ ap f is in (
       c.in_ok-push-2.ensures.items
           ∙ (λ p. (written c.args.lines.now.len c.enter_all.new.lines
           (drop (length c.enter_all.new.lines) c.args.lines.now.items) count_lines ∙ lines) p ++ is p ∷ []),

@@ -11,8 +11,10 @@ pub loop-before-preserved : goal.loop-before-preserved
 loop-before-preserved c =
     let rows = c.args.rows.now in
     let before = c.loop-before.before in
-    let next = c.fraction-next in
-    let value = next.ensures.value ∙ (λ p. fraction_in rows (c.as_slice.ensures p) (find (λ (line : Line). line.basic
+    let next = c.fraction in
+    let bounds = c.deref.ensures.value ∙ c.in_ok-bounds.ensures.value in
+    let value = next.ensures.value rows c.as_slice.result.now bounds
+    ∙ (λ p. fraction_in rows (c.as_slice.ensures p) (find (λ (line : Line). line.basic
     == (c.from-star.ensures p + 1)) (c.as_slice-in-loop-before.ensures p))) in
     record {
       value = c.in_ok-push.ensures.items ∙ (λ p. c.loop-before.invariant.value p ++ value p ∷ [])
