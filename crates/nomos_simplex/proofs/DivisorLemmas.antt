@@ -53,6 +53,13 @@ common_more g [] k h = absurd (omega arith)
 common_more g (c ∷ cs) zero h = refl
 common_more g (c ∷ cs) (suc k) h = rw add-one (rw add-one at (common_more (gcd g (unsigned_abs c)) cs k (omega arith)))
 
+-- once it is 1 it stays so
+pub common_from_one : (g : ℕ) (cs : List ℤ) (k : ℕ) → common g (take k cs) ≡ 1 → common g cs ≡ 1
+common_from_one g [] zero e = e
+common_from_one g [] (suc k) e = e
+common_from_one g (c ∷ cs) zero e = ap (λ h. common h (c ∷ cs)) e ∙ common_one (c ∷ cs)
+common_from_one g (c ∷ cs) (suc k) e = common_from_one (gcd g (unsigned_abs c)) cs k e
+
 pub common_divides_first : (g : ℕ) (cs : List ℤ) → common g cs ∣ g
 common_divides_first g [] = dvd_refl g
 common_divides_first g (c ∷ cs) = dvd_trans (common (gcd g (unsigned_abs c)) cs) (common_divides_first (gcd g

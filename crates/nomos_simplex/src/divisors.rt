@@ -1,12 +1,17 @@
 //! Greatest common divisors, and lowest terms.
-ghost use Rattle.std.specs.Prelude.{◌≡◌, pos, ◌<ℤ◌, int_div, map};
+ghost use Rattle.std.specs.Prelude.{◌≡◌, ◌<◌, ◌%◌, ◌↔◌, IsTrue, pos, ◌<ℤ◌, int_div, map};
 ghost use Rattle.nomos_simplex.specs.Divisors.{gcd, common, divided_by, in_lowest_terms};
+ghost use Rattle.nomos_simplex.specs.Sizes.{IsNumber};
 
+use crate::exchanging::LARGE;
 use crate::table::Line;
 use nomos_ir::items::Items;
 
-/// The greatest common divisor of two numbers.
-pub fn greatest_divisor(a: u128, b: u128) -> u128
+/// The greatest number of 64 bits: where numbers are no greater, the processor divides them itself.
+const NARROW: u128 = u64::MAX as u128;
+
+/// The greatest common divisor of two numbers of 64 bits.
+fn narrow_divisor(a: u64, b: u64) -> u64
     ensures { result ≡ gcd a b }
 {
     let mut greater = a;
@@ -19,16 +24,52 @@ pub fn greatest_divisor(a: u128, b: u128) -> u128
     greater
 }
 
+/// What is left of a number by one of 64 bits.
+fn remainder(number: u128, by: u64) -> u64
+    requires { 0 < by }
+    ensures { result ≡ number % by }
+{
+    if number <= NARROW {
+        number as u64 % by
+    } else {
+        (number % u128::from(by)) as u64
+    }
+}
+
+/// The greatest common divisor of a number and one of 64 bits.
+fn mixed_divisor(a: u128, b: u64) -> u128
+    ensures { result ≡ gcd a b }
+{
+    if b == 0 {
+        return a;
+    }
+    u128::from(narrow_divisor(b, remainder(a, b)))
+}
+
+/// The greatest common divisor of two numbers.
+pub fn greatest_divisor(a: u128, b: u128) -> u128
+    ensures { result ≡ gcd a b }
+{
+    let mut greater = a;
+    let mut less = b;
+    while less > NARROW {
+        let rest = greater % less;
+        greater = less;
+        less = rest;
+    }
+    mixed_divisor(greater, less as u64)
+}
+
 /// The greatest common divisor of a number and of others.
 fn common_divisor(first: u128, others: &[i128]) -> u128
     ensures { result ≡ common first others.now }
 {
     let mut divisor = first;
     for other in others {
-        let size = other.unsigned_abs();
-        if divisor != 1 {
-            divisor = greatest_divisor(divisor, size);
+        if divisor == 1 {
+            return 1;
         }
+        divisor = greatest_divisor(divisor, other.unsigned_abs());
     }
     divisor
 }
@@ -45,11 +86,21 @@ pub fn lowest_terms(line: Line) -> Line
     divided(line, divisor as i128)
 }
 
+/// Whether a number is so small that the processor divides it itself.
+fn is_narrow(number: i128) -> bool
+    ensures { IsTrue result ↔ IsNumber number }
+{
+    number.unsigned_abs() < LARGE
+}
+
 /// A quotient, rounded toward 0.
 fn quotient(number: i128, by: i128) -> i128
     requires { pos 0 <ℤ by }
     ensures { result ≡ int_div number by }
 {
+    if is_narrow(number) && is_narrow(by) {
+        return i128::from(number as i64 / by as i64);
+    }
     number / by
 }
 
