@@ -13,14 +13,32 @@ use Rattle.nomos_simplex.specs.declared.table.Line.{Line}
 use Rattle.nomos_simplex.specs.mirror.Keeping.{sum_of, over_by, over_of}
 use Rattle.nomos_simplex.proofs.DivisorLemmas.{lowest_times}
 
-pub eliminated_more : (p g : ℤ) (as' cs : List ℤ) (k : ℕ) → k < length as' → k < length cs →
-    eliminated p g (take (k + 1) as') (take (k + 1) cs) ≡ eliminated p g (take k as') (take k cs) ++ (p *ℤ get_or as'
-    k (pos 0) -ℤ g *ℤ get_or cs k (pos 0)) ∷ []
-eliminated_more p g [] cs k h i = absurd (omega arith)
-eliminated_more p g (a ∷ as') [] k h i = absurd (omega arith)
-eliminated_more p g (a ∷ as') (c ∷ cs) zero h i = refl
-eliminated_more p g (a ∷ as') (c ∷ cs) (suc k) h i = rw add-one (ap (λ xs. (p *ℤ a -ℤ g *ℤ c) ∷ xs) (rw add-one at
-    (eliminated_more p g as' cs k (omega arith) (omega arith))))
+-- in place: the first columns are made, those behind are as they were
+pub made_at : (p g : ℤ) (as' cs : List ℤ) (k : ℕ) (d : ℤ) → k < length as' → length as' ≡ length cs →
+    get_or (eliminated p g (take k as') (take k cs) ++ drop k as') k d ≡ get_or as' k d
+made_at p g [] cs k d h w = absurd (omega arith)
+made_at p g (a ∷ as') [] k d h w = absurd (omega arith)
+made_at p g (a ∷ as') (c ∷ cs) zero d h w = refl
+made_at p g (a ∷ as') (c ∷ cs) (suc k) d h w = made_at p g as' cs k d (omega arith) (omega arith)
+
+pub made_more : (p g : ℤ) (as' cs : List ℤ) (k : ℕ) → k < length as' → length as' ≡ length cs →
+    set (eliminated p g (take k as') (take k cs) ++ drop k as') k (p *ℤ get_or as' k (pos 0) -ℤ g *ℤ get_or cs k
+    (pos 0)) ≡ eliminated p g (take (k + 1) as') (take (k + 1) cs) ++ drop (k + 1) as'
+made_more p g [] cs k h w = absurd (omega arith)
+made_more p g (a ∷ as') [] k h w = absurd (omega arith)
+made_more p g (a ∷ as') (c ∷ cs) zero h w = refl
+made_more p g (a ∷ as') (c ∷ cs) (suc k) h w = rw add-one (ap (λ xs. (p *ℤ a -ℤ g *ℤ c) ∷ xs) (rw add-one at
+    (made_more p g as' cs k (omega arith) (omega arith))))
+
+pub made_all : (p g : ℤ) (as' cs : List ℤ) (k : ℕ) → length as' ≤ k → length as' ≡ length cs →
+    eliminated p g (take k as') (take k cs) ++ drop k as' ≡ eliminated p g as' cs
+made_all p g [] [] zero h w = refl
+made_all p g [] [] (suc k) h w = refl
+made_all p g [] (c ∷ cs) k h w = absurd (omega arith)
+made_all p g (a ∷ as') cs zero h w = absurd (omega arith)
+made_all p g (a ∷ as') [] (suc k) h w = absurd (omega arith)
+made_all p g (a ∷ as') (c ∷ cs) (suc k) h w =
+    ap (λ xs. (p *ℤ a -ℤ g *ℤ c) ∷ xs) (made_all p g as' cs k (omega arith) (omega arith))
 
 pub length-eliminated : (p g : ℤ) (as' cs : List ℤ) → length as' ≡ length cs → length (eliminated p g as' cs) ≡ length
     as'

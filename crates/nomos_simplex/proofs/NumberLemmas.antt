@@ -1,6 +1,6 @@
 -- Numbers of a table in the code's width.
-use Rattle.std.proofs.Common.{◌≡◌, ◌+◌, ◌-◌, ◌<◌, ◌≤◌, ◌^◌, arith, ℤ, ◌*ℤ◌, ◌+ℤ◌, unsigned_abs, FitsSigned, to_z, of_z}
-use Rattle.std.specs.Int.{w128}
+use Rattle.std.proofs.Common.{◌≡◌, ◌+◌, ◌-◌, ◌<◌, ◌≤◌, ◌^◌, arith, ℤ, ◌*ℤ◌, ◌+ℤ◌, unsigned_abs, FitsSigned, to_z, of_z, ◌∙◌}
+use Rattle.std.specs.Int.{w64, w128}
 use Rattle.std.proofs.lemmas.Int.{ints, to_z-of_z, fits_signed_from_abs, unsigned_abs-mul}
 use Rattle.std.proofs.Math.Nat.{mul-le-mul}
 use Rattle.nomos_forms.specs.Bounds.{IsSmall}
@@ -14,6 +14,11 @@ wide_back z h = to_z-of_z w128 z (wide_fits z h)
 
 pub number_back : (z : ℤ) → IsNumber z → to_z w128 (of_z w128 z) ≡ z
 number_back z h = wide_back z (omega (arith, h))
+
+-- by way of 64 bits
+pub narrow_back : (z : ℤ) → IsNumber z → to_z w64 (of_z w64 (to_z w128 (of_z w128 z))) ≡ z
+narrow_back z h = (λ p. to_z w64 (of_z w64 (number_back z h p))) ∙ to_z-of_z w64 z (fits_signed_from_abs w64 z (omega
+    (arith, h)))
 
 pub product_size : (a b : ℤ) → IsNumber a → IsNumber b → unsigned_abs (a *ℤ b) < 2 ^ 124
 product_size a b h i = rw unsigned_abs-mul (omega (arith, mul-le-mul (below a h) (below b i)))

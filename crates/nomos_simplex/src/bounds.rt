@@ -44,7 +44,7 @@ pub fn add_bounded(sum: i128, number: i128, bound: i64) -> i128
     ensures value { result ≡ sum +ℤ number *ℤ bound }
     ensures size { unsigned_abs result ≤ unsigned_abs sum + 2 ^ 107 }
 {
-    sum + number * i128::from(bound)
+    sum + i128::from(number as i64) * i128::from(bound)
 }
 
 /// The sum of coefficients times bounds.

@@ -34,23 +34,23 @@ fn enter_kept(
     entry: &Entry,
     line: &mut Line,
     over: i128,
-) -> Result<Option<i128>, AllocError>
+) -> Option<i128>
     requires entry { IsEntry entry.now }
     requires bounds { HasBounds rows.now entry.now }
     requires line { IsLine (length entry.now.left.coefs) line.old }
     requires lowest { IsLowest line.old }
     requires over { coef_at entry.now.column line.old ≡ pos 0 →
         over ≡ over_at rows.now entry.now.nonbasic.items line.old }
-    ensures { IfOk result (IsMade rows.now entry.now (entered entry.now line.old) line.new) }
+    ensures { IsMade rows.now entry.now (entered entry.now line.old) line.new result }
 {
     if line.coefs.as_slice()[entry.column] == 0 {
-        return Ok(Some(over));
+        return Some(over);
     }
-    enter(alloc, entry.column, &entry.left, line)?;
+    enter(alloc, entry.column, &entry.left, line);
     if has_large_number(line) {
-        return Ok(None);
+        return None;
     }
-    Ok(Some(over_of(rows, &entry.bounds, line)))
+    Some(over_of(rows, &entry.bounds, line))
 }
 
 /// Puts the entering variable into lines, and says whether a number is then too large.
@@ -60,7 +60,7 @@ fn enter_all(
     entry: &Entry,
     lines: &mut [Line],
     over: &mut [i128],
-) -> Result<bool, AllocError>
+) -> bool
     requires entry { IsEntry entry.now }
     requires bounds { HasBounds rows.now entry.now }
     requires lines { All (IsLine (length entry.now.left.coefs)) lines.old }
@@ -69,15 +69,15 @@ fn enter_all(
     requires over { (k : ℕ) → (d : Line) → k < length lines.old →
         coef_at entry.now.column (slice_index_or lines.old k d) ≡ pos 0 → slice_index_or over.old k (pos 0) ≡
         over_at rows.now entry.now.nonbasic.items (slice_index_or lines.old k d) }
-    ensures { IfOk result (AreMade rows.now entry.now (map (entered entry.now) lines.old) lines.new over.new) }
+    ensures { AreMade rows.now entry.now (map (entered entry.now) lines.old) lines.new over.new result }
 {
     for i in 0..lines.len() {
-        match enter_kept(alloc, rows, entry, &mut lines[i], over[i])? {
+        match enter_kept(alloc, rows, entry, &mut lines[i], over[i]) {
             Some(next) => over[i] = next,
-            None => return Ok(true),
+            None => return true,
         }
     }
-    Ok(false)
+    false
 }
 
 /// A line, or its opposite where the coefficient in a column is below 0.
@@ -113,7 +113,7 @@ fn exchange_lines(
     ensures { IfOk result (AreMade rows.now entry.now
         (map (entered entry.now) lines.old.items ++ solved_line entry.now ∷ []) lines.new.items over.new.items) }
 {
-    let large = enter_all(alloc, rows, entry, lines, over)?;
+    let large = enter_all(alloc, rows, entry, lines, over);
     if large {
         return Ok(true);
     }
@@ -188,19 +188,17 @@ fn is_large(number: i128) -> bool
 fn has_large(numbers: &[i128]) -> bool
     ensures { result ≡ list_any is_large_number numbers.now }
 {
-    let mut large = false;
     for number in numbers {
-        let next = is_large(*number);
-        large = large || next;
+        if is_large(*number) {
+            return true;
+        }
     }
-    large
+    false
 }
 
 /// Whether a number of the line is too large.
 pub fn has_large_number(line: &Line) -> bool
     ensures { result ≡ is_large_line line.now }
 {
-    let times = is_large(line.times);
-    let coefs = has_large(line.coefs.as_slice());
-    times || coefs
+    is_large(line.times) || has_large(line.coefs.as_slice())
 }

@@ -9,6 +9,7 @@ use crate::divisors::lowest_terms;
 use crate::table::Line;
 use nomos_ir::items::Items;
 use std::alloc::{AllocError, Global};
+use std::mem;
 
 /// The product of two numbers.
 pub fn product(a: i128, b: i128) -> i128
@@ -17,7 +18,7 @@ pub fn product(a: i128, b: i128) -> i128
     ensures value { result ≡ a *ℤ b }
     ensures size { unsigned_abs result < 2 ^ 124 }
 {
-    a * b
+    i128::from(a as i64) * i128::from(b as i64)
 }
 
 /// `p * a - g * c`.
@@ -33,64 +34,68 @@ fn cross(p: i128, a: i128, g: i128, c: i128) -> i128
     plus - minus
 }
 
-/// `p * a - g * c` for each of two lists of numbers.
-fn eliminate(
-    alloc: Global,
-    p: i128,
-    g: i128,
-    of: &[i128],
-    by: &[i128],
-) -> Result<Vec<i128>, AllocError>
+/// `p * a - g * c` for each of two lists of numbers, in place of the first.
+fn eliminate(p: i128, g: i128, of: &mut [i128], by: &[i128])
     requires p { IsNumber p }
     requires g { IsNumber g }
-    requires of { All IsNumber of.now }
+    requires of { All IsNumber of.old }
     requires by { All IsNumber by.now }
-    requires width { length of.now ≡ length by.now }
-    ensures { IfOk result (λ v. v.items ≡ eliminated p g of.now by.now) }
+    requires width { length of.old ≡ length by.now }
+    ensures { of.new ≡ eliminated p g of.old by.now }
 {
-    let mut numbers = Vec::with_capacity(alloc, of.len())?;
     for i in 0..of.len() {
-        let number = cross(p, of[i], g, by[i]);
-        numbers.push(number)?;
+        of[i] = cross(p, of[i], g, by[i]);
     }
-    Ok(numbers)
 }
 
 /// A line multiplied by the coefficient of the entering variable in the line that is left, with that variable put in.
-fn with_entered(alloc: Global, column: usize, left: &Line, line: &Line) -> Result<Line, AllocError>
+fn with_entered(column: usize, left: &Line, line: Line) -> Line
     requires column { column < length left.now.coefs }
     requires left { HasNumbers left.now }
-    requires line { IsLine (length left.now.coefs) line.now }
-    ensures { IfOk result (λ made. made ≡ put_into column left.now line.now) }
+    requires line { IsLine (length left.now.coefs) line }
+    ensures { result ≡ put_into column left.now line }
 {
-    let of = line.coefs.as_slice();
+    let Line {
+        times,
+        basic,
+        coefs,
+    } = line;
+    let mut coefs = coefs.into_vec();
     let by = left.coefs.as_slice();
     let p = by[column];
-    let g = of[column];
-    let mut coefs = eliminate(alloc, p, g, of, by)?;
+    let g = coefs[column];
+    eliminate(p, g, &mut coefs, by);
     coefs[column] = product(g, left.times);
-    Ok(Line {
-        times: product(p, line.times),
-        basic: line.basic,
+    Line {
+        times: product(p, times),
+        basic,
         coefs: Items::of_vec(coefs),
-    })
+    }
 }
 
-/// Puts the entering variable into a line. A line without it stays as it is.
-pub fn enter(alloc: Global, column: usize, left: &Line, line: &mut Line) -> Result<(), AllocError>
+/// A line without numbers, which stands where one is taken out for a while.
+fn no_line(alloc: Global) -> Line {
+    Line {
+        times: 0,
+        basic: 0,
+        coefs: Items::of_vec(Vec::new(alloc)),
+    }
+}
+
+/// Puts the entering variable into a line, in the line's own memory. A line without it stays as it is.
+pub fn enter(alloc: Global, column: usize, left: &Line, line: &mut Line)
     requires column { column < length left.now.coefs }
     requires left { HasNumbers left.now }
     requires over_zero { pos 0 <ℤ coef_at column left.now }
     requires line { IsLine (length left.now.coefs) line.old }
     requires lowest { IsLowest line.old }
-    ensures { IfOk result (λ _. line.new ≡ in_lowest_terms (put_into column left.now line.old)) }
+    ensures { line.new ≡ in_lowest_terms (put_into column left.now line.old) }
 {
     if line.coefs.as_slice()[column] == 0 {
-        return Ok(());
+        return;
     }
-    let made = with_entered(alloc, column, left, line)?;
-    *line = lowest_terms(made);
-    Ok(())
+    let own = mem::replace(line, no_line(alloc));
+    *line = lowest_terms(with_entered(column, left, own));
 }
 
 /// The number with its sign changed.

@@ -75,7 +75,7 @@ fn exchange_aimed(
 {
     let Aimed { kept, mut line } = aimed;
     let left = opposite_line(alloc, &kept.table.lines.as_slice()[place])?;
-    enter(alloc, column, &left, &mut line)?;
+    enter(alloc, column, &left, &mut line);
     if has_large_number(&line) {
         return Ok(None);
     }

@@ -3,7 +3,7 @@ use Rattle.std.specs.Int.{w64, w128}
 use Rattle.std.proofs.lemmas.Int.{to_z-of_z}
 use Rattle.nomos_forms.specs.Bounds.{IsSmall}
 use Rattle.nomos_simplex.specs.Sizes.{IsNumber}
-use Rattle.nomos_simplex.proofs.NumberLemmas.{wide_fits, number_back, wide_back, bounded_size, abs_sum}
+use Rattle.nomos_simplex.proofs.NumberLemmas.{wide_fits, number_back, narrow_back, wide_back, bounded_size, abs_sum}
 use Rattle.nomos_simplex.proofs.bounds.add_bounded.Goals as goal
 
 bounded_sum : (sum product : ℤ) → unsigned_abs product ≤ 2 ^ 107 →
@@ -11,19 +11,20 @@ bounded_sum : (sum product : ℤ) → unsigned_abs product ≤ 2 ^ 107 →
 bounded_sum sum product size = omega (arith, abs_sum sum product, size)
 
 -- the factors, in the code's width
-factors_back : (number bound from : ℤ) → IsNumber number → IsSmall bound → from ≡ bound →
-    to_z w128 (of_z w128 number) *ℤ to_z w128 (of_z w128 from) ≡ number *ℤ bound
-factors_back number bound from fits small is =
-    (λ p. number_back number fits p *ℤ to_z w128 (of_z w128 (is p)))
-    ∙ (λ p. number *ℤ wide_back bound (omega (arith, small)) p)
+factors_back : (number bound from by : ℤ) → IsNumber number → IsSmall bound → from ≡ number → by ≡ bound →
+    to_z w128 (of_z w128 from) *ℤ to_z w128 (of_z w128 by) ≡ number *ℤ bound
+factors_back number bound from by fits small is by_is =
+    (λ p. to_z w128 (of_z w128 (is p)) *ℤ to_z w128 (of_z w128 (by_is p)))
+    ∙ (λ p. number_back number fits p *ℤ wide_back bound (omega (arith, small)) p)
 
 pub overflow_mul-result : goal.overflow_mul-result
 overflow_mul-result c =
     let number = c.args.number in
     let bound = c.args.bound in
     let size = bounded_size number bound c.requires.number c.requires.bound in
-    let factors = factors_back number bound c.from.result c.requires.number c.requires.bound
-    (c.from.ensures ∙ to_z-of_z w64 bound c.ranges.bound) in
+    let factors = factors_back number bound c.from.result c.from-2.result c.requires.number c.requires.bound
+    (c.from.ensures ∙ narrow_back number c.requires.number) (c.from-2.ensures
+    ∙ to_z-of_z w64 bound c.ranges.bound) in
     subst (FitsSigned w128) (sym factors) (wide_fits (number *ℤ bound) (omega (arith, size)))
 
 pub overflow_add-result : goal.overflow_add-result
@@ -32,8 +33,9 @@ overflow_add-result c =
     let number = c.args.number in
     let bound = c.args.bound in
     let size = bounded_size number bound c.requires.number c.requires.bound in
-    let factors = factors_back number bound c.from.result c.requires.number c.requires.bound
-    (c.from.ensures ∙ to_z-of_z w64 bound c.ranges.bound) in
+    let factors = factors_back number bound c.from.result c.from-2.result c.requires.number c.requires.bound
+    (c.from.ensures ∙ narrow_back number c.requires.number) (c.from-2.ensures
+    ∙ to_z-of_z w64 bound c.ranges.bound) in
     let product = (λ p. to_z w128 (of_z w128 (factors p))) ∙ wide_back (number *ℤ bound) (omega (arith, size)) in
     let back = wide_back sum (omega (arith, c.requires.room)) in
     subst (FitsSigned w128) (λ p. sym back p +ℤ sym product p)
@@ -46,8 +48,9 @@ returns c =
     let bound = c.args.bound in
     let size = bounded_size number bound c.requires.number c.requires.bound in
     let whole = bounded_sum sum (number *ℤ bound) size in
-    let factors = factors_back number bound c.from.result c.requires.number c.requires.bound
-    (c.from.ensures ∙ to_z-of_z w64 bound c.ranges.bound) in
+    let factors = factors_back number bound c.from.result c.from-2.result c.requires.number c.requires.bound
+    (c.from.ensures ∙ narrow_back number c.requires.number) (c.from-2.ensures
+    ∙ to_z-of_z w64 bound c.ranges.bound) in
     let product = (λ p. to_z w128 (of_z w128 (factors p))) ∙ wide_back (number *ℤ bound) (omega (arith, size)) in
     let back = wide_back sum (omega (arith, c.requires.room)) in
     let value = (λ p. to_z w128 (of_z w128 (back p +ℤ product p)))

@@ -1,4 +1,4 @@
-use Rattle.std.proofs.Common.{rules, ◌++◌, [], ◌∷◌, All, FitsSigned, to_z, of_z, sym, subst, ◌∙◌}
+use Rattle.std.proofs.Common.{rules, ◌++◌, [], ◌∷◌, List, ℤ, All, FitsSigned, to_z, of_z, sym, subst, ◌∙◌}
 use Rattle.std.specs.Int.{w64}
 use Rattle.std.proofs.lemmas.Int.{to_z-of_z}
 use Rattle.std.proofs.lemmas.List.{map_more}
@@ -18,8 +18,8 @@ loop-variable-preserved c =
     let small : IsSmall (to_z w64 (of_z w64 c.bound.result)) = subst IsSmall (sym back) c.bound.ensures.small in
     let items = c.in_ok-push.ensures.items in
     record {
-      value = items ∙ (λ p. c.loop-variable.invariant.value p ++ value p ∷ [])
-          ∙ sym (map_more (bound_of rows) c.args.variables.now at 0 c.loop-variable-test.true);
-      small = subst (All IsSmall) (sym items) (All-push IsSmall c.loop-variable.bounds.items (to_z w64 (of_z w64 c.bound.result))
-          c.loop-variable.invariant.small small);
+      value = ◌∙◌ {A = List ℤ} items ((λ p. c.loop-variable.invariant.value p ++ value p ∷ [])
+          ∙ sym (map_more (bound_of rows) c.args.variables.now at 0 c.loop-variable-test.true));
+      small = subst (All IsSmall) (sym {A = List ℤ} items) (All-push IsSmall c.loop-variable.bounds.items
+          (to_z w64 (of_z w64 c.bound.result)) c.loop-variable.invariant.small small);
     }

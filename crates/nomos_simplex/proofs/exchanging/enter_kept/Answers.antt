@@ -34,7 +34,7 @@ pub over_of-requires-clause-line : goal.over_of-requires-clause-line
 over_of-requires-clause-line c =
     let entry = c.args.entry.now in
     let line = c.args.line.now in
-    let is : c.enter.new.line ≡ entered entry line = c.in_ok-enter.ensures in
+    let is : c.enter.new.line ≡ entered entry line = c.enter.ensures in
     let small : is_large_line (entered entry line) ≡ false =
     ap is_large_line (sym is) ∙ sym c.has_large_number.ensures ∙ c.if-has_large_number.false in
     let width : length entry.left.coefs ≡ length c.deref.result.now =
@@ -49,7 +49,7 @@ returns c =
     let entry = c.args.entry.now in
     let nonbasic = entry.nonbasic.items in
     let line = c.args.line.now in
-    let is : c.enter.new.line ≡ entered entry line = c.in_ok-enter.ensures in
+    let is : c.enter.new.line ≡ entered entry line = c.enter.ensures in
     let bounds = c.deref.ensures.value ∙ c.requires.bounds.value in (
       is,
       wide_back c.over_of.result (omega (arith, c.over_of.ensures.size)) ∙ c.over_of.ensures.value

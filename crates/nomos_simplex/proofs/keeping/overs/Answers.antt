@@ -1,4 +1,4 @@
-use Rattle.std.proofs.Common.{◌≡◌, [], ◌∷◌, ◌++◌, map, arith, ap, sym, ◌∙◌}
+use Rattle.std.proofs.Common.{[], ◌∷◌, ◌++◌, map, arith, ap, sym, ◌∙◌}
 use Rattle.std.proofs.lemmas.List.{map_more}
 use Rattle.nomos_simplex.specs.Tables.{bound_of}
 use Rattle.nomos_simplex.specs.mirror.Keeping.{over_of}

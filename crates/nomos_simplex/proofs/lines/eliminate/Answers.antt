@@ -1,9 +1,8 @@
-use Rattle.std.proofs.Common.{rules, pos, [], ◌∷◌, ◌++◌, ◌*ℤ◌, ◌-ℤ◌, get_or, FitsSigned, to_z, of_z, sym, ◌∙◌, arith}
+use Rattle.std.proofs.Common.{rules, ◌≡◌, pos, ◌++◌, ◌*ℤ◌, ◌-ℤ◌, take, drop, get_or, set, FitsSigned, to_z, of_z, ap, ◌∙◌, arith}
 use Rattle.std.specs.Int.{w128}
 use Rattle.std.proofs.lemmas.Int.{to_z-of_z}
-use Rattle.std.proofs.lemmas.List.{take_all}
 use Rattle.nomos_simplex.specs.Exchange.{eliminated}
-use Rattle.nomos_simplex.proofs.LineLemmas.{eliminated_more}
+use Rattle.nomos_simplex.proofs.LineLemmas.{made_at, made_more, made_all}
 use Rattle.nomos_simplex.proofs.NumberLemmas.{number_back}
 use Rattle.nomos_simplex.proofs.lines.eliminate.Goals as goal
 
@@ -16,18 +15,22 @@ loop-i-preserved c =
     let p = to_z w128 (of_z w128 c.args.p) in
     let g = to_z w128 (of_z w128 c.args.g) in
     let in_of = c.loop-i-test.true in
-    let back_of = number_back (get_or of i (pos 0)) (c.requires.of i (pos 0) in_of) in
-    let back_by = number_back (get_or by i (pos 0)) (c.requires.by i (pos 0) (omega (arith, c.requires.width))) in
-    let fits : FitsSigned w128 c.cross-number.result = search rules in
-    let value = to_z-of_z w128 c.cross-number.result fits ∙ c.cross-number.ensures
-    ∙ (λ q. p *ℤ back_of q -ℤ g *ℤ back_by q) in
-    c.in_ok-push.ensures.items ∙ (λ q. c.loop-i.invariant q ++ value q ∷ []) ∙ sym (eliminated_more p g of by i in_of
-    (omega (arith, c.requires.width)))
+    let width = c.requires.width in
+    let at : get_or c.loop-i.of i (pos 0) ≡ get_or of i (pos 0) = ap (λ xs. get_or xs i (pos 0)) c.loop-i.invariant
+    ∙ made_at p g of by i (pos 0) in_of width in
+    let back_of : to_z w128 (of_z w128 (get_or c.loop-i.of i (pos 0))) ≡ get_or of i (pos 0) =
+    (λ q. to_z w128 (of_z w128 (at q))) ∙ number_back (get_or of i (pos 0)) (c.requires.of i (pos 0) in_of) in
+    let back_by = number_back (get_or by i (pos 0)) (c.requires.by i (pos 0) (omega (arith, width))) in
+    let fits : FitsSigned w128 c.cross.result = search rules in
+    let value = to_z-of_z w128 c.cross.result fits ∙ c.cross.ensures ∙ (λ q. p *ℤ back_of q -ℤ g *ℤ back_by q) in
+    (λ q. set (c.loop-i.invariant q) i (value q)) ∙ made_more p g of by i in_of width
 
 pub returns : goal.returns
 returns c =
     let p = number_back c.args.p c.requires.p in
     let g = number_back c.args.g c.requires.g in
-    let of = take_all c.loop-i.i c.args.of.now c.loop-i-test.false in
-    let by = take_all c.loop-i.i c.args.by.now (omega (arith, c.requires.width)) in
-    c.loop-i.invariant ∙ (λ q. eliminated (p q) (g q) (of q) (by q))
+    let of = c.args.of.now in
+    let by = c.args.by.now in
+    let i = c.loop-i.i in
+    c.loop-i.invariant ∙ (λ q. eliminated (p q) (g q) (take i of) (take i by) ++ drop i of)
+    ∙ made_all c.args.p c.args.g of by i c.loop-i-test.false c.requires.width

@@ -1,6 +1,7 @@
-use Rattle.std.proofs.Common.{◌≡◌, take}
+use Rattle.std.proofs.Common.{◌≡◌, ◌++◌, take, drop}
 use Rattle.nomos_simplex.specs.Exchange.{eliminated}
 use Rattle.nomos_simplex.proofs.lines.eliminate.Given as goal
 
+-- the first columns are made, those behind are as they were
 abbrev pub invariant-loop-i : goal.invariant-loop-i
-invariant-loop-i l = l.numbers.items ≡ eliminated l.p l.g (take l.i l.of) (take l.i l.by)
+invariant-loop-i l = l.of ≡ eliminated l.p l.g (take l.i l.fn.of) (take l.i l.by) ++ drop l.i l.fn.of

@@ -93,7 +93,7 @@ returns-then-has_large_number c = λ left h.
     get_or_default table.lines c.args.place _ line c.requires.place.within ∙ sym is in
     let n = not_zero (coef_at j line) (subst (λ (l : Line). coef_at j l <ℤ pos 0) at c.requires.place.below) in
     let made : c.enter.new.line ≡ line_exchanged j left own =
-    c.in_ok-enter.ensures ∙ ap (λ l. in_lowest_terms (put_into j l own)) c.in_ok-left.ensures
+    c.enter.ensures ∙ ap (λ l. in_lowest_terms (put_into j l own)) c.in_ok-left.ensures
     ∙ line_turned j line left own column n c.requires.line.positive same in
     or_right (is_large_table (exchanged c.args.place j left table)) (is_large_line (line_exchanged j left own))
     (ap is_large_line (sym made) ∙ sym c.has_large_number.ensures ∙ c.if-has_large_number.true)
@@ -114,7 +114,7 @@ returns-in-None c = λ left h.
     get_or_default table.lines c.args.place _ line c.requires.place.within ∙ sym is in
     let n = not_zero (coef_at j line) (subst (λ (l : Line). coef_at j l <ℤ pos 0) at c.requires.place.below) in
     let made : c.enter.new.line ≡ line_exchanged j left own =
-    c.in_ok-enter.ensures ∙ ap (λ l. in_lowest_terms (put_into j l own)) c.in_ok-left.ensures
+    c.enter.ensures ∙ ap (λ l. in_lowest_terms (put_into j l own)) c.in_ok-left.ensures
     ∙ line_turned j line left own column n c.requires.line.positive same in
     let large = subst (IsKeptOrLarge rows (exchanged c.args.place j left table)) c.in-None.is
     (c.in_ok-kept.ensures left h) in
@@ -136,7 +136,7 @@ returns-in-Some c = λ left h.
     get_or_default table.lines c.args.place _ line c.requires.place.within ∙ sym is in
     let n = not_zero (coef_at j line) (subst (λ (l : Line). coef_at j l <ℤ pos 0) at c.requires.place.below) in
     let made : c.enter.new.line ≡ line_exchanged j left own =
-    c.in_ok-enter.ensures ∙ ap (λ l. in_lowest_terms (put_into j l own)) c.in_ok-left.ensures
+    c.enter.ensures ∙ ap (λ l. in_lowest_terms (put_into j l own)) c.in_ok-left.ensures
     ∙ line_turned j line left own column n c.requires.line.positive same in
     let kept = subst (IsKeptOrLarge rows (exchanged c.args.place j left table)) c.in-Some.is
     (c.in_ok-kept.ensures left h) in (
