@@ -30,6 +30,22 @@ made_more p g (a ∷ as') (c ∷ cs) zero h w = refl
 made_more p g (a ∷ as') (c ∷ cs) (suc k) h w = rw add-one (ap (λ xs. (p *ℤ a -ℤ g *ℤ c) ∷ xs) (rw add-one at
     (made_more p g as' cs k (omega arith) (omega arith))))
 
+-- where nothing changes
+pub made_same : (p g : ℤ) (as' cs : List ℤ) (k : ℕ) → k < length as' → length as' ≡ length cs → p ≡ pos 1 →
+    get_or cs k (pos 0) ≡ pos 0 → eliminated p g (take k as') (take k cs) ++ drop k as' ≡ eliminated p g (take (k + 1)
+    as') (take (k + 1) cs) ++ drop (k + 1) as'
+made_same p g [] cs k h w e z = absurd (omega arith)
+made_same p g (a ∷ as') [] k h w e z = absurd (omega arith)
+made_same p g (a ∷ as') (c ∷ cs) zero h w e z = λ i. once a (g *ℤ c) (ap (λ x. g *ℤ x) z ∙ *ℤ-zero g) i ∷ as'
+  where
+    less_nothing : (x y : ℤ) → y ≡ pos 0 → x ≡ pos 1 *ℤ x -ℤ y
+    less_nothing x y f = omega (arith, ints)
+
+    once : (x y : ℤ) → y ≡ pos 0 → x ≡ p *ℤ x -ℤ y
+    once x y f = less_nothing x y f ∙ ap (λ q. q *ℤ x -ℤ y) (sym e)
+made_same p g (a ∷ as') (c ∷ cs) (suc k) h w e z = rw add-one (ap (λ xs. (p *ℤ a -ℤ g *ℤ c) ∷ xs) (rw add-one at
+    (made_same p g as' cs k (omega arith) (omega arith) e z)))
+
 pub made_all : (p g : ℤ) (as' cs : List ℤ) (k : ℕ) → length as' ≤ k → length as' ≡ length cs →
     eliminated p g (take k as') (take k cs) ++ drop k as' ≡ eliminated p g as' cs
 made_all p g [] [] zero h w = refl

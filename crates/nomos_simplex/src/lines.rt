@@ -34,7 +34,7 @@ fn cross(p: i128, a: i128, g: i128, c: i128) -> i128
     plus - minus
 }
 
-/// `p * a - g * c` for each of two lists of numbers, in place of the first.
+/// `p * a - g * c` for each of two lists of numbers, in place of the first. Where that is `a` it is left alone.
 fn eliminate(p: i128, g: i128, of: &mut [i128], by: &[i128])
     requires p { IsNumber p }
     requires g { IsNumber g }
@@ -44,7 +44,9 @@ fn eliminate(p: i128, g: i128, of: &mut [i128], by: &[i128])
     ensures { of.new ≡ eliminated p g of.old by.now }
 {
     for i in 0..of.len() {
-        of[i] = cross(p, of[i], g, by[i]);
+        if p != 1 || by[i] != 0 {
+            of[i] = cross(p, of[i], g, by[i]);
+        }
     }
 }
 

@@ -1,10 +1,11 @@
-use Rattle.std.proofs.Common.{rules, ◌≡◌, pos, ◌++◌, ◌*ℤ◌, ◌-ℤ◌, take, drop, get_or, set, FitsSigned, to_z, of_z, ap, ◌∙◌, arith}
+use Rattle.std.proofs.Common.{rules, ◌≡◌, pos, ◌++◌, ◌*ℤ◌, ◌-ℤ◌, take, drop, get_or, set, FitsSigned, to_z, of_z, ap, sym, ◌∙◌, arith}
 use Rattle.std.specs.Int.{w128}
 use Rattle.std.proofs.lemmas.Int.{to_z-of_z}
 use Rattle.nomos_simplex.specs.Exchange.{eliminated}
-use Rattle.nomos_simplex.proofs.LineLemmas.{made_at, made_more, made_all}
+use Rattle.nomos_simplex.proofs.LineLemmas.{made_at, made_more, made_same, made_all}
 use Rattle.nomos_simplex.proofs.NumberLemmas.{number_back}
 use Rattle.nomos_simplex.proofs.lines.eliminate.Goals as goal
+use Rattle.nomos_simplex.proofs.lines.eliminate.Goals.{then-p-ne1, else-p-ne1+else-by-i-ne0}
 
 -- one column more
 pub loop-i-preserved : goal.loop-i-preserved
@@ -21,9 +22,13 @@ loop-i-preserved c =
     let back_of : to_z w128 (of_z w128 (get_or c.loop-i.of i (pos 0))) ≡ get_or of i (pos 0) =
     (λ q. to_z w128 (of_z w128 (at q))) ∙ number_back (get_or of i (pos 0)) (c.requires.of i (pos 0) in_of) in
     let back_by = number_back (get_or by i (pos 0)) (c.requires.by i (pos 0) (omega (arith, width))) in
-    let fits : FitsSigned w128 c.cross.result = search rules in
-    let value = to_z-of_z w128 c.cross.result fits ∙ c.cross.ensures ∙ (λ q. p *ℤ back_of q -ℤ g *ℤ back_by q) in
-    (λ q. set (c.loop-i.invariant q) i (value q)) ∙ made_more p g of by i in_of width
+    elim c.if-p-ne1.branch [
+      | then-p-ne1 w ↦ (let fits : FitsSigned w128 w.cross.result = search rules in
+          let value = to_z-of_z w128 w.cross.result fits ∙ w.cross.ensures ∙ (λ q. p *ℤ back_of q -ℤ g *ℤ back_by q) in
+          w.of-is ∙ (λ q. set (c.loop-i.invariant q) i (value q)) ∙ made_more p g of by i in_of width)
+      | else-p-ne1+else-by-i-ne0 w ↦ w.of-is ∙ c.loop-i.invariant ∙ made_same p g of by i in_of width
+          (ap (to_z w128) w.if-p-ne1.false) (sym back_by ∙ ap (to_z w128) w.if-by-i-ne0.false)
+    ]
 
 pub returns : goal.returns
 returns c =
