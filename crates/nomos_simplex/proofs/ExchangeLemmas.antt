@@ -98,7 +98,7 @@ lowest_over_zero line n =
 times_divides : (k g a b : ℕ) → a * g ≡ b → k ∣ a → k * g ∣ b
 times_divides k g a b e h = subst (λ n. k * g ∣ n) e (mul-dvd-mul_right k h g)
 
-divisor_left : (k g : ℕ) → 0 < g → k * g ∣ g → k ≡ 1
+pub divisor_left : (k g : ℕ) → 0 < g → k * g ∣ g → k ≡ 1
 divisor_left k g h d = eq-one_of_dvd-one (dvd_of_mul-dvd-mul_right k {n = 1} h (subst (λ n. k * g ∣ n) (one_times g) d))
   where
     one_times : (g : ℕ) → g ≡ 1 * g

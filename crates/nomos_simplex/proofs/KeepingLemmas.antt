@@ -1,30 +1,37 @@
 -- What is kept beside a table: it tells which variables are below their bounds, and how an exchange changes it.
-use Rattle.std.proofs.Common.{◌≡◌, ℕ, zero, suc, ◌+◌, ◌<◌, ◌≤◌, ◌^◌, Bool, true, false, ◌||◌, List, [], ◌∷◌, ◌++◌, length, map, take, drop, get_or, set, refl, ap, sym, ◌∙◌, arith, add-one, ℤ, pos, ◌+ℤ◌, ◌-ℤ◌, ◌*ℤ◌, unsigned_abs, int_lt, All}
+use Rattle.std.proofs.Common.{◌≡◌, ℕ, zero, suc, ◌+◌, ◌*◌, ◌<◌, ◌≤◌, ◌^◌, Bool, true, false, ◌||◌, List, [], ◌∷◌, ◌++◌, length, map, take, drop, get_or, set, refl, ap, sym, subst, ◌∙◌, arith, add-one, ℤ, pos, neg_ℤ, ◌+ℤ◌, ◌-ℤ◌, ◌*ℤ◌, ◌<ℤ◌, unsigned_abs, int_lt, All}
+use Rattle.std.specs.Int.{◌∣◌}
+use Rattle.std.specs.Prelude.{Option, Some, None, IfSome}
 use Rattle.std.specs.List.{list_any, remove}
-use Rattle.std.proofs.lemmas.Int.{ints}
+use Rattle.std.proofs.lemmas.Int.{ints, unsigned_abs-mul}
 use Rattle.std.proofs.lemmas.Bool.{lt-leb, or_parts}
-use Rattle.std.proofs.lemmas.List.{length-map, length-set, get_or-map}
+use Rattle.std.proofs.lemmas.List.{length-map, length-set}
 use Rattle.std.proofs.lemmas.List.Elements.{All-weaker, All-head, All-tail}
 use Rattle.std.proofs.lemmas.List.Folds.{list_any_none}
+use Rattle.std.proofs.lemmas.Nat.Gcd.{dvd_refl}
 use Rattle.std.proofs.Math.IntN.{zero-*ℤ}
 use Rattle.std.proofs.Math.Seq.{take-append_seam}
 use borrow.Author.Differences.{lt-true, lt-false}
 use Rattle.nomos_forms.specs.declared.row_list.RowList.{RowList}
-use Rattle.nomos_simplex.specs.Divisors.{in_lowest_terms}
+use Rattle.nomos_forms.proofs.WholeLaws.{neg_times, times_assoc}
+use Rattle.nomos_simplex.specs.Divisors.{common, divided_by, in_lowest_terms}
 use Rattle.nomos_simplex.specs.Exchange.{coef_at, put_into, solved_for, lines_exchanged, is_large, is_large_line}
 use Rattle.nomos_simplex.specs.Lowest.{lowest_place, is_below, leaving}
 use Rattle.nomos_simplex.specs.Sizes.{IsNumber, IsLine}
 use Rattle.nomos_simplex.specs.Tables.{bound_of, sum_at}
 use Rattle.nomos_simplex.specs.declared.exchanging.Entry.{Entry}
+use Rattle.nomos_simplex.specs.declared.exchanging.Put.{Put}
 use Rattle.nomos_simplex.specs.declared.keeping.Kept.{Kept}
 use Rattle.nomos_simplex.specs.declared.table.Line.{Line}
-use Rattle.nomos_simplex.specs.mirror.Opposite.{oriented_of}
-use Rattle.nomos_simplex.specs.mirror.Keeping.{over_of, Shows, IsEntry, entered, solved_line}
-use Rattle.nomos_simplex.proofs.ExchangeLemmas.{lowest_over_zero, lowest_width, put_width}
+use Rattle.nomos_simplex.specs.mirror.Opposite.{opposite_of, oriented_of}
+use Rattle.nomos_simplex.specs.mirror.Keeping.{over_of, Shows, IsEntry, IsPut, IsKeptPut, entered, solved_line}
+use Rattle.nomos_simplex.proofs.DivisorLemmas.{common_divides_first, exact, divisor_size, divided_by_one, lowest_is}
+use Rattle.nomos_simplex.proofs.ExchangeLemmas.{divisor_left, lowest_over_zero, lowest_width, put_sum_free, put_width}
 use Rattle.nomos_simplex.proofs.ExchangedLemmas.{put_not_zero}
 use Rattle.nomos_simplex.proofs.LineLemmas.{All-remove}
 use Rattle.nomos_simplex.proofs.OppositeLemmas.{put_oriented, solved_oriented}
 use Rattle.nomos_simplex.proofs.SignLemmas.{not_zero_over}
+use Rattle.nomos_simplex.proofs.SumLemmas.{sum_neg, times_minus}
 use Rattle.nomos_simplex.proofs.TableLaws.{small_line}
 
 -- ---- which variables are below their bounds
@@ -205,16 +212,6 @@ pub removed_overs : (f : Line → ℤ) (lines : List Line) (overs : List ℤ) (i
     remove overs i ≡ map f (remove lines i)
 removed_overs f lines overs i e = ap (λ zs. remove zs i) e ∙ remove_map f lines i
 
--- those that have not the entering variable have what is kept of them after the exchange too
-pub unchanged_rest : (rows : RowList) (nonbasic : List ℕ) (lines : List Line) (j v : ℕ) → j < length nonbasic →
-    All (IsLine (length nonbasic)) lines → (k : ℕ) (d : Line) → k < length lines →
-    coef_at j (get_or lines k d) ≡ pos 0 → get_or (map (over_of rows nonbasic) lines) k (pos 0) ≡ over_of rows
-    (set nonbasic j v) (get_or lines k d)
-unchanged_rest rows nonbasic lines j v h own k d l e =
-    let line = own k d l in
-    get_or-map (over_of rows nonbasic) lines k d (pos 0) l
-    ∙ sym (unchanged_over rows nonbasic j v (get_or lines k d) h line.width e)
-
 maps_alike : (f g : Line → Line) (xs : List Line) → All (λ x. f x ≡ g x) xs → map f xs ≡ map g xs
 maps_alike f g [] h = refl
 maps_alike f g (x ∷ xs) h =
@@ -237,3 +234,65 @@ lines_by_oriented n i j e left lines own h z =
 -- ---- a list that is written back
 pub written : {X : Type 0} (n : ℕ) (xs rest : List X) → n ≡ length xs → take n (xs ++ rest) ≡ xs
 written n xs rest e = ap (λ k. take k (xs ++ rest)) e ∙ take-append_seam xs rest
+
+-- a place that is written, and written back
+pub set_again : {X : Type 0} (xs : List X) (k : ℕ) (y x : X) → k < length xs → x ≡ get_or xs k x →
+    set (set xs k y) k x ≡ xs
+set_again [] k y x h e = absurd (omega arith)
+set_again (z ∷ zs) zero y x h e = λ p. e p ∷ zs
+set_again (z ∷ zs) (suc k) y x h e = ap (λ ws. z ∷ ws) (set_again zs k y x (omega arith) e)
+
+-- ---- what is kept of a line with the entering variable put in
+pub put_over : (rows : RowList) (vs : List ℕ) (j : ℕ) (left line : Line) → j < length vs → j < length left.coefs →
+    length line.coefs ≡ length left.coefs → over_of rows (set vs j left.basic) (put_into j left line) ≡ coef_at j left
+    *ℤ over_of rows vs line -ℤ coef_at j line *ℤ over_of rows vs left
+put_over rows vs j left line h i w =
+    let y = bound_of rows in
+    let p = coef_at j left in
+    let sum = sum_at y vs line.coefs in
+    let own = line.times *ℤ y line.basic in
+    let other = coef_at j line *ℤ over_of rows vs left in
+    (λ k. put_sum_free y vs j left line h i w k -ℤ times_assoc p line.times (y line.basic) k)
+    ∙ other_first (p *ℤ sum) other (p *ℤ own) ∙ ap (λ z. z -ℤ other) (sym (times_minus p sum own))
+  where
+    other_first : (a b c : ℤ) → a -ℤ b -ℤ c ≡ a -ℤ c -ℤ b
+    other_first a b c = omega (arith, ints)
+
+pub opposite_over : (rows : RowList) (vs : List ℕ) (line : Line) →
+    over_of rows vs (opposite_of line) ≡ neg_ℤ (over_of rows vs line)
+opposite_over rows vs line =
+    let y = bound_of rows in
+    (λ p. sum_neg y vs line.coefs p -ℤ neg_times line.times (y line.basic) p)
+    ∙ both_turned (sum_at y vs line.coefs) (line.times *ℤ y line.basic)
+  where
+    both_turned : (a b : ℤ) → neg_ℤ a -ℤ neg_ℤ b ≡ neg_ℤ (a -ℤ b)
+    both_turned a b = omega (arith, ints)
+
+-- a line that keeps the number before its variable is in lowest terms
+pub lowest_same : (line : Line) → pos 0 <ℤ line.times → line.times ≡ (in_lowest_terms line).times →
+    in_lowest_terms line ≡ line
+lowest_same line over e =
+    let g = common (unsigned_abs line.times) line.coefs in
+    let is = lowest_is line g over refl in
+    let size = divisor_size line g over refl in
+    let n = unsigned_abs line.times in
+    let whole = exact g line.times size.0 (common_divides_first n line.coefs) in
+    let same : g * n ≡ n = sym (unsigned_abs-mul (pos g) line.times) ∙ ap unsigned_abs (ap (λ z. pos g *ℤ z) (e
+    ∙ ap (λ (l : Line). l.times) is) ∙ whole) in
+    let one : g ≡ 1 = divisor_left g n (omega (arith, size.0, size.1)) (subst (λ m. m ∣ n) (sym same) (dvd_refl n)) in
+    is ∙ ap (λ k. divided_by (pos k) line) one ∙ divided_by_one line
+
+pub put_kept : (rows : RowList) (entry : Entry) (line made : Line) (put : Put) → IsEntry entry →
+    IsLine (length entry.left.coefs) line → made ≡ entered entry line → IsPut rows entry line put →
+    IsKeptPut rows entry made put
+put_kept rows entry line made put e l is has same =
+    let own = put_into entry.column entry.left line in
+    let n = put_not_zero entry.column entry.left line (not_zero_over (coef_at entry.column entry.left) e.over_zero)
+    l.positive in
+    let times : own.times ≡ (in_lowest_terms own).times = sym has.times ∙ same ∙ ap (λ (m : Line). m.times) is in
+    let over = subst (λ z. pos 0 <ℤ z) (sym times) (lowest_over_zero own n) in
+    has.over ∙ ap (over_of rows entry.nonbasic.items) (sym (is ∙ lowest_same own over times))
+
+pub some_weaker : {X : Type 0} (P Q : X → Type 0) (o : Option X) → ((x : X) → P x → Q x) → IfSome o P → IfSome o Q
+some_weaker P Q None f h = h
+some_weaker P Q (Some x) f h = f x h

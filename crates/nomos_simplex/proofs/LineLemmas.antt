@@ -81,7 +81,7 @@ eliminated_none p g (a ∷ as') (c ∷ cs) h e =
     less_none : (x y : ℤ) → y ≡ pos 0 → x -ℤ y ≡ x
     less_none x y h = omega (arith, ints)
 
-set_same : {X : Type 0} (xs : List X) (k : ℕ) (x : X) → k < length xs → x ≡ get_or xs k x → set xs k x ≡ xs
+pub set_same : {X : Type 0} (xs : List X) (k : ℕ) (x : X) → k < length xs → x ≡ get_or xs k x → set xs k x ≡ xs
 set_same [] k x h e = absurd (omega arith)
 set_same (y ∷ ys) zero x h e = λ i. e i ∷ ys
 set_same (y ∷ ys) (suc k) x h e = ap (λ zs. y ∷ zs) (set_same ys k x (omega arith) e)

@@ -1,29 +1,76 @@
 //! The exchange of a basic and a nonbasic variable.
-ghost use Rattle.std.specs.Prelude.{◌≡◌, ◌<◌, ℕ, ◌≤◌, ◌++◌, [], ◌∷◌, pos, length, map, All, IfOk, slice_get, slice_index_or, Some};
+ghost use Rattle.std.specs.Prelude.{◌≡◌, ◌<◌, ℕ, ◌≤◌, ◌++◌, List, [], ◌∷◌, pos, length, map, All, IfOk, IfSome, slice_get, Some};
 ghost use Rattle.std.specs.List.{list_any};
 ghost use Rattle.nomos_simplex.specs.Exchange.{coef_at, exchanged, is_large as is_large_number, is_large_line};
+ghost use Rattle.nomos_forms.specs.declared.row_list.RowList.{RowList};
 ghost use Rattle.nomos_simplex.specs.declared.table.Line.{Line};
-ghost use Rattle.nomos_simplex.specs.Sizes.{HasNumbers, IsLine, IsLowest};
-ghost use Rattle.nomos_simplex.specs.mirror.Keeping.{over_of as over_at, Shows, IsEntry, HasBounds, entered, solved_line, IsMade, AreMade, IsKeptOrLarge};
+ghost use Rattle.nomos_simplex.specs.Sizes.{IsNumber, HasNumbers, IsLine, IsLowest};
+ghost use Rattle.nomos_simplex.specs.mirror.Keeping.{over_of as over_at, Shows, IsEntry, EntryShows, before, IsPut, IsKeptPut, entered, solved_line, IsMade, AreMade, IsKeptOrLarge};
 ghost use Rattle.nomos_simplex.specs.mirror.Opposite.{oriented_of};
 
 use crate::bounds::{bounds_of, over_of};
 use crate::keeping::Kept;
-use crate::lines::{enter, opposite_line, solved};
+use crate::lines::{cross, enter, opposite, opposite_line, product, solved};
 use crate::table::{Line, Table};
 use nomos_forms::row_list::RowList;
 use nomos_ir::items::Items;
 use std::alloc::{AllocError, Global};
 
 /// What an exchange does to a line: a variable enters, whose column it is, by the line that is left, where its
-/// coefficient is over 0. The nonbasic variables are those after the exchange, and the bounds are theirs.
+/// coefficient is over 0. The nonbasic variables are those after the exchange, and the bounds are theirs. `over` is how
+/// far the variable that is left was over its bound, times the number before it, where that is not large.
 #[derive(Drop)]
 pub(crate) struct Entry {
     pub(crate) column: usize,
     pub(crate) entering: usize,
     pub(crate) left: Line,
+    pub(crate) over: Option<i128>,
     pub(crate) nonbasic: Vec<usize>,
     pub(crate) bounds: Vec<i64>,
+}
+
+/// What a line has once the entering variable is put in, before lowest terms: the number before its variable, and how
+/// far that is over its bound.
+#[derive(Clone, Copy)]
+pub(crate) struct Put {
+    pub(crate) times: i128,
+    pub(crate) over: i128,
+}
+
+/// What a line will have, whose variable is so far over its bound, where that is not large.
+fn put_of(entry: &Entry, line: &Line, over: i128) -> Option<Put>
+    requires entry { IsEntry entry.now }
+    requires line { IsLine (length entry.now.left.coefs) line.now }
+    ensures { (rows : RowList) → EntryShows rows entry.now → over ≡ over_at rows (before entry.now) line.now →
+        IfSome result (IsPut rows entry.now line.now) }
+{
+    let left = entry.over?;
+    if is_large(over) {
+        return None;
+    }
+    let p = entry.left.coefs.as_slice()[entry.column];
+    let g = line.coefs.as_slice()[entry.column];
+    Some(Put {
+        times: product(p, line.times),
+        over: cross(p, over, g, left),
+    })
+}
+
+/// How far the variable of a line is over its bound after the exchange. That is known where the line had no common
+/// divisor, and otherwise summed up.
+fn over_after(rows: &RowList, entry: &Entry, line: &Line, put: Option<Put>) -> i128
+    requires entry { IsEntry entry.now }
+    requires shows { EntryShows rows.now entry.now }
+    requires line { IsLine (length entry.now.left.coefs) line.now }
+    requires put { IfSome put (IsKeptPut rows.now entry.now line.now) }
+    ensures { result ≡ over_at rows.now entry.now.nonbasic.items line.now }
+{
+    if let Some(put) = put {
+        if put.times == line.times {
+            return put.over;
+        }
+    }
+    over_of(rows, &entry.bounds, line)
 }
 
 /// Puts the entering variable into a line, whose own variable was so far over its bound, and says how far it then is,
@@ -36,21 +83,21 @@ fn enter_kept(
     over: i128,
 ) -> Option<i128>
     requires entry { IsEntry entry.now }
-    requires bounds { HasBounds rows.now entry.now }
+    requires shows { EntryShows rows.now entry.now }
     requires line { IsLine (length entry.now.left.coefs) line.old }
     requires lowest { IsLowest line.old }
-    requires over { coef_at entry.now.column line.old ≡ pos 0 →
-        over ≡ over_at rows.now entry.now.nonbasic.items line.old }
+    requires over { over ≡ over_at rows.now (before entry.now) line.old }
     ensures { IsMade rows.now entry.now (entered entry.now line.old) line.new result }
 {
     if line.coefs.as_slice()[entry.column] == 0 {
         return Some(over);
     }
+    let put = put_of(entry, line, over);
     enter(alloc, entry.column, &entry.left, line);
     if has_large_number(line) {
         return None;
     }
-    Some(over_of(rows, &entry.bounds, line))
+    Some(over_after(rows, entry, line, put))
 }
 
 /// Puts the entering variable into lines, and says whether a number is then too large.
@@ -62,13 +109,10 @@ fn enter_all(
     over: &mut [i128],
 ) -> bool
     requires entry { IsEntry entry.now }
-    requires bounds { HasBounds rows.now entry.now }
+    requires shows { EntryShows rows.now entry.now }
     requires lines { All (IsLine (length entry.now.left.coefs)) lines.old }
     requires lowest { All IsLowest lines.old }
-    requires width { length over.old ≡ length lines.old }
-    requires over { (k : ℕ) → (d : Line) → k < length lines.old →
-        coef_at entry.now.column (slice_index_or lines.old k d) ≡ pos 0 → slice_index_or over.old k (pos 0) ≡
-        over_at rows.now entry.now.nonbasic.items (slice_index_or lines.old k d) }
+    requires over { over.old ≡ map (over_at rows.now (before entry.now)) lines.old }
     ensures { AreMade rows.now entry.now (map (entered entry.now) lines.old) lines.new over.new result }
 {
     for i in 0..lines.len() {
@@ -92,6 +136,24 @@ fn oriented(alloc: Global, column: usize, line: Line) -> Result<Line, AllocError
     Ok(line)
 }
 
+/// How far the variable of a line is over its bound, or of its opposite where the coefficient in a column is below 0,
+/// where that is not large.
+fn oriented_over(column: usize, line: &Line, over: i128) -> Option<i128>
+    requires { column < length line.now.coefs }
+    ensures small { IfSome result IsNumber }
+    ensures value { (rows : RowList) (nonbasic : List ℕ) → over ≡ over_at rows nonbasic line.now →
+        IfSome result (λ z. z ≡ over_at rows nonbasic (oriented_of column line.now)) }
+{
+    if is_large(over) {
+        return None;
+    }
+    if line.coefs.as_slice()[column] < 0 {
+        Some(opposite(over))
+    } else {
+        Some(over)
+    }
+}
+
 /// Puts the entering variable into lines, puts the line that is left behind them, solved for it, and says whether a
 /// number is then too large.
 fn exchange_lines(
@@ -102,14 +164,10 @@ fn exchange_lines(
     over: &mut Vec<i128>,
 ) -> Result<bool, AllocError>
     requires entry { IsEntry entry.now }
-    requires bounds { HasBounds rows.now entry.now }
+    requires shows { EntryShows rows.now entry.now }
     requires lines { All (IsLine (length entry.now.left.coefs)) lines.old.items }
     requires lowest { All IsLowest lines.old.items }
-    requires width { length over.old.items ≡ length lines.old.items }
-    requires over { (k : ℕ) → (d : Line) → k < length lines.old.items →
-        coef_at entry.now.column (slice_index_or lines.old.items k d) ≡ pos 0 →
-        slice_index_or over.old.items k (pos 0) ≡
-        over_at rows.now entry.now.nonbasic.items (slice_index_or lines.old.items k d) }
+    requires over { over.old.items ≡ map (over_at rows.now (before entry.now)) lines.old.items }
     ensures { IfOk result (AreMade rows.now entry.now
         (map (entered entry.now) lines.old.items ++ solved_line entry.now ∷ []) lines.new.items over.new.items) }
 {
@@ -151,8 +209,9 @@ pub(crate) fn exchange(
     let mut nonbasic = nonbasic.into_vec();
     let mut lines = lines.into_vec();
     let mut over = over.into_vec();
-    let left = oriented(alloc, column, lines.remove(place))?;
-    let _over = over.remove(place);
+    let own = lines.remove(place);
+    let own_over = oriented_over(column, &own, over.remove(place));
+    let left = oriented(alloc, column, own)?;
     let entering = nonbasic[column];
     nonbasic[column] = left.basic;
     let bounds = bounds_of(alloc, rows, &nonbasic)?;
@@ -160,6 +219,7 @@ pub(crate) fn exchange(
         column,
         entering,
         left,
+        over: own_over,
         nonbasic,
         bounds,
     };

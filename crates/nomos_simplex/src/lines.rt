@@ -22,7 +22,7 @@ pub fn product(a: i128, b: i128) -> i128
 }
 
 /// `p * a - g * c`.
-fn cross(p: i128, a: i128, g: i128, c: i128) -> i128
+pub fn cross(p: i128, a: i128, g: i128, c: i128) -> i128
     requires p { IsNumber p }
     requires a { IsNumber a }
     requires g { IsNumber g }
@@ -101,7 +101,7 @@ pub fn enter(alloc: Global, column: usize, left: &Line, line: &mut Line)
 }
 
 /// The number with its sign changed.
-fn opposite(number: i128) -> i128
+pub fn opposite(number: i128) -> i128
     requires { IsNumber number }
     ensures { result ≡ neg_ℤ number }
 {

@@ -1,14 +1,15 @@
 -- A mirror of the code: what is kept beside a table, so that its lines are not added up anew at each turn. No promise
 -- stands on it.
-use Rattle.std.specs.Prelude.{◌≡◌, ◌<◌, ◌≤◌, Bool, true, false, ℕ, ℤ, pos, ◌<ℤ◌, ◌+ℤ◌, ◌*ℤ◌, ◌-ℤ◌, List, [], ◌∷◌, length, map, All, Option, Some, None}
+use Rattle.std.specs.Prelude.{◌≡◌, ◌<◌, ◌≤◌, Bool, true, false, ℕ, ℤ, pos, ◌<ℤ◌, ◌+ℤ◌, ◌*ℤ◌, ◌-ℤ◌, List, [], ◌∷◌, length, map, slice_set, All, IfSome, Option, Some, None}
 use Rattle.std.specs.List.{list_any}
 use Rattle.nomos_forms.specs.Bounds.{IsSmall}
 use Rattle.nomos_forms.specs.declared.row_list.RowList.{RowList}
 use Rattle.nomos_simplex.specs.Divisors.{in_lowest_terms}
 use Rattle.nomos_simplex.specs.Exchange.{coef_at, put_into, solved_for, is_large_line, is_large_table}
-use Rattle.nomos_simplex.specs.Sizes.{HasNumbers}
+use Rattle.nomos_simplex.specs.Sizes.{IsNumber, HasNumbers}
 use Rattle.nomos_simplex.specs.Tables.{bound_of, sum_at}
 use Rattle.nomos_simplex.specs.declared.exchanging.Entry.{Entry}
+use Rattle.nomos_simplex.specs.declared.exchanging.Put.{Put}
 use Rattle.nomos_simplex.specs.declared.keeping.Kept.{Kept}
 use Rattle.nomos_simplex.specs.declared.keeping.Next.{Next}
 use Rattle.nomos_simplex.specs.declared.keeping.Next.TheVariants as next
@@ -43,15 +44,32 @@ pub record IsEntry (entry : Entry) : Type 0 where
   pub over_zero : pos 0 <ℤ coef_at entry.column entry.left
   pub width : length entry.nonbasic.items ≡ length entry.left.coefs
   pub few : length entry.nonbasic.items ≤ 64
+  pub over : IfSome entry.over IsNumber
 
--- what is kept of an exchange are the bounds of the nonbasic variables after it
-pub record HasBounds (rows : RowList) (entry : Entry) : Type 0 where
+-- the nonbasic variables before the exchange
+abbrev pub before : Entry → List ℕ
+before entry = slice_set entry.nonbasic.items entry.column entry.entering
+
+-- The variable that is left is nonbasic after the exchange. What is kept are the bounds of the nonbasic variables, and
+-- how far the variable was over its bound before the exchange.
+pub record EntryShows (rows : RowList) (entry : Entry) : Type 0 where
+  pub after : entry.nonbasic.items ≡ slice_set (before entry) entry.column entry.left.basic
   pub value : entry.bounds.items ≡ map (bound_of rows) entry.nonbasic.items
   pub small : All IsSmall entry.bounds.items
+  pub over : IfSome entry.over (λ over. over ≡ over_of rows (before entry) entry.left)
 
 -- a line with the entering variable put in
 abbrev pub entered : Entry → Line → Line
 entered entry line = in_lowest_terms (put_into entry.column entry.left line)
+
+-- what a line has once the entering variable is put in, before lowest terms
+pub record IsPut (rows : RowList) (entry : Entry) (line : Line) (put : Put) : Type 0 where
+  pub times : put.times ≡ (put_into entry.column entry.left line).times
+  pub over : put.over ≡ over_of rows entry.nonbasic.items (put_into entry.column entry.left line)
+
+-- and that is what it has in lowest terms, where the number before its variable stays the same
+abbrev pub IsKeptPut : RowList → Entry → Line → Put → Type 0
+IsKeptPut rows entry made put = put.times ≡ made.times → put.over ≡ over_of rows entry.nonbasic.items made
 
 -- the line that is left, solved for the entering variable
 abbrev pub solved_line : Entry → Line

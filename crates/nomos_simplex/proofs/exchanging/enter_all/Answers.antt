@@ -2,10 +2,10 @@ use Rattle.std.proofs.Common.{rules, ◌≡◌, ◌<◌, ◌≤◌, true, Some, 
 use Rattle.std.specs.Int.{w128}
 use Rattle.std.specs.List.{list_any}
 use Rattle.std.proofs.lemmas.Int.{to_z-of_z}
-use Rattle.std.proofs.lemmas.List.{take_all}
+use Rattle.std.proofs.lemmas.List.{take_all, length-map}
 use Rattle.nomos_simplex.specs.Exchange.{is_large_line}
 use Rattle.nomos_simplex.specs.declared.table.Line.{Line}
-use Rattle.nomos_simplex.specs.mirror.Keeping.{over_of, entered, IsMade}
+use Rattle.nomos_simplex.specs.mirror.Keeping.{over_of, before, entered, IsMade}
 use Rattle.nomos_simplex.proofs.KeepingLemmas.{seam_at, seam_more, all_of_seam, map_after, none_more, some_large}
 use Rattle.nomos_simplex.proofs.exchanging.enter_all.Goals as goal
 
@@ -32,6 +32,8 @@ loop-i-preserved c =
     let entry = c.args.entry.now in
     let lines = c.args.lines.now in
     let over = c.args.over.now in
+    let width : length over ≡ length lines = ap length c.requires.over
+    ∙ length-map lines (over_of rows (before entry)) in
     let i = c.loop-i.i in
     let x = c.index-lines-i.result in
     let g = λ (line : Line). entered entry line in
@@ -47,7 +49,7 @@ loop-i-preserved c =
     let back : to_z w128 (of_z w128 c.in-Some.next) ≡ h x = to_z-of_z w128 c.in-Some.next fits ∙ made.1 in
     record {
       lines = (λ p. set (c.loop-i.invariant.lines p) i (made.0 p)) ∙ seam_more g lines lines i x within refl at;
-      over = (λ p. set (c.loop-i.invariant.over p) i (back p)) ∙ seam_more h lines over i x within c.requires.width at;
+      over = (λ p. set (c.loop-i.invariant.over p) i (back p)) ∙ seam_more h lines over i x within width at;
       small = none_more g lines i x within at c.loop-i.invariant.small made.2;
     }
 
@@ -57,12 +59,14 @@ returns c =
     let entry = c.args.entry.now in
     let lines = c.args.lines.now in
     let over = c.args.over.now in
+    let width : length over ≡ length lines = ap length c.requires.over
+    ∙ length-map lines (over_of rows (before entry)) in
     let i = c.loop-i.i in
     let g = λ (line : Line). entered entry line in
     let h = λ (line : Line). over_of rows entry.nonbasic.items (entered entry line) in
     let end : length lines ≤ i = omega arith in (
       c.loop-i.invariant.lines ∙ all_of_seam g lines lines i end refl,
-      c.loop-i.invariant.over ∙ all_of_seam h lines over i end c.requires.width
+      c.loop-i.invariant.over ∙ all_of_seam h lines over i end width
           ∙ map_after (over_of rows entry.nonbasic.items) g lines,
       ap (λ xs. list_any is_large_line (map g xs)) (sym (take_all i lines end)) ∙ c.loop-i.invariant.small,
     )
