@@ -17,7 +17,7 @@ use Rattle.nomos_forms.proofs.WholeLaws.{neg_times, times_assoc}
 use Rattle.nomos_simplex.specs.Divisors.{common, divided_by, in_lowest_terms}
 use Rattle.nomos_simplex.specs.Exchange.{coef_at, put_into, solved_for, lines_exchanged, is_large, is_large_line}
 use Rattle.nomos_simplex.specs.Lowest.{lowest_place, is_below, leaving}
-use Rattle.nomos_simplex.specs.Sizes.{IsNumber, IsLine}
+use Rattle.nomos_simplex.specs.Sizes.{IsNumber, HasNumbers, IsLine}
 use Rattle.nomos_simplex.specs.Tables.{bound_of, sum_at}
 use Rattle.nomos_simplex.specs.declared.exchanging.Entry.{Entry}
 use Rattle.nomos_simplex.specs.declared.exchanging.Put.{Put}
@@ -90,8 +90,8 @@ unchanged_over rows nonbasic j v line h w e =
     (unchanged_sum (bound_of rows) nonbasic line.coefs j v h (omega arith) e)
 
 -- ---- the lines that are made
-pub line_small : (n : ℕ) (line : Line) → IsLine n line → is_large_line line ≡ false
-line_small n line h =
+pub numbers_small : (line : Line) → HasNumbers line → is_large_line line ≡ false
+numbers_small line h =
     neither (is_large line.times) (list_any is_large line.coefs) (small line.times h.times)
     (list_any_none is_large line.coefs (All-weaker IsNumber (λ c. is_large c ≡ false) small line.coefs h.coefs))
   where
@@ -101,6 +101,9 @@ line_small n line h =
     neither : (x y : Bool) → x ≡ false → y ≡ false → (x || y) ≡ false
     neither true y e f = e
     neither false y e f = f
+
+pub line_small : (n : ℕ) (line : Line) → IsLine n line → is_large_line line ≡ false
+line_small n line h = numbers_small line (record { times = h.times; coefs = h.coefs })
 
 pub entered_line : (entry : Entry) (line : Line) → IsEntry entry → IsLine (length entry.left.coefs) line →
     is_large_line (entered entry line) ≡ false → IsLine (length entry.left.coefs) (entered entry line)

@@ -1,17 +1,20 @@
 -- Lines, coefficient by coefficient.
-use Rattle.std.proofs.Common.{◌≡◌, ℕ, zero, suc, ◌+◌, ◌<◌, ◌≤◌, map, drop, List, [], ◌∷◌, ◌++◌, length, get_or, take, refl, ap, sym, ◌∙◌, arith, ℤ, pos, negsuc, ◌+ℤ◌, ◌*ℤ◌, ◌-ℤ◌, ◌<ℤ◌, unsigned_abs, add-one, set}
-use Rattle.std.specs.Prelude.{slice_set, All, remove}
-use Rattle.std.proofs.lemmas.List.Elements.{All-append, All-take, All-drop}
+use Rattle.std.proofs.Common.{◌≡◌, ℕ, zero, suc, ◌+◌, ◌/◌, ◌<◌, ◌≤◌, map, drop, List, [], ◌∷◌, ◌++◌, length, get_or, take, refl, ap, sym, subst, ◌∙◌, arith, ℤ, pos, negsuc, neg_ℤ, ◌+ℤ◌, ◌*ℤ◌, ◌-ℤ◌, ◌<ℤ◌, unsigned_abs, add-one, set}
+use Rattle.std.specs.Prelude.{slice_set, int_div, All, remove}
+use Rattle.std.proofs.lemmas.List.Elements.{All-append, All-take, All-drop, All-map, All-weaker}
 use Rattle.std.proofs.lemmas.Int.{ints}
 use Rattle.std.proofs.lemmas.List.{length-map, get_or-map}
+use Rattle.std.proofs.Math.Nat.{div-le_self}
 use Rattle.std.proofs.Math.IntN.{zero-*ℤ, *ℤ-zero, +ℤ_assoc}
+use Rattle.nomos_forms.proofs.WholeLaws.{count_times_lt}
 use Rattle.nomos_forms.specs.declared.row_list.RowList.{RowList}
 use Rattle.nomos_simplex.specs.Tables.{bound_of, sum_at}
 use Rattle.nomos_simplex.specs.Divisors.{common, in_lowest_terms}
 use Rattle.nomos_simplex.specs.Exchange.{coef_at, eliminated, put_into}
+use Rattle.nomos_simplex.specs.Sizes.{IsNumber, HasNumbers}
 use Rattle.nomos_simplex.specs.declared.table.Line.{Line}
 use Rattle.nomos_simplex.specs.mirror.Keeping.{sum_of, over_by, over_of}
-use Rattle.nomos_simplex.proofs.DivisorLemmas.{lowest_times}
+use Rattle.nomos_simplex.proofs.DivisorLemmas.{lowest_is, lowest_times}
 
 -- in place: the first columns are made, those behind are as they were
 pub made_at : (p g : ℤ) (as' cs : List ℤ) (k : ℕ) (d : ℤ) → k < length as' → length as' ≡ length cs →
@@ -153,3 +156,29 @@ over_by_bounds rows nonbasic bounds line e =
 
 pub All-remove : {X : Type 0} (P : X → Type 0) (xs : List X) (i : ℕ) → All P xs → All P (remove xs i)
 All-remove P xs i h = All-append P (take i xs) (drop (suc i) xs) (All-take P i xs h) (All-drop P (suc i) xs h)
+
+pub product_over : (a b : ℤ) → pos 0 <ℤ a → pos 0 <ℤ b → pos 0 <ℤ (a *ℤ b)
+product_over (pos n) b p q =
+    subst (λ k. k <ℤ (pos n *ℤ b)) (*ℤ-zero (pos n)) (count_times_lt n (pos 0) b (omega (arith, ints, p)) q)
+product_over (negsuc n) b p q = absurd (omega (arith, ints, p))
+
+-- ---- small numbers stay small in lowest terms
+quotient_small : (g : ℕ) (z : ℤ) → IsNumber z → IsNumber (int_div z (pos g))
+quotient_small g (pos n) h = let less = div-le_self n g in omega (arith, h, less)
+quotient_small g (negsuc n) h =
+    let less = div-le_self (suc n) g in
+    let size = abs_turned (suc n / g) in
+    omega (arith, h, less, size)
+  where
+    abs_turned : (k : ℕ) → unsigned_abs (neg_ℤ (pos k)) ≡ k
+    abs_turned zero = refl
+    abs_turned (suc k) = refl
+
+pub lowest_small : (line : Line) → pos 0 <ℤ line.times → HasNumbers line → HasNumbers (in_lowest_terms line)
+lowest_small line over h =
+    let g = common (unsigned_abs line.times) line.coefs in
+    subst HasNumbers (sym (lowest_is line g over refl)) (record {
+      times = quotient_small g line.times h.times;
+      coefs = All-map IsNumber (λ c. int_div c (pos g)) line.coefs (All-weaker IsNumber
+          (λ c. IsNumber (int_div c (pos g))) (quotient_small g) line.coefs h.coefs);
+    })

@@ -1,5 +1,5 @@
 //! The exchange of a basic and a nonbasic variable.
-ghost use Rattle.std.specs.Prelude.{◌≡◌, ◌<◌, ℕ, ◌≤◌, ◌++◌, List, [], ◌∷◌, pos, length, map, All, IfOk, IfSome, slice_get, Some};
+ghost use Rattle.std.specs.Prelude.{◌≡◌, ◌<◌, ℕ, ◌≤◌, ◌++◌, List, [], ◌∷◌, pos, length, map, All, IsTrue, IfOk, IfSome, slice_get, Some};
 ghost use Rattle.std.specs.List.{list_any};
 ghost use Rattle.nomos_simplex.specs.Exchange.{coef_at, exchanged, is_large as is_large_number, is_large_line};
 ghost use Rattle.nomos_forms.specs.declared.row_list.RowList.{RowList};
@@ -73,6 +73,14 @@ fn over_after(rows: &RowList, entry: &Entry, line: &Line, put: Option<Put>) -> i
     over_of(rows, &entry.bounds, line)
 }
 
+/// Whether a number of a line is too large, where it may be known that none is.
+pub fn is_too_large(small: bool, line: &Line) -> bool
+    requires { IsTrue small → HasNumbers line.now }
+    ensures { result ≡ is_large_line line.now }
+{
+    !small && has_large_number(line)
+}
+
 /// Puts the entering variable into a line, whose own variable was so far over its bound, and says how far it then is,
 /// unless a number is then too large. A line without the entering variable stays as it is.
 fn enter_kept(
@@ -93,8 +101,8 @@ fn enter_kept(
         return Some(over);
     }
     let put = put_of(entry, line, over);
-    enter(alloc, entry.column, &entry.left, line);
-    if has_large_number(line) {
+    let small = enter(alloc, entry.column, &entry.left, line);
+    if is_too_large(small, line) {
         return None;
     }
     Some(over_after(rows, entry, line, put))
@@ -239,7 +247,8 @@ pub(crate) fn exchange(
 /// The absolute value from which on a number is too large.
 pub const LARGE: u128 = 1 << 62;
 
-fn is_large(number: i128) -> bool
+/// Whether a number is too large.
+pub fn is_large(number: i128) -> bool
     ensures { result ≡ is_large_number number }
 {
     number.unsigned_abs() >= LARGE

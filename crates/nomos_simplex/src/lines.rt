@@ -1,11 +1,12 @@
 //! Lines of a table: solved for another variable, and with a solved variable put in.
-ghost use Rattle.std.specs.Prelude.{◌≡◌, ◌<◌, ◌≤◌, ◌^◌, ◌*ℤ◌, ◌-ℤ◌, neg_ℤ, pos, ◌<ℤ◌, ◌≢◌, unsigned_abs, length, map, All, IfOk, OnOk};
+ghost use Rattle.std.specs.Prelude.{◌≡◌, ◌<◌, ◌≤◌, ◌^◌, ◌*ℤ◌, ◌-ℤ◌, neg_ℤ, pos, ◌<ℤ◌, ◌≢◌, unsigned_abs, length, map, All, IfOk, OnOk, IsTrue, ◌↔◌};
 ghost use Rattle.nomos_simplex.specs.Divisors.{in_lowest_terms};
 ghost use Rattle.nomos_simplex.specs.Exchange.{coef_at, solved_for, eliminated, put_into};
 ghost use Rattle.nomos_simplex.specs.Sizes.{IsNumber, HasNumbers, IsLine, IsLowest};
 ghost use Rattle.nomos_simplex.specs.mirror.Opposite.{opposite_of};
 
 use crate::divisors::lowest_terms;
+use crate::exchanging::is_large;
 use crate::table::Line;
 use nomos_ir::items::Items;
 use std::alloc::{AllocError, Global};
@@ -34,28 +35,42 @@ pub fn cross(p: i128, a: i128, g: i128, c: i128) -> i128
     plus - minus
 }
 
-/// `p * a - g * c` for each of two lists of numbers, in place of the first. Where that is `a` it is left alone.
-fn eliminate(p: i128, g: i128, of: &mut [i128], by: &[i128])
+/// Whether a number is small too, beside others.
+fn still_small(small: bool, number: i128) -> bool
+    ensures { IsTrue result ↔ (IsTrue small × IsNumber number) }
+{
+    small && !is_large(number)
+}
+
+/// `p * a - g * c` for each of two lists of numbers, in place of the first, and whether all of these are small. Where that is `a` it is left alone.
+fn eliminate(p: i128, g: i128, of: &mut [i128], by: &[i128]) -> bool
     requires p { IsNumber p }
     requires g { IsNumber g }
     requires of { All IsNumber of.old }
     requires by { All IsNumber by.now }
     requires width { length of.old ≡ length by.now }
-    ensures { of.new ≡ eliminated p g of.old by.now }
+    ensures value { of.new ≡ eliminated p g of.old by.now }
+    ensures small { IsTrue result → All IsNumber of.new }
 {
+    let mut small = true;
     for i in 0..of.len() {
         if p != 1 || by[i] != 0 {
-            of[i] = cross(p, of[i], g, by[i]);
+            let number = cross(p, of[i], g, by[i]);
+            small = still_small(small, number);
+            of[i] = number;
         }
     }
+    small
 }
 
 /// A line multiplied by the coefficient of the entering variable in the line that is left, with that variable put in.
-fn with_entered(column: usize, left: &Line, line: Line) -> Line
+/// Beside it stands whether its numbers are small.
+fn with_entered(column: usize, left: &Line, line: Line) -> (Line, bool)
     requires column { column < length left.now.coefs }
     requires left { HasNumbers left.now }
     requires line { IsLine (length left.now.coefs) line }
-    ensures { result ≡ put_into column left.now line }
+    ensures made { result.0 ≡ put_into column left.now line }
+    ensures small { IsTrue result.1 → HasNumbers result.0 }
 {
     let Line {
         times,
@@ -66,13 +81,17 @@ fn with_entered(column: usize, left: &Line, line: Line) -> Line
     let by = left.coefs.as_slice();
     let p = by[column];
     let g = coefs[column];
-    eliminate(p, g, &mut coefs, by);
-    coefs[column] = product(g, left.times);
-    Line {
-        times: product(p, times),
+    let all = eliminate(p, g, &mut coefs, by);
+    let entering = product(g, left.times);
+    let times = product(p, times);
+    let small = still_small(still_small(all, entering), times);
+    coefs[column] = entering;
+    let made = Line {
+        times,
         basic,
         coefs: Items::of_vec(coefs),
-    }
+    };
+    (made, small)
 }
 
 /// A line without numbers, which stands where one is taken out for a while.
@@ -84,20 +103,24 @@ fn no_line(alloc: Global) -> Line {
     }
 }
 
-/// Puts the entering variable into a line, in the line's own memory. A line without it stays as it is.
-pub fn enter(alloc: Global, column: usize, left: &Line, line: &mut Line)
+/// Puts the entering variable into a line, in the line's own memory. A line without it stays as it is. The
+/// answer says where the line is known to have small numbers, with no look at those that were not changed.
+pub fn enter(alloc: Global, column: usize, left: &Line, line: &mut Line) -> bool
     requires column { column < length left.now.coefs }
     requires left { HasNumbers left.now }
     requires over_zero { pos 0 <ℤ coef_at column left.now }
     requires line { IsLine (length left.now.coefs) line.old }
     requires lowest { IsLowest line.old }
-    ensures { line.new ≡ in_lowest_terms (put_into column left.now line.old) }
+    ensures value { line.new ≡ in_lowest_terms (put_into column left.now line.old) }
+    ensures small { IsTrue result → HasNumbers line.new }
 {
     if line.coefs.as_slice()[column] == 0 {
-        return;
+        return true;
     }
     let own = mem::replace(line, no_line(alloc));
-    *line = lowest_terms(with_entered(column, left, own));
+    let (made, small) = with_entered(column, left, own);
+    *line = lowest_terms(made);
+    small
 }
 
 /// The number with its sign changed.

@@ -21,7 +21,7 @@ ghost use Rattle.nomos_simplex.specs.declared.table.Line.{Line};
 ghost use Rattle.nomos_simplex.specs.mirror.Keeping.{Shows};
 ghost use Rattle.nomos_simplex.specs.mirror.Steps.{IsNext, IsNotFound, MayLeave, StandsAt, IsAimedOrLarge};
 
-use crate::exchanging::{exchange, has_large_number};
+use crate::exchanging::{exchange, is_too_large};
 use crate::fractions::found;
 use crate::goal::goal_line;
 use crate::keeping::Kept;
@@ -75,8 +75,8 @@ fn exchange_aimed(
 {
     let Aimed { kept, mut line } = aimed;
     let left = opposite_line(alloc, &kept.table.lines.as_slice()[place])?;
-    enter(alloc, column, &left, &mut line);
-    if has_large_number(&line) {
+    let small = enter(alloc, column, &left, &mut line);
+    if is_too_large(small, &line) {
         return Ok(None);
     }
     match exchange(alloc, rows, kept, place, column)? {

@@ -1,7 +1,9 @@
-use Rattle.std.proofs.Common.{rules, ◌≡◌, pos, ◌++◌, ◌*ℤ◌, ◌-ℤ◌, take, drop, get_or, set, FitsSigned, to_z, of_z, ap, sym, ◌∙◌, arith}
+use Rattle.std.proofs.Common.{rules, ◌≡◌, pos, ◌++◌, ◌*ℤ◌, ◌-ℤ◌, take, drop, get_or, set, All, IsTrue, FitsSigned, to_z, of_z, ap, sym, subst, ◌∙◌, arith}
 use Rattle.std.specs.Int.{w128}
 use Rattle.std.proofs.lemmas.Int.{to_z-of_z}
+use Rattle.std.proofs.lemmas.List.Elements.{All-set}
 use Rattle.nomos_simplex.specs.Exchange.{eliminated}
+use Rattle.nomos_simplex.specs.Sizes.{IsNumber}
 use Rattle.nomos_simplex.proofs.LineLemmas.{made_at, made_more, made_same, made_all}
 use Rattle.nomos_simplex.proofs.NumberLemmas.{number_back}
 use Rattle.nomos_simplex.proofs.lines.eliminate.Goals as goal
@@ -17,25 +19,35 @@ loop-i-preserved c =
     let g = to_z w128 (of_z w128 c.args.g) in
     let in_of = c.loop-i-test.true in
     let width = c.requires.width in
-    let at : get_or c.loop-i.of i (pos 0) ≡ get_or of i (pos 0) = ap (λ xs. get_or xs i (pos 0)) c.loop-i.invariant
+    let at : get_or c.loop-i.of i (pos 0) ≡ get_or of i (pos 0) = ap (λ xs. get_or xs i (pos 0)) c.loop-i.invariant.value
     ∙ made_at p g of by i (pos 0) in_of width in
     let back_of : to_z w128 (of_z w128 (get_or c.loop-i.of i (pos 0))) ≡ get_or of i (pos 0) =
     (λ q. to_z w128 (of_z w128 (at q))) ∙ number_back (get_or of i (pos 0)) (c.requires.of i (pos 0) in_of) in
     let back_by = number_back (get_or by i (pos 0)) (c.requires.by i (pos 0) (omega (arith, width))) in
     elim c.if-p-ne1.branch [
-      | then-p-ne1 w ↦ (let fits : FitsSigned w128 w.cross.result = search rules in
-          let value = to_z-of_z w128 w.cross.result fits ∙ w.cross.ensures ∙ (λ q. p *ℤ back_of q -ℤ g *ℤ back_by q) in
-          w.of-is ∙ (λ q. set (c.loop-i.invariant q) i (value q)) ∙ made_more p g of by i in_of width)
-      | else-p-ne1+else-by-i-ne0 w ↦ w.of-is ∙ c.loop-i.invariant ∙ made_same p g of by i in_of width
-          (ap (to_z w128) w.if-p-ne1.false) (sym back_by ∙ ap (to_z w128) w.if-by-i-ne0.false)
+      | then-p-ne1 w ↦ (let fits : FitsSigned w128 w.cross-number.result = search rules in
+          let x = to_z w128 (of_z w128 w.cross-number.result) in
+          let value = to_z-of_z w128 w.cross-number.result fits ∙ w.cross-number.ensures
+          ∙ (λ q. p *ℤ back_of q -ℤ g *ℤ back_by q) in
+          record {
+            value = w.of-is ∙ (λ q. set (c.loop-i.invariant.value q) i (value q)) ∙ made_more p g of by i in_of width;
+            small = λ t. let both = w.still_small-small.ensures.0 (subst IsTrue w.small-is t) in
+                subst (All IsNumber) (sym w.of-is) (All-set IsNumber c.loop-i.of i x both.1
+                (c.loop-i.invariant.small both.0));
+          })
+      | else-p-ne1+else-by-i-ne0 w ↦ record {
+        value = w.of-is ∙ c.loop-i.invariant.value ∙ made_same p g of by i in_of width (ap (to_z w128) w.if-p-ne1.false)
+            (sym back_by ∙ ap (to_z w128) w.if-by-i-ne0.false);
+        small = λ t. subst (All IsNumber) (sym w.of-is) (c.loop-i.invariant.small (subst IsTrue w.small-is t));
+      }
     ]
 
-pub returns : goal.returns
-returns c =
+pub returns-clause-value : goal.returns-clause-value
+returns-clause-value c =
     let p = number_back c.args.p c.requires.p in
     let g = number_back c.args.g c.requires.g in
     let of = c.args.of.now in
     let by = c.args.by.now in
     let i = c.loop-i.i in
-    c.loop-i.invariant ∙ (λ q. eliminated (p q) (g q) (take i of) (take i by) ++ drop i of)
+    c.loop-i.invariant.value ∙ (λ q. eliminated (p q) (g q) (take i of) (take i by) ++ drop i of)
     ∙ made_all c.args.p c.args.g of by i c.loop-i-test.false c.requires.width

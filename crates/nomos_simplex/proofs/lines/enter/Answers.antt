@@ -1,13 +1,15 @@
-use Rattle.std.proofs.Common.{◌≡◌, pos, get_or, to_z, of_z, ap, sym, ◌∙◌, arith}
+use Rattle.std.proofs.Common.{◌≡◌, ◌<ℤ◌, pos, get_or, to_z, of_z, ap, sym, subst, ◌∙◌, arith}
 use Rattle.std.specs.Int.{w128}
 use Rattle.nomos_simplex.specs.Exchange.{coef_at}
-use Rattle.nomos_simplex.proofs.LineLemmas.{skipped}
+use Rattle.nomos_simplex.specs.Sizes.{HasNumbers}
+use Rattle.nomos_simplex.specs.declared.table.Line.{Line}
+use Rattle.nomos_simplex.proofs.LineLemmas.{skipped, product_over, lowest_small}
 use Rattle.nomos_simplex.proofs.NumberLemmas.{number_back}
 use Rattle.nomos_simplex.proofs.lines.enter.Goals as goal
 
 -- a line without the entering variable
-pub returns-then-as_slice-column-eq0 : goal.returns-then-as_slice-column-eq0
-returns-then-as_slice-column-eq0 c =
+pub returns-then-as_slice-column-eq0-clause-value : goal.returns-then-as_slice-column-eq0-clause-value
+returns-then-as_slice-column-eq0-clause-value c =
     let j = c.args.column in
     let left = c.args.left.now in
     let line = c.args.line.now in
@@ -17,3 +19,13 @@ returns-then-as_slice-column-eq0 c =
     (arith, width, low)))) ∙ ap (λ xs. to_z w128 (of_z w128 (get_or xs j (pos 0)))) (sym c.as_slice.ensures)
     ∙ ap (to_z w128) c.if-as_slice-column-eq0.true in
     sym (skipped j left line low width c.requires.over_zero c.requires.line.positive zero c.requires.lowest)
+
+pub returns-clause-small : goal.returns-clause-small
+returns-clause-small c = λ t.
+    let made = c.with_entered-made.result.0 in
+    let left = c.args.left.now in
+    let positive = subst (λ (l : Line). pos 0 <ℤ l.times) (sym c.replace-own.ensures.value) c.requires.line.positive in
+    let times = ap (λ (l : Line). l.times) c.with_entered-made.ensures.made in
+    let over = subst (λ z. pos 0 <ℤ z) (sym times) (product_over (coef_at c.args.column left) c.replace-own.result.times
+    c.requires.over_zero positive) in
+    subst HasNumbers (sym c.lowest_terms.ensures) (lowest_small made over (c.with_entered-made.ensures.small t))
