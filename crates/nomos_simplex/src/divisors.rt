@@ -1,9 +1,8 @@
 //! Greatest common divisors, and lowest terms.
-ghost use Rattle.std.specs.Prelude.{◌≡◌, ◌<◌, ◌%◌, ◌↔◌, IsTrue, pos, ◌<ℤ◌, int_div, map};
+ghost use Rattle.std.specs.Prelude.{◌≡◌, ◌<◌, ◌%◌, pos, ◌<ℤ◌, int_div, map};
 ghost use Rattle.nomos_simplex.specs.Divisors.{gcd, common, divided_by, in_lowest_terms};
-ghost use Rattle.nomos_simplex.specs.Sizes.{IsNumber};
 
-use crate::exchanging::LARGE;
+use crate::sizes::is_small;
 use crate::table::Line;
 use nomos_ir::items::Items;
 
@@ -86,19 +85,12 @@ pub fn lowest_terms(line: Line) -> Line
     divided(line, divisor as i128)
 }
 
-/// Whether a number is so small that the processor divides it itself.
-fn is_narrow(number: i128) -> bool
-    ensures { IsTrue result ↔ IsNumber number }
-{
-    number.unsigned_abs() < LARGE
-}
-
 /// A quotient, rounded toward 0.
 fn quotient(number: i128, by: i128) -> i128
     requires { pos 0 <ℤ by }
     ensures { result ≡ int_div number by }
 {
-    if is_narrow(number) && is_narrow(by) {
+    if is_small(number) && is_small(by) {
         return i128::from(number as i64 / by as i64);
     }
     number / by

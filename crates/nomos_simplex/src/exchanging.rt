@@ -1,7 +1,6 @@
 //! The exchange of a basic and a nonbasic variable.
-ghost use Rattle.std.specs.Prelude.{◌≡◌, ◌<◌, ℕ, ◌≤◌, ◌++◌, List, [], ◌∷◌, pos, length, map, All, IsTrue, IfOk, IfSome, slice_get, Some};
-ghost use Rattle.std.specs.List.{list_any};
-ghost use Rattle.nomos_simplex.specs.Exchange.{coef_at, exchanged, is_large as is_large_number, is_large_line};
+ghost use Rattle.std.specs.Prelude.{◌≡◌, ◌<◌, ℕ, ◌≤◌, ◌++◌, List, [], ◌∷◌, pos, length, map, All, IfOk, IfSome, slice_get, Some};
+ghost use Rattle.nomos_simplex.specs.Exchange.{coef_at, exchanged};
 ghost use Rattle.nomos_forms.specs.declared.row_list.RowList.{RowList};
 ghost use Rattle.nomos_simplex.specs.declared.table.Line.{Line};
 ghost use Rattle.nomos_simplex.specs.Sizes.{IsNumber, HasNumbers, IsLine, IsLowest};
@@ -11,6 +10,7 @@ ghost use Rattle.nomos_simplex.specs.mirror.Opposite.{oriented_of};
 use crate::bounds::{bounds_of, over_of};
 use crate::keeping::Kept;
 use crate::lines::{cross, enter, opposite, opposite_line, product, solved};
+use crate::sizes::{has_large_number, is_large, is_too_large};
 use crate::table::{Line, Table};
 use nomos_forms::row_list::RowList;
 use nomos_ir::items::Items;
@@ -71,14 +71,6 @@ fn over_after(rows: &RowList, entry: &Entry, line: &Line, put: Option<Put>) -> i
         }
     }
     over_of(rows, &entry.bounds, line)
-}
-
-/// Whether a number of a line is too large, where it may be known that none is.
-pub fn is_too_large(small: bool, line: &Line) -> bool
-    requires { IsTrue small → HasNumbers line.now }
-    ensures { result ≡ is_large_line line.now }
-{
-    !small && has_large_number(line)
 }
 
 /// Puts the entering variable into a line, whose own variable was so far over its bound, and says how far it then is,
@@ -242,32 +234,4 @@ pub(crate) fn exchange(
         },
         over: Items::of_vec(over),
     }))
-}
-
-/// The absolute value from which on a number is too large.
-pub const LARGE: u128 = 1 << 62;
-
-/// Whether a number is too large.
-pub fn is_large(number: i128) -> bool
-    ensures { result ≡ is_large_number number }
-{
-    number.unsigned_abs() >= LARGE
-}
-
-fn has_large(numbers: &[i128]) -> bool
-    ensures { result ≡ list_any is_large_number numbers.now }
-{
-    for number in numbers {
-        if is_large(*number) {
-            return true;
-        }
-    }
-    false
-}
-
-/// Whether a number of the line is too large.
-pub fn has_large_number(line: &Line) -> bool
-    ensures { result ≡ is_large_line line.now }
-{
-    is_large(line.times) || has_large(line.coefs.as_slice())
 }

@@ -10,9 +10,9 @@ ghost use Rattle.nomos_simplex.specs.mirror.Steps.{IsSumOrHuge, AreSums};
 
 use crate::bounds::add_bounded;
 use crate::divisors::{greatest_divisor, lowest_terms};
-use crate::exchanging::has_large_number;
 use crate::fractions::line_of;
 use crate::lines::product;
+use crate::sizes::has_large_number;
 use crate::table::{Line, Table};
 use nomos_forms::form::Form;
 use nomos_ir::items::Items;

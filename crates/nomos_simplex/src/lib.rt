@@ -12,6 +12,7 @@ mod lines;
 pub mod lowering;
 mod nearest;
 mod refusing;
+mod sizes;
 pub mod solved;
 pub mod solving;
 pub mod table;

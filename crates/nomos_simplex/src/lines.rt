@@ -6,7 +6,7 @@ ghost use Rattle.nomos_simplex.specs.Sizes.{IsNumber, HasNumbers, IsLine, IsLowe
 ghost use Rattle.nomos_simplex.specs.mirror.Opposite.{opposite_of};
 
 use crate::divisors::lowest_terms;
-use crate::exchanging::is_large;
+use crate::sizes::is_small;
 use crate::table::Line;
 use nomos_ir::items::Items;
 use std::alloc::{AllocError, Global};
@@ -39,10 +39,11 @@ pub fn cross(p: i128, a: i128, g: i128, c: i128) -> i128
 fn still_small(small: bool, number: i128) -> bool
     ensures { IsTrue result ↔ (IsTrue small × IsNumber number) }
 {
-    small && !is_large(number)
+    small && is_small(number)
 }
 
-/// `p * a - g * c` for each of two lists of numbers, in place of the first, and whether all of these are small. Where that is `a` it is left alone.
+/// `p * a - g * c` for each of two lists of numbers, in place of the first, and whether all of these are small. Where
+/// that is `a` it is left alone.
 fn eliminate(p: i128, g: i128, of: &mut [i128], by: &[i128]) -> bool
     requires p { IsNumber p }
     requires g { IsNumber g }

@@ -21,13 +21,14 @@ ghost use Rattle.nomos_simplex.specs.declared.table.Line.{Line};
 ghost use Rattle.nomos_simplex.specs.mirror.Keeping.{Shows};
 ghost use Rattle.nomos_simplex.specs.mirror.Steps.{IsNext, IsNotFound, MayLeave, StandsAt, IsAimedOrLarge};
 
-use crate::exchanging::{exchange, is_too_large};
+use crate::exchanging::exchange;
 use crate::fractions::found;
 use crate::goal::goal_line;
 use crate::keeping::Kept;
 use crate::lines::{enter, negated, opposite_line};
 use crate::nearest::{lowering, nearest};
 use crate::refusing::{resolved, times_of, weights_of};
+use crate::sizes::is_too_large;
 use crate::solved::{Proof, Solved, SolvedLeast, Stop};
 use crate::solving::{BUDGET, Sought, seek};
 use crate::table::Line;

@@ -1,6 +1,6 @@
 use Rattle.std.proofs.Common.{rules, IsTrue, not, ap, sym, ◌∙◌}
 use Rattle.nomos_simplex.proofs.KeepingLemmas.{numbers_small}
-use Rattle.nomos_simplex.proofs.exchanging.is_too_large.Goals as goal
+use Rattle.nomos_simplex.proofs.sizes.is_too_large.Goals as goal
 
 pub returns-else-not-small : goal.returns-else-not-small
 returns-else-not-small c =
