@@ -46,7 +46,8 @@ over_after-requires-clause-put c =
     let line = c.args.line.now in
     let over = to_z-of_z w128 c.args.over c.ranges.over ∙ c.requires.over in
     some_weaker (IsPut rows entry line) (IsKeptPut rows entry c.enter-small.new.line) c.put_of-put.result
-    (λ put. put_kept rows entry line c.enter-small.new.line put c.requires.entry c.requires.line c.enter-small.ensures.value)
+    (λ put. put_kept rows entry line c.enter-small.new.line put c.requires.entry c.requires.line
+    c.enter-small.ensures.value)
     (c.put_of-put.ensures rows c.requires.shows over)
 
 pub returns : goal.returns

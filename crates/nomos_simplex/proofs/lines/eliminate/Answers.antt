@@ -19,7 +19,8 @@ loop-i-preserved c =
     let g = to_z w128 (of_z w128 c.args.g) in
     let in_of = c.loop-i-test.true in
     let width = c.requires.width in
-    let at : get_or c.loop-i.of i (pos 0) ≡ get_or of i (pos 0) = ap (λ xs. get_or xs i (pos 0)) c.loop-i.invariant.value
+    let at : get_or c.loop-i.of i (pos 0) ≡ get_or of i (pos 0) =
+    ap (λ xs. get_or xs i (pos 0)) c.loop-i.invariant.value
     ∙ made_at p g of by i (pos 0) in_of width in
     let back_of : to_z w128 (of_z w128 (get_or c.loop-i.of i (pos 0))) ≡ get_or of i (pos 0) =
     (λ q. to_z w128 (of_z w128 (at q))) ∙ number_back (get_or of i (pos 0)) (c.requires.of i (pos 0) in_of) in

@@ -23,10 +23,10 @@ returns-clause-made c =
     ∙ get_or_default line.coefs j e (pos 0) within in
     let g : to_z w128 (of_z w128 e) ≡ coef_at j line = (λ q. to_z w128 (of_z w128 (at q)))
     ∙ number_back (coef_at j line) (c.requires.line.coefs j (pos 0) within) in
-    let first = wide_back c.product-entering.result (omega (arith, c.product-entering.ensures.size)) ∙ c.product-entering.ensures.value
-    ∙ (λ q. g q *ℤ number_back left.times c.requires.left.times q) in
-    let times = wide_back c.product-times.result (omega (arith, c.product-times.ensures.size)) ∙ c.product-times.ensures.value
-    ∙ (λ q. p q *ℤ number_back line.times c.requires.line.times q) in
+    let first = wide_back c.product-entering.result (omega (arith, c.product-entering.ensures.size))
+    ∙ c.product-entering.ensures.value ∙ (λ q. g q *ℤ number_back left.times c.requires.left.times q) in
+    let times = wide_back c.product-times.result (omega (arith, c.product-times.ensures.size))
+    ∙ c.product-times.ensures.value ∙ (λ q. p q *ℤ number_back line.times c.requires.line.times q) in
     let old : c.deref_mut.result.now ≡ line.coefs = c.deref_mut.ensures.value ∙ c.into_vec-coefs.ensures in
     let all = eliminated (coef_at j left) (coef_at j line) line.coefs left.coefs in
     let made : c.eliminate-all.new.of ≡ all = c.eliminate-all.ensures.value
