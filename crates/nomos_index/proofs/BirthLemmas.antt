@@ -29,8 +29,9 @@ use Rattle.nomos_index.proofs.ComingLemmas.{come-indexed, coming-state, coming_a
 use Rattle.nomos_index.proofs.PairLemmas.{name-other, name-own}
 use Rattle.nomos_index.proofs.RebindLemmas.{channels-of_pairs}
 
-module _ (s : Inside) (is : IsIndexed s) (born : Newborn) (k : KeptProcess) (span : Option Span) (objects : Marking (Slot Kept))
-    (values : Shelving (VarId × Value)) (its_lists : Shelving (VarId × PotentialList)) (reserved after : Marking Cell)
+module _ (s : Inside) (is : IsIndexed s) (born : Newborn) (k : KeptProcess) (span : Option Span)
+    (objects : Marking (Slot Kept)) (values : Shelving (VarId × Value)) (its_lists : Shelving (VarId × PotentialList))
+    (reserved after : Marking Cell)
     (names : (p w : ℕ) → name_in reserved.now p w ≡ name_in s.contents.channels.now p w)
     (come : (p w : ℕ) → name_in after.now p w
     ≡ name_with born.fields.pid born.channels.items p w (name_in reserved.now p w))

@@ -107,7 +107,8 @@ module _ (s : Inside) (is : IsIndexed s) (pid place : ℕ) (k : KeptProcess)
       (also : objects.marked ≡ s.contents.objects.marked) (as_much : s.contents.objects.room ≤ objects.room)
       (others : (p v : ℕ) → p ≢ pid → name_in channels.now p v ≡ name_in s.contents.channels.now p v)
       (spans : (w : ℕ) → IsSome (name_in channels.now pid w) → HasVariable span w)
-      (marked : HaveSameNames s.contents.channels.marked channels.marked) (less : room ≤ s.room) (has : room ≤ channels.room) where
+      (marked : HaveSameNames s.contents.channels.marked channels.marked) (less : room ≤ s.room)
+      (has : room ≤ channels.room) where
     abbrev pub with_cells : Contents
     with_cells = record s.contents { objects = objects; channels = channels }
 
@@ -157,7 +158,8 @@ module _ (s : Inside) (is : IsIndexed s) (pid place : ℕ) (k : KeptProcess)
   module _ (channels : Marking Cell) (room : ℕ)
       (others : (p v : ℕ) → p ≢ pid → name_in channels.now p v ≡ name_in s.contents.channels.now p v)
       (fewer : (w : ℕ) → IsSome (name_in channels.now pid w) → IsSome (name_in s.contents.channels.now pid w))
-      (marked : HaveSameNames s.contents.channels.marked channels.marked) (less : room ≤ s.room) (has : room ≤ channels.room) where
+      (marked : HaveSameNames s.contents.channels.marked channels.marked) (less : room ≤ s.room)
+      (has : room ≤ channels.room) where
     pub fewer-indexed : IsIndexed (record s { contents = record s.contents { channels = channels }; room = room })
     fewer-indexed =
         channels-indexed s.contents.objects k.span channels room same_slots refl (omega arith) others
@@ -166,7 +168,8 @@ module _ (s : Inside) (is : IsIndexed s) (pid place : ℕ) (k : KeptProcess)
     pub fewer-become : (b : List (VarId × ℕ)) (f : Process → Process) → channels_of channels.now pid ≡ b
         → f (process_held s.contents.channels.now pid values_row lists_row k)
         ≡ record (process_held s.contents.channels.now pid values_row lists_row k) { channels = b }
-        → Becomes (state_of (held_now s.contents)) pid f (state_of (held_now (record s.contents { channels = channels })))
+        → Becomes (state_of (held_now s.contents)) pid f
+        (state_of (held_now (record s.contents { channels = channels })))
     fewer-become =
         channels-become s.contents.objects k.span channels room same_slots refl (omega arith) others
         (λ w some. own_spans w (fewer w some)) marked less has
@@ -195,8 +198,8 @@ module _ (s : Inside) (is : IsIndexed s) (pid place : ℕ) (k : KeptProcess)
     values-indexed =
         indexed-again s s.contents.objects values s.contents.lists s.contents.channels s.contents.numbers refl marked refl
         same_cells (s.room - 1) is
-        (process-holding (held_now s.contents) (held_now with_value_rows) is.now pid place k k row lists_row at values-come
-        own_spans)
+        (process-holding (held_now s.contents) (held_now with_value_rows) is.now pid place k k row lists_row at
+        values-come own_spans)
         (record {
           objects = omega (arith, is.has_room.objects);
           values = omega (arith, less, is.has_room.values);
@@ -210,8 +213,8 @@ module _ (s : Inside) (is : IsIndexed s) (pid place : ℕ) (k : KeptProcess)
         ≡ process_held s.contents.channels.now pid row lists_row k
         → Becomes (state_of (held_now s.contents)) pid f (state_of (held_now with_value_rows))
     values-become f same =
-        process-becomes (held_now s.contents) (held_now with_value_rows) is.now pid place k k row lists_row at values-come
-        own_spans f same
+        process-becomes (held_now s.contents) (held_now with_value_rows) is.now pid place k k row lists_row at
+        values-come own_spans f same
 
   -- ---- other lists
 
@@ -238,8 +241,8 @@ module _ (s : Inside) (is : IsIndexed s) (pid place : ℕ) (k : KeptProcess)
     lists-indexed =
         indexed-again s s.contents.objects s.contents.values its_lists s.contents.channels s.contents.numbers refl refl marked
         same_cells (s.room - 1) is
-        (process-holding (held_now s.contents) (held_now with_list_rows) is.now pid place k k values_row row at lists-come
-        own_spans)
+        (process-holding (held_now s.contents) (held_now with_list_rows) is.now pid place k k values_row row at
+        lists-come own_spans)
         (record {
           objects = omega (arith, is.has_room.objects);
           values = omega (arith, is.has_room.values);
@@ -253,5 +256,5 @@ module _ (s : Inside) (is : IsIndexed s) (pid place : ℕ) (k : KeptProcess)
         ≡ process_held s.contents.channels.now pid values_row row k
         → Becomes (state_of (held_now s.contents)) pid f (state_of (held_now with_list_rows))
     lists-become f same =
-        process-becomes (held_now s.contents) (held_now with_list_rows) is.now pid place k k values_row row at lists-come
-        own_spans f same
+        process-becomes (held_now s.contents) (held_now with_list_rows) is.now pid place k k values_row row at
+        lists-come own_spans f same

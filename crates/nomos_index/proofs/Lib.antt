@@ -2,6 +2,7 @@ pub mod AgainLemmas
 pub mod BirthLemmas
 pub mod ChangingLemmas
 pub mod ChannelLemmas
+pub mod CloseLemmas
 pub mod ComingLemmas
 pub mod FoundLemmas
 pub mod LeavingLemmas

@@ -151,7 +151,8 @@ module _ (h : Holding) (is : IsHolding h) (place n : ℕ) (k : Kept) (item : Opt
             ap (found (put_at h.slots place item)) same ∙ found-put_at h.slots place _ item is.ascending can.stood in
             subst (λ o. Spans o w) (sym own) (can.its_own w (subst (λ i. IsSome (name_in cells i w)) same some))
         | inr apart ↦
-            subst (λ o. Spans o w) (sym (found-put_at_other h.slots place p _ item can.stood (λ same. apart (sym same))))
+            subst (λ o. Spans o w)
+            (sym (found-put_at_other h.slots place p _ item can.stood (λ same. apart (sym same))))
             (is.held p w (subst (λ (o : Option ℕ). IsSome o) (can.others p w apart) some))
       ]
 

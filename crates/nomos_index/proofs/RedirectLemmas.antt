@@ -107,10 +107,12 @@ module _ (s : Inside) (is : IsIndexed s) (old new number place : ℕ) (k : KeptP
   pub process-indexed : IsIndexed (record s { contents = record s.contents { channels = channels } })
   process-indexed =
       fewer-indexed s is number place k stands channels s.room others fewer
-      (same-names s.contents.channels.marked channels.marked marked) (omega arith) (omega (arith, room, is.has_room.channels))
+      (same-names s.contents.channels.marked channels.marked marked) (omega arith)
+      (omega (arith, room, is.has_room.channels))
 
   pub process-redirected : state_of (held_now (record s.contents { channels = channels }))
-      ≡ record (state_of (held_now s.contents)) { objects = redirected_at number old new (state_of (held_now s.contents)).objects }
+      ≡ record (state_of (held_now s.contents))
+      { objects = redirected_at number old new (state_of (held_now s.contents)).objects }
   process-redirected =
       let state = state_of (held_now s.contents) in
       let held = process_held s.contents.channels.now number (values_at (held_now s.contents) place)

@@ -74,7 +74,8 @@ module _ (s : Inside) (pid : ℕ) (pairs : List (VarId × ℕ)) (reserved droppe
           channels-indexed s is pid place k at objects span after s.room now same as_much others its_spans marks
           (omega arith) has
 
-      pub replaced-become : Becomes (state_of (held_now s.contents)) pid (with_channels pairs) (state_of (held_now replaced))
+      pub replaced-become : Becomes (state_of (held_now s.contents)) pid (with_channels pairs)
+          (state_of (held_now replaced))
       replaced-become =
           channels-become s is pid place k at objects span after s.room now same as_much others its_spans marks
           (omega arith) has (bindings_of pairs) (with_channels pairs) own refl

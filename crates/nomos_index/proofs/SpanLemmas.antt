@@ -128,11 +128,13 @@ unbound-fewer before after pid v names w some =
       | inl same ↦
           let gone : name_in after pid w ≡ None =
           names w
-          ∙ ap (λ b. cond b None (name_in before pid w)) (and_from (eqb pid pid) (eqb v w) (eq-eqb pid pid refl) (eq-eqb v w same)) in
+          ∙ ap (λ b. cond b None (name_in before pid w))
+          (and_from (eqb pid pid) (eqb v w) (eq-eqb pid pid refl) (eq-eqb v w same)) in
           absurd (both_ways _ (ap is_some gone) some)
       | inr other ↦
           let was : name_in after pid w ≡ name_in before pid w =
-          names w ∙ ap (λ b. cond b None (name_in before pid w)) (no-other (eqb pid pid) (eqb v w) (ne_eqb v w other)) in
+          names w
+          ∙ ap (λ b. cond b None (name_in before pid w)) (no-other (eqb pid pid) (eqb v w) (ne_eqb v w other)) in
           subst (λ (o : Option ℕ). IsSome o) was some
     ]
 
@@ -141,8 +143,8 @@ abbrev pub AreSpanned : List (VarId × ℕ) → ℕ → Option Span → Type 0
 AreSpanned pairs at span =
     (v : ℕ) → IsSome (bound_to v pairs) → HasVariable span v ⊎ IsSome (bound_to v (drop at pairs))
 
-pub spanned-next : (pairs : List (VarId × ℕ)) (at : ℕ) (d : VarId × ℕ) (span : Option Span) (next : Span) → at < length pairs
-    → AreSpanned pairs at span → ((v : ℕ) → HasVariable span v → HasVariable (Some next) v)
+pub spanned-next : (pairs : List (VarId × ℕ)) (at : ℕ) (d : VarId × ℕ) (span : Option Span) (next : Span)
+    → at < length pairs → AreSpanned pairs at span → ((v : ℕ) → HasVariable span v → HasVariable (Some next) v)
     → HasVariable (Some next) (get_or pairs at d).0.0 → AreSpanned pairs (at + 1) (Some next)
 spanned-next pairs at d span next within is more own v some =
     elim (is v some) [
@@ -159,8 +161,8 @@ spanned-next pairs at d span next within is more own v some =
           ]
     ]
 
-pub spanned-all : (pairs : List (VarId × ℕ)) (at : ℕ) (span : Option Span) → length pairs ≤ at → AreSpanned pairs at span
-    → (v : ℕ) → IsSome (bound_to v pairs) → HasVariable span v
+pub spanned-all : (pairs : List (VarId × ℕ)) (at : ℕ) (span : Option Span) → length pairs ≤ at
+    → AreSpanned pairs at span → (v : ℕ) → IsSome (bound_to v pairs) → HasVariable span v
 spanned-all pairs at span past is v some =
     elim (is v some) [
       | inl has ↦ has

@@ -56,7 +56,7 @@ holding-same before after same is = record {
 -- ---- what is marked
 
 -- what is marked, gathered from its parts
-abbrev gather : Option Numbers → Option (List (Slot Kept)) → Option (List ValueRow) → Option (List ListRow)
+abbrev pub gather : Option Numbers → Option (List (Slot Kept)) → Option (List ValueRow) → Option (List ListRow)
     → Option (List Cell) → Option (List (Slot TypeId)) → Option (List ℕ) → Option (List ℕ)
     → Option (List (ℕ × Value)) → Option Holding
 gather drawn slots value_rows list_rows cells names balances outside results = do

@@ -5,6 +5,7 @@ pub mod Looked
 pub mod Placing
 pub mod Coming
 pub mod Together
+pub mod Closing
 pub mod Walks
 pub mod Sought
 pub mod Starting

@@ -142,4 +142,5 @@ AreBrought slots rows = (place : ℕ) (slot : Slot Kept) → slice_get slots pla
 
 -- channels are those of processes that are there, each in the span of its process
 abbrev pub AreHeld : List (Slot Kept) → List Cell → Type 0
-AreHeld slots cells = (process variable : ℕ) → IsSome (name_in cells process variable) → Spans (found slots process) variable
+AreHeld slots cells =
+    (process variable : ℕ) → IsSome (name_in cells process variable) → Spans (found slots process) variable

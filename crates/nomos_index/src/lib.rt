@@ -5,6 +5,7 @@ mod accounts;
 mod binding;
 mod changes;
 mod changing;
+mod closing;
 mod coming;
 mod copying;
 pub mod inside;

@@ -20,13 +20,14 @@ impl Tallied {
         self.inside.make_room(changes)
     }
 
-    /// Marks the state. It takes no memory.
+    /// Marks the state. It takes no memory; gaps are closed first, where they are many.
     pub(crate) fn mark(&mut self)
         requires { self.old.marked ≡ None }
         ensures state { self.new.state ≡ self.old.state }
         ensures marked { self.new.marked ≡ Some self.old.state }
         ensures room { self.old.room ≤ self.new.room }
     {
+        self.close_gaps();
         self.inside.mark();
         self.tallies.names.mark();
         self.was_exact = self.tallies.exact;

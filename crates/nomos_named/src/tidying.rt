@@ -43,8 +43,19 @@ fn tidy_suspects(inside: &mut Inside, tallies: &mut Tallies)
 }
 
 impl Tallied {
-    /// Names that no object mentions have no type any more. It takes no room. Only suspects are asked, where they are
-    /// known.
+    /// The gaps that objects and names left, which came since the mark, are closed where they are many. It takes no room
+    /// and no memory. Over many calls it costs no more than there were objects and names that left.
+    pub(crate) fn close_gaps(&mut self)
+        ensures state { self.new.state ≡ self.old.state }
+        ensures room { self.new.room ≡ self.old.room }
+        ensures marked { self.new.marked ≡ self.old.marked }
+    {
+        self.inside.close_gaps();
+        self.tallies.close_gaps();
+    }
+
+    /// Names that no object mentions have no type any more; gaps are closed then, where they are many. It takes no room.
+    /// Only suspects are asked, where they are known.
     pub(crate) fn tidy(&mut self)
         ensures state { self.new.state ≡ tidied self.old.state }
         ensures room { self.new.room ≡ self.old.room }
@@ -56,5 +67,6 @@ impl Tallied {
             self.inside.tidy();
             self.tallies.suspects.clear(false);
         }
+        self.close_gaps();
     }
 }

@@ -1,83 +1,16 @@
 -- What slots are left, and in what order, where gaps are closed.
-use Rattle.std.proofs.Common.{◌≡◌, ◌<◌, ◌≤◌, ◌+◌, ◌-◌, zero, suc, ℕ, true, false, cond, List, [], ◌∷◌, ◌++◌, length, min, get_or, set, take, drop, filter, Option, Some, None, refl, sym, ap, subst, ◌∙◌, inl, inr, arith, append_assoc, drop-set-lt, eqb, eq-eqb, ne_eqb}
+use Rattle.std.proofs.Common.{◌≡◌, ◌<◌, ◌≤◌, ◌+◌, ◌-◌, zero, suc, ℕ, true, false, cond, List, [], ◌∷◌, ◌++◌, length, min, get_or, set, take, drop, Some, None, sym, ap, ◌∙◌, arith, append_assoc, drop-set-lt}
 use Rattle.std.specs.List.{slice_get}
 use Rattle.std.specs.Option.{is_some}
-use Rattle.std.proofs.lemmas.Bool.{cases_eq, cond_both}
 use Rattle.std.proofs.lemmas.List.{append-nil, at_drop_more, length-set, take_more_set}
 use Rattle.std.proofs.lemmas.Option.{get_or_from_slice_get, none-some, slice_get_within}
 use Rattle.std.proofs.Math.ListN.{drop_of_length-le}
 use Rattle.nomos_slots.specs.Marking.{Marking}
-use Rattle.nomos_slots.specs.Numbers.{close_gaps, found, IsAscending}
+use Rattle.nomos_slots.specs.Numbers.{close_gaps}
 use Rattle.nomos_slots.specs.declared.numbered.Slot.{Slot}
-use Rattle.nomos_slots.proofs.NumberLaws.{AllOver, ascending-nil, ascending-cons, ascending-head, ascending-tail, found-over}
+use Rattle.nomos_slots.proofs.GapLaws.{filled}
 
 module _ {X : Type 0} where
-  -- the slots with an item
-  abbrev pub filled : List (Slot X) → List (Slot X)
-  filled slots = filter (λ s. is_some s.item) slots
-
-  -- ---- the order
-
-  over-filled : (least : ℕ) (slots : List (Slot X)) → AllOver least slots → AllOver least (filled slots)
-  over-filled least [] over = tt
-  over-filled least (e ∷ slots) over =
-      let rest = over-filled least slots over.1 in
-      cond_both (is_some e.item) (e ∷ filled slots) (filled slots) (AllOver least)
-      (λ _. (over.0, rest)) (λ _. rest)
-
-  ascending-filled : (slots : List (Slot X)) → IsAscending slots → IsAscending (filled slots)
-  ascending-filled [] order = ascending-nil X
-  ascending-filled (e ∷ slots) order =
-      let rest = ascending-filled slots (ascending-tail e slots order) in
-      cond_both (is_some e.item) (e ∷ filled slots) (filled slots) IsAscending
-      (λ _. ascending-cons e (filled slots) (over-filled e.number slots (ascending-head e slots order)) rest)
-      (λ _. rest)
-
-  over-close : (least from : ℕ) (slots : List (Slot X)) → AllOver least slots → AllOver least (close_gaps from slots)
-  over-close least zero slots over = over-filled least slots over
-  over-close least (suc from) [] over = tt
-  over-close least (suc from) (e ∷ slots) over = (over.0, over-close least from slots over.1)
-
-  pub ascending-close : (from : ℕ) (slots : List (Slot X)) → IsAscending slots → IsAscending (close_gaps from slots)
-  ascending-close zero slots order = ascending-filled slots order
-  ascending-close (suc from) [] order = ascending-nil X
-  ascending-close (suc from) (e ∷ slots) order =
-      ascending-cons e (close_gaps from slots)
-      (over-close e.number from slots (ascending-head e slots order))
-      (ascending-close from slots (ascending-tail e slots order))
-
-  -- ---- what stands under a number
-
-  none-item : (o : Option X) → is_some o ≡ false → o ≡ None
-  none-item None h = refl
-  none-item (Some x) h = cc
-
-  found-filled : (slots : List (Slot X)) (number : ℕ) → IsAscending slots
-      → found (filled slots) number ≡ found slots number
-  found-filled [] number order = refl
-  found-filled (e ∷ slots) number order =
-      let rest = found-filled slots number (ascending-tail e slots order) in
-      cond_both (is_some e.item) (e ∷ filled slots) (filled slots) (λ xs. found xs number ≡ found (e ∷ slots) number)
-      (λ _. ap (cond (eqb e.number number) e.item) rest)
-      (λ gap. elim (cases_eq e.number number) [
-        | inl same ↦
-            let over : AllOver number slots =
-            subst (λ n. AllOver n slots) same (ascending-head e slots order) in
-            rest
-            ∙ found-over slots number over
-            ∙ sym (none-item e.item gap)
-            ∙ sym (ap (λ b. cond b e.item (found slots number)) (eq-eqb e.number number same))
-        | inr apart ↦
-            rest ∙ sym (ap (λ b. cond b e.item (found slots number)) (ne_eqb e.number number apart))
-      ])
-
-  pub found-close : (from : ℕ) (slots : List (Slot X)) (number : ℕ) → IsAscending slots
-      → found (close_gaps from slots) number ≡ found slots number
-  found-close zero slots number order = found-filled slots number order
-  found-close (suc from) [] number order = refl
-  found-close (suc from) (e ∷ slots) number order =
-      ap (cond (eqb e.number number) e.item) (found-close from slots number (ascending-tail e slots order))
-
   -- ---- one slot after the other
 
   -- a place within has a slot

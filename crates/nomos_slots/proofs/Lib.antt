@@ -1,7 +1,9 @@
+pub mod BesideLemmas
 pub mod CellLemmas
 pub mod ChangedLaws
 pub mod EntryLemmas
 pub mod FillLemmas
+pub mod GapLaws
 pub mod GapLemmas
 pub mod LevelLemmas
 pub mod LogLemmas

@@ -111,6 +111,13 @@ module _ {X : Type 0} where
   abbrev pub HasMarkedWithin : ℕ → Option (List X) → Type 0
   HasMarkedWithin n marked = IfSome marked (λ list. length list ≤ n)
 
+  pub mark_len_is : (es : List (Entry X)) (log : List (ℕ × X)) (marked : Option ℕ) → IsSound es log marked
+      → IfSome (marked_in es log marked) (λ list. length list ≡ mark_len marked)
+  mark_len_is es log None sound = tt
+  mark_len_is es log (Some m) sound =
+      let l : m ≤ length (records es) = rw length-map sound.within in
+      length-put_back (take m (records es)) log ∙ length-take-le m (records es) l
+
   pub mark_len_fits : (es : List (Entry X)) (log : List (ℕ × X)) (marked : Option ℕ) (n : ℕ)
       → IsSound es log marked → HasMarkedWithin n (marked_in es log marked) → mark_len marked ≤ n
   mark_len_fits es log None n sound fits = omega arith

@@ -1,3 +1,4 @@
+pub mod Beside
 pub mod Cells
 pub mod Clearing
 pub mod Levels

@@ -84,11 +84,18 @@ fn unkept<T: Copy>(alloc: Global, entries: &[Entry<T>]) -> Result<Vec<Entry<T>>,
         .collect(alloc)
 }
 
+// How many records are marked.
+fn mark_len(marked: Option<usize>) -> usize
+    ensures { result ≡ mark_len marked }
+{
+    marked.unwrap_or(0)
+}
+
 // Whether the log has to have what stands at this place before it is changed.
 fn is_due(kept: bool, place: usize, marked: Option<usize>) -> bool
     ensures { IsTrue result ↔ ((place < mark_len marked) × (kept ≡ false)) }
 {
-    !kept && place < marked.unwrap_or(0)
+    !kept && place < mark_len(marked)
 }
 
 impl<T: Copy> Column<T> {
@@ -145,6 +152,14 @@ impl<T: Copy> Column<T> {
         ensures { IsTrue result ↔ IsSome self.now.marked }
     {
         self.marked.is_some()
+    }
+
+    /// How many records are marked; 0 where nothing is.
+    pub fn marked_len(&self) -> usize
+        ensures marked { IfSome self.now.marked (λ list. length list ≡ result) }
+        ensures within { result ≤ length self.now.now }
+    {
+        mark_len(self.marked)
     }
 
     /// The record at a place, if there are so many.

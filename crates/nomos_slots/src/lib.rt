@@ -1,6 +1,7 @@
 //! Columns of plain records, which can be marked and put back to what they were; records under numbers; sets of places.
 #![tactic(auto)]
 
+pub mod beside;
 mod cells;
 pub mod channels;
 pub mod column;

@@ -21,6 +21,10 @@ pub struct Slot<T> {
 #[derive(Drop, Debug)]
 pub struct Numbered<T: Copy> {
     slots: Column<Slot<T>>,
+    /// About how many slots are gaps; no clause rests on it.
+    gaps: usize,
+    /// About how many of those are that came since the mark.
+    late_gaps: usize,
 }
 
 impl<T: Copy> Model for Numbered<T> {
@@ -37,19 +41,37 @@ impl<T: Copy> Model for Numbered<T> {
     ghost invariant = { λ n. IsInOrder n.slots };
 }
 
-// The place of the slot of this number, where it is found as many places behind the first as the number is over the first
-// number: so it is where each number that was drawn has its slot.
-fn guessed_place<T: Copy>(slots: &Column<Slot<T>>, number: u32) -> Option<usize>
+// The place with the slot of this number, if it is this one.
+fn place_if<T: Copy>(slots: &Column<Slot<T>>, number: u32, place: usize) -> Option<usize>
     ensures { IfSome result (λ place. slice_get (numbers slots.now.now) place ≡ Some number) }
 {
-    let first = slots.get(0)?;
-    let place = number.checked_sub(first.number)? as usize;
     let slot = slots.get(place)?;
     if slot.number == number {
         Some(place)
     } else {
         None
     }
+}
+
+// The place of the slot of this number, where it stands as many places before the last as the number is below the last
+// number: so it is where no gap behind it was closed.
+fn guessed_from_last<T: Copy>(slots: &Column<Slot<T>>, number: u32) -> Option<usize>
+    ensures { IfSome result (λ place. slice_get (numbers slots.now.now) place ≡ Some number) }
+{
+    let end = slots.len().checked_sub(1)?;
+    let last = slots.get(end)?;
+    let below = last.number.checked_sub(number)? as usize;
+    place_if(slots, number, end.checked_sub(below)?)
+}
+
+// The place of the slot of this number, where it stands as many places behind the first as the number is over the first
+// number: so it is where no gap before it was closed.
+fn guessed_from_first<T: Copy>(slots: &Column<Slot<T>>, number: u32) -> Option<usize>
+    ensures { IfSome result (λ place. slice_get (numbers slots.now.now) place ≡ Some number) }
+{
+    let first = slots.get(0)?;
+    let over = number.checked_sub(first.number)? as usize;
+    place_if(slots, number, over)
 }
 
 // The place of the slot of this number, by halving.
@@ -79,10 +101,13 @@ fn place_in<T: Copy>(slots: &Column<Slot<T>>, number: u32) -> Option<usize>
     requires { IsAscending slots.now.now }
     ensures { IsPlaceOf number slots.now.now result }
 {
-    match guessed_place(slots, number) {
-        Some(place) => Some(place),
-        None => halved_place(slots, number),
+    if let Some(place) = guessed_from_last(slots, number) {
+        return Some(place);
     }
+    if let Some(place) = guessed_from_first(slots, number) {
+        return Some(place);
+    }
+    halved_place(slots, number)
 }
 
 // Of the slots from this place on, those with an item move up into the gaps, and no others stay.
@@ -115,6 +140,8 @@ impl<T: Copy> Numbered<T> {
     {
         Numbered {
             slots: Column::new(alloc),
+            gaps: 0,
+            late_gaps: 0,
         }
     }
 
@@ -144,8 +171,8 @@ impl<T: Copy> Numbered<T> {
         self.slots.get(place)
     }
 
-    /// The place of the slot of this number, if there is one: found at once where no gap before it was closed, and by
-    /// halves elsewhere.
+    /// The place of the slot of this number, if there is one: found at once where no gap behind it was closed, or none
+    /// before it, and by halves elsewhere.
     pub fn place_of(&self, number: u32) -> Option<usize>
         ensures { IsPlaceOf number self.now.now result }
     {
@@ -190,7 +217,31 @@ impl<T: Copy> Numbered<T> {
                     item,
                 },
             );
+            self.count_gap(place, item.is_none());
         }
+    }
+
+    // Counts the gap that may have come at a place.
+    fn count_gap(&mut self, place: usize, is_gap: bool)
+        ensures { self.new ≡ self.old }
+    {
+        let gap = is_gap as usize;
+        let late_gap = (is_gap && self.slots.marked_len() <= place) as usize;
+        self.gaps = self.gaps.saturating_add(gap);
+        self.late_gaps = self.late_gaps.saturating_add(late_gap);
+    }
+
+    /// The first place at which no slot is marked.
+    pub fn late_from(&self) -> usize
+        ensures { IfSome self.now.marked (λ list. length list ≤ result) }
+    {
+        self.slots.marked_len()
+    }
+
+    /// Whether more than half of the slots that came since the mark are gaps, about so. No clause rests on it.
+    pub fn is_sparse(&self) -> bool {
+        let late = self.slots.len().saturating_sub(self.slots.marked_len());
+        self.late_gaps > late / 2
     }
 
     /// The slots before this place stay, and of the others, none of which is marked, those with an item, in their
@@ -202,7 +253,15 @@ impl<T: Copy> Numbered<T> {
         ensures marked { self.new.marked ≡ self.old.marked }
         ensures room { self.old.room ≤ self.new.room }
     {
+        let before = self.slots.len();
         move_up(&mut self.slots, from);
+        let closed = before.saturating_sub(self.slots.len());
+        self.gaps = if from == 0 {
+            0
+        } else {
+            self.gaps.saturating_sub(closed)
+        };
+        self.late_gaps = 0;
     }
 
     /// Marks what it holds now. It takes no memory, and nothing may be marked yet.
@@ -213,6 +272,7 @@ impl<T: Copy> Numbered<T> {
         ensures room { self.old.room ≤ self.new.room }
     {
         self.slots.mark();
+        self.late_gaps = 0;
     }
 
     /// Puts back what was marked, and nothing is marked any longer. It takes no memory, and goes over no more than the
@@ -224,6 +284,7 @@ impl<T: Copy> Numbered<T> {
         ensures room { self.old.room ≤ self.new.room }
     {
         self.slots.back();
+        self.late_gaps = self.gaps;
     }
 
     /// Nothing is marked any longer; the slots stay. It takes no memory, and goes over no more than the marked slots
@@ -234,6 +295,7 @@ impl<T: Copy> Numbered<T> {
         ensures room { self.old.room ≤ self.new.room }
     {
         self.slots.forget();
+        self.late_gaps = self.gaps;
     }
 
     /// The same slots once more, none of them marked. It takes memory for all of them.
@@ -243,6 +305,10 @@ impl<T: Copy> Numbered<T> {
     {
         let mut slots = self.slots.copy(alloc)?;
         slots.reserve_all(0)?;
-        Ok(Numbered { slots })
+        Ok(Numbered {
+            slots,
+            gaps: self.gaps,
+            late_gaps: self.gaps,
+        })
     }
 }

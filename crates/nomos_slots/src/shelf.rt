@@ -222,6 +222,19 @@ impl<T> Shelf<T> {
         None
     }
 
+    /// Puts a row in the place of another one that came since the mark, and gives that back. It takes no room and no
+    /// memory.
+    pub fn replace_late(&mut self, place: usize, row: Vec<T>) -> Vec<T>
+        requires late { IfSome self.old.marked (λ rows. length rows ≤ place) }
+        requires within { place < length self.old.now }
+        ensures now { self.new.now ≡ slice_set self.old.now place row.items }
+        ensures marked { self.new.marked ≡ self.old.marked }
+        ensures given { result.items ≡ slice_index_or self.old.now place [] }
+        ensures room { self.new.room ≡ self.old.room }
+    {
+        mem::replace(&mut self.rows[place].items, row)
+    }
+
     /// Makes room for so many items more in a row. Want of memory leaves all as it was.
     pub fn reserve_in(&mut self, place: usize, n: usize) -> Result<(), AllocError>
         requires { place < length self.old.now }

@@ -2,7 +2,7 @@
 ghost use Rattle.std.specs.Prelude.{◌≡◌, ◌≤◌, ◌<◌, ◌+◌, ◌∷◌, ◌↔◌, ℕ, All, Contains, IfOk, IfSome, IsOk, IsTrue, None, OnOk, [], false, slice_get, true};
 ghost use Rattle.std.specs.Option.{option_to_list};
 ghost use Rattle.nomos_ir.specs.Order.{count_of};
-ghost use Rattle.nomos_slots.specs.Numbers.{IsAscending, numbers};
+ghost use Rattle.nomos_slots.specs.Numbers.{found, IsAscending, numbers};
 ghost use Rattle.nomos_tally.specs.Moving.{Moves};
 ghost use Rattle.nomos_tally.specs.Suspecting.{IsIdle, KeepsSuspects};
 ghost use Rattle.nomos_tally.specs.Tallying.{IsTallyAt, counted, nothing, only, tallied};
@@ -189,6 +189,23 @@ impl Tallies {
     {
         if let Some((place, _)) = self.tally_at(name) {
             self.names.put(place, None);
+        }
+    }
+
+    /// The gaps that names left, which came since the mark, are closed where they are many. It takes no room and no
+    /// memory.
+    pub fn close_gaps(&mut self)
+        ensures order { IsAscending self.old.names.now → IsAscending self.new.names.now }
+        ensures above { (number : ℕ) → All (λ n. n < number) (numbers self.old.names.now)
+            → All (λ n. n < number) (numbers self.new.names.now) }
+        ensures found { (n : ℕ) → found self.new.names.now n ≡ found self.old.names.now n }
+        ensures exact { self.new.exact ≡ self.old.exact }
+        ensures suspects { self.new.suspects ≡ self.old.suspects }
+        ensures marked { self.new.names.marked ≡ self.old.names.marked }
+    {
+        if self.names.is_sparse() {
+            let from = self.names.late_from();
+            self.names.close_gaps(from);
         }
     }
 

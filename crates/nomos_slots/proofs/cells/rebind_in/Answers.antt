@@ -11,7 +11,8 @@ use Rattle.nomos_slots.proofs.cells.rebind_in.Goals as goal
 pub unreachable-requires : goal.unreachable-requires
 unreachable-requires c =
     let e = c.args.entry in
-    absurd (both_ways _ (ap is_some (nothing-named c.args.cells.now.now e.process e.variable c.in_default.ensures)) c.requires.there)
+    let none = nothing-named c.args.cells.now.now e.process e.variable c.in_default.ensures in
+    absurd (both_ways _ (ap is_some none) c.requires.there)
 
 pub returns-clause-probed : goal.returns-clause-probed
 returns-clause-probed c =
@@ -25,7 +26,8 @@ returns-clause-probed c =
     let near : home_of homes old ≤ at = probed.near at old is in
     let l : at < length cells = some-within cells at old is in
     subst (IsProbed homes) (sym c.put.ensures.now)
-    (probed-come homes cells at e probed l (others-apart homes e.process e.variable at cells old probed is of) (omega arith)
+    (probed-come homes cells at e probed l (others-apart homes e.process e.variable at cells old probed is of)
+    (omega arith)
     (λ i from before. probed.full i at old is (omega arith) before))
 
 pub returns-clause-names : goal.returns-clause-names
@@ -39,7 +41,8 @@ returns-clause-names c p v =
     let l : at < length cells = some-within cells at old is in
     ap (λ (cs : List Cell). name_in cs p v) c.put.ensures.now
     ∙ names-come homes cells at e probed l (others-apart homes e.process e.variable at cells old probed is of)
-    (λ f has. subst (λ (k : Named). is_of e.process e.variable k ≡ true) (same-entry cells at at old f refl is has) of) p v
+    (λ f has.
+    subst (λ (k : Named). is_of e.process e.variable k ≡ true) (same-entry cells at at old f refl is has) of) p v
 
 pub returns-clause-entries : goal.returns-clause-entries
 returns-clause-entries c =
@@ -51,4 +54,5 @@ returns-clause-entries c =
     let probed = c.requires.probed in
     let l : at < length cells = some-within cells at old is in
     ap entries c.put.ensures.now
-    ∙ entries-renamed homes cells at e probed l (others-apart homes e.process e.variable at cells old probed is of) old is
+    ∙ entries-renamed homes cells at e probed l (others-apart homes e.process e.variable at cells old probed is of)
+    old is

@@ -28,8 +28,8 @@ invariant_of-self c =
     let has : s.room - 1 ≤ c.bind.new.self.room = omega (arith, c.bind.ensures.room, c.self.invariant.has_room.channels) in
     let spans = bound-spans s.contents.channels.now c.bind.new.self.now c.args.pid c.args.v.0 c.args.name k.span
     c.widened.result (c.bind.ensures.names c.args.pid)
-    (spans-kept (held_now s.contents) c.self.invariant.now place c.args.pid (kept.Process k) at.at) c.widened.ensures.more
-    c.widened.ensures.own in
+    (spans-kept (held_now s.contents) c.self.invariant.now place c.args.pid (kept.Process k) at.at)
+    c.widened.ensures.more c.widened.ensures.own in
     channels-indexed s c.self.invariant c.args.pid place k at c.put.new.self (Some c.widened.result) c.bind.new.self
     (s.room - 1) c.put.ensures.now c.put.ensures.marked c.put.ensures.room others spans
     (same-names _ _ c.bind.ensures.marked)
@@ -49,8 +49,8 @@ returns-clause-state c =
     let after = record s.contents { objects = c.put.new.self; channels = c.bind.new.self } in
     let spans = bound-spans s.contents.channels.now c.bind.new.self.now c.args.pid c.args.v.0 c.args.name k.span
     c.widened.result (c.bind.ensures.names c.args.pid)
-    (spans-kept (held_now s.contents) c.self.invariant.now place c.args.pid (kept.Process k) at.at) c.widened.ensures.more
-    c.widened.ensures.own in
+    (spans-kept (held_now s.contents) c.self.invariant.now place c.args.pid (kept.Process k) at.at)
+    c.widened.ensures.more c.widened.ensures.own in
     subst (λ (i : Indexed). Becomes i.state c.args.pid (with_channel c.args.v c.args.name) (state_of (held_now after))) c.self.view_is
     (channels-become s c.self.invariant c.args.pid place k at c.put.new.self (Some c.widened.result) c.bind.new.self
     (s.room - 1) c.put.ensures.now c.put.ensures.marked c.put.ensures.room others spans

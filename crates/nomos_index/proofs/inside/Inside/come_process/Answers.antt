@@ -35,7 +35,8 @@ invariant_of-self-2 c =
     let spans = λ (w : ℕ) (some : IsSome (bound_to w born.channels.items)).
     c.span_of.ensures w
     (subst (λ (ps : List (VarId × ℕ)). IsSome (bound_to w ps)) (sym c.deref-2.ensures.value) some) in
-    born-indexed s c.self.invariant born c.of-kept.result c.span_of.result c.push.new.self c.push-2.new.self c.push-3.new.self
+    born-indexed s c.self.invariant born c.of-kept.result c.span_of.result c.push.new.self c.push-2.new.self
+    c.push-3.new.self
     c.reserve_names.new.channels c.bind_pairs.new.channels c.reserve_names.ensures.names come c.reserve_names.ensures.marked
     c.bind_pairs.ensures.marked c.push.ensures.marked c.push-2.ensures.marked c.push-3.ensures.marked next c.of-kept.ensures
     c.push.ensures.now c.push-2.ensures.now c.push-3.ensures.now spans
@@ -59,7 +60,8 @@ returns-clause-ok c =
     let spans = λ (w : ℕ) (some : IsSome (bound_to w born.channels.items)).
     c.span_of.ensures w
     (subst (λ (ps : List (VarId × ℕ)). IsSome (bound_to w ps)) (sym c.deref-2.ensures.value) some) in
-    born-state s c.self.invariant born c.of-kept.result c.span_of.result c.push.new.self c.push-2.new.self c.push-3.new.self
+    born-state s c.self.invariant born c.of-kept.result c.span_of.result c.push.new.self c.push-2.new.self
+    c.push-3.new.self
     c.reserve_names.new.channels c.bind_pairs.new.channels c.reserve_names.ensures.names come c.reserve_names.ensures.marked
     c.bind_pairs.ensures.marked c.push.ensures.marked c.push-2.ensures.marked c.push-3.ensures.marked next c.of-kept.ensures
     c.push.ensures.now c.push-2.ensures.now c.push-3.ensures.now spans
@@ -77,7 +79,8 @@ returns-clause-marked c =
     let spans = λ (w : ℕ) (some : IsSome (bound_to w born.channels.items)).
     c.span_of.ensures w
     (subst (λ (ps : List (VarId × ℕ)). IsSome (bound_to w ps)) (sym c.deref-2.ensures.value) some) in
-    born-marks s c.self.invariant born c.of-kept.result c.span_of.result c.push.new.self c.push-2.new.self c.push-3.new.self
+    born-marks s c.self.invariant born c.of-kept.result c.span_of.result c.push.new.self c.push-2.new.self
+    c.push-3.new.self
     c.reserve_names.new.channels c.bind_pairs.new.channels c.reserve_names.ensures.names come c.reserve_names.ensures.marked
     c.bind_pairs.ensures.marked c.push.ensures.marked c.push-2.ensures.marked c.push-3.ensures.marked next c.of-kept.ensures
     c.push.ensures.now c.push-2.ensures.now c.push-3.ensures.now spans

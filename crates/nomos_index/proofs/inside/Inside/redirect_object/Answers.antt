@@ -38,8 +38,8 @@ invariant_of-self-in-Some-default-Message c =
     MatchOption-at_some _ _ (step.place, step.field-0-1) step.is c.object_at.ensures in
     let at = subst (λ (k : Kept). ObjectIsAt h number step.place k) step.field-0-1-is there in
     message-indexed c.self.inside c.self.invariant c.args.old c.args.new number step.place step.m
-    c.message_renamed-next.result c.put.new.self at c.message_renamed-next.ensures c.put.ensures.now c.put.ensures.marked
-    c.put.ensures.room
+    c.message_renamed-next.result c.put.new.self at c.message_renamed-next.ensures c.put.ensures.now
+    c.put.ensures.marked c.put.ensures.room
 
 pub returns-in-Some-default-Process-clause-state :
     goal.returns-in-Some-default-Process-clause-state
@@ -65,7 +65,7 @@ returns-in-Some-default-Message-clause-state c =
     MatchOption-at_some _ _ (step.place, step.field-0-1) step.is c.object_at.ensures in
     let at = subst (λ (k : Kept). ObjectIsAt h number step.place k) step.field-0-1-is there in
     message-redirected c.self.inside c.self.invariant c.args.old c.args.new number step.place step.m
-    c.message_renamed-next.result c.put.new.self at c.message_renamed-next.ensures c.put.ensures.now c.put.ensures.marked
-    c.put.ensures.room
+    c.message_renamed-next.result c.put.new.self at c.message_renamed-next.ensures c.put.ensures.now
+    c.put.ensures.marked c.put.ensures.room
     ∙ ap (λ (i : Indexed). record i.state { objects = redirected_at number c.args.old c.args.new i.state.objects })
     c.self.view_is

@@ -41,17 +41,26 @@ invariant_of-self-2 c =
     let at : ProcessIsAt (held_now s.contents) c.args.pid place k =
     MatchOption-at_some _ _ (place, k) c.in-Some.is c.process_at.ensures in
     let has : s.room ≤ c.bind_pairs.new.channels.room =
-    omega (arith, c.in_ok-reserve_names.ensures.ok, c.drop_span.ensures.room, c.bind_pairs.ensures.room, c.len-count.ensures, ap length c.deref.ensures.value) in
+    omega (
+      arith,
+      c.in_ok-reserve_names.ensures.ok,
+      c.drop_span.ensures.room,
+      c.bind_pairs.ensures.room,
+      c.len-count.ensures,
+      ap length c.deref.ensures.value,
+    ) in
     let come = λ (p w : ℕ).
     c.bind_pairs.ensures.names p w
-    ∙ ap (λ (ps : List (VarId × ℕ)). name_with c.args.pid ps p w (name_in c.drop_span.new.channels.now p w)) c.deref.ensures.value in
+    ∙ ap (λ (ps : List (VarId × ℕ)). name_with c.args.pid ps p w (name_in c.drop_span.new.channels.now p w))
+    c.deref.ensures.value in
     let spans = λ (w : ℕ) (some : IsSome (bound_to w c.args.channels.items)).
     c.span_of-span.ensures w
     (subst (λ (ps : List (VarId × ℕ)). IsSome (bound_to w ps)) (sym c.deref-2.ensures.value) some) in
     replaced-indexed s c.args.pid c.args.channels.items c.reserve_names.new.channels c.drop_span.new.channels
     c.bind_pairs.new.channels c.reserve_names.ensures.names c.drop_span.ensures.names come
     c.reserve_names.ensures.marked c.drop_span.ensures.marked c.bind_pairs.ensures.marked c.put.new.self
-    c.put.ensures.marked c.self.invariant place k at has c.span_of-span.result c.put.ensures.now c.put.ensures.room spans
+    c.put.ensures.marked c.self.invariant place k at has c.span_of-span.result c.put.ensures.now
+    c.put.ensures.room spans
 
 pub returns-clause-ok : goal.returns-clause-ok
 returns-clause-ok c =
@@ -61,10 +70,18 @@ returns-clause-ok c =
     let at : ProcessIsAt (held_now s.contents) c.args.pid place k =
     MatchOption-at_some _ _ (place, k) c.in-Some.is c.process_at.ensures in
     let has : s.room ≤ c.bind_pairs.new.channels.room =
-    omega (arith, c.in_ok-reserve_names.ensures.ok, c.drop_span.ensures.room, c.bind_pairs.ensures.room, c.len-count.ensures, ap length c.deref.ensures.value) in
+    omega (
+      arith,
+      c.in_ok-reserve_names.ensures.ok,
+      c.drop_span.ensures.room,
+      c.bind_pairs.ensures.room,
+      c.len-count.ensures,
+      ap length c.deref.ensures.value,
+    ) in
     let come = λ (p w : ℕ).
     c.bind_pairs.ensures.names p w
-    ∙ ap (λ (ps : List (VarId × ℕ)). name_with c.args.pid ps p w (name_in c.drop_span.new.channels.now p w)) c.deref.ensures.value in
+    ∙ ap (λ (ps : List (VarId × ℕ)). name_with c.args.pid ps p w (name_in c.drop_span.new.channels.now p w))
+    c.deref.ensures.value in
     let spans = λ (w : ℕ) (some : IsSome (bound_to w c.args.channels.items)).
     c.span_of-span.ensures w
     (subst (λ (ps : List (VarId × ℕ)). IsSome (bound_to w ps)) (sym c.deref-2.ensures.value) some) in
@@ -73,13 +90,15 @@ returns-clause-ok c =
     (replaced-become s c.args.pid c.args.channels.items c.reserve_names.new.channels c.drop_span.new.channels
     c.bind_pairs.new.channels c.reserve_names.ensures.names c.drop_span.ensures.names come
     c.reserve_names.ensures.marked c.drop_span.ensures.marked c.bind_pairs.ensures.marked c.put.new.self
-    c.put.ensures.marked c.self.invariant place k at has c.span_of-span.result c.put.ensures.now c.put.ensures.room spans)
+    c.put.ensures.marked c.self.invariant place k at has c.span_of-span.result c.put.ensures.now
+    c.put.ensures.room spans)
 
 pub returns-clause-marked : goal.returns-clause-marked
 returns-clause-marked c =
     let come = λ (p w : ℕ).
     c.bind_pairs.ensures.names p w
-    ∙ ap (λ (ps : List (VarId × ℕ)). name_with c.args.pid ps p w (name_in c.drop_span.new.channels.now p w)) c.deref.ensures.value in
+    ∙ ap (λ (ps : List (VarId × ℕ)). name_with c.args.pid ps p w (name_in c.drop_span.new.channels.now p w))
+    c.deref.ensures.value in
     replaced-marks c.self.inside c.args.pid c.args.channels.items c.reserve_names.new.channels c.drop_span.new.channels
     c.bind_pairs.new.channels c.reserve_names.ensures.names c.drop_span.ensures.names come
     c.reserve_names.ensures.marked c.drop_span.ensures.marked c.bind_pairs.ensures.marked c.put.new.self

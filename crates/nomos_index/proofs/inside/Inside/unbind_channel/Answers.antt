@@ -25,7 +25,8 @@ invariant_of-self c =
     ∙ ap (λ t. cond t None (name_in s.contents.channels.now p w)) (other-test c.args.pid p c.args.v.0 w (λ same. other (sym same))) in
     let has : s.room ≤ c.unbind.new.self.room = omega (arith, c.unbind.ensures.room, c.self.invariant.has_room.channels) in
     fewer-indexed s c.self.invariant c.args.pid place k at c.unbind.new.self (s.room) others
-    (unbound-fewer s.contents.channels.now c.unbind.new.self.now c.args.pid c.args.v.0 (c.unbind.ensures.names c.args.pid))
+    (unbound-fewer s.contents.channels.now c.unbind.new.self.now c.args.pid c.args.v.0
+    (c.unbind.ensures.names c.args.pid))
     (same-names _ _ c.unbind.ensures.marked)
     (omega arith) has
 
@@ -43,7 +44,8 @@ returns-clause-state c =
     let after = record s.contents { channels = c.unbind.new.self } in
     subst (λ (i : Indexed). Becomes i.state c.args.pid (without_channel c.args.v) (state_of (held_now after))) c.self.view_is
     (fewer-become s c.self.invariant c.args.pid place k at c.unbind.new.self (s.room) others
-    (unbound-fewer s.contents.channels.now c.unbind.new.self.now c.args.pid c.args.v.0 (c.unbind.ensures.names c.args.pid))
+    (unbound-fewer s.contents.channels.now c.unbind.new.self.now c.args.pid c.args.v.0
+    (c.unbind.ensures.names c.args.pid))
     (same-names _ _ c.unbind.ensures.marked)
     (omega arith) has
     (unbind c.args.v.0 (channels_of s.contents.channels.now c.args.pid))

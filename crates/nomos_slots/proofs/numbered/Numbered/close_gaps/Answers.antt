@@ -3,7 +3,7 @@ use Rattle.nomos_slots.specs.Marking.{Marking}
 use Rattle.nomos_slots.specs.Numbers.{found, IsAscending}
 use Rattle.nomos_slots.specs.declared.numbered.Slot.{Slot}
 use Rattle.nomos_slots.proofs.NumberLaws.{in-order}
-use Rattle.nomos_slots.proofs.GapLemmas.{ascending-close, found-close}
+use Rattle.nomos_slots.proofs.GapLaws.{ascending-close, found-close}
 use Rattle.nomos_slots.proofs.numbered.Numbered.close_gaps.Goals as goal
 
 pub invariant_of-self : goal.invariant_of-self
