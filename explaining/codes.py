@@ -3,9 +3,8 @@ from typing import NamedTuple
 
 from .amounts import closing
 from .names import Names
+from .shapes import LASTS
 from .texts import joined
-
-LASTS = ("close", "fwd", "call", "if", "case", "match")
 
 
 class Parameter(NamedTuple):

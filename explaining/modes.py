@@ -1,14 +1,26 @@
 """What to do with a type that may not stand at its place: a word before it, or another mode of its declaration."""
-HEADS = ("type", "fn", "proc")
+from .shapes import HEADS
+from .texts import joined
 
 
 def words(text, at, count):
     return [it.text for it in text.tokens[at : at + count]]
 
 
+def turned(text, at):
+    """Gives the two sides of a `*` or a `-o` the other way round, where the contract stands before what is sent."""
+    start = at - 2 if at > 1 and text.tokens[at - 2].text in ("down", "up") else at - 1
+    first, sign, sent = joined(text.tokens[start:at]), text.tokens[at].text, text.tokens[at + 1]
+    if sign in ("*", "-o") and sent.kind == "word":
+        new = f"{sent.text} {sign} {first}"
+        mend = f"write `{new}` in place of `{first} {sign} {sent.text}`, since what is sent stands first"
+        yield (text.tokens[start].at, sent.end, new), mend
+
+
 def tries(text, at):
     """Gives edits, each with what it is in words."""
     token = text.tokens[at]
+    yield from turned(text, at)
     if token.kind == "word" or token.text in "&+1":
         for word in ("down", "up"):
             yield (token.at, token.at, f"{word} "), f"write `{word}` before `{token.text}`"

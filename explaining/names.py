@@ -93,6 +93,15 @@ class Names:
                 return before
         return None
 
+    def still_known(self, at):
+        """Gives a line on a use of the name that a token binds anew, which is of the one that is known already."""
+        end = next((it for it in range(at, len(self.tokens)) if self.tokens[it].text == ";"), len(self.tokens))
+        for it in range(end, len(self.tokens)):
+            if self.tokens[it].text == self.tokens[at].text and self.used(it) and self.leads(at, it):
+                place = self.text.place(self.tokens[it].at)
+                return [f"see: `{self.tokens[it].text}` at {place} stays the old one, where it is not renamed too"]
+        return []
+
     def known_otherwise(self, at):
         """Gives the token that declares or binds the name of this one, and does not count here, with as what."""
         found = [it for it in self.places(self.tokens[at].text) if it[1] != "label"]
@@ -126,8 +135,8 @@ def unused(text):
 
 def others(names, at, other):
     """Gives edits for a name that is something else than is wanted, each with what it is in words: a process that
-    offers this definition, the two names of an instruction the other way round, and what is written for a channel or a
-    list where this is written for a value."""
+    offers this definition, the two names of an instruction the other way round, what is written for a channel or a
+    list where this is written for a value, a function with its parentheses, and another word to send or receive it."""
     tokens, token = names.tokens, names.tokens[at]
     words = [it.text for it in tokens[max(at - 3, 0) : at + 2]] if at > 2 else []
     if other == "definition" and names.used(at) == "process":
@@ -149,6 +158,32 @@ def others(names, at, other):
         term = joined(tokens[start : at - 1])
         mend = f"write `list {term}, {token.text}` in place of `{term} :: {token.text}`"
         yield (tokens[start].at, token.end, f"list {term}, {token.text}"), mend
+    if other == "function" and names.used(at) == "value":
+        yield (token.at, token.end, f"{token.text}()"), f"write `{token.text}()` in place of `{token.text}`"
+    yield from sent(names, at, other)
+
+
+def sent(names, at, other):
+    """Gives edits of the word with which this name is sent, or was received: that for values or that for channels."""
+    tokens, token = names.tokens, names.tokens[at]
+    words = {("value", "channel"): ("put", "send"), ("channel", "value"): ("send", "put")}
+    pair = words.get((names.used(at), other))
+    if pair and tokens[at - 2].text == pair[0] and tokens[at + 1].text == ";":
+        it, via = tokens[at - 2], tokens[at - 1].text
+        mend = f"write `{pair[1]} {via} {token.text}` in place of `{pair[0]} {via} {token.text}`"
+        yield (it.at, it.end, pair[1]), mend
+    found = names.known_otherwise(at)
+    words = {("value", "channel"): ("recv", "take"), ("channel", "value"): ("take", "recv")}
+    pair = words.get((names.used(at), other))
+    if pair and found and found[0] > 1 and tokens[found[0] - 2].text == pair[0]:
+        it = tokens[found[0] - 2]
+        yield (it.at, it.end, pair[1]), f"write `{pair[1]}` in place of `{pair[0]}` at {names.text.place(it.at)}"
+
+
+def is_past(after, edit, token):
+    """Whether the check went on past an edit, and past the name that it is for."""
+    end = edit[0] + len(edit[2])
+    return after.offset >= (end if edit[1] > token.at else end + token.end - edit[1])
 
 
 def mended(names, at, other, program):
@@ -157,7 +192,7 @@ def mended(names, at, other, program):
     for edit, mend in others(names, at, other):
         after = program.check(names.text.edited(edit))
         is_stuck = after.is_cause("Name") or after.is_cause("ProcType")
-        is_behind = is_stuck and after.offset >= edit[0] + len(edit[2])
+        is_behind = is_stuck and is_past(after, edit, names.tokens[at])
         if after.is_accepted or after.is_cause("NoPotential") or is_behind:
             found.append(f"mend: {mend}")
     return found[:3]
@@ -181,7 +216,7 @@ def explained(text, answer, program, grammar):
     if is_new:
         before = names.known_before(at)
         see = [] if before is None else [f"see: `{token.text}` is known since {text.place(text.tokens[before].at)}"]
-        return "Name twice", [f"mend: take another name than `{token.text}`", *see]
+        return "Name twice", [f"mend: take another name than `{token.text}`", *see, *names.still_known(at)]
     wanted, other = names.used(at), names.known_otherwise(at)
     if wanted is None:
         return "Name", []

@@ -7,6 +7,7 @@ from .held import now, reached
 from .kinds import miscounted, other_parts
 from .names import Names, unused
 from .passing import passed
+from .retyped import retyped
 from .syntax import distance
 from .texts import LONGEST, joined
 
@@ -37,7 +38,7 @@ class Stuck:
         self.text, self.program, self.names, self.form = text, program, names, answer.words[3]
         self.tokens, self.at = text.tokens, answer.offset
         self.index = text.index_at(self.at)
-        self.asked = 0
+        self.asked, self.is_whole = 0, False
         self.new = unused(text)
         heads = [at for at in range(self.index) if self.tokens[at].text in ("proc", "fn", "type")]
         self.head = heads[-1]
@@ -105,6 +106,8 @@ class Stuck:
             further = []
             for only, code, said in waiting:
                 for channel, more, words in self.put_before(self.new + "x" * depth, only):
+                    if words == "accept;" and said.endswith("detach; "):
+                        continue
                     edit = f"{code}{more} "
                     it = Try((self.at, self.at, edit), f"write `{said}{words}` before it")
                     reached = self.reach(it)
@@ -224,6 +227,7 @@ class Stuck:
             found = [*itertools.islice(self.instructions(), 3), *found]
         found = found or list(self.taken_out())
         furthest = max((reached for reached, _ in found), default=0)
+        self.is_whole = furthest > self.text.size
         return list(dict.fromkeys(it.mend for reached, it in found if reached == furthest))[:3] or self.parts()
 
     def parts(self):
@@ -281,6 +285,8 @@ def explained(text, answer, program, grammar):
     stuck = Stuck(text, answer, program, names)
     lines = [f"mend: {it}" for it in stuck.find()]
     types, step, held = reached(text, answer, grammar)
+    if not stuck.is_whole:
+        lines = [*retyped(types, step, held, lambda edit: stuck.reach(Try(edit, "")) or 0), *lines][:3]
     declared = stuck.declaration() if stuck.form in ("spawn", "call") else []
     if declared and not lines:
         declared += passed(types, step, held, program)

@@ -1,11 +1,11 @@
 """What is wrong where no contract goes on: the slip that was made, and an edit with which the text is read further."""
 import re
-from .habits import HEADS, KINDS, Habits, Slip
+from .habits import Habits
+from .shapes import HEADS, KINDS, Slip
 from .texts import Token, tokens_of
 
 LETTERS = re.compile(r"[A-Za-z_0-9]")
 PARTED = {"==": "=", "&&": " and ", "||": " or ", "!=": "=", "<=": "<", ">=": "<"}
-LASTS = ("close", "fwd", "call", "if", "case", "match")
 # Rows that hold wherever these tokens may stand within a text.
 SURE = (
     ("Syntax instruction", {"."}.__eq__), ("Syntax match", {"nil"}.__eq__), ("Syntax else", {"else"}.__eq__),

@@ -1,0 +1,171 @@
+"""Slips in the shape of a type, of an instruction or of a branch: it has what it needs, and in another form."""
+from typing import NamedTuple
+
+from .texts import joined
+
+KINDS = ("int", "bool", "list")
+HEADS = ("type", "fn", "proc")
+LASTS = ("close", "fwd", "call", "if", "case", "match")
+# What stands for a channel where a sign for values is written, and the signs for values by what holds the label.
+OF_CHANNELS = {"/\\": "*", "->": "-o"}
+SENT = {"+": ("/\\", "*"), "&": ("->", "-o")}
+
+
+class Slip(NamedTuple):
+    """A row of docs/CAUSES.md, what to do, or nothing, and an edit that the text is read further with."""
+
+    row: str
+    mend: str
+    edit: tuple
+
+
+class Shapes:
+    """What is found of the tokens around an offence, by the class that is made of this one."""
+
+    def of_shapes(self):
+        ways = (self.of_signs, self.of_payloads, self.of_sides_of_head, self.of_bound, self.of_small)
+        for way in (*ways, self.of_branches):
+            yield from way()
+
+    def of_signs(self):
+        """Slips in the sign between what is sent and how the talk goes on, and in what a list is of."""
+        mark, before = self.marked, self.token(-1)
+        if mark.text in OF_CHANNELS.values() and set(OF_CHANNELS) <= self.wanted:
+            mend = f"write `/\\` in place of `{mark.text}` where the provider sends it, and `->` where it receives it"
+            yield Slip("Syntax value", mend, (mark.at, mark.end, "/\\"))
+        if mark.text in OF_CHANNELS and set(OF_CHANNELS.values()) <= self.wanted:
+            sign = OF_CHANNELS[mark.text]
+            mend = f"write `{sign}` in place of `{mark.text}`, since a channel stands before it, and no value"
+            yield Slip("Syntax", mend, (mark.at, mark.end, sign))
+        if before.text == "list" and self.wants("vtype") and self.is_declared(mark.text, "type"):
+            yield Slip("Syntax elements", "", (mark.at, mark.end, "int"))
+
+    def of_payloads(self):
+        """A label of a type that is written with what goes with it between parentheses."""
+        mark, label, end = self.marked, self.token(-1), self.closing(0, "(", ")")
+        colon = next((it for it in self.tokens if it.at >= end.end), end)
+        inside = self.text.text[mark.end : end.at].strip()
+        opening = self.opening(self.index)
+        if mark.text == "(" and self.wanted == {":"} and colon.text == ":" and inside and opening:
+            signs = SENT.get(self.tokens[opening - 1].text, SENT["&"])
+            new = f"{label.text} : {inside} {signs[0 if inside.split()[0] in KINDS else 1]}"
+            mend = f"write `{new}` in place of `{label.text}({inside}) :`"
+            yield Slip("Syntax label", mend, (label.at, colon.end, new))
+
+    def opening(self, index):
+        """Gives the number of the innermost { that is open before a token, or 0."""
+        depth = 0
+        for at in range(index - 1, 0, -1):
+            depth += (self.tokens[at].text == "}") - (self.tokens[at].text == "{")
+            if depth < 0:
+                return at
+        return 0
+
+    def of_sides_of_head(self):
+        """Values among the parameters that stand behind the `;`."""
+        is_value = set(OF_CHANNELS) <= self.wanted and self.token(-1).text in KINDS
+        words = [it.text for it in self.tokens[: self.index]]
+        if is_value and words[:1] == ["proc"] and words.count("(") == 1 and self.marked.text in (",", ")"):
+            start, end = self.tokens[3], self.closing(3 - self.index, "(", ")")
+            first, _, second = self.text.text[start.end : end.at].partition(";")
+            parts = [it.strip() for it in second.split(",")]
+            moved = [it for it in parts if it.partition(":")[2].split()[:1] and not self.is_talk(it)]
+            values = ", ".join([it for it in [first.strip()] if it] + moved)
+            new = f"({values}; {', '.join(it for it in parts if it not in moved)})".replace("; )", ";)")
+            yield Slip("Syntax", f"write `{new}`, since values stand before the `;`", (start.at, end.end, new))
+
+    def is_talk(self, parameter):
+        """Whether a parameter is a channel, and no value."""
+        kind = parameter.partition(":")[2]
+        return kind.split()[0] not in KINDS or any(sign in kind for sign in OF_CHANNELS)
+
+    def of_bound(self):
+        """Slips in which an instruction stands where its name, or what it sends, is wanted."""
+        mark, before, behind, third = self.marked, self.token(-1), self.token(1), self.token(-3)
+        if mark.text in ("take", "recv") and (third.text, before.text, behind.kind) == ("let", "=", "word"):
+            name = self.token(-2).text
+            new = f"{mark.text} {behind.text} {name}"
+            mend = f"write `{new}` in place of `let {name} = {mark.text} {behind.text}`"
+            yield Slip("Syntax", mend, (third.at, behind.end, new))
+        if mark.text == "(" and third.text == "send" and self.is_declared(before.text, "proc"):
+            end = self.closing(0, "(", ")")
+            call = self.text.text[before.at : end.end]
+            mend = f"write `spawn .. = {call};` before `send`, with a new name, and this name in place of `{call}`"
+            new = f"spawn x = {call}; send {self.token(-2).text} x"
+            yield Slip("Syntax", mend, (third.at, end.end, new))
+
+    def of_small(self):
+        """Slips in a token or two: braces, a hyphen, a word that is too much."""
+        mark, before, behind = self.marked, self.token(-1), self.token(1)
+        if self.wanted == {"{"} and (mark.kind == "number" or mark.text == "*"):
+            new = f"{{{mark.text}}}"
+            yield Slip("Syntax", f"write `{new}` in place of `{mark.text}`", (mark.at, mark.end, new))
+        is_one = before.end == mark.at and mark.end == behind.at and before.kind == behind.kind == "word"
+        if mark.text == "-" and is_one:
+            new = f"{before.text}_{behind.text}"
+            mend = f"write `{new}` in place of `{before.text}-{behind.text}`, here and wherever this name stands"
+            yield Slip("Syntax", mend, (before.at, behind.end, new))
+        if mark.text == "self" and before.text in (";", ",") and self.wanted <= {"NAME", ")"}:
+            start, end = (before.at, mark.end) if before.text == "," else (mark.at, mark.end)
+            edit = (mark.at, behind.end, "") if behind.text == "," else (start, end, "")
+            yield Slip("Syntax", "take `self` out, since each process has its own and is not given it", edit)
+        if mark.text == "then" and behind.text == "{" and "{" in self.wanted:
+            mend = "take `then` out, since these are instructions"
+            yield Slip("Syntax else", mend, (mark.at, mark.end, ""))
+        if mark.kind == "number" and before.text == "{" and self.token(-3).text == "case":
+            yield Slip("Syntax match", "", (mark.at, mark.end, "x"))
+
+    def of_branches(self):
+        """Branches without a last instruction, where what they have in common stands behind them."""
+        mark, before, opening = self.marked, self.token(-1), self.opening(self.index)
+        if mark.text not in ("}", "|") or self.tokens[0].text != "proc" or not opening:
+            return
+        if not self.wants("code") and ";" not in self.wanted or self.has_last(self.index):
+            return
+        ends, last = self.ends(opening)
+        start = last + 2 if self.text_at(last + 1) == ";" else last + 1
+        stop = self.apart(start, ("}", "|", *HEADS))
+        stop -= self.text_at(stop - 1) == ";"
+        if start < stop and stop < len(self.tokens):
+            place = self.text.place(self.tokens[last].at)
+            mend = f"write what stands behind the `}}` at {place} at the end of each branch before it instead"
+            new, at = "", self.tokens[opening].end
+            for end in ends:
+                new += self.text.text[at : self.tokens[end - 1].end] + self.parting(end)
+                new += joined(self.tokens[start:stop])
+                at = self.tokens[end].at
+            new += self.text.text[at : self.tokens[last].end]
+            yield Slip("Syntax branch", mend, (self.tokens[opening].end, self.tokens[stop - 1].end, new))
+        mend = f"write `{self.parting(self.index).strip()} close`, or how else this branch ends, behind `{before.text}`"
+        new = f"{self.parting(self.index)}close "
+        yield Slip("Syntax branch", " ".join(mend.replace("` ", "`", 1).split()), (before.end, mark.at, new))
+
+    def text_at(self, at):
+        return self.tokens[at].text if at < len(self.tokens) else ""
+
+    def parting(self, end):
+        """Gives what parts the last instruction before a token from one that is put behind it."""
+        return " " if self.tokens[end - 1].text in (";", "{", "=>") else "; "
+
+    def has_last(self, end):
+        """Whether the branch that ends at a token has a last instruction, with a `;` behind it or without."""
+        at = end - 1 - (self.tokens[end - 1].text == ";")
+        depth = 0
+        while at > 0 and (depth or self.tokens[at].text not in (";", "{", "=>", "|")):
+            depth += (self.tokens[at].text in ("}", ")")) - (self.tokens[at].text in ("{", "("))
+            at -= 1
+        return self.tokens[at + 1].text in LASTS
+
+    def ends(self, opening):
+        """Gives the tokens at which branches without a last instruction end, and the last } of these branches. They
+        stand behind a {, and behind an `else` too."""
+        ends, at = [], opening
+        while True:
+            at = self.apart(at + 1, ("}", "|"))
+            if at >= len(self.tokens):
+                return ends, at
+            ends += [] if self.has_last(at) else [at]
+            if self.tokens[at].text == "}":
+                if self.text_at(at + 1) != "else":
+                    return ends, at
+                at += 2
