@@ -1,7 +1,7 @@
 """What is wrong in a text that is no script: the line, what may stand there, and an edit with which it has a form."""
 import re
-from typing import NamedTuple
 
+from .forms import Forms, Slip
 from .syntax import nearest
 from .texts import Token
 
@@ -10,14 +10,7 @@ MOST_UNITS, MOST_NUMBER, MOST_BYTES, MOST_DEEP = 10**18, 2**63, 64, 64
 PUT_IN = {"NAME": "x", "NUMBER": "0", "N": "0"}
 
 
-class Slip(NamedTuple):
-    """An edit, and what it is in words."""
-
-    edit: tuple
-    mend: str
-
-
-class Line:
+class Line(Forms):
     """The line that a script is refused by, and what was read of it."""
 
     def __init__(self, program, script, number, grammar):
@@ -71,6 +64,7 @@ class Line:
             yield Slip((self.row.at, self.row.end, new), "take the quotes out")
         if mark.text == "#":
             yield Slip((mark.at, mark.at + 1, "//"), "begin a comment with `//` in place of `#`")
+        yield from self.of_forms()
         yield from self.of_starts()
         if mark.kind == "word" and not self.wanted & {"NAME", "N"}:
             for it in nearest(mark.text, {word for word in self.wanted if word[0].isalpha()} - PUT_IN.keys()):

@@ -1,0 +1,113 @@
+"""Slips in a line of a script that has all it needs, in another form: as other languages would have it."""
+from typing import NamedTuple
+
+from .texts import joined
+
+# How many lines are looked at behind one that may go on there.
+MOST_ROWS = 4
+ADDED = {"+": int.__add__, "-": int.__sub__, "*": int.__mul__}
+
+
+class Slip(NamedTuple):
+    """An edit, and what it is in words."""
+
+    edit: tuple
+    mend: str
+
+
+class Forms:
+    """What is found of the tokens around the marked one, by the class that is made of this one."""
+
+    def of_forms(self):
+        for way in (self.of_rows, self.of_dots, self.of_words, self.of_numbers, self.of_terms):
+            yield from way()
+
+    def of_rows(self):
+        """A line that goes on in the next one, and two lines in one."""
+        mark, row = self.marked, self.row
+        if self.count and not mark.kind:
+            tokens = list(row.tokens)
+            for further in self.script.rows[row.number : row.number + MOST_ROWS]:
+                tokens += further.tokens
+                mend = f"write what stands up to line {further.number} on this one line"
+                yield Slip((row.at, row.end, joined(tokens)), mend)
+        if self.count and self.may_end and mark.text in self.words:
+            yield Slip((mark.at, mark.at, "\n"), f"write this `{mark.text}` and what stands behind it on another line")
+
+    def of_dots(self):
+        """Slips with a dot between two names: an account or a contract before what is run or given."""
+        mark, before, behind = self.marked, self.at(-1), self.at(1)
+        if not self.count and behind.text == "." and mark.text in self.accounts():
+            name = self.at(2).text
+            mend = f"write `exec {mark.text} {name}` in place of `{mark.text}.{name}`"
+            yield Slip((mark.at, self.at(2).end, f"exec {mark.text} {name}"), mend)
+        if mark.text != "." or before.kind != "word" or behind.kind != "word":
+            return
+        if before.text in self.made() and self.wanted == {"("} and self.at(2).text == "(":
+            mend = f"take `{before.text}.` out, and write `{before.text}` among the names of contracts, behind the `;`"
+            inside = joined(self.tokens[self.count + 3 :])[:-1].rstrip()
+            sign = "; " if ";" not in inside else " " if inside[-1] == ";" else ", "
+            yield Slip((before.at, self.row.end, f"{behind.text}({inside}{sign}{before.text})"), mend)
+        yield Slip((before.at, mark.end, ""), f"take `{before.text}.` out")
+
+    def made(self):
+        """Gives the names that the lines of the script give to contracts."""
+        return {it.tokens[1].text for it in self.script.rows if it.word == "let" and len(it.tokens) > 1}
+
+    def of_words(self):
+        """Slips at the first words of a line, and with what a line is for."""
+        mark, before, behind = self.marked, self.at(-1), self.at(1)
+        texts = [it.text for it in self.tokens]
+        if not self.count and mark.kind == "word" and behind.text in self.accounts() and texts[3:4] == ["("]:
+            yield Slip((mark.at, mark.end, "exec"), f"write `exec` in place of `{mark.text}`")
+        if not self.count and texts[1:3] == ["=", "new"]:
+            yield Slip((mark.at, mark.at, "let "), f"write `let` before `{mark.text}`")
+        if self.wanted == {"new"} and (mark.kind == "number" or mark.text in ("true", "false", "-", "[")):
+            value = self.script.text[mark.at : self.tokens[-1].end]
+            mend = f"take this line out, and write `{value}` where `{self.at(-2).text}` is meant"
+            yield Slip((self.row.at, self.row.end, ""), mend)
+        if mark.text == "(" and self.wanted == {"NAME"} and texts[-2:-1] in (["by"], ["as"], ["from"]):
+            end, account = self.tokens[-3], self.tokens[-1].text
+            new = f"{account} {self.script.text[before.at : end.end]}"
+            mend = f"write the account first, as in `{self.tokens[0].text} {account} {before.text}(..)`"
+            yield Slip((before.at, self.row.end, new), mend)
+        if before.text == "new" and mark.kind == "word" and "(" in texts[: self.count]:
+            end = self.closing(self.count)
+            made = joined(self.tokens[self.count - 1 : end + 1])
+            mend = f"write `let .. = {made}` on a line before, with the account that pays behind `new` and a name for "
+            yield Slip((before.at, self.tokens[end].end, "x"), f"{mend}the contract, and this name here")
+
+    def closing(self, at):
+        """Gives the number of the token that closes the first parenthesis behind a token, or of the last one."""
+        depth = 0
+        for it in range(at, len(self.tokens)):
+            depth += (self.tokens[it].text == "(") - (self.tokens[it].text == ")")
+            if depth == 0 and self.tokens[it].text == ")":
+                return it
+        return len(self.tokens) - 1
+
+    def of_numbers(self):
+        """Numbers that are parted into thousands, or computed."""
+        mark, before, behind = self.marked, self.at(-1), self.at(1)
+        if before.kind != "number" or mark.text not in (",", "_", "'", *ADDED) and mark.kind != "word":
+            return
+        parts = [it for it in self.tokens[self.count - 1 :] if it.at >= before.at]
+        end = next((at for at in range(1, len(parts)) if parts[at].at != parts[at - 1].end), len(parts))
+        said = joined(parts[:end])
+        new = "".join(sign for sign in said if sign.isdigit())
+        if mark.text not in ADDED and set(said) <= set("0123456789,_'") and new != before.text:
+            yield Slip((before.at, parts[end - 1].end, new), f"write `{new}` in place of `{said}`")
+        if mark.text in ADDED and behind.kind == "number" and max(len(before.text), len(behind.text)) < 10:
+            new = str(ADDED[mark.text](int(before.text), int(behind.text)))
+            mend = f"write `{new}` in place of `{joined([before, mark, behind])}`, since nothing is computed here"
+            yield Slip((before.at, behind.end, new), mend)
+
+    def of_terms(self):
+        """A name among the values that is no contract, where the names of contracts stand behind the `;`."""
+        mark, made = self.marked, self.made()
+        behind = [it for it in self.tokens if it.at > mark.at]
+        names = {it.text for it in behind if it.kind == "word"}
+        is_value = "NUMBER" in self.wanted and mark.kind == "word" and ";" in [it.text for it in behind]
+        if is_value and made and mark.text not in made and names <= made:
+            mend = f"write a number, `true` or `false`, or a list, in place of `{mark.text}`, which is no contract"
+            yield Slip((mark.at, mark.end, "0"), mend)
