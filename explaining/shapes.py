@@ -136,9 +136,10 @@ class Shapes:
                 at = self.tokens[end].at
             new += self.text.text[at : self.tokens[last].end]
             yield Slip("Syntax branch", mend, (self.tokens[opening].end, self.tokens[stop - 1].end, new))
-        mend = f"write `{self.parting(self.index).strip()} close`, or how else this branch ends, behind `{before.text}`"
-        new = f"{self.parting(self.index)}close "
-        yield Slip("Syntax branch", " ".join(mend.replace("` ", "`", 1).split()), (before.end, mark.at, new))
+        ending = "close" if self.tokens[1].text in ("R", "T") else f"call {self.tokens[2].text}(..)"
+        new = f"{self.parting(self.index)}{ending}".strip()
+        mend = f"write `{new}`, or how else this branch ends, behind `{before.text}`"
+        yield Slip("Syntax branch", mend, (before.end, mark.at, f" {new.replace('..', ';')} "))
 
     def text_at(self, at):
         return self.tokens[at].text if at < len(self.tokens) else ""
