@@ -1,21 +1,23 @@
 """Slips of those who write other languages, or who have not met yet how a thing is written in this one."""
-from .shapes import HEADS, KINDS, Shapes, Slip
+from .shapes import HEADS, KINDS, Slip
 from .texts import joined
+from .wordings import Wordings
 
 # The kinds of values by the names that other languages have for them.
 ELSEWHERE = dict.fromkeys(("integer", "number", "nat", "uint", "uint256", "i32", "i64", "u64", "long"), "int")
+ELSEWHERE.update(dict.fromkeys(("address", "account"), "int"))
 ELSEWHERE.update(dict.fromkeys(("boolean", "Boolean"), "bool"))
 LOOPS = ("while", "for", "loop", "repeat", "foreach")
 # The instructions that are written with a channel behind them.
 WORDS = ("send", "recv", "put", "take", "wait", "pay", "get", "fwd", "acquire", "release")
 
 
-class Habits(Shapes):
+class Habits(Wordings):
     """What is found of the tokens around an offence, by the class that is made of this one."""
 
     def of_habits(self):
         ways = (self.of_order, self.of_returns, self.of_terms, self.of_cases, self.of_kinds, self.of_calls)
-        for way in (self.of_shapes, *ways, self.of_loops, self.of_braces):
+        for way in (self.of_wordings, self.of_shapes, *ways, self.of_loops, self.of_braces):
             yield from way()
 
     def of_order(self):

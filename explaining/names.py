@@ -1,4 +1,5 @@
 """What is wrong with a name that breaks a rule of "Names" in docs/LANGUAGE.md."""
+from .amounts import closing
 from .syntax import nearest
 from .texts import joined
 
@@ -136,7 +137,8 @@ def unused(text):
 def others(names, at, other):
     """Gives edits for a name that is something else than is wanted, each with what it is in words: a process that
     offers this definition, the two names of an instruction the other way round, what is written for a channel or a
-    list where this is written for a value, a function with its parentheses, and another word to send or receive it."""
+    list where this is written for a value, a process that is spawned, a function with its parentheses, and another word
+    to send or receive it."""
     tokens, token = names.tokens, names.tokens[at]
     words = [it.text for it in tokens[max(at - 3, 0) : at + 2]] if at > 2 else []
     if other == "definition" and names.used(at) == "process":
@@ -158,6 +160,11 @@ def others(names, at, other):
         term = joined(tokens[start : at - 1])
         mend = f"write `list {term}, {token.text}` in place of `{term} :: {token.text}`"
         yield (tokens[start].at, token.end, f"list {term}, {token.text}"), mend
+    if other == "process" and names.used(at) == "function" and (words[0:1], words[2:3]) == (["let"], ["="]):
+        end = closing(tokens, at + 1)
+        call = f"{token.text}({joined(tokens[at + 2 : end])};)"
+        mend = f"write `spawn {words[1]} = {call}` in place of `let {words[1]} = {joined(tokens[at : end + 1])}`"
+        yield (tokens[at - 3].at, tokens[end].end, f"spawn {words[1]} = {call}"), mend
     if other == "function" and names.used(at) == "value":
         yield (token.at, token.end, f"{token.text}()"), f"write `{token.text}()` in place of `{token.text}`"
     yield from sent(names, at, other)

@@ -112,7 +112,8 @@ class Shapes:
         if mark.text == "then" and behind.text == "{" and "{" in self.wanted:
             mend = "take `then` out, since these are instructions"
             yield Slip("Syntax else", mend, (mark.at, mark.end, ""))
-        if mark.kind == "number" and before.text == "{" and self.token(-3).text == "case":
+        is_value = mark.kind == "number" or mark.text in ("true", "false")
+        if is_value and before.text == "{" and self.token(-3).text == "case":
             yield Slip("Syntax match", "", (mark.at, mark.end, "x"))
 
     def of_branches(self):

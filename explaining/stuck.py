@@ -20,8 +20,10 @@ SPAWNED = {"R": "R", "S": "RS", "L": "RS", "T": "RS"}
 ENDING = (("step", 1), ("step", 4), ("step", 7), ("args", 0), ("args", 1))
 # What the other side of a channel does at the same type.
 DUAL = {"put": "take", "take": "put", "send": "recv", "recv": "send", "pay": "get", "get": "pay"}
-# The instructions that may change places with the one behind them, and those that have terms.
+# The instructions that may change places with the one behind them, those that are on a channel, those that have terms,
+# and those that may be left out.
 ORDERED = ("label", "send", "recv", "put", "take", "pay", "get", "wait", "acquire", "release", "accept", "detach")
+TALKING = ("label", "case", "send", "recv", "put", "take", "pay", "get", "wait", "release")
 TERMS = ("put", "spawn", "let", "add", "emit", "if", "call")
 TAKEN_OUT = ("label", "put", "take", "recv", "pay", "get", "wait", "accept", "detach", "work")
 
@@ -143,6 +145,7 @@ class Stuck:
     def others(self):
         """Gives what may stand in the place of the stuck instruction."""
         token = self.tokens[self.index]
+        yield from self.elsewhere()
         yield from self.swapped()
         if self.form == "label":
             label = self.tokens[self.index + 2]
@@ -159,6 +162,25 @@ class Stuck:
         if self.form == "close" and self.tokens[self.index - 1].text != "=":
             call = self.call_again()
             yield Try((token.at, token.end, call), f"write `{call}` in place of `close`")
+
+    def elsewhere(self):
+        """Gives another channel in the place of `self`, on which nobody hears a transaction, or of a contract: the name
+        that it was acquired as, or a new one as which it is acquired first."""
+        if self.form not in TALKING:
+            return
+        at = self.index if self.form == "label" else self.index + 1
+        it, way = self.tokens[at], range(self.head, self.index)
+        names = self.channels()[1:] if it.text == "self" and self.tokens[self.head + 1].text == "T" else []
+        if it.text != "self":
+            words = [(place, [other.text for other in self.tokens[place : place + 3]]) for place in way]
+            found = [place + 3 for place, three in words if three == ["acquire", it.text, "as"]]
+            names = [self.tokens[place].text for place in found if self.names.leads(place, self.index)]
+        for name in names:
+            yield Try((it.at, it.end, name), f"write `{name}` in place of `{it.text}`")
+        if it.text != "self" and not names:
+            new = f"acquire {it.text} as {self.new}; {self.text.text[self.at : it.at]}{self.new}"
+            mend = f"write `acquire {it.text} as ..;` before it, with a new name, and this name in place of `{it.text}`"
+            yield Try((self.at, it.end, new), mend)
 
     def swapped(self):
         """Gives the stuck instruction and the one behind it the other way round."""

@@ -118,8 +118,6 @@ class Slips(Habits):
             yield Slip("Syntax logic", "write `not` in place of `!`", (mark.at, mark.end, " not "))
         if mark.text == "#":
             yield from self.of_comment("#", mark.at)
-        if mark.text == "-" and behind.kind == "number":
-            yield Slip("Syntax minus", f"write `0 - {behind.text}`", (mark.at, mark.end, "0 -"))
 
     def of_comment(self, sign, at):
         end = self.text.text.find("*/" if sign == "/*" else "\n", at + len(sign))

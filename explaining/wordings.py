@@ -1,0 +1,194 @@
+"""Slips in the wording of an instruction, a term or a kind: it has what it needs, in another order or by the words of
+other languages."""
+from .shapes import HEADS, KINDS, Shapes, Slip
+from .texts import joined
+
+# The instructions that send or receive on a channel, and the small words that others put between what these name.
+TALKING = ("send", "recv", "put", "take")
+BETWEEN = ("to", "from", "into", "in", "on", "via")
+# What other languages call a text, and the words by which they choose, and declare a function.
+TEXTS = ("string", "String", "str", "text", "char")
+CHOOSING = ("switch", "select", "when")
+FUNCTIONS = ("func", "function", "fun", "def")
+# The signs that a difference stands behind in parentheses.
+TIGHT = ("-", "*", "/", "%")
+TRUTHS = ("true", "false")
+
+
+class Wordings(Shapes):
+    """What is found of the tokens around an offence, by the class that is made of this one."""
+
+    def of_wordings(self):
+        ways = (self.of_minus, self.of_asked, self.of_spawned, self.of_commas, self.of_between, self.of_acquired)
+        for way in (*ways, self.of_chains, self.of_lists, self.of_choices, self.of_foreign):
+            yield from way()
+
+    def instruction(self):
+        """Gives the number of the token that the instruction around the offence begins with."""
+        found = depth = 0
+        for at, it in enumerate(self.tokens[: self.index]):
+            depth += (it.text == "(") - (it.text == ")")
+            is_amount = it.text == "{" and (self.tokens[at + 1].kind == "number" or self.tokens[at + 1].text == "*")
+            is_first = it.text == "=" and not found
+            if depth == 0 and not is_amount and (it.text in (";", "{", "=>") or is_first):
+                found = at + 1
+        return found
+
+    def of_minus(self):
+        """A term that begins with a `-`."""
+        mark, before, behind = self.marked, self.token(-1), self.token(1)
+        is_term = {"me", "nil"} <= self.wanted and (behind.kind in ("word", "number") or behind.text == "(")
+        if mark.text != "-" or not is_term:
+            return
+        has_more = behind.text == "(" or behind.kind == "word" and self.token(2).text == "("
+        end = self.closing(1, "(", ")") if has_more else behind
+        said = f"0 - {self.text.text[behind.at : end.end]}"
+        new = f"({said})" if before.text in TIGHT else said
+        yield Slip("Syntax minus", f"write `{new}`", (mark.at, end.end, new))
+
+    def of_asked(self):
+        """A label in a term, as if its answer were a value."""
+        mark, via, label, at = self.marked, self.token(-1), self.token(1), self.instruction()
+        is_bound = self.token(-2).text == "=" and self.token(-4).text == "let"
+        is_term = {"and", "+"} <= self.wanted and self.tokens[0].text == "proc" and not is_bound
+        if mark.text == "." and is_term and via.kind == "word" and self.is_label(label.text):
+            asked, word = f"{via.text}.{label.text}", self.tokens[at]
+            between = self.text.text[word.at : via.at]
+            put = f"{asked}; take {via.text} ..;"
+            mend = f"write `{put}` before `{word.text}`, with a new name, and this name in place of `{asked}`"
+            yield Slip("Syntax", mend, (word.at, label.end, f"{put.replace('..', 'x')} {between}x"))
+
+    def of_spawned(self):
+        """A process that is started by `let`."""
+        opening = max((at for at in range(self.index) if self.tokens[at].text == "("), default=0)
+        words = [it.text for it in self.tokens[max(opening - 4, 0) : opening]]
+        if self.marked.text == ";" and words[:1] + words[2:3] == ["let", "="] and self.is_declared(words[3], "proc"):
+            it = self.tokens[opening - 4]
+            mend = f"write `spawn` in place of `let` at {self.text.place(it.at)}"
+            yield Slip("Syntax", mend, (it.at, it.end, "spawn"))
+
+    def of_commas(self):
+        """Several things that one instruction sends, receives or names."""
+        mark, at = self.marked, self.instruction()
+        word = self.tokens[at].text if at < len(self.tokens) else ""
+        if mark.text != "," or ";" not in self.wanted or word not in (*TALKING, "emit", "wait", "let", "spawn"):
+            return
+        new = f"{word} {self.tokens[at + 1].text}" if word in TALKING else word
+        yield Slip("Syntax", f"write `; {new}` in place of this `,`", (mark.at, mark.end, f"; {new} "))
+
+    def of_between(self):
+        """A small word between what is sent and the channel, which stands first."""
+        mark, small, sent, word = self.marked, self.token(-1), self.token(-2), self.token(-3)
+        if word.text in TALKING and small.text in BETWEEN and mark.kind == "word":
+            new = f"{word.text} {mark.text} {sent.text}"
+            mend = f"write `{new}` in place of `{word.text} {sent.text} {small.text} {mark.text}`"
+            yield Slip("Syntax", mend, (word.at, mark.end, new))
+
+    def of_acquired(self):
+        """A name that stands on the other side of an instruction than it is bound at."""
+        mark, before, behind, third = self.marked, self.token(-1), self.token(1), self.token(-3)
+        if mark.text in ("acquire", "release") and (third.text, before.text) == ("let", "=") and behind.kind == "word":
+            name = self.token(-2).text
+            new = f"{mark.text} {behind.text} as {name}"
+            mend = f"write `{new}` in place of `let {name} = {mark.text} {behind.text}`"
+            yield Slip("Syntax", mend, (third.at, behind.end, new))
+        if mark.text == "=" and self.wanted == {"as"} and behind.kind == "word":
+            word = self.token(-2)
+            new = f"{word.text} {behind.text} as {before.text}"
+            mend = f"write `{new}` in place of `{word.text} {before.text} = {behind.text}`"
+            yield Slip("Syntax", mend, (word.at, behind.end, new))
+        end = self.closing(0, "(", ")")
+        rest = [it for it in self.tokens[self.index :] if it.at >= end.end][:2]
+        if mark.text == "(" and self.token(-2).text == "spawn" and [it.text for it in rest[:1]] == ["as"] and rest[1:]:
+            start, call = self.token(-2), self.text.text[before.at : end.end]
+            new = f"spawn {rest[1].text} = {call}"
+            mend = f"write `{new}` in place of `spawn {call} as {rest[1].text}`"
+            yield Slip("Syntax", mend, (start.at, rest[1].end, new))
+
+    def of_chains(self):
+        """Two comparisons with one part in common."""
+        mark, before, sign = self.marked, self.token(-1), self.token(-2)
+        if mark.text in ("<", "=") and sign.text in ("<", "=") and "and" in self.wanted and before.kind != "symbol":
+            new = f"and {before.text} {mark.text}"
+            yield Slip("Syntax", f"write `{new}` in place of this `{mark.text}`", (mark.at, mark.end, new))
+
+    def of_lists(self):
+        """The kind of a list with its elements in brackets, and an element by its number."""
+        mark, before = self.marked, self.token(-1)
+        signs = {"[": "]", "<": ">", "(": ")"}
+        if before.text == "list" and mark.text in signs and self.wants("vtype"):
+            end = self.closing(0, mark.text, signs[mark.text])
+            inside, said = self.text.text[mark.end : end.at].strip(), self.text.text[before.at : end.end]
+            yield Slip("Syntax", f"write `list {inside}` in place of `{said}`", (mark.at, end.end, f" {inside}"))
+        if mark.text == "[" and {"and", "+"} <= self.wanted and before.kind == "word":
+            yield Slip("Syntax index", "", (mark.at, self.closing(0, "[", "]").end, ""))
+
+    def of_choices(self):
+        """A `case` on a value, which is an `if`."""
+        mark, at = self.marked, self.instruction()
+        is_value = mark.kind == "number" or mark.text in TRUTHS
+        if is_value and self.token(-1).text == "{" and self.token(-3).text == "case":
+            at, opening = self.index - 3, self.index - 1
+        elif self.wanted == {"{"} and self.tokens[at : at + 1] and self.tokens[at].text == "case":
+            opening = next((it for it in range(self.index, len(self.tokens)) if self.tokens[it].text == "{"), None)
+        else:
+            return
+        rows, closing = self.rows(opening) if opening else ([], 0)
+        subject = joined(self.tokens[at + 1 : opening]) if opening else ""
+        are_values = all(label.kind == "number" or label.text in TRUTHS for label, _ in rows[:-1])
+        if len(rows) > 1 and are_values and self.is_term(subject, at):
+            tests = [self.test(subject, label.text) for label, _ in rows[:-1]]
+            said, new = "{ .. }", f"{{ {rows[-1][1]} }}"
+            for test, (_, code) in zip(tests[::-1], rows[-2::-1]):
+                said = f"{{ if {test} {{ .. }} else {said} }}"
+                new = f"{{ if {test} {{ {code} }} else {new} }}"
+            edit = (self.tokens[at].at, self.tokens[closing].end, new[2:-2])
+            yield Slip("Syntax match", f"write `{said[2:-2]}` in place of the `case`", edit)
+
+    def is_term(self, subject, end):
+        """Whether a text is more than a name, or one that is bound as a value before a token."""
+        words = ["", "", *(it.text for it in self.tokens[:end]), "", ""]
+        for at, it in enumerate(words):
+            is_kind = words[at + 1 : at + 2] == [":"] and words[at + 2] in KINDS
+            if it == subject and (words[at - 1] == "let" or words[at - 2] == "take" or is_kind):
+                return True
+        return not subject.isidentifier()
+
+    def test(self, subject, label):
+        """Gives in words that a term has the value of a label."""
+        if label in TRUTHS:
+            return subject if label == "true" else f"not ({subject})"
+        return f"{subject} = {label}"
+
+    def rows(self, opening):
+        """Gives the first token and the code of each branch behind a {, and the number of the } that ends them."""
+        found, start = [], opening + 1
+        while True:
+            end = self.apart(start, ("|", "}"))
+            if end >= len(self.tokens) or self.text_at(start + 1) != "=>":
+                return [], 0
+            found.append((self.tokens[start], joined(self.tokens[start + 2 : end])))
+            if self.tokens[end].text == "}":
+                return found, end
+            start = end + 1
+
+    def of_foreign(self):
+        """Words of other languages, and a value that is declared outside of processes."""
+        mark, before, behind = self.marked, self.token(-1), self.token(1)
+        if mark.text in TEXTS and self.wants("vtype"):
+            yield Slip("Syntax text", "", (mark.at, mark.end, "int"))
+        if before.text in CHOOSING and self.wanted == {"."}:
+            mend = f"write `case` in place of `{before.text}`"
+            yield Slip("Syntax instruction", mend, (before.at, before.end, "case"))
+        if not set(HEADS) <= self.wanted:
+            return
+        if mark.text in FUNCTIONS and behind.kind == "word":
+            yield Slip("Syntax declaration", f"write `fn` in place of `{mark.text}`", (mark.at, mark.end, "fn"))
+        end = self.apart(self.index, (";",))
+        term = [it.text for it in self.tokens[self.index + 3 : end]]
+        is_value = term[-1:] and (term[-1].isdecimal() or term[-1] in TRUTHS) and term[:-1] in ([], ["-"])
+        if mark.text in ("let", "const", "var") and self.token(2).text == "=" and is_value and end < len(self.tokens):
+            kind, value = "bool" if term[-1] in TRUTHS else "int", " - ".join(["0"] * (len(term) - 1) + term[-1:])
+            new = f"fn {behind.text}(): {kind} = {value};"
+            mend = f"write `{new}` in place of this, and `{behind.text}()` where it is meant"
+            yield Slip("Syntax declaration", mend, (mark.at, self.tokens[end].end, new))
