@@ -5,6 +5,8 @@ from .texts import joined
 
 # How many lines are looked at behind one that may go on there.
 MOST_ROWS = 4
+# How a value of a kind is named, and one of it.
+KINDS = {"int": ("a number", "0"), "bool": ("`true` or `false`", "true"), "list": ("a list", "[]")}
 ADDED = {"+": int.__add__, "-": int.__sub__, "*": int.__mul__}
 
 
@@ -19,7 +21,8 @@ class Forms:
     """What is found of the tokens around the marked one, by the class that is made of this one."""
 
     def of_forms(self):
-        for way in (self.of_rows, self.of_dots, self.of_words, self.of_numbers, self.of_terms):
+        ways = (self.of_rows, self.of_dots, self.of_words, self.of_makes, self.of_payers, self.of_lists)
+        for way in (*ways, self.of_numbers, self.of_terms):
             yield from way()
 
     def of_rows(self):
@@ -48,6 +51,9 @@ class Forms:
             inside = joined(self.tokens[self.count + 3 :])[:-1].rstrip()
             sign = "; " if ";" not in inside else " " if inside[-1] == ";" else ", "
             yield Slip((before.at, self.row.end, f"{behind.text}({inside}{sign}{before.text})"), mend)
+        if before.text in self.made() and self.wanted == {"("} and not self.at(2).kind:
+            new = f"{behind.text}(; {before.text})"
+            yield Slip((before.at, behind.end, new), f"write `{new}` in place of `{before.text}.{behind.text}`")
         yield Slip((before.at, mark.end, ""), f"take `{before.text}.` out")
 
     def made(self):
@@ -60,6 +66,15 @@ class Forms:
         texts = [it.text for it in self.tokens]
         if not self.count and mark.kind == "word" and behind.text in self.accounts() and texts[3:4] == ["("]:
             yield Slip((mark.at, mark.end, "exec"), f"write `exec` in place of `{mark.text}`")
+        if mark.text + behind.text in ("/*", "--") and mark.end == behind.at:
+            sign = mark.text + behind.text
+            yield Slip((mark.at, behind.end, "//"), f"begin a comment with `//` in place of `{sign}`")
+        if not self.count and mark.text in self.accounts() and behind.text in (":", ","):
+            new = f"exec {mark.text}"
+            yield Slip((mark.at, behind.end, new), f"write `{new}` in place of `{mark.text}{behind.text}`")
+        if before.text == "deposit" and mark.text == "(" and self.tokens[-1].text == ")":
+            new = " ".join(it.text for it in self.tokens if it.text not in ("(", ",", ")"))
+            yield Slip((self.row.at, self.row.end, new), f"write `{new}`")
         if not self.count and texts[1:3] == ["=", "new"]:
             yield Slip((mark.at, mark.at, "let "), f"write `let` before `{mark.text}`")
         if self.wanted == {"new"} and (mark.kind == "number" or mark.text in ("true", "false", "-", "[")):
@@ -76,6 +91,53 @@ class Forms:
             made = joined(self.tokens[self.count - 1 : end + 1])
             mend = f"write `let .. = {made}` on a line before, with the account that pays behind `new` and a name for "
             yield Slip((before.at, self.tokens[end].end, "x"), f"{mend}the contract, and this name here")
+
+    def of_makes(self):
+        """A contract that is made by other words than `let .. = new ..`, or has its type before its name."""
+        mark, before, behind = self.marked, self.at(-1), self.at(1)
+        texts = [it.text for it in self.tokens]
+        if self.wanted == {"new"} and mark.text != "exec" and behind.kind == "word" and texts[5:6]:
+            is_paid = texts[5] != "("
+            said, why = ("new", "") if is_paid else ("new ..", ", with the account that pays")
+            yield Slip((mark.at, mark.end, said.replace("..", "x")), f"write `{said}` in place of `{mark.text}`{why}")
+        if self.wanted == {"="} and before.kind == mark.kind == "word" and behind.text == "=":
+            yield Slip((before.at, mark.at, ""), f"take `{before.text}` out, since a contract gets a name alone")
+        if not self.count and texts[2:3] == ["="] and "(" in texts[4:]:
+            rest = [it for it in self.tokens[3:] if it.text != "new"]
+            has_account = len(rest) > 2 and rest[1].kind == "word"
+            said = f"let {texts[1]} = new{'' if has_account else ' ..'} {rest[0].text}"
+            mend = f"write `{said}` in place of `{joined(self.tokens[: self.tokens.index(rest[0]) + 1])}`"
+            edit = (mark.at, rest[0].end, said.replace("..", "x"))
+            yield Slip(edit, mend if has_account else f"{mend}, with the account that pays")
+
+    def of_payers(self):
+        """Several accounts before what is run, and a contract between the account and what is run."""
+        mark, before, behind = self.marked, self.at(-1), self.at(1)
+        opening = next((at for at, it in enumerate(self.tokens) if it.text == "("), 0)
+        if mark.text == "," and self.tokens[0].text == "exec" and self.wanted == {"NAME"} and opening > self.count:
+            accounts = [it.text for it in self.tokens[1 : opening - 1] if it.kind == "word"]
+            call = joined(self.tokens[opening - 1 :])
+            rows = [f"exec {it} {call}" for it in accounts]
+            said = " and ".join(f"`{it}`" for it in rows)
+            yield Slip((self.row.at, self.row.end, "\n".join(rows)), f"write {said}, each on a line of its own")
+        if self.wanted == {"("} and before.text in self.made() and mark.kind == "word" and behind.text == "(":
+            inside = joined(self.tokens[self.count + 2 :])[:-1].rstrip()
+            sign = "; " if ";" not in inside else " " if inside[-1] == ";" else ", "
+            mend = f"take `{before.text}` out, and write it among the names of contracts, behind the `;`"
+            yield Slip((before.at, self.row.end, f"{mark.text}({inside}{sign}{before.text})"), mend)
+
+    def of_lists(self):
+        """A list that is written as in a contract, with `::` and `nil`."""
+        texts = [it.text for it in self.tokens]
+        if "nil" not in texts[self.count :] or "(" not in texts[: self.count]:
+            return
+        start = next(at for at in range(self.count - 1, -1, -1) if texts[at] in ("(", ",")) + 1
+        end = next((at for at in range(self.count, len(texts)) if texts[at] in (",", ";", ")")), len(texts))
+        parts = joined(self.tokens[start : texts.index("nil")]).split("::")
+        if texts.index("nil") < end:
+            new = f"[{', '.join(it.strip() for it in parts if it.strip())}]"
+            said = joined(self.tokens[start:end])
+            yield Slip((self.tokens[start].at, self.tokens[end - 1].end, new), f"write `{new}` in place of `{said}`")
 
     def closing(self, at):
         """Gives the number of the token that closes the first parenthesis behind a token, or of the last one."""
@@ -109,5 +171,17 @@ class Forms:
         names = {it.text for it in behind if it.kind == "word"}
         is_value = "NUMBER" in self.wanted and mark.kind == "word" and ";" in [it.text for it in behind]
         if is_value and made and mark.text not in made and names <= made:
-            mend = f"write a number, `true` or `false`, or a list, in place of `{mark.text}`, which is no contract"
-            yield Slip((mark.at, mark.end, "0"), mend)
+            said, new = KINDS.get(self.kind(), ("a number, `true` or `false`, or a list,", "0"))
+            yield Slip((mark.at, mark.end, new), f"write {said} in place of `{mark.text}`, which is no contract")
+
+    def kind(self):
+        """Gives the first word of the kind of the value that is wanted at the marked token, where it is known."""
+        texts = [it.text for it in self.tokens[: self.count]]
+        opening = texts.index("(")
+        process = self.codes.processes.get(texts[opening - 1]) if self.codes else None
+        kinds = [it.type.split()[0] for it in process.parameters if it.kind == "value"] if process else []
+        at, depth = 0, 0
+        for it in texts[opening + 1 :]:
+            depth += (it == "[") - (it == "]")
+            at += it == "," and depth == 0
+        return kinds[at] if at < len(kinds) and depth == 0 else ""

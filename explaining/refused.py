@@ -13,8 +13,8 @@ PUT_IN = {"NAME": "x", "NUMBER": "0", "N": "0"}
 class Line(Forms):
     """The line that a script is refused by, and what was read of it."""
 
-    def __init__(self, program, script, number, grammar):
-        self.program, self.script, self.grammar = program, script, grammar
+    def __init__(self, program, script, number, grammar, codes=None):
+        self.program, self.script, self.grammar, self.codes = program, script, grammar, codes
         self.row = script.row(number)
         self.is_inside = self.inside(number)
         words = INSIDE if self.is_inside else OUTSIDE
@@ -193,12 +193,13 @@ class Line(Forms):
         return self.marked.at, "script Syntax", [*self.mends(), *self.said()]
 
 
-def explained(program, script, answer, grammar):
-    """Gives the row of docs/CAUSES.md and the lines above it."""
+def explained(program, script, answer, grammar, codes=None):
+    """Gives the row of docs/CAUSES.md and the lines above it. The processes of the contract are there where they are
+    known."""
     cause = " ".join(answer.words[:1] + answer.words[2:3])
     if cause != "script Syntax":
         at = script.row(int(answer.words[3])).at if answer.words[3:] else 1_048_576
         return cause, [f"{script.place(at)}: {cause}", *script.shown(at)]
-    line = Line(program, script, int(answer.words[3]), grammar)
+    line = Line(program, script, int(answer.words[3]), grammar, codes)
     at, row, lines = line.explained()
     return row, [f"{script.place(at)}: {cause}", *script.shown(at), *lines]

@@ -43,9 +43,18 @@ class Refused:
         token = self.line.sender
         known = [it.tokens[1].text for it in self.run.before(self.number, "deposit")]
         needs = units(self.run.bounds.get(self.line.process.text, "0"))
-        lines = self.changed(known) or self.meant(token, known) + self.deposit(token.text, needs)
+        if token.text in self.run.contracts(self.number, self.line.number):
+            lines = self.paying(token, known)
+        else:
+            lines = self.changed(known) or self.meant(token, known) + self.deposit(token.text, needs)
         see = f"see: the accounts so far are {listed(known)}" if known else "see: nothing was deposited so far"
         return token.at, "NoAccount", [*lines, see]
+
+    def paying(self, token, known):
+        """Gives lines for accounts that may pay, in place of a contract that stands there."""
+        does = [it for it in dict.fromkeys(known[-3:]) if self.goes_on((token.at, token.end, it))]
+        mends = [f"mend: write `{it}` in place of `{token.text}`" for it in does]
+        return [*mends, f"see: `{token.text}` is a contract, and the account that pays is wanted here"]
 
     def changed(self, known):
         """Gives a line where the account and the process of the line have changed places."""
