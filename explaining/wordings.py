@@ -53,10 +53,21 @@ class Wordings(Shapes):
         is_term = {"and", "+"} <= self.wanted and self.tokens[0].text == "proc" and not is_bound
         if mark.text == "." and is_term and via.kind == "word" and self.is_label(label.text):
             asked, word = f"{via.text}.{label.text}", self.tokens[at]
+            known = self.taken(via.text, label.text)
+            if known:
+                yield Slip("Syntax", f"write `{known}` in place of `{asked}`", (via.at, label.end, known))
             between = self.text.text[word.at : via.at]
             put = f"{asked}; take {via.text} ..;"
             mend = f"write `{put}` before `{word.text}`, with a new name, and this name in place of `{asked}`"
             yield Slip("Syntax", mend, (word.at, label.end, f"{put.replace('..', 'x')} {between}x"))
+
+    def taken(self, via, label):
+        """Gives the name by which the answer to a label was taken just before on this way, if it was."""
+        words = [it.text for it in self.tokens[: self.index]]
+        asked = [via, ".", label, ";", "take", via]
+        found = [at for at in range(len(words) - 6) if words[at : at + 6] == asked]
+        is_way = found and not {"|", "}"} & set(words[found[-1] :])
+        return words[found[-1] + 6] if is_way else ""
 
     def of_spawned(self):
         """A process that is started by `let`."""
