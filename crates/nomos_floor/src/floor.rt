@@ -9,7 +9,7 @@ use atomic_table::{Refused, Seat, Table};
 use std::alloc::Global;
 use std::snapshot::Snapshot;
 use std::sync::Wait;
-use std::thread;
+use std::{hint, thread};
 
 // The words: tickets drawn, turns served, entries of the history, each modulo 2^64.
 const TICKET: usize = 0;
@@ -20,6 +20,18 @@ const COUNT: usize = 2;
 
 // The slot of the work.
 const WORK: usize = 0;
+
+// So often a pass looks for its turn before it lets other threads go on between two looks.
+const LOOKS: u32 = 200;
+
+// What a pass does behind so many looks in vain: it waits a moment, or lets other threads go on.
+fn pause(looks: u32) {
+    if looks < LOOKS {
+        hint::spin_loop();
+    } else {
+        thread::yield_now();
+    }
+}
 
 /// A work that passes take in turns. `docs/FLOOR.md` has its steps, and what holds between any two.
 #[derive(Drop)]
@@ -118,11 +130,13 @@ impl<W: Shared> Floor<W> {
         ensures table { seat.new.table_id ≡ seat.old.table_id }
         ensures turn { GetsTurn W.start W.history seat.old.me seat.new.me }
     {
+        let mut looks = 0;
         for _ in rt.forever() {
             if self.table.shared.load::<Look<W>>(seat, SERVING) == ticket {
                 return;
             }
-            thread::yield_now();
+            pause(looks);
+            looks = looks.saturating_add(1);
         }
         unreachable!()
     }
