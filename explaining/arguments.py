@@ -88,7 +88,7 @@ class Arguments:
                 suits = self.suiting(wanted)
                 see = self.made(suits) if suits else f"see: no contract of the type `{wanted.type}` is made so far"
                 meant = self.refused.meant(it.tokens[0], nearest(it.text, suits))
-                lines = meant or self.made_elsewhere(it.text) or [*self.of_account(it.text), see]
+                lines = self.made_elsewhere(it.text) or meant or [*self.of_account(it.text), see]
                 return it.tokens[0].at, "BadArguments name", lines
         for it, wanted in zip(self.names, self.wanted_names):
             if self.suits(it.text, wanted.type) is False:

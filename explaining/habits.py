@@ -45,8 +45,13 @@ class Habits(Wordings):
             end = next((it for it in self.tokens[self.index :] if it.text in (";", "}", "|")), mark)
             term = self.text.text[mark.at : end.at].strip()
             word = "emit" if self.tokens[1].text == "T" else "put self"
-            mend = f"write `{word} {term}; close` in place of `return {term}`"
-            yield Slip("Syntax instruction", mend, (before.at, end.at, f"{word} {term}; close"))
+            behind = next((it.text for it in self.tokens if it.at > end.at), "")
+            if end.text == ";" and behind not in (*HEADS, ""):
+                mend, edit = f"write `{word}` in place of `return`", (before.at, before.end, word)
+            else:
+                mend = f"write `{word} {term}; close` in place of `return {term}`"
+                edit = (before.at, end.at, f"{word} {term}; close")
+            yield Slip("Syntax instruction", mend, edit)
         else:
             yield Slip("Syntax", "take `return` out, since a term gives its value by itself", (before.at, mark.at, ""))
 

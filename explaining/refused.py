@@ -90,6 +90,8 @@ class Line(Forms):
             yield Slip((mark.at, self.row.end, new), f"write `deposit {new}`")
         if self.wanted == {"new"} and mark.text == "exec":
             said = self.script.text[self.row.at : mark.at].strip()
+            if self.makes(self.at(2).text):
+                yield Slip((mark.at, mark.end, "new"), "write `new` in place of `exec`")
             yield Slip((self.row.at, mark.at, ""), f"take `{said}` out, since results stand in the report alone")
         if not self.count and behind.kind == "word" and mark.text in self.accounts():
             yield Slip((mark.at, mark.at, "exec "), f"write `exec` before `{mark.text}`")
@@ -97,6 +99,10 @@ class Line(Forms):
             yield Slip((mark.at, mark.at, "let x = "), "write `let .. =` before `new`, with a name for the contract")
         if self.wanted == {"new"} and behind.text == "(":
             yield Slip((mark.at, mark.at, "new x "), f"write `new ..` before `{mark.text}`, with the account that pays")
+
+    def makes(self, name):
+        """Whether a process of this name makes a contract."""
+        return self.codes is not None and name in self.codes.processes and self.codes.processes[name].mode == "S"
 
     def accounts(self):
         """Gives the names that the lines of the script deposit to."""
