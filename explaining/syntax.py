@@ -212,12 +212,18 @@ class Slips(Habits):
         word = self.marked.text
         return word in self.grammar.firsts["code"] or self.marked.kind == "word" and self.token(1).text == "."
 
+    def is_met(self, name):
+        """Whether a name may be that of a channel: `self`, or one that stands further before the offence too."""
+        return name == "self" or any(it.text == name for it in self.tokens[: self.index - 1])
+
     def of_any(self):
         """Each token that may stand, put in before the offence or in its place, and the offence taken out."""
         mark, before = self.marked, self.token(-1)
         row = "Syntax" if mark.kind else "Syntax end"
         signs = sorted((it for it in self.wanted if not it[0].isalnum()), key=lambda it: (it != ";", it))
         for sign in signs:
+            if sign == "." and before.kind == "word" and not self.is_met(before.text):
+                continue
             edit = (before.end, before.end, sign) if self.index else (mark.at, mark.at, sign)
             yield Slip(row, f"write `{sign}` behind `{before.text}` at {self.text.place(before.at)}", edit)
         for sign in signs:
