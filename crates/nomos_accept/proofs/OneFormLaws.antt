@@ -1,6 +1,6 @@
 -- The form of a stuck instruction is told by the tokens from its offset on, and where a function's name stands no
 -- instruction begins. So what is faulty at an offset of a text is fixed by the text.
-use Rattle.std.proofs.Common.{◌≡◌, ◌-◌, ◌≤◌, ℕ, [], ◌∷◌, List, Option, Some, None, Contains, slice_get, inl, inr, refl, ap, sym, subst, ◌∙◌, arith}
+use Rattle.std.proofs.Common.{◌≡◌, ◌-◌, ◌≤◌, ℕ, [], ◌∷◌, List, Option, Some, None, Contains, slice_get, inl, inr, ap, sym, subst, ◌∙◌, arith}
 use Rattle.nomos_accept.proofs.RisingLemmas.{stands-once}
 use Rattle.nomos_accept.specs.AcceptedText.{IsReadAs}
 use Rattle.nomos_check.proofs.StuckLaws.{stuck-rowless}
@@ -18,6 +18,7 @@ use Rattle.nomos_ir.specs.declared.lists.ProgramLists.{ProgramLists}
 use Rattle.nomos_ir.specs.Instruction.{code_form}
 use Rattle.nomos_rows.specs.PartFaults.{HasOtherKind, GetsStuck}
 use Rattle.nomos_syntax.specs.Scan.{tokens_of}
+use Rattle.nomos_types.proofs.EqualityLaws.{no_dths}
 use Rattle.nomos_types.proofs.OccurrenceLaws.{contains-found}
 use Rattle.nomos_types.specs.Amount.{dths}
 use Rattle.nomos_types.specs.Derivation.{IsStuck}
@@ -39,18 +40,13 @@ tells-once text at f g a b =
 
 -- what is stuck stands in the text
 
--- where amounts are ignored, each is worth nothing
-worth-nothing : (r : Amount) → dths no_amounts r ≡ 0
-worth-nothing (amount.Written units) = omega arith
-worth-nothing (amount.Star star) = refl
-
 module _ {lists : ProgramLists} {d : ProcDecl} (p : ℕ) (formed : IsWellFormed lists)
     (declared : slice_get lists.procs p ≡ Some d) where
   -- A `work` is never stuck.
   pub work-not_stuck : {j : Judgement} {at : ℕ} {r : Amount} {next : CodeId}
       → StandsAtCode lists j (code.Work at r next) → ¬ (IsStuck lists d j)
   work-not_stuck {j} {at} {r} {next} stands = λ stuck.
-      let enough : dths no_amounts r ≤ j.q = omega (arith, worth-nothing r) in
+      let enough : dths no_amounts r ≤ j.q = omega (arith, no_dths r) in
       let next_one = with_potential (at_code j next) (j.q - dths no_amounts r) in
       stuck-rowless p formed declared stuck (next_one ∷ [], row.work stands enough)
 

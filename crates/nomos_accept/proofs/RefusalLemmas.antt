@@ -55,7 +55,7 @@ bare-not_contractive lists at bare contractive =
     bare.def contractive bare.there (node.Named bare.named) bare.bare
 
 -- a type node that offends breaks the modes
-offends-not_obeying : (lists : ProgramLists) (t : TypeId) → Offends lists t → ¬ ObeysModes lists
+pub offends-not_obeying : (lists : ProgramLists) (t : TypeId) → Offends lists t → ¬ ObeysModes lists
 offends-not_obeying lists _ (forbidden m n has there other) obeys = other (obeys.allowed _ m n has there)
 offends-not_obeying lists _ (not_held d k t within channel other) obeys =
     other (All-contains (λ (par : VarId × TypeId). IsTrue (may_hold d.mode (parameter_mode lists par.1))) d.channels

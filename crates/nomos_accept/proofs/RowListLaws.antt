@@ -1,6 +1,6 @@
 -- The rows of a program are one list: they ascend, and no two lists that ascend have the same items. So the pivot run
 -- on them has one end.
-use Rattle.std.proofs.Common.{◌≡◌, ◌<◌, ◌≤◌, ◌⊎◌, inl, inr, ℕ, zero, suc, List, [], ◌∷◌, ◌++◌, map, All, Contains, length, get_or, refl, ap, sym, subst, ◌∙◌, arith}
+use Rattle.std.proofs.Common.{◌≡◌, ◌≤◌, ◌⊎◌, inl, inr, ℕ, zero, List, [], ◌∷◌, ◌++◌, map, All, Contains, length, get_or, refl, ap, sym, subst, ◌∙◌, arith}
 use Rattle.std.proofs.lemmas.Cmp.{tied_itself}
 use Rattle.std.proofs.Math.Bridge.{le_prop}
 use Rattle.std.proofs.Math.Nat.{ℕ_set}
@@ -8,6 +8,8 @@ use Rattle.std.specs.List.{AllByRecursion, flat_map}
 use Rattle.std.specs.List.Sorted.{IsStrictlySortedBy}
 use Rattle.std.specs.declared.cmp.Ordering.TheVariants.{Less, Equal}
 use Rattle.nomos_accept.specs.AcceptedText.{AreRowsFor, PivotRunEndsWith}
+use Rattle.nomos_check.proofs.ListLemmas.{contains-inside}
+use Rattle.nomos_check.proofs.MemberLemmas.{contains-none}
 use Rattle.nomos_forms.specs.Bounds.{IsRow}
 use Rattle.nomos_forms.specs.declared.row.Row.{Row}
 use Rattle.nomos_forms.specs.declared.row_list.RowList.{RowList}
@@ -20,25 +22,10 @@ use Rattle.nomos_ir.specs.declared.lists.ProgramLists.{ProgramLists}
 use Rattle.nomos_rows.specs.ProgramRows.{AreProgramRows}
 use Rattle.nomos_simplex.specs.PivotRun.{answer_to}
 use Rattle.nomos_simplex.specs.declared.solved.Solved.{Solved}
-
--- a member is the first item or one of the others
-contains-at : {X : Type 0} (x y : X) (xs : List X) (k : ℕ) → k < length (x ∷ xs) → get_or (x ∷ xs) k y ≡ y
-    → (x ≡ y) ⊎ Contains xs y
-contains-at x y xs zero inside at = inl at
-contains-at x y xs (suc k) inside at = inr (k, omega arith, at)
-
-contains-cases : {X : Type 0} (x y : X) (xs : List X) → Contains (x ∷ xs) y → (x ≡ y) ⊎ Contains xs y
-contains-cases x y xs there = contains-at x y xs there.0 there.1 there.2
+use Rattle.nomos_types.proofs.OccurrenceLaws.{contains-cases, contains-tail}
 
 contains-first : {X : Type 0} (x : X) (xs : List X) → Contains (x ∷ xs) x
 contains-first x xs = (zero, omega arith, refl)
-
-contains-later : {X : Type 0} (x y : X) (xs : List X) → Contains xs y → Contains (x ∷ xs) y
-contains-later x y xs there = (suc there.0, omega arith, there.2)
-
--- the empty list has none
-contains-none : {X : Type 0} (y : X) → Contains {X = X} [] y → ⊥
-contains-none y there = omega (arith, there.1)
 
 -- what holds of all items holds of one
 at-contained : {X : Type 0} (P : X → Type 0) (xs : List X) (y : X) → AllByRecursion P xs → Contains xs y → P y
@@ -91,8 +78,8 @@ ascending-once (x ∷ xs) [] a b to from =
 ascending-once (x ∷ xs) (y ∷ ys) a b to from =
     let same : x ≡ y = first-same x y xs ys a.0 b.0 (to x (contains-first x xs)) (from y (contains-first y ys)) in
     let rest : xs ≡ ys = ascending-once xs ys a.1 b.1
-    (λ z here. rest-there x y z xs ys same a.0 here (to z (contains-later x z xs here)))
-    (λ z here. rest-there y x z ys xs (sym same) b.0 here (from z (contains-later y z ys here))) in
+    (λ z here. rest-there x y z xs ys same a.0 here (to z (contains-tail x z xs here)))
+    (λ z here. rest-there y x z ys xs (sym same) b.0 here (from z (contains-tail y z ys here))) in
     cc
 
 -- what two lists joined have
@@ -101,7 +88,7 @@ joined-cases y [] ys there = inr there
 joined-cases y (x ∷ xs) ys there = elim (contains-cases x y (xs ++ ys) there) [
   | inl same ↦ inl (subst (λ z. Contains (x ∷ xs) z) same (contains-first x xs))
   | inr later ↦ elim (joined-cases y xs ys later) [
-    | inl left ↦ inl (contains-later x y xs left)
+    | inl left ↦ inl (contains-tail x y xs left)
     | inr right ↦ inr right
   ]
 ]
@@ -110,12 +97,12 @@ joined-left : {X : Type 0} (y : X) (xs ys : List X) → Contains xs y → Contai
 joined-left y [] ys there = absurd (contains-none y there)
 joined-left y (x ∷ xs) ys there = elim (contains-cases x y xs there) [
   | inl same ↦ subst (λ z. Contains (x ∷ xs ++ ys) z) same (contains-first x (xs ++ ys))
-  | inr later ↦ contains-later x y (xs ++ ys) (joined-left y xs ys later)
+  | inr later ↦ contains-tail x y (xs ++ ys) (joined-left y xs ys later)
 ]
 
 joined-right : {X : Type 0} (y : X) (xs ys : List X) → Contains ys y → Contains (xs ++ ys) y
 joined-right y [] ys there = there
-joined-right y (x ∷ xs) ys there = contains-later x y (xs ++ ys) (joined-right y xs ys there)
+joined-right y (x ∷ xs) ys there = contains-tail x y (xs ++ ys) (joined-right y xs ys there)
 
 -- what is mapped from a list is mapped from another that has its items
 mapped-there : {X Y : Type 0} (f : X → Y) (xs zs : List X) (y : Y) → ((x : X) → Contains xs x → Contains zs x)
@@ -123,31 +110,22 @@ mapped-there : {X Y : Type 0} (f : X → Y) (xs zs : List X) (y : Y) → ((x : X
 mapped-there f [] zs y to put there = absurd (contains-none y there)
 mapped-there f (x ∷ xs) zs y to put there = elim (contains-cases (f x) y (map f xs) there) [
   | inl same ↦ subst (λ z. Contains (map f zs) z) same (put x (to x (contains-first x xs)))
-  | inr later ↦ mapped-there f xs zs y (λ z here. to z (contains-later x z xs here)) put later
+  | inr later ↦ mapped-there f xs zs y (λ z here. to z (contains-tail x z xs here)) put later
 ]
 
 mapped-put : {X Y : Type 0} (f : X → Y) (xs : List X) (x : X) → Contains xs x → Contains (map f xs) (f x)
 mapped-put f [] x there = absurd (contains-none x there)
 mapped-put f (z ∷ xs) x there = elim (contains-cases z x xs there) [
   | inl same ↦ subst (λ w. Contains (map f (z ∷ xs)) (f w)) same (contains-first (f z) (map f xs))
-  | inr later ↦ contains-later (f z) (f x) (map f xs) (mapped-put f xs x later)
-]
-
--- the same of lists that are made of each item
-made-put : {X Y : Type 0} (f : X → List Y) (xs : List X) (x : X) (y : Y) → Contains xs x → Contains (f x) y
-    → Contains (flat_map f xs) y
-made-put f [] x y there is = absurd (contains-none x there)
-made-put f (z ∷ xs) x y there is = elim (contains-cases z x xs there) [
-  | inl same ↦ joined-left y (f z) (flat_map f xs) (subst (λ w. Contains (f w) y) (sym same) is)
-  | inr later ↦ joined-right y (f z) (flat_map f xs) (made-put f xs x y later is)
+  | inr later ↦ contains-tail (f z) (f x) (map f xs) (mapped-put f xs x later)
 ]
 
 made-there : {X Y : Type 0} (f : X → List Y) (xs zs : List X) (y : Y) → ((x : X) → Contains xs x → Contains zs x)
     → Contains (flat_map f xs) y → Contains (flat_map f zs) y
 made-there f [] zs y to there = absurd (contains-none y there)
 made-there f (x ∷ xs) zs y to there = elim (joined-cases y (f x) (flat_map f xs) there) [
-  | inl left ↦ made-put f zs x y (to x (contains-first x xs)) left
-  | inr right ↦ made-there f xs zs y (λ z here. to z (contains-later x z xs here)) right
+  | inl left ↦ contains-inside f zs x y (to x (contains-first x xs)) left
+  | inr right ↦ made-there f xs zs y (λ z here. to z (contains-tail x z xs here)) right
 ]
 
 -- the rows of forms and pairs are rows of others that are as many or more

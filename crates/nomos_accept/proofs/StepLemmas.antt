@@ -80,7 +80,7 @@ comes-to text (why.ProcType at form) (lists, read, both) = (lists, read, (both.0
 comes-to text (why.NoPotential verdict) (lists, read, refuted) = (lists, read, refuted.skeletons)
 
 -- a byte over 127 stands in no plain text
-not_ascii-not_plain : (text : List ℕ) (at : ℕ) → IsFirstNotAscii text at → ¬ IsPlainText text
+pub not_ascii-not_plain : (text : List ℕ) (at : ℕ) → IsFirstNotAscii text at → ¬ IsPlainText text
 not_ascii-not_plain text at first plain =
     let found = position-Some (λ (byte : ℕ). nat_le 128 byte) text at 0 first.first in
     let below : get_or text at 0 < 128 = plain.ascii at 0 found.0 in

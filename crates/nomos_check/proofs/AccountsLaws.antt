@@ -4,6 +4,7 @@ use Rattle.std.proofs.Common.{◌≡◌, ◌↔◌, Some, slice_get, sym, ◌∙
 use Rattle.nomos_ir.specs.declared.amount.Amount.{Amount}
 use Rattle.nomos_ir.specs.declared.declaration.ProcDecl.{ProcDecl}
 use Rattle.nomos_ir.specs.declared.lists.ProgramLists.{ProgramLists}
+use Rattle.nomos_types.proofs.EqualityLaws.{no_dths}
 use Rattle.nomos_types.specs.Amount.{Annotations, dths}
 use Rattle.nomos_types.specs.Derivation.{Derives, Follows}
 use Rattle.nomos_types.specs.Equality.{no_amounts}
@@ -19,7 +20,7 @@ use Rattle.nomos_check.specs.Reaching.{Outset, outset_of, GetsTo, IsPointAt, IsP
 use Rattle.nomos_check.specs.Reaching as reaching
 use Rattle.nomos_check.proofs.AskedLaws.{asked-worth, call-affords}
 use Rattle.nomos_check.proofs.Beside.{Beside, at-place, beside-back}
-use Rattle.nomos_check.proofs.Carrying.{Provides, each-beside, no-dths, no-affords, start-beside, next-is_judgement, derivation-carried}
+use Rattle.nomos_check.proofs.Carrying.{Provides, each-beside, no-affords, start-beside, next-is_judgement, derivation-carried}
 use Rattle.nomos_check.proofs.ListLemmas.{paired-first}
 
 -- The law of rows over accounts: of a judgement under the amounts, and the outset over which it stands.
@@ -98,7 +99,7 @@ module _ {lists : ProgramLists} {x : Annotations} {o : Outset} {first : Judgemen
         next = λ j k a b n after good there row among. tt;
         afforded = λ j a good. no-affords a;
         call = λ j a at f args e good there found. no-affords (spends e.amount a);
-        pairs = λ j a q good asks. no-dths q.0 ∙ sym (no-dths q.1);
+        pairs = λ j a q good asks. no_dths q.0 ∙ sym (no_dths q.1);
       }
       in
       derivation-carried formed x no_amounts Any provides (suc first.code.0) first o.judgement o.account (omega arith)

@@ -21,12 +21,13 @@ use Rattle.nomos_ir.specs.CodeParts.{code_amounts}
 use Rattle.nomos_ir.specs.Program.{IsProgram}
 use Rattle.nomos_ir.specs.TypeParts.{type_amounts}
 use Rattle.nomos_ir.proofs.BindingLaws.{all-after_bind, all-after_unbind, all-in_bindings_of, all-bound}
+use Rattle.nomos_types.proofs.OccurrenceLaws.{contains-part}
 use Rattle.nomos_types.specs.Judgement.{Judgement}
 use Rattle.nomos_check.specs.Account.{Account, start_account, gains, spends, with_lists, carried_by}
 use Rattle.nomos_check.specs.Accounting.{accounts_after, without_passed, spends_for, grows_list, parts_list}
 use Rattle.nomos_check.specs.Reaching.{Outset, GetsTo, IsPointAt, IsPoint}
 use Rattle.nomos_check.specs.Reaching as reaching
-use Rattle.nomos_check.proofs.ListLemmas.{contains-part, paired-second}
+use Rattle.nomos_check.proofs.ListLemmas.{paired-second}
 
 -- what holds of all of two lists holds of all of each
 all-split : {X : Type 0} (P : X → Type 0) (xs ys : List X) → All P (xs ++ ys) → All P xs × All P ys

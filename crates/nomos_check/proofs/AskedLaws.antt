@@ -1,6 +1,5 @@
 -- Where a row stands, the pairs for which its instruction asks are worth the same, and a call affords what it needs.
 use Rattle.std.proofs.Common.{◌≡◌, ℕ, List, Some, slice_get, ap, sym, subst, ◌∙◌}
-use Rattle.nomos_ir.proofs.UnfoldLaws.{Unfolds-unique}
 use Rattle.nomos_ir.specs.declared.amount.Amount.{Amount}
 use Rattle.nomos_ir.specs.declared.code_node.Args.{Args}
 use Rattle.nomos_ir.specs.declared.code_node.Chan.{Chan}
@@ -14,13 +13,13 @@ use Rattle.nomos_ir.specs.declared.lists.ProgramLists.{ProgramLists}
 use Rattle.nomos_ir.specs.declared.type_node.TypeNode.{TypeNode}
 use Rattle.nomos_ir.specs.declared.type_node.TypeNode.TheVariants as node
 use Rattle.nomos_ir.specs.Bindings.{bound_to}
-use Rattle.nomos_ir.specs.Unfold.{Unfolds}
 use Rattle.nomos_equality.proofs.PathLaws.{equal-worth}
+use Rattle.nomos_types.proofs.UniqueRowLaws.{head-same}
 use Rattle.nomos_types.specs.Amount.{Annotations, dths}
 use Rattle.nomos_types.specs.Arguments.{ArgumentsFit}
 use Rattle.nomos_types.specs.Equality.{EqualTypes}
 use Rattle.nomos_types.specs.Judgement.{Judgement, IsJudgement}
-use Rattle.nomos_types.specs.Premises.{HasType, by_side}
+use Rattle.nomos_types.specs.Premises.{by_side}
 use Rattle.nomos_types.specs.TypingRule.{TypingRule, StandsAtCode}
 use Rattle.nomos_types.proofs.RowLaws.{RowAt, row-inverted}
 use Rattle.nomos_check.specs.Account.{Account, spends, Affords}
@@ -29,13 +28,6 @@ use Rattle.nomos_check.proofs.Beside.{Beside, has_type-back, affords}
 use Rattle.nomos_check.proofs.BesideArguments.{of_type-unique, passed-type, passed-alike, passed-list, of_type-before_values, linear-ascends_after_values}
 use Rattle.nomos_check.proofs.BesideRows.{only-bound}
 use Rattle.nomos_check.proofs.ListAmounts.{list_at, found-both}
-
--- a channel's type unfolds to one node
-head-same : (lists : ProgramLists) (j : Judgement) (c : Chan) (p q : TypeNode) → HasType lists j c p
-    → HasType lists j c q → p ≡ q
-head-same lists j c p q (t, left, left_unfolds) (u, right, right_unfolds) =
-    let same : u ≡ t = cc in
-    Unfolds-unique lists t.0 p q left_unfolds (subst (λ (s : TypeId). Unfolds lists s.0 q) same right_unfolds)
 
 -- the parts of nodes that are the same, by the side from which a process sees its channel
 sent-carried : (c : Chan) (a b d e : TypeId)

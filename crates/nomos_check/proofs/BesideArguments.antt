@@ -1,5 +1,5 @@
 -- What passes under the one amounts passes under others too, where the amounts that have to be worth the same are.
-use Rattle.std.proofs.Common.{◌≡◌, inl, inr, ℕ, zero, suc, List, ◌∷◌, Contains, Option, Some, None, zip, refl, ap, sym, subst, ◌∙◌, arith}
+use Rattle.std.proofs.Common.{◌≡◌, inl, inr, ℕ, zero, suc, List, Contains, Option, Some, None, zip, refl, ap, sym, subst, ◌∙◌, arith}
 use Rattle.std.proofs.lemmas.Bool.{cases_eq}
 use Rattle.nomos_ir.specs.declared.amount.Amount.{Amount}
 use Rattle.nomos_ir.specs.declared.code_node.Args.{Args}
@@ -15,9 +15,10 @@ use Rattle.nomos_ir.specs.TermKind.{HasKind}
 use Rattle.nomos_ir.proofs.BindingLaws.{bound-after_unbind, bound-after_unbind_other, unbind-ascending}
 use Rattle.nomos_equality.specs.Paths.{StandAtEqualPaths}
 use Rattle.nomos_equality.proofs.PathLaws.{equal-from_worth}
+use Rattle.nomos_types.proofs.OccurrenceLaws.{contains-tail}
 use Rattle.nomos_types.specs.Alike.{AlikeTypes}
 use Rattle.nomos_types.specs.Amount.{Annotations, dths}
-use Rattle.nomos_types.specs.Arguments.{PassesChannel, PassesChannels, PassesValue, PassesValues, ArgumentsFit}
+use Rattle.nomos_types.specs.Arguments.{PassesChannel, PassesChannels, PassesValues, ArgumentsFit}
 use Rattle.nomos_types.specs.Arguments as passes
 use Rattle.nomos_types.specs.Judgement.{Judgement, ListType, IsJudgement, count_one}
 use Rattle.nomos_types.proofs.EqualityLaws.{equal-shapes}
@@ -54,10 +55,6 @@ bound-before {X} w v b r ascends found =
           absurd cc
       | inr other ↦ sym (bound-after_unbind_other w v b other) ∙ found
     ]
-
--- a place among the others is one in the whole
-later : {X : Type 0} (x y : X) (xs : List X) → Contains xs y → Contains (x ∷ xs) y
-later x y xs (i, inside, is) = (suc i, omega arith, is)
 
 -- a variable is that of a channel of one type
 pub of_type-unique : {lists : ProgramLists} {j : Judgement} (v : VarId) (t u : TypeId) → IsJudgement lists j
@@ -197,7 +194,7 @@ module _ {lists : ProgramLists} {x y : Annotations} where
       in
       let (rest, passed_others, beside_rest) =
       channels-pass beside_between (linear-ascends ascends first) others
-      (λ w p own among of. worth w p own (later (v, par) (w, p) (zip vs pars) among)
+      (λ w p own among of. worth w p own (contains-tail (v, par) (w, p) (zip vs pars) among)
       (of_type-before w own ascends first of))
       in
       (rest, passes.channel passed passed_others, beside_rest)
@@ -215,7 +212,7 @@ module _ {lists : ProgramLists} {x y : Annotations} where
       let its_kind : HasKind lists k.kinds e par.kind = along beside (λ s. HasKind lists s.kinds e par.kind) kind in
       let (rest, passed, beside_rest) =
       values-pass beside ascends others
-      (λ w p r s among. worth w p r s (later (arg.Term e, par) (arg.List w, p) (zip args pars) among))
+      (λ w p r s among. worth w p r s (contains-tail (arg.Term e, par) (arg.List w, p) (zip args pars) among))
       in
       (rest, passes.value (passes.term no_list its_kind) passed, beside_rest)
   values-pass {k = k} {a = a} beside ascends
@@ -228,7 +225,7 @@ module _ {lists : ProgramLists} {x y : Annotations} where
       in
       let (rest, passed, beside_rest) =
       values-pass (unbound-beside beside v.0) (unbind-ascending v.0 a.lists ascends) others
-      (λ w p r s among bound. worth w p r s (later (arg.List v, par) (arg.List w, p) (zip args pars) among)
+      (λ w p r s among bound. worth w p r s (contains-tail (arg.List v, par) (arg.List w, p) (zip args pars) among)
       (bound-before w.0 v.0 a.lists r ascends bound))
       in
       (rest, passes.value (passes.list amount its its_list) passed, beside_rest)

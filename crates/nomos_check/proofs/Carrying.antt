@@ -1,5 +1,5 @@
 -- A derivation under the one amounts is carried over to others, where what its instructions need is met there.
-use Rattle.std.proofs.Common.{◌≡◌, ◌<◌, ℕ, zero, suc, List, [], ◌∷◌, Contains, Some, slice_get, zip, refl, sym, subst, ◌∙◌, arith, mul-zero}
+use Rattle.std.proofs.Common.{◌≡◌, ◌<◌, ℕ, zero, suc, List, [], ◌∷◌, Contains, Some, slice_get, zip, refl, sym, subst, ◌∙◌, arith}
 use Rattle.std.proofs.lemmas.List.Elements.{All-contains}
 use Rattle.std.proofs.lemmas.List.Sums.{sum_by-cons}
 use Rattle.nomos_ir.specs.declared.amount.Amount.{Amount}
@@ -10,6 +10,7 @@ use Rattle.nomos_ir.specs.declared.code_node.CodeNode.TheVariants as code
 use Rattle.nomos_ir.specs.declared.declaration.ProcDecl.{ProcDecl}
 use Rattle.nomos_ir.specs.declared.ids.ProcId.{ProcId}
 use Rattle.nomos_ir.specs.declared.lists.ProgramLists.{ProgramLists}
+use Rattle.nomos_types.proofs.EqualityLaws.{no_dths}
 use Rattle.nomos_types.specs.Amount.{Annotations, dths}
 use Rattle.nomos_types.specs.Derivation.{Derives, by_row}
 use Rattle.nomos_types.specs.Equality.{no_amounts}
@@ -33,15 +34,10 @@ use Rattle.nomos_check.proofs.RowMaking.{row-made}
 
 -- ---- amounts that are all 0
 
--- where amounts are ignored each is 0
-pub no-dths : (r : Amount) → dths no_amounts r ≡ 0
-no-dths (amount.Written units) = mul-zero units
-no-dths (amount.Star star) = refl
-
 -- so are all together
 pub no-worth : (rs : List Amount) → worth_of no_amounts rs ≡ 0
 no-worth [] = refl
-no-worth (r ∷ rs) = omega (arith, sum_by-cons (dths no_amounts) r rs, no-dths r, no-worth rs)
+no-worth (r ∷ rs) = omega (arith, sum_by-cons (dths no_amounts) r rs, no_dths r, no-worth rs)
 
 -- each account is afforded there
 pub no-affords : (a : Account) → Affords no_amounts a
@@ -54,7 +50,7 @@ no-needs j a n after =
     record {
       onward = λ k b among. no-affords b;
       call = λ at f args d is declared. no-affords (spends d.amount a);
-      pairs = λ p asks. no-dths p.0 ∙ sym (no-dths p.1);
+      pairs = λ p asks. no_dths p.0 ∙ sym (no_dths p.1);
     }
 
 -- ---- starts

@@ -15,6 +15,7 @@ use Rattle.nomos_ir.specs.declared.ids.TypeId.{TypeId}
 use Rattle.nomos_ir.specs.declared.lists.ProgramLists.{ProgramLists}
 use Rattle.nomos_ir.specs.declared.type_node.Branch.{Branch}
 use Rattle.nomos_ir.specs.declared.type_node.TypeNode.TheVariants as node
+use Rattle.nomos_types.proofs.UniqueRowLaws.{awaited-branches-same}
 use Rattle.nomos_types.specs.Branches.{goes_by}
 use Rattle.nomos_types.specs.Judgement.{Judgement}
 use Rattle.nomos_types.specs.Premises.{HasType, by_side, ArmsGoOn, AwaitsLabel}
@@ -29,7 +30,6 @@ use Rattle.nomos_check.proofs.ChannelLaws.{head-unique}
 use Rattle.nomos_check.proofs.LeadLemmas.{leads-along}
 use Rattle.nomos_check.proofs.StepRows.{case-stuck}
 use Rattle.nomos_types.specs.TypingRule as row
-use Rattle.nomos_check.proofs.SideLaws.{awaited_choice-same}
 
 module _ {X Y : Type 0} (f : X → Y) where
   -- what is among the images is the image of an item
@@ -161,7 +161,7 @@ module _ (lists : ProgramLists) (s : Standing) (at : ℕ) (c : Chan) (arms : Lis
     (typed : HasType lists (shape_of s) c (by_side c (node.With bs) (node.Plus bs))) where
   -- the branches of a rule are those of the channel's type
   same-branches : {after : List Judgement} → (says : AwaitsLabel lists (shape_of s) c arms after) → says.branches ≡ bs
-  same-branches says = awaited_choice-same c says.branches bs (head-unique lists (shape_of s) c _ _ says.channel typed)
+  same-branches says = awaited-branches-same c says.branches bs (head-unique lists (shape_of s) c _ _ says.channel typed)
 
   -- without an arm for each branch no rule applies
   pub branch-stuck : ¬ (All (λ b. HasArm arms b.label) bs) → NoRow lists (shape_of s)

@@ -22,6 +22,7 @@ use Rattle.nomos_ir.specs.Bindings.{bound_to, unbind, by_number, IsAscending, ea
 use Rattle.nomos_ir.specs.TermKind.{HasKind}
 use Rattle.nomos_ir.proofs.BindingLaws.{bound-after_unbind, unbind-ascending}
 use Rattle.nomos_ir.proofs.MappedLaws.{each-bound, each-unbind}
+use Rattle.nomos_types.proofs.EqualityLaws.{no_dths}
 use Rattle.nomos_types.specs.Amount.{Annotations, dths}
 use Rattle.nomos_types.specs.Arguments.{PassesValue, term, list, PassesValues, none, value}
 use Rattle.nomos_types.specs.Equality.{no_amounts}
@@ -35,7 +36,6 @@ use Rattle.nomos_check.specs.mirror.StandingData.{amount_of, shape_of, shape_of_
 use Rattle.nomos_check.proofs.ListSteps.{list-bound}
 use Rattle.nomos_check.proofs.PairLemmas.{joins-none, joins-same}
 use Rattle.nomos_check.proofs.PassingSteps.{unbound-back}
-use Rattle.nomos_check.proofs.StandingLemmas.{dths-none}
 
 -- ---- lists that are bound
 
@@ -128,7 +128,7 @@ list-passes lists s next w par said old new says true passed =
     let c = passed.carried in
     let shape : bound_to w.0 j.lists ≡ Some (record { kind = par.kind; amount = dths no_amounts said }) =
     let made : Kind → ℕ → ListType = λ k n. record { kind = k; amount = n } in
-    list-bound s w c passed.there ∙ ap Some (ap₂ made passed.its_kind (sym (dths-none said)))
+    list-bound s w c passed.there ∙ ap Some (ap₂ made passed.its_kind (sym (no_dths said)))
     in
     let left_is : next.lists ≡ unbind w.0 s.lists = ap (λ (t : Standing). t.lists) passed.next_is ∙ passed.unbound in
     let shapes = ap (each_bound shape_of_list) passed.unbound ∙ each-unbind shape_of_list w.0 s.lists in

@@ -4,13 +4,13 @@ use Rattle.std.proofs.lemmas.List.Elements.{All-nil, All-cons}
 use Rattle.nomos_ir.specs.declared.lists.ProgramLists.{ProgramLists}
 use Rattle.nomos_ir.specs.Amounts.{star_count}
 use Rattle.nomos_types.proofs.InversionLaws.{row-descends}
+use Rattle.nomos_types.proofs.OccurrenceLaws.{contains-head}
 use Rattle.nomos_types.specs.Equality.{no_amounts}
 use Rattle.nomos_types.specs.Judgement.{Judgement}
 use Rattle.nomos_types.specs.TypingRule.{TypingRule}
 use Rattle.nomos_types.specs.Typed.{IsWellFormed}
 use Rattle.nomos_check.proofs.GatherLemmas.{grows-same, grows-through, done-grows, gathers-none, gathers-through}
 use Rattle.nomos_check.proofs.LeavingLemmas.{leaves-none, leaves-next, leaves-along, reached-next, open-along}
-use Rattle.nomos_check.proofs.MemberLemmas.{contains-head}
 use Rattle.nomos_check.proofs.VisitLemmas.{visits-grows, visits-gathers}
 use Rattle.nomos_check.proofs.WeightLemmas.{weight-positive, weight-rises, forks-light, work-one}
 use Rattle.nomos_check.specs.Account.{Account}

@@ -1,15 +1,17 @@
 -- Where the code leads from a standing that was visited.
 use Rattle.std.proofs.Common.{◌≡◌, ◌⊎◌, inl, inr, ⊎_elim, List, [], ◌∷◌, map, zip, Contains, refl, sym, ap, subst}
+use Rattle.nomos_check.proofs.ListLemmas.{contains-map}
 use Rattle.nomos_ir.specs.declared.code_node.CodeNode.{CodeNode}
 use Rattle.nomos_ir.specs.declared.lists.ProgramLists.{ProgramLists}
 use Rattle.nomos_ir.specs.Amounts.{star_count}
 use Rattle.nomos_ir.specs.Program.{IsProgram}
+use Rattle.nomos_types.proofs.OccurrenceLaws.{contains-head, contains-unmap}
 use Rattle.nomos_types.proofs.RowLaws.{row-at}
 use Rattle.nomos_types.proofs.UniqueRowLaws.{row-unique}
 use Rattle.nomos_types.specs.Equality.{no_amounts}
 use Rattle.nomos_types.specs.Judgement.{Judgement}
 use Rattle.nomos_types.specs.TypingRule.{TypingRule, StandsAtCode}
-use Rattle.nomos_check.proofs.MemberLemmas.{contains-head, contains-none, contains-one, contains-map, contains-unmap, zip-maps}
+use Rattle.nomos_check.proofs.MemberLemmas.{contains-none, contains-one, zip-maps}
 use Rattle.nomos_check.proofs.VisitLemmas.{visits-done}
 use Rattle.nomos_check.specs.Account.{Account}
 use Rattle.nomos_check.specs.Accounting.{accounts_after}
@@ -64,7 +66,7 @@ leads-cases {lists} {j} {a} {i} {c} (GetsTo.next {j = k} {a = b} n after before 
     }))
     (leads-cases before)
 
-pairs-parts : (j k : Judgement) (a b : Account) → ◌≡◌ {A = Judgement × Account} (j, a) (k, b) → (j ≡ k) × (a ≡ b)
+pub pairs-parts : (j k : Judgement) (a b : Account) → ◌≡◌ {A = Judgement × Account} (j, a) (k, b) → (j ≡ k) × (a ≡ b)
 pairs-parts j k a b same = (ap (λ (q : Judgement × Account). q.0) same, ap (λ (q : Judgement × Account). q.1) same)
 
 module _ {lists : ProgramLists} (is_program : IsProgram lists) {s : Standing} {old new : Walk}

@@ -21,7 +21,7 @@ use Rattle.nomos_check.specs.mirror.FormLimits.{IsAmountOf}
 use Rattle.nomos_check.specs.mirror.StandingData.{IsWithin}
 
 -- an amount with a star up to n
-star-below : (n : ℕ) (r : Amount) → HasStarUpTo n r → star_of r ≤ n
+pub star-below : (n : ℕ) (r : Amount) → HasStarUpTo n r → star_of r ≤ n
 star-below n (amount.Written units) up = omega arith
 star-below n (amount.Star star) up = up.1
 

@@ -1,29 +1,14 @@
 -- Elements of lists that are mapped, found at a place, or parts of a list of lists.
-use Rattle.std.proofs.Common.{◌≡◌, ◌<◌, ℕ, zero, suc, List, [], ◌∷◌, length, map, Contains, Some, slice_get, zip, ap, ◌∙◌, sym, subst, arith}
+use Rattle.std.proofs.Common.{◌<◌, zero, suc, List, [], ◌∷◌, length, map, Contains, zip, ap, ◌∙◌, sym, subst, arith}
 use Rattle.std.specs.List.{flat_map}
 use Rattle.std.proofs.lemmas.List.{length-map, get_or-map}
 use Rattle.std.proofs.lemmas.List.Elements.{Contains-append_left, Contains-append_right}
-use Rattle.std.proofs.lemmas.Option.{slice_get_within, get_or_from_slice_get}
 
 -- what an element is mapped to is an element of the mapped list
 pub contains-map : {X Y : Type 0} (f : X → Y) (xs : List X) (x : X) → Contains xs x → Contains (map f xs) (f x)
 contains-map f xs x there =
     let inside : there.0 < length (map f xs) = rw length-map there.1 in
     (there.0, inside, get_or-map f xs there.0 x (f x) there.1 ∙ ap f there.2)
-
--- an element that is found at a place is an element
-pub contains-found : {X : Type 0} (xs : List X) (k : ℕ) (x : X) → slice_get xs k ≡ Some x → Contains xs x
-contains-found xs k x found = (k, slice_get_within xs k x found, get_or_from_slice_get xs k x x found)
-
--- an element of the list of one item is an element of the lists of all
-pub contains-part : {X Y : Type 0} (g : X → List Y) (xs : List X) (k : ℕ) (x : X) (y : Y) → slice_get xs k ≡ Some x
-    → Contains (g x) y → Contains (flat_map g xs) y
-contains-part g [] k x y found there = absurd cc
-contains-part g (z ∷ xs) zero x y found there =
-    let same : x ≡ z = cc in
-    Contains-append_left (g z) (flat_map g xs) y (subst (λ w. Contains (g w) y) same there)
-contains-part g (z ∷ xs) (suc k) x y found there =
-    Contains-append_right (g z) (flat_map g xs) y (contains-part g xs k x y found there)
 
 -- an element of the list of one element is an element of the lists of all
 pub contains-inside : {X Y : Type 0} (g : X → List Y) (xs : List X) (x : X) (y : Y) → Contains xs x → Contains (g x) y

@@ -1,21 +1,6 @@
 -- Members of lists, of lists that are mapped, and of lists that are paired.
-use Rattle.std.proofs.Common.{◌≡◌, ◌<◌, ◌⊎◌, inl, inr, ℕ, zero, suc, List, [], ◌∷◌, map, zip, length, get_or, Contains, refl, ap, ◌∙◌, arith}
-use Rattle.std.proofs.lemmas.List.{length-map, get_or-map}
-
-pub contains-head : {X : Type 0} (x y : X) (xs : List X) → x ≡ y → Contains (x ∷ xs) y
-contains-head x y xs same = (zero, omega arith, same)
-
-pub contains-tail : {X : Type 0} (x y : X) (xs : List X) → Contains xs y → Contains (x ∷ xs) y
-contains-tail x y xs there = (suc there.0, omega arith, there.2)
-
-contains-at : {X : Type 0} (x y : X) (xs : List X) (k : ℕ) → k < length (x ∷ xs) → get_or (x ∷ xs) k y ≡ y
-    → (x ≡ y) ⊎ Contains xs y
-contains-at x y xs zero inside at = inl at
-contains-at x y xs (suc k) inside at = inr (k, omega arith, at)
-
--- a member is the first item or one of the others
-pub contains-cases : {X : Type 0} (x y : X) (xs : List X) → Contains (x ∷ xs) y → (x ≡ y) ⊎ Contains xs y
-contains-cases x y xs there = contains-at x y xs there.0 there.1 there.2
+use Rattle.std.proofs.Common.{◌≡◌, ◌⊎◌, inl, inr, List, [], ◌∷◌, map, zip, Contains, refl, ap, arith}
+use Rattle.nomos_types.proofs.OccurrenceLaws.{contains-cases}
 
 -- the empty list has none
 pub contains-none : {X : Type 0} (y : X) → Contains {X = X} [] y → ⊥
@@ -28,20 +13,6 @@ contains-one {X} x y there =
       | inl same
           ↦ same
       | inr rest ↦ absurd (contains-none y rest)
-    ]
-
-pub contains-map : {X Y : Type 0} (f : X → Y) (xs : List X) (x : X) → Contains xs x → Contains (map f xs) (f x)
-contains-map f xs x there =
-    let inside : there.0 < length (map f xs) = rw length-map there.1 in
-    (there.0, inside, get_or-map f xs there.0 x (f x) there.1 ∙ ap f there.2)
-
-pub contains-unmap : {X Y : Type 0} (f : X → Y) (xs : List X) (y : Y) → Contains (map f xs) y → (x : X)
-    × Contains xs x × (f x ≡ y)
-contains-unmap f [] y there = absurd (contains-none y there)
-contains-unmap f (x ∷ xs) y there =
-    elim (contains-cases (f x) y (map f xs) there) [
-      | inl same ↦ (x, contains-head x x xs refl, same)
-      | inr rest ↦ let r = contains-unmap f xs y rest in (r.0, contains-tail x r.0 xs r.1, r.2)
     ]
 
 -- two lists that are mapped from one, paired

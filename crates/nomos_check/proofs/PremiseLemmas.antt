@@ -16,6 +16,7 @@ use Rattle.nomos_ir.specs.Bindings.{bound_to}
 use Rattle.nomos_ir.specs.Nodes.{type_node}
 use Rattle.nomos_ir.specs.Unfold.{Unfolds}
 use Rattle.nomos_ir.proofs.UnfoldLaws.{Unfolds-unique}
+use Rattle.nomos_types.proofs.UniqueRowLaws.{sent-value-same, sent-branches-same}
 use Rattle.nomos_types.specs.Unfolding.{IsUnfolding}
 use Rattle.nomos_ir.specs.declared.type_node.TypeNode.{TypeNode}
 use Rattle.nomos_types.specs.Branches.{goes_by}
@@ -28,7 +29,6 @@ use Rattle.nomos_types.specs.Judgement.{Judgement, IsFree, SuitsMode, channel_ty
 use Rattle.nomos_types.specs.Premises.{HasType, by_side, SendsLabel, SendsValue, ReceivesValue, Acquires, Releases}
 use Rattle.nomos_check.specs.mirror.Finding.{IsFound}
 use Rattle.nomos_check.proofs.ChannelLaws.{head-unique}
-use Rattle.nomos_check.proofs.SideLaws.{sent_choice-same, sent_value-same}
 
 module _ (lists : ProgramLists) (j : Judgement) where
   -- the branch of a label, where the branches are known
@@ -39,7 +39,7 @@ module _ (lists : ProgramLists) (j : Judgement) where
   label-found c l bs None typed goes =
       λ t says.
       let heads = head-unique lists j c _ _ says.channel typed in
-      let same = sent_choice-same c says.branches bs heads in
+      let same = sent-branches-same c says.branches bs heads in
       let there = subst (λ (cs : List Branch). goes_by cs l ≡ Some t) same says.goes in
       cc
 
@@ -49,7 +49,7 @@ module _ (lists : ProgramLists) (j : Judgement) where
       → HasKind lists j.kinds e p.0
   value-sent c e p t typed says =
       let heads = head-unique lists j c _ _ says.channel typed in
-      let (same, rest) = sent_value-same c says.kind p.0 t p.1 heads in
+      let (same, rest) = sent-value-same c says.kind p.0 t p.1 heads in
       subst (λ (kind : Kind). HasKind lists j.kinds e kind) same says.value
 
   -- a value that is received under a free name

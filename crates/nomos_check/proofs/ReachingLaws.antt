@@ -1,7 +1,7 @@
 -- Each judgement that follows from an outset is reached, with one account, which has its lists.
 use Rattle.std.proofs.Common.{◌≡◌, ◌≤◌, ℕ, List, Contains, Some, slice_get, zip, refl, ap, sym, subst, arith}
 use Rattle.std.proofs.lemmas.List.Elements.{All-contains}
-use Rattle.std.specs.Map.{keys_of}
+use Rattle.nomos_check.proofs.LeavingLemmas.{pairs-parts}
 use Rattle.nomos_ir.specs.declared.code_node.CodeNode.{CodeNode}
 use Rattle.nomos_ir.specs.declared.declaration.ProcDecl.{ProcDecl}
 use Rattle.nomos_ir.specs.declared.ids.CodeId.{CodeId}
@@ -24,13 +24,7 @@ use Rattle.nomos_check.specs.Reaching as reaching
 use Rattle.nomos_check.proofs.Beside.{Beside, at-place, its-account, judgements-paired, second-beside}
 use Rattle.nomos_check.proofs.Carrying.{each-beside, next-is_judgement, start-beside}
 use Rattle.nomos_check.proofs.CodeOnceLemmas.{one-behind, one-at_place}
-use Rattle.nomos_check.proofs.ListAmounts.{keys-both}
 use Rattle.nomos_check.proofs.ListLemmas.{paired-first}
-
--- the parts of pairs that are the same
-pair-parts : (j k : Judgement) (a b : Account) → ◌≡◌ {A = Judgement × Account} (j, a) (k, b) → (j ≡ k) × (a ≡ b)
-pair-parts j k a b same =
-    (ap (λ (q : Judgement × Account). q.0) same, ap (λ (q : Judgement × Account). q.1) same)
 
 -- A judgement stands beside itself, with its account.
 pub record HasItsAccount (lists : ProgramLists) (j : Judgement) (a : Account) : Type 0 where
@@ -69,10 +63,6 @@ module _ {lists : ProgramLists} {o : Outset} (formed : IsWellFormed lists)
       let inside = paired-first after (accounts_after lists n a) k b among in
       All-contains (SuitsMode lists) after k (row-keeps_mode formed s.judgement (suits-reached first j a before) row)
       inside
-
-  -- its lists are those of the account
-  pub reached-lists : (j : Judgement) (a : Account) → GetsTo lists o j a → keys_of j.lists ≡ keys_of a.lists
-  reached-lists j a reached = keys-both (stands-reached j a reached).beside.lists
 
   -- what is reached follows from the outset
   pub reaches-follows : (j : Judgement) (a : Account) → GetsTo lists o j a
@@ -141,6 +131,6 @@ module _ {lists : ProgramLists} {o : Outset} (formed : IsWellFormed lists)
       let s = stands-reached i c before in
       let firsts = judgements-paired (each-beside formed s.judgement s.beside row there row) in
       let pairs = zip after (accounts_after lists n c) in
-      pair-parts j k a b
+      pairs-parts j k a b
       (one-at_place formed.program (λ (q : Judgement × Account). q.0) pairs after (j, a)
       (k, b) row firsts among here same)

@@ -22,7 +22,7 @@ use Rattle.nomos_check.proofs.AccountsLaws.{DerivesByAccounts, rows-law}
 use Rattle.nomos_check.proofs.StarLaws.{start-stars, point-stars}
 
 -- what holds of each element holds of all
-all-from : {X : Type 0} (P : X → Type 0) (xs : List X) → ((x : X) → Contains xs x → P x) → All P xs
+pub all-from : {X : Type 0} (P : X → Type 0) (xs : List X) → ((x : X) → Contains xs x → P x) → All P xs
 all-from P xs each = All-weaker (Contains xs) P each xs (All-contains_itself xs)
 
 module _ {lists : ProgramLists} {o : Outset} (x : Annotations) (n : ℕ) (formed : IsWellFormed lists)

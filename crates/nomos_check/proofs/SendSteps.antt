@@ -1,5 +1,5 @@
 -- A channel that is sent, and a process that hands its place on.
-use Rattle.std.proofs.Common.{◌≡◌, ◌<◌, ◌↔◌, ◌∙◌, ℕ, List, [], ◌∷◌, length, get_or, Some, None, refl, ap, sym, subst, arith, eq-eqb, cond}
+use Rattle.std.proofs.Common.{◌≡◌, ◌<◌, ◌↔◌, ◌∙◌, ℕ, [], ◌∷◌, length, Some, None, refl, ap, subst, eq-eqb, cond}
 use Rattle.nomos_ir.specs.declared.amount.Amount.{Amount}
 use Rattle.nomos_ir.specs.declared.code_node.Chan.{Chan}
 use Rattle.nomos_ir.specs.declared.code_node.CodeNode.TheVariants as code
@@ -11,6 +11,7 @@ use Rattle.nomos_ir.specs.declared.type_node.TypeNode.TheVariants as node
 use Rattle.nomos_ir.specs.Bindings.{bound_to}
 use Rattle.nomos_equality.specs.Paths.{StandAtEqualPaths}
 use Rattle.nomos_ir.specs.Program.{IsProgram}
+use Rattle.nomos_types.proofs.UniqueRowLaws.{sent-same}
 use Rattle.nomos_types.specs.Alike.{AlikeTypes}
 use Rattle.nomos_types.specs.Arguments.{PassesChannel}
 use Rattle.nomos_types.specs.Equality.{no_amounts}
@@ -22,7 +23,6 @@ use Rattle.nomos_check.specs.Asking.{AsksPair, IsOfType}
 use Rattle.nomos_check.proofs.AskingLaws.{asks-at, asked-at}
 use Rattle.nomos_check.proofs.ChannelLaws.{linear-has_place, head-unique}
 use Rattle.nomos_check.proofs.PassingSteps.{of-type_unique}
-use Rattle.nomos_check.proofs.SideLaws.{sent_channel-same}
 
 module _ (lists : ProgramLists) (j : Judgement) where
   -- what is sent passes as the type that the channel's type says
@@ -31,7 +31,7 @@ module _ (lists : ProgramLists) (j : Judgement) where
       → SendsChannel lists no_amounts j c y left t → PassesChannel lists no_amounts j y p.0 left
   sent-passes c y p left t typed says =
       let heads = head-unique lists j c _ _ says.channel typed in
-      let (same, rest) = sent_channel-same c says.carried t p.0 p.1 heads in
+      let (same, rest) = sent-same c says.carried t p.0 p.1 heads in
       subst (λ (u : TypeId). PassesChannel lists no_amounts j y u left) same says.passes
 
   -- the pairs that sending a channel asks for
@@ -45,7 +45,7 @@ module _ (lists : ProgramLists) (j : Judgement) where
     λ asks.
         let (its, other, u, its_is_of, its_typed, paths) = asks-at (code.Send at c y next) stands asks in
         let heads = head-unique lists j c _ _ its_typed typed in
-        let (same, rest) = sent_channel-same c other u carried t heads in
+        let (same, rest) = sent-same c other u carried t heads in
         let one = of-type_unique lists j y its own h its_is_of is_of in
         let with_carried = subst (λ (s : TypeId). StandAtEqualPaths lists its s pair) same paths in
         subst (λ (s : TypeId). StandAtEqualPaths lists s carried pair) one with_carried,
@@ -84,16 +84,3 @@ forward-stays lists j v own only differ says =
     let there = ap (bound_to v.0) its_only ∙ only-bound v says.own in
     let same : says.own ≡ own = cc in
     differ (subst (λ (t : TypeId). AlikeTypes lists no_amounts j.offers t) same says.alike)
-
--- a list of one element
-pub one-element : {X : Type 0} (xs : List X) (d : X) → length xs ≡ 1 → xs ≡ get_or xs 0 d ∷ []
-one-element [] d one = absurd (omega arith)
-one-element (x ∷ []) d one = refl
-one-element (x ∷ y ∷ xs) d one = absurd (omega arith)
-
--- the one channel that is held, where its variable is known
-pub only-found : (channels linear : List (VarId × TypeId)) (v : VarId) (d : VarId × TypeId) → channels ≡ linear
-    → length channels ≡ 1 → (get_or channels 0 d).0 ≡ v → linear ≡ (v, (get_or channels 0 d).1) ∷ []
-only-found channels linear v d same one here =
-    let only = get_or channels 0 d in
-    sym same ∙ one-element channels d one ∙ ap (λ (u : VarId). let e : VarId × TypeId = (u, only.1) in e ∷ []) here

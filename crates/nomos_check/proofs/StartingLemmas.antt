@@ -12,16 +12,16 @@ use Rattle.nomos_ir.specs.declared.ids.VarId.{VarId}
 use Rattle.nomos_ir.specs.declared.kind.Kind.{Kind}
 use Rattle.nomos_ir.specs.declared.lists.ProgramLists.{ProgramLists}
 use Rattle.nomos_ir.specs.Amounts.{star_count}
-use Rattle.nomos_ir.specs.Bindings.{bind, bindings_of, each_bound}
-use Rattle.nomos_ir.proofs.MappedLaws.{each-bind, each-bindings}
+use Rattle.nomos_ir.specs.Bindings.{bindings_of, each_bound}
+use Rattle.nomos_ir.proofs.MappedLaws.{each-bindings}
 use Rattle.nomos_forms.specs.declared.form.Form.{Form}
 use Rattle.nomos_forms.specs.Bounds.{IsSmall}
+use Rattle.nomos_types.proofs.EqualityLaws.{no_dths}
 use Rattle.nomos_types.proofs.ModeLaws.{parameter-has_mode}
 use Rattle.nomos_types.specs.Equality.{no_amounts}
 use Rattle.nomos_types.specs.Judgement.{Judgement, ListType, list_par, is_shared}
 use Rattle.nomos_types.specs.Modes.{HasMode, parameter_mode}
 use Rattle.nomos_check.proofs.FormLemmas.{coef_of}
-use Rattle.nomos_check.proofs.StandingLemmas.{dths-none}
 use Rattle.nomos_check.specs.Account.{Account, gains, form_of, carried_by, no_account}
 use Rattle.nomos_check.specs.declared.standing.Carried.{Carried}
 use Rattle.nomos_check.specs.Room.{HasRoom}
@@ -68,7 +68,7 @@ par-shape : (v : VarId) (kind : Kind) (amount : Option Amount)
 par-shape v kind None = refl
 par-shape v kind (Some r) =
     let Made : ℕ → List (VarId × ListType) = λ q. (v, record { kind = kind; amount = q }) ∷ [] in
-    ap Made (sym (dths-none r))
+    ap Made (sym (no_dths r))
 
 par-amount : (v : VarId) (kind : Kind) (amount : Option Amount)
     → each_bound amount_of (carried_par v kind amount) ≡ carried_by v amount
@@ -139,7 +139,7 @@ start-is lists n d kinds carried shared linear zero potential of_kinds of_lists 
           (each_bound shape_of_list) of_lists ∙ shapes)
           ∙ ap (λ (s : List (VarId × TypeId)). J (kinds_of d) to_lists s linear 0) of_shared
           ∙ ap (λ (l : List (VarId × TypeId)). J (kinds_of d) to_lists to_shared l 0) of_linear
-          ∙ ap (λ (q : ℕ). J (kinds_of d) to_lists to_shared to_linear q) (sym (dths-none d.amount));
+          ∙ ap (λ (q : ℕ). J (kinds_of d) to_lists to_shared to_linear q) (sym (no_dths d.amount));
       has = record {
         lists = ap (each_bound amount_of) of_lists ∙ amounts;
         potential = of_potential n no_account

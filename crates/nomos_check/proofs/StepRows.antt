@@ -19,23 +19,19 @@ use Rattle.nomos_ir.specs.declared.lists.ProgramLists.{ProgramLists}
 use Rattle.nomos_ir.specs.declared.mode.Mode.{Mode}
 use Rattle.nomos_ir.specs.declared.type_node.TypeNode.TheVariants as node
 use Rattle.nomos_ir.specs.TermKind.{HasKind, bool_kind}
+use Rattle.nomos_types.proofs.EqualityLaws.{no_dths}
 use Rattle.nomos_types.specs.Amount.{dths}
 use Rattle.nomos_types.specs.Arguments.{ArgumentsFit}
 use Rattle.nomos_types.specs.Equality.{no_amounts}
 use Rattle.nomos_types.specs.Judgement.{Judgement, ListType, IsFree, at_code, goes_on, with_potential, binds_list, binds_channel}
 use Rattle.nomos_types.specs.Modes.{may_spawn}
 use Rattle.nomos_types.specs.Premises.{HasType, by_side, SendsLabel, AwaitsLabel, SendsChannel, ReceivesChannel, SendsValue, ReceivesValue, Pays, Gets, Accepts, Detaches, Acquires, Releases, Spawns, Closes, Forwards, Calls, Adds, TakesApart}
-use Rattle.nomos_types.specs.TypingRule.{StandsAtCode, gives_up, without_list, takes_parts, TypingRule}
+use Rattle.nomos_types.specs.TypingRule.{StandsAtCode, without_list, takes_parts, TypingRule}
 use Rattle.nomos_types.specs.TypingRule as row
 use Rattle.nomos_types.proofs.RowLaws.{row-inverted}
 use Rattle.nomos_check.specs.mirror.StandingData.{NoRow}
 
 -- ---- amounts are worth nothing
-
--- where amounts are ignored, each is worth nothing
-pub worth-nothing : (r : Amount) → dths no_amounts r ≡ 0
-worth-nothing (amount.Written units) = omega arith
-worth-nothing (amount.Star star) = refl
 
 -- what channels go on at leaves the potential alone
 gone-keeps_q : (j : Judgement) (c : Chan) (t : TypeId) (next : CodeId) → (goes_on j c t next).q ≡ j.q
@@ -80,8 +76,8 @@ module _ {lists : ProgramLists} {j : Judgement} where
       → (s : Amount) (t : TypeId) → HasType lists j c (by_side c (node.PotOut s t) (node.PotIn s t))
       → TypingRule lists no_amounts j (goes_on j c t next ∷ [])
   pay-steps {at} {c} {r} {next} stands s t channel =
-      let paid = worth-nothing r in
-      let said = worth-nothing s in
+      let paid = no_dths r in
+      let said = no_dths s in
       let kept = gone-keeps_q j c t next in
       let rest : j.q - dths no_amounts r ≡ (goes_on j c t next).q = omega arith in
       let says : Pays lists no_amounts j c r t =
@@ -100,8 +96,8 @@ module _ {lists : ProgramLists} {j : Judgement} where
       → (s : Amount) (t : TypeId) → HasType lists j c (by_side c (node.PotIn s t) (node.PotOut s t))
       → TypingRule lists no_amounts j (goes_on j c t next ∷ [])
   get-steps {at} {c} {r} {next} stands s t channel =
-      let got = worth-nothing r in
-      let said = worth-nothing s in
+      let got = no_dths r in
+      let said = no_dths s in
       let kept = gone-keeps_q j c t next in
       let rest : j.q + dths no_amounts r ≡ (goes_on j c t next).q = omega arith in
       let says : Gets lists no_amounts j c r t = record { amount = s; channel = channel; same = omega arith } in
@@ -117,7 +113,7 @@ module _ {lists : ProgramLists} {j : Judgement} where
   pub work-steps : {at : ℕ} {r : Amount} {next : CodeId} → StandsAtCode lists j (code.Work at r next)
       → TypingRule lists no_amounts j (at_code j next ∷ [])
   work-steps {at} {r} {next} stands =
-      let spent = worth-nothing r in
+      let spent = no_dths r in
       let rest : j.q - dths no_amounts r ≡ j.q = omega arith in
       let enough : dths no_amounts r ≤ j.q = omega arith in
       let After : ℕ → Type 0 = λ q. TypingRule lists no_amounts j (with_potential (at_code j next) q ∷ []) in
@@ -153,7 +149,7 @@ module _ {lists : ProgramLists} {j : Judgement} where
       → ArgumentsFit lists no_amounts j d args left → IsFree j v → left.q ≡ j.q
       → TypingRule lists no_amounts j (binds_channel (at_code left next) v d.mode d.offers ∷ [])
   spawn-steps {at} {v} {f} {args} {next} stands d left declared may arguments free kept =
-      let spent = worth-nothing d.amount in
+      let spent = no_dths d.amount in
       let rest : j.q - dths no_amounts d.amount ≡ left.q = omega arith in
       let says : Spawns lists no_amounts j v f args d left =
       record { declared = declared; mode = may; arguments = arguments; enough = omega arith; free = free }
@@ -210,7 +206,7 @@ module _ {lists : ProgramLists} {j : Judgement} where
       let After : ℕ → Type 0 =
       λ q. TypingRule lists no_amounts j (binds_list (at_code j next) v (record { kind = kind; amount = q }) ∷ [])
       in
-      subst After (worth-nothing r) (row.empty stands free)
+      subst After (no_dths r) (row.empty stands free)
 
   pub empty-stuck : {at : ℕ} {v : VarId} {r : Amount} {kind : Kind} {next : CodeId}
       → StandsAtCode lists j (code.Empty at v r kind next) → ¬ (IsFree j v) → NoRow lists j

@@ -4,6 +4,7 @@ use Rattle.nomos_ir.specs.declared.code_node.CodeNode.{CodeNode}
 use Rattle.nomos_ir.specs.declared.lists.ProgramLists.{ProgramLists}
 use Rattle.nomos_ir.specs.Amounts.{star_count}
 use Rattle.nomos_types.proofs.InversionLaws.{row-descends}
+use Rattle.nomos_types.proofs.OccurrenceLaws.{contains-head}
 use Rattle.nomos_types.proofs.UniqueRowLaws.{row-unique}
 use Rattle.nomos_types.specs.Equality.{no_amounts}
 use Rattle.nomos_types.specs.TypingRule.{TypingRule, StandsAtCode}
@@ -11,7 +12,6 @@ use Rattle.nomos_types.specs.Typed.{IsWellFormed}
 use Rattle.nomos_check.proofs.GatherLemmas.{first-some}
 use Rattle.nomos_check.proofs.GoingLemmas.{going-next, goes-end, goes-along}
 use Rattle.nomos_check.proofs.LeavingLemmas.{reached-next}
-use Rattle.nomos_check.proofs.MemberLemmas.{contains-head}
 use Rattle.nomos_ir.specs.Instruction.{code_offset, code_form}
 use Rattle.nomos_check.specs.declared.asked.Asked.{Asked}
 use Rattle.nomos_check.specs.declared.standing.Forks.{Forks}

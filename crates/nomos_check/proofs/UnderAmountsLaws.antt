@@ -13,6 +13,7 @@ use Rattle.nomos_ir.specs.declared.kind.Kind.{Kind}
 use Rattle.nomos_ir.specs.declared.lists.ProgramLists.{ProgramLists}
 use Rattle.nomos_ir.specs.Bindings.{by_number}
 use Rattle.nomos_forms.specs.Bounds.{HasStarUpTo}
+use Rattle.nomos_types.proofs.EqualityLaws.{no_dths}
 use Rattle.nomos_types.specs.Amount.{Annotations, dths}
 use Rattle.nomos_types.specs.Derivation.{Derives, Follows}
 use Rattle.nomos_types.specs.Equality.{no_amounts}
@@ -27,7 +28,7 @@ use Rattle.nomos_check.specs.UnderAmounts.{without_amounts, ignoring, carried_in
 use Rattle.nomos_check.proofs.AccountsLaws.{DerivesByAccounts, reached-under, rows-law-from}
 use Rattle.nomos_check.proofs.Beside.{Beside, changed, along, behind, stands, second-beside, beside-back, each-back}
 use Rattle.nomos_check.proofs.BesideRows.{row-carried}
-use Rattle.nomos_check.proofs.Carrying.{no-dths, no-worth, no-needs, start-beside, next-is_judgement}
+use Rattle.nomos_check.proofs.Carrying.{no-worth, no-needs, start-beside, next-is_judgement}
 use Rattle.nomos_check.proofs.ListAmounts.{CarryBoth, none, list, list_at, counted-both, keys-both, both-back}
 use Rattle.nomos_check.proofs.ReachingLaws.{HasItsAccount, reaches-unique}
 use Rattle.nomos_check.proofs.RowMaking.{row-made}
@@ -44,7 +45,7 @@ module _ {x : Annotations} where
       → without_amounts ls ≡ ms
   both-ignored none = refl
   both-ignored (list {ls} {ms} v kind r rest) =
-      ap (λ (worth : ℕ). (v, list_with kind worth) ∷ without_amounts ls) (sym (no-dths r))
+      ap (λ (worth : ℕ). (v, list_with kind worth) ∷ without_amounts ls) (sym (no_dths r))
       ∙ ap (λ (l : List (VarId × ListType)). (v, list_at no_amounts kind r) ∷ l) (both-ignored rest)
 
   -- the lists of the first side carry what the account's are worth
@@ -71,7 +72,7 @@ module _ {x : Annotations} where
       in
       let base : Both (dths x r.1) (dths no_amounts r.1) l.0 = list l.0 l.1.kind r.1 (carried-both ls rs rest) in
       subst (Both l.1.amount 0) variable
-      (subst (λ (z : ℕ). Both l.1.amount z l.0) (no-dths r.1)
+      (subst (λ (z : ℕ). Both l.1.amount z l.0) (no_dths r.1)
       (subst (λ (q : ℕ). Both q (dths no_amounts r.1) l.0) (sym worth) base))
 
   -- ---- judgements

@@ -5,11 +5,12 @@ use Rattle.std.proofs.lemmas.List.Sums.{sum_by-cons, sum_by-append}
 use Rattle.nomos_ir.specs.declared.lists.ProgramLists.{ProgramLists}
 use Rattle.nomos_ir.specs.Amounts.{star_count}
 use Rattle.nomos_types.proofs.FollowingLaws.{place}
+use Rattle.nomos_types.proofs.OccurrenceLaws.{contains-cases, contains-tail, contains-head}
 use Rattle.nomos_types.specs.Judgement.{Judgement}
 use Rattle.nomos_types.specs.Typed.{IsWellFormed}
 use Rattle.nomos_check.proofs.GatherLemmas.{grows-through, done-grows, gathers-through}
 use Rattle.nomos_check.proofs.LimitLemmas.{room-at, list-amount}
-use Rattle.nomos_check.proofs.MemberLemmas.{contains-head, contains-tail, contains-none, contains-cases}
+use Rattle.nomos_check.proofs.MemberLemmas.{contains-none}
 use Rattle.nomos_check.proofs.WeightLemmas.{work-append, way-place}
 use Rattle.nomos_check.proofs.WithinLemmas.{within-on_way}
 use Rattle.nomos_check.specs.Account.{Account}
@@ -213,10 +214,6 @@ module _ (lists : ProgramLists) (n : ℕ) (f : Forks) (todo : List Forks) (w : W
           same,
           lighter,
         )
-
--- where nothing is left of the first one, less is left to do
-pub none-light : (b : ℕ) (f : Forks) (todo : List Forks) → work b todo < work b (f ∷ todo)
-none-light b f todo = omega (arith, sum_by-cons (forks_work b) f todo)
 
 -- there is room for what a way frees
 room-by : {lists : ProgramLists} (s : Standing) (v : Way) → IsWellFormed lists → IsWithin lists s → IsWayOf s v

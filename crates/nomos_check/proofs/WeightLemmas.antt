@@ -11,11 +11,12 @@ use Rattle.nomos_ir.specs.declared.lists.ProgramLists.{ProgramLists}
 use Rattle.nomos_ir.specs.CodeParts.{code_next}
 use Rattle.nomos_types.proofs.FollowingLaws.{place, row-places}
 use Rattle.nomos_types.proofs.InversionLaws.{row-descends}
+use Rattle.nomos_types.proofs.OccurrenceLaws.{contains-found}
 use Rattle.nomos_types.proofs.RowLaws.{row-at}
 use Rattle.nomos_types.specs.Equality.{no_amounts}
 use Rattle.nomos_types.specs.Judgement.{Judgement}
 use Rattle.nomos_types.specs.Typed.{IsWellFormed}
-use Rattle.nomos_check.proofs.ListLemmas.{contains-map, contains-found}
+use Rattle.nomos_check.proofs.ListLemmas.{contains-map}
 use Rattle.nomos_check.proofs.StarLaws.{at_most-greatest}
 use Rattle.nomos_check.specs.declared.standing.Forks.{Forks}
 use Rattle.nomos_check.specs.declared.standing.Way.{Way}

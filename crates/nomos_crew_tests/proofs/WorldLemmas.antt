@@ -1,9 +1,9 @@
 -- How far the numbers of a ledger have risen behind a script, and batches that may be run there.
-use Rattle.std.proofs.Common.{◌≡◌, ◌∙◌, ℕ, ◌+◌, ◌^◌, ◌≤◌, List, [], ◌∷◌, length, take, Option, Some, None, sym, ap, subst, arith}
+use Rattle.std.proofs.Common.{◌≡◌, ◌∙◌, ℕ, ◌+◌, ◌^◌, ◌≤◌, List, length, take, Option, Some, None, sym, ap, subst, arith}
 use Rattle.std.proofs.Math.Seq.{take-length}
-use Rattle.std.specs.Prelude.{IfSome, slice_get}
+use Rattle.std.specs.Prelude.{IfSome}
 use Rattle.nomos_types.specs.Acceptance.{Acceptance, IsAccepted}
-use Rattle.nomos_script.specs.Size.{IsScriptSize, start_count}
+use Rattle.nomos_script.specs.Size.{IsScriptSize}
 use Rattle.nomos_script.specs.declared.item.Batch.{Batch}
 use Rattle.nomos_script.specs.declared.item.ScriptItem.{ScriptItem}
 use Rattle.nomos_script.specs.declared.item.ScriptItem.TheVariants as item
@@ -49,16 +49,6 @@ ledger-numbered {M} {a} accepted {items} size orders run runs =
     in
     subst (λ (l : LedgerState). HasNumbered most_numbers l.state) (sym all.1.ledger) here)
     runs.all
-
--- a batch that is the first item has no more starts than the script
-pub first-starts : (items : List ScriptItem) (batch : Batch) → slice_get items 0 ≡ Some (item.Batch batch)
-    → length batch.starts ≤ start_count items
-first-starts [] batch e = absurd (cc e)
-first-starts (item.Batch first ∷ items) batch e =
-    let same : first ≡ batch = cc e in
-    rw same (omega arith)
-first-starts (item.Deposit line name units ∷ items) batch e = absurd (cc e)
-first-starts (item.Show line ∷ items) batch e = absurd (cc e)
 
 -- a batch that begins there may make a million firings
 pub begun-runs : {a : Acceptance} → IsAccepted a → {l : LedgerState} {batch : Batch} {w : WorldState}

@@ -1,20 +1,14 @@
 -- The deed of a process by what its instruction's terms come to.
-use Rattle.std.proofs.Common.{◌≡◌, ◌≢◌, ◌∙◌, ◌↔◌, ℕ, Bool, true, false, cond, List, [], ◌∷◌, Option, Some, None, Ok, Err, refl, sym, ap, slice_get, option_and_then, IsTrue}
+use Rattle.std.proofs.Common.{◌≡◌, ◌≢◌, ◌∙◌, ◌↔◌, ℕ, Bool, true, false, List, [], ◌∷◌, Option, Some, None, Ok, refl, sym, ap, slice_get, option_and_then, IsTrue}
 use Rattle.std.specs.Option.{option_map}
 use Rattle.nomos_ir.specs.CodeParts.{code_terms}
-use Rattle.nomos_ir.specs.Evaluation.{term_evaluation}
-use Rattle.nomos_ir.specs.TermsEvaluation.{before_others, terms_evaluation, terms_of, instruction_evaluation}
+use Rattle.nomos_ir.specs.TermsEvaluation.{terms_evaluation, terms_of, instruction_evaluation}
 use Rattle.nomos_ir.specs.Value.{Value}
 use Rattle.nomos_ir.specs.declared.code_node.CodeNode.{CodeNode}
 use Rattle.nomos_ir.specs.declared.code_node.CodeNode.TheVariants as code
-use Rattle.nomos_ir.specs.declared.fault.Fault.{Fault}
-use Rattle.nomos_ir.specs.declared.ids.CodeId.{CodeId}
-use Rattle.nomos_ir.specs.declared.ids.TermId.{TermId}
-use Rattle.nomos_eval.specs.SmallTest.{Decides}
 use Rattle.nomos_types.specs.Acceptance.{Acceptance}
-use Rattle.nomos_machine.specs.Deeds.{changes, has_fault, alone, deed_at}
+use Rattle.nomos_machine.specs.Deeds.{deed_at}
 use Rattle.nomos_machine.specs.Optional.{◌>>=◌}
-use Rattle.nomos_machine.specs.Revised.{standing_at}
 use Rattle.nomos_machine.specs.State.{State, process_at}
 use Rattle.nomos_machine.specs.Step.{deed, deed_by}
 use Rattle.nomos_machine.specs.declared.object.Process.{Process}
@@ -33,16 +27,6 @@ module _ (a : Acceptance) (s : State) (p : Process) where
       at (Some n) is = ap (deed_by a s p n) is
       at None is = refl
 
-  -- where one of them has a fault
-  pub deed-by_fault : (f : Fault) → instruction_evaluation a.program p.values p.code.0 ≡ Err f
-      → deed a s p ≡ Some (has_fault f)
-  deed-by_fault f is = at (slice_get a.program.code p.code.0) is
-    where
-      at : (o : Option CodeNode) → terms_evaluation a.program p.values (terms_of o) ≡ Err f
-          → (o >>= λ n. deed_by a s p n (terms_evaluation a.program p.values (code_terms n))) ≡ Some (has_fault f)
-      at (Some n) is = ap (deed_by a s p n) is
-      at None is = absurd cc
-
   -- where there are none
   pub deed-without_terms : (n : CodeNode) (vs : List Value) → slice_get a.program.code p.code.0 ≡ Some n
       → code_terms n ≡ [] → vs ≡ []
@@ -51,18 +35,6 @@ module _ (a : Acceptance) (s : State) (p : Process) where
       deed-by_values vs
       (ap (λ (o : Option CodeNode). terms_evaluation a.program p.values (terms_of o)) stands
       ∙ ap (terms_evaluation a.program p.values) none ∙ ap Ok (sym empty))
-
-  -- at an `if` of whose test it is decided what it says
-  pub deed-chosen : (at : ℕ) (e : TermId) (then_next else_next : CodeId) (first : Bool)
-      → slice_get a.program.code p.code.0 ≡ Some (code.If at e then_next else_next)
-      → Decides (term_evaluation a.program p.values e) first
-      → deed a s p ≡ Some (changes (alone a s p (standing_at (cond first then_next else_next) p)))
-  deed-chosen at e then_next else_next first stands decides =
-      deed-by_values (decides.value ∷ [])
-      (ap (λ (o : Option CodeNode). terms_evaluation a.program p.values (terms_of o)) stands
-      ∙ ap (λ (evaluation : _). before_others evaluation (Ok [])) decides.ended)
-      ∙ ap (option_and_then (deed_at a s p (decides.value ∷ []))) stands
-      ∙ ap (λ (b : Bool). Some (changes (alone a s p (standing_at (cond b then_next else_next) p)))) (sym decides.taken)
 
 -- the process of a number stands where what is seen of it does
 pub stands-seen : (a : Acceptance) (s : State) (pid : ℕ) (p : Process) (seen : SeenProcess) (n : CodeNode)

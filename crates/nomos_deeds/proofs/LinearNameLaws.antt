@@ -7,6 +7,7 @@ use Rattle.nomos_ir.specs.declared.ids.TypeId.{TypeId}
 use Rattle.nomos_ir.specs.declared.lists.ProgramLists.{ProgramLists}
 use Rattle.nomos_ir.specs.declared.mode.Mode.{Mode}
 use Rattle.nomos_ir.specs.declared.mode.Mode.TheVariants as mode
+use Rattle.nomos_machine.proofs.BirthLaws.{unshared-mode}
 use Rattle.nomos_types.specs.Acceptance.{Acceptance, IsAccepted}
 use Rattle.nomos_types.specs.Judgement.{is_shared_mode}
 use Rattle.nomos_types.specs.Modes.{IsOfTransactions, parameter_mode}
@@ -18,7 +19,7 @@ use Rattle.nomos_deeds.specs.Readers.{IsLinearType, is_of_mode_t, looks_linear, 
 
 -- ---- what declarations of transactions offer
 
-any-there : {X : Type 0} (test : X → Bool) (xs : List X) → list_any test xs ≡ true
+pub any-there : {X : Type 0} (test : X → Bool) (xs : List X) → list_any test xs ≡ true
     → (x : X) × Contains xs x × (test x ≡ true)
 any-there test [] found = absurd cc
 any-there {X} test (e ∷ xs) found = at (any-there test xs) (test e) refl found
@@ -30,7 +31,7 @@ any-there {X} test (e ∷ xs) found = at (any-there test xs) (test e) refl found
         let (x, inside, passed) = rest found in
         (x, Contains-append_right (e ∷ []) xs x inside, passed)
 
-any-shown : {X : Type 0} (test : X → Bool) (xs : List X) (x : X) → Contains xs x → test x ≡ true
+pub any-shown : {X : Type 0} (test : X → Bool) (xs : List X) (x : X) → Contains xs x → test x ≡ true
     → list_any test xs ≡ true
 any-shown test [] x inside passed = absurd (omega (arith, inside.1))
 any-shown test (e ∷ xs) x inside passed =
@@ -78,12 +79,6 @@ shared-at_s m unshared at_s = differ (sym (ap is_shared_mode at_s) ∙ unshared)
     differ : true ≡ false → ⊥
     differ e = cc
 
-others-unshared : (m : Mode) → m ≢ mode.S → is_shared_mode m ≡ false
-others-unshared mode.S other = absurd (other refl)
-others-unshared mode.R other = refl
-others-unshared mode.L other = refl
-others-unshared mode.T other = refl
-
 linear-by_look : {a : Acceptance} → IsAccepted a → (t : TypeId) → (t.0 < length a.program.types)
     × (shows_shared a.program (Some t) ≡ false) × (list_any (offers_at_t t) a.program.procs ≡ false)
     ↔ IsLinearType a.program t
@@ -101,7 +96,7 @@ linear-by_look {a} accepted t = (
   λ (m, has, linear).
       let (not_s, unoffered) = (linear-told accepted.typed.formed m has).0 linear in (
         mode-in_range accepted.is_program has,
-        others-unshared (parameter_mode a.program t) not_s,
+        unshared-mode (parameter_mode a.program t) not_s,
         none (list_any (offers_at_t t) a.program.procs) (λ found. unoffered ((transactions-told a.program t).0 found)),
       ),
 )

@@ -79,14 +79,6 @@ module _ (a : Acceptance) (s : State) (p : Process) (c : Chan) (reads : Payload 
       at (Some name) found = ap (λ (o : Option Message). o >>= receives_of) found
       at None found = absurd cc
 
-  pub receives-none : read_by s p c ≡ None → receives a s p c reads ≡ None
-  receives-none read = at (present_name p c) read
-    where
-      at : (o : Option ℕ) → (o >>= message_on s.objects (not (is_own c))) ≡ None
-          → (o >>= λ from. message_on s.objects (not (is_own c)) from >>= receives_of) ≡ None
-      at (Some name) found = ap (λ (o : Option Message). o >>= receives_of) found
-      at None found = refl
-
 -- ---- the message that a process reads
 
 pub read-on : (s : State) (p : Process) (c : Chan) (name : ℕ) (way : Bool) → present_name p c ≡ Some name

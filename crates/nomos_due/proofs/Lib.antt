@@ -1,5 +1,5 @@
 mod BenchLemmas
 mod DueLemmas
-mod SourceLemmas
+pub mod SourceLemmas
 pub mod WrittenLaws
 pub mod ReplayLaws

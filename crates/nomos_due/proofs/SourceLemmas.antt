@@ -12,7 +12,7 @@ some_text None = ([], tt)
 some_text (Some text) = (text, refl)
 
 -- some text is longer than that
-some_longer : (n : ℕ) → (text : List ℕ) × (n < length text)
+pub some_longer : (n : ℕ) → (text : List ℕ) × (n < length text)
 some_longer n = (replicate (n + 1) 0, rw length-replicate (omega arith))
 
 -- a text past a limit, which the source has

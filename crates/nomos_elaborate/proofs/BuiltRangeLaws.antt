@@ -132,7 +132,7 @@ pub record CodeMade (all : Spaces) (s : Built) (built : Built × CodeId) : Type 
   pub made : Made all s built.0
   pub below : built.1.0 < length built.0.code
 
-one_more : {A : Type 0} (xs : List A) (x : A) → length (xs ++ x ∷ []) ≡ length xs + 1
+pub one_more : {A : Type 0} (xs : List A) (x : A) → length (xs ++ x ∷ []) ≡ length xs + 1
 one_more [] x = refl
 one_more (y ∷ xs) x = let h = one_more xs x in omega arith
 

@@ -1,6 +1,5 @@
 -- The laws of numbering: which names are numbered, and that a number stays.
 use Rattle.std.proofs.Common.{◌≡◌, ℕ, ◌+◌, ◌<◌, Bool, true, false, ◌||◌, List, [], ◌∷◌, ◌++◌, length, Decides, Contains, refl, sym, ap, ◌∙◌, arith}
-use Rattle.std.specs.Prelude.{if◌then◌else◌}
 use Rattle.std.specs.Str.{bytes_eq}
 use Rattle.std.proofs.lemmas.Slice.Eq.{bytes_eq-Decides}
 use Rattle.std.proofs.lemmas.List.Folds.{list_any-append}
@@ -48,16 +47,6 @@ number_of-injective (k ∷ names) m n am an e = go (bytes_eq k m) (bytes_eq k n)
     go true false p q ih = let h = rw (p, q) at e in absurd (omega arith)
     go false true p q ih = let h = rw (p, q) at e in absurd (omega arith)
     go false false p q ih = let h = rw (p, q) at e in ih (rw p at am) (rw q at an) (omega arith)
-
--- a name that is not among the names has no smaller number than they have
-pub number_of-none : (names : Names) (n : List ℕ) → is_among names n ≡ false → number_of names n ≡ length names
-number_of-none [] n out = refl
-number_of-none (m ∷ names) n out = go (bytes_eq m n) refl (number_of-none names n)
-  where
-    go : (b : Bool) → bytes_eq m n ≡ b → (is_among names n ≡ false → number_of names n ≡ length names)
-        → number_of (m ∷ names) n ≡ length (m ∷ names)
-    go true e ih = absurd (let h = rw e at out in cc)
-    go false e ih = let h = ih (rw e at out) in rw e (omega arith)
 
 -- names at the end change no earlier number
 pub number_of-append : (names more : Names) (n : List ℕ) → is_among names n ≡ true
@@ -114,22 +103,3 @@ is_among-seen names n = go (is_among names n) refl
     go : (b : Bool) → is_among names n ≡ b → is_among (seen names n) n ≡ true
     go true e = rw e e
     go false e = rw e (is_among-append_right names (n ∷ []) n (ap (λ b. b || false) (bytes_eq_same n)))
-
--- a name keeps its number when another one is seen
-pub number_of-seen_same : (names : Names) (n m : List ℕ) → is_among names m ≡ true
-    → number_of (seen names n) m ≡ number_of names m
-number_of-seen_same names n m among = (Grows-seen names n).same m among
-
--- how many names there are after one is seen
-pub length-seen : (names : Names) (n : List ℕ)
-    → length (seen names n) ≡ (if is_among names n then length names else length names + 1)
-length-seen names n = go (is_among names n) refl
-  where
-    one_more : (names : Names) → length (names ++ n ∷ []) ≡ length names + 1
-    one_more [] = refl
-    one_more (m ∷ names) = let h = one_more names in omega arith
-
-    go : (b : Bool) → is_among names n ≡ b
-        → length (seen names n) ≡ (if is_among names n then length names else length names + 1)
-    go true e = rw e refl
-    go false e = rw e (one_more names)

@@ -1,7 +1,8 @@
 -- The nodes of a program stand after their parts.
 use Rattle.std.proofs.Common.{◌≡◌, ◌<◌, ◌≤◌, ℕ, List, [], ◌∷◌, length, map, Option, Some, None, refl, sym, subst, ◌∙◌, arith}
 use Rattle.std.proofs.lemmas.List.{length_push}
-use Rattle.std.proofs.lemmas.List.Elements.{All-nil, All-cons}
+use Rattle.std.proofs.lemmas.List.Elements.{All-cons}
+use Rattle.nomos_elaborate.proofs.BuiltRangeLaws.{none_below, one_below, two_below, three_below}
 use Rattle.nomos_elaborate.proofs.CodeOnceLaws.{program_code}
 use Rattle.nomos_elaborate.proofs.KeptNodeLaws.{quantity_kept, process_pars_kept, value_pars_kept, declared_amount_kept, type_puts_types, chan_pars_put_types, put_code_terms}
 use Rattle.nomos_elaborate.proofs.StandOnce.{Lower, lower_none, lower_more, lower_found}
@@ -53,19 +54,6 @@ operator_parts op.Sub at a b = refl
 operator_parts op.Mul at a b = refl
 operator_parts op.Div at a b = refl
 operator_parts op.Rem at a b = refl
-
--- no numbers, and one, two or three, are below a number
-none_below : (n : ℕ) → AllBelow n []
-none_below n = All-nil (λ k. k < n)
-
-one_below : (n a : ℕ) → a < n → AllBelow n (a ∷ [])
-one_below n a h = All-cons (λ k. k < n) a [] h (none_below n)
-
-two_below : (n a b : ℕ) → a < n → b < n → AllBelow n (a ∷ b ∷ [])
-two_below n a b h i = All-cons (λ k. k < n) a (b ∷ []) h (one_below n b i)
-
-three_below : (n a b c : ℕ) → a < n → b < n → c < n → AllBelow n (a ∷ b ∷ c ∷ [])
-three_below n a b c h i j = All-cons (λ k. k < n) a (b ∷ c ∷ []) h (two_below n b c i j)
 
 -- what a term has built: its nodes stand after their parts, there are no fewer than before, and its root is one
 record TermBuilt (s : Built) (built : Built × TermId) : Type 0 where

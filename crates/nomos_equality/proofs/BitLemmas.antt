@@ -1,26 +1,20 @@
 -- Lemmas of rows of bits.
-use Rattle.std.proofs.Common.{◌≡◌, ◌<◌, ◌≤◌, ◌==◌, ◌*◌, ◌/◌, ◌%◌, ◌^◌, ◌⊎◌, inl, inr, ℕ, zero, suc, true, false, List, [], ◌∷◌, ◌++◌, length, Contains, get_or, set, Some, slice_get, bit_or, refl, ap, sym, subst, ◌∙◌, arith}
+use Rattle.std.proofs.Common.{◌≡◌, ◌<◌, ◌≤◌, ◌==◌, ◌*◌, ◌/◌, ◌%◌, ◌^◌, ◌⊎◌, inl, inr, ℕ, zero, suc, true, List, [], ◌∷◌, ◌++◌, length, Contains, get_or, set, Some, slice_get, bit_or, refl, ap, sym, subst, ◌∙◌, arith}
 use Rattle.std.specs.Global.{Vec}
 use Rattle.std.specs.Int.{w64}
 use mathlib.Core.Logic.{⊎_elim}
 use Rattle.std.proofs.lemmas.Bool.Decides.{eqb_tells}
 use Rattle.std.proofs.lemmas.List.{get_or-set_same, get_or-set_other}
 use Rattle.std.proofs.lemmas.List.Elements.{Contains-append_left, Contains-push}
-use Rattle.std.proofs.lemmas.Nat.Bits.{bit_at-zero, bit_at_set_other}
+use Rattle.std.proofs.lemmas.Nat.Bits.{bit_at_set_other}
 use Rattle.nomos_ir.specs.declared.ids.TypeId.{TypeId}
-use Rattle.nomos_equality.specs.mirror.PairTables.{has_bit, bit_in, AreAmong, HasSameBits, HasWords, SetsOne, SetsPair}
+use Rattle.nomos_equality.specs.mirror.PairTables.{has_bit, AreAmong, HasSameBits, HasWords, SetsOne, SetsPair}
 
 -- a bit that is set in a word with one more bit was set, or is that one
 pub has_bit-with : (n k i : ℕ) → k < 64 → has_bit (bit_or n (1 * 2 ^ k % 2 ^ 64)) i ≡ true
     → (has_bit n i ≡ true) ⊎ (i ≡ k)
 has_bit-with n k i within is =
     ⊎_elim (λ e. inr e.1) (λ e. inl (sym (ap (λ b. b == 1) (bit_at_set_other w64 n k within i e.1)) ∙ is)) (eqb_tells i k)
-
-pub no_bit : (i : ℕ) → has_bit 0 i ≡ false
-no_bit i = ap (λ b. b == 1) (bit_at-zero i)
-
-pub none-in : (r : ℕ) → bit_in [] r ≡ false
-none-in r = no_bit (r % 64)
 
 -- a row in which one word has one more bit
 pub sets-one : (row : List ℕ) (right word : ℕ) → right / 64 < length row
@@ -39,16 +33,6 @@ sets-one row right word inside with r is =
     (eqb_tells (r / 64) (right / 64))
 
 -- ---- rows
-
--- a row without words more
-pub same-push : (rows : List (Vec ℕ)) (row : Vec ℕ) → row.items ≡ [] → HasSameBits rows (rows ++ row ∷ [])
-same-push [] row empty zero r = ap (λ ws. bit_in ws r) empty
-same-push [] row empty (suc l) r = refl
-same-push (x ∷ rows) row empty zero r = refl
-same-push (x ∷ rows) row empty (suc l) r = same-push rows row empty l r
-
-pub same-through : (rows mid new : List (Vec ℕ)) → HasSameBits rows mid → HasSameBits mid new → HasSameBits rows new
-same-through rows mid new first second l r = second l r ∙ first l r
 
 pub get-set : {X : Type 0} (xs : List X) (i : ℕ) (x : X) → i < length xs → slice_get (set xs i x) i ≡ Some x
 get-set [] i x inside = absurd (omega (arith, inside))

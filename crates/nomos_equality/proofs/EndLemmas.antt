@@ -1,31 +1,23 @@
 -- What is known of two types where all that follows from them is gathered.
-use Rattle.std.proofs.Common.{◌≡◌, inl, inr, ℕ, zero, suc, List, [], ◌∷◌, Contains, Some, sym, ap, subst, ◌∙◌, take, length, arith}
-use Rattle.std.proofs.Math.Seq.{take-append_seam}
-use Rattle.std.proofs.lemmas.List.Elements.{All-nil, All-contains, All-weaker, All-contains_itself, Contains-append_left}
+use Rattle.std.proofs.Common.{◌≡◌, inl, inr, ℕ, zero, suc, List, [], ◌∷◌, Contains, Some, sym, subst, ◌∙◌, arith}
+use Rattle.std.proofs.lemmas.List.Elements.{All-contains, All-weaker, All-contains_itself, Contains-append_left}
 use Rattle.nomos_ir.specs.declared.amount.Amount.{Amount}
 use Rattle.nomos_ir.specs.declared.ids.TypeId.{TypeId}
 use Rattle.nomos_ir.specs.declared.lists.ProgramLists.{ProgramLists}
 use Rattle.nomos_ir.specs.declared.type_node.TypeNode.{TypeNode}
-use Rattle.nomos_ir.specs.Nodes.{type_node}
-use Rattle.nomos_ir.specs.Unfold.{IsConstructor, Unfolds, constructor}
-use Rattle.nomos_ir.proofs.UnfoldLaws.{Unfolds-unique}
+use Rattle.nomos_ir.specs.Unfold.{Unfolds, constructor}
+use Rattle.nomos_ir.proofs.UnfoldLaws.{constructor-node}
+use Rattle.nomos_types.proofs.EqualityLaws.{no_dths}
 use Rattle.nomos_types.specs.Equality.{Agree, EqualShapes, no_amounts}
 use Rattle.nomos_equality.specs.declared.hop.Hop.{Hop}
 use Rattle.nomos_equality.specs.declared.known.Known.{Known}
 use Rattle.nomos_equality.specs.Answer.{EqualWith}
-use Rattle.nomos_equality.specs.Comparing.{Compared, IsFront, nothing_compared, HasCompared, FindsEqual}
+use Rattle.nomos_equality.specs.Comparing.{Compared, nothing_compared, HasCompared, FindsEqual}
 use Rattle.nomos_equality.specs.Paths.{PathLeads, ends, hops, paid_by, StandAtEqualPaths}
 use Rattle.nomos_equality.specs.mirror.Search.{IsMet, IsAt, HasNodes, HasForm}
 use Rattle.nomos_equality.specs.mirror.Known.{compared_by, Among, visit_at, IsSpread, HasGathered}
-use Rattle.nomos_equality.proofs.HeadLaws.{form-head, no_dths}
+use Rattle.nomos_equality.proofs.HeadLaws.{form-head}
 use Rattle.nomos_equality.proofs.PathLaws.{agree-behind, leads-behind, stand-here, stand-from_behind}
-
--- a node that is no name is what its type unfolds to
-node-unique : (lists : ProgramLists) (t : ℕ) (n m : TypeNode) → type_node lists t ≡ Some n → IsConstructor n
-    → Unfolds lists t m → type_node lists t ≡ Some m
-node-unique lists t n m there constructs unfolds =
-    let same : n ≡ m = Unfolds-unique lists t n m (constructor t n there constructs) unfolds in
-    subst (λ (k : TypeNode). type_node lists t ≡ Some k) same there
 
 module _ (lists : ProgramLists) (a b : TypeId) (old s : Known) (before : HasCompared lists (compared_by old))
     (gathered : HasGathered lists a b old s) where
@@ -83,8 +75,8 @@ module _ (lists : ProgramLists) (a b : TypeId) (old s : Known) (before : HasComp
       → Unfolds lists v.0 right → IsAt lists (visit_at u v) left right
   nodes-at u v left right nodes left_unfolds right_unfolds =
       record {
-        left_there = node-unique lists u.0 nodes.left left nodes.at.left_there nodes.left_constructs left_unfolds;
-        right_there = node-unique lists v.0 nodes.right right nodes.at.right_there nodes.right_constructs right_unfolds;
+        left_there = constructor-node lists u.0 nodes.left left nodes.at.left_there nodes.left_constructs left_unfolds;
+        right_there = constructor-node lists v.0 nodes.right right nodes.at.right_there nodes.right_constructs right_unfolds;
       }
 
   -- the amounts at the end of a path from a pair are noted
@@ -192,26 +184,6 @@ met-finds lists a b k before met =
                   )
             ],
       );
-    }
-
--- what stayed in front is what was there
-pub front-taken : {X : Type 0} (old new : List X) → IsFront old new → take (length old) new ≡ old
-front-taken old new front = ap (take (length old)) front.is ∙ take-append_seam old front.more
-
--- what goes back has compared what it had
-pub back-same : (old mid new : Known) → IsFront old.amounts mid.amounts → new.pairs ≡ old.pairs
-    → new.amounts ≡ take (length old.amounts) mid.amounts → compared_by new ≡ compared_by old
-back-same old mid new front pairs amounts =
-    let second : new.amounts ≡ old.amounts = amounts ∙ front-taken old.amounts mid.amounts front in
-    λ i. record { types = pairs i; amounts = second i }
-
--- nothing that was compared is sound
-pub nothing-compared : (lists : ProgramLists) → HasCompared lists nothing_compared
-nothing-compared lists =
-    record {
-      equal = All-nil (λ (p : TypeId × TypeId). EqualShapes lists p.0 p.1);
-      amounts = λ q. (λ among. absurd (omega (arith, among.1)), λ there. absurd (omega (arith, there.1.1)));
-      once = λ i j d less inside. absurd (omega (arith, inside));
     }
 
 -- from nothing on, what is found is the answer

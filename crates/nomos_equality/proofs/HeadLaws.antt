@@ -1,5 +1,5 @@
 -- Nodes of the same form: what the code compares, and the heads with related parts.
-use Rattle.std.proofs.Common.{◌≡◌, ◌==◌, ℕ, Bool, true, false, cond, List, [], ◌∷◌, All, Contains, find, Option, Some, None, option_map, IsSome, refl, true≢false, sym, ap, subst, ◌∙◌, eq-eqb, eqb-true, arith, mul-zero}
+use Rattle.std.proofs.Common.{◌≡◌, ◌==◌, ℕ, Bool, true, false, cond, List, [], ◌∷◌, All, Contains, find, Option, Some, None, option_map, IsSome, refl, true≢false, sym, ap, subst, ◌∙◌, eq-eqb, eqb-true, arith}
 use Rattle.std.proofs.lemmas.List.Elements.{All-cons, All-weaker, All-contains, All-nil, Contains-append_right, Contains-get_or}
 use Rattle.nomos_ir.specs.declared.amount.Amount.{Amount}
 use Rattle.nomos_ir.specs.declared.amount.Amount.TheVariants as amount
@@ -10,9 +10,10 @@ use Rattle.nomos_ir.specs.declared.type_node.Branch.{Branch}
 use Rattle.nomos_ir.specs.declared.type_node.TypeNode.{TypeNode}
 use Rattle.nomos_ir.specs.declared.type_node.TypeNode.TheVariants as node
 use Rattle.nomos_ir.specs.Unfold.{IsConstructor}
+use Rattle.nomos_types.proofs.EqualityLaws.{no_dths}
 use Rattle.nomos_types.specs.Amount.{Annotations, dths}
 use Rattle.nomos_types.specs.Branches.{goes_by}
-use Rattle.nomos_types.specs.Equality.{BothOrNeither, both, neither, SameBranches, SameHead, one, plus, with, tensor, lolli, value_out, value_in, pot_out, pot_in, up, down, no_amounts}
+use Rattle.nomos_types.specs.Equality.{BothOrNeither, both, neither, SameBranches, SameHead, one, plus, with, tensor, lolli, value_out, value_in, pot_out, pot_in, up, down}
 use Rattle.nomos_equality.specs.declared.hop.Hop.{Hop}
 use Rattle.nomos_equality.specs.declared.hop.Hop.TheVariants as hop
 use Rattle.nomos_equality.specs.Differences.{SameForm}
@@ -113,11 +114,6 @@ same-labels_back bs cs same =
     (λ b some. both-some_back (goes_by bs b.label) (goes_by cs b.label) (same b.label) some) cs (own-labels cs)
 
 -- ---- the same form
-
--- where amounts are ignored each is 0
-pub no_dths : (q : Amount) → dths no_amounts q ≡ 0
-no_dths (amount.Written units) = mul-zero units
-no_dths (amount.Star star) = refl
 
 -- what the code compares makes the same form
 pub form-from : (p q : TypeNode) → IsConstructor p → constructor_of p ≡ constructor_of q → kind_of p ≡ kind_of q

@@ -5,7 +5,6 @@ pub mod ComparedLaws
 pub mod EndLemmas
 pub mod HeadLaws
 pub mod KnownLemmas
-pub mod ListLemmas
 pub mod PathLaws
 pub mod SearchLemmas
 pub mod TableLemmas

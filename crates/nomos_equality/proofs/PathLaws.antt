@@ -1,14 +1,11 @@
 -- Equality along paths: what is equal is equal at equal paths, and what amounts it needs.
-use Rattle.std.proofs.Common.{◌≡◌, ◌<◌, ℕ, zero, suc, map, length, arith, List, [], ◌∷◌, Some, ap, subst}
-use Rattle.std.proofs.lemmas.List.Elements.{All-contains}
+use Rattle.std.proofs.Common.{◌≡◌, ◌<◌, ℕ, zero, suc, length, arith, List, [], ◌∷◌, Some, subst}
 use Rattle.std.proofs.lemmas.Option.{slice_get_within}
-use Rattle.nomos_equality.proofs.ListLemmas.{contains-map}
 use Rattle.nomos_ir.specs.declared.amount.Amount.{Amount}
 use Rattle.nomos_ir.specs.declared.ids.TypeId.{TypeId}
 use Rattle.nomos_ir.specs.declared.lists.ProgramLists.{ProgramLists}
 use Rattle.nomos_ir.specs.declared.type_node.TypeNode.{TypeNode}
 use Rattle.nomos_ir.specs.declared.ids.Label.{Label}
-use Rattle.nomos_ir.specs.declared.type_node.Branch.{Branch}
 use Rattle.nomos_ir.specs.declared.type_node.TypeAt.{TypeAt}
 use Rattle.nomos_ir.specs.declared.type_node.TypeNode.TheVariants as node
 use Rattle.nomos_ir.specs.Ids.{AllBelow, TypeInRange}
@@ -16,18 +13,17 @@ use Rattle.nomos_ir.specs.Nodes.{type_node}
 use Rattle.nomos_ir.specs.Program.{IsProgram}
 use Rattle.nomos_ir.specs.TypeParts.{type_parts}
 use Rattle.nomos_ir.proofs.NodeLaws.{All-at, type_node-at}
-use Rattle.nomos_types.specs.Branches.{goes_by}
-use Rattle.nomos_ir.specs.Unfold.{IsConstructor, Unfolds, constructor}
+use Rattle.nomos_ir.specs.Unfold.{Unfolds, constructor}
 use Rattle.nomos_ir.proofs.UnfoldLaws.{Unfolds-unique}
 use Rattle.nomos_types.specs.Amount.{Annotations, dths}
 use Rattle.nomos_types.specs.Equality.{SameHead, SameUnfolding, Agree, EqualTypes, EqualShapes, no_amounts}
 use Rattle.nomos_types.specs.Unfolding.{IsUnfolding}
-use Rattle.nomos_types.proofs.EqualityLaws.{same_head-map, equal-unfolded}
+use Rattle.nomos_types.proofs.EqualityLaws.{same_head-map, equal-unfolded, branch-below}
 use Rattle.nomos_equality.specs.declared.hop.Hop.{Hop}
 use Rattle.nomos_equality.specs.declared.hop.Hop.TheVariants as hop
 use Rattle.nomos_equality.specs.Differences.{SameForm, DifferAt}
 use Rattle.nomos_equality.specs.Paths.{PathLeads, ends, hops, part_by, paid_by, AtEqualPaths, StandAtEqualPaths}
-use Rattle.nomos_equality.proofs.HeadLaws.{goes-label, form-head, head-parts, head-worth}
+use Rattle.nomos_equality.proofs.HeadLaws.{form-head, head-parts, head-worth}
 
 -- related heads have the same form
 pub same-form : (R : TypeId → TypeId → Type 0) (p q : TypeNode) → SameHead no_amounts R p q → SameForm p q
@@ -169,14 +165,6 @@ node-behind lists t u n behind there =
     let same : behind.node ≡ n = cc in
     subst (λ (m : TypeNode). Unfolds lists t m) same behind.unfolds
 
--- and is a constructor
-pub node-constructs : (lists : ProgramLists) (t u : ℕ) (n : TypeNode) → IsUnfolding lists t u
-    → type_node lists u ≡ Some n → IsConstructor n
-node-constructs lists t u n behind there =
-    let found = behind.there in
-    let same : behind.node ≡ n = cc in
-    subst (λ (m : TypeNode). IsConstructor m) same behind.no_name
-
 -- agreement behind names is agreement
 pub agree-behind : (lists : ProgramLists) (x : Annotations) (n : ℕ) (a b u v : TypeId) → IsUnfolding lists a.0 u.0
     → IsUnfolding lists b.0 v.0 → Agree lists x n u v → Agree lists x n a b
@@ -223,18 +211,11 @@ stand-from_behind lists a b u v p left right stand =
 
 -- ---- numbers in range
 
-branch-in_range : (n : ℕ) (bs : List Branch) (l : Label) (s : TypeId) → AllBelow n (map (λ b. b.goes.0) bs)
-    → goes_by bs l ≡ Some s → s.0 < n
-branch-in_range n bs l s parts found =
-    let c = goes-label bs l s found in
-    All-contains (λ (k : ℕ). k < n) (map (λ b. b.goes.0) bs) s.0 parts
-    (contains-map (λ b. b.goes.0) bs c.0 s.0 c.1 (ap (λ (t : TypeId). t.0) c.3))
-
 -- the parts of a node in range are in range
 part-in_range : (n : ℕ) (node_at : TypeNode) (h : Hop) (s : TypeId) → AllBelow n (type_parts node_at)
     → part_by node_at h ≡ Some s → s.0 < n
-part-in_range n (node.Plus bs) (hop.Label l) s parts found = branch-in_range n bs l s parts found
-part-in_range n (node.With bs) (hop.Label l) s parts found = branch-in_range n bs l s parts found
+part-in_range n (node.Plus bs) (hop.Label l) s parts found = branch-below n bs l s parts found
+part-in_range n (node.With bs) (hop.Label l) s parts found = branch-below n bs l s parts found
 part-in_range n (node.Tensor a b) hop.Carried s parts found =
     let same : a ≡ s = cc in subst (λ (t : TypeId). t.0 < n) same (parts 0 0 (omega arith))
 part-in_range n (node.Tensor a b) hop.Next s parts found =

@@ -9,9 +9,10 @@ use Rattle.nomos_ir.specs.declared.ids.TypeId.{TypeId}
 use Rattle.nomos_ir.specs.declared.lists.ProgramLists.{ProgramLists}
 use Rattle.nomos_ir.specs.declared.type_node.TypeNode.{TypeNode}
 use Rattle.nomos_ir.specs.Unfold.{constructor}
+use Rattle.nomos_types.proofs.OccurrenceLaws.{contains-unmap}
 use Rattle.nomos_types.specs.Equality.{Agree, EqualShapes, no_amounts}
 use Rattle.nomos_types.specs.Unfolding.{IsUnfolding}
-use Rattle.nomos_types.proofs.EqualityLaws.{agree-same, agree-back, agree-through}
+use Rattle.nomos_types.proofs.EqualityLaws.{agree-same, agree-back, agree-through, no_dths}
 use Rattle.nomos_equality.specs.declared.hop.Hop.{Hop}
 use Rattle.nomos_equality.specs.declared.hop.Hop.TheVariants as hop
 use Rattle.nomos_equality.specs.declared.search.Origin.{Origin}
@@ -24,8 +25,7 @@ use Rattle.nomos_equality.specs.mirror.Linking.{Linked, same, along, back, throu
 use Rattle.nomos_equality.specs.mirror.Search.{IsFormed, IsMet, Classed, Meets, known, fresh, IsAt, HasNodes, GoesOn, GoesTo, stays, meets, Follows, HasForm, IsCompared, DifferHere, Trail, begins, onward, AreInOrder}
 use Rattle.nomos_equality.proofs.ClassLemmas.{linked-more}
 use Rattle.nomos_equality.proofs.ComparedLaws.{front-same, front-through}
-use Rattle.nomos_equality.proofs.HeadLaws.{form-head, no_dths}
-use Rattle.nomos_equality.proofs.ListLemmas.{contains-unmap}
+use Rattle.nomos_equality.proofs.HeadLaws.{form-head}
 use Rattle.nomos_equality.proofs.PathLaws.{agree-behind, node-behind, there-below}
 use Rattle.nomos_equality.proofs.VisitLemmas.{get-front, get-push, met-wider, follows-wider, follows-known, Reached, leads-push}
 

@@ -1,6 +1,6 @@
 -- How the hops to a visit are read back.
 use Rattle.std.proofs.Common.{◌≡◌, ◌<◌, ◌++◌, ◌+◌, ℕ, List, [], ◌∷◌, Option, Some, None, reverse, slice_get, length, refl, sym, ap, subst, ◌∙◌, arith, append_assoc}
-use Rattle.std.proofs.lemmas.List.{append-nil, reverse-append}
+use Rattle.std.proofs.lemmas.List.{reverse-append}
 use Rattle.std.proofs.lemmas.Option.{slice_get_within}
 use Rattle.nomos_equality.specs.declared.hop.Hop.{Hop}
 use Rattle.nomos_equality.specs.declared.search.Origin.{Origin}
@@ -19,18 +19,6 @@ pub record IsTrailFrom (visits : List Visit) (number : ℕ) (from : Option Origi
 abbrev pub trail_measure : Option Origin → ℕ
 trail_measure None = 0
 trail_measure (Some o) = o.visit + 1
-
--- at the visit itself
-pub trail-starts : (visits : List Visit) (number : ℕ) (v : Visit) → slice_get visits number ≡ Some v
-    → IsTrailFrom visits number v.from []
-trail-starts visits number v found =
-    record {
-      at = number;
-      visit = v;
-      there = found;
-      from_is = refl;
-      leads = λ front trail. subst (λ (l : List Hop). Trail visits number l) (sym (append-nil front)) trail;
-    }
 
 -- one hop further
 pub trail-onward : (visits : List Visit) (number : ℕ) (o : Origin) (path : List Hop) (v : Visit)
@@ -61,12 +49,3 @@ trail-inside visits number o path order trail =
     let earlier = order trail.at trail.visit o trail.there trail.from_is in
     let inside = slice_get_within visits trail.at trail.visit trail.there in
     omega arith
-
--- the reading ends
-pub trail-falls : (visits : List Visit) (o : Origin) (v : Visit) → AreInOrder visits → slice_get visits o.visit ≡ Some v
-    → trail_measure v.from < o.visit + 1
-trail-falls visits o v order found = by v.from refl
-  where
-    by : (from : Option Origin) → v.from ≡ from → trail_measure from < o.visit + 1
-    by None is = omega arith
-    by (Some p) is = let earlier = order o.visit v p found is in omega arith

@@ -1,7 +1,6 @@
 -- Lemmas of visits: what their nodes are, which types follow from them, and how they are reached.
 use Rattle.std.proofs.Common.{◌≡◌, ◌<◌, ◌⊎◌, inl, inr, ℕ, zero, suc, List, [], ◌∷◌, ◌++◌, length, get_or, Contains, Some, slice_get, Result, Ok, Err, OnOk, refl, sym, subst, arith}
 use Rattle.std.proofs.lemmas.List.Elements.{Contains-append_left}
-use Rattle.std.proofs.lemmas.Option.{slice_get_within, get_or_from_slice_get}
 use Rattle.nomos_ir.specs.declared.ids.Label.{Label}
 use Rattle.nomos_ir.specs.declared.ids.TypeId.{TypeId}
 use Rattle.nomos_ir.specs.declared.type_node.Branch.{Branch}
@@ -41,9 +40,6 @@ get-push [] y (suc i) x found = absurd cc
 get-push (z ∷ xs) y zero x found = inl found
 get-push (z ∷ xs) y (suc i) x found =
     elim (get-push xs y i x found) [ inl h ↦ inl h | inr h ↦ inr (omega (arith, h.0), h.1) ]
-
-pub contains-got : {X : Type 0} (xs : List X) (k : ℕ) (x : X) → slice_get xs k ≡ Some x → Contains xs x
-contains-got xs k x found = (k, slice_get_within xs k x found, get_or_from_slice_get xs k x x found)
 
 -- ---- what is met
 

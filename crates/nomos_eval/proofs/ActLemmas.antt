@@ -11,17 +11,17 @@ use Rattle.nomos_eval.specs.declared.act.Act.{Act}
 use Rattle.nomos_eval.specs.declared.act.Act.TheVariants as act
 use Rattle.nomos_eval.specs.declared.datum.Datum.{Datum}
 use Rattle.nomos_eval.specs.declared.datum.Datum.TheVariants as datum
-use Rattle.nomos_eval.specs.declared.machine.Machine.{Machine}
+use Rattle.nomos_eval.specs.declared.evaluator.Evaluator.{Evaluator}
 use Rattle.nomos_eval.specs.declared.numbers.Operator.{Operator}
 use Rattle.nomos_ir.specs.declared.fault.Fault.{Fault}
 use Rattle.nomos_ir.specs.declared.or_no_memory.OrNoMemory.{OrNoMemory}
 use Rattle.nomos_ir.specs.declared.or_no_memory.OrNoMemory.TheVariants as stop
-use Rattle.nomos_eval.specs.mirror.Machine.{held, scopes_held, IsSound, IsDone, Stops, Operated, top_datum, below_top}
+use Rattle.nomos_eval.specs.mirror.Evaluator.{held, scopes_held, IsSound, IsDone, Stops, Operated, top_datum, below_top}
 use Rattle.nomos_eval.specs.mirror.Operation.{operation}
 use Rattle.nomos_eval.specs.mirror.Rest.{Variables, rest, top, below}
 use Rattle.nomos_eval.specs.mirror.EvalTable.{datum_value, reach, capped}
 use Rattle.nomos_eval.proofs.AroundLemmas.{taken-more}
-use Rattle.nomos_eval.proofs.MachineLemmas.{values-more, scopes-more, values-higher, scopes-higher, last-list}
+use Rattle.nomos_eval.proofs.EvaluatorLemmas.{values-more, scopes-more, values-higher, scopes-higher, last-list}
 
 -- the topmost value, and those below it
 pub top-found : (lists : List ValueList) (ds : List Datum)
@@ -75,7 +75,7 @@ numbers-step program lists scopes todo operator old others x y n took =
     ∙ ap (λ c. go_on (on_numbers (operation operator) (datum_value lists x) (datum_value lists y) n)
     (λ v. rest (evaluation_from program) program scopes todo (v ∷ c))) others_is
 
-pub numbers-done : (operator : Operator) (old : Machine) (mid others values : List Datum) (x y d : Datum) → IsSound old
+pub numbers-done : (operator : Operator) (old : Evaluator) (mid others values : List Datum) (x y d : Datum) → IsSound old
     → y ≡ top_datum old.values → mid ≡ below_top old.values → x ≡ top_datum mid → others ≡ below_top mid
     → ((lists : List ValueList) (n : ℕ)
     → on_numbers (operation operator) (datum_value lists x) (datum_value lists y) n ≡ ends (datum_value lists d) n)
@@ -108,7 +108,7 @@ numbers-done operator old mid others values x y d sound last mid_is first others
       less = omega arith;
     })
 
-pub numbers-fault : (operator : Operator) (old : Machine) (mid others : List Datum) (x y : Datum)
+pub numbers-fault : (operator : Operator) (old : Evaluator) (mid others : List Datum) (x y : Datum)
     (why : OrNoMemory Fault) → y ≡ top_datum old.values → mid ≡ below_top old.values → x ≡ top_datum mid
     → others ≡ below_top mid → Operated operator x y (Err why) → Stops (act.Numbers operator) old why
 numbers-fault operator old mid others x y (stop.Answer f) last mid_is first others_is gave =
@@ -140,7 +140,7 @@ put-step program lists scopes todo old others x y n took =
     (λ v. rest (evaluation_from program) program scopes todo (v ∷ c))) others_is
 
 -- a list that was added is found
-added-step : (program : ProgramLists) (old : Machine) (vs : ValueList) (others : List Datum) (n : ℕ) → IsSound old
+added-step : (program : ProgramLists) (old : Evaluator) (vs : ValueList) (others : List Datum) (n : ℕ) → IsSound old
     → AllByRecursion (λ e. reach e ≤ length old.lists) others
     → rest (evaluation_from program) program (scopes_held old) old.todo (list vs ∷ map (datum_value old.lists) others) n
     ≡ rest (evaluation_from program) program
@@ -166,7 +166,7 @@ light v vs a b n a_is b_is small =
     ≤ max_weight = omega (arith, a_is, b_is, small) in search (tests, rules)) in
     ap (λ c. cond c (ends (list (value v vs)) n) (faults fault.ListLength)) within
 
-pub put-done : (old : Machine) (mid others values : List Datum) (lists : List ValueList) (x y : Datum)
+pub put-done : (old : Evaluator) (mid others values : List Datum) (lists : List ValueList) (x y : Datum)
     (place joined a b : ℕ) → IsSound old → y ≡ top_datum old.values → mid ≡ below_top old.values → x ≡ top_datum mid
     → others ≡ below_top mid → y ≡ datum.List place → a ≡ capped (datum_value old.lists x)
     → b ≡ capped (list (get_or old.lists place no_values)) → a + b < max_weight → joined ≡ length old.lists
@@ -190,7 +190,7 @@ put-done old mid others values lists x y place joined a b sound last mid_is firs
     let vs = value (datum_value old.lists x) (get_or old.lists place no_values) in
     let more = old.lists ++ vs ∷ [] in
     let longer : length more ≡ length old.lists + 1 = omega (arith, length-append old.lists (vs ∷ [])) in
-    let new : Machine = record {
+    let new : Evaluator = record {
       todo = old.todo;
       values = datum.List (length old.lists) ∷
           others;
@@ -212,7 +212,7 @@ put-done old mid others values lists x y place joined a b sound last mid_is firs
     }) added in
     let y_value : datum_value old.lists y
     ≡ list (get_or old.lists place no_values) = ap (datum_value old.lists) y_list in
-    let P : Machine → Type 0 = λ m. IsDone act.PutBefore old m in
+    let P : Evaluator → Type 0 = λ m. IsDone act.PutBefore old m in
     subst
     P
     (sym all)

@@ -68,13 +68,6 @@ looked-again a lists v p kept is =
       same = ap (λ o. unwrap_or o nought) (sym taken.same);
     }
 
--- a variable that has no value
-pub looked-none : (a : Around) (lists : List ValueList) (v : VarId) (d : Datum) → IsKept lists a
-    → reach d ≤ length lists → datum_value lists d ≡ unwrap_or (bound_to v.0 a.env.now) nought
-    → IsLookedUp a lists v a lists d
-looked-none a lists v d kept there same =
-    record { env = refl; grown = ([], sym (append-nil lists)); kept = kept; there = there; same = same }
-
 -- a value that is taken in now
 module _ (a : Around) (lists after : List ValueList) (v : VarId) (w : Value) (d : Datum) (kept : IsKept lists a)
     (bound : Some w ≡ bound_to v.0 a.env.now) (loaded : IsLoaded lists after w d) where

@@ -17,13 +17,13 @@ use Rattle.nomos_eval.specs.declared.act.Scope.{Scope}
 use Rattle.nomos_eval.specs.declared.around.Around.{Around}
 use Rattle.nomos_eval.specs.declared.datum.Datum.{Datum}
 use Rattle.nomos_eval.specs.declared.datum.Datum.TheVariants as datum
-use Rattle.nomos_eval.specs.declared.machine.Machine.{Machine}
-use Rattle.nomos_eval.specs.mirror.Machine.{held, scopes_held, values_found, IsSound, IsDoneFor, IsBinding, arguments_at, below_at, bound_on, with_parameter, top_datum, below_top}
+use Rattle.nomos_eval.specs.declared.evaluator.Evaluator.{Evaluator}
+use Rattle.nomos_eval.specs.mirror.Evaluator.{held, scopes_held, values_found, IsSound, IsDoneFor, IsBinding, arguments_at, below_at, bound_on, with_parameter, top_datum, below_top}
 use Rattle.nomos_eval.specs.mirror.Rest.{Variables, rest, seen_in, variables_at, top, arguments_on, below_by, ScopeIn}
 use Rattle.nomos_eval.specs.mirror.EvalTable.{datum_value}
 use Rattle.nomos_eval.proofs.ActLemmas.{top-found, below-found, top-in, below-in}
 use Rattle.nomos_eval.proofs.OpenLemmas.{at-held, todo-higher, scopes-in}
-use Rattle.nomos_eval.proofs.MachineLemmas.{at-scope}
+use Rattle.nomos_eval.proofs.EvaluatorLemmas.{at-scope}
 use Rattle.nomos_eval.proofs.RestLemmas.{go_on-next, rest-more}
 
 -- one more argument
@@ -88,28 +88,6 @@ module _ (names : List VarId) (count : ℕ) (first : List Datum) (before : List 
             (below-in n ds both.0, scopes-in n scopes s both.1 (top-in n ds both.0, at-scope n place scopes both.1));
       })))
 
--- no arguments yet
-pub bind-first : (names : List VarId) (count : ℕ) (first : List Datum) (before : List (List (VarId × Datum)))
-    (scopes : List (List (VarId × Datum))) (place : ℕ) → place ≡ length before → scopes ≡ before ++ [] ∷ []
-    → IsBinding names count first before count first scopes place
-bind-first names count first before scopes place place_is added =
-    let longer : length (before ++ [] ∷ []) ≡ length before + 1 = omega (arith, length-append before ([] ∷ [])) in
-    let Q : List (List (VarId × Datum)) → Type 0 = λ l. IsBinding names count first before count first l place in
-    let R : ℕ → Type 0 = λ p. IsBinding names count first before count first (before ++ [] ∷ []) p in
-    subst
-    Q
-    (sym added)
-    (subst
-    R
-    (sym place_is)
-    (record {
-      grown = ([] ∷ [], refl);
-      there = omega (arith, longer);
-      bound = ap (bound_on count names first) (get_or-append_seam before [] [] []);
-      under = refl;
-      sound = λ n first_in before_in. (first_in, scopes-in n before [] before_in tt);
-    }))
-
 -- parameters with their arguments, one by one
 zip-nil : (names : List VarId) → zip {X = Datum} names [] ≡ []
 zip-nil [] = refl
@@ -155,7 +133,7 @@ below-by-found : (lists : List ValueList) (k : ℕ) (ds : List Datum)
 below-by-found lists zero ds = refl
 below-by-found lists (suc k) ds = ap (below_by k) (below-found lists ds) ∙ below-by-found lists k (below_top ds)
 
-module _ (program : ProgramLists) (calls : ℕ) (f : FnId) (count : ℕ) (old : Machine) (names : List VarId)
+module _ (program : ProgramLists) (calls : ℕ) (f : FnId) (count : ℕ) (old : Evaluator) (names : List VarId)
     (ds : List Datum) (scopes : List (List (VarId × Datum))) (place : ℕ) (sound : IsSound old)
     (binding : IsBinding names count old.values old.scopes 0 ds scopes place) where
   grown_is : map (held old.lists) scopes

@@ -4,7 +4,7 @@ pub mod BeginLemmas
 pub mod BindLemmas
 pub mod ListLemmas
 pub mod LoadLemmas
-pub mod MachineLemmas
+pub mod EvaluatorLemmas
 pub mod NumberLemmas
 pub mod OpenLemmas
 pub mod RestLemmas

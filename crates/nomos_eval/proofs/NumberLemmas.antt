@@ -1,31 +1,15 @@
 -- Numbers of 64 bits.
-use Rattle.std.proofs.Common.{◌≡◌, ℕ, zero, suc, ℤ, pos, negsuc, ◌-ℤ◌, ◌*ℤ◌, Bool, true, false, cond, Option, Some, None, refl, sym, ap, ◌∙◌, arith, tests, rules}
-use Rattle.std.specs.Prelude.{FitsSigned, SomeIff, int_div, int_rem}
+use Rattle.std.proofs.Common.{◌≡◌, ℕ, zero, suc, ℤ, pos, negsuc, ◌-ℤ◌, ◌*ℤ◌, true, cond, refl, ap, ◌∙◌, arith, tests, rules}
+use Rattle.std.specs.Prelude.{FitsSigned, int_div, int_rem}
 use Rattle.std.specs.Int.{w64}
 use Rattle.std.proofs.lemmas.Int.{ints, quot-rem}
 use Rattle.nomos_ir.specs.declared.fault.Fault.TheVariants as fault
 use Rattle.nomos_ir.specs.Evaluation.{ends, faults, whole, has_64_bits, rest_of_division}
 use Rattle.nomos_ir.specs.Value.{int}
-use Rattle.nomos_eval.specs.mirror.Operation.{given, checked}
 
 pub has-fits : (z : ℤ) → FitsSigned w64 z → has_64_bits z ≡ true
 has-fits (pos n) fits = search (tests, rules, fits.sfits)
 has-fits (negsuc n) fits = search (tests, rules, fits.sfits)
-
-pub fits-has : (z : ℤ) → has_64_bits z ≡ true → FitsSigned w64 z
-fits-has (pos n) has = record { sfits = search (tests, rules) }
-fits-has (negsuc n) has = record { sfits = search (tests, rules) }
-
--- a number that was checked
-pub whole-checked : (z : ℤ) (o : Option ℤ) (n : ℕ) → SomeIff o (FitsSigned w64 z) z → whole z n ≡ given (checked o) n
-whole-checked z (Some v) n (fits, same) =
-    ap (λ b. cond b (ends (int z) n) (faults fault.Overflow)) (has-fits z fits) ∙ ap (λ x. ends (int x) n) (sym same)
-whole-checked z None n unfit = split (has_64_bits z) (fits-has z)
-  where
-    split : (b : Bool) → (b ≡ true → FitsSigned w64 z)
-        → cond b (ends (int z) n) (faults fault.Overflow) ≡ faults fault.Overflow
-    split true fits = absurd (unfit (fits refl))
-    split false fits = refl
 
 -- what the quotient leaves is the remainder
 minus-is : (x y : ℤ) → x -ℤ y *ℤ int_div x y ≡ int_rem x y

@@ -14,12 +14,12 @@ use Rattle.nomos_eval.specs.declared.act.Cases.{Cases}
 use Rattle.nomos_eval.specs.declared.act.Scope.{Scope}
 use Rattle.nomos_eval.specs.declared.datum.Datum.{Datum}
 use Rattle.nomos_eval.specs.declared.datum.Datum.TheVariants as datum
-use Rattle.nomos_eval.specs.declared.machine.Machine.{Machine}
-use Rattle.nomos_eval.specs.mirror.Machine.{held, scopes_held, IsSound, IsDone, top_datum, below_top}
+use Rattle.nomos_eval.specs.declared.evaluator.Evaluator.{Evaluator}
+use Rattle.nomos_eval.specs.mirror.Evaluator.{held, scopes_held, IsSound, IsDone, top_datum, below_top}
 use Rattle.nomos_eval.specs.mirror.Rest.{Variables, rest, follow, seen_in, variables_at, below, ScopeIn}
 use Rattle.nomos_eval.specs.mirror.EvalTable.{datum_value, reach}
 use Rattle.nomos_eval.proofs.ActLemmas.{top-found, below-found, top-in, below-in}
-use Rattle.nomos_eval.proofs.MachineLemmas.{at-scope}
+use Rattle.nomos_eval.proofs.EvaluatorLemmas.{at-scope}
 use Rattle.nomos_eval.proofs.RestLemmas.{go_on-next, rest-more}
 
 -- what is left is in scopes that are there, where more are added
@@ -71,7 +71,7 @@ open-step program lists scopes todo scope c old x xs n is =
     (λ v. rest (evaluation_from program) program scopes todo (v ∷ l))) (below-found lists old)
 
 -- a list is taken apart, with its head and its tail in two more scopes
-pub open-done : (scope : Scope) (c : Cases) (old : Machine) (mid : List Datum)
+pub open-done : (scope : Scope) (c : Cases) (old : Evaluator) (mid : List Datum)
     (first second : List (List (VarId × Datum))) (todo : List Act) (place : ℕ) (h : Datum) (t with_head with_tail : ℕ)
     → IsSound old → scope.variables < length old.scopes → datum.List place ≡ top_datum old.values
     → mid ≡ below_top old.values → (reach h ≤ place) × (t < place)
@@ -105,7 +105,7 @@ open-done scope c old mid first second todo place h t with_head with_tail sound 
     let longest : length whole ≡ length old.scopes
     + 2 = omega (arith, longer, length-append (old.scopes ++ s1 ∷ []) (s2 ∷ [])) in
     let inner : Scope = record { variables = length (old.scopes ++ s1 ∷ []); calls = scope.calls } in
-    let new : Machine = record {
+    let new : Evaluator = record {
       todo = act.Term inner c.full ∷
           old.todo;
       values = below_top old.values;
@@ -152,7 +152,7 @@ open-done scope c old mid first second todo place h t with_head with_tail sound 
     ∙ ap (held old.lists) (get_or-append_seam (old.scopes ++ s1 ∷ []) s2 [] [])
     ∙ ap (λ e. (c.tail, list (get_or old.lists t no_values)) ∷ (c.head, datum_value old.lists h) ∷ e)
     (sym (at-held old.lists scope.variables old.scopes))) in
-    let P : Machine → Type 0 = λ m. IsDone (act.Open scope c) old m in
+    let P : Evaluator → Type 0 = λ m. IsDone (act.Open scope c) old m in
     let held_whole : map (held old.lists) whole
     ≡ map (held old.lists) old.scopes ++ (held old.lists s1 ∷ held old.lists s2 ∷ []) = ap (map (held old.lists))
     (append_assoc old.scopes (s1 ∷ []) (s2 ∷ [])) ∙ map-append (held old.lists) old.scopes (s1 ∷ s2 ∷ []) in

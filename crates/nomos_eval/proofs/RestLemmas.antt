@@ -5,12 +5,11 @@ use Rattle.std.specs.List.{AllByRecursion}
 use Rattle.nomos_ir.specs.declared.ids.FnId.{FnId}
 use Rattle.nomos_ir.specs.declared.ids.TermId.{TermId}
 use Rattle.nomos_ir.specs.declared.lists.ProgramLists.{ProgramLists}
-use Rattle.nomos_ir.specs.Evaluation.{Environment, Evaluation, ends, faults, Counted, Evaluator, go_on, on_numbers, put_before, both, either, as_truth, opposite, chosen, taken_apart, bind_parts, two_of, each_of, body_evaluation}
+use Rattle.nomos_ir.specs.Evaluation.{Environment, Evaluation, ends, faults, Counted, Evaluator, go_on, on_numbers, put_before, both, either, as_truth, opposite, chosen, taken_apart, bind_parts, each_of, body_evaluation}
 use Rattle.nomos_ir.specs.Value.{Value}
 use Rattle.nomos_eval.specs.declared.act.Act.{Act}
 use Rattle.nomos_eval.specs.declared.act.Act.TheVariants as act
 use Rattle.nomos_eval.specs.declared.act.Scope.{Scope}
-use Rattle.nomos_eval.specs.declared.numbers.Operator.{Operator}
 use Rattle.nomos_eval.specs.mirror.Operation.{operation}
 use Rattle.nomos_eval.specs.mirror.Rest.{Variables, seen_in, top, below, arguments_on, below_by, follow, rest, argument_acts, ScopeIn}
 
@@ -24,13 +23,6 @@ pub go_on-next : (e : Evaluation) (f g : Value → Counted) → ((v : Value) (n 
     → go_on e f ≡ go_on e g
 go_on-next (ends v n) f g same = same v n
 go_on-next (faults why) f g same = refl
-
--- two terms, and what follows
-pub two_of-go_on : (part : TermId → Counted) (a b : TermId) (f : Value → Value → Counted) (n : ℕ) (g : Value → Counted)
-    → go_on (two_of part a b f n) g ≡ go_on (part a n) (λ v m. go_on (part b m) (λ w k. go_on (f v w k) g))
-two_of-go_on part a b f n g =
-    go_on-assoc (part a n) (λ v m. go_on (part b m) (f v)) g
-    ∙ go_on-next (part a n) _ _ (λ v m. go_on-assoc (part b m) (f v) g)
 
 -- values in front are the arguments, and those behind are below
 arguments-seam : (before values : List Value) → arguments_on (length before) (before ++ values) ≡ reverse before
@@ -51,26 +43,6 @@ each_of-next part (t ∷ ts) f g n same =
     each_of-next part ts (λ vs. f (v ∷ vs)) (λ vs. g (v ∷ vs)) m (λ vs. same (v ∷ vs)))
 
 module _ (from : Evaluator) (lists : ProgramLists) (scopes : Variables) where
-  -- an operator
-  pub leaves-numbers : (s : Scope) (a b : TermId) (operator : Operator) (todo : List Act) (values : List Value) (n : ℕ)
-      → go_on (two_of (follow from lists scopes s) a b (on_numbers (operation operator)) n)
-      (λ v. rest from lists scopes todo (v ∷ values))
-      ≡ rest from lists scopes (act.Term s a ∷ act.Term s b ∷ act.Numbers operator ∷ todo) values n
-  leaves-numbers s a b operator todo values n =
-      two_of-go_on (follow from lists scopes s) a b (on_numbers (operation operator)) n _
-
-  -- `::`
-  pub leaves-put : (s : Scope) (a b : TermId) (todo : List Act) (values : List Value) (n : ℕ)
-      → go_on (two_of (follow from lists scopes s) a b put_before n) (λ v. rest from lists scopes todo (v ∷ values))
-      ≡ rest from lists scopes (act.Term s a ∷ act.Term s b ∷ act.PutBefore ∷ todo) values n
-  leaves-put s a b todo values n = two_of-go_on (follow from lists scopes s) a b put_before n _
-
-  -- a part, and what is done with its value
-  pub leaves-part : (s : Scope) (a : TermId) (f : Value → Counted) (todo : List Act) (values : List Value) (n : ℕ)
-      → go_on (go_on (follow from lists scopes s a n) f) (λ v. rest from lists scopes todo (v ∷ values))
-      ≡ go_on (follow from lists scopes s a n) (λ w m. go_on (f w m) (λ v. rest from lists scopes todo (v ∷ values)))
-  leaves-part s a f todo values n = go_on-assoc (follow from lists scopes s a n) f _
-
   -- the arguments of a call
   pub leaves-arguments : (s : Scope) (f : FnId) (count : ℕ) (ts : List TermId) (before : List Value) (todo : List Act)
       (values : List Value) (n : ℕ) → count ≡ length before + length ts

@@ -1,9 +1,8 @@
 -- The steps of an evaluation, one after another.
-use Rattle.std.proofs.Common.{◌≡◌, ◌+◌, ◌<◌, ◌≤◌, ℕ, pos, true, false, nat_lt, List, ◌∷◌, Some, None, slice_get, Ok, Err, Result, sym, ap, ◌∙◌, subst, arith, tests, rules}
+use Rattle.std.proofs.Common.{◌≡◌, ◌+◌, ◌<◌, ◌≤◌, ℕ, true, false, nat_lt, slice_get, Ok, Err, Result, sym, ap, ◌∙◌, subst, arith, tests, rules}
 use Rattle.nomos_ir.specs.declared.fault.Fault.TheVariants as fault
 use Rattle.nomos_ir.specs.declared.ids.TermId.{TermId}
 use Rattle.nomos_ir.specs.declared.lists.ProgramLists.{ProgramLists}
-use Rattle.nomos_ir.specs.declared.term_node.TermNode.{TermNode}
 use Rattle.nomos_ir.specs.Evaluation.{faults, go_on, entered, counted, max_nodes}
 use Rattle.nomos_ir.proofs.EvaluationLaws.{evaluation_from, evaluation-step}
 use Rattle.nomos_eval.specs.declared.act.Act.{Act}
@@ -11,71 +10,28 @@ use Rattle.nomos_eval.specs.declared.act.Act.TheVariants as act
 use Rattle.nomos_eval.specs.declared.act.Scope.{Scope}
 use Rattle.nomos_eval.specs.declared.datum.Datum.{Datum}
 use Rattle.nomos_eval.specs.declared.datum.Datum.TheVariants as datum
-use Rattle.nomos_eval.specs.declared.machine.Machine.{Machine}
+use Rattle.nomos_eval.specs.declared.evaluator.Evaluator.{Evaluator}
 use Rattle.nomos_ir.specs.declared.fault.Fault.{Fault}
 use Rattle.nomos_ir.specs.declared.or_no_memory.OrNoMemory.{OrNoMemory}
 use Rattle.nomos_ir.specs.declared.or_no_memory.OrNoMemory.TheVariants as stop
-use Rattle.nomos_eval.specs.mirror.Machine.{scopes_held, left_of, left_with, IsSound, IsEntered, IsDoneFor, Does, DoesFor, StopsFor}
+use Rattle.nomos_eval.specs.mirror.Evaluator.{scopes_held, left_of, left_with, IsDoneFor, Does, DoesFor, StopsFor}
 use Rattle.nomos_eval.specs.mirror.Rest.{variables_at}
 use Rattle.nomos_eval.specs.mirror.EvalRun.{IsEnteredAt, IsStep, StepStops}
 
 -- what holds of every program holds of one
-pub for-one : (program : ProgramLists) (a : Act) (old new : Machine) (r : Result (Unit {0}) (OrNoMemory Fault))
+pub for-one : (program : ProgramLists) (a : Act) (old new : Evaluator) (r : Result (Unit {0}) (OrNoMemory Fault))
     → Does a old new r → DoesFor program a old new r
 for-one program a old new (Ok done) does = record { sound = does.sound; same = does.same program; less = does.less }
 for-one program a old new (Err (stop.Answer f)) does = does program
 for-one program a old new (Err stop.NoMemory) does = tt
 
-pub for-act : (program : ProgramLists) (a b : Act) (old new : Machine) (r : Result (Unit {0}) (OrNoMemory Fault))
+pub for-act : (program : ProgramLists) (a b : Act) (old new : Evaluator) (r : Result (Unit {0}) (OrNoMemory Fault))
     → a ≡ b → Does b old new r → DoesFor program a old new r
 for-act program a b old new r same does =
     let P : Act → Type 0 = λ x. DoesFor program x old new r in subst P (sym same) (for-one program b old new r does)
 
-pub for-call : (program : ProgramLists) (a b : Act) (old new : Machine) (r : Result (Unit {0}) (OrNoMemory Fault))
-    → a ≡ b → DoesFor program b old new r → DoesFor program a old new r
-for-call program a b old new r same does =
-    let P : Act → Type 0 = λ x. DoesFor program x old new r in subst P (sym same) does
-
--- a term with a node, and one without
-pub entered-some : (program : ProgramLists) (scope : Scope) (t : TermId) (x : TermNode) (old new : Machine)
-    → Some x ≡ slice_get program.terms t.0 → IsEntered scope x old new → IsEnteredAt program scope t old new
-entered-some program scope t x old new there is =
-    record {
-      sound = is.sound;
-      same =
-          λ n. ap (λ o. go_on (entered program (evaluation_from program) scope.calls
-          (variables_at (scopes_held old) scope) o n) (left_with program old)) (sym there)
-          ∙ is.same program n;
-      little = is.little;
-    }
-
-pub entered-none : (program : ProgramLists) (scope : Scope) (t : TermId) (old : Machine) (values : List Datum)
-    → IsSound old → None ≡ slice_get program.terms t.0 → values ≡ datum.Int (pos 0) ∷ old.values
-    → IsEnteredAt program scope t old
-    (record { todo = old.todo; values = values; lists = old.lists; scopes = old.scopes; around = old.around })
-entered-none program scope t old values sound none pushed =
-    let P : List Datum → Type 0 = λ l.
-    IsEnteredAt program scope t old
-    (record { todo = old.todo; values = l; lists = old.lists; scopes = old.scopes; around = old.around }) in
-    subst
-    P
-    (sym pushed)
-    (record {
-      sound = record {
-        todo = sound.todo;
-        values = (omega arith, sound.values);
-        scopes = sound.scopes;
-        kept =
-            sound.kept;
-      };
-      same =
-          λ n. ap (λ o. go_on (entered program (evaluation_from program) scope.calls
-          (variables_at (scopes_held old) scope) o n) (left_with program old)) (sym none);
-      little = omega arith;
-    })
-
 -- a term is a step
-pub step-term : (program : ProgramLists) (a : Act) (scope : Scope) (t : TermId) (old new : Machine) (n : ℕ)
+pub step-term : (program : ProgramLists) (a : Act) (scope : Scope) (t : TermId) (old new : Evaluator) (n : ℕ)
     → a ≡ act.Term scope t → n < max_nodes → IsEnteredAt program scope t old new → IsStep program a old n new (n + 1)
 step-term program a scope t old new n same few is =
     let on : nat_lt n max_nodes ≡ true = search (tests, rules) in
@@ -95,7 +51,7 @@ step-term program a scope t old new n same few is =
       less = omega (arith, is.little);
     })
 
-pub step-last : (program : ProgramLists) (a : Act) (scope : Scope) (t : TermId) (old : Machine) (n : ℕ)
+pub step-last : (program : ProgramLists) (a : Act) (scope : Scope) (t : TermId) (old : Evaluator) (n : ℕ)
     → a ≡ act.Term scope t → max_nodes ≤ n → left_of program a old n ≡ faults fault.TermSteps
 step-last program a scope t old n same past =
     let off : nat_lt n max_nodes ≡ false = search (tests, rules) in
@@ -106,12 +62,12 @@ step-last program a scope t old n same past =
     (variables_at (scopes_held old) scope) (slice_get program.terms t.0)) n) (left_with program old)) off
 
 -- anything else is a step
-pub step-done : (program : ProgramLists) (a : Act) (old new : Machine) (n : ℕ) → n ≤ max_nodes
+pub step-done : (program : ProgramLists) (a : Act) (old new : Evaluator) (n : ℕ) → n ≤ max_nodes
     → IsDoneFor program a old new → IsStep program a old n new n
 step-done program a old new n few done =
     record { sound = done.sound; same = done.same n; few = few; less = omega (arith, done.less) }
 
-pub step-stops : (program : ProgramLists) (a : Act) (old : Machine) (n : ℕ) (why : OrNoMemory Fault)
+pub step-stops : (program : ProgramLists) (a : Act) (old : Evaluator) (n : ℕ) (why : OrNoMemory Fault)
     → StopsFor program a old why → StepStops program a old n why
 step-stops program a old n (stop.Answer f) stops = stops n
 step-stops program a old n stop.NoMemory stops = tt

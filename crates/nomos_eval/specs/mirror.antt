@@ -3,7 +3,7 @@ pub mod Around
 pub mod Begin
 pub mod ListCell
 pub mod Load
-pub mod Machine
+pub mod Evaluator
 pub mod Operation
 pub mod Rest
 pub mod EvalRun

@@ -1,11 +1,11 @@
 //! How what is left to do is done, other than to enter a term or a function.
 ghost use Rattle.std.specs.Prelude.{◌≡◌, ◌<◌, length};
 ghost use Rattle.nomos_eval.specs.declared.act.Act.TheVariants as act;
-ghost use Rattle.nomos_eval.specs.mirror.Machine.{IsSound, Does, IsGiven, Operated, top_datum, below_top};
+ghost use Rattle.nomos_eval.specs.mirror.Evaluator.{IsSound, Does, IsGiven, Operated, top_datum, below_top};
 
 use crate::act::{Act, Scope};
 use crate::datum::Datum;
-use crate::machine::{Machine, plan};
+use crate::evaluator::{Evaluator, plan};
 use crate::numbers::{Given, Operator, operate};
 use nomos_ir::fault::Fault;
 use nomos_ir::ids::TermId;
@@ -28,16 +28,16 @@ pub(crate) fn take(values: &mut Stack<Datum>) -> Datum
 
 /// An operator takes the two topmost values.
 pub(crate) fn numbers(
-    machine: &mut Machine<'_>,
+    evaluator: &mut Evaluator<'_>,
     operator: Operator,
 ) -> Result<(), OrNoMemory<Fault>>
-    requires { IsSound machine.old }
-    ensures { Does (act.Numbers operator) machine.old machine.new result }
+    requires { IsSound evaluator.old }
+    ensures { Does (act.Numbers operator) evaluator.old evaluator.new result }
 {
-    let right = take(&mut machine.values);
-    let left = take(&mut machine.values);
+    let right = take(&mut evaluator.values);
+    let left = take(&mut evaluator.values);
     let value = number_of(operator, left, right)?;
-    machine.values.push(value)?;
+    evaluator.values.push(value)?;
     Ok(())
 }
 
@@ -63,97 +63,100 @@ fn given(what: Given) -> Result<Datum, OrNoMemory<Fault>>
 }
 
 /// The topmost value is to be a truth value.
-pub(crate) fn truth(machine: &mut Machine<'_>) -> Result<(), OrNoMemory<Fault>>
-    requires { IsSound machine.old }
-    ensures { Does act.Truth machine.old machine.new result }
+pub(crate) fn truth(evaluator: &mut Evaluator<'_>) -> Result<(), OrNoMemory<Fault>>
+    requires { IsSound evaluator.old }
+    ensures { Does act.Truth evaluator.old evaluator.new result }
 {
-    let value = match take(&mut machine.values) {
+    let value = match take(&mut evaluator.values) {
         Datum::Bool(b) => Datum::Bool(b),
         _ => Datum::Int(0),
     };
-    machine.values.push(value)?;
+    evaluator.values.push(value)?;
     Ok(())
 }
 
 /// The topmost value is turned round.
-pub(crate) fn turn_round(machine: &mut Machine<'_>) -> Result<(), OrNoMemory<Fault>>
-    requires { IsSound machine.old }
-    ensures { Does act.Not machine.old machine.new result }
+pub(crate) fn turn_round(evaluator: &mut Evaluator<'_>) -> Result<(), OrNoMemory<Fault>>
+    requires { IsSound evaluator.old }
+    ensures { Does act.Not evaluator.old evaluator.new result }
 {
-    let value = match take(&mut machine.values) {
+    let value = match take(&mut evaluator.values) {
         Datum::Bool(b) => Datum::Bool(!b),
         _ => Datum::Int(0),
     };
-    machine.values.push(value)?;
+    evaluator.values.push(value)?;
     Ok(())
 }
 
 /// The part of an `if` that the topmost value takes.
 pub(crate) fn choose(
-    machine: &mut Machine<'_>,
+    evaluator: &mut Evaluator<'_>,
     scope: Scope,
     right: TermId,
     wrong: TermId,
 ) -> Result<(), OrNoMemory<Fault>>
-    requires sound { IsSound machine.old }
-    requires inside { scope.variables < length machine.old.scopes }
-    ensures { Does (act.Choose scope right wrong) machine.old machine.new result }
+    requires sound { IsSound evaluator.old }
+    requires inside { scope.variables < length evaluator.old.scopes }
+    ensures { Does (act.Choose scope right wrong) evaluator.old evaluator.new result }
 {
-    let part = match take(&mut machine.values) {
+    let part = match take(&mut evaluator.values) {
         Datum::Bool(true) => right,
         _ => wrong,
     };
-    machine.todo.push(Act::Term(scope, part))?;
+    evaluator.todo.push(Act::Term(scope, part))?;
     Ok(())
 }
 
 /// The topmost value is the left part of an `and`: the right one follows after true.
 pub(crate) fn both(
-    machine: &mut Machine<'_>,
+    evaluator: &mut Evaluator<'_>,
     scope: Scope,
     right: TermId,
 ) -> Result<(), OrNoMemory<Fault>>
-    requires sound { IsSound machine.old }
-    requires inside { scope.variables < length machine.old.scopes }
-    ensures { Does (act.Both scope right) machine.old machine.new result }
+    requires sound { IsSound evaluator.old }
+    requires inside { scope.variables < length evaluator.old.scopes }
+    ensures { Does (act.Both scope right) evaluator.old evaluator.new result }
 {
-    match take(&mut machine.values) {
-        Datum::Bool(true) => Ok(plan(&mut machine.todo, &[Act::Term(scope, right), Act::Truth])?),
-        Datum::Bool(false) => Ok(machine.values.push(Datum::Bool(false))?),
-        _ => Ok(machine.values.push(Datum::Int(0))?),
+    match take(&mut evaluator.values) {
+        Datum::Bool(true) => Ok(plan(&mut evaluator.todo, &[Act::Term(scope, right), Act::Truth])?),
+        Datum::Bool(false) => Ok(evaluator.values.push(Datum::Bool(false))?),
+        _ => Ok(evaluator.values.push(Datum::Int(0))?),
     }
 }
 
 /// The topmost value is the left part of an `or`: the right one follows after false.
 pub(crate) fn either(
-    machine: &mut Machine<'_>,
+    evaluator: &mut Evaluator<'_>,
     scope: Scope,
     right: TermId,
 ) -> Result<(), OrNoMemory<Fault>>
-    requires sound { IsSound machine.old }
-    requires inside { scope.variables < length machine.old.scopes }
-    ensures { Does (act.Either scope right) machine.old machine.new result }
+    requires sound { IsSound evaluator.old }
+    requires inside { scope.variables < length evaluator.old.scopes }
+    ensures { Does (act.Either scope right) evaluator.old evaluator.new result }
 {
-    match take(&mut machine.values) {
-        Datum::Bool(true) => Ok(machine.values.push(Datum::Bool(true))?),
-        Datum::Bool(false) => Ok(plan(&mut machine.todo, &[Act::Term(scope, right), Act::Truth])?),
-        _ => Ok(machine.values.push(Datum::Int(0))?),
+    match take(&mut evaluator.values) {
+        Datum::Bool(true) => Ok(evaluator.values.push(Datum::Bool(true))?),
+        Datum::Bool(false) => Ok(plan(
+            &mut evaluator.todo,
+            &[Act::Term(scope, right), Act::Truth],
+        )?),
+        _ => Ok(evaluator.values.push(Datum::Int(0))?),
     }
 }
 
 /// The value before the topmost one is put before the topmost one, a list.
-pub(crate) fn put_before(machine: &mut Machine<'_>) -> Result<(), OrNoMemory<Fault>>
-    requires { IsSound machine.old }
-    ensures { Does act.PutBefore machine.old machine.new result }
+pub(crate) fn put_before(evaluator: &mut Evaluator<'_>) -> Result<(), OrNoMemory<Fault>>
+    requires { IsSound evaluator.old }
+    ensures { Does act.PutBefore evaluator.old evaluator.new result }
 {
-    let list = take(&mut machine.values);
-    let value = take(&mut machine.values);
+    let list = take(&mut evaluator.values);
+    let value = take(&mut evaluator.values);
     let Datum::List(place) = list else {
-        return Ok(machine.values.push(Datum::Int(0))?);
+        return Ok(evaluator.values.push(Datum::Int(0))?);
     };
-    if machine.lists.weight(value) + machine.lists.weight(list) >= MAX_WEIGHT {
+    if evaluator.lists.weight(value) + evaluator.lists.weight(list) >= MAX_WEIGHT {
         return Err(OrNoMemory::Answer(Fault::ListLength));
     }
-    let joined = machine.lists.add_more(value, place)?;
-    Ok(machine.values.push(Datum::List(joined))?)
+    let joined = evaluator.lists.add_more(value, place)?;
+    Ok(evaluator.values.push(Datum::List(joined))?)
 }

@@ -1,12 +1,12 @@
 //! How functions are entered, and lists taken apart.
 ghost use Rattle.std.specs.Prelude.{◌≡◌, ◌<◌, length, map, slice_get, IfOk};
 ghost use Rattle.nomos_eval.specs.declared.act.Act.TheVariants as act;
-ghost use Rattle.nomos_eval.specs.mirror.Machine.{IsSound, IsBinding, Does, DoesFor};
+ghost use Rattle.nomos_eval.specs.mirror.Evaluator.{IsSound, IsBinding, Does, DoesFor};
 
 use crate::act::{Act, Cases, Scope};
 use crate::acts::take;
 use crate::datum::Datum;
-use crate::machine::Machine;
+use crate::evaluator::Evaluator;
 use nomos_ir::fault::Fault;
 use nomos_ir::find::find_function;
 use nomos_ir::ids::{FnId, VarId};
@@ -20,29 +20,31 @@ const MAX_CALLS: u32 = 1000;
 
 /// The topmost value is taken apart.
 pub(crate) fn open(
-    machine: &mut Machine<'_>,
+    evaluator: &mut Evaluator<'_>,
     scope: Scope,
     cases: Cases,
 ) -> Result<(), OrNoMemory<Fault>>
-    requires sound { IsSound machine.old }
-    requires inside { scope.variables < length machine.old.scopes }
-    ensures { Does (act.Open scope cases) machine.old machine.new result }
+    requires sound { IsSound evaluator.old }
+    requires inside { scope.variables < length evaluator.old.scopes }
+    ensures { Does (act.Open scope cases) evaluator.old evaluator.new result }
 {
-    let Datum::List(place) = take(&mut machine.values) else {
-        return Ok(machine.todo.push(Act::Term(scope, cases.full))?);
+    let Datum::List(place) = take(&mut evaluator.values) else {
+        return Ok(evaluator.todo.push(Act::Term(scope, cases.full))?);
     };
-    let Some((head, tail)) = machine.lists.parts(place) else {
-        return Ok(machine.todo.push(Act::Term(scope, cases.empty))?);
+    let Some((head, tail)) = evaluator.lists.parts(place) else {
+        return Ok(evaluator.todo.push(Act::Term(scope, cases.empty))?);
     };
-    let with_head = machine.scopes.add_more(cases.head, head, scope.variables)?;
-    let with_tail = machine
+    let with_head = evaluator
+        .scopes
+        .add_more(cases.head, head, scope.variables)?;
+    let with_tail = evaluator
         .scopes
         .add_more(cases.tail, Datum::List(tail), with_head)?;
     let inner = Scope {
         variables: with_tail,
         calls: scope.calls,
     };
-    Ok(machine.todo.push(Act::Term(inner, cases.full))?)
+    Ok(evaluator.todo.push(Act::Term(inner, cases.full))?)
 }
 
 // The variable of a parameter, if there is such a parameter.
@@ -56,23 +58,23 @@ fn name_at(pars: &[(VarId, Kind)], place: usize) -> Option<VarId>
 /// Takes so many topmost values, and binds them to the parameters, of which they are the arguments; those without a
 /// parameter are dropped. Gives the place of the parameters.
 fn bind(
-    machine: &mut Machine<'_>,
+    evaluator: &mut Evaluator<'_>,
     pars: &[(VarId, Kind)],
     count: usize,
 ) -> Result<usize, AllocError>
     ensures { IfOk result (λ place.
-        IsBinding (map (λ par. par.0) pars.now) count machine.old.values machine.old.scopes 0
-        machine.new.values machine.new.scopes place
-        × (machine.new.todo ≡ machine.old.todo) × (machine.new.lists ≡ machine.old.lists)
-        × (machine.new.around ≡ machine.old.around)) }
+        IsBinding (map (λ par. par.0) pars.now) count evaluator.old.values evaluator.old.scopes 0
+        evaluator.new.values evaluator.new.scopes place
+        × (evaluator.new.todo ≡ evaluator.old.todo) × (evaluator.new.lists ≡ evaluator.old.lists)
+        × (evaluator.new.around ≡ evaluator.old.around)) }
 {
-    let mut place = machine.scopes.add_nothing()?;
+    let mut place = evaluator.scopes.add_nothing()?;
     let mut left = count;
     while left > 0 {
         left -= 1;
-        let value = take(&mut machine.values);
+        let value = take(&mut evaluator.values);
         if let Some(name) = name_at(pars, left) {
-            place = machine.scopes.add_more(name, value, place)?;
+            place = evaluator.scopes.add_more(name, value, place)?;
         }
     }
     Ok(place)
@@ -81,25 +83,25 @@ fn bind(
 /// Enters the body of a function, with so many topmost values as its arguments.
 pub(crate) fn enter_function(
     lists: &ProgramLists,
-    machine: &mut Machine<'_>,
+    evaluator: &mut Evaluator<'_>,
     calls: u32,
     f: FnId,
     count: usize,
 ) -> Result<(), OrNoMemory<Fault>>
-    requires { IsSound machine.old }
-    ensures { DoesFor lists.now (act.Enter calls f count) machine.old machine.new result }
+    requires { IsSound evaluator.old }
+    ensures { DoesFor lists.now (act.Enter calls f count) evaluator.old evaluator.new result }
 {
     let Some(function) = find_function(lists, f) else {
-        let _place = bind(machine, &[], count)?;
-        return Ok(machine.values.push(Datum::Int(0))?);
+        let _place = bind(evaluator, &[], count)?;
+        return Ok(evaluator.values.push(Datum::Int(0))?);
     };
     if calls >= MAX_CALLS {
         return Err(OrNoMemory::Answer(Fault::Depth));
     }
-    let variables = bind(machine, function.pars.as_slice(), count)?;
+    let variables = bind(evaluator, function.pars.as_slice(), count)?;
     let inner = Scope {
         variables,
         calls: calls + 1,
     };
-    Ok(machine.todo.push(Act::Term(inner, function.body))?)
+    Ok(evaluator.todo.push(Act::Term(inner, function.body))?)
 }

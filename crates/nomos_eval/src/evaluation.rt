@@ -8,8 +8,8 @@ ghost use Rattle.nomos_eval.specs.mirror.TermsFound.{IsValue};
 
 use crate::act::{Act, Scope};
 use crate::around::Around;
+use crate::evaluator::Evaluator;
 use crate::lists::Lists;
-use crate::machine::Machine;
 use crate::run::run;
 use crate::scopes::Scopes;
 use crate::values::unload;
@@ -46,8 +46,12 @@ pub fn value_from(node: ValueNode) -> Value
 }
 
 // An evaluation before its first step: the term is left to do, and none of the variables around it is taken in.
-fn begin<'a>(alloc: Global, t: TermId, env: &'a [(VarId, Value)]) -> Result<Machine<'a>, AllocError>
-    ensures { IfOk result (λ machine. IsBegun t env.now machine) }
+fn begin<'a>(
+    alloc: Global,
+    t: TermId,
+    env: &'a [(VarId, Value)],
+) -> Result<Evaluator<'a>, AllocError>
+    ensures { IfOk result (λ evaluator. IsBegun t env.now evaluator) }
 {
     let mut scopes = Scopes::new(alloc);
     let variables = scopes.add_nothing()?;
@@ -57,7 +61,7 @@ fn begin<'a>(alloc: Global, t: TermId, env: &'a [(VarId, Value)]) -> Result<Mach
     };
     let mut todo = Stack::new(alloc);
     todo.push(Act::Term(scope, t))?;
-    Ok(Machine {
+    Ok(Evaluator {
         todo,
         values: Stack::new(alloc),
         lists: Lists::new(alloc),
@@ -70,7 +74,7 @@ fn begin<'a>(alloc: Global, t: TermId, env: &'a [(VarId, Value)]) -> Result<Mach
 }
 
 /// The value of the term among these variables, or the fault with which its evaluation ends; docs/LANGUAGE.md,
-/// "Evaluation of terms", says which. No depth of calls or of terms uses the machine's stack; only values with lists
+/// "Evaluation of terms", says which. No depth of calls or of terms uses the evaluator's stack; only values with lists
 /// inside lists do, in step with how deep they are, as when they are dropped. It takes time and memory in step with the
 /// nodes entered and with the values of those variables that are looked up, each counted once.
 pub fn eval(alloc: Global, program: &Program, t: TermId, env: &Env) -> Result<Evaluated, AllocError>
@@ -92,8 +96,8 @@ pub(crate) fn eval_node(
 ) -> Result<ValueNode, OrNoMemory<Fault>>
     ensures { IsValue result (term_evaluation lists.now env.now t) }
 {
-    let mut machine = begin(alloc, t, env)?;
-    let found = run(lists, &mut machine)?;
-    let node = unload(alloc, &machine.lists, found)?;
+    let mut evaluator = begin(alloc, t, env)?;
+    let found = run(lists, &mut evaluator)?;
+    let node = unload(alloc, &evaluator.lists, found)?;
     Ok(node)
 }

@@ -10,7 +10,7 @@ use crate::lists::Lists;
 use nomos_ir::value_node::ValueNode;
 use std::alloc::{AllocError, Global};
 
-/// Takes a value in. It uses the machine's stack in step with how deep lists are nested in the value.
+/// Takes a value in. It uses the evaluator's stack in step with how deep lists are nested in the value.
 pub(crate) fn load(lists: &mut Lists, node: &ValueNode) -> Result<Datum, AllocError>
     ensures { IfOk result (λ d. IsLoaded lists.old lists.new (value_of node.now) d) }
 {
@@ -30,7 +30,7 @@ pub(crate) fn load(lists: &mut Lists, node: &ValueNode) -> Result<Datum, AllocEr
     }
 }
 
-/// Gives a value out. It uses the machine's stack in step with how deep lists are nested in the value.
+/// Gives a value out. It uses the evaluator's stack in step with how deep lists are nested in the value.
 pub(crate) fn unload(alloc: Global, lists: &Lists, of: Datum) -> Result<ValueNode, AllocError>
     requires { reach of ≤ length lists.now }
     ensures { IfOk result (λ node. value_of node ≡ datum_value lists.now of) }

@@ -1,7 +1,7 @@
 -- What the opening pass knows after one pass more was split off or taken in, and the numbers at one station more.
-use Rattle.std.proofs.Common.{◌≡◌, ℕ, zero, suc, ◌+◌, cond, Option, Some, None, List, [], ◌∷◌, ◌++◌, map, refl, ap, sym, ◌∙◌, arith, add-one, append_assoc, append-nil, eq-eqb}
+use Rattle.std.proofs.Common.{◌≡◌, ℕ, zero, suc, ◌+◌, cond, Option, Some, None, List, [], ◌∷◌, ◌++◌, map, refl, ap, sym, ◌∙◌, arith, add-one, append_assoc, eq-eqb}
 use Rattle.std.proofs.lemmas.List.{map-append}
-use Rattle.std.proofs.lemmas.List.Elements.{All-nil, All-cons, All-head, All-tail, All-append, All-weaker, filter_map-append}
+use Rattle.std.proofs.lemmas.List.Elements.{All-head, All-tail, All-append, All-weaker, filter_map-append}
 use Rattle.std.proofs.lemmas.List.Sums.{fold-append}
 use Rattle.std.specs.Prelude.{All, option_to_list}
 use Rattle.std.specs.List.{cons_option}
@@ -12,7 +12,7 @@ use Rattle.nomos_floor.specs.FloorPass.{pass_number, seen_by, own_of, next_of, o
 use Rattle.nomos_floor.specs.FloorCrew.{without_numbers, longest, HasSplitOff, HasTakenIn, passes_at, numbers_at}
 use Rattle.nomos_floor.specs.declared.floor.Pass.{Pass}
 use Rattle.nomos_floor.specs.declared.crew.Station.{Station}
-use Rattle.nomos_floor.proofs.HistoryLaws.{prefix_self, prefix_trans}
+use Rattle.nomos_floor.proofs.HistoryLaws.{prefix_trans}
 
 -- the first number of a list, taken out
 without_number-first : (n : ℕ) (numbers : List ℕ) → without_number n (n ∷ numbers) ≡ numbers
@@ -39,16 +39,6 @@ cons_none None = refl
 cons_none (Some x) = refl
 
 module _ {W S E : Type 0} where
-  pub split_none : (pass : Pass W S E) → HasSplitOff 0 pass pass
-  split_none pass = record {
-    number = refl;
-    seen = refl;
-    own = refl;
-    next = omega arith;
-    out = sym (append-nil (out_of pass));
-    ended = refl;
-  }
-
   pub split_one_more : (count : ℕ) (first before after : Pass W S E) → HasSplitOff count first before
       → (pass_number after ≡ pass_number before) × (seen_by after ≡ seen_by before) × (own_of after ≡ own_of before)
       → next_of after ≡ next_of before + 1 → out_of after ≡ out_of before ++ next_of before ∷ []
@@ -65,37 +55,6 @@ module _ {W S E : Type 0} where
         (range_with_len-push (next_of first) count (next_of before) so_far.next)));
     ended = ended ∙ so_far.ended;
   }
-
-  pub took_none : (pass : Pass W S E) → HasTakenIn [] pass pass
-  took_none pass = record {
-    number = refl;
-    own = refl;
-    next = refl;
-    seen = refl;
-    begins = prefix_self (seen_by pass);
-    begins_each = All-nil (λ other. IsPrefix (seen_by other) (seen_by pass));
-    out = refl;
-    ended = sym (append-nil (ended_of pass));
-  }
-
-  pub took_one : (other before after : Pass W S E) → seen_by after ≡ longer (seen_by before) (seen_by other)
-      → IsPrefix (seen_by before) (seen_by after) × IsPrefix (seen_by other) (seen_by after)
-      → out_of after ≡ without_number (pass_number other) (out_of before)
-      → ended_of after ≡ ended_of before ++ (pass_number other, own_of other) ∷ []
-      → (pass_number after ≡ pass_number before) × (next_of after ≡ next_of before) × (own_of after ≡ own_of before)
-      → HasTakenIn (other ∷ []) before after
-  took_one other before after seen begins out ended kept =
-      let Began : Pass W S E → Type 0 = λ pass. IsPrefix (seen_by pass) (seen_by after) in
-      record {
-        number = kept.0;
-        own = kept.2;
-        next = kept.1;
-        seen = seen;
-        begins = begins.0;
-        begins_each = All-cons Began other [] begins.1 (All-nil Began);
-        out = out;
-        ended = ended;
-      }
 
   pub took_more : (passes more : List (Pass W S E)) (first before after : Pass W S E) → HasTakenIn passes first before
       → HasTakenIn more before after → HasTakenIn (passes ++ more) first after

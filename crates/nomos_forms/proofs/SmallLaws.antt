@@ -4,7 +4,7 @@ use Rattle.std.proofs.lemmas.Bool.{cases_lt}
 use Rattle.std.proofs.lemmas.List.{get_or_past}
 use Rattle.std.proofs.lemmas.List.Elements.{All-contains}
 use Rattle.nomos_forms.specs.Bounds.{IsSmall, IsRow}
-use Rattle.nomos_forms.specs.Refuting.{coef_in, least_in, IsOneOf}
+use Rattle.nomos_forms.specs.Refuting.{coef_in, IsOneOf}
 use Rattle.nomos_forms.specs.declared.row.Row.{Row}
 use Rattle.nomos_forms.specs.declared.verdict.Of.{Of}
 use Rattle.nomos_forms.specs.declared.verdict.Of.TheVariants as of
@@ -22,7 +22,3 @@ small_coef n rows star (of.Row row) h i = get_small row.coefs (star - 1) (All-co
     get_small : (cs : List ℤ) (k : ℕ) → All IsSmall cs → IsSmall (get_or cs k (pos 0))
     get_small cs k all = ⊎_elim (λ lt. all k (pos 0) lt) (λ le. subst IsSmall (sym (get_or_past cs k (pos 0) le))
         (omega arith)) (cases_lt k (length cs))
-
-pub small_least : (n : ℕ) (rows : List Row) (o : Of) → All (IsRow n) rows → IsOneOf n rows o → IsSmall (least_in o)
-small_least n rows (of.Star own) h i = omega arith
-small_least n rows (of.Row row) h i = (All-contains (IsRow n) rows row h i).least

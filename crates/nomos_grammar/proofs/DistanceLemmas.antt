@@ -93,9 +93,6 @@ nearer n p side rest m =
 abbrev pub steps_left : List Part → ℕ
 steps_left parts = 20 * distance parts + length parts
 
-pub fewer_behind_mark : (m : Mark) (rest : List Part) → steps_left rest < steps_left (part.Mark m ∷ rest)
-fewer_behind_mark m rest = omega arith
-
 pub fewer_replaced : (n : Nonterminal) (side rest : List Part) → IsAmong side (alternatives n) →
     steps_left (side ++ rest) < steps_left (part.Nonterminal n ∷ rest)
 fewer_replaced n [] rest m =

@@ -18,7 +18,7 @@ use Rattle.nomos_grammar.specs.Counting.{
 use Rattle.nomos_grammar.specs.Producing.{Event, token, mark as marked, tokens_in, Produces, counted, replaced}
 use Rattle.nomos_grammar.specs.mirror.Table.{chosen}
 use Rattle.nomos_grammar.specs.mirror.Stacks.{next_in, rises, distance}
-use Rattle.nomos_grammar.specs.mirror.ReaderStates.{events_of, HasRoom, IsReady, Leads}
+use Rattle.nomos_grammar.specs.mirror.ReaderStates.{events_of, HasRoom, Leads}
 use Rattle.nomos_grammar.proofs.GrammarLaws.{chosen_among, chosen_derives, stack_replaced}
 use Rattle.nomos_grammar.proofs.DistanceLemmas.{distance_replaced, low_replaced}
 
@@ -128,16 +128,6 @@ room_less c d e h r =
       before = omega (arith, h, r.before);
       stars = omega (arith, h, r.stars);
     }
-
--- the way begins
-pub leads_start : (next : Option Terminal) (parts : List Part) (c : Counts) → IsReady parts c →
-    Leads next parts c [] parts c
-leads_start next parts c ready = record {
-  counted = refl;
-  sound = λ events d. d;
-  complete = λ events e d. (events, refl, d);
-  ready = ready;
-}
 
 -- a mark is counted
 behind_mark : {m : Mark} {rest : List Part} {events : List Event} → Produces (part.Mark m ∷ rest) events →

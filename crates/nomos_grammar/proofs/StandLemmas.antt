@@ -167,7 +167,7 @@ never_fits front x t rest d c misfit m =
     misfit one.fits
 
 -- nor may any token where nothing has to follow
-nothing_left : {events : List Event} → Produces [] events → events ≡ []
+pub nothing_left : {events : List Event} → Produces [] events → events ≡ []
 nothing_left nothing = refl
 
 pub never_more : (front : List Placed) (x : Placed) (d : Counts) → Comes front x [] d → ¬ MayBecome (front ++ x ∷ [])

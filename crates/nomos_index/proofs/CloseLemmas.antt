@@ -1,28 +1,19 @@
 -- What is held, where gaps of objects and of names are closed.
-use Rattle.std.proofs.Common.{◌≡◌, ◌≤◌, ◌<◌, ◌∙◌, ℕ, zero, suc, Bool, true, false, cond, List, [], ◌∷◌, ◌++◌, All, IfSome, IsSome, length, Option, Some, None, refl, sym, ap, subst, arith}
-use Rattle.std.proofs.lemmas.Bool.{cond_both}
-use Rattle.std.proofs.lemmas.List.Elements.{All-cons, All-head, All-nil, All-tail}
+use Rattle.std.proofs.Common.{◌≡◌, ◌≤◌, ◌<◌, ℕ, zero, suc, Bool, true, false, cond, List, [], ◌∷◌, ◌++◌, IfSome, length, Option, Some, None, refl, sym, ap, subst, arith}
 use Rattle.std.proofs.lemmas.Option.{none-some, same_Some}
-use Rattle.std.specs.List.{slice_get, slice_index_or}
 use Rattle.std.specs.Option.{is_some, option_map, option_to_list}
-use Rattle.nomos_ir.specs.Value.{Value}
 use Rattle.nomos_ir.specs.declared.ids.TypeId.{TypeId}
 use Rattle.nomos_machine.specs.declared.object.Object.{Object}
 use Rattle.nomos_slots.specs.Beside.{close_rows}
-use Rattle.nomos_slots.specs.Cells.{Cell, name_in}
-use Rattle.nomos_slots.specs.Numbers.{close_gaps, found, numbers}
+use Rattle.nomos_slots.specs.Cells.{Cell}
+use Rattle.nomos_slots.specs.Numbers.{close_gaps}
 use Rattle.nomos_slots.specs.declared.numbered.Slot.{Slot}
 use Rattle.nomos_slots.proofs.GapLaws.{all-closed, ascending-close, filled, found-close}
 use Rattle.nomos_index.specs.Closing.{AreBeside}
-use Rattle.nomos_index.specs.Indexed.{AreMarkedTogether, HasSeats, Holding, IsHolding, IsIndexed, held_marked, held_now, state_of}
-use Rattle.nomos_index.specs.Objects.{AreBrought, AreHeld, BringsIt, ListRow, ValueRow, object_of, objects_of, types_of}
+use Rattle.nomos_index.specs.Indexed.{Holding, IsHolding, state_of}
+use Rattle.nomos_index.specs.Objects.{AreBrought, BringsIt, ListRow, ValueRow, object_of, objects_of, types_of}
 use Rattle.nomos_index.specs.Spanning.{Spans}
-use Rattle.nomos_index.specs.Together.{KeepsRoom, MarksTheSame}
-use Rattle.nomos_index.specs.declared.inside.Contents.{Contents}
-use Rattle.nomos_index.specs.declared.inside.Inside.TheInside.{Inside}
-use Rattle.nomos_index.specs.declared.inside.Numbers.{Numbers}
 use Rattle.nomos_index.specs.declared.kept.Kept.{Kept}
-use Rattle.nomos_index.proofs.TogetherLemmas.{gather, marked-holding, room-kept, together-same}
 
 -- ---- rows
 
@@ -212,44 +203,4 @@ objects_closed-is h from slots vs ls is_slots is_values is_lists =
 
 -- ---- what is marked
 
--- where all is marked together, the rows that are marked stand beside the slots
-beside-gathered : (d : Option Numbers) (s : Option (List (Slot Kept))) (v : Option (List ValueRow))
-    (l : Option (List ListRow)) (c : Option (List Cell)) (n : Option (List (Slot TypeId))) (b o : Option (List ℕ))
-    (r : Option (List (ℕ × Value))) → is_some s ≡ is_some d → is_some v ≡ is_some d → is_some l ≡ is_some d
-    → is_some c ≡ is_some d → is_some n ≡ is_some d → is_some b ≡ is_some d → is_some o ≡ is_some d
-    → is_some r ≡ is_some d → IfSome (gather d s v l c n b o r) IsHolding → AreBeside s v × AreBeside s l
-beside-gathered None None None None c n b o r hs hv hl hc hn hb ho hr is = (tt, tt)
-beside-gathered None (Some s) v l c n b o r hs hv hl hc hn hb ho hr is = absurd cc
-beside-gathered None None (Some v) l c n b o r hs hv hl hc hn hb ho hr is = absurd cc
-beside-gathered None None None (Some l) c n b o r hs hv hl hc hn hb ho hr is = absurd cc
-beside-gathered (Some d) None v l c n b o r hs hv hl hc hn hb ho hr is = absurd cc
-beside-gathered (Some d) (Some s) None l c n b o r hs hv hl hc hn hb ho hr is = absurd cc
-beside-gathered (Some d) (Some s) (Some v) None c n b o r hs hv hl hc hn hb ho hr is = absurd cc
-beside-gathered (Some d) (Some s) (Some v) (Some l) None n b o r hs hv hl hc hn hb ho hr is = absurd cc
-beside-gathered (Some d) (Some s) (Some v) (Some l) (Some c) None b o r hs hv hl hc hn hb ho hr is = absurd cc
-beside-gathered (Some d) (Some s) (Some v) (Some l) (Some c) (Some n) None o r hs hv hl hc hn hb ho hr is = absurd cc
-beside-gathered (Some d) (Some s) (Some v) (Some l) (Some c) (Some n) (Some b) None r hs hv hl hc hn hb ho hr is = absurd cc
-beside-gathered (Some d) (Some s) (Some v) (Some l) (Some c) (Some n) (Some b) (Some o) None hs hv hl hc hn hb ho hr is =
-    absurd cc
-beside-gathered (Some d) (Some s) (Some v) (Some l) (Some c) (Some n) (Some b) (Some o) (Some r) hs hv hl hc hn hb ho hr is =
-    (is.value_rows, is.list_rows)
-
-pub beside-marked : (c : Contents) (m : Option Numbers) → AreMarkedTogether c m → IfSome (held_marked c m) IsHolding
-    → AreBeside c.objects.marked c.values.marked × AreBeside c.objects.marked c.lists.marked
-beside-marked c m all is =
-    beside-gathered m c.objects.marked c.values.marked c.lists.marked c.channels.marked c.names.marked c.balances.marked
-    c.outside.marked c.results.marked all.objects all.values all.its_lists all.channels all.names all.balances all.outside
-    all.results is
-
 -- ---- an indexed state
-
-pub indexed-closed : (s : Inside) (after : Contents) → IsIndexed s → IsHolding (held_now after)
-    → MarksTheSame s.contents after → KeepsRoom s.contents after → HasSeats after
-    → IsIndexed (record s { contents = after })
-indexed-closed s after is holding marks keeps seats = record {
-  now = holding;
-  together = together-same s.contents after s.marked marks is.together;
-  marked = marked-holding s.contents after s.marked marks is.marked;
-  has_room = room-kept s.contents after s.room keeps is.has_room;
-  has_seats = seats;
-}

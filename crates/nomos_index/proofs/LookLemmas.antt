@@ -70,7 +70,7 @@ module _ {X : Type 0} where
 
 -- ---- objects
 
-number-own : (cells : List Cell) (n : ℕ) (v : ValueRow) (l : ListRow) (k : Kept)
+pub number-own : (cells : List Cell) (n : ℕ) (v : ValueRow) (l : ListRow) (k : Kept)
     → object_number (object_of cells n v l k) ≡ n
 number-own cells n v l (kept.Process k) = refl
 number-own cells n v l (kept.Message k) = refl

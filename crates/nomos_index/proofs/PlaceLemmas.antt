@@ -23,12 +23,7 @@ use Rattle.nomos_index.specs.Spanning.{Spans}
 use Rattle.nomos_index.specs.declared.kept.Kept.{Kept}
 use Rattle.nomos_index.specs.declared.kept.Kept.TheVariants as kept
 use Rattle.nomos_index.proofs.ChannelLemmas.{object-same}
-use Rattle.nomos_index.proofs.LookLemmas.{AllOver, over-other, slots-head, slots-tail}
-
-number_of-own : (cells : List Cell) (n : ℕ) (v : ValueRow) (l : ListRow) (k : Kept)
-    → object_number (object_of cells n v l k) ≡ n
-number_of-own cells n v l (kept.Process k) = refl
-number_of-own cells n v l (kept.Message k) = refl
+use Rattle.nomos_index.proofs.LookLemmas.{AllOver, over-other, slots-head, slots-tail, number-own}
 
 -- the object of a slot, if it is no gap
 abbrev pub object_in : List Cell → ℕ → ValueRow → ListRow → Option Kept → Option Object
@@ -60,7 +55,7 @@ module _ (before after : List Cell) (n : ℕ) (others : (p v : ℕ) → p ≢ n 
   put-own new o k None v l rest is = absurd (none-some k is)
   put-own new o k (Some q) v l rest is =
       ap (λ b. cond b (option_to_list new ++ rest) (object_of before n v l q ∷ change.put_at n new rest))
-      (eq-eqb (object_number (object_of before n v l q)) n (number_of-own before n v l q))
+      (eq-eqb (object_number (object_of before n v l q)) n (number-own before n v l q))
 
   put-further : (new : Option Object) (m : ℕ) (item : Option Kept) (v : ValueRow) (l : ListRow) (rest : List Object)
       → m ≢ n
@@ -69,7 +64,7 @@ module _ (before after : List Cell) (n : ℕ) (others : (p v : ℕ) → p ≢ n 
   put-further new m None v l rest other = refl
   put-further new m (Some q) v l rest other =
       ap (λ b. cond b (option_to_list new ++ rest) (object_of before m v l q ∷ change.put_at n new rest))
-      (ne_eqb (object_number (object_of before m v l q)) n (λ same. other (sym (number_of-own before m v l q) ∙ same)))
+      (ne_eqb (object_number (object_of before m v l q)) n (λ same. other (sym (number-own before m v l q) ∙ same)))
 
   pub objects-put : (slots : List (Slot Kept)) (vs : List ValueRow) (ls : List ListRow) (place : ℕ) (k : Kept)
       (item : Option Kept) (v : ValueRow) (l : ListRow) → length vs ≡ length slots → length ls ≡ length slots

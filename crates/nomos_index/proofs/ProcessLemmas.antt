@@ -4,7 +4,6 @@ use Rattle.std.proofs.lemmas.Option.{none-some, same_Some}
 use Rattle.std.specs.List.{slice_get}
 use Rattle.std.specs.Option.{option_map}
 use Rattle.nomos_machine.specs.Optional.{◌>>=◌}
-use Rattle.nomos_machine.specs.State.{State, process_at}
 use Rattle.nomos_machine.specs.declared.object.Process.{Process}
 use Rattle.nomos_parts.specs.SmallChanges.{Becomes, with_process}
 use Rattle.nomos_slots.specs.Cells.{name_in}
@@ -55,10 +54,6 @@ found-kept h is place n k at =
 pub spans-kept : (h : Holding) → IsHolding h → (place n : ℕ) (k : Kept) → kept_at h.slots place ≡ Some (n, k)
     → (w : ℕ) → IsSome (name_in h.cells n w) → Spans (Some k) w
 spans-kept h is place n k at w some = subst (λ o. Spans o w) (found-kept h is place n k at) (is.held n w some)
-
--- where no process has the number, nothing is said
-pub nobody-becomes : (s t : State) (pid : ℕ) (f : Process → Process) → process_at s pid ≡ None → Becomes s pid f t
-nobody-becomes s t pid f none p found = absurd (none-some p (sym none ∙ found))
 
 module _ (before after : Holding) (is : IsHolding before) (pid place : ℕ) (k next : KeptProcess) (values : ValueRow)
     (its_lists : ListRow) (at : ProcessIsAt before pid place k)

@@ -38,11 +38,3 @@ module _ (s : State) (old new : ℕ) where
   pub redirected-at_owner : (number : ℕ) → InOrder s.objects → owner s old ≡ Some number
       → redirected old new s.objects ≡ redirected_at number old new s.objects
   redirected-at_owner number order owned = ap redirects (owner-stands number order owned)
-
-  -- where nobody uses it, all stay
-  pub redirected-unowned : owner s old ≡ None → redirected old new s.objects ≡ s.objects
-  redirected-unowned unowned = ap redirects (none (user_of s.objects old) unowned)
-    where
-      none : (o : Option Object) → option_map object_number o ≡ None → o ≡ None
-      none None is = refl
-      none (Some u) is = absurd (none-some (object_number u) (sym is))

@@ -35,7 +35,7 @@ use Rattle.nomos_index.specs.declared.kept.Kept.TheVariants as kept
 use Rattle.nomos_index.specs.declared.kept.KeptMessage.{KeptMessage}
 use Rattle.nomos_index.specs.declared.kept.KeptProcess.{KeptProcess}
 use Rattle.nomos_index.proofs.AgainLemmas.{indexed-again}
-use Rattle.nomos_index.proofs.ChangingLemmas.{fewer-become, fewer-indexed}
+use Rattle.nomos_index.proofs.ChangingLemmas.{fewer-become}
 use Rattle.nomos_index.proofs.PlaceLemmas.{comes-holding, comes-state}
 use Rattle.nomos_index.proofs.ProcessLemmas.{slot-kept}
 use Rattle.nomos_index.proofs.RebindLemmas.{channels-each}
@@ -57,13 +57,6 @@ redirected-own objects old new number o own at =
     ap (λ (u : Option Object).
     change.put_all (map (λ o. (object_number o, Some (uses_instead old new o))) (option_to_list u)) objects) at
     ∙ ap (λ n. change.put_at n (Some (uses_instead old new o)) objects) own
-
--- where there is none, all stay
-pub redirected-absent : (objects : List Object) (old new number : ℕ) → object_at objects number ≡ None
-    → objects ≡ redirected_at number old new objects
-redirected-absent objects old new number none =
-    sym (ap (λ (u : Option Object).
-    change.put_all (map (λ o. (object_number o, Some (uses_instead old new o))) (option_to_list u)) objects) none)
 
 -- ---- it is a process
 
@@ -103,12 +96,6 @@ module _ (s : Inside) (is : IsIndexed s) (old new number place : ℕ) (k : KeptP
       names number w
       ∙ ap (λ b. cond b (option_map (instead_of old new) (name_in s.contents.channels.now number w))
       (name_in s.contents.channels.now number w)) (eq-eqb number number refl))
-
-  pub process-indexed : IsIndexed (record s { contents = record s.contents { channels = channels } })
-  process-indexed =
-      fewer-indexed s is number place k stands channels s.room others fewer
-      (same-names s.contents.channels.marked channels.marked marked) (omega arith)
-      (omega (arith, room, is.has_room.channels))
 
   pub process-redirected : state_of (held_now (record s.contents { channels = channels }))
       ≡ record (state_of (held_now s.contents))

@@ -3,7 +3,6 @@ use Rattle.std.proofs.Common.{◌≡◌, ◌∙◌, ◌<◌, ℕ, zero, suc, Boo
 use Rattle.std.proofs.lemmas.Option.{none-some, same_Some}
 use Rattle.std.specs.List.{slice_get, slice_index_or}
 use Rattle.std.specs.Option.{MatchOption, option_map, option_to_list}
-use Rattle.nomos_machine.specs.Objects.{object_number}
 use Rattle.nomos_machine.specs.Optional.{◌>>=◌}
 use Rattle.nomos_machine.specs.declared.object.Object.{Object}
 use Rattle.nomos_machine.specs.declared.object.Object.TheVariants as object
@@ -96,25 +95,6 @@ first-found test h is r first =
 abbrev shown_at : Holding → ℕ → ℕ × Kept → Option Object
 shown_at h place k =
     Some (object_of h.cells k.0 (slice_index_or h.value_rows place []) (slice_index_or h.list_rows place []) k.1)
-
--- the number of what stands at a place is that with which it is kept
-pub number-standing : (h : Holding) (place : ℕ) (o : Option (ℕ × Kept)) → kept_at h.slots place ≡ o
-    → option_map object_number (standing_at h place) ≡ option_map (λ k. k.0) o
-number-standing h place o is = ap (λ (o : Option (ℕ × Kept)). option_map object_number (o >>= shown_at h place)) is ∙ at o
-  where
-    row : ValueRow
-    row = slice_index_or h.value_rows place []
-
-    its_lists : ListRow
-    its_lists = slice_index_or h.list_rows place []
-
-    own : (n : ℕ) (k : Kept) → object_number (object_of h.cells n row its_lists k) ≡ n
-    own n (kept.Process k) = refl
-    own n (kept.Message k) = refl
-
-    at : (o : Option (ℕ × Kept)) → option_map object_number (o >>= shown_at h place) ≡ option_map (λ k. k.0) o
-    at None = refl
-    at (Some k) = ap Some (own k.0 k.1)
 
 pub process-standing : (h : Holding) (place n : ℕ) (k : KeptProcess) → kept_at h.slots place ≡ Some (n, kept.Process k)
     → standing_at h place ≡ Some (object.Process

@@ -1,8 +1,6 @@
 -- What becomes of the names of a process, one variable of its span after the other.
-use Rattle.std.proofs.Common.{◌≡◌, ◌≢◌, ◌≤◌, ◌<◌, ◌+◌, ◌∙◌, ◌&&◌, ◌⊎◌, ◌∷◌, ℕ, Bool, true, false, cond, eqb, eq-eqb, ne_eqb, List, length, drop, get_or, IsSome, Option, Some, None, refl, sym, ap, subst, inl, inr, arith}
+use Rattle.std.proofs.Common.{◌≡◌, ◌≢◌, ◌≤◌, ◌<◌, ◌∙◌, ◌&&◌, ◌⊎◌, ℕ, Bool, true, false, cond, eqb, eq-eqb, ne_eqb, List, drop, IsSome, Option, Some, None, refl, sym, ap, subst, inl, inr, arith}
 use Rattle.std.proofs.lemmas.Bool.{and_from, both_ways, cases_eq, cases_lt}
-use Rattle.std.proofs.lemmas.List.{at_drop_more}
-use Rattle.std.proofs.Math.ListN.{drop_of_length-le}
 use Rattle.std.specs.Option.{is_some}
 use Rattle.nomos_ir.specs.Bindings.{bound_to}
 use Rattle.nomos_ir.specs.declared.ids.VarId.{VarId}
@@ -51,13 +49,6 @@ module _ (f : Option ℕ → Option ℕ) (none : f None ≡ None) (process : ℕ
         | inr other ↦ others p v other ∙ sym (ap done (ne_eqb process p other))
       ]
 
-  -- where there is no span, nothing is to be done
-  pub done-none : (span : Option Span) → span ≡ None
-      → ((v : ℕ) → IsSome (name_in before process v) → HasVariable span v) → AreDone before
-  done-none None is spans =
-      by-process before (λ p v other. refl) (λ v. nothing-done v (spans v))
-  done-none (Some span) is spans = absurd cc
-
   module _ (low high : ℕ) (spans : (v : ℕ) → IsSome (name_in before process v) → (low ≤ v) × (v ≤ high)) where
     pub done-start : IsDoneBelow f process before low before
     done-start = record {
@@ -77,31 +68,6 @@ module _ (f : Option ℕ → Option ℕ) (none : f None ≡ None) (process : ℕ
               is.later v from
               ∙ nothing-done v (λ some. let to : v ≤ high = (spans v some).1 in absurd (omega arith))
         ])
-
-  -- one variable more is done
-  pub done-next : (variable : ℕ) (after next : List Cell) → IsDoneBelow f process before variable after
-      → ((p v : ℕ) → name_in next p v
-      ≡ cond (eqb process p && eqb variable v) (f (name_in after p v)) (name_in after p v))
-      → IsDoneBelow f process before (variable + 1) next
-  done-next variable after next is names =
-      let chosen : ℕ → ℕ → Bool → Option ℕ = λ p v b. cond b (f (name_in after p v)) (name_in after p v) in
-      let kept = λ (v : ℕ) (other : variable ≢ v).
-      names process v ∙ ap (chosen process v) (no-other (eqb process process) _ (ne_eqb variable v other)) in
-      record {
-        others = λ p v other.
-            names p v
-            ∙ ap (λ b. chosen p v (b && eqb variable v)) (ne_eqb process p other)
-            ∙ is.others p v other;
-        done = λ v below.
-            elim (cases_eq variable v) [
-              | inl same ↦
-                  names process v
-                  ∙ ap (chosen process v) (and_from _ _ (eq-eqb process process refl) (eq-eqb variable v same))
-                  ∙ ap f (is.later v (omega arith))
-              | inr other ↦ kept v other ∙ is.done v (omega arith)
-            ];
-        later = λ v from. let other : variable ≢ v = omega arith in kept v other ∙ is.later v (omega arith);
-      }
 
 -- a variable is bound beside others
 pub bound-spans : (before after : List Cell) (pid v name : ℕ) (span : Option Span) (next : Span)
@@ -142,31 +108,3 @@ unbound-fewer before after pid v names w some =
 abbrev pub AreSpanned : List (VarId × ℕ) → ℕ → Option Span → Type 0
 AreSpanned pairs at span =
     (v : ℕ) → IsSome (bound_to v pairs) → HasVariable span v ⊎ IsSome (bound_to v (drop at pairs))
-
-pub spanned-next : (pairs : List (VarId × ℕ)) (at : ℕ) (d : VarId × ℕ) (span : Option Span) (next : Span)
-    → at < length pairs → AreSpanned pairs at span → ((v : ℕ) → HasVariable span v → HasVariable (Some next) v)
-    → HasVariable (Some next) (get_or pairs at d).0.0 → AreSpanned pairs (at + 1) (Some next)
-spanned-next pairs at d span next within is more own v some =
-    elim (is v some) [
-      | inl has ↦ inl (more v has)
-      | inr later ↦
-          let rest = bound_to v (drop (at + 1) pairs) in
-          let step : IsSome (bound_to v (get_or pairs at d ∷ drop (at + 1) pairs)) =
-          subst (λ (o : Option ℕ). IsSome o) (at_drop_more (bound_to v) pairs at d within) later in
-          elim (cases_eq (get_or pairs at d).0.0 v) [
-            | inl same ↦ inl (subst (HasVariable (Some next)) same own)
-            | inr other ↦
-                inr (subst (λ (o : Option ℕ). IsSome o)
-                (ap (λ b. cond b (Some (get_or pairs at d).1) rest) (ne_eqb (get_or pairs at d).0.0 v other)) step)
-          ]
-    ]
-
-pub spanned-all : (pairs : List (VarId × ℕ)) (at : ℕ) (span : Option Span) → length pairs ≤ at
-    → AreSpanned pairs at span → (v : ℕ) → IsSome (bound_to v pairs) → HasVariable span v
-spanned-all pairs at span past is v some =
-    elim (is v some) [
-      | inl has ↦ has
-      | inr later ↦
-          let none : bound_to v (drop at pairs) ≡ None = ap (bound_to v) (drop_of_length-le pairs past) in
-          absurd (both_ways _ (ap is_some none) later)
-    ]

@@ -41,16 +41,6 @@ module _ (cells : List Cell) where
   carried-step (s ∷ slots) (v ∷ vs) (l ∷ ls) (suc place) long also within =
       carried-step slots vs ls place (omega arith) (omega arith) (omega arith)
 
-  carried-end : (slots : List (Slot Kept)) (vs : List ValueRow) (ls : List ListRow) (place : ℕ)
-      → length vs ≡ length slots → length ls ≡ length slots → place ≡ length slots → carried_from slots vs ls place ≡ 0
-  carried-end [] vs ls zero long also end = refl
-  carried-end [] vs ls (suc place) long also end = absurd (omega arith)
-  carried-end (s ∷ slots) [] ls place long also end = absurd (omega arith)
-  carried-end (s ∷ slots) (v ∷ vs) [] place long also end = absurd (omega arith)
-  carried-end (s ∷ slots) (v ∷ vs) (l ∷ ls) zero long also end = absurd (omega arith)
-  carried-end (s ∷ slots) (v ∷ vs) (l ∷ ls) (suc place) long also end =
-      carried-end slots vs ls place (omega arith) (omega arith) (omega arith)
-
 -- the same of what is held
 abbrev pub carried_on : Holding → ℕ → ℕ
 carried_on h place = carried_from h.cells h.slots h.value_rows h.list_rows place
@@ -61,9 +51,6 @@ carried-next h is place within =
     let same : suc place ≡ place + 1 = omega arith in
     carried-step h.cells h.slots h.value_rows h.list_rows place is.value_rows is.list_rows within
     ∙ ap (λ (n : ℕ). purse_in (standing_at h place) + carried_on h n) same
-
-pub carried-last : (h : Holding) → IsHolding h → (place : ℕ) → place ≡ length h.slots → carried_on h place ≡ 0
-carried-last h is place end = carried-end h.cells h.slots h.value_rows h.list_rows place is.value_rows is.list_rows end
 
 -- ---- names that have types
 

@@ -88,11 +88,6 @@ module _ (objects : List Object) where
       none (Some t) b gap = absurd cc
   tidied-gap (e ∷ names) (suc place) s at gap = ap (λ xs. e ∷ xs) (tidied-gap names place s at gap)
 
-  pub numbers-tidied : (names : List (Slot TypeId)) (place : ℕ) → numbers (tidied_at objects place names) ≡ numbers names
-  numbers-tidied [] place = refl
-  numbers-tidied (e ∷ names) zero = refl
-  numbers-tidied (e ∷ names) (suc place) = ap (λ ns. e.number ∷ ns) (numbers-tidied names place)
-
   -- the first names are tidied
   abbrev pub tidied_first : ℕ → List (Slot TypeId) → List (Slot TypeId)
   tidied_first place names = map (tidied_slot objects) (take place names) ++ drop place names
@@ -109,14 +104,6 @@ module _ (objects : List Object) where
   tidied-next names place within =
       let same : suc place ≡ place + 1 = omega arith in
       tidied-more names place within ∙ ap (λ (n : ℕ). tidied_first n names) same
-
-  pub tidied-all : (names : List (Slot TypeId)) (place : ℕ) → place ≡ length names
-      → tidied_first place names ≡ map (tidied_slot objects) names
-  tidied-all [] zero end = refl
-  tidied-all [] (suc place) end = absurd (omega arith)
-  tidied-all (e ∷ names) zero end = absurd (omega arith)
-  tidied-all (e ∷ names) (suc place) end =
-      ap (λ xs. tidied_slot objects e ∷ xs) (tidied-all names place (omega arith))
 
   -- the types of names that are mentioned stay
   pub types-tidied : (names : List (Slot TypeId))

@@ -1,5 +1,5 @@
 -- Where parts hold, and mark, the same, the state is the same; and what is marked together stays so.
-use Rattle.std.proofs.Common.{◌≡◌, ◌∙◌, ◌<◌, ℕ, List, length, All, IfSome, IsSome, Option, Some, None, refl, sym, ap, subst, arith}
+use Rattle.std.proofs.Common.{◌≡◌, ◌∙◌, ◌<◌, ℕ, List, length, All, IfSome, IsSome, Option, Some, None, refl, sym, ap, subst}
 use Rattle.std.specs.Option.{is_some, option_map}
 use Rattle.nomos_ir.specs.Value.{Value}
 use Rattle.nomos_ir.specs.declared.ids.TypeId.{TypeId}
@@ -8,9 +8,9 @@ use Rattle.nomos_slots.specs.Cells.{Cell}
 use Rattle.nomos_slots.specs.Numbers.{IsAscending, numbers}
 use Rattle.nomos_slots.specs.Tables.{HaveSameNames}
 use Rattle.nomos_slots.specs.declared.numbered.Slot.{Slot}
-use Rattle.nomos_index.specs.Indexed.{AreMarkedTogether, HasRoom, Holding, IsHolding, held_marked, state_of}
+use Rattle.nomos_index.specs.Indexed.{AreMarkedTogether, Holding, IsHolding, held_marked, state_of}
 use Rattle.nomos_index.specs.Objects.{AreBrought, AreHeld, ListRow, ValueRow}
-use Rattle.nomos_index.specs.Together.{HoldsTheSame, KeepsRoom, MarksTheSame}
+use Rattle.nomos_index.specs.Together.{HoldsTheSame, MarksTheSame}
 use Rattle.nomos_index.specs.declared.inside.Contents.{Contents}
 use Rattle.nomos_index.specs.declared.inside.Numbers.{Numbers}
 use Rattle.nomos_index.specs.declared.kept.Kept.{Kept}
@@ -184,12 +184,3 @@ same-names before after same = subst (HaveSameNames before) (sym same) (own befo
     own None = tt
 
 -- ---- room
-
-pub room-kept : (before after : Contents) (room : ℕ) → KeepsRoom before after → HasRoom before room → HasRoom after room
-room-kept before after room keeps has = record {
-  objects = omega (arith, keeps.objects, has.objects);
-  values = omega (arith, keeps.values, has.values);
-  its_lists = omega (arith, keeps.its_lists, has.its_lists);
-  channels = omega (arith, keeps.channels, has.channels);
-  names = omega (arith, keeps.names, has.names);
-}

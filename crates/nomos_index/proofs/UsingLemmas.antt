@@ -8,6 +8,7 @@ use Rattle.std.proofs.lemmas.Option.{none-some}
 use Rattle.std.specs.List.{slice_get, slice_index_or, list_any, AllByRecursion}
 use Rattle.std.specs.Map.{keys_of}
 use Rattle.std.specs.Option.{MatchOption, is_some, option_map, option_to_list}
+use Rattle.nomos_deeds.proofs.LinearNameLaws.{any-shown, any-there}
 use Rattle.nomos_ir.specs.Bindings.{bound_to, by_number, IsAscending}
 use Rattle.nomos_ir.specs.declared.ids.VarId.{VarId}
 use Rattle.nomos_ir.proofs.BindingLaws.{bindings_of-ascending}
@@ -36,37 +37,6 @@ use Rattle.nomos_index.proofs.LookLemmas.{process-stands, standing-found, standi
 use Rattle.nomos_index.proofs.SeekLemmas.{first-found as first-standing}
 
 -- ---- tests of lists
-
-opposite : {b : Bool} → b ≡ true → b ≡ false → ⊥
-opposite one other = cc
-
-pub any-shown : {X : Type 0} (test : X → Bool) (xs : List X) (x : X) → Contains xs x → test x ≡ true
-    → list_any test xs ≡ true
-any-shown test [] x inside passed = absurd (omega (arith, inside.1))
-any-shown test (e ∷ xs) x inside passed =
-    elim (Contains-append_cases (e ∷ []) xs x inside) [
-      | inl first ↦
-          let here : test e ≡ true = ap test (contains-one e x first) ∙ passed in
-          ap (λ b. b || list_any test xs) here
-      | inr further ↦
-          ap (λ b. test e || b) (any-shown test xs x further passed) ∙ or-true (test e)
-    ]
-  where
-    or-true : (b : Bool) → (b || true) ≡ true
-    or-true true = refl
-    or-true false = refl
-
-pub any-there : {X : Type 0} (test : X → Bool) (xs : List X) → list_any test xs ≡ true
-    → (x : X) × Contains xs x × (test x ≡ true)
-any-there test [] found = absurd cc
-any-there {X} test (e ∷ xs) found = at (any-there test xs) (test e) refl found
-  where
-    at : (list_any test xs ≡ true → (x : X) × Contains xs x × (test x ≡ true)) → (b : Bool) → test e ≡ b
-        → (b || list_any test xs) ≡ true → (x : X) × Contains (e ∷ xs) x × (test x ≡ true)
-    at rest true is found = (e, (0, omega arith, refl), is)
-    at rest false is found =
-        let (x, inside, passed) = rest found in
-        (x, Contains-append_right (e ∷ []) xs x inside, passed)
 
 -- ---- the lowest number of which something holds
 

@@ -31,7 +31,7 @@ use Rattle.nomos_index.specs.Walks.{is_acquiring, is_over, is_ready_in, is_trans
 
 -- ---- tests
 
-and-told : (b c : Bool) → (b && c) ≡ true → (b ≡ true) × (c ≡ true)
+pub and-told : (b c : Bool) → (b && c) ≡ true → (b ≡ true) × (c ≡ true)
 and-told true c is = (refl, is)
 and-told false c is = absurd cc
 

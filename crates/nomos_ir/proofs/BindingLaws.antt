@@ -9,7 +9,7 @@ use Rattle.std.specs.List.{AllByRecursion}
 use Rattle.std.specs.List.Sorted.{IsStrictlySortedBy}
 use Rattle.std.specs.Map.{keys_of}
 use Rattle.std.specs.Ordering.{match_ordering, ordering_reverse}
-use Rattle.nomos_ir.specs.Bindings.{bound_to, bind, unbind, bindings_of, bind_all, unbind_all, by_number, IsAscending}
+use Rattle.nomos_ir.specs.Bindings.{bound_to, bind, unbind, bindings_of, by_number, IsAscending}
 use Rattle.nomos_ir.specs.declared.ids.VarId.{VarId}
 
 -- the first pair is what its variable is bound to
@@ -318,50 +318,3 @@ module _ {X : Type 0} (v : VarId) (x : X) (b : List (VarId × X)) (ascending : I
       ascending-same (unbind v.0 (bind v x b)) (unbind v.0 b) (unbind-ascending v.0 (bind v x b) bound)
       (unbind-ascending v.0 b ascending)
       (by-variable (λ w. bound_to w (unbind v.0 (bind v x b)) ≡ bound_to w (unbind v.0 b)) v.0 here others)
-
-  -- binding a variable undoes its unbinding
-  pub bind-after_unbind : bind v x (unbind v.0 b) ≡ bind v x b
-  bind-after_unbind =
-      let unbound : IsAscending (unbind v.0 b) = unbind-ascending v.0 b ascending in
-      let here : bound_to v.0 (bind v x (unbind v.0 b)) ≡ bound_to v.0 (bind v x b) =
-      bound-after_bind v x (unbind v.0 b) ∙ sym (bound-after_bind v x b)
-      in
-      let others : (w : ℕ) → w ≢ v.0 → bound_to w (bind v x (unbind v.0 b)) ≡ bound_to w (bind v x b) =
-      λ w other. bound-after_bind_other w v x (unbind v.0 b) other ∙ bound-after_unbind_other w v.0 b other
-      ∙ sym (bound-after_bind_other w v x b other)
-      in
-      ascending-same (bind v x (unbind v.0 b)) (bind v x b) (bind-ascending v x (unbind v.0 b) unbound)
-      (bind-ascending v x b ascending)
-      (by-variable (λ w. bound_to w (bind v x (unbind v.0 b)) ≡ bound_to w (bind v x b)) v.0 here others)
-
--- a map is the map of its pairs
-pub bindings_of-map : {X : Type 0} (b : List (VarId × X)) → IsAscending b → bindings_of b ≡ b
-bindings_of-map b ascending =
-    ascending-same (bindings_of b) b (bindings_of-ascending b) ascending (λ v. bound-in_bindings_of v b)
-
--- a map stays a map when pairs are bound, and when variables are unbound
-pub bind_all-ascending : {X : Type 0} (ps b : List (VarId × X)) → IsAscending b → IsAscending (bind_all ps b)
-bind_all-ascending [] b ascending = ascending
-bind_all-ascending (p ∷ ps) b ascending =
-    bind_all-ascending ps (bind p.0 p.1 b) (bind-ascending p.0 p.1 b ascending)
-
-pub unbind_all-ascending : {X : Type 0} (vs : List VarId) (b : List (VarId × X)) → IsAscending b
-    → IsAscending (unbind_all vs b)
-unbind_all-ascending [] b ascending = ascending
-unbind_all-ascending (v ∷ vs) b ascending = unbind_all-ascending vs (unbind v.0 b) (unbind-ascending v.0 b ascending)
-
--- variables other than those that are unbound stay bound to the same
-pub bound-after_unbind_all : {X : Type 0} (w : ℕ) (vs : List VarId) (b : List (VarId × X)) → All (λ v. w ≢ v.0) vs
-    → bound_to w (unbind_all vs b) ≡ bound_to w b
-bound-after_unbind_all w [] b others = refl
-bound-after_unbind_all w (v ∷ vs) b others =
-    bound-after_unbind_all w vs (unbind v.0 b) (All-tail (λ u. w ≢ u.0) v vs others)
-    ∙ bound-after_unbind_other w v.0 b (All-head (λ u. w ≢ u.0) v vs others)
-
--- variables other than those that are bound stay bound to the same
-pub bound-after_bind_all : {X : Type 0} (w : ℕ) (ps b : List (VarId × X)) → All (λ p. w ≢ p.0.0) ps
-    → bound_to w (bind_all ps b) ≡ bound_to w b
-bound-after_bind_all w [] b others = refl
-bound-after_bind_all w (p ∷ ps) b others =
-    bound-after_bind_all w ps (bind p.0 p.1 b) (All-tail (λ q. w ≢ q.0.0) p ps others)
-    ∙ bound-after_bind_other w p.0 p.1 b (All-head (λ q. w ≢ q.0.0) p ps others)

@@ -19,7 +19,7 @@ past_last lists (suc inside) calls env t n past =
     sym (ap (λ b. counted b (entered lists (evaluation lists inside) calls env (slice_get lists.terms t.0)) n) off)
 
 -- one entry
-counted-same : (b : Bool) (f g : Counted) (n : ℕ) → f (n + 1) ≡ g (n + 1) → counted b f n ≡ counted b g n
+pub counted-same : (b : Bool) (f g : Counted) (n : ℕ) → f (n + 1) ≡ g (n + 1) → counted b f n ≡ counted b g n
 counted-same true f g n same = same
 counted-same false f g n same = refl
 

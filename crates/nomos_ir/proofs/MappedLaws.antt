@@ -1,11 +1,10 @@
 -- Laws of maps in which all that is bound is changed alike.
-use Rattle.std.proofs.Common.{◌≡◌, ℕ, ◌==◌, Bool, true, false, cond, List, ◌∷◌, [], map, Option, Some, Ordering, Less, Equal, Greater, ap, refl, sym, subst, ◌∙◌, arith}
-use Rattle.std.proofs.lemmas.List.Sums.{sum_by-cons}
+use Rattle.std.proofs.Common.{◌≡◌, ℕ, ◌==◌, Bool, true, false, cond, List, ◌∷◌, [], map, Option, Some, Ordering, Less, Equal, Greater, ap, refl, sym, subst, ◌∙◌}
 use Rattle.std.proofs.lemmas.Map.Made.{keys_of-map_values}
 use Rattle.std.specs.List.Sorted.{IsStrictlySortedBy}
 use Rattle.std.specs.Option.{option_map}
 use Rattle.std.specs.Ordering.{match_ordering}
-use Rattle.nomos_ir.specs.Bindings.{bound_to, bind, unbind, bindings_of, each_bound, sum_bound, by_number, IsAscending}
+use Rattle.nomos_ir.specs.Bindings.{bound_to, bind, unbind, bindings_of, each_bound, by_number, IsAscending}
 use Rattle.nomos_ir.specs.declared.ids.VarId.{VarId}
 
 module _ {X Y : Type 0} (f : X → Y) where
@@ -61,13 +60,3 @@ module _ {X Y : Type 0} (f : X → Y) where
   pub each-ascending : (b : List (VarId × X)) → IsAscending b → IsAscending (each_bound f b)
   each-ascending b ascending =
       subst (λ (vs : List VarId). IsStrictlySortedBy by_number vs) (sym (keys_of-map_values f b)) ascending
-
-  -- a sum of what is bound, changed
-  pub sum-each : (number : Y → ℕ) (b : List (VarId × X))
-      → sum_bound number (each_bound f b) ≡ sum_bound (λ x. number (f x)) b
-  sum-each number [] = refl
-  sum-each number (e ∷ b) =
-      let rest = sum-each number b in
-      let before = sum_by-cons (λ (d : VarId × X). number (f d.1)) e b in
-      let after = sum_by-cons (λ (d : VarId × Y). number d.1) (change e) (each_bound f b) in
-      omega arith

@@ -1,13 +1,14 @@
 -- An evaluation looks at no variable that does not occur in the term.
 use Rattle.std.proofs.Common.{◌≡◌, ◌+◌, ℕ, zero, suc, Bool, true, false, cond, ◌==◌, nat_lt, List, [], ◌∷◌, map, Some, slice_get, Contains, refl, arith}
 use Rattle.std.specs.List.{AllByRecursion}
+use Rattle.nomos_ir.proofs.EvaluationLaws.{counted-same}
 use Rattle.nomos_ir.specs.declared.ids.TermId.{TermId}
 use Rattle.nomos_ir.specs.declared.ids.VarId.{VarId}
 use Rattle.nomos_ir.specs.declared.lists.ProgramLists.{ProgramLists}
 use Rattle.nomos_ir.specs.declared.term_node.TermNode.{TermNode}
 use Rattle.nomos_ir.specs.declared.term_node.TermNode.TheVariants as node
 use Rattle.nomos_ir.specs.Bindings.{bound_to}
-use Rattle.nomos_ir.specs.Evaluation.{Environment, Counted, max_nodes, bind_parts, entered, counted, evaluation, term_evaluation}
+use Rattle.nomos_ir.specs.Evaluation.{Environment, max_nodes, bind_parts, entered, evaluation, term_evaluation}
 use Rattle.nomos_ir.specs.Occurrence.{OccursIn, itself, in_part}
 use Rattle.nomos_ir.specs.Value.{Value}
 use Rattle.nomos_ir.proofs.AgreeLemmas.{rises, Needs, SameAt, entered-same}
@@ -31,11 +32,6 @@ here x xs = (0, omega arith, refl)
 
 behind : (x y : ℕ) (xs : List ℕ) → Contains xs x → Contains (y ∷ xs) x
 behind x y xs (k, inside, is) = (suc k, omega arith, is)
-
--- one entry
-counted-same : (c : Bool) (f g : Counted) (n : ℕ) → f (n + 1) ≡ g (n + 1) → counted c f n ≡ counted c g n
-counted-same true f g n same = same
-counted-same false f g n same = refl
 
 module _ (lists : ProgramLists) (inside : ℕ)
     (same : (calls : ℕ) (a b : Environment) (t : TermId) (n : ℕ) → AgreeOn lists t a b

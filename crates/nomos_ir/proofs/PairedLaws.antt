@@ -1,15 +1,13 @@
 -- Laws of maps that are paired: they stay so when both are changed alike.
-use Rattle.std.proofs.Common.{◌≡◌, inl, inr, ℕ, ◌==◌, Bool, true, false, cond, List, [], ◌∷◌, Option, Some, None, refl, sym, subst}
+use Rattle.std.proofs.Common.{◌≡◌, inl, inr, ℕ, ◌==◌, Bool, true, false, cond, List, ◌∷◌, Option, Some, None, refl, sym, subst}
 use Rattle.std.proofs.lemmas.Bool.{cases_eq}
-use Rattle.std.specs.Option.{option_map}
-use Rattle.nomos_ir.specs.Bindings.{bound_to, bind, unbind, bindings_of, bind_all, unbind_all, each_bound, IsAscending}
+use Rattle.nomos_ir.specs.Bindings.{bound_to, bind, unbind, bindings_of, IsAscending}
 use Rattle.nomos_ir.specs.Evaluation.{Environment}
 use Rattle.nomos_ir.specs.Paired.{Paired, both, neither, ArePaired, PairedInOrder, none, pair}
 use Rattle.nomos_ir.specs.TermKind.{VariableKinds}
 use Rattle.nomos_ir.specs.ValueKind.{ValueHasKind, HasKinds}
 use Rattle.nomos_ir.specs.declared.ids.VarId.{VarId}
-use Rattle.nomos_ir.proofs.BindingLaws.{bound-after_bind, bound-after_bind_other, bound-after_unbind, bound-after_unbind_other, bound-in_bindings_of, unbind-ascending}
-use Rattle.nomos_ir.proofs.MappedLaws.{each-bound}
+use Rattle.nomos_ir.proofs.BindingLaws.{bound-after_bind, bound-after_bind_other, bound-after_unbind, bound-after_unbind_other, bound-in_bindings_of}
 
 module _ {X Y : Type 0} {R : X → Y → Type 0} where
   -- what equals two that are paired is paired
@@ -29,11 +27,6 @@ module _ {X Y : Type 0} {R : X → Y → Type 0} where
       let same : z ≡ y = cc in
       (x, refl, subst (λ (u : Y). R x u) same related)
   paired-left y neither there = absurd cc
-
-  -- beside nothing there is nothing
-  pub none-right : {o : Option X} {q : Option Y} → Paired R o q → o ≡ None → q ≡ None
-  none-right (both related) nothing = absurd cc
-  none-right neither nothing = refl
 
   pub none-left : {o : Option X} {q : Option Y} → Paired R o q → q ≡ None → o ≡ None
   none-left (both related) nothing = absurd cc
@@ -85,21 +78,6 @@ module _ {X Y : Type 0} {R : X → Y → Type 0} where
   paired-in_order (pair {x = x} {y = y} {ps = ps} {qs = qs} v related rest) =
       paired-cons v x y ps qs related (paired-in_order rest)
 
-  -- such pairs are bound on both sides, one after the other
-  pub paired-bind_all : {ps : List (VarId × X)} {qs : List (VarId × Y)} (b : List (VarId × X)) (c : List (VarId × Y))
-      → PairedInOrder R ps qs → ArePaired R b c → ArePaired R (bind_all ps b) (bind_all qs c)
-  paired-bind_all b c none pairs = pairs
-  paired-bind_all b c (pair {x = x} {y = y} v related rest) pairs =
-      paired-bind_all (bind v x b) (bind v y c) rest (paired-bind v x y b c related pairs)
-
-  -- variables are unbound on both sides
-  pub paired-unbind_all : (vs : List VarId) (b : List (VarId × X)) (c : List (VarId × Y)) → IsAscending b
-      → IsAscending c → ArePaired R b c → ArePaired R (unbind_all vs b) (unbind_all vs c)
-  paired-unbind_all [] b c b_ascends c_ascends pairs = pairs
-  paired-unbind_all (v ∷ vs) b c b_ascends c_ascends pairs =
-      paired-unbind_all vs (unbind v.0 b) (unbind v.0 c) (unbind-ascending v.0 b b_ascends)
-      (unbind-ascending v.0 c c_ascends) (paired-unbind v.0 b c b_ascends c_ascends pairs)
-
 module _ {X Y : Type 0} {R S : X → Y → Type 0} where
   option-weaker : {o : Option X} {q : Option Y} → ((x : X) (y : Y) → R x y → S x y) → Paired R o q → Paired S o q
   option-weaker weaker (both {x = x} {y = y} related) = both (weaker x y related)
@@ -109,26 +87,6 @@ module _ {X Y : Type 0} {R S : X → Y → Type 0} where
   pub paired-weaker : (b : List (VarId × X)) (c : List (VarId × Y)) → ((x : X) (y : Y) → R x y → S x y)
       → ArePaired R b c → ArePaired S b c
   paired-weaker b c weaker pairs v = option-weaker weaker (pairs v)
-
-module _ {X Y Z : Type 0} (f : X → Z) {R : Z → Y → Type 0} where
-  option-each : {o : Option X} {q : Option Y} → Paired (λ x y. R (f x) y) o q → Paired R (option_map f o) q
-  option-each (both related) = both related
-  option-each neither = neither
-
-  -- all that is bound on the left is changed alike
-  pub paired-each : (b : List (VarId × X)) (c : List (VarId × Y)) → ArePaired (λ x y. R (f x) y) b c
-      → ArePaired R (each_bound f b) c
-  paired-each b c pairs v = paired-as (each-bound f v b) refl (option-each (pairs v))
-
-module _ {X Y Z : Type 0} (f : Y → Z) {R : X → Z → Type 0} where
-  option-each_right : {o : Option X} {q : Option Y} → Paired (λ x y. R x (f y)) o q → Paired R o (option_map f q)
-  option-each_right (both related) = both related
-  option-each_right neither = neither
-
-  -- all that is bound on the right is changed alike
-  pub paired-each_right : (b : List (VarId × X)) (c : List (VarId × Y)) → ArePaired (λ x y. R x (f y)) b c
-      → ArePaired R b (each_bound f c)
-  paired-each_right b c pairs v = paired-as refl (each-bound f v c) (option-each_right (pairs v))
 
 -- values that are paired with their kinds have these kinds
 pub paired-has_kinds : (env : Environment) (vars : VariableKinds) → ArePaired ValueHasKind env vars → HasKinds env vars

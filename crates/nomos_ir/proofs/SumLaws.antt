@@ -1,11 +1,11 @@
 -- Laws of sums over all that is bound, and of how often a number is bound.
-use Rattle.std.proofs.Common.{◌≡◌, ◌≢◌, ◌≤◌, ◌<◌, ℕ, ◌+◌, ◌==◌, Bool, true, false, cond, List, [], ◌∷◌, map, Option, Some, None, sum_by, refl, sym, ap, subst, ◌∙◌, arith, eq-eqb}
+use Rattle.std.proofs.Common.{◌≡◌, ◌≤◌, ℕ, ◌+◌, ◌==◌, Bool, true, false, cond, List, [], ◌∷◌, map, Option, Some, None, sum_by, refl, sym, ap, ◌∙◌, arith, eq-eqb}
 use Rattle.std.proofs.lemmas.List.Sums.{sum_by-cons}
 use Rattle.std.specs.Option.{option_to_list}
-use Rattle.nomos_ir.specs.Bindings.{bound_to, bind, unbind, bindings_of, bind_all, unbind_all, sum_bound, variables_of, IsAscending}
+use Rattle.nomos_ir.specs.Bindings.{bound_to, bind, unbind, bindings_of, sum_bound, variables_of, IsAscending}
 use Rattle.nomos_ir.specs.Order.{count_of}
 use Rattle.nomos_ir.specs.declared.ids.VarId.{VarId}
-use Rattle.nomos_ir.proofs.BindingLaws.{bound-after_bind, bound-after_bind_other, bound-after_unbind_other, bound-in_bindings_of, bindings_of-ascending, bind-ascending, unbind-after_bind}
+use Rattle.nomos_ir.proofs.BindingLaws.{bound-after_bind, bound-in_bindings_of, bindings_of-ascending, unbind-after_bind}
 
 -- one more number is counted
 count-cons : (n k : ℕ) (numbers : List ℕ) → count_of n (k ∷ numbers) ≡ cond (k == n) 1 0 + count_of n numbers
@@ -14,11 +14,6 @@ count-cons n k numbers = sum_by-cons (λ (m : ℕ). cond (m == n) 1 0) k numbers
 -- the first of numbers is counted
 pub count-first : (n : ℕ) (numbers : List ℕ) → count_of n (n ∷ numbers) ≡ 1 + count_of n numbers
 count-first n numbers = count-cons n n numbers ∙ ap (λ (t : Bool). cond t 1 0 + count_of n numbers) (eq-eqb n n refl)
-
--- where nothing of a number is counted behind one more, this is another number
-differs-counted : (n k : ℕ) (numbers : List ℕ) → count_of n (k ∷ numbers) ≡ 0 → k ≢ n
-differs-counted n k numbers none same =
-    omega (arith, count-first n numbers, subst (λ (m : ℕ). count_of n (m ∷ numbers) ≡ 0) same none)
 
 -- nothing of a number is counted in what follows
 none-behind : (n k : ℕ) (numbers : List ℕ) → count_of n (k ∷ numbers) ≡ 0 → count_of n numbers ≡ 0
@@ -97,56 +92,9 @@ module _ {X : Type 0} (f : X → ℕ) where
       let bound = sum-after_new p.0 p.1 (bindings_of ps) (bindings_of-ascending ps) unbound in
       omega (arith, sum_by-cons (λ (d : VarId × X). f d.1) p ps)
 
-  -- pairs are bound of which no variable stands twice or was bound
-  pub sum-after_bind_all : (ps b : List (VarId × X)) → IsAscending b → ((v : ℕ) → count_of v (variables_of ps) ≤ 1)
-      → ((v : ℕ) → 0 < count_of v (variables_of ps) → bound_to v b ≡ None)
-      → sum_bound f (bind_all ps b) ≡ sum_bound f b + sum_bound f ps
-  sum-after_bind_all [] b ascending once new = omega arith
-  sum-after_bind_all (p ∷ ps) b ascending once new =
-      let behind = variables_of ps in
-      let alone : count_of p.0.0 behind ≡ 0 = first-alone p.0.0 behind once in
-      let still_new : (v : ℕ) → 0 < count_of v behind → bound_to v (bind p.0 p.1 b) ≡ None =
-      λ v occurs.
-      let other : v ≢ p.0.0 = λ same. omega (arith, subst (λ (n : ℕ). 0 < count_of n behind) same occurs) in
-      let unbound = new v (omega (arith, count-cons v p.0.0 behind)) in
-      bound-after_bind_other v p.0 p.1 b other ∙ unbound
-      in
-      let rest =
-      sum-after_bind_all ps (bind p.0 p.1 b) (bind-ascending p.0 p.1 b ascending) (others-once p.0.0 behind once)
-      still_new
-      in
-      let first = sum-after_new p.0 p.1 b ascending (new p.0.0 (omega (arith, count-first p.0.0 behind))) in
-      omega (arith, sum_by-cons (λ (d : VarId × X). f d.1) p ps)
-
   -- what the variables are bound to
   abbrev pub sum_at : List VarId → List (VarId × X) → ℕ
   sum_at vs b = sum_by (λ v. sum_by f (option_to_list (bound_to v.0 b))) vs
-
-  -- unbinding a variable that is not among them changes nothing of that
-  sum-elsewhere : (v : ℕ) (vs : List VarId) (b : List (VarId × X)) → count_of v (map (λ w. w.0) vs) ≡ 0
-      → sum_at vs (unbind v b) ≡ sum_at vs b
-  sum-elsewhere v [] b none = refl
-  sum-elsewhere v (w ∷ vs) b none =
-      let behind = map (λ (u : VarId). u.0) vs in
-      let other : w.0 ≢ v = differs-counted v w.0 behind none in
-      let rest = sum-elsewhere v vs b (none-behind v w.0 behind none) in
-      let here = ap number_of_option (bound-after_unbind_other w.0 v b other) in
-      let after = sum_by-cons (λ (u : VarId). number_of_option (bound_to u.0 (unbind v b))) w vs in
-      let before = sum_by-cons (λ (u : VarId). number_of_option (bound_to u.0 b)) w vs in
-      omega arith
-
-  -- variables are unbound of which none stands twice: what they were bound to is in the sum no more
-  pub sum-after_unbind_all : (vs : List VarId) (b : List (VarId × X))
-      → ((v : ℕ) → count_of v (map (λ w. w.0) vs) ≤ 1)
-      → sum_bound f (unbind_all vs b) + sum_at vs b ≡ sum_bound f b
-  sum-after_unbind_all [] b once = omega arith
-  sum-after_unbind_all (v ∷ vs) b once =
-      let behind = map (λ (u : VarId). u.0) vs in
-      let rest = sum-after_unbind_all vs (unbind v.0 b) (others-once v.0 behind once) in
-      let same = sum-elsewhere v.0 vs b (first-alone v.0 behind once) in
-      let first = sum-after_unbind v.0 b in
-      let before = sum_by-cons (λ (u : VarId). number_of_option (bound_to u.0 b)) v vs in
-      omega arith
 
   -- the sum over the things alone
   pub sum-of_values : (b : List (VarId × X)) → sum_by f (map (λ e. e.1) b) ≡ sum_bound f b

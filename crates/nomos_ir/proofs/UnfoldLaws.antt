@@ -64,7 +64,7 @@ constructor-behind lists (form.Named id) constructs = absurd constructs
 constructor-behind lists n constructs = refl
 
 -- a constructor is the node of its type
-constructor-node : (lists : ProgramLists) (t : ℕ) (m n : TypeNode) → type_node lists t ≡ Some m → IsConstructor m
+pub constructor-node : (lists : ProgramLists) (t : ℕ) (m n : TypeNode) → type_node lists t ≡ Some m → IsConstructor m
     → Unfolds lists t n → type_node lists t ≡ Some n
 constructor-node lists t m n there constructs (constructor _ _ here _) = here
 constructor-node lists t m n there constructs (name _ id def _ named _ _) =

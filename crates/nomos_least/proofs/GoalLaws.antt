@@ -8,13 +8,14 @@ use Rattle.std.proofs.lemmas.List.Elements.{All-nil, All-head, All-tail, All-tak
 use Rattle.std.proofs.lemmas.List.{length-take, take_all}
 use Rattle.std.proofs.lemmas.Option.{slice_get-get_or}
 use Rattle.std.proofs.lemmas.List.Sums.{sum_by-cons}
+use Rattle.nomos_check.proofs.LimitLemmas.{star-below}
 use Rattle.nomos_check.specs.Account.{Account, worth_of, shares, gains, form_of, no_account}
 use Rattle.nomos_check.specs.Room.{HasRoom}
 use Rattle.nomos_check.proofs.AmountLaws.{HasAmounts, amounts-weaker, program-amount, gains-amounts, proc-amount}
 use Rattle.nomos_check.proofs.FormLaws.{form-worth}
 use Rattle.nomos_check.proofs.SizeLaws.{amount_count, account-is_form, shares-count}
 use Rattle.nomos_check.proofs.StarLaws.{program-star}
-use Rattle.nomos_forms.specs.Bounds.{IsForm, HasStarUpTo}
+use Rattle.nomos_forms.specs.Bounds.{IsForm}
 use Rattle.nomos_forms.specs.Linear.{form_value}
 use Rattle.nomos_ir.specs.Amounts.{amounts_of, proc_amounts, star_count, star_of, IsAmount}
 use Rattle.nomos_ir.specs.Program.{IsProgram}
@@ -125,11 +126,6 @@ goal-is_form lists is_program =
     (take_all (length lists.procs) lists.procs (omega arith))
     (gained-is_form lists (length lists.procs) (star_count lists) is_program)
 
--- a star up to n is at most n
-up_to-low : (n : ℕ) (r : Amount) → HasStarUpTo n r → star_of r ≤ n
-up_to-low n (amount.Written units) up = omega arith
-up_to-low n (amount.Star star) up = up.1
-
 -- there is room for what the next one declares
 pub declared-room : (lists : ProgramLists) (k : ℕ) (d : ProcDecl) → IsProgram lists → slice_get lists.procs k ≡ Some d
     → HasRoom (form_of (star_count lists) (gains_all (take k lists.procs) no_account)) d.amount
@@ -141,7 +137,7 @@ declared-room lists k d is_program there =
       form = subst (λ m. IsForm m (form_of n (gains_all (take k lists.procs) no_account))) (sym form.width) form;
       small = All-contains IsAmount (amounts_of lists) d.amount is_program.amounts among;
       star = subst (λ m. star_of d.amount ≤ m) (sym form.width)
-          (up_to-low n d.amount (program-star d.amount is_program among));
+          (star-below n d.amount (program-star d.amount is_program among));
     }
 
 -- no coefficient of the goal is below 0

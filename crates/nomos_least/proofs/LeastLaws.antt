@@ -1,5 +1,5 @@
 -- Weights that show a goal least: no amounts over any unit that meet the rows have a smaller goal.
-use Rattle.std.proofs.Common.{◌≡◌, ℕ, ◌+◌, ◌*◌, ◌<◌, ◌≤◌, List, [], ◌∷◌, length, ap, sym, subst, ◌∙◌, arith, ℤ, pos, ◌+ℤ◌, ◌-ℤ◌, ◌*ℤ◌, neg_ℤ, ◌≤ℤ◌, All, suc}
+use Rattle.std.proofs.Common.{◌≡◌, ℕ, ◌+◌, ◌*◌, ◌<◌, ◌≤◌, List, [], ◌∷◌, length, ap, sym, subst, ◌∙◌, arith, ℤ, pos, ◌+ℤ◌, ◌-ℤ◌, ◌*ℤ◌, ◌≤ℤ◌, All, suc}
 use Rattle.std.proofs.lemmas.Int.{ints}
 use Rattle.std.proofs.Math.IntN.{*ℤ-zero}
 use Rattle.nomos_forms.specs.Bounds.{IsRow}
@@ -8,7 +8,8 @@ use Rattle.nomos_forms.specs.Refuting.{coef_in, least_in, weighted}
 use Rattle.nomos_forms.specs.declared.form.Form.{Form}
 use Rattle.nomos_forms.specs.declared.row.Row.{Row}
 use Rattle.nomos_forms.proofs.CertificateLaws.{value_in, spread, spread_row, weighted_value, low_sum_of}
-use Rattle.nomos_forms.proofs.WholeLaws.{times_sum, times_neg, times_swap, count_times_le, less_by_times}
+use Rattle.nomos_forms.proofs.WholeLaws.{times_sum, times_swap, count_times_le, less_by_times}
+use Rattle.nomos_simplex.proofs.SumLemmas.{times_minus}
 use Rattle.nomos_simplex.specs.ShowsLeast.{goal_coef, ShowsLeast, NoneSmaller}
 use Rattle.nomos_simplex.specs.declared.solved.Proof.{Proof}
 
@@ -25,13 +26,6 @@ spread_scaled t f g s (x ∷ xs) h =
 -- the certificate
 above_zero : (a b c d e : ℤ) → a ≡ c -ℤ d → a ≤ℤ b → e ≡ b +ℤ d → c ≤ℤ e
 above_zero a b c d e h i j = omega (arith, ints)
-
-times_minus : (a b c : ℤ) → a *ℤ (b -ℤ c) ≡ a *ℤ b -ℤ a *ℤ c
-times_minus a b c = ap (λ z. a *ℤ z) (as_sum b c) ∙ times_sum a b (neg_ℤ c) ∙ ap (λ z. a *ℤ b +ℤ z) (times_neg a c)
-    ∙ sym (as_sum (a *ℤ b) (a *ℤ c))
-  where
-    as_sum : (x y : ℤ) → x -ℤ y ≡ x +ℤ neg_ℤ y
-    as_sum x y = omega (arith, ints)
 
 -- what the weights come to under amounts
 weights_value : (rows : List Row) (goal : Form) (unit : ℕ) (proof : Proof) (xs : List ℕ) →

@@ -1,15 +1,10 @@
 -- Numbers in the code's width, and products of numbers that were split.
-use Rattle.std.proofs.Common.{◌≡◌, ◌*◌, ◌<◌, ◌≤◌, ◌^◌, arith, ap, sym, ◌∙◌, ℕ, ℤ, pos, ◌+ℤ◌, ◌-ℤ◌, ◌*ℤ◌, unsigned_abs, FitsSigned, to_z, of_z}
+use Rattle.std.proofs.Common.{◌≡◌, ◌*◌, ◌<◌, ◌≤◌, ◌^◌, arith, ap, sym, ◌∙◌, ℕ, ℤ, pos, ◌+ℤ◌, ◌-ℤ◌, ◌*ℤ◌, unsigned_abs, to_z, of_z}
 use Rattle.std.specs.Int.{w128}
-use Rattle.std.proofs.lemmas.Int.{ints, to_z-of_z, fits_signed_from_abs, unsigned_abs-mul}
+use Rattle.std.proofs.lemmas.Int.{ints, unsigned_abs-mul}
 use Rattle.std.proofs.Math.Nat.{mul-le-mul}
+use Rattle.nomos_forms.proofs.ProductLemmas.{wide_back}
 use Rattle.nomos_forms.proofs.WholeLaws.{times_sum, times_assoc}
-
-pub wide_fits : (z : ℤ) → unsigned_abs z < 2 ^ 127 → FitsSigned w128 z
-wide_fits z h = fits_signed_from_abs w128 z h
-
-pub wide_back : (z : ℤ) → unsigned_abs z < 2 ^ 127 → to_z w128 (of_z w128 z) ≡ z
-wide_back z h = to_z-of_z w128 z (wide_fits z h)
 
 pub first_size : (a : ℕ) (x : ℤ) → a < 2 ^ 32 → unsigned_abs x ≤ 2 ^ 83 → unsigned_abs (pos a *ℤ x) ≤ 2 ^ 115
 first_size a x h i = rw unsigned_abs-mul (omega (arith, mul-le-mul (below a h) i))

@@ -1,25 +1,12 @@
 -- Values that have kinds, and values that fit parameters.
-use Rattle.std.proofs.Common.{◌≡◌, ◌∙◌, ◌<◌, ◌+◌, ℕ, zero, suc, List, [], ◌∷◌, length, map, take, slice_index_or, All, arith, ap, sym, refl, add-one, subst}
+use Rattle.std.proofs.Common.{◌≡◌, ◌<◌, ◌+◌, ℕ, zero, suc, List, [], ◌∷◌, length, map, take, slice_index_or, All, arith, ap, sym, refl, add-one, subst}
 use Rattle.std.proofs.lemmas.List.Elements.{All-nil, All-cons, All-head, All-tail}
-use Rattle.nomos_ir.specs.TermKind.{list_kind}
 use Rattle.nomos_ir.specs.Value.{value_list}
 use Rattle.nomos_ir.specs.ValueKind.{ValueHasKind, AllHaveKind}
 use Rattle.nomos_ir.specs.ValueNode.{value_of}
-use Rattle.nomos_ir.specs.declared.kind.Base.{Base}
 use Rattle.nomos_ir.specs.declared.kind.Kind.{Kind}
 use Rattle.nomos_ir.specs.declared.value_node.ValueNode.{ValueNode}
 use Rattle.nomos_legal.specs.Starting.{OneEach, none, one}
-
--- the kind of the elements of a list is told by the kind of the list
-pub same_element : (k e f : Kind) → k ≡ list_kind e → k ≡ list_kind f → e ≡ f
-same_element k e f first second =
-    let lists : e.lists ≡ f.lists = omega (arith, ap (λ (x : Kind). x.lists) (sym first ∙ second)) in
-    let base : e.base ≡ f.base = ap (λ (x : Kind). x.base) (sym first ∙ second) in
-    both e.lists f.lists e.base f.base lists base
-  where
-    both : (l m : ℕ) (a b : Base) → l ≡ m → a ≡ b
-        → (let x : Kind = record { lists = l; base = a } in x) ≡ (let y : Kind = record { lists = m; base = b } in y)
-    both l m a b lists base = cc
 
 -- a list of values has a kind for its elements where each of them has it
 pub each-have_kind : (kind : Kind) (nodes : List ValueNode) → All (λ n. ValueHasKind (value_of n) kind) nodes

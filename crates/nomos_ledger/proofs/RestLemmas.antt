@@ -17,7 +17,7 @@ use Rattle.nomos_deeds.specs.Readers.{IsTransaction}
 use Rattle.nomos_legal.specs.Ending.{HasTransaction}
 
 -- no process has the number 0
-none-zero : {s : State} → Numbered s → (o : Option Process) → process_at s 0 ≡ o → process_at s 0 ≡ None
+pub none-zero : {s : State} → Numbered s → (o : Option Process) → process_at s 0 ≡ o → process_at s 0 ≡ None
 none-zero {s} numbered None is = is
 none-zero {s} numbered (Some p) is =
     let (there, number) = process_at-there s 0 p is in

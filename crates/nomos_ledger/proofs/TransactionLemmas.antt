@@ -49,7 +49,7 @@ use Rattle.nomos_legal.specs.Batch.{after_start, after_starts, state_or}
 use Rattle.nomos_legal.specs.Ending.{HasTransaction}
 use Rattle.nomos_legal.specs.Ledger.{LedgerState}
 use Rattle.nomos_legal.specs.StandsFor.{WorldStandsFor}
-use Rattle.nomos_legal.specs.World.{WorldState, pids_of, start_of}
+use Rattle.nomos_legal.specs.World.{WorldState, pids_of, ledger_begun}
 use Rattle.nomos_legal.specs.declared.resolved.Resolved.{Resolved}
 use Rattle.nomos_legal.proofs.WorldLaws.{world-rises, world-run}
 
@@ -411,7 +411,7 @@ world-late {a} accepted {w} stands pid is =
     let first : ℕ = w.origin.state.next_object in
     let at_start = starts-late first a w.origin w.starts (none-late w.origin.state stands.origin.no_transaction) in
     let late =
-    run-late first accepted (start_of a w).state w.state (pids_of w.firings) stands.start.typed
+    run-late first accepted (ledger_begun a w).state w.state (pids_of w.firings) stands.start.typed
     (world-run accepted stands) at_start
     in
     let (number, there) = object_at-found pid (object.Process is.process) w.state.objects is.there in

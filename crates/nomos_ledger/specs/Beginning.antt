@@ -5,7 +5,7 @@ use Rattle.nomos_script.specs.declared.item.Batch.{Batch}
 use Rattle.nomos_legal.specs.Batch.{AllStart, OneRefuses}
 use Rattle.nomos_legal.specs.Ledger.{LedgerState}
 use Rattle.nomos_legal.specs.StandsFor.{StandsFor, WorldStandsFor}
-use Rattle.nomos_legal.specs.World.{WorldState, start_of}
+use Rattle.nomos_legal.specs.World.{WorldState, ledger_begun}
 use Rattle.nomos_ledger.specs.declared.begun.Begun.{Begun}
 use Rattle.nomos_ledger.specs.declared.begun.Begun.TheVariants as begun
 
@@ -13,8 +13,8 @@ use Rattle.nomos_ledger.specs.declared.begun.Begun.TheVariants as begun
 pub record HasBegun (a : Acceptance) (l : LedgerState) (batch : Batch) (w : WorldState) : Type 0 where
   pub origin : w.origin ≡ l
   pub starts : AllStart a l batch.starts w.starts
-  pub contracts : w.contracts ≡ (start_of a w).contracts
-  pub state : w.state ≡ (start_of a w).state
+  pub contracts : w.contracts ≡ (ledger_begun a w).contracts
+  pub state : w.state ≡ (ledger_begun a w).state
   pub firings : w.firings ≡ []
   pub places : w.places ≡ []
 

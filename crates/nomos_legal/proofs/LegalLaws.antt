@@ -16,7 +16,7 @@ use Rattle.nomos_legal.specs.Legal as legal
 use Rattle.nomos_legal.specs.Passage.{Passage, IsPassage, RunsTo, Undoes, bare, runs, still}
 use Rattle.nomos_legal.specs.Passage as passage
 use Rattle.nomos_legal.specs.StandsFor.{Deposits, WorldStandsFor}
-use Rattle.nomos_legal.specs.World.{WorldState, committed, pids_of, start_of}
+use Rattle.nomos_legal.specs.World.{WorldState, committed, pids_of, ledger_begun}
 use Rattle.nomos_legal.specs.declared.journal.End.{End}
 use Rattle.nomos_legal.specs.declared.journal.End.TheVariants as end
 use Rattle.nomos_legal.specs.declared.journal.Entry.{Entry}
@@ -119,7 +119,7 @@ module _ {a : Acceptance} {most : ℕ} where
   -- the firings of a world are a run from its start
   pub world-runs : {w : WorldState} {answer : End} → WorldStandsFor a w → length w.firings ≤ most
       → IsAllowed a w.state (length w.firings) most answer
-      → RunsTo a most (start_of a w).state (pids_of w.firings) w.state answer
+      → RunsTo a most (ledger_begun a w).state (pids_of w.firings) w.state answer
   world-runs {w} {answer} stands within allowed =
       let same : length (pids_of w.firings) ≡ length w.firings = length-map w.firings (λ f. f.pid) in
       record {
@@ -132,11 +132,11 @@ module _ {a : Acceptance} {most : ℕ} where
   pub stays-passage : {w : WorldState} (batch : Batch) → AllStart a w.origin batch.starts w.starts → WorldStandsFor a w
       → length w.firings ≤ most → EndsAs a w.state (length w.firings) most end.Committed
       → IsPassage a most
-      (runs batch (pids_of w.firings) end.Committed w.origin (start_of a w) w.state (committed w))
+      (runs batch (pids_of w.firings) end.Committed w.origin (ledger_begun a w) w.state (committed w))
   stays-passage {w} batch begun stands within ends =
       subst
       (λ (after : LedgerState). IsPassage a most
-      (runs batch (pids_of w.firings) end.Committed w.origin (start_of a w) w.state after))
+      (runs batch (pids_of w.firings) end.Committed w.origin (ledger_begun a w) w.state after))
       (sym (committed-is stands))
       (passage.stays w.origin batch w.starts (pids_of w.firings) w.state begun (world-runs stands within ends))
 
@@ -144,7 +144,7 @@ module _ {a : Acceptance} {most : ℕ} where
   pub undone-passage : {w : WorldState} {answer : End} (batch : Batch) → AllStart a w.origin batch.starts w.starts
       → WorldStandsFor a w → length w.firings ≤ most → IsAllowed a w.state (length w.firings) most answer
       → Undoes answer
-      → IsPassage a most (runs batch (pids_of w.firings) answer w.origin (start_of a w) w.state w.origin)
+      → IsPassage a most (runs batch (pids_of w.firings) answer w.origin (ledger_begun a w) w.state w.origin)
   undone-passage {w} {answer} batch begun stands within allowed undoes =
       passage.undone w.origin batch w.starts (pids_of w.firings) w.state answer begun (world-runs stands within allowed)
       undoes

@@ -17,7 +17,7 @@ use Rattle.nomos_script.specs.declared.item.ScriptItem.TheVariants as item
 use Rattle.nomos_script.specs.declared.item.Start.{Start}
 use Rattle.nomos_legal.specs.Batch.{AllStart, after_start, after_starts, state_or}
 use Rattle.nomos_legal.specs.Ledger.{LedgerState, account_of, empty_ledger, state_with}
-use Rattle.nomos_legal.specs.Legal.{Leads, Tells, entries_of, firings_in, firings_made, max_firings}
+use Rattle.nomos_legal.specs.Legal.{Leads, Tells, entries_of, firings_in, firings_made}
 use Rattle.nomos_legal.specs.Legal as legal
 use Rattle.nomos_legal.specs.NextNumbers.{AllNumbered, HasNumbered, PassageNumbers, numbers_given}
 use Rattle.nomos_legal.specs.Passage.{Passage, IsPassage, runs, still}
@@ -36,7 +36,7 @@ use Rattle.nomos_legal.proofs.WorldLaws.{world-rises}
 
 -- ---- more of them
 
-numbered-more : (n m : ℕ) → n ≤ m → (s : State) → HasNumbered n s → HasNumbered m s
+pub numbered-more : (n m : ℕ) → n ≤ m → (s : State) → HasNumbered n s → HasNumbered m s
 numbered-more n m less s is =
     record { objects = omega (arith, is.objects, less); names = omega (arith, is.names, less) }
 
@@ -49,7 +49,7 @@ passage-more n m less is = record {
 
 -- ---- deposits
 
-with-numbered : (n : ℕ) (s : State) (gas : ℕ) (found : Option ℕ) → HasNumbered n s
+pub with-numbered : (n : ℕ) (s : State) (gas : ℕ) (found : Option ℕ) → HasNumbered n s
     → HasNumbered n (state_with s gas found)
 with-numbered n s gas (Some account) is =
     record { objects = omega (arith, is.objects); names = omega (arith, is.names) }

@@ -34,7 +34,7 @@ use Rattle.nomos_legal.proofs.UniqueLaws.{all_start-one, ends-one, passage-one, 
 -- ---- readiness
 
 -- a process with a step is ready, and so is one with a fault
-step-ready : (a : Acceptance) (s t : State) (pid : ℕ) → step a s pid ≡ Some t → IsReady a s pid
+pub step-ready : (a : Acceptance) (s t : State) (pid : ℕ) → step a s pid ≡ Some t → IsReady a s pid
 step-ready a s t pid steps = at (deed_of a s pid) steps
   where
     at : (d : Option Deed) → (d >>= state_after s) ≡ Some t → IsSome d
@@ -179,7 +179,7 @@ abbrev record_of : Batch → List ℕ → End → Option Entry
 record_of batch pids e = Some (record { line = batch.line; firings = pids; end = e })
 
 -- a batch of which a line is refused does not start
-not-refused : {a : Acceptance} {l k : LedgerState} (batch other : Batch) {starts : List Resolved} {n : ℕ}
+pub not-refused : {a : Acceptance} {l k : LedgerState} (batch other : Batch) {starts : List Resolved} {n : ℕ}
     {cause : Refusal}
     → AllStart a l batch.starts starts → OneRefuses a k other.starts n cause → l ≡ k → batch ≡ other → ⊥
 not-refused {a} {l} {k} batch other {starts} {n} {cause} begun refuses ledger batches =

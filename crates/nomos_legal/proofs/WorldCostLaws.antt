@@ -12,7 +12,7 @@ use Rattle.nomos_machine.proofs.CostLaws.{RunCosts, costs-bound, costs-through, 
 use Rattle.nomos_legal.specs.Batch.{after_start, after_starts, state_or}
 use Rattle.nomos_legal.specs.Ledger.{LedgerState}
 use Rattle.nomos_legal.specs.StandsFor.{WorldStandsFor}
-use Rattle.nomos_legal.specs.World.{WorldState, pids_of, start_of}
+use Rattle.nomos_legal.specs.World.{WorldState, pids_of, ledger_begun}
 use Rattle.nomos_legal.specs.declared.resolved.Resolved.{Resolved}
 use Rattle.nomos_legal.proofs.WorldLaws.{world-run}
 
@@ -47,7 +47,7 @@ module _ {a : Acceptance} (under : IsUnderCostAll a.program) where
   pub world-pays : IsAccepted a → {w : WorldState} → WorldStandsFor a w
       → PaysFor a (length w.firings) w.origin.state w.state
   world-pays accepted {w} stands =
-      let start : State = (start_of a w).state in
+      let start : State = (ledger_begun a w).state in
       let fired = run-costs accepted under start w.state (pids_of w.firings) stands.start.typed
       (world-run accepted stands)
       in

@@ -21,7 +21,7 @@ use Rattle.nomos_legal.specs.Batch.{AllStart, after_starts}
 use Rattle.nomos_legal.specs.Ending.{EndsAs, HasTransaction}
 use Rattle.nomos_legal.specs.Ledger.{AreNamed, LedgerState, IsLedger}
 use Rattle.nomos_legal.specs.StandsFor.{IsSettled, StandsFor, WorldStandsFor}
-use Rattle.nomos_legal.specs.World.{WorldState, IsWorld, FiresAt, start_of, pids_of, committed}
+use Rattle.nomos_legal.specs.World.{WorldState, IsWorld, FiresAt, ledger_begun, pids_of, committed}
 use Rattle.nomos_legal.specs.World as world
 use Rattle.nomos_legal.specs.declared.journal.End.TheVariants as end
 use Rattle.nomos_legal.specs.declared.journal.Firing.{Firing}
@@ -139,7 +139,7 @@ reached-stands accepted reached few ends = record {
 
 -- what a batch leaves that stays is the ledger of its start, with the last state and nothing emitted
 pub committed-is : {a : Acceptance} {w : WorldState} → WorldStandsFor a w
-    → committed w ≡ record (start_of a w) { state = cleared w.state }
+    → committed w ≡ record (ledger_begun a w) { state = cleared w.state }
 committed-is {a} {w} stands =
     let (accounts, deposits) = starts-same a w.origin w.starts in
     λ i. record {
@@ -180,10 +180,10 @@ begun-named {a} accepted {l} {starts} {rs} settled ledger all =
     (starts-same a l rs).0 named
 
 module _ {a : Acceptance} (accepted : IsAccepted a) {w : WorldState} (stands : WorldStandsFor a w) where
-  pub world-run : run a (start_of a w).state (pids_of w.firings) ≡ Some w.state
+  pub world-run : run a (ledger_begun a w).state (pids_of w.firings) ≡ Some w.state
   world-run = fires_at-run stands.reached
 
-  world-reached : Reached a (start_of a w) w.state
+  world-reached : Reached a (ledger_begun a w) w.state
   world-reached = settled-reached accepted stands.start (pids_of w.firings) w.state world-run
 
   pub world-typed : IsTyped a w.state
@@ -208,10 +208,10 @@ module _ {a : Acceptance} (accepted : IsAccepted a) {w : WorldState} (stands : W
       subst (All (λ (c : List ℕ × ℕ). IsContractName a w.state c.1)) (sym stands.contracts) world-reached.contracts
 
   -- both next numbers rise by one at most with each firing
-  pub world-rises : Rises (length w.firings) (start_of a w).state w.state
+  pub world-rises : Rises (length w.firings) (ledger_begun a w).state w.state
   world-rises =
-      subst (λ (n : ℕ). Rises n (start_of a w).state w.state) (length-map w.firings (λ f. f.pid))
-      (run-rises accepted (start_of a w).state w.state (pids_of w.firings) stands.start.typed world-run)
+      subst (λ (n : ℕ). Rises n (ledger_begun a w).state w.state) (length-map w.firings (λ f. f.pid))
+      (run-rises accepted (ledger_begun a w).state w.state (pids_of w.firings) stands.start.typed world-run)
 
   -- there is an instruction for each firing
   pub world-places : length w.places ≡ length w.firings
@@ -230,7 +230,7 @@ module _ {a : Acceptance} (accepted : IsAccepted a) {w : WorldState} (stands : W
     start = stands.start;
     contracts = stands.contracts;
     reached =
-        subst (λ (pids : List ℕ). FiresAt a (start_of a w).state pids (w.places ++ p.code ∷ []) t)
+        subst (λ (pids : List ℕ). FiresAt a (ledger_begun a w).state pids (w.places ++ p.code ∷ []) t)
         (sym (map-append (λ (f : Firing). f.pid) w.firings (firing ∷ [])))
         (fires_at-push firing.pid p stands.reached found steps);
   }

@@ -6,7 +6,7 @@ use Rattle.nomos_machine.specs.State.{gas_of}
 use Rattle.nomos_machine.specs.TypedState.{IsTyped, IsContractName}
 use Rattle.nomos_legal.specs.Ending.{HasTransaction}
 use Rattle.nomos_legal.specs.Ledger.{LedgerState, deposited, FitsDeposits}
-use Rattle.nomos_legal.specs.World.{WorldState, FiresAt, start_of, pids_of}
+use Rattle.nomos_legal.specs.World.{WorldState, FiresAt, ledger_begun, pids_of}
 use Rattle.nomos_legal.specs.declared.journal.End.{End}
 use Rattle.nomos_legal.specs.declared.journal.End.TheVariants as end
 use Rattle.nomos_legal.specs.declared.refusal.Refusal.TheVariants as refusal
@@ -31,9 +31,9 @@ pub record StandsFor (a : Acceptance) (l : LedgerState) : Type 0 where
 -- is the one that its firings reach from its start, each at its instruction.
 pub record WorldStandsFor (a : Acceptance) (w : WorldState) : Type 0 where
   pub origin : StandsFor a w.origin
-  pub start : IsSettled a (start_of a w)
-  pub contracts : w.contracts ≡ (start_of a w).contracts
-  pub reached : FiresAt a (start_of a w).state (pids_of w.firings) w.places w.state
+  pub start : IsSettled a (ledger_begun a w)
+  pub contracts : w.contracts ≡ (ledger_begun a w).contracts
+  pub reached : FiresAt a (ledger_begun a w).state (pids_of w.firings) w.places w.state
 
 -- what a deposit at this line answers and does
 pub record Deposits (a : Acceptance) (before : LedgerState) (line : ℕ) (name : List ℕ) (units : ℕ) (answer : End)

@@ -27,8 +27,8 @@ abbrev pub IsWorld : WorldState → Type 0
 IsWorld w = AreNamed w.origin.accounts w.contracts w.state.balances
 
 -- the ledger after the starts of the batch, before any firing
-abbrev pub start_of : Acceptance → WorldState → LedgerState
-start_of a w = after_starts a w.origin w.starts
+abbrev pub ledger_begun : Acceptance → WorldState → LedgerState
+ledger_begun a w = after_starts a w.origin w.starts
 
 -- the numbers of the processes that fired
 abbrev pub pids_of : List Firing → List ℕ

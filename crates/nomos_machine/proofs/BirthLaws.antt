@@ -72,7 +72,7 @@ stands-mentioned (o ∷ objects) name =
       sum_by-cons (λ (d : Object). count_of name (based d)) o objects,
     )
 
-unshared-mode : (m : Mode) → m ≢ mode.S → is_shared_mode m ≡ false
+pub unshared-mode : (m : Mode) → m ≢ mode.S → is_shared_mode m ≡ false
 unshared-mode mode.S other = absurd (other refl)
 unshared-mode mode.R other = refl
 unshared-mode mode.L other = refl

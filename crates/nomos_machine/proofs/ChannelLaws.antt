@@ -219,26 +219,11 @@ module _ (n : ℕ) where
   sent-uses chan.Own from name brought = omega (arith, count-append n (name ∷ []) (carried brought))
   sent-uses (chan.Var v) from name brought = omega (arith, count-append n (from ∷ []) (carried brought))
 
-  -- a message that it receives there
-  got-provides : (c : Chan) (from name : ℕ)
-      → count_of n (cond (not (is_own c)) (from ∷ []) (name ∷ []))
-      ≡ count_of n (client_end c from) + count_of n (provider_end c name)
-  got-provides chan.Own from name = omega arith
-  got-provides (chan.Var v) from name = omega arith
-
   got-uses : (c : Chan) (from name : ℕ) (brought : Payload)
       → count_of n (cond (not (is_own c)) (name ∷ []) (from ∷ []) ++ carried brought)
       ≡ count_of n (provider_end c from) + count_of n (client_end c name) + count_of n (carried brought)
   got-uses chan.Own from name brought = omega (arith, count-append n (from ∷ []) (carried brought))
   got-uses (chan.Var v) from name brought = omega (arith, count-append n (name ∷ []) (carried brought))
-
-  pub received-provides : (c : Chan) (m : Message) (name : ℕ) → m.to_client ≡ not (is_own c) → m.next ≡ Some name
-      → count_of n (provided (object.Message m))
-      ≡ count_of n (client_end c m.from) + count_of n (provider_end c name)
-  received-provides c m name way next =
-      ap (λ (b : Bool). count_of n (cond b (m.from ∷ []) (option_to_list m.next))) way
-      ∙ ap (λ (o : Option ℕ). count_of n (cond (not (is_own c)) (m.from ∷ []) (option_to_list o))) next
-      ∙ got-provides c m.from name
 
   pub received-uses : (c : Chan) (m : Message) (name : ℕ) → m.to_client ≡ not (is_own c) → m.next ≡ Some name
       → count_of n (used (object.Message m))

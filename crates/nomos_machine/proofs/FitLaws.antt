@@ -1,6 +1,6 @@
 -- A change that fits a typed state leaves it typed.
 use Rattle.std.proofs.Common.{cond, ◌≡◌, ◌∙◌, ◌<◌, ◌≤◌, ℕ, ◌+◌, Bool, true, false, List, [], ◌∷◌, ◌++◌, map, filter, length, All, Contains, Option, Some, None, IsSome, refl, sym, ap, subst, arith, append-nil}
-use Rattle.std.proofs.lemmas.List.Elements.{All-nil, All-cons, All-contains, All-append, All-weaker, All-filter, All-contains_itself, Contains-append_left, Contains-append_right}
+use Rattle.std.proofs.lemmas.List.Elements.{All-nil, All-cons, All-contains, All-append, All-weaker, All-filter, All-contains_itself}
 use Rattle.std.proofs.lemmas.List.Kept.{IsStrictlySortedBy-filter}
 use Rattle.std.specs.List.Sorted.{IsStrictlySortedBy}
 use Rattle.std.specs.Ordering.{nat_cmp}
@@ -9,6 +9,7 @@ use Rattle.nomos_ir.specs.Order.{count_of}
 use Rattle.nomos_ir.specs.declared.ids.TypeId.{TypeId}
 use Rattle.nomos_ir.specs.declared.mode.Mode.{Mode}
 use Rattle.nomos_ir.specs.declared.mode.Mode.TheVariants as mode
+use Rattle.nomos_types.proofs.AmountLaws.{all-first, all-last}
 use Rattle.nomos_types.specs.Acceptance.{Acceptance}
 use Rattle.nomos_types.specs.Modes.{HasMode}
 use Rattle.nomos_machine.proofs.ChangeLaws.{Replaces, news, made-all, replaced-order, replaced-numbers}
@@ -53,16 +54,6 @@ pub record Fits (a : Acceptance) (s : State) (c : Change) : Type 0 where
       → 1 ≤ times mentioned (made s c).objects name → InSection a (made s c) name t
 
 -- ---- the parts of a list
-
-all-front : {X : Type 0} (P : X → Type 0) (xs ys : List X) → All P (xs ++ ys) → All P xs
-all-front P xs ys all =
-    All-weaker (Contains xs) P
-    (λ x there. All-contains P (xs ++ ys) x all (Contains-append_left xs ys x there)) xs (All-contains_itself xs)
-
-all-back : {X : Type 0} (P : X → Type 0) (xs ys : List X) → All P (xs ++ ys) → All P ys
-all-back P xs ys all =
-    All-weaker (Contains ys) P
-    (λ x there. All-contains P (xs ++ ys) x all (Contains-append_right xs ys x there)) ys (All-contains_itself ys)
 
 -- ---- numbers
 
@@ -195,13 +186,13 @@ module _ (a : Acceptance) (s : State) (c : Change) (typed : IsTyped a s) (fits :
       (λ name t there found. type_of-kept s.types (map (λ u. (s.next_name, u)) (option_to_list c.next_type)) name t found)
       in
       made-all After s c (All-weaker Before After stays s.objects typed.each)
-      (all-front After (news c.places) (option_to_list c.comes) fits.typed)
-      (all-back After (news c.places) (option_to_list c.comes) fits.typed)
+      (all-first After (news c.places) (option_to_list c.comes) fits.typed)
+      (all-last After (news c.places) (option_to_list c.comes) fits.typed)
 
   made-variables : All HasVariables (made s c).objects
   made-variables = made-all HasVariables s c typed.numbered.variables
-      (all-front HasVariables (news c.places) (option_to_list c.comes) fits.variables)
-      (all-back HasVariables (news c.places) (option_to_list c.comes) fits.variables)
+      (all-first HasVariables (news c.places) (option_to_list c.comes) fits.variables)
+      (all-last HasVariables (news c.places) (option_to_list c.comes) fits.variables)
 
   same-accounts : length (changed s c).balances ≡ length s.balances
   same-accounts = paid_in-length c.gets (paid_out c.gives s.balances) ∙ paid_out-length c.gives s.balances

@@ -22,7 +22,7 @@ use Rattle.nomos_types.proofs.ArgumentsLaws.{passes-values_left}
 use Rattle.nomos_machine.specs.Deeds.{hands_over_all, hands_over_lists}
 use Rattle.nomos_ir.specs.TermsEvaluation.{terms_evaluation}
 use Rattle.nomos_machine.specs.Given.{Given, give_values, give_names, given}
-use Rattle.nomos_machine.specs.Matching.{NameHasType, IsListOf, Matches}
+use Rattle.nomos_machine.specs.Matching.{NameHasType, IsListOf}
 use Rattle.nomos_machine.specs.Objects.{potential_of}
 use Rattle.nomos_machine.specs.Optional.{◌>>=◌}
 use Rattle.nomos_machine.specs.Sight.{is_shared_name}
@@ -153,22 +153,3 @@ module _ {a : Acceptance} (accepted : IsAccepted a) {s : State} (typed : IsTyped
         potential = one.sum;
         uses = two.uses;
       }
-
-  -- what is left of the process is what is left of its judgement
-  pub handed-matches : {d : ProcDecl} {args : Args} {vs : List Value} {left : Judgement} → Handed d args vs left
-      → Matches a.program a.annotations s.types
-      (hands_over_all a s p args.channels (hands_over_lists a s p args.values p)) left
-  handed-matches {args = args} {left = left} handed =
-      let t = process-typed typed there in
-      let rest : Process = record p { lists = handed.its_lists; channels = handed.names } in
-      let still : Judgement = record own { lists = left.lists; linear = left.linear } in
-      let here : Matches a.program a.annotations s.types rest still = record {
-        mode = t.matches.mode;
-        code = t.matches.code;
-        offers = t.matches.offers;
-        values = t.matches.values;
-        held_lists = handed.held_lists;
-        channels = handed.channels;
-      } in
-      subst (λ (q : Process). Matches a.program a.annotations s.types q left) (sym handed.rest)
-      (subst (Matches a.program a.annotations s.types rest) (sym handed.same) here)

@@ -1,5 +1,5 @@
 -- Names that are used exactly once, and what a process that goes on with its own channel stands for.
-use Rattle.std.proofs.Common.{false, ◌≡◌, ◌≢◌, ◌∙◌, ◌≤◌, inl, inr, ℕ, [], ◌∷◌, ◌++◌, Option, Some, IsSome, refl, sym, subst, ap, arith, ne_eqb}
+use Rattle.std.proofs.Common.{◌≡◌, ◌≢◌, ◌∙◌, ◌≤◌, inl, inr, ℕ, [], ◌∷◌, ◌++◌, Option, Some, IsSome, refl, sym, subst, ap, arith, ne_eqb}
 use Rattle.nomos_ir.specs.Order.{count_of}
 use Rattle.nomos_ir.specs.declared.code_node.Chan.{Chan}
 use Rattle.nomos_ir.specs.declared.code_node.Chan.TheVariants as chan
@@ -107,11 +107,3 @@ told-shared {a} accepted name t m is has =
     ap (shows_shared a.program) is.found
     ∙ type-shows_shared formed is.alike.mode is.alike.left_mode
     ∙ ap is_shared_mode (mode-unique formed.program is.alike.right_mode has)
-
--- a mode of channels that are used exactly once is not that of shared ones
-pub linear-not_shared : (m : Mode) → IsLinearMode m → false ≡ is_shared_mode m
-linear-not_shared mode.R linear = refl
-linear-not_shared mode.L linear = refl
-linear-not_shared mode.T linear = refl
-linear-not_shared mode.S (inl is) = absurd cc
-linear-not_shared mode.S (inr is) = absurd cc

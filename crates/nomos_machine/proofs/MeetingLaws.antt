@@ -12,6 +12,7 @@ use Rattle.nomos_ir.specs.declared.mode.Mode.TheVariants as mode
 use Rattle.nomos_ir.specs.declared.type_node.TypeNode.{TypeNode}
 use Rattle.nomos_ir.specs.declared.type_node.TypeNode.TheVariants as node
 use Rattle.nomos_ir.proofs.BindingLaws.{bind-ascending, unbind-ascending}
+use Rattle.nomos_machine.proofs.ChannelLaws.{uncounted}
 use Rattle.nomos_types.specs.Acceptance.{Acceptance, IsAccepted}
 use Rattle.nomos_types.specs.Alike.{AlikeTypes}
 use Rattle.nomos_types.specs.Equality.{SameHead, up, down}
@@ -68,10 +69,6 @@ module _ {a : Acceptance} (accepted : IsAccepted a) where
       down-alone _ lands (down c _ alike_rest) = (c, lands, alike_rest)
 
 -- ---- variables
-
-uncounted : {X : Type 0} (o : Option X) → count_one o ≡ 0 → o ≡ None
-uncounted (Some x) none = absurd (omega arith)
-uncounted None none = refl
 
 -- a free variable is neither a reference nor a channel that is used exactly once
 pub free-shared : (j : Judgement) (v : VarId) → IsFree j v → bound_to v.0 j.shared ≡ None

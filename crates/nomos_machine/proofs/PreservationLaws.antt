@@ -23,7 +23,7 @@ use Rattle.nomos_machine.proofs.PutLaws.{object_at-found}
 
 -- ---- the process of a number
 
-process-found : (o : Option Object) (p : Process) → (o >>= process_of) ≡ Some p → o ≡ Some (object.Process p)
+pub process-found : (o : Option Object) (p : Process) → (o >>= process_of) ≡ Some p → o ≡ Some (object.Process p)
 process-found (Some (object.Process q)) p is = ap (λ (r : Process). Some (object.Process r)) (same is)
   where
     same : Some q ≡ Some p → q ≡ p
@@ -51,7 +51,7 @@ pub record Keeps (a : Acceptance) (s t : State) : Type 0 where
   pub names_rise : s.next_name ≤ t.next_name
   pub names : t.next_name ≤ s.next_name + 1
 
-at-most-one : {X : Type 0} (o : Option X) → length (option_to_list o) ≤ 1
+pub at-most-one : {X : Type 0} (o : Option X) → length (option_to_list o) ≤ 1
 at-most-one (Some x) = omega arith
 at-most-one None = omega arith
 

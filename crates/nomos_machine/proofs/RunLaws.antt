@@ -1,6 +1,6 @@
 -- How far the next numbers rise in a run, that it leaves the accounts, and its fronts.
 use Rattle.std.proofs.Common.{◌≡◌, ◌∙◌, ◌≤◌, ℕ, zero, suc, ◌+◌, List, [], ◌∷◌, ◌++◌, length, take, Option, Some, None, refl, subst, ap, arith}
-use Rattle.std.specs.Option.{option_to_list}
+use Rattle.nomos_machine.proofs.PreservationLaws.{at-most-one}
 use Rattle.nomos_types.specs.Acceptance.{Acceptance, IsAccepted}
 use Rattle.nomos_machine.specs.Change.{Change, changed, paid_out}
 use Rattle.nomos_machine.specs.Optional.{◌>>=◌}
@@ -19,10 +19,6 @@ pub record Rises (n : ℕ) (s t : State) : Type 0 where
   pub names : t.next_name ≤ s.next_name + n
   pub accounts : length t.balances ≡ length s.balances
   pub spends : s.spent ≤ t.spent
-
-at-most-one : {X : Type 0} (o : Option X) → length (option_to_list o) ≤ 1
-at-most-one (Some x) = omega arith
-at-most-one None = omega arith
 
 change-rises : (s : State) (c : Change) → Rises 1 s (changed s c)
 change-rises s c = record {

@@ -25,6 +25,7 @@ use Rattle.nomos_ir.proofs.BindingLaws.{bound-after_unbind_other, unbind-ascendi
 use Rattle.nomos_ir.proofs.PairedLaws.{paired-left}
 use Rattle.nomos_ir.proofs.SumLaws.{count-after_unbind}
 use Rattle.nomos_ir.proofs.UnfoldLaws.{unfolds-unfolded}
+use Rattle.nomos_types.proofs.ToldModeLaws.{linear-unshared}
 use Rattle.nomos_types.specs.Acceptance.{Acceptance, IsAccepted}
 use Rattle.nomos_types.specs.Amount.{dths}
 use Rattle.nomos_types.specs.Arguments.{PassesChannel, shared, linear}
@@ -53,7 +54,7 @@ use Rattle.nomos_machine.specs.declared.object.Process.{Process}
 use Rattle.nomos_machine.proofs.AloneDeeds.{At, GoesAt}
 use Rattle.nomos_machine.proofs.ChannelLaws.{channel-unshared, goes_on-with_potential}
 use Rattle.nomos_machine.proofs.GoesLaws.{Goes, acts, faulty, process-typed, process-variables, own-row, own-stands, own-is_judgement, own-matches, value-has_kind, affords}
-use Rattle.nomos_machine.proofs.LinearLaws.{told-shared, linear-not_shared}
+use Rattle.nomos_machine.proofs.LinearLaws.{told-shared}
 use Rattle.nomos_machine.proofs.MatchLaws.{holds-fewer}
 use Rattle.nomos_machine.proofs.ProcessLaws.{own_judgement}
 use Rattle.nomos_machine.proofs.SendLaws.{sent, sends-made, sends-replaces, sends-fits, sends-keeps_gas}
@@ -316,7 +317,7 @@ module _ {a : Acceptance} (accepted : IsAccepted a) {s : State} (typed : IsTyped
           let (name, found, is) =
           held-name y own_type (ap (λ (o : Option TypeId). option_or o (bound_to y.0 own.linear)) none ∙ bound)
           in
-          let told = told-shared accepted name own_type m is has ∙ sym (linear-not_shared m is_linear) in
+          let told = told-shared accepted name own_type m is has ∙ sym (linear-unshared m is_linear) in
           let on = own-matches typed there in
           channel-goes c y next name (without_channel y p) found (hands-over y name false found told)
           (record {

@@ -16,9 +16,10 @@ use Rattle.nomos_ir.specs.declared.mode.Mode.TheVariants as mode
 use Rattle.nomos_ir.proofs.BindingLaws.{bind-ascending}
 use Rattle.nomos_ir.proofs.PairedLaws.{none-left}
 use Rattle.nomos_ir.proofs.SumLaws.{times_bound, count-first, count-after_bind}
+use Rattle.nomos_machine.proofs.ChannelLaws.{uncounted}
 use Rattle.nomos_types.specs.Acceptance.{Acceptance, IsAccepted}
 use Rattle.nomos_types.specs.Amount.{dths}
-use Rattle.nomos_types.specs.Judgement.{Judgement, count_one, at_code, with_potential, binds_channel}
+use Rattle.nomos_types.specs.Judgement.{Judgement, at_code, with_potential, binds_channel}
 use Rattle.nomos_types.specs.Modes.{HasMode}
 use Rattle.nomos_types.specs.Premises.{Spawns}
 use Rattle.nomos_types.specs.TypingRule.{TypingRule}
@@ -72,10 +73,6 @@ binds-as k v mode.L t = refl
 binds-as k v mode.T t = refl
 
 -- ---- a variable that is free
-
-none-counted : {X : Type 0} (o : Option X) → count_one o ≡ 0 → o ≡ None
-none-counted (Some x) none = absurd (omega arith)
-none-counted None none = refl
 
 -- ---- a spawn
 
@@ -144,13 +141,13 @@ module _ {a : Acceptance} (accepted : IsAccepted a) {s : State} (typed : IsTyped
 
     -- the new variable is free in it
     free-shared : bound_to v.0 own.shared ≡ None
-    free-shared = none-counted (bound_to v.0 own.shared) (omega (arith, says.free))
+    free-shared = uncounted (bound_to v.0 own.shared) (omega (arith, says.free))
 
     free-names : bound_to v.0 handed.names ≡ None
     free-names =
         let fewer = (arguments-left (own-is_judgement typed there accepted) says.arguments).parts v.0 in
         let none : bound_to v.0 left.linear ≡ None =
-        none-counted (bound_to v.0 left.linear) (omega (arith, fewer, says.free))
+        uncounted (bound_to v.0 left.linear) (omega (arith, fewer, says.free))
         in
         none-left (handed.channels v.0)
         (ap (λ (o : Option TypeId). option_or o (bound_to v.0 left.linear)) free-shared ∙ none)

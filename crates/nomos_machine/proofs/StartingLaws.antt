@@ -293,7 +293,7 @@ pub cleared-typed : {a : Acceptance} {s : State} → IsTyped a s → IsTyped a (
 cleared-typed {a} {s} typed = accounts-typed typed s.balances s.spent [] (omega arith)
 
 -- nothing is in order
-no-order : IsStrictlySortedBy nat_cmp []
+pub no-order : IsStrictlySortedBy nat_cmp []
 unfolding IsStrictlySortedBy
 no-order = tt
 

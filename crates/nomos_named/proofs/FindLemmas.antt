@@ -1,8 +1,9 @@
 -- What is found first, where tallies tell who does it.
-use Rattle.std.proofs.Common.{◌≡◌, ◌≤◌, ◌∙◌, ◌==◌, ◌&&◌, ℕ, Bool, true, false, cond, List, [], ◌∷◌, ◌++◌, Option, Some, None, Contains, option_and_then, ◌+◌, refl, sym, ap, subst, arith, eqb-true}
+use Rattle.std.proofs.Common.{◌≡◌, ◌≤◌, ◌∙◌, ◌==◌, ℕ, Bool, true, false, cond, List, [], ◌∷◌, ◌++◌, Option, Some, None, Contains, option_and_then, ◌+◌, refl, sym, ap, subst, arith, eqb-true}
 use Rattle.std.proofs.lemmas.List.Sums.{sum_by-cons}
 use Rattle.std.specs.List.{list_any}
 use Rattle.std.specs.Option.{option_map, option_to_list}
+use Rattle.nomos_index.proofs.WalkLemmas.{and-told}
 use Rattle.nomos_ir.specs.Order.{count_of}
 use Rattle.nomos_ir.specs.declared.mode.Mode.{Mode}
 use Rattle.nomos_ir.specs.declared.mode.Mode.TheVariants as mode
@@ -25,17 +26,13 @@ use Rattle.nomos_named.specs.Finding.{doing_of}
 
 -- ---- who passes a test does it
 
-both-true : (a b : Bool) → (a && b) ≡ true → (a ≡ true) × (b ≡ true)
-both-true true b is = (refl, is)
-both-true false b is = absurd cc
-
 read-does : (way : Bool) (name : ℕ) (o : Object) → is_read_on way name o ≡ true
     → 1 ≤ count_of name (names_of (doing_of way) o)
 read-does way name (object.Process p) is = absurd cc
 read-does way name (object.Message m) is = by_way way m.to_client refl both.0
   where
     both : (same_way way m.to_client ≡ true) × ((m.from == name) ≡ true)
-    both = both-true (same_way way m.to_client) (m.from == name) is
+    both = and-told (same_way way m.to_client) (m.from == name) is
 
     first : (more : List ℕ) → 1 ≤ count_of name (m.from ∷ more)
     first more = omega (arith, count-here name m.from more (eqb-true m.from name both.1))

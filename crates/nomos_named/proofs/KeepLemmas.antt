@@ -181,18 +181,6 @@ named-tallied before after s t type name of is own order below exact counts keep
           ];
     })
 
--- tallies that are exact no longer say nothing
-pub lost-tallied : (before after : Tallies) (s t : State) → AreTalliesOf before s → after.exact ≡ false
-    → after.names.now ≡ before.names.now → t.next_name ≡ s.next_name → AreTalliesOf after t
-lost-tallied before after s t of lost same next = record {
-  order = subst (λ (ts : List (Slot Tally)). IsStrictlySortedBy nat_cmp (numbers ts)) (sym same) of.order;
-  below =
-      subst (λ (n : ℕ). All (λ m. m < n + 1) (numbers after.names.now)) (sym next)
-      (subst (λ (ts : List (Slot Tally)). All (λ n. n < s.next_name + 1) (numbers ts)) (sym same) of.below);
-  right = λ yes. absurd cc;
-  suspected = λ yes. absurd cc;
-}
-
 -- what stands aside of names may change
 pub aside-tallied : (t : Tallies) (s u : State) → AreTalliesOf t s → u.objects ≡ s.objects → u.types ≡ s.types
     → u.next_name ≡ s.next_name → AreTalliesOf t u

@@ -183,14 +183,6 @@ module _ (tallies : List (Slot Tally)) (suspects : Suspicion) (name : ℕ) (s : 
         suspect-cases suspects name n (says.suspected exact known n had (λ d. sym (same d n) ∙ idle d)) other;
   }
 
--- a suspect is taken away to be asked
-pub suspect-taken : (exact : Bool) (was is : Suspicion) (tallies : List (Slot Tally)) (s : State) (name : ℕ)
-    → exact ≡ true → was ≡ suspecting name is → SayRight exact was tallies s
-    → SayRight true (suspecting name is) tallies s
-suspect-taken exact was is tallies s name exactly same says =
-    subst (λ (b : Bool). SayRight b (suspecting name is) tallies s) exactly
-    (subst (λ (u : Suspicion). SayRight exact u tallies s) same says)
-
 -- where there are no suspects the state is tidy
 pub no-suspects-tidy : (exact : Bool) (suspects : Suspicion) (tallies : List (Slot Tally)) (s : State)
     → SayRight exact suspects tallies s → exact ≡ true → suspects.lost ≡ false → suspects.names ≡ [] → tidied s ≡ s

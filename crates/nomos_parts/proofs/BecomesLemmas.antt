@@ -2,12 +2,11 @@
 use Rattle.std.proofs.Common.{◌≡◌, ◌∙◌, ◌==◌, ℕ, Bool, true, false, cond, List, [], ◌∷◌, Option, Some, None, IsSome, Result, Ok, Err, OnOk, refl, sym, ap, option_and_then, eq-eqb}
 use Rattle.nomos_machine.specs.Change.{put_at}
 use Rattle.nomos_machine.specs.Objects.{object_at, object_number, process_of}
-use Rattle.nomos_machine.specs.Optional.{◌>>=◌}
 use Rattle.nomos_machine.specs.State.{State, process_at}
 use Rattle.nomos_machine.specs.declared.object.Object.{Object}
 use Rattle.nomos_machine.specs.declared.object.Object.TheVariants as object
 use Rattle.nomos_machine.specs.declared.object.Process.{Process}
-use Rattle.nomos_machine.proofs.PreservationLaws.{process_at-there}
+use Rattle.nomos_machine.proofs.PreservationLaws.{process_at-there, process-found}
 use Rattle.nomos_machine.proofs.PutLaws.{object_at-put}
 use Rattle.std.specs.Option.{option_map}
 use Rattle.nomos_deeds.specs.Seen.{seen_process}
@@ -32,14 +31,6 @@ put-put n one other (o ∷ objects) numbered =
         ap (λ b. cond b (other ∷ put_at n (Some one) objects)
         (o ∷ put_at n (Some other) (put_at n (Some one) objects))) here
         ∙ ap (λ os. o ∷ os) rest
-
-pub process-found : (o : Option Object) (p : Process) → (o >>= process_of) ≡ Some p → o ≡ Some (object.Process p)
-process-found (Some (object.Process q)) p is = ap (λ (r : Process). Some (object.Process r)) (same is)
-  where
-    same : Some q ≡ Some p → q ≡ p
-    same e = cc
-process-found (Some (object.Message m)) p is = absurd cc
-process-found None p is = absurd cc
 
 module _ (s : State) (pid : ℕ) (p q : Process) (there : process_at s pid ≡ Some p) (keeps : q.pid ≡ p.pid) where
   own : q.pid ≡ pid
@@ -72,7 +63,7 @@ pub becomes-then : (s t u : State) (pid : ℕ) (p q : Process) (g : Process → 
     → q.pid ≡ p.pid → t ≡ with_process pid q s → Becomes t pid g u → u ≡ with_process pid (g q) s
 becomes-then s t u pid p q g there keeps is next = becomes-next s t u pid p q (g q) there keeps is (next q)
 
-put-same : (n : ℕ) (o : Object) (objects : List Object) → object_at objects n ≡ Some o
+pub put-same : (n : ℕ) (o : Object) (objects : List Object) → object_at objects n ≡ Some o
     → put_at n (Some o) objects ≡ objects
 put-same n o [] found = absurd cc
 put-same n o (e ∷ objects) found = at (object_number e == n) found (put-same n o objects)

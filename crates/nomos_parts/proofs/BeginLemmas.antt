@@ -4,6 +4,7 @@ use Rattle.nomos_ir.specs.Value.{Value}
 use Rattle.nomos_ir.specs.declared.code_node.Args.{Args}
 use Rattle.nomos_ir.specs.declared.declaration.ProcDecl.{ProcDecl}
 use Rattle.nomos_ir.specs.declared.ids.ProcId.{ProcId}
+use Rattle.nomos_parts.proofs.MadeLemmas.{one-some}
 use Rattle.nomos_types.specs.Acceptance.{Acceptance}
 use Rattle.nomos_deeds.specs.Acts.{args_of}
 use Rattle.nomos_machine.specs.Given.{Given, given}
@@ -15,9 +16,6 @@ use Rattle.nomos_parts.specs.Beginnings.{Begins, HasBegun}
 -- what is said of what is there
 pub if-told : {X : Type 0} (P : X → Type 0) (o : Option X) (x : X) → o ≡ Some x → IfSome o P → P x
 if-told P o x is told = subst (λ o. IfSome o P) is told
-
-one-some : {X : Type 0} (x y : X) → Some x ≡ Some y → x ≡ y
-one-some x y e = cc
 
 pub record SameBegun (d e : ProcDecl) (args others : Args) (g h : Given) (payer own : ℕ) : Type 0 where
   pub declaration : d ≡ e

@@ -2,6 +2,7 @@
 use Rattle.std.proofs.Common.{◌≡◌, ◌==◌, ◌∷◌, ◌++◌, ℕ, Bool, true, false, cond, List, [], Option, Some, option_and_then, sym, ap}
 use Rattle.std.proofs.lemmas.List.{append_assoc}
 use Rattle.std.specs.Option.{option_to_list}
+use Rattle.nomos_machine.proofs.PreservationLaws.{process-found}
 use Rattle.nomos_machine.specs.Change.{put_at}
 use Rattle.nomos_machine.specs.Objects.{object_at, object_number, process_of}
 use Rattle.nomos_machine.specs.State.{State, process_at}
@@ -9,7 +10,6 @@ use Rattle.nomos_machine.specs.declared.object.Object.{Object}
 use Rattle.nomos_machine.specs.declared.object.Object.TheVariants as object
 use Rattle.nomos_machine.specs.declared.object.Process.{Process}
 use Rattle.nomos_parts.specs.SmallChanges.{with_object, with_process}
-use Rattle.nomos_parts.proofs.BecomesLemmas.{process-found}
 
 found-before : (n : ℕ) (e : Object) (objects others : List Object) → object_at objects n ≡ Some e
     → object_at (objects ++ others) n ≡ Some e

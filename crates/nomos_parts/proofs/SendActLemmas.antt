@@ -5,6 +5,7 @@ use Rattle.nomos_ir.specs.declared.code_node.Chan.{Chan}
 use Rattle.nomos_ir.specs.declared.ids.CodeId.{CodeId}
 use Rattle.nomos_ir.specs.declared.ids.TypeId.{TypeId}
 use Rattle.nomos_ir.specs.declared.ids.VarId.{VarId}
+use Rattle.nomos_machine.proofs.PreservationLaws.{process-found}
 use Rattle.nomos_types.specs.Acceptance.{Acceptance}
 use Rattle.nomos_deeds.specs.Acts.{act_change, message_at, received_change, sending_change, taken}
 use Rattle.nomos_deeds.specs.declared.act.Act.TheVariants as act
@@ -27,7 +28,6 @@ use Rattle.nomos_machine.specs.declared.object.Process.{Process}
 use Rattle.nomos_machine.proofs.PutLaws.{object_at-found, put-weight}
 use Rattle.nomos_parts.specs.Sendings.{after_sending, brought_by, gas_of_sending, message_sent, with_sent}
 use Rattle.nomos_parts.specs.SmallChanges.{with_name, with_object, with_process, without_object}
-use Rattle.nomos_parts.proofs.BecomesLemmas.{process-found}
 use Rattle.nomos_parts.proofs.BehindLemmas.{becomes-before}
 use Rattle.nomos_parts.proofs.MadeLemmas.{one-some, same-state}
 

@@ -1,8 +1,9 @@
 -- Objects at the place of the first one of a number.
-use Rattle.std.proofs.Common.{◌≡◌, ◌∙◌, ◌<◌, ◌==◌, ℕ, suc, Bool, true, false, not, cond, List, [], ◌∷◌, ◌++◌, map, length, Option, Some, None, slice_set, slice_index_or, refl, sym, ap, subst, arith, option_and_then, nat_lt, eq-eqb, eqb-true, ◌+◌, ◌≤◌}
+use Rattle.std.proofs.Common.{◌≡◌, ◌∙◌, ◌<◌, ◌==◌, ℕ, suc, Bool, true, false, not, cond, List, [], ◌∷◌, ◌++◌, map, length, Option, Some, None, slice_set, slice_index_or, refl, sym, ap, subst, arith, option_and_then, nat_lt, eqb-true, ◌+◌, ◌≤◌}
 use Rattle.std.proofs.lemmas.Bool.{ltb-true, ltb-false}
 use Rattle.std.specs.Option.{option_to_list}
 use Rattle.std.specs.List.{position, position_or_len, remove}
+use Rattle.nomos_machine.proofs.PreservationLaws.{process-found}
 use Rattle.nomos_machine.specs.Change.{put_at}
 use Rattle.nomos_machine.specs.Objects.{object_number, object_at, process_of}
 use Rattle.nomos_machine.specs.Optional.{◌>>=◌}
@@ -10,6 +11,7 @@ use Rattle.nomos_machine.specs.declared.object.Message.{Message}
 use Rattle.nomos_machine.specs.declared.object.Object.{Object}
 use Rattle.nomos_machine.specs.declared.object.Object.TheVariants as object
 use Rattle.nomos_machine.specs.declared.object.Process.{Process}
+use Rattle.nomos_parts.proofs.BecomesLemmas.{put-same, put-put}
 use Rattle.nomos_plain.specs.Parts.{has_number, hole, object_in, process_in}
 use Rattle.nomos_plain.specs.declared.object.PlainObject.{PlainObject}
 use Rattle.nomos_plain.specs.declared.object.PlainObject.TheVariants as plain
@@ -156,42 +158,6 @@ pub put_nowhere : (n : ℕ) (new : Option Object) (objects : List PlainObject) �
 put_nowhere n new objects none = sym (put-absent n new (map object_in objects) (place_none n objects none))
 
 -- ---- one change at a number after another
-
-put-put : (n : ℕ) (one other : Object) (objects : List Object) → object_number one ≡ n
-    → put_at n (Some other) (put_at n (Some one) objects) ≡ put_at n (Some other) objects
-put-put n one other [] numbered = refl
-put-put n one other (o ∷ objects) numbered =
-    at (object_number o == n) refl (eq-eqb (object_number one) n numbered) (put-put n one other objects numbered)
-  where
-    at : (b : Bool) → (object_number o == n) ≡ b → (object_number one == n) ≡ true
-        → put_at n (Some other) (put_at n (Some one) objects) ≡ put_at n (Some other) objects
-        → put_at n (Some other) (cond b (one ∷ objects) (o ∷ put_at n (Some one) objects))
-        ≡ cond b (other ∷ objects) (o ∷ put_at n (Some other) objects)
-    at true here is rest = ap (λ b. cond b (other ∷ objects) (one ∷ put_at n (Some other) objects)) is
-    at false here is rest =
-        ap (λ b. cond b (other ∷ put_at n (Some one) objects) (o ∷ put_at n (Some other) (put_at n (Some one) objects))) here
-        ∙ ap (λ os. o ∷ os) rest
-
-put-same : (n : ℕ) (o : Object) (objects : List Object) → object_at objects n ≡ Some o → put_at n (Some o) objects ≡ objects
-put-same n o [] found = absurd cc
-put-same n o (e ∷ objects) found = at (object_number e == n) found (put-same n o objects)
-  where
-    one : Some e ≡ Some o → o ∷ objects ≡ e ∷ objects
-    one is = cc
-
-    at : (b : Bool) → cond b (Some e) (object_at objects n) ≡ Some o
-        → (object_at objects n ≡ Some o → put_at n (Some o) objects ≡ objects)
-        → cond b (o ∷ objects) (e ∷ put_at n (Some o) objects) ≡ e ∷ objects
-    at true is rest = one is
-    at false is rest = ap (λ os. e ∷ os) (rest is)
-
-process-found : (o : Option Object) (p : Process) → (o >>= process_of) ≡ Some p → o ≡ Some (object.Process p)
-process-found (Some (object.Process q)) p is = ap (λ (r : Process). Some (object.Process r)) (same is)
-  where
-    same : Some q ≡ Some p → q ≡ p
-    same e = cc
-process-found (Some (object.Message m)) p is = absurd cc
-process-found None p is = absurd cc
 
 -- what stands where a hole is does so as if there were none
 pub put_in_hole : (n : ℕ) (o : Object) (objects : List Object)

@@ -5,9 +5,8 @@ use Rattle.std.proofs.Math.Nat.{div-mul-le_self}
 use Rattle.std.proofs.lemmas.Nat.{le-div}
 use Rattle.std.specs.Global.{Vec}
 use Rattle.std.specs.List.{position, remove}
-use Rattle.std.specs.List.Sorted.{IsStrictlySortedBy}
-use Rattle.std.specs.Ordering.{nat_cmp}
 use Rattle.nomos_ir.specs.declared.ids.TypeId.{TypeId}
+use Rattle.nomos_machine.proofs.StartingLaws.{no-order}
 use Rattle.nomos_machine.specs.Change.{put_at}
 use Rattle.nomos_machine.specs.Objects.{object_number, object_at}
 use Rattle.nomos_machine.specs.declared.object.Message.{Message}
@@ -40,10 +39,6 @@ message_has_room n (plain.Process k) m is = absurd cc
 message_has_room n (plain.Message g) m is = tt
 
 -- ---- order
-
-no-order : IsStrictlySortedBy nat_cmp []
-unfolding IsStrictlySortedBy
-no-order = tt
 
 -- no objects stand in order
 pub none_in_order : (next : ℕ) → StandInOrder next []

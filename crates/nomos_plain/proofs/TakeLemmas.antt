@@ -1,5 +1,5 @@
 -- A process that is taken out, changed, and put back.
-use Rattle.std.proofs.Common.{◌≡◌, ◌∙◌, ℕ, List, Some, Result, Ok, Err, OnOk, OnErr, ap}
+use Rattle.std.proofs.Common.{◌≡◌, ◌∙◌, ℕ, List, Some, Result, Ok, Err, OnErr, ap}
 use Rattle.nomos_machine.specs.Change.{put_at}
 use Rattle.nomos_machine.specs.State.{State, process_at}
 use Rattle.nomos_machine.specs.declared.object.Object.{Object}
@@ -38,11 +38,6 @@ module _ (s t u : State) (pid own : ℕ) (o : Object)
       put-taken
       ∙ ap (λ (o : Object). with_objects (put_at pid (Some o) s.objects) s) is
       ∙ ap (λ (q : Process). with_process pid q s) (becomes ∙ ap f was)
-
--- what follows where an answer is Ok, or an Err
-pub on_ok : {T E : Type 0} (r : Result T E) {A B : Type 0} → (A → B) → OnOk r A → OnOk r B
-on_ok (Ok x) goes there = goes there
-on_ok (Err e) goes there = tt
 
 pub on_err : {T E : Type 0} (r : Result T E) {A B : Type 0} → (A → B) → OnErr r A → OnErr r B
 on_err (Ok x) goes there = tt

@@ -1,8 +1,8 @@
 -- What a run keeps at each of its calls.
-use Rattle.std.proofs.Common.{◌≡◌, ◌<◌, ◌≤◌, ◌+◌, ◌-◌, ◌^◌, ◌∙◌, inl, inr, ℕ, List, [], map, length, All, Option, Some, None, IfSome, get_or, slice_get, slice_index, refl, sym, subst, ap, arith}
+use Rattle.std.proofs.Common.{◌≡◌, ◌<◌, ◌≤◌, ◌+◌, ◌-◌, ◌^◌, inl, inr, ℕ, List, [], map, length, All, Option, Some, IfSome, slice_get, slice_index, refl, sym, subst, arith}
 use Rattle.std.specs.List.{zip}
 use Rattle.std.proofs.lemmas.List.Elements.{All-nil}
-use Rattle.std.proofs.lemmas.Option.{slice_get_cases, slice_get_within, get_or_from_slice_get, none-some}
+use Rattle.std.proofs.lemmas.Option.{slice_get_cases, slice_get_within, get_or_from_slice_get}
 use Rattle.nomos_ir.specs.Value.{Value}
 use Rattle.nomos_ir.specs.Paired.{PairedInOrder, none as no_pair}
 use Rattle.nomos_ir.specs.declared.declaration.Par.{Par}
@@ -18,18 +18,10 @@ use Rattle.nomos_machine.specs.TypedState.{IsTyped, IsContractName}
 use Rattle.nomos_machine.proofs.GasLaws.{gas-opened, gas-cleared}
 use Rattle.nomos_machine.proofs.PreservationLaws.{step-keeps}
 use Rattle.nomos_machine.proofs.StartingLaws.{after_start, starts-with, started_with-typed, gas-started_with, opened-typed, cleared-typed, empty-typed}
-use Rattle.nomos_deeds.specs.Firings.{Fires, MayFire}
+use Rattle.nomos_deeds.specs.Firings.{Fires}
 use Rattle.nomos_deeds.specs.declared.fire.Fire.{Fire}
 use Rattle.nomos_deeds.specs.declared.fire.Fire.TheVariants as fire
 use Rattle.nomos_plain_tests.specs.Running.{Running, GoesOn, TakesNothing}
-
--- what a firing and a start ask for
-pub may-fire : (r : Running) → GoesOn r → MayFire r.accepted r.state
-may-fire r on = record {
-  typed = on.typed;
-  gas = omega (arith, on.gas);
-  numbers = record { object = omega (arith, on.objects); name = omega (arith, on.names) };
-}
 
 -- the run where its state is this one, and one call less is left
 abbrev pub next_of : Running → State → Running
@@ -147,11 +139,3 @@ can-start a s f payer bound had values nothing number takes needs holds enough =
           (omega (arith, all, amount, enough))
       | inr past ↦ absurd (omega (arith, past.0, number))
     ])
-
--- no account has the last number, so one more may be opened
-pub few-accounts : (balances : List ℕ) → slice_get balances (2 ^ 32 - 2) ≡ None → length balances < 2 ^ 32 - 1
-few-accounts balances none =
-    elim ((slice_get_cases balances (2 ^ 32 - 2)).1) [
-      | inl there ↦ let (x, within, found, same) = there in absurd (none-some x (sym none ∙ found))
-      | inr past ↦ omega (arith, past.0)
-    ]

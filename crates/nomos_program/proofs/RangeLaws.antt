@@ -1,6 +1,6 @@
 -- The ids of the program of a tree whose names obey the rules are in range.
 use Rattle.std.proofs.Common.{◌≡◌, ◌+◌, Bool, true, false, not, List, [], ◌∷◌, ◌++◌, length, get_or, refl, sym, subst, arith}
-use Rattle.nomos_elaborate.proofs.BuiltRangeLaws.{TypeFits, TermFits, CodeFits}
+use Rattle.nomos_elaborate.proofs.BuiltRangeLaws.{TypeFits, TermFits, CodeFits, one_more}
 use Rattle.nomos_elaborate.proofs.NameClaimLaws.{AllHold, first_holds, left_hold, right_hold}
 use Rattle.nomos_elaborate.proofs.DeclaredRangeLaws.{ProcFits, DeclaredInRange, DeclaredInRange-none, decls_made}
 use Rattle.nomos_program.specs.Elaborated.{ObeysNames}
@@ -31,10 +31,6 @@ record Counted (spaces : Spaces) (d : Declared) : Type 0 where
   defs : length d.defs ≡ length spaces.types
   fns : length d.fns ≡ length spaces.functions
   procs : length d.procs ≡ length spaces.processes
-
-one_more : {A : Type 0} (xs : List A) (x : A) → length (xs ++ x ∷ []) ≡ length xs + 1
-one_more [] x = refl
-one_more (y ∷ xs) x = let h = one_more xs x in omega arith
 
 -- a new name is one name more
 new_length : (names : Names) (n : NameAt) → (new_among names n).holds ≡ true

@@ -1,6 +1,6 @@
 -- The first of the written `work`.
-use Rattle.std.proofs.Common.{◌≡◌, ℕ, ◌+◌, ◌<◌, ◌≤◌, List, [], ◌∷◌, ◌++◌, length, map, drop, get_or, Option, Some, None, refl, sym, ap, ◌∙◌}
-use Rattle.std.proofs.lemmas.List.{drop_more, drop_all}
+use Rattle.std.proofs.Common.{◌≡◌, ℕ, ◌+◌, ◌<◌, List, [], ◌∷◌, ◌++◌, length, map, drop, get_or, Option, Some, refl, sym, ap, ◌∙◌}
+use Rattle.std.proofs.lemmas.List.{drop_more}
 use Rattle.std.specs.List.{flat_map}
 use Rattle.nomos_program.specs.WrittenWork.{arm_works, code_works, first_of_list}
 use Rattle.nomos_surface.specs.CodeView.{arm_trees, Arm as Shown}
@@ -9,10 +9,6 @@ use Rattle.nomos_surface.specs.CodeView.{arm_trees, Arm as Shown}
 pub first-some : (a b : List ℕ) (at : ℕ) → first_of_list a ≡ Some at → first_of_list (a ++ b) ≡ Some at
 first-some [] b at e = cc
 first-some (x ∷ a) b at e = e
-
-pub first-none : (a b : List ℕ) → first_of_list a ≡ None → first_of_list (a ++ b) ≡ first_of_list b
-first-none [] b e = refl
-first-none (x ∷ a) b e = cc
 
 -- One turn of a loop: what is left gives what all gives.
 module _ {X : Type 0} (works : X → List ℕ) (xs : List X) (i : ℕ) (total : Option ℕ) where
@@ -24,13 +20,6 @@ module _ {X : Type 0} (works : X → List ℕ) (xs : List X) (i : ℕ) (total : 
       → first_of_list (flat_map works (drop i xs)) ≡ total → first_of_list (works x) ≡ Some at → Some at ≡ total
   first-here x at below item held e =
       sym (first-some (works x) _ at e) ∙ sym (ap first_of_list (left x below item)) ∙ held
-
-  pub first-later : (x : X) → i < length xs → x ≡ get_or xs i x → first_of_list (flat_map works (drop i xs)) ≡ total
-      → first_of_list (works x) ≡ None → first_of_list (flat_map works (drop (i + 1) xs)) ≡ total
-  first-later x below item held e = sym (first-none (works x) _ e) ∙ sym (ap first_of_list (left x below item)) ∙ held
-
-  pub first-nowhere : length xs ≤ i → first_of_list (flat_map works (drop i xs)) ≡ total → None ≡ total
-  first-nowhere all held = sym (ap (λ v. first_of_list (flat_map works v)) (drop_all i xs all)) ∙ held
 
 -- what is in shown things
 pub flat-shown : {X Z : Type 0} (works : Z → List ℕ) (shown : X → Z) (xs : List X)

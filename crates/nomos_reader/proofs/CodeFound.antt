@@ -133,7 +133,7 @@ next_step_read inner n before s tokens rest y vs is e w =
     rw is (ap (λ (p : StepTree × List Placed). read_steps inner n (before ++ p.0 ∷ []) (rest_of p.1)) e
     ∙ ap (λ ts. read_steps inner n (before ++ s ∷ []) (rest_of ts)) w)
 
-append_nil : {A : Type 0} (xs : List A) → xs ++ [] ≡ xs
+pub append_nil : {A : Type 0} (xs : List A) → xs ++ [] ≡ xs
 append_nil [] = refl
 append_nil (x ∷ xs) = ap (λ l. x ∷ l) (append_nil xs)
 

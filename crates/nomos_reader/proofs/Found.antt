@@ -3,6 +3,7 @@ use Rattle.std.proofs.Common.{◌≡◌, ℕ, zero, suc, ◌≤◌, Bool, true, 
 use Rattle.nomos_ir.specs.declared.kind.Base.{Base}
 use Rattle.nomos_ir.specs.declared.kind.Base.TheVariants as base
 use Rattle.nomos_ir.specs.declared.word.Word.TheVariants as word
+use Rattle.nomos_reader.proofs.PartedLemmas.{until_some, until_none}
 use Rattle.nomos_surface.specs.declared.name_at.NameAt.{NameAt}
 use Rattle.nomos_surface.specs.declared.potential.Potential.{Potential}
 use Rattle.nomos_surface.specs.declared.potential.Quantity.{Quantity}
@@ -250,16 +251,6 @@ module _ (A : Type 0) (item : Reader A) (between : Option TokenKind → Bool) (s
 
 -- a list that may be empty, up to its end
 
-empty_read : {A : Type 0} (item : Reader A) (n : ℕ) (tokens : List Placed) → is_list_end (front_kind tokens) ≡ true
-    → read_until item n tokens ≡ ([], tokens)
-unfolding read_until
-empty_read item n tokens e = rw e refl
-
-some_read : {A : Type 0} (item : Reader A) (n : ℕ) (tokens : List Placed) → is_list_end (front_kind tokens) ≡ false →
-    read_until item n tokens ≡ read_parted item is_comma n [] tokens
-unfolding read_until
-some_read item n tokens e = rw e refl
-
 -- what is printed of an item is not the end of a list
 abbrev pub Begins : Printer → Type 0
 Begins p =
@@ -280,7 +271,7 @@ until_found A item Ends room commas [] [] n s after [] all begin ends is_end end
 until_found A item Ends room commas [] [] n s after (x ∷ tokens) all begin ends is_end ended le in_room h =
     let e : is_list_end (front_kind (x ∷ tokens))
     ≡ true = with_this (λ y. is_list_end (front_kind (y ∷ tokens)) ≡ true) (symbol s) x h.0 is_end in
-    record { rest = x ∷ tokens; read = empty_read item n (x ∷ tokens) e; spelled = h; shorter = omega arith }
+    record { rest = x ∷ tokens; read = until_none item n (x ∷ tokens) e; spelled = h; shorter = omega arith }
 until_found A item Ends room commas [] (p ∷ ps) n s after tokens all begin ends is_end ended le in_room h = absurd all
 until_found A item Ends room commas (v ∷ vs) [] n s after tokens all begin ends is_end ended le in_room h = absurd all
 until_found A item Ends room commas (v ∷ vs) (p ∷ ps) n s after tokens all begin ends is_end ended le in_room h =
@@ -288,7 +279,7 @@ until_found A item Ends room commas (v ∷ vs) (p ∷ ps) n s after tokens all b
     (sign_ends_list is_comma s after ended) le in_room h in
     record {
       rest = f.rest;
-      read = some_read item n tokens (begin.0 _ tokens h) ∙ f.read;
+      read = until_some item n tokens (begin.0 _ tokens h) ∙ f.read;
       spelled = f.spelled;
       shorter = f.shorter;
     }

@@ -4,7 +4,7 @@ use Rattle.nomos_grammar.specs.declared.part.Nonterminal.TheVariants as the_prod
 use Rattle.nomos_ir.specs.declared.kind.Base.{Base}
 use Rattle.nomos_ir.specs.declared.kind.Base.TheVariants as base
 use Rattle.nomos_ir.specs.declared.word.Word.TheVariants as word
-use Rattle.nomos_reader.proofs.CodeFound.{code_found}
+use Rattle.nomos_reader.proofs.CodeFound.{code_found, append_nil}
 use Rattle.nomos_reader.proofs.Found.{Found, AllBegin, Begins, FindsAll, append_more, at_this, first_of_shown, potential_found, until_found, value_type_found, with_this}
 use Rattle.nomos_reader.proofs.StepFound.{AnyEnds, whole_found}
 use Rattle.nomos_reader.proofs.TermFronts.{any_ends}
@@ -318,10 +318,6 @@ no_brace_sign s after e (x ∷ us) h = with_this (λ z. is_open_brace (front_kin
 
 -- declarations
 
-append_none : {A : Type 0} (xs : List A) → xs ++ [] ≡ xs
-append_none [] = refl
-append_none (x ∷ xs) = ap (λ l. x ∷ l) (append_none xs)
-
 -- a declaration is found, and it has a token
 abbrev FoundDecl : DeclTree → List Shown → List Placed → Type 0
 FoundDecl d after tokens = (f : Found DeclTree read_decl d after tokens) × (suc (length f.rest) ≤ length tokens)
@@ -559,8 +555,8 @@ decls_read : (ds : List DeclTree) → Each IsDecl ds → (n : ℕ) (before : Lis
     → length tokens ≤ n → Spells (print_decls ds []) tokens →
     read_decls n before tokens ≡ before ++ ds
 unfolding read_decls
-decls_read [] each zero before tokens le h = sym (append_none before)
-decls_read [] each (suc n) before [] le h = sym (append_none before)
+decls_read [] each zero before tokens le h = sym (append_nil before)
+decls_read [] each (suc n) before [] le h = sym (append_nil before)
 decls_read [] each (suc n) before (x ∷ tokens) le h = absurd h
 decls_read (d ∷ ds) each n before [] le h = absurd (no_decl d (print_decls ds []) h)
 decls_read (d ∷ ds) each zero before (x ∷ tokens) le h = absurd (omega (arith, le))

@@ -302,9 +302,6 @@ label_front (chan.Variable n) after (x ∷ tokens) h =
 
 -- what is left behind the parts of a step
 
-abbrev StepFoundAt : StepTree → List Shown → List Placed → Type 0
-StepFoundAt s after tokens = Found StepTree read_step s (sign sym.Semicolon ∷ after) tokens
-
 list_made : (at : ℕ) (v : NameAt) (list_at : ℕ) (tokens : List Placed) (q : Potential) (us : List Placed)
     (t : ValueType) (vs : List Placed) →
     read_potential tokens ≡ (q, us) → read_value_type us ≡ (t, vs)

@@ -1,17 +1,16 @@
 -- Processes without faults.
-use Rattle.std.proofs.Common.{◌≡◌, ◌∙◌, ◌<◌, ◌≤◌, inl, inr, ℕ, Option, Some, None, IsSome, refl, ap, arith}
+use Rattle.std.proofs.Common.{◌≡◌, ◌∙◌, ◌≤◌, inl, inr, ℕ, Option, Some, None, IsSome, refl, ap, arith}
 use Rattle.std.proofs.lemmas.Bool.{cases_lt}
-use Rattle.nomos_ir.specs.declared.fault.Fault.{Fault}
+use Rattle.nomos_ledger.proofs.RestLemmas.{none-zero}
 use Rattle.nomos_types.specs.Acceptance.{Acceptance, IsAccepted}
 use Rattle.nomos_machine.specs.Deeds.{Deed}
 use Rattle.nomos_machine.specs.Deeds as deeds
 use Rattle.nomos_machine.specs.Optional.{◌>>=◌}
-use Rattle.nomos_machine.specs.Run.{IsNextReady, NoneReady}
+use Rattle.nomos_machine.specs.Run.{IsNextReady}
 use Rattle.nomos_machine.specs.State.{State, process_at}
-use Rattle.nomos_machine.specs.Step.{IsReady, deed_of, fault, fault_in, state_after, step}
+use Rattle.nomos_machine.specs.Step.{IsReady, deed_of, fault, fault_in}
 use Rattle.nomos_machine.specs.TypedState.{IsTyped}
 use Rattle.nomos_machine.proofs.PreservationLaws.{ready-none}
-use Rattle.nomos_watch.proofs.ReadyLaws.{none-zero}
 
 module _ (a : Acceptance) (s : State) where
   -- a process that is not ready has no fault
@@ -21,23 +20,6 @@ module _ (a : Acceptance) (s : State) where
       at : (d : Option Deed) → ¬ IsSome d → (d >>= fault_in) ≡ None
       at (Some d) never = absurd (never refl)
       at None never = refl
-
-  -- and no step
-  pub no-step : (pid : ℕ) → ¬ IsReady a s pid → step a s pid ≡ None
-  no-step pid not_ready = at (deed_of a s pid) not_ready
-    where
-      at : (d : Option Deed) → ¬ IsSome d → (d >>= state_after s) ≡ None
-      at (Some d) never = absurd (never refl)
-      at None never = refl
-
-  -- a process with a fault has no step
-  pub fault-no_step : (pid : ℕ) (f : Fault) → fault a s pid ≡ Some f → step a s pid ≡ None
-  fault-no_step pid f has = at (deed_of a s pid) has
-    where
-      at : (d : Option Deed) → (d >>= fault_in) ≡ Some f → (d >>= state_after s) ≡ None
-      at (Some (deeds.changes c)) is = absurd cc
-      at (Some (deeds.has_fault g)) is = refl
-      at None is = refl
 
   -- no process up to the next one that is ready has a fault, where that one has none
   pub faultless-to : (after pid : ℕ) → ((other : ℕ) → other ≤ after → fault a s other ≡ None)
@@ -50,24 +32,6 @@ module _ (a : Acceptance) (s : State) where
               let same : other ≡ pid = omega (arith, within, least) in
               ap (fault a s) same ∙ none_here
         ]
-        | inr least ↦ none other least
-      ]
-
-  -- and none below it
-  pub faultless-below : (after pid : ℕ) → ((other : ℕ) → other ≤ after → fault a s other ≡ None)
-      → IsNextReady a s after pid → (other : ℕ) → other < pid → fault a s other ≡ None
-  faultless-below after pid none next other below =
-      elim (cases_lt after other) [
-        | inl over ↦ no-fault other (next.lowest other over below)
-        | inr least ↦ none other least
-      ]
-
-  -- and none at all, where no other process is ready
-  pub faultless-all : (after : ℕ) → ((other : ℕ) → other ≤ after → fault a s other ≡ None) → NoneReady a s after
-      → (other : ℕ) → fault a s other ≡ None
-  faultless-all after none rest other =
-      elim (cases_lt after other) [
-        | inl over ↦ no-fault other (rest other over)
         | inr least ↦ none other least
       ]
 

@@ -15,6 +15,7 @@ use Rattle.nomos_ir.specs.declared.code_node.CodeNode.{CodeNode}
 use Rattle.nomos_ir.specs.declared.code_node.CodeNode.TheVariants as code
 use Rattle.nomos_ir.specs.declared.declaration.ProcDecl.{ProcDecl}
 use Rattle.nomos_ir.specs.declared.fault.Fault.{Fault}
+use Rattle.nomos_types.proofs.AmountLaws.{all-first, all-last}
 use Rattle.nomos_types.specs.Acceptance.{Acceptance, IsAccepted}
 use Rattle.nomos_types.specs.Amount.{dths}
 use Rattle.nomos_machine.specs.Objects.{object_number}
@@ -36,12 +37,12 @@ use Rattle.nomos_legal.specs.Batch.{AllStart, OneRefuses, after_starts, state_or
 use Rattle.nomos_legal.specs.Batch as batch
 use Rattle.nomos_legal.specs.Ending.{IsAllowed}
 use Rattle.nomos_legal.specs.Ledger.{LedgerState}
-use Rattle.nomos_legal.specs.Legal.{Leads, Tells, batch_limit, firings_in}
+use Rattle.nomos_legal.specs.Legal.{Leads, Tells}
 use Rattle.nomos_legal.specs.Legal as legal
 use Rattle.nomos_legal.specs.NextNumbers.{HasNumbered, PassageNumbers}
 use Rattle.nomos_legal.specs.Passage.{IsPassage, Passage, RunsTo}
 use Rattle.nomos_legal.specs.Passage as passage
-use Rattle.nomos_legal.specs.Starting.{Resolves, IsDeclaration}
+use Rattle.nomos_legal.specs.Starting.{Resolves}
 use Rattle.nomos_legal.specs.Starting as starting
 use Rattle.nomos_legal.specs.declared.journal.End.{End}
 use Rattle.nomos_legal.specs.declared.journal.End.TheVariants as end
@@ -60,7 +61,6 @@ use Rattle.nomos_journal.specs.declared.line.JournalLine.TheVariants as line
 use Rattle.nomos_journal.specs.declared.line.Version.{Version}
 use Rattle.nomos_journal.specs.declared.line.Version.TheVariants as version
 use Rattle.nomos_replay.specs.Written.{AreWritten, IsWritten, IsWrittenStart, line_bound}
-use Rattle.nomos_replay.proofs.PartLemmas.{all-back, all-front}
 
 -- ---- amounts
 
@@ -70,18 +70,18 @@ code-among : (P : Amount → Type 0) (nodes : List CodeNode) (c : ℕ) (n : Code
 code-among P [] c n all found = absurd cc
 code-among P (m ∷ nodes) zero n all found =
     let same : m ≡ n = cc in
-    subst (λ (e : CodeNode). All P (code_amounts e)) same (all-front P (code_amounts m) (flat_map code_amounts nodes) all)
+    subst (λ (e : CodeNode). All P (code_amounts e)) same (all-first P (code_amounts m) (flat_map code_amounts nodes) all)
 code-among P (m ∷ nodes) (suc c) n all found =
-    code-among P nodes c n (all-back P (code_amounts m) (flat_map code_amounts nodes) all) found
+    code-among P nodes c n (all-last P (code_amounts m) (flat_map code_amounts nodes) all) found
 
 proc-among : (P : Amount → Type 0) (procs : List ProcDecl) (c : ℕ) (d : ProcDecl) → All P (flat_map proc_amounts procs)
     → slice_get procs c ≡ Some d → All P (proc_amounts d)
 proc-among P [] c d all found = absurd cc
 proc-among P (e ∷ procs) zero d all found =
     let same : e ≡ d = cc in
-    subst (λ (x : ProcDecl). All P (proc_amounts x)) same (all-front P (proc_amounts e) (flat_map proc_amounts procs) all)
+    subst (λ (x : ProcDecl). All P (proc_amounts x)) same (all-first P (proc_amounts e) (flat_map proc_amounts procs) all)
 proc-among P (e ∷ procs) (suc c) d all found =
-    proc-among P procs c d (all-back P (proc_amounts e) (flat_map proc_amounts procs) all) found
+    proc-among P procs c d (all-last P (proc_amounts e) (flat_map proc_amounts procs) all) found
 
 module _ {a : Acceptance} (accepted : IsAccepted a) where
   abbrev Small : Amount → Type 0
@@ -105,8 +105,8 @@ module _ {a : Acceptance} (accepted : IsAccepted a) where
   code-small : (c : ℕ) (n : CodeNode) → slice_get a.program.code c ≡ Some n → All Small (code_amounts n)
   code-small c n found =
       code-among Small a.program.code c n
-      (all-back Small (flat_map (λ t. type_amounts t.node) a.program.types) (flat_map code_amounts a.program.code)
-      (all-front Small
+      (all-last Small (flat_map (λ t. type_amounts t.node) a.program.types) (flat_map code_amounts a.program.code)
+      (all-first Small
       (flat_map (λ t. type_amounts t.node) a.program.types ++ flat_map code_amounts a.program.code)
       (flat_map proc_amounts a.program.procs) all-small))
       found
@@ -114,9 +114,9 @@ module _ {a : Acceptance} (accepted : IsAccepted a) where
   declared-small : (c : ℕ) (d : ProcDecl) → slice_get a.program.procs c ≡ Some d → Small d.amount
   declared-small c d found =
       All-head Small d.amount []
-      (all-back Small _ (d.amount ∷ [])
+      (all-last Small _ (d.amount ∷ [])
       (proc-among Small a.program.procs c d
-      (all-back Small
+      (all-last Small
       (flat_map (λ t. type_amounts t.node) a.program.types ++ flat_map code_amounts a.program.code)
       (flat_map proc_amounts a.program.procs) all-small)
       found))

@@ -5,22 +5,20 @@ use Rattle.std.specs.Option.{option_to_list}
 use Rattle.std.proofs.lemmas.Bool.{cases_lt}
 use Rattle.std.proofs.lemmas.List.{length-map}
 use Rattle.nomos_types.specs.Acceptance.{Acceptance, IsAccepted}
-use Rattle.nomos_machine.specs.State.{State}
 use Rattle.nomos_script.specs.declared.item.Batch.{Batch}
 use Rattle.nomos_script.specs.declared.item.ScriptItem.{ScriptItem}
 use Rattle.nomos_script.specs.declared.item.ScriptItem.TheVariants as item
 use Rattle.nomos_legal.specs.Batch.{after_starts}
 use Rattle.nomos_legal.specs.Ledger.{LedgerState, FitsDeposits, account_of, accounts_with, state_with}
 use Rattle.nomos_legal.specs.Legal.{entries_of, firings_made, max_firings}
-use Rattle.nomos_legal.specs.NextNumbers.{HasNumbered}
 use Rattle.nomos_legal.specs.Passage.{Passage, bare, runs, still}
 use Rattle.nomos_legal.specs.StandsFor.{Deposits, WorldStandsFor}
-use Rattle.nomos_legal.specs.World.{WorldState, pids_of, start_of}
+use Rattle.nomos_legal.specs.World.{WorldState, pids_of, ledger_begun}
 use Rattle.nomos_legal.specs.declared.journal.End.{End}
 use Rattle.nomos_legal.specs.declared.journal.End.TheVariants as end
 use Rattle.nomos_legal.specs.declared.journal.Entry.{Entry}
 use Rattle.nomos_legal.proofs.LegalLaws.{entries_of-append, firings_made-append}
-use Rattle.nomos_legal.proofs.NextNumberLaws.{world-numbers}
+use Rattle.nomos_legal.proofs.NextNumberLaws.{world-numbers, with-numbered, numbered-more}
 use Rattle.nomos_legal.proofs.WorldLaws.{committed-is}
 use Rattle.nomos_report.specs.Reported.{end_lines, passage_lines, shown_lines}
 use Rattle.nomos_report.specs.Shown.{show_lines}
@@ -96,7 +94,7 @@ keeps-still a told i at own after notes more keeps shown limit made entries repo
 
 -- what a batch leaves, in the words of a text
 pub left-same : {a : Acceptance} {w : WorldState} → WorldStandsFor a w → (e : End)
-    → ledger_after w.origin (start_of a w) w.state e ≡ left_by w e
+    → ledger_after w.origin (ledger_begun a w) w.state e ≡ left_by w e
 left-same stands end.Committed = sym (committed-is stands)
 left-same stands end.Deposited = refl
 left-same stands end.Blocked = refl
@@ -110,26 +108,22 @@ pub keeps-run : (a : Acceptance) (told : Told) (batch : Batch) (w : WorldState) 
     → more.made ≡ notes.made + length w.firings
     → more.entries.items ≡ notes.entries.items ++ record { line = batch.line; firings = pids_of w.firings; end = e } ∷ []
     → more.report.items
-    ≡ notes.report.items ++ end_lines a batch.line (length w.firings) (start_of a w).state.spent w.state e
+    ≡ notes.report.items ++ end_lines a batch.line (length w.firings) (ledger_begun a w).state.spent w.state e
     → Keeps a more (told_run a told (under_way batch w) e)
 keeps-run a told batch w e notes more same keeps limit made entries report =
     let after : LedgerState = ledger_after told.ledger (after_starts a told.ledger w.starts) w.state e in
     let p : Passage = runs batch (pids_of w.firings) e told.ledger (after_starts a told.ledger w.starts) w.state after in
     let printed : passage_lines a p
-    ≡ end_lines a batch.line (length w.firings) (start_of a w).state.spent w.state e =
+    ≡ end_lines a batch.line (length w.firings) (ledger_begun a w).state.spent w.state e =
     ap (λ (l : LedgerState). passage_lines a
     (runs batch (pids_of w.firings) e l (after_starts a l w.starts) w.state after)) same
     ∙ batch-printed a batch w e after in
     let count = length-map w.firings (λ f. f.pid) in
     keeps-entry a told p (record { line = batch.line; firings = pids_of w.firings; end = e })
-    (end_lines a batch.line (length w.firings) (start_of a w).state.spent w.state e) notes more keeps refl printed limit
+    (end_lines a batch.line (length w.firings) (ledger_begun a w).state.spent w.state e) notes more keeps refl printed limit
     (omega (arith, made, count)) entries report
 
 -- ---- numbers
-
-numbered-more : (n m : ℕ) → n ≤ m → (s : State) → HasNumbered n s → HasNumbered m s
-numbered-more n m less s is =
-    record { objects = omega (arith, is.objects, less); names = omega (arith, is.names, less) }
 
 -- where nothing changes
 pub rises-none : (starts accounts made : ℕ) (l : LedgerState) → made ≤ max_firings → Rises starts accounts made l made l
@@ -150,12 +144,6 @@ rises-more starts accounts most many made after l k less fewer rises = record {
   few = rises.few;
   accounts_few = omega (arith, rises.accounts_few, fewer);
 }
-
-with-numbered : (n : ℕ) (s : State) (gas : ℕ) (found : Option ℕ) → HasNumbered n s
-    → HasNumbered n (state_with s gas found)
-with-numbered n s gas (Some account) is =
-    record { objects = omega (arith, is.objects); names = omega (arith, is.names) }
-with-numbered n s gas None is = record { objects = is.objects; names = is.names }
 
 with-accounts : (accounts : List (List ℕ)) (name : List ℕ) (found : Option ℕ)
     → length (accounts_with accounts name found) ≤ length accounts + 1

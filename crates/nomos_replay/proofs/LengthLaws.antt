@@ -8,6 +8,7 @@ use Rattle.std.proofs.lemmas.List.Elements.{All-head, All-tail}
 use Rattle.nomos_ir.specs.Instruction.{code_form}
 use Rattle.nomos_ir.specs.declared.code_node.CodeNode.{CodeNode}
 use Rattle.nomos_ir.specs.declared.code_node.CodeNode.TheVariants as code
+use Rattle.nomos_types.proofs.AmountLaws.{all-first, all-last}
 use Rattle.nomos_types.specs.Acceptance.{Acceptance, IsAccepted}
 use Rattle.nomos_types.specs.Amount.{Annotations, dths}
 use Rattle.nomos_machine.specs.Optional.{◌>>=◌}
@@ -20,7 +21,7 @@ use Rattle.nomos_script.specs.declared.item.ScriptItem.TheVariants as item
 use Rattle.nomos_legal.specs.Batch.{after_starts, state_or}
 use Rattle.nomos_legal.specs.Ending.{IsAllowed}
 use Rattle.nomos_legal.specs.Ledger.{LedgerState}
-use Rattle.nomos_legal.specs.Legal.{Leads, Tells, entries_of, firings_in, firings_made, max_firings}
+use Rattle.nomos_legal.specs.Legal.{Leads, Tells, entries_of, firings_in, firings_made}
 use Rattle.nomos_legal.specs.Legal as legal
 use Rattle.nomos_legal.specs.Passage.{IsPassage, Passage}
 use Rattle.nomos_legal.specs.Passage as passage
@@ -42,7 +43,6 @@ use Rattle.nomos_journal.proofs.LineLaws.{length-fired_line, length-frame_line, 
 use Rattle.nomos_replay.specs.Answers.{max_bytes}
 use Rattle.nomos_replay.specs.Written.{AreWritten, IsWritten, line_bound}
 use Rattle.nomos_replay.proofs.FormLaws.{refuses-form}
-use Rattle.nomos_replay.proofs.PartLemmas.{all-back, all-front}
 
 -- the bytes of lines with their line feeds
 abbrev bytes_of : ℕ → List JournalLine → ℕ
@@ -106,8 +106,8 @@ firings-bytes v a s (pid ∷ pids) are =
     omega (
       arith,
       bytes-append a.annotations.unit first rest,
-      firing-bytes v a s pid (all-front IsLine first rest are),
-      firings-bytes v a (state_or s (step a s pid)) pids (all-back IsLine first rest are),
+      firing-bytes v a s pid (all-first IsLine first rest are),
+      firings-bytes v a (state_or s (step a s pid)) pids (all-last IsLine first rest are),
     )
 
 -- ---- passages
@@ -120,7 +120,7 @@ entry-bytes : (a : Acceptance) → IsAccepted a → (at : ℕ) (e : End) (firing
 entry-bytes a accepted at e firings most small below are few =
     let unit : ℕ = a.annotations.unit in
     let tail = All-tail IsLine (line.Line at) (firings ++ line.End e ∷ []) are in
-    let is_end : IsEnd e = All-head IsLine (line.End e) [] (all-back IsLine firings (line.End e ∷ []) tail) in
+    let is_end : IsEnd e = All-head IsLine (line.End e) [] (all-last IsLine firings (line.End e ∷ []) tail) in
     let unit_small : unit < 2 ^ 32 = omega (arith, accepted.small_unit) in
     omega (
       arith,
@@ -156,8 +156,8 @@ module _ {a : Acceptance} (accepted : IsAccepted a) (v : Version) where
       )
   passage-bytes (passage.stays l b starts pids last begun reaches) written are =
       let lines = firing_lines v a (after_starts a l starts).state pids in
-      let all = all-front IsLine (line.Line b.line ∷ (lines ++ line.End end.Committed ∷ [])) [] are in
-      let inner = all-front IsLine lines (line.End end.Committed ∷ [])
+      let all = all-first IsLine (line.Line b.line ∷ (lines ++ line.End end.Committed ∷ [])) [] are in
+      let inner = all-first IsLine lines (line.End end.Committed ∷ [])
       (All-tail IsLine (line.Line b.line) (lines ++ line.End end.Committed ∷ []) all) in
       let same = ap (bytes_of a.annotations.unit) (append-nil (line.Line b.line ∷ (lines ++ line.End end.Committed ∷ []))) in
       omega (
@@ -168,8 +168,8 @@ module _ {a : Acceptance} (accepted : IsAccepted a) (v : Version) where
       )
   passage-bytes (passage.undone l b starts pids last e begun reaches undoes) written are =
       let lines = firing_lines v a (after_starts a l starts).state pids in
-      let all = all-front IsLine (line.Line b.line ∷ (lines ++ line.End e ∷ [])) [] are in
-      let inner = all-front IsLine lines (line.End e ∷ [])
+      let all = all-first IsLine (line.Line b.line ∷ (lines ++ line.End e ∷ [])) [] are in
+      let inner = all-first IsLine lines (line.End e ∷ [])
       (All-tail IsLine (line.Line b.line) (lines ++ line.End e ∷ []) all) in
       let same = ap (bytes_of a.annotations.unit) (append-nil (line.Line b.line ∷ (lines ++ line.End e ∷ []))) in
       omega (
@@ -200,8 +200,8 @@ module _ {a : Acceptance} (accepted : IsAccepted a) (v : Version) where
       omega (
         arith,
         bytes-append a.annotations.unit first others,
-        passage-bytes is (All-head IsWritten p.item (map item_of ps) written) (all-front IsLine first others are),
-        leads-bytes rest (All-tail IsWritten p.item (map item_of ps) written) (all-back IsLine first others are),
+        passage-bytes is (All-head IsWritten p.item (map item_of ps) written) (all-first IsLine first others are),
+        leads-bytes rest (All-tail IsWritten p.item (map item_of ps) written) (all-last IsLine first others are),
         first-entries p.item (map item_of ps),
         first-made p ps,
       )

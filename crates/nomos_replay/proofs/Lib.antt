@@ -6,7 +6,6 @@ mod FormLemmas
 mod ItemLemmas
 mod LineLemmas
 mod OnwardLemmas
-mod PartLemmas
 mod ReadingLemmas
 mod RefusalLemmas
 mod ScriptLemmas
@@ -15,5 +14,4 @@ pub mod FormLaws
 pub mod LegalTextLaws
 pub mod LengthLaws
 pub mod OneAnswerLaws
-pub mod ReplayedLaws
 pub mod RoundTripLaws

@@ -7,6 +7,7 @@ use Rattle.std.proofs.lemmas.List.Elements.{All-head, All-tail}
 use Rattle.std.proofs.lemmas.Option.{none-some, same_Some}
 use Rattle.nomos_ir.specs.declared.code_node.CodeNode.{CodeNode}
 use Rattle.nomos_ir.specs.declared.code_node.CodeNode.TheVariants as code
+use Rattle.nomos_types.proofs.AmountLaws.{all-first, all-last}
 use Rattle.nomos_types.specs.Acceptance.{Acceptance}
 use Rattle.nomos_machine.specs.Optional.{◌>>=◌}
 use Rattle.nomos_machine.specs.Run.{run}
@@ -39,13 +40,12 @@ use Rattle.nomos_journal.specs.declared.line.JournalLine.TheVariants as line
 use Rattle.nomos_journal.specs.declared.line.Version.{Version}
 use Rattle.nomos_journal.specs.declared.line.Version.TheVariants as version
 use Rattle.nomos_journal.proofs.LineLaws.{first_line}
-use Rattle.nomos_replay.specs.Answers.{Answers, Reads, max_bytes, told_show}
+use Rattle.nomos_replay.specs.Answers.{Answers, Reads, max_bytes}
 use Rattle.nomos_replay.specs.Answers as answers
-use Rattle.nomos_replay.specs.Stand.{Goes, Stand, UnderWay, before, fires, says_fired}
+use Rattle.nomos_replay.specs.Stand.{Goes, Stand, before, fires, says_fired}
 use Rattle.nomos_replay.specs.Stand as stand
 use Rattle.nomos_replay.specs.Told.{Told, next_limit, nothing_told, told_with}
 use Rattle.nomos_replay.specs.declared.error.ReplayError.{ReplayError}
-use Rattle.nomos_replay.proofs.PartLemmas.{all-back, all-front}
 
 -- ---- the line of a firing
 
@@ -302,7 +302,7 @@ module _ (a : Acceptance) (all : List ScriptItem) (v : Version) where
         ap firings_made (entries_of-append qs (p ∷ [])),
         firings_made-append (entries_of qs) (entries_of (p ∷ [])),
       ) in
-      let rest = reads-leads limit leads (qs ++ p ∷ []) more (all-back IsLine lines others are) in
+      let rest = reads-leads limit leads (qs ++ p ∷ []) more (all-last IsLine lines others are) in
       let told = subst
       (λ (rs : List Passage). ReadsOn (before v (up_to limit (qs ++ p ∷ []) p.after) (map (λ (x : Passage). x.item) ps))
       (lines_text a.annotations.unit others) (Ok (up_to limit rs last)))
@@ -313,7 +313,7 @@ module _ (a : Acceptance) (all : List ScriptItem) (v : Version) where
       (Ok (up_to limit (qs ++ p ∷ ps) last)))
       (sym (flat_map-append (λ (l : JournalLine). line_text a.annotations.unit l ++ 10 ∷ []) lines others))
       (reads-passage limit qs (map (λ (x : Passage). x.item) ps) (lines_text a.annotations.unit others)
-      (Ok (up_to limit (qs ++ p ∷ ps) last)) here (all-front IsLine lines others are) told at)
+      (Ok (up_to limit (qs ++ p ∷ ps) last)) here (all-first IsLine lines others are) told at)
 
 -- The text of a legal journal, in either version, tells that journal, where its lines are lines and it is not too long.
 pub legal-answer : {a : Acceptance} {items : List ScriptItem} {journal : Journal} {ps : List Passage}

@@ -7,7 +7,7 @@ use Rattle.nomos_script.specs.declared.item.ScriptItem.{ScriptItem}
 use Rattle.nomos_script.specs.declared.item.ScriptItem.TheVariants as item
 use Rattle.nomos_legal.specs.Ledger.{LedgerState}
 use Rattle.nomos_legal.specs.Passage.{Passage, bare, runs, still}
-use Rattle.nomos_legal.specs.World.{WorldState, pids_of, start_of}
+use Rattle.nomos_legal.specs.World.{WorldState, pids_of, ledger_begun}
 use Rattle.nomos_legal.specs.declared.journal.End.{End}
 use Rattle.nomos_legal.specs.declared.journal.Firing.{Firing}
 use Rattle.nomos_report.specs.Block.{accepted_block}
@@ -30,11 +30,11 @@ still-printed a i line answer before after none =
 
 -- of a batch whose lines started its end in its world
 pub batch-printed : (a : Acceptance) (batch : Batch) (w : WorldState) (answer : End) (after : LedgerState)
-    → passage_lines a (runs batch (pids_of w.firings) answer w.origin (start_of a w) w.state after)
-    ≡ end_lines a batch.line (length w.firings) (start_of a w).state.spent w.state answer
+    → passage_lines a (runs batch (pids_of w.firings) answer w.origin (ledger_begun a w) w.state after)
+    ≡ end_lines a batch.line (length w.firings) (ledger_begun a w).state.spent w.state answer
 batch-printed a batch w answer after =
-    append-nil (end_lines a batch.line (length (pids_of w.firings)) (start_of a w).state.spent w.state answer)
-    ∙ ap (λ (n : ℕ). end_lines a batch.line n (start_of a w).state.spent w.state answer)
+    append-nil (end_lines a batch.line (length (pids_of w.firings)) (ledger_begun a w).state.spent w.state answer)
+    ∙ ap (λ (n : ℕ). end_lines a batch.line n (ledger_begun a w).state.spent w.state answer)
     (length-map w.firings (λ (f : Firing). f.pid))
 
 -- the report grows passage by passage

@@ -6,7 +6,7 @@ ghost use Rattle.nomos_base.specs.Gas.{gas_text};
 ghost use Rattle.nomos_machine.specs.State.{State};
 ghost use Rattle.nomos_machine.specs.TypedState.{IsTyped};
 ghost use Rattle.nomos_legal.specs.StandsFor.{WorldStandsFor};
-ghost use Rattle.nomos_legal.specs.World.{start_of};
+ghost use Rattle.nomos_legal.specs.World.{ledger_begun};
 ghost use Rattle.nomos_texts.specs.End.{end_text};
 ghost use Rattle.nomos_report.specs.Lines.{line_of};
 ghost use Rattle.nomos_report.specs.Reported.{HasNoFirings, end_lines, firings_text, result_line};
@@ -179,7 +179,7 @@ pub fn push_batch_end<M: Undo>(
     requires spent { outset.spent ≡ world.now.origin.state.spent }
     ensures { OnOk result (text.new.items
         ≡ text.old.items ++ end_lines accepted.now outset.line (length world.now.firings)
-        (start_of accepted.now world.now).state.spent world.now.state end.now) }
+        (ledger_begun accepted.now world.now).state.spent world.now.state end.now) }
 {
     // Where the program is read it is known to be accepted.
     let _program = accepted.program();

@@ -1,7 +1,7 @@
 -- The law of rows of a program, over its rows: where it has a skeleton in every part, it is typed under exactly those
 -- amounts that meet its rows.
-use Rattle.std.proofs.Common.{◌≡◌, ◌↔◌, ◌≤ℤ◌, pos, List, All, Contains, length, refl, sym, subst, ◌∙◌}
-use Rattle.std.proofs.lemmas.List.Elements.{All-contains, All-contains_itself, All-weaker}
+use Rattle.std.proofs.Common.{◌≡◌, ◌↔◌, ◌≤ℤ◌, pos, List, All, length, refl, sym, subst, ◌∙◌}
+use Rattle.std.proofs.lemmas.List.Elements.{All-contains}
 use Rattle.nomos_ir.specs.declared.amount.Amount.{Amount}
 use Rattle.nomos_ir.specs.declared.amount.Amount.TheVariants as amount
 use Rattle.nomos_ir.specs.declared.lists.ProgramLists.{ProgramLists}
@@ -15,14 +15,10 @@ use Rattle.nomos_forms.specs.Meeting.{MeetsRows}
 use Rattle.nomos_types.specs.Amount.{Annotations, dths}
 use Rattle.nomos_types.specs.Typed.{IsTypedProgram, HasSkeletons, IsWellFormed}
 use Rattle.nomos_check.proofs.PairLaws.{paths-up_to, asked-up_to}
-use Rattle.nomos_check.proofs.RowsLaws.{point-affords}
+use Rattle.nomos_check.proofs.RowsLaws.{point-affords, all-from}
 use Rattle.nomos_check.specs.Account.{form_of}
 use Rattle.nomos_rows.specs.ProgramRows.{IsProgramForm, IsProgramPair, leads_back, asked, AreProgramRows, IsTypedByRows}
 use Rattle.nomos_rows.proofs.ProgramLaws.{program-law}
-
--- what holds of each element holds of all
-all-from : {X : Type 0} (P : X → Type 0) (xs : List X) → ((x : X) → Contains xs x → P x) → All P xs
-all-from P xs each = All-weaker (Contains xs) P each xs (All-contains_itself xs)
 
 -- an amount is worth what it is in Dths
 worth-dths : (x : Annotations) (r : Amount) → worth x.stars x.unit r ≡ dths x r

@@ -1,7 +1,6 @@
 -- What is found of one process more.
-use Rattle.std.proofs.Common.{◌≡◌, ◌<◌, ◌⊎◌, inl, inr, ℕ, ◌+◌, Bool, true, false, cond, nat_le, List, [], ◌++◌, Contains, Option, Some, None, length, slice_get, refl, sym, subst, arith}
+use Rattle.std.proofs.Common.{◌≡◌, ◌⊎◌, inl, inr, ℕ, ◌+◌, Bool, true, false, cond, nat_le, List, [], ◌++◌, Contains, Option, Some, None, slice_get, refl, sym, subst, arith}
 use Rattle.std.proofs.lemmas.List.Elements.{Contains-append_left, Contains-append_right, Contains-append_cases}
-use Rattle.std.proofs.lemmas.Option.{slice_get_cases}
 use Rattle.nomos_ir.specs.declared.amount.Amount.{Amount}
 use Rattle.nomos_ir.specs.declared.code_form.CodeForm.{CodeForm}
 use Rattle.nomos_ir.specs.declared.declaration.ProcDecl.{ProcDecl}
@@ -9,7 +8,6 @@ use Rattle.nomos_ir.specs.declared.lists.ProgramLists.{ProgramLists}
 use Rattle.nomos_ir.specs.Amounts.{star_count}
 use Rattle.nomos_equality.specs.Comparing.{Compared}
 use Rattle.nomos_forms.specs.declared.form.Form.{Form}
-use Rattle.nomos_types.specs.Derivation.{HasSkeleton}
 use Rattle.nomos_types.specs.Typed.{IsWellFormed}
 use Rattle.nomos_check.proofs.StuckLaws.{stuck-no_skeleton}
 use Rattle.nomos_check.specs.Checking.{NeedsBeside}
@@ -24,15 +22,6 @@ use Rattle.nomos_rows.specs.mirror.Declarations.{ProcessFault, ProcessFine}
 use Rattle.nomos_rows.specs.mirror.Processes.{HasForm, AsksFor, Gathers, Adds}
 use Rattle.nomos_rows.specs.mirror.Telling.{earliest, TellsOne}
 use Rattle.nomos_rows.specs.mirror.Ups.{IfNone}
-
--- what stands at a place within a list
-pub found-at : {X : Type 0} (xs : List X) (k : ℕ) → k < length xs → (x : X) × (slice_get xs k ≡ Some x)
-found-at xs k inside =
-    elim ((slice_get_cases xs k).1) [
-      | inl (x, within, there, is) ↦ (x, there)
-      | inr (past, none)
-          ↦ absurd (omega arith)
-    ]
 
 module _ (lists : ProgramLists) where
   -- a process that has a skeleton is not stuck
@@ -53,13 +42,6 @@ module _ (lists : ProgramLists) where
         first.first other
         (given.form, subst (λ (e : ProcDecl). IsStuckAt lists e other given.form) same given.stuck),
   )
-
-  -- what is told of one that has a skeleton
-  pub skeleton-fine : (k : ℕ) (d : ProcDecl) → slice_get lists.procs k ≡ Some d → HasSkeleton lists d
-      → ProcessFine lists k
-  skeleton-fine k d declared skeleton e there =
-      let same : d ≡ e = cc in
-      subst (HasSkeleton lists) same skeleton
 
   module _ (k : ℕ) (d : ProcDecl) (declared : slice_get lists.procs k ≡ Some d) where
     -- what holds of the process at the place holds of this one

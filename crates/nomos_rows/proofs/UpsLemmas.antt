@@ -1,5 +1,5 @@
 -- What is found of one type node more.
-use Rattle.std.proofs.Common.{◌≡◌, ◌≤◌, inl, inr, ℕ, ◌+◌, List, Option, Some, None, Bool, true, false, cond, nat_le, subst, arith}
+use Rattle.std.proofs.Common.{◌≡◌, inl, inr, ℕ, ◌+◌, List, Option, Some, None, Bool, true, false, cond, nat_le, subst, arith}
 use Rattle.nomos_ir.specs.declared.amount.Amount.{Amount}
 use Rattle.nomos_ir.specs.declared.ids.TypeId.{TypeId}
 use Rattle.nomos_ir.specs.declared.lists.ProgramLists.{ProgramLists}
@@ -21,15 +21,6 @@ module _ (lists : ProgramLists) where
   back-not_astray t at path back astray =
       offends-not_synchronizing lists no_amounts astray.body (record { 0 = t }) path astray.offends
       (back astray.body astray.is_up)
-
-  -- a node has one offset
-  pub astray-offset : (t at other : ℕ) (path way : List Hop) → GoesAstray lists t at path
-      → GoesAstray lists t other way → at ≤ other
-  astray-offset t at other path way left right =
-      let first = left.offset in
-      let second = right.offset in
-      let same : at ≡ other = cc in
-      omega arith
 
   -- the pairs of one node more join
   pairs-next : (t : ℕ) (old mid new : Compared) → PairsBelow lists t old mid → PairsOfOne lists t mid new
@@ -67,13 +58,6 @@ module _ (lists : ProgramLists) where
       if-some : (d : Bool) (a b : ℕ × List Hop) → IfNone (PairsBelow lists (t + 1) old new) (cond d (Some a) (Some b))
       if-some true a b = tt
       if-some false a b = tt
-
-  -- of no nodes there are no pairs
-  pub pairs-none : (old : Compared) → PairsBelow lists 0 old old
-  pairs-none old pair = (
-    λ inside. inl inside,
-    λ given. elim given [ inl there ↦ there | inr some ↦ absurd (let below = some.1 in omega arith) ],
-  )
 
   -- where a node is an `up`, what its body tells
   module _ (t : ℕ) (body : TypeId) (is_up : type_node lists t ≡ Some (node.Up body)) where

@@ -1,5 +1,5 @@
 -- What is written with one passage more.
-use Rattle.std.proofs.Common.{◌≡◌, ◌∙◌, ℕ, List, [], ◌∷◌, ◌++◌, length, Option, Some, None, refl, sym, ap, append-nil, append_assoc}
+use Rattle.std.proofs.Common.{◌≡◌, ◌∙◌, ℕ, List, [], ◌∷◌, ◌++◌, length, Option, None, refl, sym, ap, append-nil, append_assoc}
 use Rattle.std.specs.Option.{option_map}
 use Rattle.nomos_ir.specs.Value.{Value}
 use Rattle.nomos_types.specs.Acceptance.{Acceptance}
@@ -10,7 +10,7 @@ use Rattle.nomos_script.specs.declared.item.ScriptItem.TheVariants as item
 use Rattle.nomos_legal.specs.Ledger.{LedgerState}
 use Rattle.nomos_legal.specs.Passage.{bare, runs, still}
 use Rattle.nomos_legal.specs.StandsFor.{WorldStandsFor}
-use Rattle.nomos_legal.specs.World.{WorldState, pids_of, start_of}
+use Rattle.nomos_legal.specs.World.{WorldState, pids_of, ledger_begun}
 use Rattle.nomos_legal.specs.declared.journal.End.{End}
 use Rattle.nomos_legal.specs.declared.journal.End.TheVariants as end
 use Rattle.nomos_journal.proofs.PlacedLaws.{firing_lines-placed}
@@ -20,23 +20,11 @@ use Rattle.nomos_journal.specs.Text.{lines_text}
 use Rattle.nomos_journal.specs.declared.line.JournalLine.{JournalLine}
 use Rattle.nomos_journal.specs.declared.line.JournalLine.TheVariants as line
 use Rattle.nomos_journal.specs.declared.line.Version.TheVariants as version
-use Rattle.nomos_report.proofs.PassageLaws.{batch-printed, show-printed, still-printed}
-use Rattle.nomos_report.specs.Block.{accepted_block}
-use Rattle.nomos_report.specs.Reported.{HasNoFirings, end_lines, report_of, shown_lines}
-use Rattle.nomos_report.specs.Shown.{show_lines}
+use Rattle.nomos_report.proofs.PassageLaws.{batch-printed, still-printed}
+use Rattle.nomos_report.specs.Reported.{HasNoFirings, end_lines, shown_lines}
 use Rattle.nomos_run.specs.declared.papers.Papers.{Papers}
 use Rattle.nomos_run.specs.Carried.{end_result}
 use Rattle.nomos_run.specs.mirror.Papers.{papers_with, result_with, with_lines}
-
--- no lines change nothing
-pub with_lines-none : (text : Option (List ℕ)) → with_lines text [] ≡ text
-with_lines-none (Some t) = ap Some (append-nil t)
-with_lines-none None = refl
-
--- a result is as it was where there is no entry
-kept-same : (kept : Option (Option Value)) → option_map (λ before. before) kept ≡ kept
-kept-same (Some value) = refl
-kept-same None = refl
 
 -- an item without firings has no result
 still-result : (i : ScriptItem) (n : ℕ) (e : End) (before last : LedgerState) (kept : Option (Option Value))
@@ -47,20 +35,6 @@ still-result i n end.Committed before last kept none = absurd none
 still-result i n end.Blocked before last kept none = absurd none
 still-result i n (end.Steps k) before last kept none = absurd none
 still-result i n (end.Aborted pid f) before last kept none = absurd none
-
--- a report begins with the block
-pub block-reports : (a : Acceptance) → accepted_block a ≡ report_of a []
-block-reports a = sym (append-nil (accepted_block a))
-
--- a `show`
-pub show-written : (a : Acceptance) (n : ℕ) (l : LedgerState) (papers after : Papers)
-    → after.report ≡ with_lines papers.report (show_lines a n l) → after.text ≡ papers.text
-    → after.result ≡ papers.result → after ≡ papers_with a (still (item.Show n) None l l) papers
-show-written a n l papers after report text result =
-    let printed = report ∙ ap (with_lines papers.report) (sym (show-printed a l n)) in
-    let same = text ∙ sym (with_lines-none papers.text) in
-    let kept = result ∙ sym (kept-same papers.result) in
-    λ i. record { report = printed i; text = same i; result = kept i }
 
 -- what is printed of an end without firings is the same in all states
 same-end : (a : Acceptance) (n spent other : ℕ) (s t : State) (e : End) → HasNoFirings e
@@ -91,20 +65,20 @@ still-written a i n e before last papers after still none report text result =
 -- a batch that has come to a world
 pub batch-written : (a : Acceptance) (batch : Batch) (n : ℕ) (w : WorldState) (e : End) (last : LedgerState)
     (papers after : Papers) → WorldStandsFor a w → batch.line ≡ n
-    → after.report ≡ with_lines papers.report (end_lines a n (length w.firings) (start_of a w).state.spent w.state e)
+    → after.report ≡ with_lines papers.report (end_lines a n (length w.firings) (ledger_begun a w).state.spent w.state e)
     → after.text
     ≡ with_lines papers.text
     (lines_text a.annotations.unit (line.Line n ∷ (placed_lines a (pids_of w.firings) w.places ++ line.End e ∷ [])))
     → after.result ≡ option_map (λ _. end_result w.state e) papers.result
-    → after ≡ papers_with a (runs batch (pids_of w.firings) e w.origin (start_of a w) w.state last) papers
+    → after ≡ papers_with a (runs batch (pids_of w.firings) e w.origin (ledger_begun a w) w.state last) papers
 batch-written a batch n w e last papers after stands at report text result =
     let Ends : ℕ → Option (List ℕ) =
-    λ k. with_lines papers.report (end_lines a k (length w.firings) (start_of a w).state.spent w.state e)
+    λ k. with_lines papers.report (end_lines a k (length w.firings) (ledger_begun a w).state.spent w.state e)
     in
     let printed = report ∙ ap Ends (sym at) ∙ ap (with_lines papers.report) (sym (batch-printed a batch w e last)) in
-    let placed : firing_lines version.Two a (start_of a w).state (pids_of w.firings)
+    let placed : firing_lines version.Two a (ledger_begun a w).state (pids_of w.firings)
     ≡ placed_lines a (pids_of w.firings) w.places =
-    firing_lines-placed a (start_of a w).state (pids_of w.firings) w.places w.state stands.reached
+    firing_lines-placed a (ledger_begun a w).state (pids_of w.firings) w.places w.state stands.reached
     in
     let Writes : ℕ → List JournalLine → Option (List ℕ) =
     λ k ls. with_lines papers.text (lines_text a.annotations.unit (line.Line k ∷ ls))
@@ -115,7 +89,7 @@ batch-written a batch n w e last papers after stands at report text result =
     ∙ ap (λ (k : ℕ). Writes k (more (placed_lines a (pids_of w.firings) w.places))) (sym at)
     ∙ ap (λ (ls : List JournalLine). Writes batch.line (more ls)) (sym placed)
     ∙ ap (Writes batch.line)
-    (sym (append-nil (more (firing_lines version.Two a (start_of a w).state (pids_of w.firings)))))
+    (sym (append-nil (more (firing_lines version.Two a (ledger_begun a w).state (pids_of w.firings)))))
     in
     λ j. record { report = printed j; text = written j; result = result j }
 

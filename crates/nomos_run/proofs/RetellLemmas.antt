@@ -1,16 +1,16 @@
 -- What a legal journal says becomes of each item of its script.
-use Rattle.std.proofs.Common.{◌≡◌, ◌∙◌, ℕ, ◌+◌, ◌≤◌, ◌<◌, ◌^◌, List, [], ◌∷◌, ◌++◌, length, map, take, drop, Option, Some, None, IsSome, refl, sym, ap, subst, arith, append-nil, append_assoc, get_or}
+use Rattle.std.proofs.Common.{◌≡◌, ◌∙◌, ℕ, ◌+◌, ◌≤◌, ◌<◌, ◌^◌, List, [], ◌∷◌, ◌++◌, length, map, take, drop, Option, Some, None, refl, sym, ap, subst, arith, append-nil, append_assoc, get_or}
 use Rattle.std.specs.Option.{option_to_list}
 use Rattle.std.specs.Prelude.{Result, Ok, Err, IfOk, OnOk}
 use Rattle.std.proofs.lemmas.List.{length-map, map-append}
+use Rattle.nomos_legal.proofs.OneJournalLaws.{step-ready, not-refused}
 use Rattle.nomos_types.specs.Acceptance.{Acceptance, IsAccepted}
 use Rattle.nomos_machine.proofs.PreservationLaws.{step-or_fault}
 use Rattle.nomos_machine.proofs.RunLaws.{run-push, run-rises}
-use Rattle.nomos_machine.specs.Deeds.{Deed}
 use Rattle.nomos_machine.specs.Optional.{◌>>=◌}
 use Rattle.nomos_machine.specs.Run.{run}
 use Rattle.nomos_machine.specs.State.{State}
-use Rattle.nomos_machine.specs.Step.{IsReady, deed_of, fault, state_after, step}
+use Rattle.nomos_machine.specs.Step.{IsReady, fault, step}
 use Rattle.nomos_deeds.specs.Acting.{HasNumbers}
 use Rattle.nomos_script.specs.declared.item.Batch.{Batch}
 use Rattle.nomos_script.specs.declared.item.ScriptItem.{ScriptItem}
@@ -18,17 +18,17 @@ use Rattle.nomos_script.specs.declared.item.ScriptItem.TheVariants as item
 use Rattle.nomos_script.specs.Size.{IsScriptSize, start_count}
 use Rattle.nomos_legal.proofs.LegalLaws.{entries_of-append, tells-none}
 use Rattle.nomos_legal.proofs.RightLaws.{legal-right}
-use Rattle.nomos_legal.proofs.UniqueLaws.{all_start-one, passage-one, refuses-one, starts-or_refuses}
+use Rattle.nomos_legal.proofs.UniqueLaws.{all_start-one, passage-one, refuses-one}
 use Rattle.nomos_legal.proofs.WorldLaws.{fires_at-run, world-typed}
 use Rattle.nomos_legal.specs.Batch.{AllStart, OneRefuses, after_starts}
 use Rattle.nomos_legal.specs.Ending.{IsAllowed}
 use Rattle.nomos_legal.specs.Ledger.{LedgerState, empty_ledger}
 use Rattle.nomos_legal.specs.Legal.{IsLegal, Leads, Tells, batch_limit, entries_of, firings_in, firings_made, max_firings}
 use Rattle.nomos_legal.specs.Legal as legal
-use Rattle.nomos_legal.specs.Passage.{IsPassage, Passage, RunsTo, Undoes, bare}
+use Rattle.nomos_legal.specs.Passage.{IsPassage, Passage, RunsTo, bare}
 use Rattle.nomos_legal.specs.Passage as passage
 use Rattle.nomos_legal.specs.StandsFor.{StandsFor, WorldStandsFor}
-use Rattle.nomos_legal.specs.World.{WorldState, pids_of, start_of}
+use Rattle.nomos_legal.specs.World.{WorldState, pids_of, ledger_begun}
 use Rattle.nomos_legal.specs.declared.journal.End.{End}
 use Rattle.nomos_legal.specs.declared.journal.End.TheVariants as end
 use Rattle.nomos_legal.specs.declared.journal.Entry.{Entry}
@@ -65,13 +65,6 @@ fires-none {w = w} stands can = record {
   reached = refl;
   left = can;
 }
-
-step-ready : (a : Acceptance) (s t : State) (pid : ℕ) → step a s pid ≡ Some t → IsReady a s pid
-step-ready a s t pid steps = at (deed_of a s pid) steps
-  where
-    at : (d : Option Deed) → (d >>= state_after s) ≡ Some t → IsSome d
-    at (Some d) is = refl
-    at None is = absurd cc
 
 -- where processes can run, the first of them has a step, and the others can run behind it
 record FirstSteps (a : Acceptance) (s : State) (pid : ℕ) (pids : List ℕ) : Type 0 where
@@ -151,14 +144,6 @@ pub fires-all : {a : Acceptance} {before after : WorldState} {pids : List ℕ} {
 fires-all {a} {before} {after} on all = subst (λ (ps : List ℕ). HaveFired a before ps after) all on.fired
 
 -- ---- items without firings
-
-not-refused : {a : Acceptance} {l k : LedgerState} (batch other : Batch) {starts : List Resolved} {n : ℕ}
-    {cause : Refusal}
-    → AllStart a l batch.starts starts → OneRefuses a k other.starts n cause → l ≡ k → batch ≡ other → ⊥
-not-refused {a} {l} {k} batch other {starts} {n} {cause} begun refuses ledger batches =
-    starts-or_refuses begun
-    (subst (λ (b : Batch). OneRefuses a l b.starts n cause) (sym batches)
-    (subst (λ (m : LedgerState). OneRefuses a m other.starts n cause) (sym ledger) refuses))
 
 -- what becomes of an item without firings is determined
 pub still-entry : {a : Acceptance} {most : ℕ} {p q : Passage} → IsPassage a most p → IsStill p.entry
@@ -286,10 +271,10 @@ tells-batch {w} {l} {i} {world = world} {left} {p} under next =
     let ran = batch-run next.is (next.item ∙ under.item) begun in
     let starts : ran.starts ≡ world.starts = all_start-one ran.begun begun in
     let origin : p.before ≡ world.origin = next.before_is ∙ sym under.begun.origin in
-    let start : (after_starts a p.before ran.starts).state ≡ (start_of a world).state =
+    let start : (after_starts a p.before ran.starts).state ≡ (ledger_begun a world).state =
     (λ j. (after_starts a (origin j) (starts j)).state)
     in
-    let runs : RunsTo a most (start_of a world).state ran.pids ran.last ran.answer =
+    let runs : RunsTo a most (ledger_begun a world).state ran.pids ran.last ran.answer =
     subst (λ (s : State). RunsTo a most s ran.pids ran.last ran.answer) start ran.runs
     in
     let kept : Entry = record { line = under.batch.line; firings = ran.pids; end = ran.answer } in
@@ -307,11 +292,11 @@ tells-batch {w} {l} {i} {world = world} {left} {p} under next =
           let firings : pids_of v.firings ≡ ran.pids =
           fired.firings ∙ ap (λ (ps : List ℕ). ps ++ ran.pids) none
           in
-          let first : (start_of a v).state ≡ (start_of a world).state =
+          let first : (ledger_begun a v).state ≡ (ledger_begun a world).state =
           (λ j. (after_starts a (fired.origin j) (fired.starts j)).state)
           in
-          let there : run a (start_of a world).state ran.pids ≡ Some v.state =
-          subst (λ (ps : List ℕ). run a (start_of a world).state ps ≡ Some v.state) firings
+          let there : run a (ledger_begun a world).state ran.pids ≡ Some v.state =
+          subst (λ (ps : List ℕ). run a (ledger_begun a world).state ps ≡ Some v.state) firings
           (subst (λ (s : State). run a s (pids_of v.firings) ≡ Some v.state) first
           (fires_at-run fired.stands.reached))
           in

@@ -6,7 +6,7 @@ ghost use Rattle.nomos_script.specs.declared.item.ScriptItem.{ScriptItem};
 ghost use Rattle.nomos_legal.specs.Ledger.{LedgerState};
 ghost use Rattle.nomos_legal.specs.Passage.{bare, runs, still};
 ghost use Rattle.nomos_legal.specs.StandsFor.{StandsFor, WorldStandsFor};
-ghost use Rattle.nomos_legal.specs.World.{pids_of, start_of};
+ghost use Rattle.nomos_legal.specs.World.{pids_of, ledger_begun};
 ghost use Rattle.nomos_journal.specs.JournalText.{placed_lines};
 ghost use Rattle.nomos_journal.specs.Text.{lines_text};
 ghost use Rattle.nomos_journal.specs.declared.line.JournalLine.TheVariants as journal_line;
@@ -139,7 +139,7 @@ impl Papers {
         requires spent { outset.spent ≡ world.now.origin.state.spent }
         ensures { (batch : Batch) (after : LedgerState) → batch.line ≡ outset.line
             → OnOk result (self.new ≡ papers_with accepted.now
-            (runs batch (pids_of world.now.firings) end.now world.now.origin (start_of accepted.now world.now)
+            (runs batch (pids_of world.now.firings) end.now world.now.origin (ledger_begun accepted.now world.now)
             world.now.state after) self.old) }
     {
         batch_on_report(&mut self.report, accepted, world, outset, end)?;
@@ -200,7 +200,7 @@ fn batch_on_report<M: Undo>(
     requires stands { WorldStandsFor accepted.now world.now }
     requires spent { outset.spent ≡ world.now.origin.state.spent }
     ensures { OnOk result (sheet.new ≡ with_lines sheet.old
-        (end_lines accepted.now outset.line (length world.now.firings) (start_of accepted.now world.now).state.spent
+        (end_lines accepted.now outset.line (length world.now.firings) (ledger_begun accepted.now world.now).state.spent
         world.now.state end.now)) }
 {
     match &mut sheet.text {

@@ -187,12 +187,6 @@ exec_read n tokens start h = (
   ap line.Start h.is,
 )
 
-pub exec_none : (tokens : List Token) → ((i : Invocation) → IsValidInvocation i → tokens ≢ print_invocation i)
-    → (form : Form) → ¬ TokensReadAs (word (codes "exec") ∷ tokens) form
-exec_none tokens none (exec i) = λ h. let printed = h.printed in none i h.valid (cc printed)
-exec_none tokens none form = λ h.
-    let kinds = kind_of_line (codes "exec") tokens form h in absurd (omega (arith, kinds))
-
 -- a contract that is made
 pub create_read : (n : ℕ) (contract : List ℕ) (tokens behind after rest : List Token) (start : Start)
     → tokens ≡ word contract ∷ behind → IsScriptName contract → behind ≡ mark (codes "=") ∷ after
@@ -215,35 +209,6 @@ pub record Creates (tokens : List Token) : Type 0 where
   pub is : tokens ≡ word contract ∷ mark (codes "=") ∷ word (codes "new") ∷ print_invocation i
   pub named : IsScriptName contract
   pub valid : IsValidInvocation i
-
-pub create_none : (tokens : List Token) → ¬ Creates tokens → (form : Form)
-    → ¬ TokensReadAs (word (codes "let") ∷ tokens) form
-create_none tokens none (create contract i) = λ h.
-    let printed = h.printed in
-    none (record { contract = contract; i = i; is = cc printed; named = h.valid.0; valid = h.valid.1 })
-create_none tokens none form = λ h.
-    let kinds = kind_of_line (codes "let") tokens form h in absurd (omega (arith, kinds))
-
-pub create_nameless : (tokens : List Token) → ¬ BeginsWithName tokens → ¬ Creates tokens
-create_nameless tokens none = λ h.
-    none (h.contract, mark (codes "=") ∷ word (codes "new") ∷ print_invocation h.i, h.is, h.named)
-
-pub create_unequal : (contract : List ℕ) (tokens behind : List Token) → tokens ≡ word contract ∷ behind
-    → ((rest : List Token) → behind ≢ mark (codes "=") ∷ rest) → ¬ Creates tokens
-create_unequal contract tokens behind first none = λ h.
-    let is = h.is in none (word (codes "new") ∷ print_invocation h.i) (cc)
-
-pub create_old : (contract : List ℕ) (tokens behind after : List Token) → tokens ≡ word contract ∷ behind
-    → behind ≡ mark (codes "=") ∷ after → ((rest : List Token) → after ≢ word (codes "new") ∷ rest)
-    → ¬ Creates tokens
-create_old contract tokens behind after first second none = λ h.
-    let is = h.is in none (print_invocation h.i) (cc)
-
-pub create_bare : (contract : List ℕ) (tokens behind after rest : List Token) → tokens ≡ word contract ∷ behind
-    → behind ≡ mark (codes "=") ∷ after → after ≡ word (codes "new") ∷ rest
-    → ((i : Invocation) → IsValidInvocation i → rest ≢ print_invocation i) → ¬ Creates tokens
-create_bare contract tokens behind after rest first second third none = λ h.
-    let is = h.is in none h.i h.valid (cc)
 
 -- a line of one word says what its form says
 pub bare_read : (n : ℕ) (text : List ℕ) (tokens : List Token) (f : Form) (r : Result Line LineStop) → IsValid f

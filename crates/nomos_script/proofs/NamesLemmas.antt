@@ -1,16 +1,10 @@
 -- Names with commas between them, read one by one.
 use Rattle.std.proofs.Common.{◌≡◌, ◌≢◌, ℕ, ◌⊎◌, inl, inr, List, [], ◌∷◌, ◌++◌, All, codes, refl, sym, ap, ◌∙◌, append_assoc, arith}
-use Rattle.std.proofs.lemmas.List.{append-nil}
 use Rattle.std.proofs.lemmas.List.Elements.{All-nil, All-cons, All-head, All-tail, All-append}
 use Rattle.nomos_script.specs.Form.{print_names, print_more_names}
 use Rattle.nomos_script.specs.ScriptNames.{IsScriptName}
 use Rattle.nomos_script.specs.ScriptScan.{Token, word, mark}
 use Rattle.nomos_script.specs.Seen.{AreNames, AreMoreNames, BeginsWithName}
-
--- at first there are no more
-pub no_more_names : (tokens : List Token) (names : List (List ℕ)) → AreMoreNames tokens tokens names names
-no_more_names tokens names =
-    record { more = []; printed = refl; each = All-nil IsScriptName; together = sym (append-nil names) }
 
 print_more_names-push : (names : List (List ℕ)) (name : List ℕ) (after : List Token)
     → print_more_names (names ++ name ∷ []) after ≡ print_more_names names (mark (codes ",") ∷ word name ∷ after)
@@ -59,23 +53,6 @@ pub more_names_follow : (tokens now rest : List Token) (names all others : List 
     → AreMoreNames tokens now names all → All IsScriptName others
     → tokens ≡ print_more_names others (mark (codes ")") ∷ rest) → MayFollow now
 more_names_follow tokens now rest names all others h named is = peel h.more others now rest named (sym h.printed ∙ is)
-
--- a first name and more
-pub names_together : (tokens behind rest : List Token) (name : List ℕ) (all : List (List ℕ))
-    → tokens ≡ word name ∷ behind → IsScriptName name
-    → AreMoreNames behind (mark (codes ")") ∷ rest) (name ∷ []) all → AreNames tokens all rest
-names_together tokens behind rest name all first named h = rw h.together (record {
-  printed = rw (first, h.printed) refl;
-  each = All-cons IsScriptName name h.more named h.each;
-})
-
--- no names at all
-pub no_names : (tokens rest : List Token) → tokens ≡ mark (codes ")") ∷ rest → AreNames tokens [] rest
-no_names tokens rest is = record { printed = is; each = All-nil IsScriptName }
-
--- nothing else may follow
-pub none_follows : (now : List Token) → now ≡ [] → ¬ MayFollow now
-none_follows now is = λ h. elim h [ inl ends ↦ let t = ends.1 in cc | inr goes ↦ let t = goes.1 in cc ]
 
 pub other_follows : (now : List Token)
     → ((rest : List Token) → (now ≢ mark (codes ",") ∷ rest) × (now ≢ mark (codes ")") ∷ rest)) → ¬ MayFollow now

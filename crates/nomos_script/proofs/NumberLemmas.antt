@@ -14,7 +14,7 @@ pub record ReadDigits (digits left : List ℕ) (number : ℕ) : Type 0 where
   pub small : number < 2 ^ 64
 
 -- the number gets no smaller
-no_smaller : (n : ℕ) (digits : List ℕ) → n ≤ digits_value_after 10 n digits
+pub no_smaller : (n : ℕ) (digits : List ℕ) → n ≤ digits_value_after 10 n digits
 no_smaller n [] = omega arith
 no_smaller n (d ∷ digits) = omega (arith, no_smaller (n * 10 + digit_value d) digits)
 

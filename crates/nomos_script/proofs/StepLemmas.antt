@@ -1,5 +1,5 @@
 -- One token of the values.
-use Rattle.std.proofs.Common.{◌≡◌, true, false, List, ◌∷◌, Some, None, refl}
+use Rattle.std.proofs.Common.{◌≡◌, true, false, List, ◌∷◌, Some, refl}
 use Rattle.nomos_script.specs.ScriptScan.{Token}
 use Rattle.nomos_script.specs.mirror.ValueReading.{ReadValues, take_token, ends_values, read_values}
 
@@ -12,8 +12,3 @@ read-ends r token tokens ends = rw ends refl
 pub read-takes : (r next : ReadValues) (token : Token) (tokens : List Token) → ends_values token r ≡ false
     → take_token token r ≡ Some next → read_values r (token ∷ tokens) ≡ read_values next tokens
 read-takes r next token tokens goes taken = rw (goes, taken) refl
-
--- one that may not
-pub read-stops : (r : ReadValues) (token : Token) (tokens : List Token) → ends_values token r ≡ false
-    → take_token token r ≡ None → read_values r (token ∷ tokens) ≡ None
-read-stops r token tokens goes stopped = rw (goes, stopped) refl

@@ -1,7 +1,7 @@
 -- The weight of lists that get longer.
-use Rattle.std.proofs.Common.{◌≡◌, ◌+◌, ◌≤◌, List, [], ◌∷◌, ◌++◌, arith}
+use Rattle.std.proofs.Common.{◌≡◌, ◌+◌, List, [], ◌∷◌, ◌++◌, arith}
 use Rattle.nomos_ir.specs.Value.{Value, value_list}
-use Rattle.nomos_ir.specs.Weight.{weight, list_weight, max_weight}
+use Rattle.nomos_ir.specs.Weight.{weight, list_weight}
 
 pub weight-append : (vs ws : List Value)
     → list_weight (value_list (vs ++ ws)) ≡ list_weight (value_list vs) + list_weight (value_list ws)
@@ -12,13 +12,3 @@ weight-append (v ∷ vs) ws = omega (arith, weight-append vs ws)
 pub weight-push : (vs : List Value) (v : Value)
     → list_weight (value_list (vs ++ v ∷ [])) ≡ list_weight (value_list vs) + weight v + 1
 weight-push vs v = omega (arith, weight-append vs (v ∷ []))
-
--- a front of values is no heavier
-pub weight-front : (vs ws : List Value) → list_weight (value_list (vs ++ ws)) ≤ max_weight
-    → list_weight (value_list vs) ≤ max_weight
-weight-front vs ws light = omega (arith, weight-append vs ws, light)
-
--- a value is no heavier than its list
-pub weight-inside : (vs ws : List Value) (v : Value) → list_weight (value_list (vs ++ v ∷ ws)) ≤ max_weight
-    → weight v ≤ max_weight
-weight-inside vs ws v light = omega (arith, weight-append vs (v ∷ ws), light)

@@ -13,6 +13,7 @@ use borrow.Author.Differences.{le_out, at_most_in}
 use Rattle.nomos_forms.specs.Linear.{dot}
 use Rattle.nomos_forms.specs.declared.row_list.RowList.{RowList}
 use Rattle.nomos_forms.proofs.WholeLaws.{times_sum, times_assoc, times_swap, count_times_le}
+use Rattle.nomos_simplex.proofs.FractionLemmas.{first_divides_lcm}
 use Rattle.nomos_simplex.specs.Divisors.{gcd, lcm}
 use Rattle.nomos_simplex.specs.Exits.{fraction_in, fraction_of, denominator, common_denominator}
 use Rattle.nomos_simplex.specs.Tables.{least_or_zero, bound_of, sum_at, Holds}
@@ -32,11 +33,6 @@ part_over_zero a g h d =
     no_part : (q : ℕ) → q ≡ 0 → q * g ≡ a → ⊥
     no_part q z e = let n : q * g ≡ 0 = ap (λ k. k * g) z ∙ omega arith in omega arith
 
-lcm_left : (a b : ℕ) → a ∣ lcm a b
-lcm_left a b =
-    subst (λ n. n ∣ a / gcd a b * b) (div-mul_cancel (gcd a b) (gcd_is a b).0)
-    (mul-dvd-mul_left (gcd a b) (a / gcd a b) (gcd_is a b).1)
-
 lcm_right : (a b : ℕ) → b ∣ lcm a b
 lcm_right a b = dvd-mul_left b (a / gcd a b)
 
@@ -50,7 +46,7 @@ lcm_over_zero a b h i = product_over_zero (a / gcd a b) b (part_over_zero a (gcd
 
 pub common-divided : (u : ℕ) (fs : List (ℕ × ℕ)) → u ∣ common_denominator u fs
 common-divided u [] = dvd_refl u
-common-divided u (f ∷ fs) = dvd_trans u (lcm_left u (denominator f)) (common-divided (lcm u (denominator f)) fs)
+common-divided u (f ∷ fs) = dvd_trans u (first_divides_lcm u (denominator f)) (common-divided (lcm u (denominator f)) fs)
 
 pub common-divided_by_each : (u : ℕ) (fs : List (ℕ × ℕ)) → All (λ f. denominator f ∣ common_denominator u fs) fs
 common-divided_by_each u [] = All-nil (λ f. denominator f ∣ u)

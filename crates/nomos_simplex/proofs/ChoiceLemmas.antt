@@ -1,6 +1,6 @@
 -- The foremost place, and the lowest, one place more.
-use Rattle.std.proofs.Common.{◌≡◌, ℕ, ◌+◌, Bool, true, false, cond, nat_lt, Option, Some, ap, sym, ◌∙◌, add-one}
-use Rattle.nomos_simplex.specs.Lowest.{former_of, foremost_place, lowest_place, lower_of}
+use Rattle.std.proofs.Common.{◌≡◌, ℕ, ◌+◌, Bool, true, false, cond, Option, Some, ap, sym, ◌∙◌, add-one}
+use Rattle.nomos_simplex.specs.Lowest.{former_of, foremost_place}
 
 pub foremost_then : (passes : ℕ → Bool) (is_former : ℕ → ℕ → Bool) (n : ℕ) (before : Option ℕ) (k : ℕ) →
     passes n ≡ true → before ≡ foremost_place passes is_former n → k ≡ former_of is_former n before →
@@ -13,11 +13,3 @@ pub foremost_else : (passes : ℕ → Bool) (is_former : ℕ → ℕ → Bool) (
     before ≡ foremost_place passes is_former n → before ≡ foremost_place passes is_former (n + 1)
 foremost_else passes is_former n before pass e = rw add-one (e ∙ ap (λ b. cond b (Some (former_of is_former n
     (foremost_place passes is_former n))) (foremost_place passes is_former n)) (sym pass))
-
-pub lowest_then : (passes : ℕ → Bool) (number : ℕ → ℕ) (n : ℕ) (before : Option ℕ) (k : ℕ) → passes n ≡ true →
-    before ≡ lowest_place passes number n → k ≡ lower_of number n before → Some k ≡ lowest_place passes number (n + 1)
-lowest_then passes number = foremost_then passes (λ i k. nat_lt (number i) (number k))
-
-pub lowest_else : (passes : ℕ → Bool) (number : ℕ → ℕ) (n : ℕ) (before : Option ℕ) → passes n ≡ false →
-    before ≡ lowest_place passes number n → before ≡ lowest_place passes number (n + 1)
-lowest_else passes number = foremost_else passes (λ i k. nat_lt (number i) (number k))

@@ -8,6 +8,7 @@ use Rattle.std.proofs.lemmas.List.Elements.{All-weaker}
 use Rattle.std.proofs.Math.IntN.{*ℤ-zero, *ℤ_comm}
 use native.Mathlib.Nat.{pos_of_dvd_of_pos, mul-dvd-mul_right, dvd_of_mul-dvd-mul_right, eq-one_of_dvd-one}
 use Rattle.nomos_forms.proofs.WholeLaws.{times_assoc, neg_times, no_product_zero}
+use Rattle.nomos_simplex.proofs.LineLemmas.{length-eliminated}
 use Rattle.nomos_simplex.specs.Divisors.{common, signed_like, divided_by, in_lowest_terms}
 use Rattle.nomos_simplex.specs.Exchange.{coef_at, solved_for, eliminated, put_into}
 use Rattle.nomos_simplex.specs.Sizes.{IsLowest}
@@ -17,7 +18,7 @@ use Rattle.nomos_simplex.proofs.CountLemmas.{All-from_map}
 use Rattle.nomos_simplex.proofs.DivisorLemmas.{common_divides_first}
 use Rattle.nomos_simplex.proofs.GcdLemmas.{common_divides_each, divides_common, exact_whole, abs_signed, quotient_over_zero}
 use Rattle.nomos_simplex.proofs.SignLemmas.{minus_itself}
-use Rattle.nomos_simplex.proofs.SumLemmas.{sum_set, sum_neg, sum_eliminated, sum_scaled, times_minus, get_or-eliminated, length-eliminated}
+use Rattle.nomos_simplex.proofs.SumLemmas.{sum_set, sum_neg, sum_eliminated, sum_scaled, times_minus, get_or-eliminated}
 
 -- ---- what is not 0
 same_from_minus : (a b : ℤ) → a -ℤ b ≡ pos 0 → a ≡ b

@@ -4,9 +4,9 @@ use Rattle.std.specs.Prelude.{find, nat_lt, if◌then◌else◌, ◌&&◌}
 use Rattle.std.specs.List.{list_all}
 use Rattle.std.proofs.lemmas.Bool.Decides.{nat_tests}
 use Rattle.std.specs.Int.{◌∣◌}
-use Rattle.std.proofs.lemmas.List.Elements.{All-head, All-tail, All-cons, All-nil}
-use Rattle.std.proofs.lemmas.Nat.Gcd.{dvd_refl, dvd_trans, le_of_dvd}
-use Rattle.std.proofs.Math.Nat.{pos_of_dvd_of_pos, mul-div_cancel', mul-div_cancel, dvd-mul_left, dvd-mul_right, mul-le-mul_right}
+use Rattle.std.proofs.lemmas.List.Elements.{All-head, All-tail}
+use Rattle.std.proofs.lemmas.Nat.Gcd.{le_of_dvd}
+use Rattle.std.proofs.Math.Nat.{pos_of_dvd_of_pos, mul-div_cancel', mul-div_cancel, dvd-mul_right, mul-le-mul_right}
 use Rattle.nomos_simplex.specs.Divisors.{gcd, lcm}
 use Rattle.nomos_simplex.specs.Exits.{denominator, common_denominator, IsFraction}
 use Rattle.nomos_simplex.proofs.DivisorLemmas.{gcd_is}
@@ -49,17 +49,6 @@ common_more u [] k d h = absurd (omega arith)
 common_more u (f ∷ fs) zero d h = refl
 common_more u (f ∷ fs) (suc k) d h = rw add-one (rw add-one at (common_more (lcm u (denominator f)) fs k d
     (omega arith)))
-
-unit_divides : (u : ℕ) (fs : List (ℕ × ℕ)) → u ∣ common_denominator u fs
-unit_divides u [] = dvd_refl u
-unit_divides u (f ∷ fs) = dvd_trans u (first_divides_lcm u (denominator f)) (unit_divides (lcm u (denominator f)) fs)
-
-pub each_divides : (u : ℕ) (fs : List (ℕ × ℕ)) → All (λ f. denominator f ∣ common_denominator u fs) fs
-each_divides u [] = All-nil (λ f. denominator f ∣ u)
-each_divides u (f ∷ fs) =
-    let w = lcm u (denominator f) in
-    All-cons (λ e. denominator e ∣ common_denominator w fs) f fs (dvd_trans (denominator f) (dvd-mul_left (denominator
-    f) (u / gcd u (denominator f))) (unit_divides w fs)) (each_divides w fs)
 
 -- ---- a fraction over a unit that its denominator divides
 pub amount_is : (unit : ℕ) (f : ℕ × ℕ) → 0 < f.1 → denominator f ∣ unit → unit * f.0 / f.1 ≡ unit / denominator f *

@@ -114,9 +114,6 @@ parts a b p q =
     one (suc g) (suc (suc k)) h e = absurd (omega arith)
     one zero k h e = absurd (omega arith)
 
-abs_count : (n : ℕ) (z : ℤ) → unsigned_abs (pos n *ℤ z) ≡ n * unsigned_abs z
-abs_count n z = unsigned_abs-mul (pos n) z
-
 -- ---- a step
 -- no divisor of the sum has a divisor with the first number's part
 divides_one : (n : ℤ) (star line : Line) (h : ℕ) → length line.coefs ≡ length star.coefs →

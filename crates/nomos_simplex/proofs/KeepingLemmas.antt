@@ -14,6 +14,7 @@ use Rattle.std.proofs.Math.Seq.{take-append_seam}
 use borrow.Author.Differences.{lt-true, lt-false}
 use Rattle.nomos_forms.specs.declared.row_list.RowList.{RowList}
 use Rattle.nomos_forms.proofs.WholeLaws.{neg_times, times_assoc}
+use Rattle.nomos_simplex.proofs.CountLemmas.{All-remove}
 use Rattle.nomos_simplex.specs.Divisors.{common, divided_by, in_lowest_terms}
 use Rattle.nomos_simplex.specs.Exchange.{coef_at, put_into, solved_for, lines_exchanged, is_large, is_large_line}
 use Rattle.nomos_simplex.specs.Lowest.{lowest_place, is_below, leaving}
@@ -28,7 +29,6 @@ use Rattle.nomos_simplex.specs.mirror.Keeping.{over_of, Shows, IsEntry, IsPut, I
 use Rattle.nomos_simplex.proofs.DivisorLemmas.{common_divides_first, exact, divisor_size, divided_by_one, lowest_is}
 use Rattle.nomos_simplex.proofs.ExchangeLemmas.{divisor_left, lowest_over_zero, lowest_width, put_sum_free, put_width}
 use Rattle.nomos_simplex.proofs.ExchangedLemmas.{put_not_zero}
-use Rattle.nomos_simplex.proofs.LineLemmas.{All-remove}
 use Rattle.nomos_simplex.proofs.OppositeLemmas.{put_oriented, solved_oriented}
 use Rattle.nomos_simplex.proofs.SignLemmas.{not_zero_over}
 use Rattle.nomos_simplex.proofs.SumLemmas.{sum_neg, times_minus}

@@ -1,7 +1,7 @@
 -- Lines, coefficient by coefficient.
 use Rattle.std.proofs.Common.{◌≡◌, ℕ, zero, suc, ◌+◌, ◌/◌, ◌<◌, ◌≤◌, map, drop, List, [], ◌∷◌, ◌++◌, length, get_or, take, refl, ap, sym, subst, ◌∙◌, arith, ℤ, pos, negsuc, neg_ℤ, ◌+ℤ◌, ◌*ℤ◌, ◌-ℤ◌, ◌<ℤ◌, unsigned_abs, add-one, set}
-use Rattle.std.specs.Prelude.{slice_set, int_div, All, remove}
-use Rattle.std.proofs.lemmas.List.Elements.{All-append, All-take, All-drop, All-map, All-weaker}
+use Rattle.std.specs.Prelude.{slice_set, int_div}
+use Rattle.std.proofs.lemmas.List.Elements.{All-map, All-weaker}
 use Rattle.std.proofs.lemmas.Int.{ints}
 use Rattle.std.proofs.lemmas.List.{length-map, get_or-map}
 use Rattle.std.proofs.Math.Nat.{div-le_self}
@@ -116,19 +116,6 @@ skipped j left line low width over positive none lowest =
     count_is (negsuc n) h = absurd (omega (arith, ints))
 
 -- ---- sums, one place more
-pub sum_at_more : (y : ℕ → ℤ) (vs : List ℕ) (cs : List ℤ) (k : ℕ) → k < length vs → k < length cs →
-    sum_at y (take (k + 1) vs) (take (k + 1) cs) ≡ sum_at y (take k vs) (take k cs) +ℤ get_or cs k (pos 0) *ℤ y
-    (get_or vs k 0)
-sum_at_more y [] cs k h i = absurd (omega arith)
-sum_at_more y (v ∷ vs) [] k h i = absurd (omega arith)
-sum_at_more y (v ∷ vs) (c ∷ cs) zero h i = one_only (c *ℤ y v)
-  where
-    one_only : (z : ℤ) → z +ℤ pos 0 ≡ pos 0 +ℤ z
-    one_only z = omega (arith, ints)
-sum_at_more y (v ∷ vs) (c ∷ cs) (suc k) h i = rw add-one (ap (λ z. c *ℤ y v +ℤ z) (rw add-one at (sum_at_more y vs cs
-    k (omega arith) (omega arith))) ∙ sym (+ℤ_assoc (c *ℤ y v) (sum_at y (take k vs) (take k cs)) (get_or cs k
-    (pos 0) *ℤ y (get_or vs k 0))))
-
 pub sum_of_more : (bs cs : List ℤ) (k : ℕ) → k < length bs → k < length cs →
     sum_of (take (k + 1) bs) (take (k + 1) cs) ≡ sum_of (take k bs) (take k cs) +ℤ get_or cs k (pos 0) *ℤ get_or bs k
     (pos 0)
@@ -153,9 +140,6 @@ pub over_by_bounds : (rows : RowList) (nonbasic : List ℕ) (bounds : List ℤ) 
 over_by_bounds rows nonbasic bounds line e =
     ap (λ bs. over_by rows bs line) e
     ∙ ap (λ z. z -ℤ line.times *ℤ bound_of rows line.basic) (sum_of_bounds (bound_of rows) nonbasic line.coefs)
-
-pub All-remove : {X : Type 0} (P : X → Type 0) (xs : List X) (i : ℕ) → All P xs → All P (remove xs i)
-All-remove P xs i h = All-append P (take i xs) (drop (suc i) xs) (All-take P i xs h) (All-drop P (suc i) xs h)
 
 pub product_over : (a b : ℤ) → pos 0 <ℤ a → pos 0 <ℤ b → pos 0 <ℤ (a *ℤ b)
 product_over (pos n) b p q =

@@ -1,16 +1,11 @@
 -- Numbers of a table in the code's width.
-use Rattle.std.proofs.Common.{◌≡◌, ◌+◌, ◌-◌, ◌<◌, ◌≤◌, ◌^◌, arith, ℤ, ◌*ℤ◌, ◌+ℤ◌, unsigned_abs, FitsSigned, to_z, of_z, ◌∙◌}
+use Rattle.std.proofs.Common.{◌≡◌, ◌+◌, ◌-◌, ◌<◌, ◌≤◌, ◌^◌, arith, ℤ, ◌*ℤ◌, ◌+ℤ◌, unsigned_abs, to_z, of_z, ◌∙◌}
 use Rattle.std.specs.Int.{w64, w128}
 use Rattle.std.proofs.lemmas.Int.{ints, to_z-of_z, fits_signed_from_abs, unsigned_abs-mul}
 use Rattle.std.proofs.Math.Nat.{mul-le-mul}
+use Rattle.nomos_forms.proofs.ProductLemmas.{wide_back}
 use Rattle.nomos_forms.specs.Bounds.{IsSmall}
 use Rattle.nomos_simplex.specs.Sizes.{IsNumber}
-
-pub wide_fits : (z : ℤ) → unsigned_abs z < 2 ^ 127 → FitsSigned w128 z
-wide_fits z h = fits_signed_from_abs w128 z h
-
-pub wide_back : (z : ℤ) → unsigned_abs z < 2 ^ 127 → to_z w128 (of_z w128 z) ≡ z
-wide_back z h = to_z-of_z w128 z (wide_fits z h)
 
 pub number_back : (z : ℤ) → IsNumber z → to_z w128 (of_z w128 z) ≡ z
 number_back z h = wide_back z (omega (arith, h))

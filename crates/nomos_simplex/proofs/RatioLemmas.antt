@@ -11,6 +11,7 @@ use native.Mathlib.Nat.{pos_of_dvd_of_pos}
 use borrow.Author.Differences.{le_out, lt_out, at_most_in, below_in, lt-true}
 use Rattle.nomos_forms.specs.declared.row_list.RowList.{RowList}
 use Rattle.nomos_forms.proofs.WholeLaws.{neg_times, times_assoc, less_by_times}
+use Rattle.nomos_simplex.proofs.ExitLemmas.{abs_of_below}
 use Rattle.nomos_simplex.specs.Divisors.{common, signed_like, in_lowest_terms}
 use Rattle.nomos_simplex.specs.Exchange.{coef_at, solved_for, put_into, exchanged}
 use Rattle.nomos_simplex.specs.Nearest.{distance, reach, is_less, is_nearer, line_at, nearest}
@@ -63,10 +64,6 @@ module _ (rows : RowList) (nonbasic : List ℕ) (j : ℕ) where
   nearer_false x y true t e h = cc
   nearer_false x y false t e h = not_less (reach rows nonbasic j x) (reach rows nonbasic j y) e
 
-over_from_below : (c : ℤ) → int_lt c (pos 0) ≡ true → 0 < unsigned_abs c
-over_from_below (pos c) e = absurd (omega (arith, lt-true (pos c) (pos 0) e))
-over_from_below (negsuc c) e = omega arith
-
 pub nearest-at_most : (rows : RowList) (table : Table) (j i : ℕ) → nearest rows table j ≡ Some i → (k : ℕ) →
     k < length table.lines → int_lt (coef_at j (line_at table.lines k)) (pos 0) ≡ true →
     (reach rows table.nonbasic j (line_at table.lines i)).0 * (reach rows table.nonbasic j (line_at table.lines k)).1 ≤
@@ -82,7 +79,7 @@ nearest-at_most rows table j i e k l pass =
     (is_less (of n) (of m)) (is_less (of m) (of n)) refl refl h)
     (λ n m h. nearer_false rows table.nonbasic j (line_at table.lines n) (line_at table.lines m)
     (is_less (of n) (of m)) (is_less (of m) (of n)) refl h)
-    (λ n m o p a b. through (of n) (of m) (of o) (over_from_below (coef_at j (line_at table.lines m)) p) a b)
+    (λ n m o p a b. through (of n) (of m) (of o) (abs_of_below (coef_at j (line_at table.lines m)) p) a b)
     (length table.lines) i e k l pass
 
 -- ---- a line at the bounds

@@ -85,12 +85,6 @@ sum_times_all y z m (v ∷ vs) (c ∷ cs) h =
     let rest = sum_times_all y z m vs cs (All-tail (λ v. z v ≡ m *ℤ y v) v vs h) in
     (λ k. one k +ℤ rest k) ∙ sym (times_sum m (c *ℤ y v) (sum_at y vs cs))
 
-pub length-eliminated : (p g : ℤ) (as' cs : List ℤ) → length as' ≡ length cs →
-    length (eliminated p g as' cs) ≡ length as'
-length-eliminated p g [] cs h = refl
-length-eliminated p g (a ∷ as') [] h = absurd (omega arith)
-length-eliminated p g (a ∷ as') (c ∷ cs) h = ap suc (length-eliminated p g as' cs (omega arith))
-
 pub get_or-eliminated : (p g : ℤ) (as' cs : List ℤ) (j : ℕ) → length as' ≡ length cs → j < length cs →
     get_or (eliminated p g as' cs) j (pos 0) ≡ p *ℤ get_or as' j (pos 0) -ℤ g *ℤ get_or cs j (pos 0)
 get_or-eliminated p g [] cs j h i = absurd (omega arith)

@@ -1,30 +1,24 @@
 -- The tables of the run: the rows make their lines true, and these make the rows' sums true.
-use Rattle.std.proofs.Common.{◌≡◌, ℕ, zero, suc, ◌+◌, ◌-◌, ◌<◌, [], ◌∷◌, ap, refl, ◌+ℤ◌, ◌*ℤ◌, ◌^◌, ◌||◌, Bool, true, false, List, length, get_or, sym, ◌∙◌, arith, ℤ, pos, unsigned_abs, All, ⊎_elim}
-use Rattle.std.specs.List.{list_any, list_all, range_with_len}
+use Rattle.std.proofs.Common.{◌≡◌, ℕ, ◌+◌, ◌-◌, ◌<◌, ◌^◌, ◌||◌, Bool, true, false, List, length, get_or, sym, ◌∙◌, arith, ℤ, pos, unsigned_abs, All, ⊎_elim}
+use Rattle.std.specs.List.{list_any, list_all}
 use Rattle.std.proofs.lemmas.Bool.{lt-leb, leb-false, cases_Bool, or_parts, false≢true}
 use Rattle.std.proofs.lemmas.List.{length-set}
 use Rattle.std.proofs.lemmas.List.Elements.{All-weaker}
 use Rattle.std.proofs.lemmas.List.FromFn.{length-range_with_len}
 use Rattle.std.proofs.lemmas.List.Folds.{list_any_none, list_any_at, list_all_at}
-use Rattle.std.proofs.Math.IntN.{*ℤ_comm}
 use borrow.Author.Differences.{below_in}
 use Rattle.nomos_forms.specs.Bounds.{IsSmall}
-use Rattle.nomos_forms.specs.Linear.{dot}
 use Rattle.nomos_forms.specs.declared.row_list.RowList.{RowList}
-use Rattle.nomos_forms.proofs.CertificateLaws.{value_in}
 use Rattle.nomos_simplex.specs.Exchange.{exchanged, is_large, is_large_line, is_large_table}
-use Rattle.nomos_simplex.specs.Exits.{of_variable}
 use Rattle.nomos_simplex.specs.Sizes.{IsLowest, IsTable}
-use Rattle.nomos_simplex.specs.Tables.{sum_at, HoldsAt, Holds, lines_from, first_table}
+use Rattle.nomos_simplex.specs.Tables.{Holds, lines_from, first_table}
 use Rattle.nomos_simplex.specs.declared.table.Line.{Line}
 use Rattle.nomos_simplex.specs.declared.table.Table.{Table}
 use Rattle.nomos_simplex.proofs.AmountLemmas.{AreOverZero}
 use Rattle.nomos_simplex.proofs.DivisorLemmas.{common_one}
 use Rattle.nomos_simplex.proofs.ExchangedLemmas.{IsLineIn, MayExchange, exchanged_holds, held_before_exchange, exchanged_lines, exchanged_lowest}
 use Rattle.nomos_simplex.proofs.FirstLemmas.{All-lines_from}
-use Rattle.nomos_simplex.proofs.SignLemmas.{one_times}
 use Rattle.nomos_simplex.proofs.VariableLemmas.{HasEachOnce, first-has_each_once, exchanged-has_each_once, nonbasic-is_variable, basic-is_variable}
-use Rattle.nomos_simplex.proofs.VerdictLemmas.{row-of_variable, star-of_variable}
 
 -- ---- small numbers
 no_large : (z : ℤ) → unsigned_abs z < 2 ^ 62 → is_large z ≡ false
@@ -121,38 +115,3 @@ table-is_table rows table t = record {
 }
 
 -- ---- the lines are identities
--- what a variable is where the stars are xs: a star itself, the sum of a row
-abbrev pub variable_at : RowList → List ℕ → ℕ → ℤ
-variable_at rows xs v = value_in xs (of_variable rows v)
-
-sum_of_stars : (z : ℕ → ℤ) (a : ℕ) (xs : List ℕ) (cs : List ℤ) → length cs ≡ length xs →
-    ((i : ℕ) → i < length xs → z (a + i) ≡ pos (get_or xs i 0)) →
-    sum_at z (range_with_len a (length xs)) cs ≡ dot cs xs
-sum_of_stars z a [] [] w h = refl
-sum_of_stars z a [] (c ∷ cs) w h = refl
-sum_of_stars z a (x ∷ xs) [] w h = refl
-sum_of_stars z a (x ∷ xs) (c ∷ cs) w h =
-    let here : a ≡ a + 0 = omega arith in
-    let one : c *ℤ z a ≡ pos x *ℤ c = ap (λ y. c *ℤ y) (ap z here ∙ h zero (omega arith)) ∙ *ℤ_comm c (pos x) in
-    let next : (i : ℕ) → a + 1 + i ≡ a + suc i = λ i. omega arith in
-    let rest = sum_of_stars z (a + 1) xs cs (omega arith) (λ i l. ap z (next i) ∙ h (suc i) (omega arith)) in
-    λ p. one p +ℤ rest p
-
-pub rows-hold : (rows : RowList) (xs : List ℕ) → length xs ≡ rows.stars → Holds (variable_at rows xs) (first_table rows)
-rows-hold rows xs w =
-    let y = variable_at rows xs in
-    All-lines_from (HoldsAt (variable_at rows xs) (range_with_len 1 rows.stars)) (rows.stars + 1) rows.rows
-    (λ k e h.
-    let cs = (get_or rows.rows k e).coefs in
-    let stars = λ (i : ℕ) (l : i < length xs).
-    let place : 1 + i - 1 ≡ i = omega arith in
-    ap (value_in xs) (star-of_variable rows (1 + i) (omega arith)) ∙ ap (λ n. pos (get_or xs n 0)) place in
-    one_times (y (rows.stars + 1 + k)) (sum_at y (range_with_len 1 rows.stars) cs)
-    (ap (value_in xs) (row-of_variable rows k e h)
-    ∙ sym (sum_of_stars y 1 xs cs ((rows.each k e h).width ∙ sym w) stars)
-    ∙ ap (λ n. sum_at y (range_with_len 1 n) cs) w))
-
--- each line of each table of the run is true whatever the stars are
-pub lines-hold : (rows : RowList) (table : Table) (xs : List ℕ) → IsTableOfRows rows table → length xs ≡ rows.stars →
-    Holds (variable_at rows xs) table
-lines-hold rows table xs t w = t.true_of (variable_at rows xs) (rows-hold rows xs w)

@@ -1,17 +1,10 @@
 -- What rows are left beside slots, and in what order, where gaps are closed.
-use Rattle.std.proofs.Common.{◌≡◌, ◌<◌, ◌≤◌, ◌+◌, ◌-◌, zero, suc, ℕ, true, false, cond, List, [], ◌∷◌, ◌++◌, length, get_or, set, take, drop, Option, Some, None, IfSome, refl, sym, ap, ◌∙◌, arith, append_assoc, drop-set-lt}
+use Rattle.std.proofs.Common.{◌≡◌, ◌<◌, ◌≤◌, ◌+◌, ◌-◌, zero, suc, ℕ, true, false, cond, List, [], ◌∷◌, ◌++◌, length, get_or, set, take, drop, refl, sym, ap, ◌∙◌, arith, append_assoc, drop-set-lt}
 use Rattle.std.specs.Option.{is_some}
-use Rattle.std.proofs.lemmas.List.{append-nil, at_drop_more, length-set, take_more_set, take-set-le}
-use Rattle.std.proofs.Math.ListN.{drop_of_length-le}
+use Rattle.std.proofs.lemmas.List.{at_drop_more, length-set, take_more_set, take-set-le}
 use Rattle.nomos_slots.specs.Beside.{close_rows, is_held_at}
 use Rattle.nomos_slots.specs.Shelving.{Shelving}
 use Rattle.nomos_slots.specs.declared.numbered.Slot.{Slot}
-
--- what came since the mark came since it further on too
-pub late-further : {R : Type 0} (marked : Option (List R)) (from to : ℕ) → from ≤ to
-    → IfSome marked (λ rows. length rows ≤ from) → IfSome marked (λ rows. length rows ≤ to)
-late-further None from to le late = tt
-late-further (Some rows) from to le late = let few : length rows ≤ from = late in omega arith
 
 -- a row moves up
 abbrev pub moved_row : {R : Type 0} → ℕ → ℕ → List R → R → List R
@@ -71,12 +64,6 @@ module _ {X R : Type 0} where
       ∙ append_assoc (take to rows) (row ∷ []) rest
       ∙ sym (closed-split to place slots rows (first-slot slots (omega arith)) d within long
       ∙ ap (λ b. take to rows ++ cond b (row ∷ rest) rest) held)
-
-  pub closed-all : (to place : ℕ) (slots : List (Slot X)) (rows : List R) → length slots ≤ place
-      → closed to place slots rows ≡ take to rows
-  closed-all to place slots rows past =
-      ap (λ xs. take to rows ++ close_rows zero xs (drop place rows)) (drop_of_length-le slots past)
-      ∙ append-nil (take to rows)
 
   pub closed-start : (from : ℕ) (slots : List (Slot X)) (rows : List R) → length rows ≡ length slots
       → closed from from slots rows ≡ close_rows from slots rows

@@ -148,21 +148,6 @@ module _ (homes : ℕ) (cells : List Cell) (hole next : ℕ) (gap : IsGap homes 
     once = gap.once;
   }
 
-  -- the entry there stays
-  pub gap-passed : (e : Named) → cell_at cells next ≡ Some e → hole < home_of homes e → IsGap homes cells hole (next + 1)
-  gap-passed e is late = record {
-    before = let b = gap.before in omega arith;
-    empty = gap.empty;
-    near = gap.near;
-    full = gap.full;
-    once = gap.once;
-    clear = λ place f from before has.
-        elim (cases_eq place next) [
-          | inl same ↦ subst (λ (k : Named). hole < home_of homes k) (same-entry cells next place e f (sym same) is has) late
-          | inr apart ↦ gap.clear place f from (omega arith) has
-        ];
-  }
-
   -- the entry there moves into the gap
   module _ (e : Named) (is : cell_at cells next ≡ Some e) (early : home_of homes e ≤ hole) (within : hole < length cells) where
     abbrev pub moved : List Cell

@@ -8,9 +8,6 @@ use Rattle.nomos_slots.specs.declared.cells.Named.{Named}
 use Rattle.nomos_slots.proofs.CellLemmas.{cell-set_at, cell-set_other, has-name, name-has, one-key, same-entry, same-names, true_or_false, weight}
 use Rattle.nomos_slots.proofs.ProbeLemmas.{filled-some, same-process, same-variable}
 
-own-key : (e : Named) → is_of e.process e.variable e ≡ true
-own-key e = and_from _ _ (eq-eqb e.process e.process refl) (eq-eqb e.variable e.variable refl)
-
 -- the other way about
 key-back : (e f : Named) → is_of e.process e.variable f ≡ true → is_of f.process f.variable e ≡ true
 key-back e f is =
@@ -111,12 +108,6 @@ module _ (homes : ℕ) (cells : List Cell) (at : ℕ) (e : Named) (probed : IsPr
             ])
             ∙ sym (ap (λ b. cond b (Some e.name) (name_in cells q w)) not)
       ]
-
-  pub entries-come : cell_at cells at ≡ None → entries with_entry ≡ entries cells + 1
-  entries-come none =
-      let step = sum_by-set weight cells at (Some e) None within in
-      let was : weight (get_or cells at None) ≡ 0 = ap weight none in
-      omega (arith, step, was)
 
   pub entries-renamed : (f : Named) → cell_at cells at ≡ Some f → entries with_entry ≡ entries cells
   entries-renamed f some =

@@ -2,9 +2,8 @@
 use Rattle.std.proofs.Common.{◌≡◌, ◌<◌, ◌≤◌, ◌+◌, ◌-◌, zero, suc, ℕ, true, false, cond, List, [], ◌∷◌, ◌++◌, length, min, get_or, set, take, drop, Some, None, sym, ap, ◌∙◌, arith, append_assoc, drop-set-lt}
 use Rattle.std.specs.List.{slice_get}
 use Rattle.std.specs.Option.{is_some}
-use Rattle.std.proofs.lemmas.List.{append-nil, at_drop_more, length-set, take_more_set}
+use Rattle.std.proofs.lemmas.List.{at_drop_more, length-set, take_more_set}
 use Rattle.std.proofs.lemmas.Option.{get_or_from_slice_get, none-some, slice_get_within}
-use Rattle.std.proofs.Math.ListN.{drop_of_length-le}
 use Rattle.nomos_slots.specs.Marking.{Marking}
 use Rattle.nomos_slots.specs.Numbers.{close_gaps}
 use Rattle.nomos_slots.specs.declared.numbered.Slot.{Slot}
@@ -47,10 +46,6 @@ module _ {X : Type 0} where
       ∙ ap (λ xs. xs ++ rest) (take_more_set slots to s (omega arith))
       ∙ append_assoc (take to slots) (s ∷ []) rest
       ∙ sym (moved-split to place slots s h ∙ ap (λ b. take to slots ++ cond b (s ∷ rest) rest) has)
-
-  pub moved-all : (to place : ℕ) (slots : List (Slot X)) → length slots ≤ place → moved to place slots ≡ take to slots
-  moved-all to place slots past =
-      ap (λ xs. take to slots ++ filled xs) (drop_of_length-le slots past) ∙ append-nil (take to slots)
 
   -- how far the slots of `old` are moved up: those before `place` are done, and the next one goes to `to`
   pub record IsMoved (start : ℕ) (old : Marking (Slot X)) (to place : ℕ) (kept : Marking (Slot X)) : Type 0 where

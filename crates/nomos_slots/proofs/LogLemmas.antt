@@ -6,7 +6,7 @@ use Rattle.std.proofs.lemmas.List.Folds.{list_any-append, list_any_none}
 use Rattle.nomos_slots.specs.Log.{is_kept, is_logged, IsBelow, IsKeptAsLogged, IsOnce, put_back, records, unkept}
 use Rattle.nomos_slots.specs.declared.column.Entry.{Entry}
 
-or_false : (b : Bool) → (b || false) ≡ b
+pub or_false : (b : Bool) → (b || false) ≡ b
 or_false true = refl
 or_false false = refl
 

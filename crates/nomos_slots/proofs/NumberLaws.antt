@@ -5,7 +5,7 @@ use Rattle.std.specs.List.Sorted.{IsStrictlySortedBy}
 use Rattle.std.specs.Ordering.{nat_cmp}
 use Rattle.std.specs.Cmp.{nat_cmp_is}
 use Rattle.std.proofs.lemmas.Cmp.{ranked}
-use Rattle.std.proofs.lemmas.Bool.{cases_eq, cases_lt}
+use Rattle.std.proofs.lemmas.Bool.{cases_eq}
 use Rattle.std.proofs.lemmas.List.{length-append}
 use Rattle.std.proofs.lemmas.List.Elements.{All-head, All-tail}
 use Rattle.std.proofs.lemmas.Map.Keys.{below_from_sorted, sorted_head, sorted_tail}
@@ -235,17 +235,6 @@ module _ {X : Type 0} where
         | inr apart ↦
             let after : get_or ns place d < get_or ns k d = below_from_sorted ns place k d order (omega arith) l in
             omega arith
-      ]
-
-  -- where nothing is left between, no slot has the number
-  pub none-between : (slots : List (Slot X)) (from to number : ℕ) → BelowAre slots from number
-      → OnwardsAre slots to number → to ≤ from → All (λ n. n ≢ number) (numbers slots)
-  none-between slots from to number below onwards met k d l =
-      elim (cases_lt k from) [
-        | inl before ↦ let h : get_or (numbers slots) k d < number = below k d before in λ same. absurd (omega arith)
-        | inr after ↦
-            let h : number < get_or (numbers slots) k d = onwards k d (omega arith) l in
-            λ same. absurd (omega arith)
       ]
 
   -- ---- the order of all that is kept

@@ -1,5 +1,5 @@
 -- Look-ups in cells.
-use Rattle.std.proofs.Common.{◌≡◌, ◌<◌, ◌≤◌, ℕ, true, false, eqb, List, Some, None, length, refl, sym, ap, ◌∙◌, inl, inr, arith}
+use Rattle.std.proofs.Common.{◌≡◌, ◌<◌, ◌≤◌, ℕ, true, false, eqb, List, Some, None, length, sym, ap, ◌∙◌, inl, inr, arith}
 use Rattle.std.specs.Option.{is_some}
 use Rattle.std.proofs.lemmas.Bool.{and_parts, both_ways, cases_eq, cases_lt, eqb-true, false_from_ne_true, false≢true}
 use Rattle.std.proofs.lemmas.List.{get_or_past}
@@ -22,13 +22,6 @@ same-home homes p v e is =
 
 pub filled-some : (cells : List Cell) (place : ℕ) (e : Named) → cell_at cells place ≡ Some e → is_filled cells place ≡ true
 filled-some cells place e is = ap is_some is
-
-pub empty-none : (cells : List Cell) (place : ℕ) → is_filled cells place ≡ false → cell_at cells place ≡ None
-empty-none cells place not = none (cell_at cells place) not
-  where
-    none : (c : Cell) → is_some c ≡ false → c ≡ None
-    none None h = refl
-    none (Some e) h = cc
 
 pub filled-within : (cells : List Cell) (place : ℕ) → is_filled cells place ≡ true → place < length cells
 filled-within cells place is =

@@ -1,22 +1,16 @@
 -- The rows of a shelf where one is changed, and where the log is undone.
-use Rattle.std.proofs.Common.{◌≡◌, ◌<◌, ◌≤◌, ◌+◌, ◌||◌, ◌⊎◌, zero, suc, ℕ, Bool, true, false, eqb, List, [], ◌∷◌, ◌++◌, length, get_or, set, drop, refl, sym, ap, ◌∙◌, inl, inr, arith}
+use Rattle.std.proofs.Common.{◌≡◌, ◌<◌, ◌≤◌, ◌+◌, ◌||◌, zero, suc, ℕ, true, false, eqb, List, [], ◌∷◌, ◌++◌, length, get_or, set, drop, refl, sym, ap, ◌∙◌, inl, inr, arith}
 use Rattle.std.specs.List.{insert, remove}
 use Rattle.std.proofs.lemmas.Bool.{cases_eq, eqb-true, ne_eqb, both_ways, false_from_ne_true, false≢true}
 use Rattle.std.proofs.lemmas.List.{map-set, at_drop_more, get_or-map, get_or-set_same, get_or-set_other, set-set, set_comm, length-map, length-set}
 use Rattle.std.proofs.lemmas.List.Folds.{list_any-append}
 use Rattle.std.proofs.Math.ListN.{drop_of_length-le}
+use Rattle.nomos_slots.proofs.CellLemmas.{true_or_false}
+use Rattle.nomos_slots.proofs.LogLemmas.{or_false}
 use Rattle.nomos_slots.specs.Rows.{IsCovered, covers, flags_of, has_all, is_freed, place_of, rows_of, undo, undone}
 use Rattle.nomos_slots.specs.declared.shelf.Row.{Row}
 use Rattle.nomos_slots.specs.declared.shelf.Step.{Step}
 use Rattle.nomos_slots.specs.declared.shelf.Step.TheVariants as step
-
-or_false : (b : Bool) → (b || false) ≡ b
-or_false true = refl
-or_false false = refl
-
-true_or_false : (b : Bool) → (b ≡ true) ⊎ (b ≡ false)
-true_or_false true = inl refl
-true_or_false false = inr refl
 
 module _ {X : Type 0} where
   -- ---- one row is changed

@@ -191,11 +191,6 @@ module _ {X : Type 0} where
       ap (λ ns. slice_index ns at) (map-set (λ (r : Row X). spare_of r.items) rows at r)
       ∙ get_or-set_same (spares_of rows) at (spare_of r.items) 0 l
 
-  pub spare-read : (rows : List (Row X)) (at : ℕ) (old : Row X) → at < length rows → old ≡ get_or rows at old
-      → slice_index (spares_of rows) at ≡ spare_of old.items
-  spare-read rows at old within read =
-      get_or-map (λ (r : Row X). spare_of r.items) rows at old 0 within ∙ ap (λ (r : Row X). spare_of r.items) (sym read)
-
   -- ---- the mark itself
 
   pub marked-whole : (rows : List (Row X)) (log : List (Step X)) (n : ℕ) → log ≡ [] → n ≡ length rows

@@ -37,10 +37,6 @@ pub record Front (parts rest : List Part) (events : List Event) (n : ℕ) : Type
   pub derived : Produces rest others
   pub fewer : rules_in derived ≤ n
 
-more_rules : {parts rest : List Part} {events : List Event} {m n : ℕ} → m ≤ n → Front parts rest events m
-    → Front parts rest events n
-more_rules le f = record { others = f.others; made = f.made; derived = f.derived; fewer = omega (arith, f.fewer) }
-
 pub front_of : (n : ℕ) (parts rest : List Part) (events : List Event) (d : Produces (parts ++ rest) events)
     → rules_in d ≤ n →
     Front parts rest events n

@@ -1,8 +1,9 @@
 -- What a production makes of tokens is what a tree prints: every file of the grammar has a tree.
-use Rattle.std.proofs.Common.{◌≡◌, List, [], ◌∷◌, map, Option, Some, None, refl, ap, sym, subst, arith}
+use Rattle.std.proofs.Common.{◌≡◌, List, [], ◌∷◌, map, Option, Some, None, ap, sym, subst, arith}
 use Rattle.nomos_grammar.specs.declared.part.Nonterminal.TheVariants as the_production
 use Rattle.nomos_grammar.specs.declared.part.Terminal.TheVariants as terminal
-use Rattle.nomos_grammar.specs.Producing.{Fits, first, later, IsFile, file, Event, tokens_in, Produces, nothing}
+use Rattle.nomos_grammar.proofs.StandLemmas.{nothing_left}
+use Rattle.nomos_grammar.specs.Producing.{Fits, first, later, IsFile, file, tokens_in}
 use Rattle.nomos_grammar.specs.Grammar.{the}
 use Rattle.nomos_ir.specs.declared.kind.Base.TheVariants as base
 use Rattle.nomos_ir.specs.declared.word.Word.TheVariants as word
@@ -384,10 +385,6 @@ whole_made : {tokens : List Placed} {others : List Placed} → others ≡ [] →
 whole_made none (made_more whole made_none) =
     let r = file_made whole in
     (r.tree, r.is, r.reads [] (subst (λ (ts : List Placed). Spells [] ts) (sym none) tt))
-
--- nothing derives no event alone
-nothing_left : {events : List Event} → Produces [] events → events ≡ []
-nothing_left nothing = refl
 
 -- Every file of the grammar is what a tree that stands for a text prints.
 pub file-has_tree : (tokens : List Placed) → IsFile tokens

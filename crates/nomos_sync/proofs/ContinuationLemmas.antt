@@ -1,7 +1,7 @@
 -- Continuations by hops, and as a list.
 use Rattle.std.proofs.Common.{◌≡◌, ◌≢◌, ◌<◌, ◌==◌, ℕ, zero, suc, Bool, true, false, cond, List, [], ◌∷◌, map, length, get_or, Contains, find, Option, Some, option_map, refl, sym, ap, subst, ◌∙◌, eq-eqb, ne_eqb, arith}
 use Rattle.std.proofs.lemmas.List.{get_or-map, length-map}
-use Rattle.std.proofs.lemmas.List.Elements.{Contains-get_or, Contains-append_right}
+use Rattle.std.proofs.lemmas.List.Elements.{Contains-get_or}
 use Rattle.nomos_ir.specs.declared.ids.Label.{Label}
 use Rattle.nomos_ir.specs.declared.ids.TypeId.{TypeId}
 use Rattle.nomos_ir.specs.declared.lists.ProgramLists.{ProgramLists}
@@ -14,6 +14,7 @@ use Rattle.nomos_ir.specs.Nodes.{type_node}
 use Rattle.nomos_ir.specs.Program.{IsProgram}
 use Rattle.nomos_ir.specs.TypeParts.{type_labels}
 use Rattle.nomos_ir.proofs.NodeLaws.{All-at, type_node-at}
+use Rattle.nomos_types.proofs.OccurrenceLaws.{contains-map, contains-unmap}
 use Rattle.nomos_types.specs.Branches.{goes_by}
 use Rattle.nomos_types.specs.Synchronizing.{continuations, Reaches, further}
 use Rattle.nomos_equality.specs.declared.hop.Hop.{Hop}
@@ -22,20 +23,6 @@ use Rattle.nomos_equality.specs.Paths.{part_by}
 use Rattle.nomos_equality.proofs.HeadLaws.{goes-label}
 use Rattle.nomos_equality.proofs.PathLaws.{part-below}
 use Rattle.nomos_sync.specs.Continuing.{continuation_by, behind_down, Continues, stops, continues}
-
-contains-map : {X Y : Type 0} (f : X → Y) (xs : List X) (x : X) (y : Y) → Contains xs x → f x ≡ y
-    → Contains (map f xs) y
-contains-map f xs x y there same =
-    let inside : there.0 < length (map f xs) = rw length-map there.1 in
-    (there.0, inside, get_or-map f xs there.0 x y there.1 ∙ ap f there.2 ∙ same)
-
-contains-unmap : {X Y : Type 0} (f : X → Y) (xs : List X) (y : Y) → Contains (map f xs) y
-    → (x : X) × Contains xs x × (f x ≡ y)
-contains-unmap f [] y there = absurd (omega (arith, there.1))
-contains-unmap f (x ∷ xs) y (zero, inside, is) = (x, Contains-get_or (x ∷ xs) 0 x (omega arith), is)
-contains-unmap f (x ∷ xs) y (suc k, inside, is) =
-    let r = contains-unmap f xs y (k, omega arith, is) in
-    (r.0, Contains-append_right (x ∷ []) xs r.0 r.1, r.2)
 
 -- the only element
 one-element : {X : Type 0} (x y : X) → Contains (x ∷ []) y → x ≡ y

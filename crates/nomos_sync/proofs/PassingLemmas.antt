@@ -9,7 +9,7 @@ use Rattle.nomos_ir.specs.declared.type_node.TypeNode.{TypeNode}
 use Rattle.nomos_ir.specs.declared.type_node.TypeNode.TheVariants as node
 use Rattle.nomos_ir.specs.Nodes.{type_node}
 use Rattle.nomos_ir.specs.Program.{IsProgram}
-use Rattle.nomos_ir.specs.Unfold.{IsConstructor, Unfolds, constructor}
+use Rattle.nomos_ir.specs.Unfold.{Unfolds}
 use Rattle.nomos_ir.proofs.UnfoldLaws.{Unfolds-unique}
 use Rattle.nomos_types.specs.Equality.{EqualShapes}
 use Rattle.nomos_types.specs.Synchronizing.{Reaches, here, further}
@@ -157,10 +157,6 @@ none-past xs n i x none found =
           let there = slice_get-get_or xs n x (omega (arith, inside, more)) in
           absurd cc
     ]
-
-node-unique : (lists : ProgramLists) (t : ℕ) (n m : TypeNode) → type_node lists t ≡ Some n → IsConstructor n
-    → Unfolds lists t m → n ≡ m
-node-unique lists t n m there constructs unfolds = Unfolds-unique lists t n m (constructor t n there constructs) unfolds
 
 module _ (lists : ProgramLists) (start shared : TypeId) (old e : Compared) (s : Visits) (next : ℕ)
     (is_program : IsProgram lists) (passing : IsPassing lists start shared old e s next)

@@ -1,8 +1,9 @@
 -- Lemmas of the walk: what a visit leads to, and what holds when no visit is left.
-use Rattle.std.proofs.Common.{◌≡◌, ◌<◌, ◌⊎◌, inl, inr, ℕ, zero, suc, ◌+◌, List, [], ◌∷◌, ◌++◌, length, get_or, Contains, Option, Some, None, Result, Ok, Err, OnOk, slice_get, reverse, refl, sym, ap, subst, ◌∙◌, arith, append_assoc}
+use Rattle.std.proofs.Common.{◌≡◌, ◌<◌, inl, inr, ℕ, zero, suc, ◌+◌, List, [], ◌∷◌, ◌++◌, length, get_or, Contains, Option, Some, None, Result, Ok, Err, OnOk, slice_get, reverse, refl, sym, ap, subst, ◌∙◌, arith, append_assoc}
 use Rattle.std.proofs.lemmas.List.{append-nil, reverse-append}
 use Rattle.std.proofs.lemmas.List.Elements.{Contains-append_left, Contains-push}
 use Rattle.std.proofs.lemmas.Option.{slice_get_within}
+use Rattle.nomos_equality.proofs.VisitLemmas.{get-push, get-front}
 use Rattle.nomos_ir.specs.declared.ids.Label.{Label}
 use Rattle.nomos_ir.specs.declared.ids.TypeId.{TypeId}
 use Rattle.nomos_ir.specs.declared.lists.ProgramLists.{ProgramLists}
@@ -22,20 +23,6 @@ use Rattle.nomos_sync.specs.Continuing.{continuation_by, Continues, stops, conti
 use Rattle.nomos_sync.specs.mirror.Walk.{Visits, IsVisited, MeetsType, known, fresh, LeadsOn, WalksTo, stays, meets, FollowsHop, FollowsEachLabel, FollowsAll, WayTo, begins, onward, VisitsAreInOrder, WasMetBy}
 
 -- ---- look-ups
-
-get-front : {X : Type 0} (xs ys : List X) (i : ℕ) (x : X) → slice_get xs i ≡ Some x → slice_get (xs ++ ys) i ≡ Some x
-get-front [] ys i x found = absurd cc
-get-front (y ∷ xs) ys zero x found = found
-get-front (y ∷ xs) ys (suc i) x found = get-front xs ys i x found
-
--- an element of a list with one more is one of the list, or the last
-get-push : {X : Type 0} (xs : List X) (y : X) (i : ℕ) (x : X) → slice_get (xs ++ y ∷ []) i ≡ Some x
-    → (slice_get xs i ≡ Some x) ⊎ ((i ≡ length xs) × (y ≡ x))
-get-push [] y zero x found = inr (refl, cc)
-get-push [] y (suc i) x found = absurd cc
-get-push (z ∷ xs) y zero x found = inl found
-get-push (z ∷ xs) y (suc i) x found =
-    elim (get-push xs y i x found) [ inl h ↦ inl h | inr h ↦ inr (omega (arith, h.0), h.1) ]
 
 -- ---- what is met stays met
 
@@ -300,16 +287,7 @@ way-inside visits number o path order way =
     let inside = slice_get_within visits way.here (way.met.0, Some o) way.met.1 in
     omega (arith, earlier, inside)
 
-pub way-falls : (visits : Visits) (o : Arrival) (next : Option Arrival) → VisitsAreInOrder visits
-    → WasMetBy visits o.visit next → way_measure next < o.visit + 1
-way-falls visits o None order met = omega arith
-way-falls visits o (Some p) order met = let earlier = order o.visit met.0 p met.1 in omega (arith, earlier)
-
 -- ---- what the functions owe
-
-pub ok-map : {T E : Type 0} {P Q : Type 0} (r : Result T E) → (P → Q) → OnOk r P → OnOk r Q
-ok-map (Ok v) turn holds = turn holds
-ok-map (Err e) turn holds = holds
 
 -- the continuation by a hop is met
 pub follow-goes : (lists : ProgramLists) (s n : Visits) (number at : ℕ) (from : Option Arrival) (h : Hop) (p : TypeNode)
@@ -324,15 +302,6 @@ follow-goes lists s n number at from h p t there node_there part met = (
       let target : t ≡ u = cc in
       subst (λ (v : TypeId). IsVisited lists n v) target ((meets-stays lists s n t _ met).1),
 )
-
--- a hop that leads nowhere
-pub follow-none : (lists : ProgramLists) (s : Visits) (at : ℕ) (h : Hop) (p : TypeNode) → type_node lists at ≡ Some p
-    → continuation_by p h ≡ None → FollowsHop lists at h s
-follow-none lists s at h p there none =
-    λ m u m_there m_part.
-    let same : p ≡ m = cc in
-    let at_m : continuation_by m h ≡ None = subst (λ (k : TypeNode). continuation_by k h ≡ None) same none in
-    absurd cc
 
 -- the labels of a visit whose branches were followed
 pub labels-known : (lists : ProgramLists) (at : ℕ) (p : TypeNode) (visits : Visits) → type_node lists at ≡ Some p

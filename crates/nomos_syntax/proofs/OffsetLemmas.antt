@@ -2,7 +2,7 @@
 use Rattle.std.proofs.Common.{ℕ, zero, suc, ◌+◌, ◌<◌, ◌≤◌, List, [], ◌∷◌, length, Option, Some, None, All, arith}
 use Rattle.std.proofs.lemmas.List.Elements.{All-nil, All-cons, All-append}
 use Rattle.nomos_syntax.specs.Lexeme.{Lexeme}
-use Rattle.nomos_syntax.specs.Scan.{piece_at, placed_at, tokens_from, tokens_of}
+use Rattle.nomos_syntax.specs.Scan.{piece_at, placed_at, tokens_from}
 
 -- a token at an offset below a bound
 at_below : (end at : ℕ) (lexeme : Option Lexeme) → at < end → All (λ token. token.at < end) (placed_at at lexeme)
@@ -22,7 +22,3 @@ tokens_below end at zero (b ∷ bytes) fits =
     (tokens_from (suc at) (piece_at b bytes).more bytes)
     (at_below end at (piece_at b bytes).lexeme (omega (arith, fits)))
     (tokens_below end (suc at) (piece_at b bytes).more bytes (omega (arith, fits)))
-
--- each token stands at an offset below the length of the text
-pub offsets_are_inside : (text : List ℕ) → All (λ token. token.at < length text) (tokens_of text)
-offsets_are_inside text = tokens_below (length text) 0 0 text (omega arith)

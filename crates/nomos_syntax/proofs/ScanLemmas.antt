@@ -1,7 +1,7 @@
 -- The tokens of a text, piece by piece.
 use Rattle.std.proofs.Common.{◌≡◌, ℕ, zero, suc, ◌+◌, ◌-◌, ◌<◌, ◌≤◌, List, [], ◌∷◌, ◌++◌, length, take, drop, map, Some, None, All, AllPairs, refl, sym, ◌∙◌, ap, append_assoc, add-zero, arith}
 use Rattle.std.proofs.lemmas.List.{map-append, append-nil, drop-drop, drop_all, length-drop}
-use Rattle.std.proofs.lemmas.List.Elements.{All-nil, All-push}
+use Rattle.std.proofs.lemmas.List.Elements.{All-push}
 use Rattle.std.proofs.lemmas.List.Quantifiers.{all_pairs_push}
 use Rattle.nomos_syntax.specs.declared.pieces.Piece.{Piece as Found}
 use Rattle.nomos_syntax.specs.declared.token.Token.{Token}
@@ -40,17 +40,6 @@ pub record Scanned (text : List ℕ) (tokens : List Token) (at : ℕ) : Type 0 w
   pub spelled : All (IsSpelled text) tokens
   pub in_order : AllPairs StandsBefore tokens
   pub same : map (placed_of text) tokens ++ tokens_from at 0 (drop at text) ≡ tokens_of text
-
--- no token stands before the text
-pub Scanned-none : (text : List ℕ) → Scanned text [] 0
-Scanned-none text = record {
-  within = omega arith;
-  before = All-nil (λ token. token.to ≤ 0);
-  inside = All-nil (LiesIn text);
-  spelled = All-nil (IsSpelled text);
-  in_order = λ i j d above below. absurd (omega (arith, below));
-  same = refl;
-}
 
 -- at the end of the text the tokens are its tokens
 pub Scanned-all : (text : List ℕ) (tokens : List Token) (at : ℕ)

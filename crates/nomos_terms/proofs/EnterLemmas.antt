@@ -1,5 +1,5 @@
 -- What each form of term leads to.
-use Rattle.std.proofs.Common.{◌≡◌, ◌+◌, ◌<◌, ℕ, suc, List, [], ◌∷◌, ◌++◌, length, Some, None, slice_get, append_assoc, refl, sym, ap, subst, arith}
+use Rattle.std.proofs.Common.{◌≡◌, ◌+◌, ◌<◌, ℕ, suc, List, [], ◌∷◌, ◌++◌, length, Some, slice_get, append_assoc, refl, sym, ap, subst, arith}
 use Rattle.std.specs.List.{sum_by}
 use Rattle.nomos_ir.specs.Bindings.{bound_to}
 use Rattle.nomos_ir.specs.declared.declaration.FnDecl.{FnDecl}
@@ -27,11 +27,6 @@ pub node_of : (lists : ProgramLists) (vars : VariableKinds) (t : TermId) (n : Te
 node_of lists vars t n k found (kind.term _ _ _ m there has) =
     let P : TermNode → Type 0 = λ x. NodeHasKind lists vars x k in
     let same : m ≡ n = cc in subst P same has
-
--- a term without a node has no kind
-pub no_node : (lists : ProgramLists) (vars : VariableKinds) (t : TermId) (k : Kind) → slice_get lists.terms t.0 ≡ None
-    → HasKind lists vars t k → ⊥
-no_node lists vars t k none (kind.term _ _ _ m there has) = cc
 
 -- what the kinds of operators rest on
 module _ (lists : ProgramLists) (vars : VariableKinds) where
@@ -314,9 +309,3 @@ module _ (lists : ProgramLists) (outer : VariableKinds) where
       (d.gives, kind.call _ at f values d d.gives declared back.0 refl, back.1))
       (omega (arith, whole, arguments, sum))
       (rw (append_assoc (argument_tasks values d.pars) (task.Give d.gives ∷ []) old.todo) same)
-
--- what was planned, under the names of the call
-pub joined : (values given : List TermId) (pars wanted : VariableKinds) (new todo pushed : List Task)
-    → new ≡ argument_tasks given wanted ++ pushed → given ≡ values → wanted ≡ pars → pushed ≡ todo
-    → new ≡ argument_tasks values pars ++ todo
-joined values given pars wanted new todo pushed planned same_values same_pars same_todo = cc

@@ -7,16 +7,12 @@ use Rattle.std.proofs.lemmas.Fmt.{decimal_is_IsNumeral_wide}
 use Rattle.std.proofs.lemmas.List.{take_rest}
 use Rattle.std.proofs.lemmas.Str.{digit_value_digit}
 use Rattle.std.proofs.lemmas.Str.Parse.{digit_from_value}
+use Rattle.nomos_script.proofs.NumberLemmas.{no_smaller}
 
 -- Where the text is digits, those that are left are digits, and lead from the count so far to the whole number.
 pub record Counted (text left : List ℕ) (count : ℕ) : Type 0 where
   pub each : AllDigits 10 text → AllDigits 10 left
   pub whole : AllDigits 10 text → digits_value 10 text ≡ digits_value_after 10 count left
-
--- the number gets no smaller
-no_smaller : (n : ℕ) (digits : List ℕ) → n ≤ digits_value_after 10 n digits
-no_smaller n [] = omega arith
-no_smaller n (d ∷ digits) = omega (arith, no_smaller (n * 10 + digit_value d) digits)
 
 -- what a number writes is digits, and its value is the number
 pub digits_written : (text : List ℕ) (n : ℕ) → n < 2 ^ 128 → text ≡ decimal n

@@ -103,14 +103,6 @@ stops unit rest (end.Aborted pid f) is same = absurd (omega (arith, ap (λ t. ge
 stops unit rest (end.Steps k) is same = record { steps = k; small = is; is = refl; text = ap (λ t. drop 6 t) same }
 stops unit rest (end.Refused m cause) is same = absurd (omega (arith, ap (λ t. get_or t 0 0) same))
 
-pub steps_none : (unit : ℕ) (rest : List ℕ) → ReadsBits 32 rest None
-    → ReadsAs IsEnd (end_text unit) (codes "steps " ++ rest) None
-steps_none unit rest reads =
-    ReadsAs-none (codes "steps " ++ rest) (λ e is same.
-    let s = stops unit rest e is same in
-    let none = reads.each s.steps s.small s.text in
-    cc)
-
 pub steps_some : (unit : ℕ) (rest : List ℕ) (k : ℕ) → ReadsBits 32 rest (Some k)
     → ReadsAs IsEnd (end_text unit) (codes "steps " ++ rest) (Some (end.Steps k))
 steps_some unit rest k reads =

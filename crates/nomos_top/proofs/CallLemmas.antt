@@ -16,13 +16,6 @@ use Rattle.nomos_top.proofs.Views.{WordsView, WrittenView, words-view, written-v
 use Rattle.nomos_top.proofs.Views as view
 use Rattle.nomos_types.specs.Acceptance.{Acceptance}
 use Rattle.nomos_words.specs.Words.{Task, Asks}
-use Rattle.nomos_words.specs.declared.workers.Workers.{Workers}
-use Rattle.nomos_words.specs.declared.workers.Workers.TheVariants as workers
-use Rattle.nomos_words.specs.Words as words_of
-use Rattle.nomos_words.proofs.WordLaws.{several_workers, steps_within}
-use Rattle.nomos_legal.specs.Legal.{IsLimit}
-use Rattle.nomos_top.specs.Tasks.{crew_of}
-use Rattle.nomos_workers.specs.Crews.{IsCrew}
 
 -- ---- sources
 
@@ -123,16 +116,3 @@ nothing-may_keep c (Ok d) s Same due ends same none never = either (words-keeps 
 nothing-may_keep c (Err p) s Same due ends same none never = none
 
 -- ---- orders
-
--- the crew that words ask for is one
-pub asked-crew : (words : List (List ℕ)) (file script : List ℕ) (by : Workers) (steps : ℕ) (journal : Option (List ℕ))
-    → Asks words (words_of.run file script by steps journal) → IsCrew (crew_of by)
-asked-crew words file script (workers.One policy) steps journal asks = tt
-asked-crew words file script (workers.Many n) steps journal asks =
-    several_workers words file script n steps journal asks
-
-pub asked-limit : (words : List (List ℕ)) (file script : List ℕ) (by : Workers) (steps : ℕ) (journal : Option (List ℕ))
-    → Asks words (words_of.run file script by steps journal) → IsLimit steps
-asked-limit words file script by steps journal asks =
-    let within = steps_within words file script by steps journal asks in
-    record { some = within.0; few = within.1 }

@@ -1,11 +1,10 @@
 -- Of a text of which a cause is true nothing is accepted, and neither run stops on it; nor on a text that is accepted,
 -- which is accepted once.
-use Rattle.std.proofs.Common.{◌≡◌, ◌<◌, ◌≤◌, ◌≢◌, ℕ, List, length, nat_le, get_or, All, IsTrue, Some, None, inl, inr, ap, sym, subst, ◌∙◌, arith}
-use Rattle.std.proofs.lemmas.Bool.Decides.{leb_tells}
-use Rattle.std.proofs.lemmas.List.Elements.{All-contains}
-use Rattle.std.proofs.lemmas.List.Quantifiers.{position-Some}
+use Rattle.std.proofs.Common.{◌≡◌, ◌≤◌, ℕ, List, length, Some, None, ap, sym, subst, ◌∙◌, arith}
 use Rattle.nomos_accept.proofs.AcceptLaws.{one-tree, one-program}
+use Rattle.nomos_accept.proofs.RefusalLemmas.{offends-not_obeying, bare-not_contractive}
 use Rattle.nomos_accept.proofs.RowListLaws.{ends-once}
+use Rattle.nomos_accept.proofs.StepLemmas.{not_ascii-not_plain}
 use Rattle.nomos_accept.specs.AcceptedText.{IsReadAs, IsAcceptedAs, IsOffence, IsCauseOf, PivotRunEndsWith, found_amounts}
 use Rattle.nomos_accept.specs.declared.refusal.Why.{Why}
 use Rattle.nomos_accept.specs.declared.refusal.Why.TheVariants as why
@@ -15,17 +14,7 @@ use Rattle.nomos_forms.specs.declared.found.Found.{Found}
 use Rattle.nomos_forms.specs.declared.verdict.Verdict.{Verdict}
 use Rattle.nomos_grammar.specs.declared.offence.GrammarError.{GrammarError}
 use Rattle.nomos_grammar.specs.declared.offence.GrammarError.TheVariants as grammar
-use Rattle.nomos_ir.proofs.NodeLaws.{All-at}
-use Rattle.nomos_ir.specs.Nodes.{type_node}
-use Rattle.nomos_ir.specs.Unfold.{IsConstructor, IsContractive}
-use Rattle.nomos_ir.specs.declared.declaration.ProcDecl.{ProcDecl}
-use Rattle.nomos_ir.specs.declared.ids.TypeId.{TypeId}
-use Rattle.nomos_ir.specs.declared.ids.VarId.{VarId}
 use Rattle.nomos_ir.specs.declared.lists.ProgramLists.{ProgramLists}
-use Rattle.nomos_ir.specs.declared.mode.Mode.TheVariants as mode
-use Rattle.nomos_ir.specs.declared.type_node.Def.{Def}
-use Rattle.nomos_ir.specs.declared.type_node.TypeNode.{TypeNode}
-use Rattle.nomos_ir.specs.declared.type_node.TypeNode.TheVariants as node
 use Rattle.nomos_least.proofs.OneLeastLaws.{least_ends-once}
 use Rattle.nomos_least.specs.LeastBounds.{IsLeastAs, LeastRunEndsWith}
 use Rattle.nomos_least.specs.declared.least.LeastBounds.{LeastBounds}
@@ -38,47 +27,19 @@ use Rattle.nomos_simplex.specs.declared.solved.SolvedLeast.TheVariants as least_
 use Rattle.nomos_simplex.specs.declared.solved.Stop.{Stop}
 use Rattle.nomos_surface.specs.Tree.{FileTree}
 use Rattle.nomos_syntax.specs.Limits.{text_limit}
-use Rattle.nomos_syntax.specs.Reading.{IsPlainText}
-use Rattle.nomos_syntax.specs.Spans.{IsFirstNotAscii}
 use Rattle.nomos_top.specs.Tasks.{IsGivenFor, HasStopped, HasLeastStopped, HasStoppedFor}
 use Rattle.nomos_types.specs.Acceptance.{Acceptance, acceptance}
 use Rattle.nomos_types.specs.Amount.{Annotations}
-use Rattle.nomos_types.specs.Forming.{IsFirstBareName}
-use Rattle.nomos_types.specs.Modes.{Offends, forbidden, not_held, of_transactions, ObeysModes, may_hold, parameter_mode}
 use Rattle.nomos_types.specs.Typed.{IsTypedProgram}
 use Rattle.nomos_words.specs.Words.{Task, check, run, replay, bench, least}
 
 -- ---- what a cause rules out
-
--- a byte over 127 stands in no plain text
-not_ascii-not_plain : (text : List ℕ) (at : ℕ) → IsFirstNotAscii text at → ¬ IsPlainText text
-not_ascii-not_plain text at first plain =
-    let found = position-Some (λ (byte : ℕ). nat_le 128 byte) text at 0 first.first in
-    let below : get_or text at 0 < 128 = plain.ascii at 0 found.0 in
-    elim (leb_tells 128 (get_or text at 0)) [ inl (test, high) ↦ omega arith | inr (test, low) ↦ absurd cc ]
 
 -- a text that the grammar refuses reads as no program
 offence-unread : (text : List ℕ) (e : GrammarError) (lists : ProgramLists) → (e ≡ grammar.NoMemory → ⊥)
     → IsOffence text e → ¬ IsReadAs text lists
 offence-unread text e lists some offence read =
     (refused-none text e some offence.plain offence.refused).none read.tree read.reads
-
--- a definition that is a bare name is not contractive
-bare-not_contractive : (lists : ProgramLists) (at : ℕ) → IsFirstBareName lists at → ¬ IsContractive lists
-bare-not_contractive lists at bare contractive =
-    All-at (λ (def : Def). (n : TypeNode) → type_node lists def.body.0 ≡ Some n → IsConstructor n) lists.defs bare.place
-    bare.def contractive bare.there (node.Named bare.named) bare.bare
-
--- a type node that offends breaks the modes
-offends-not_obeying : (lists : ProgramLists) (t : TypeId) → Offends lists t → ¬ ObeysModes lists
-offends-not_obeying lists _ (forbidden m n has there other) obeys = other (obeys.allowed _ m n has there)
-offends-not_obeying lists _ (not_held d k t within channel other) obeys =
-    other (All-contains (λ (par : VarId × TypeId). IsTrue (may_hold d.mode (parameter_mode lists par.1))) d.channels
-    (k, t)
-    (All-contains (λ (p : ProcDecl). All (λ par. IsTrue (may_hold p.mode (parameter_mode lists par.1))) p.channels)
-    lists.procs d obeys.held within) channel)
-offends-not_obeying lists _ (of_transactions d within is) obeys =
-    All-contains (λ (d : Def). d.mode ≢ mode.T) lists.defs d obeys.definitions within is
 
 -- a program that is typed under no amounts
 never-here : (text : List ℕ) (lists other : ProgramLists) (x : Annotations) → IsReadAs text lists

@@ -1,11 +1,9 @@
 -- What is due, from what the parts of the code found.
-use Rattle.std.proofs.Common.{◌≡◌, ℕ, ◌<◌, ◌+◌, List, [], length, replicate, Option, Some, None, Result, Ok, Err, inl, inr, refl, sym, ◌∙◌, subst, arith}
+use Rattle.std.proofs.Common.{◌≡◌, ℕ, ◌<◌, List, length, Option, Some, None, Result, Ok, Err, inl, inr, refl, sym, ◌∙◌, subst, arith}
 use Rattle.std.specs.Prelude.{IfOk, IfErr}
-use Rattle.std.proofs.Math.ListN.{length-replicate}
 use Rattle.nomos_accept.specs.AcceptedText.{IsAcceptedAs, IsRefused}
 use Rattle.nomos_accept.specs.declared.refusal.Why.TheVariants as why
-use Rattle.nomos_base.proofs.ToldLaws.{TakesExactly-told}
-use Rattle.nomos_base.specs.Source.{TakesAll, TakesExactly}
+use Rattle.nomos_due.proofs.SourceLemmas.{some_text}
 use Rattle.nomos_due.specs.Benches.{IsBenchDue, IsBenchPart, load_contract}
 use Rattle.nomos_due.specs.Outside.{HasText, HaveRisen, SourceState}
 use Rattle.nomos_due.specs.Replays.{no_journal}
@@ -38,26 +36,6 @@ use Rattle.nomos_words.specs.declared.workers.Workers.{Workers}
 
 -- ---- texts
 
--- some text that a source may have
-pub some_text : (left : Option (List ℕ)) → (text : List ℕ) × HasText left text
-some_text None = ([], tt)
-some_text (Some text) = (text, refl)
-
--- some text is longer than that
-some_longer : (n : ℕ) → (text : List ℕ) × (n < length text)
-some_longer n = (replicate (n + 1) 0, rw length-replicate (omega arith))
-
--- a text past a limit, which the source has
-pub long_text : (limit : ℕ) (left now : Option (List ℕ)) → TakesExactly (limit + 1) left now
-    → (text : List ℕ) × HasText left text × (limit < length text)
-long_text limit None now h = let longer = some_longer limit in (longer.0, tt, longer.1)
-long_text limit (Some text) now h = (text, refl, omega (arith, TakesExactly-told (limit + 1) text now h))
-
--- all that was taken is what the source had
-pub taken_text : (bytes : List ℕ) (left now : Option (List ℕ)) → TakesAll bytes left now → HasText left bytes
-taken_text bytes None now h = tt
-taken_text bytes (Some all) now h = h.0
-
 -- A contract that is too long is refused for that: no text that reads is so long.
 pub too_long-refused : (text : List ℕ) → text_limit < length text → IsRefused text why.TooLong
 too_long-refused text long = record {
@@ -84,16 +62,6 @@ judged source text (Err u) told is =
     (text, told, against-more (HasStopped text) (HaveRisen source.counts) text u is)
 
 -- ---- results
-
--- what holds of a result's value, from what holds of it
-pub if_ok-map : {X E : Type 0} (r : Result X E) (P Q : X → Type 0) → ((x : X) → P x → Q x) → IfOk r P → IfOk r Q
-if_ok-map (Ok x) P Q f h = f x h
-if_ok-map (Err e) P Q f h = tt
-
--- the same of an error
-pub if_err-map : {X E : Type 0} (r : Result X E) (P Q : E → Type 0) → ((e : E) → P e → Q e) → IfErr r P → IfErr r Q
-if_err-map (Ok x) P Q f h = tt
-if_err-map (Err e) P Q f h = f e h
 
 -- what is due behind acceptance, with the program
 pub behind-ok : (a : Acceptance) (due : Result Due Journal) (P : Due → Type 0) → IfOk due P
@@ -342,12 +310,6 @@ pub found-none : (words : List (List ℕ)) (found : Option Task) → FindsOne (A
     → AskNothing words
 found-none words found finds none =
     λ task asks. absurd (let both : None ≡ Some task = sym none ∙ finds.each task asks in cc)
-
-pub found-asks : (words : List (List ℕ)) (found : Option Task) (task : Task) → FindsOne (Asks words) found
-    → found ≡ Some task → Asks words task
-found-asks words None task finds is = absurd (let both : None ≡ Some task = is in cc)
-found-asks words (Some own) task finds is =
-    let same : own ≡ task = cc in subst (Asks words) same finds.found
 
 -- how a call ends of which this is due
 pub call-ends : (c : Call) (r : Result CallDue DoneSoFar) (s : Sources) → s.contract ≡ c.contract → s.script ≡ c.script

@@ -73,13 +73,6 @@ reads-script (replay file script journal) text reads = refl
 reads-script (bench seed bidders) text reads = absurd reads
 reads-script (least file) text reads = refl
 
-pub reads-contract : (task : Task) (text : List ℕ) → ReadsScript task → contract_of task text ≡ text
-reads-contract (check file) text reads = refl
-reads-contract (run file script by steps journal) text reads = refl
-reads-contract (replay file script journal) text reads = refl
-reads-contract (bench seed bidders) text reads = absurd reads
-reads-contract (least file) text reads = refl
-
 pub journal-script : (task : Task) → ReadsJournal task → ReadsScript task
 journal-script (check file) reads = absurd reads
 journal-script (run file script by steps journal) reads = absurd reads
@@ -102,13 +95,6 @@ keeps-script (replay file script journal) keeps = absurd keeps
 keeps-script (bench seed bidders) keeps = absurd keeps
 keeps-script (least file) keeps = absurd keeps
 
-pub keeps-not_read : (task : Task) → KeepsJournal task → ¬ (ReadsJournal task)
-keeps-not_read (check file) keeps reads = reads
-keeps-not_read (run file script by steps journal) keeps reads = reads
-keeps-not_read (replay file script journal) keeps reads = keeps
-keeps-not_read (bench seed bidders) keeps reads = reads
-keeps-not_read (least file) keeps reads = reads
-
 pub keeps-or_not : (task : Task) → KeepsJournal task ⊎ ¬ (KeepsJournal task)
 keeps-or_not (check file) = inr (λ no. no)
 keeps-or_not (run file script by steps (Some journal)) = inl tt
@@ -116,13 +102,6 @@ keeps-or_not (run file script by steps None) = inr (λ no. no)
 keeps-or_not (replay file script journal) = inr (λ no. no)
 keeps-or_not (bench seed bidders) = inr (λ no. no)
 keeps-or_not (least file) = inr (λ no. no)
-
-pub alone-or_not : (task : Task) → IsAlone task ⊎ ¬ (IsAlone task)
-alone-or_not (check file) = inl tt
-alone-or_not (run file script by steps journal) = inr (λ no. no)
-alone-or_not (replay file script journal) = inr (λ no. no)
-alone-or_not (bench seed bidders) = inr (λ no. no)
-alone-or_not (least file) = inl tt
 
 -- ---- scripts
 

@@ -1,10 +1,9 @@
 -- Definitions, types and labels of which all holds that is looked at make a program.
-use Rattle.std.proofs.Common.{◌≡◌, ℕ, List, [], ◌∷◌, ◌++◌, length, map, suc, Some, slice_get, subst, sym, refl, arith}
+use Rattle.std.proofs.Common.{◌≡◌, ℕ, List, [], ◌++◌, length, map, Some, slice_get, subst, sym, refl, arith}
 use Rattle.std.specs.Prelude.{All}
 use Rattle.std.specs.List.{flat_map}
 use Rattle.std.proofs.lemmas.List.{append-nil}
-use Rattle.std.proofs.lemmas.List.Concat.{flat_map-cons}
-use Rattle.std.proofs.lemmas.List.Elements.{All-nil, All-append}
+use Rattle.std.proofs.lemmas.List.Elements.{All-nil}
 use Rattle.std.proofs.lemmas.Option.{get_or_from_slice_get, slice_get_within}
 use Rattle.nomos_ir.specs.declared.lists.ProgramLists.{ProgramLists}
 use Rattle.nomos_ir.specs.declared.type_node.Def.{Def}
@@ -14,14 +13,7 @@ use Rattle.nomos_ir.specs.Order.{count_of, type_places}
 use Rattle.nomos_ir.specs.Program.{IsProgram}
 use Rattle.nomos_ir.specs.TypeParts.{type_parts, type_amounts}
 use Rattle.nomos_type_tests.specs.Fitting.{NodeFits, NodesFit, StandOnce, BodiesFit, HasBodies, NamesFit, TypesFit}
-
--- what holds of the elements of each piece holds of all
-all-flat : {X A : Type 0} (P : A → Type 0) (f : X → List A) (xs : List X) → All (λ x. All P (f x)) xs
-    → All P (flat_map f xs)
-all-flat P f [] each = All-nil P
-all-flat P f (x ∷ xs) each =
-    rw (flat_map-cons f x xs) (All-append P (f x) (flat_map f xs) (each 0 x (omega arith))
-    (all-flat P f xs (λ k d inside. each (suc k) d (omega arith))))
+use Rattle.nomos_types.proofs.OccurrenceLaws.{all-flat}
 
 -- the parts of what is asked of bodies
 pub bodies_fit : (defs : List Def) (types : List TypeAt) (places : List ℕ) (limit : ℕ)

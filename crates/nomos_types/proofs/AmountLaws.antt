@@ -14,14 +14,14 @@ use Rattle.nomos_types.specs.Acceptance.{IsAmountOf}
 use Rattle.nomos_types.proofs.ListLemmas.{greatest-above}
 
 -- what holds of all items of two lists holds of those of the last
-all-last : {X : Type 0} (P : X → Type 0) (xs ys : List X) → All P (xs ++ ys) → All P ys
+pub all-last : {X : Type 0} (P : X → Type 0) (xs ys : List X) → All P (xs ++ ys) → All P ys
 all-last P xs ys all =
     λ k d inside.
     let in_both : length xs + k < length (xs ++ ys) = simp length-append (omega arith) in
     subst P (get_or-append-add xs ys k d) (all (length xs + k) d in_both)
 
 -- the same of the first
-all-first : {X : Type 0} (P : X → Type 0) (xs ys : List X) → All P (xs ++ ys) → All P xs
+pub all-first : {X : Type 0} (P : X → Type 0) (xs ys : List X) → All P (xs ++ ys) → All P xs
 all-first P xs ys all =
     λ k d inside.
     let in_both : k < length (xs ++ ys) = simp length-append (omega arith) in

@@ -1,6 +1,6 @@
 -- Judgements that are alike but for their potential go on so, each beside the other; and what is like a judgement is
 -- one.
-use Rattle.std.proofs.Common.{◌≡◌, ◌≤◌, ◌+◌, ℕ, zero, suc, IsTrue, List, [], ◌∷◌, All, Contains, slice_get, refl, sym, subst, ap, ◌∙◌, arith}
+use Rattle.std.proofs.Common.{◌≡◌, ◌≤◌, ◌+◌, ℕ, zero, suc, List, [], ◌∷◌, All, Contains, slice_get, refl, sym, subst, ap, ◌∙◌, arith}
 use Rattle.std.proofs.lemmas.List.Elements.{All-head, All-tail, All-cons}
 use Rattle.std.specs.List.Sorted.{IsStrictlySortedBy}
 use Rattle.std.specs.Map.{keys_of}
@@ -24,8 +24,8 @@ use Rattle.nomos_types.specs.Alike.{Alike, AlikeChannels}
 use Rattle.nomos_types.specs.Alike as alikes
 use Rattle.nomos_types.specs.Amount.{Annotations}
 use Rattle.nomos_types.specs.Derivation.{Derives, Follows}
-use Rattle.nomos_types.specs.Judgement.{Judgement, ListType, IsJudgement, SuitsMode, count_one, parts_with, with_potential}
-use Rattle.nomos_types.specs.Modes.{HasMode, IsLinearMode, may_hold}
+use Rattle.nomos_types.specs.Judgement.{Judgement, ListType, IsJudgement, count_one, parts_with, with_potential}
+use Rattle.nomos_types.specs.Modes.{HasMode, IsLinearMode}
 use Rattle.nomos_types.specs.TypingRule.{TypingRule, StandsAtCode}
 use Rattle.nomos_types.specs.Typed.{IsWellFormed}
 
@@ -93,18 +93,6 @@ module _ {lists : ProgramLists} {x : Annotations} (formed : IsWellFormed lists) 
         apart = λ v. omega (arith, parts-alike alike v, h.apart v);
         shared_modes = modes-over formed mode.S j.shared k.shared alike.shared h.shared_modes;
         linear_modes = modes-alike IsLinearMode j.linear k.linear alike.linear h.linear_modes;
-      }
-
-  -- and suits its mode where that does
-  pub alike-suits_mode : {j k : Judgement} → Alike lists x j k → SuitsMode lists k → SuitsMode lists j
-  alike-suits_mode {j} {k} alike s =
-      let at_one : alike.offers.mode ≡ k.mode = mode-unique formed.program alike.offers.right_mode s.offers in
-      let May : Mode → Mode → Type 0 = λ holder m. IsTrue (may_hold holder m) in
-      let Held : Mode → Type 0 = λ holder. All (λ b. (m : Mode) × HasMode lists b.1 m × May holder m) j.linear in
-      let held : Held k.mode = modes-alike (May k.mode) j.linear k.linear alike.linear s.held in
-      record {
-        held = subst Held (sym alike.mode) held;
-        offers = subst (λ (m : Mode). HasMode lists j.offers m) (at_one ∙ sym alike.mode) alike.offers.left_mode;
       }
 
   -- ---- beside one another

@@ -169,7 +169,7 @@ same_head-every R (down a b _) every = down a b (λ n. down-part (every n))
 -- ---- a type equals itself
 
 -- a branch goes on at a type node
-branch-below : (n : ℕ) (branches : List Branch) (l : Label) (t : TypeId) → AllBelow n (map (λ b. b.goes.0) branches)
+pub branch-below : (n : ℕ) (branches : List Branch) (l : Label) (t : TypeId) → AllBelow n (map (λ b. b.goes.0) branches)
     → goes_by branches l ≡ Some t → t.0 < n
 branch-below n branches l t all found =
     let mapped : All (λ b. b.goes.0 < n) branches =
@@ -329,7 +329,7 @@ equal-from_unfolded lists x a b p q left right same = λ n. agree-from_unfolded 
 -- ---- amounts ignored
 
 -- where amounts are ignored each is 0
-no_dths : (q : Amount) → dths no_amounts q ≡ 0
+pub no_dths : (q : Amount) → dths no_amounts q ≡ 0
 no_dths (amount.Written units) = mul-zero units
 no_dths (amount.Star star) = refl
 

@@ -1,13 +1,11 @@
 -- Derivations turned round: a judgement derives exactly where a row of its own applies and all that it goes on with
 -- derives, so the replacement by judgements that are alike is never seen again.
-use Rattle.std.proofs.Common.{◌<◌, ◌↔◌, ℕ, List, map, Contains, refl, subst, arith}
+use Rattle.std.proofs.Common.{◌<◌, ℕ, List, map, Contains, refl, subst, arith}
 use Rattle.std.proofs.lemmas.List.Elements.{All-contains}
 use Rattle.nomos_ir.specs.CodeParts.{code_next}
 use Rattle.nomos_ir.specs.declared.lists.ProgramLists.{ProgramLists}
 use Rattle.nomos_ir.specs.declared.mode.Mode.{Mode}
-use Rattle.nomos_types.proofs.AlikeLaws.{alike-same}
 use Rattle.nomos_types.proofs.CoveringLaws.{Covers}
-use Rattle.nomos_types.proofs.DerivationLaws.{derives-next}
 use Rattle.nomos_types.proofs.FollowingLaws.{place, row-places}
 use Rattle.nomos_types.proofs.OccurrenceLaws.{contains-map}
 use Rattle.nomos_types.proofs.RowLaws.{row-at}
@@ -15,7 +13,7 @@ use Rattle.nomos_types.proofs.RowsOverLaws.{HasRow, row-covers}
 use Rattle.nomos_types.specs.Alike.{Alike}
 use Rattle.nomos_types.specs.Amount.{Annotations}
 use Rattle.nomos_types.specs.Derivation.{Derives, by_row}
-use Rattle.nomos_types.specs.Judgement.{Judgement, IsJudgement, with_potential}
+use Rattle.nomos_types.specs.Judgement.{Judgement, with_potential}
 use Rattle.nomos_types.specs.Modes.{HasMode}
 use Rattle.nomos_types.specs.TypingRule.{TypingRule}
 use Rattle.nomos_types.specs.Typed.{IsWellFormed}
@@ -64,16 +62,3 @@ module _ {lists : ProgramLists} {x : Annotations} {j : Judgement} (formed : IsWe
         offers = alike.offers;
       } in
       row-covers formed covers row
-
-  -- what has a derivation begins with a row of its own, and what a row of its own begins has one
-  pub derives-exact : {m : Mode} → IsJudgement lists j → HasMode lists j.offers m
-      → Derives lists x j
-      ↔ ((after : List Judgement) × TypingRule lists x j after × ((k : Judgement) → Contains after k → Derives lists x k))
-  derives-exact is_judgement its_mode = (
-    λ derivation.
-        let (after, row) = derives-row derivation in
-        (after, row, λ k among. derives-next formed derivation row among),
-    λ begun.
-        let self = alike-same x formed.program formed.contractive is_judgement its_mode in
-        by_row j j.q begun.0 self (omega arith) begun.1 begun.2,
-  )

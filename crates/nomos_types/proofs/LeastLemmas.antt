@@ -7,12 +7,6 @@ use Rattle.nomos_types.specs.mirror.Least.{IsLeast, lesser}
 pub least-one : (at : ℕ) → IsLeast (λ n. n ≡ at) (Some at)
 least-one at = (refl, λ n same. omega arith)
 
--- what holds of the same numbers has the same least one
-pub least-same : (P Q : ℕ → Type 0) (o : Option ℕ) → ((n : ℕ) → P n → Q n) → ((n : ℕ) → Q n → P n) → IsLeast P o
-    → IsLeast Q o
-least-same P Q None there back least = λ n holds. least n (back n holds)
-least-same P Q (Some m) there back least = (there m least.0, λ n holds. least.1 n (back n holds))
-
 module _ (P Q R : ℕ → Type 0) (split : (n : ℕ) → R n → P n ⊎ Q n) (left : (n : ℕ) → P n → R n)
     (right : (n : ℕ) → Q n → R n) where
   -- where the first is the lesser

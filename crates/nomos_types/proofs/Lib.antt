@@ -25,7 +25,6 @@ pub mod OccurrenceLaws
 pub mod OffenceLaws
 pub mod OffenceLemmas
 pub mod PassedLaws
-pub mod PlaceLaws
 pub mod PremisesOverLaws
 pub mod RowExampleProgram
 pub mod RowExamples

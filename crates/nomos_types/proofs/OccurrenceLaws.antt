@@ -16,20 +16,20 @@ one_at n k = cond (k == n) 1 0
 -- ---- elements
 
 -- the first is an element, and so is each of the others
-contains-head : {X : Type 0} (x y : X) (xs : List X) → x ≡ y → Contains (x ∷ xs) y
+pub contains-head : {X : Type 0} (x y : X) (xs : List X) → x ≡ y → Contains (x ∷ xs) y
 contains-head x y xs same = (zero, omega arith, same)
 
-contains-tail : {X : Type 0} (x y : X) (xs : List X) → Contains xs y → Contains (x ∷ xs) y
+pub contains-tail : {X : Type 0} (x y : X) (xs : List X) → Contains xs y → Contains (x ∷ xs) y
 contains-tail x y xs there = (suc there.0, omega arith, there.2)
 
 -- an element is the first or one of the others, by its place
-contains-at : {X : Type 0} (x y : X) (xs : List X) (k : ℕ) → k < length (x ∷ xs) → get_or (x ∷ xs) k y ≡ y
+pub contains-at : {X : Type 0} (x y : X) (xs : List X) (k : ℕ) → k < length (x ∷ xs) → get_or (x ∷ xs) k y ≡ y
     → (x ≡ y) ⊎ Contains xs y
 contains-at x y xs zero inside at = inl at
 contains-at x y xs (suc k) inside at = inr (k, omega arith, at)
 
 -- an element is the first or one of the others
-contains-cases : {X : Type 0} (x y : X) (xs : List X) → Contains (x ∷ xs) y → (x ≡ y) ⊎ Contains xs y
+pub contains-cases : {X : Type 0} (x y : X) (xs : List X) → Contains (x ∷ xs) y → (x ≡ y) ⊎ Contains xs y
 contains-cases x y xs there = contains-at x y xs there.0 there.1 there.2
 
 -- what an element is mapped to is an element of the mapped list

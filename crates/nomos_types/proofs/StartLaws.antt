@@ -125,7 +125,7 @@ start-apart lists x d v differ =
 -- ---- the modes of channels
 
 -- a reference's mode is S
-reference-at_s : (m : Mode) → is_shared_mode m ≡ true → m ≡ mode.S
+pub reference-at_s : (m : Mode) → is_shared_mode m ≡ true → m ≡ mode.S
 reference-at_s mode.S is = refl
 reference-at_s mode.R is = absurd cc
 reference-at_s mode.L is = absurd cc

@@ -1,6 +1,6 @@
 -- How the mode of a type is told without the table of modes: S shows at its head, T is that of what a declaration of
 -- transactions offers, and every other one is that of channels that are used exactly once.
-use Rattle.std.proofs.Common.{◌≡◌, ◌≢◌, ◌⊎◌, ◌↔◌, inl, inr, true, false, List, [], ◌∷◌, ◌++◌, map, All, Option, Some, get_or, refl, sym, ap, subst, ◌∙◌}
+use Rattle.std.proofs.Common.{◌≡◌, ◌≢◌, ◌⊎◌, ◌↔◌, inl, inr, false, List, [], ◌∷◌, ◌++◌, map, All, Option, Some, get_or, refl, sym, ap, subst, ◌∙◌}
 use Rattle.std.specs.List.{flat_map}
 use Rattle.std.proofs.lemmas.List.Elements.{All-nil, All-cons, All-append, All-map, All-contains, Contains-get_or}
 use Rattle.std.proofs.lemmas.Option.{slice_get-get_or}
@@ -19,6 +19,7 @@ use Rattle.nomos_types.proofs.AlikeLaws.{IsCarriedMode, carried-is_carried}
 use Rattle.nomos_types.proofs.ModeLaws.{mode-in_range, mode-unique, offered-has_mode}
 use Rattle.nomos_types.proofs.Nodes.{type_node-there}
 use Rattle.nomos_types.proofs.OccurrenceLaws.{all-flat}
+use Rattle.nomos_types.proofs.StartLaws.{reference-at_s}
 use Rattle.nomos_types.specs.Judgement.{is_shared_mode}
 use Rattle.nomos_types.specs.Modes.{HasMode, whole, part, IsLinearMode, Allows, IsOfTransactions, head_mode, as_parameter, parameter_mode, carried_mode, part_modes, whole_modes}
 use Rattle.nomos_types.specs.Typed.{IsWellFormed}
@@ -44,7 +45,7 @@ others-linear mode.T not_s not_t = absurd (not_t refl)
 -- ---- S shows at the head
 
 -- a mode of channels that are used exactly once is not S
-linear-unshared : (m : Mode) → IsLinearMode m → false ≡ is_shared_mode m
+pub linear-unshared : (m : Mode) → IsLinearMode m → false ≡ is_shared_mode m
 linear-unshared mode.R linear = refl
 linear-unshared mode.L linear = refl
 linear-unshared mode.T linear = refl
@@ -82,28 +83,6 @@ node-shows lists m (node.ValueOut kind a) allowed = linear-unshared m allowed
 node-shows lists m (node.ValueIn kind a) allowed = linear-unshared m allowed
 node-shows lists m (node.PotOut amount a) allowed = linear-unshared m allowed
 node-shows lists m (node.PotIn amount a) allowed = linear-unshared m allowed
-
--- T is allowed at an end alone
-node-at_t : (lists : ProgramLists) (n : TypeNode) → Allows lists mode.T n → n ≡ node.One
-node-at_t lists node.One allowed = refl
-node-at_t lists (node.Up a) allowed = absurd cc
-node-at_t lists (node.Down a) allowed = absurd cc
-node-at_t lists (node.Named d) (is, other) = absurd (other refl)
-node-at_t lists (node.Plus bs) allowed = absurd (linear-not_t mode.T allowed refl)
-node-at_t lists (node.With bs) allowed = absurd (linear-not_t mode.T allowed refl)
-node-at_t lists (node.Tensor a b) allowed = absurd (linear-not_t mode.T allowed refl)
-node-at_t lists (node.Lolli a b) allowed = absurd (linear-not_t mode.T allowed refl)
-node-at_t lists (node.ValueOut kind a) allowed = absurd (linear-not_t mode.T allowed refl)
-node-at_t lists (node.ValueIn kind a) allowed = absurd (linear-not_t mode.T allowed refl)
-node-at_t lists (node.PotOut amount a) allowed = absurd (linear-not_t mode.T allowed refl)
-node-at_t lists (node.PotIn amount a) allowed = absurd (linear-not_t mode.T allowed refl)
-
--- only S is shared
-shared-only : (m : Mode) → is_shared_mode m ≡ true → m ≡ mode.S
-shared-only mode.S is = refl
-shared-only mode.R is = absurd cc
-shared-only mode.L is = absurd cc
-shared-only mode.T is = absurd cc
 
 -- ---- T is that of what a declaration of transactions offers
 
@@ -162,8 +141,8 @@ module _ {lists : ProgramLists} (formed : IsWellFormed lists) where
   pub shared-by_head : {t : TypeId} (m : Mode) → HasMode lists t m → (parameter_mode lists t ≡ mode.S) ↔ (m ≡ mode.S)
   shared-by_head {t} m has =
       let shows = type-shows_shared m has in (
-        λ at_s. shared-only m (sym shows ∙ ap is_shared_mode at_s),
-        λ at_s. shared-only (parameter_mode lists t) (shows ∙ ap is_shared_mode at_s),
+        λ at_s. reference-at_s m (sym shows ∙ ap is_shared_mode at_s),
+        λ at_s. reference-at_s (parameter_mode lists t) (shows ∙ ap is_shared_mode at_s),
       )
 
   -- ---- T
@@ -213,13 +192,6 @@ module _ {lists : ProgramLists} (formed : IsWellFormed lists) where
         let at : HasMode lists d.offers mode.T = subst (λ (m : Mode). HasMode lists d.offers m) at_t offered in
         subst (λ (u : TypeId). HasMode lists u mode.T) is at,
   )
-
-  -- and then it is the end of a session, of no parts
-  pub transactions-end : {t : TypeId} → HasMode lists t mode.T → type_node lists t.0 ≡ Some node.One
-  transactions-end {t} has =
-      let (n, there) = type_node-there lists t.0 (mode-in_range formed.program has) in
-      let is : n ≡ node.One = node-at_t lists n (formed.modes.allowed t mode.T n has there) in
-      there ∙ ap (λ (m : TypeNode). Some m) is
 
   -- ---- R and L
 

@@ -36,24 +36,24 @@ use Rattle.nomos_types.specs.Modes.{HasMode}
 use Rattle.nomos_types.specs.TypingRule.{TypingRule, gives_up}
 
 -- a channel's type unfolds to one node
-head-same : (lists : ProgramLists) (j : Judgement) (c : Chan) (p q : TypeNode) → HasType lists j c p
+pub head-same : (lists : ProgramLists) (j : Judgement) (c : Chan) (p q : TypeNode) → HasType lists j c p
     → HasType lists j c q → p ≡ q
 head-same lists j c p q (t, left, left_unfolds) (u, right, right_unfolds) =
     let same : u ≡ t = cc in
     Unfolds-unique lists t.0 p q left_unfolds (subst (λ (s : TypeId). Unfolds lists s.0 q) same right_unfolds)
 
 -- the parts of nodes that are the same, by the side from which a process sees its channel
-sent-branches-same : (c : Chan) (bs cs : List Branch)
+pub sent-branches-same : (c : Chan) (bs cs : List Branch)
     → by_side c (node.Plus bs) (node.With bs) ≡ by_side c (node.Plus cs) (node.With cs) → bs ≡ cs
 sent-branches-same chan.Own bs cs same = cc
 sent-branches-same (chan.Var v) bs cs same = cc
 
-awaited-branches-same : (c : Chan) (bs cs : List Branch)
+pub awaited-branches-same : (c : Chan) (bs cs : List Branch)
     → by_side c (node.With bs) (node.Plus bs) ≡ by_side c (node.With cs) (node.Plus cs) → bs ≡ cs
 awaited-branches-same chan.Own bs cs same = cc
 awaited-branches-same (chan.Var v) bs cs same = cc
 
-sent-same : (c : Chan) (a b d e : TypeId)
+pub sent-same : (c : Chan) (a b d e : TypeId)
     → by_side c (node.Tensor a b) (node.Lolli a b) ≡ by_side c (node.Tensor d e) (node.Lolli d e) → (a ≡ d) × (b ≡ e)
 sent-same chan.Own a b d e same = (cc, cc)
 sent-same (chan.Var v) a b d e same = (cc, cc)
@@ -63,7 +63,7 @@ received-same : (c : Chan) (a b d e : TypeId)
 received-same chan.Own a b d e same = (cc, cc)
 received-same (chan.Var v) a b d e same = (cc, cc)
 
-sent-value-same : (c : Chan) (k l : Kind) (a b : TypeId)
+pub sent-value-same : (c : Chan) (k l : Kind) (a b : TypeId)
     → by_side c (node.ValueOut k a) (node.ValueIn k a) ≡ by_side c (node.ValueOut l b) (node.ValueIn l b)
     → (k ≡ l) × (a ≡ b)
 sent-value-same chan.Own k l a b same = (cc, cc)

@@ -22,18 +22,6 @@ le-first x y le = at (nat_cmp x.0 y.0) (ranked x.0 y.0 (nat_cmp x.0 y.0) refl) l
     at Equal is le = omega (arith, is)
     at Greater is le = absurd cc
 
-not-over : (x y : ℕ) → x ≤ y → is_gt (nat_cmp x y) ≡ false
-not-over x y le = at (nat_cmp x y) (ranked x y (nat_cmp x y) refl)
-  where
-    at : (o : Ordering) → MatchOrdering o (x < y) (x ≡ y) (y < x) → is_gt o ≡ false
-    at Less is = refl
-    at Equal is = refl
-    at Greater is = absurd (omega (arith, is, le))
-
-le-second : (n x y : ℕ) → x ≤ y → IsLeBy by_both (n, x) (n, y)
-le-second n x y le =
-    ap (λ (o : Ordering). is_gt (ordering_then o (nat_cmp x y))) (sym (nat_cmp_is n n Equal refl)) ∙ not-over x y le
-
 pub lt-second : (n x y : ℕ) → x < y → IsLtBy by_both (n, x) (n, y)
 lt-second n x y lt =
     ap (λ (o : Ordering). ordering_then o (nat_cmp x y)) (sym (nat_cmp_is n n Equal refl))

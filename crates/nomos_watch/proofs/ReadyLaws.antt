@@ -1,26 +1,15 @@
 -- States in which no process is ready.
-use Rattle.std.proofs.Common.{◌≡◌, ℕ, zero, suc, ◌<◌, Option, Some, None, refl, arith}
-use Rattle.std.proofs.lemmas.List.Elements.{All-contains}
+use Rattle.std.proofs.Common.{ℕ, zero, suc, Option, Some, None, refl, arith}
 use Rattle.std.specs.Option.{MatchOption}
+use Rattle.nomos_ledger.proofs.RestLemmas.{none-zero}
 use Rattle.nomos_types.specs.Acceptance.{Acceptance, IsAccepted}
-use Rattle.nomos_machine.specs.Objects.{object_number}
 use Rattle.nomos_machine.specs.Run.{IsNextReady, IsQuiet, NoneReady}
 use Rattle.nomos_machine.specs.State.{State, process_at}
 use Rattle.nomos_machine.specs.Step.{IsReady}
-use Rattle.nomos_machine.specs.TypedState.{IsTyped, Numbered}
+use Rattle.nomos_machine.specs.TypedState.{IsTyped}
 use Rattle.nomos_machine.specs.declared.object.Object.{Object}
 use Rattle.nomos_machine.specs.declared.object.Object.TheVariants as object
-use Rattle.nomos_machine.specs.declared.object.Process.{Process}
-use Rattle.nomos_machine.proofs.PreservationLaws.{process_at-there, ready-none}
-
--- no process has the number 0
-pub none-zero : {s : State} → Numbered s → (o : Option Process) → process_at s 0 ≡ o → process_at s 0 ≡ None
-none-zero {s} numbered None is = is
-none-zero {s} numbered (Some p) is =
-    let (there, number) = process_at-there s 0 p is in
-    let over : 0 < object_number (object.Process p) =
-    All-contains (λ (o : Object). 0 < object_number o) s.objects (object.Process p) numbered.over there in
-    absurd (omega (arith, number, over))
+use Rattle.nomos_machine.proofs.PreservationLaws.{ready-none}
 
 -- where no process over 0 is ready none is
 pub none_ready-quiet : {a : Acceptance} → IsAccepted a → {s : State} → IsTyped a s → NoneReady a s 0 → IsQuiet a s

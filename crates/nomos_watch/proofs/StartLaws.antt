@@ -14,7 +14,7 @@ use Rattle.nomos_wake.proofs.BeginLaws.{begun-covers, grown-same, grown-twice, s
 use Rattle.nomos_legal.specs.Batch.{after_start, after_starts, named, state_or}
 use Rattle.nomos_legal.specs.Ledger.{Contracts, LedgerState}
 use Rattle.nomos_legal.specs.StandsFor.{WorldStandsFor}
-use Rattle.nomos_legal.specs.World.{FiresAt, WorldState, pids_of, start_of}
+use Rattle.nomos_legal.specs.World.{FiresAt, WorldState, pids_of, ledger_begun}
 use Rattle.nomos_legal.specs.World as world
 use Rattle.nomos_legal.specs.declared.resolved.Resolved.{Resolved}
 use Rattle.nomos_legal.proofs.WorldLaws.{world-typed}
@@ -26,7 +26,7 @@ nothing-fired [] (world.done s) none = refl
 nothing-fired (pid ∷ pids) all none = absurd cc
 
 pub fresh-start : (a : Acceptance) (w : WorldState) → WorldStandsFor a w → w.firings ≡ []
-    → (start_of a w).state ≡ w.state
+    → (ledger_begun a w).state ≡ w.state
 fresh-start a w stands fresh = nothing-fired (pids_of w.firings) stands.reached (ap pids_of fresh)
 
 -- ---- what starts leave

@@ -1,5 +1,5 @@
 -- When nothing is found, and what is found.
-use Rattle.std.proofs.Common.{◌≡◌, Option, Some, None}
+use Rattle.std.proofs.Common.{◌≡◌, Some, None}
 use Rattle.nomos_words.specs.FindsOne.{FindsOne}
 
 -- there is nothing to be found
@@ -10,8 +10,3 @@ FindsOne-none none = record { found = tt; each = λ a one. absurd (none a one) }
 pub FindsOne-some : {A : Type 0} {IsOne : A → Type 0} (b : A) → IsOne b → ((a : A) → IsOne a → Some b ≡ Some a)
     → FindsOne IsOne (Some b)
 FindsOne-some b one only = record { found = one; each = only }
-
--- where nothing was found, it holds of nothing
-pub FindsOne-nothing : {A : Type 0} {IsOne : A → Type 0} (answer : Option A) → FindsOne IsOne answer → answer ≡ None
-    → (a : A) → IsOne a → ⊥
-FindsOne-nothing {A} answer finds is_none a one = let some = finds.each a one in cc

@@ -163,16 +163,6 @@ pub record HasGathered (words left : List (List ℕ)) (given : OptionValues) : T
   pub once : AllPairs AreApart done
   pub given_is : given ≡ given_by done
 
-pub HasGathered-init : (words : List (List ℕ)) → HasGathered words words (given_by [])
-HasGathered-init words =
-    record {
-      done = [];
-      are = refl;
-      known = All-nil IsKnown;
-      once = λ i j d below within. omega arith;
-      given_is = refl;
-    }
-
 pub HasGathered-next : (words after : List (List ℕ)) (name value : List ℕ) (given next : OptionValues)
     → HasGathered words (name ∷ value ∷ after) given → with_option given name value ≡ Some next
     → HasGathered words after next

@@ -12,7 +12,7 @@ use Rattle.nomos_legal.specs.Legal.{Aborts, PassesBy}
 use Rattle.nomos_legal.specs.NextNumbers.{HasNumbered}
 use Rattle.nomos_legal.specs.Passage.{Passage, IsPassage, runs}
 use Rattle.nomos_legal.specs.StandsFor.{WorldStandsFor}
-use Rattle.nomos_legal.specs.World.{WorldState, committed, pids_of, start_of}
+use Rattle.nomos_legal.specs.World.{WorldState, committed, pids_of, ledger_begun}
 use Rattle.nomos_legal.specs.declared.journal.End.{End}
 use Rattle.nomos_legal.specs.declared.journal.End.TheVariants as end
 use Rattle.nomos_legal.proofs.LegalLaws.{stays-passage, undone-passage}
@@ -29,7 +29,7 @@ left_by _ w = w.origin
 
 -- the passage of a batch whose world came to this with this end
 abbrev pub passage_of : Acceptance → Batch → WorldState → End → Passage
-passage_of a batch w e = runs batch (pids_of w.firings) e w.origin (start_of a w) w.state (left_by e w)
+passage_of a batch w e = runs batch (pids_of w.firings) e w.origin (ledger_begun a w) w.state (left_by e w)
 
 -- A batch that began may be run, where so few numbers were given before it that its starts and the firings which it may
 -- make have numbers too.
@@ -73,7 +73,7 @@ module _ {a : Acceptance} {limit : ℕ} {l : LedgerState} {batch : Batch} {befor
 module _ (policy : Policy) (a : Acceptance) where
   -- the process that an end of one worker names is the policy's
   end-named : (w : WorldState) (e : End) → AbortsBy policy a w e
-      → Aborts (IsChosenAfter policy a (start_of a w).state (pids_of w.firings) w.state) e
+      → Aborts (IsChosenAfter policy a (ledger_begun a w).state (pids_of w.firings) w.state) e
   end-named w (end.Aborted pid f) aborts = aborts
   end-named w end.Committed aborts = tt
   end-named w end.Blocked aborts = tt

@@ -2,6 +2,7 @@
 use Rattle.std.proofs.Common.{◌≡◌, ℕ, zero, suc, ◌<◌, ◌≤◌, Option, Some, None, IsSome, refl, subst, ap, arith, ⊎_elim}
 use Rattle.std.proofs.lemmas.Bool.{cases_lt}
 use Rattle.std.proofs.lemmas.List.Elements.{All-contains}
+use Rattle.nomos_ledger.proofs.RestLemmas.{none-zero}
 use Rattle.nomos_types.specs.Acceptance.{Acceptance}
 use Rattle.nomos_machine.specs.Deeds.{Deed}
 use Rattle.nomos_machine.specs.Objects.{object_number}
@@ -14,7 +15,6 @@ use Rattle.nomos_machine.specs.declared.object.Object.{Object}
 use Rattle.nomos_machine.specs.declared.object.Object.TheVariants as object
 use Rattle.nomos_machine.specs.declared.object.Process.{Process}
 use Rattle.nomos_machine.proofs.PreservationLaws.{process_at-there}
-use Rattle.nomos_watch.proofs.ReadyLaws.{none-zero}
 
 -- no process up to this one has a fault
 abbrev pub NoFaultTo : Acceptance → State → ℕ → Type 0

@@ -1,5 +1,5 @@
 -- One worker's firings, one after another, and how they end.
-use Rattle.std.proofs.Common.{◌≡◌, ◌∙◌, ℕ, ◌+◌, ◌<◌, ◌≤◌, List, [], ◌∷◌, ◌++◌, length, All, refl, sym, ap, subst, arith, length-append}
+use Rattle.std.proofs.Common.{◌≡◌, ◌∙◌, ℕ, ◌+◌, ◌<◌, List, [], ◌∷◌, ◌++◌, length, All, refl, sym, ap, subst, arith, length-append}
 use Rattle.std.proofs.lemmas.List.{map-append}
 use Rattle.std.proofs.lemmas.List.Elements.{All-nil, All-push}
 use Rattle.nomos_types.specs.Acceptance.{Acceptance, IsAccepted}
@@ -10,7 +10,7 @@ use Rattle.nomos_machine.specs.declared.policy.Policy.{Policy}
 use Rattle.nomos_deeds.specs.Acting.{HasNumbers}
 use Rattle.nomos_legal.specs.Ending.{EndsAs, IsAllowed}
 use Rattle.nomos_legal.specs.StandsFor.{WorldStandsFor}
-use Rattle.nomos_legal.specs.World.{WorldState, pids_of, start_of}
+use Rattle.nomos_legal.specs.World.{WorldState, pids_of, ledger_begun}
 use Rattle.nomos_legal.specs.declared.journal.End.{End}
 use Rattle.nomos_legal.specs.declared.journal.End.TheVariants as end
 use Rattle.nomos_legal.specs.declared.journal.Firing.{Firing}
@@ -18,13 +18,13 @@ use Rattle.nomos_legal.proofs.WorldLaws.{world-rises}
 use Rattle.nomos_ledger.specs.Calls.{HasFired}
 use Rattle.nomos_watch.proofs.StartLaws.{fresh-start}
 use Rattle.nomos_workers.specs.Batch.{MayRun}
-use Rattle.nomos_workers.specs.OneWorker.{AbortsBy, RunsBy}
+use Rattle.nomos_workers.specs.OneWorker.{AbortsBy}
 use Rattle.nomos_workers.specs.mirror.Steps.{AbortsAt, HasMade, firing_of}
 use Rattle.nomos_workers.proofs.PolicyLaws.{follows-push}
 
 -- worlds with one origin and the same starts have one start
 pub same-start : (a : Acceptance) (v w : WorldState) → w.origin ≡ v.origin → w.starts ≡ v.starts
-    → start_of a w ≡ start_of a v
+    → ledger_begun a w ≡ ledger_begun a v
 same-start a v w origin starts = rw (origin, starts) refl
 
 -- ---- firings
@@ -32,9 +32,9 @@ same-start a v w origin starts = rw (origin, starts) refl
 module _ (p : Policy) (a : Acceptance) where
   pub made-none : (limit : ℕ) (w : WorldState) → MayRun a limit w → HasMade p a 0 0 w w
   made-none limit w may =
-      let nothing : FollowsPolicy p a (start_of a w).state 0 [] (start_of a w).state 0 =
-      policies.done (start_of a w).state 0 in
-      let reached = subst (λ (s : State). FollowsPolicy p a (start_of a w).state 0 [] s 0)
+      let nothing : FollowsPolicy p a (ledger_begun a w).state 0 [] (ledger_begun a w).state 0 =
+      policies.done (ledger_begun a w).state 0 in
+      let reached = subst (λ (s : State). FollowsPolicy p a (ledger_begun a w).state 0 [] s 0)
       (fresh-start a w may.stands may.fresh) nothing in
       record {
         stands = may.stands;
@@ -43,7 +43,7 @@ module _ (p : Policy) (a : Acceptance) where
         count = ap length may.fresh;
         passes = subst (All (λ (f : Firing). f.pass ≡ 0)) (sym may.fresh) (All-nil (λ (f : Firing). f.pass ≡ 0));
         follows =
-            subst (λ (pids : List ℕ). FollowsPolicy p a (start_of a w).state 0 pids w.state 0)
+            subst (λ (pids : List ℕ). FollowsPolicy p a (ledger_begun a w).state 0 pids w.state 0)
             (sym (ap pids_of may.fresh)) reached;
       }
 
@@ -55,7 +55,7 @@ module _ (p : Policy) (a : Acceptance) where
       let origin : u.origin ≡ w.origin = ap (λ (x : WorldState). x.origin) fired.is in
       let starts : u.starts ≡ w.starts = ap (λ (x : WorldState). x.starts) fired.is in
       let firings : u.firings ≡ w.firings ++ firing_of pid ∷ [] = ap (λ (x : WorldState). x.firings) fired.is in
-      let same : start_of a u ≡ start_of a w = same-start a w u origin starts in
+      let same : ledger_begun a u ≡ ledger_begun a w = same-start a w u origin starts in
       let pids : pids_of u.firings ≡ pids_of w.firings ++ pid ∷ [] = ap pids_of firings
       ∙ map-append (λ (f : Firing). f.pid) w.firings (firing_of pid ∷ []) in
       let counted : length u.firings ≡ length w.firings + 1 = ap length firings
@@ -72,30 +72,16 @@ module _ (p : Policy) (a : Acceptance) where
         follows = rw (same, pids) pushed;
       }
 
-  -- so far the worker runs the batch
-  pub made-runs : (limit made last : ℕ) (before w : WorldState) → HasMade p a made last before w → made ≤ limit
-      → RunsBy p a limit before w
-  made-runs limit made last before w has few = record {
-    runs = record {
-      stands = has.stands;
-      origin = has.origin;
-      starts = has.starts;
-      within = omega (arith, has.count);
-    };
-    passes = has.passes;
-    chosen = record { last = last; follows = has.follows };
-  }
-
   -- the next numbers are far from the greatest before the limit
   pub made-numbers : IsAccepted a → (limit made last : ℕ) (before w : WorldState) → MayRun a limit before
       → HasMade p a made last before w → made < limit → HasNumbers w.state
   made-numbers accepted limit made last before w may has few =
       let rises = world-rises accepted has.stands in
-      let same : (start_of a w).state ≡ before.state =
+      let same : (ledger_begun a w).state ≡ before.state =
       ap (λ l. l.state) (same-start a before w has.origin has.starts) ∙ fresh-start a before may.stands may.fresh in
-      let objects : (start_of a w).state.next_object ≡ before.state.next_object =
+      let objects : (ledger_begun a w).state.next_object ≡ before.state.next_object =
       ap (λ (s : State). s.next_object) same in
-      let names : (start_of a w).state.next_name ≡ before.state.next_name = ap (λ (s : State). s.next_name) same in
+      let names : (ledger_begun a w).state.next_name ≡ before.state.next_name = ap (λ (s : State). s.next_name) same in
       record {
         object = omega (arith, rises.objects, objects, has.count, may.objects);
         name = omega (arith, rises.names, names, has.count, may.names);

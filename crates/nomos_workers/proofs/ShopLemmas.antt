@@ -4,7 +4,7 @@ use Rattle.nomos_types.specs.Acceptance.{Acceptance, IsAccepted}
 use Rattle.nomos_machine.specs.State.{State}
 use Rattle.nomos_deeds.specs.Acting.{HasNumbers}
 use Rattle.nomos_legal.specs.StandsFor.{WorldStandsFor}
-use Rattle.nomos_legal.specs.World.{WorldState, start_of}
+use Rattle.nomos_legal.specs.World.{WorldState, ledger_begun}
 use Rattle.nomos_legal.proofs.WorldLaws.{world-rises}
 use Rattle.nomos_watch.proofs.StartLaws.{fresh-start}
 use Rattle.nomos_workers.specs.Batch.{MayRun, RunsOn}
@@ -15,8 +15,8 @@ pub may-shop : (a : Acceptance) (limit : ℕ) (w : WorldState) → MayRun a limi
     → IsShop (record { accepted = a; world = w; limit = limit })
 may-shop a limit w may =
     let same = fresh-start a w may.stands may.fresh in
-    let objects : (start_of a w).state.next_object ≡ w.state.next_object = ap (λ (s : State). s.next_object) same in
-    let names : (start_of a w).state.next_name ≡ w.state.next_name = ap (λ (s : State). s.next_name) same in
+    let objects : (ledger_begun a w).state.next_object ≡ w.state.next_object = ap (λ (s : State). s.next_object) same in
+    let names : (ledger_begun a w).state.next_name ≡ w.state.next_name = ap (λ (s : State). s.next_name) same in
     record {
       stands = may.stands;
       within = omega (arith, ap length may.fresh);

@@ -1,31 +1,20 @@
 -- What a worker knows after its turns.
-use Rattle.std.proofs.Common.{◌≡◌, ◌∙◌, ℕ, List, [], ◌∷◌, map, length, Result, IfOk, IfSome, refl, sym, ap, subst, arith, inl, inr}
+use Rattle.std.proofs.Common.{◌≡◌, ◌∙◌, ℕ, List, [], ◌∷◌, map, length, Result, IfOk, refl, sym, ap, subst, arith, inl, inr}
 use Rattle.std.proofs.lemmas.List.{length-map}
 use Rattle.nomos_types.specs.Acceptance.{Acceptance}
 use Rattle.nomos_machine.specs.Run.{run}
-use Rattle.nomos_legal.specs.World.{pids_of, start_of}
+use Rattle.nomos_legal.specs.World.{pids_of, ledger_begun}
 use Rattle.nomos_legal.specs.declared.journal.Firing.{Firing}
 use Rattle.nomos_legal.proofs.WorldLaws.{fires_at-run}
 use mathlib.Core.List.{IsPrefix}
-use Rattle.nomos_floor.specs.FloorPass.{AddsAtMostOne, KeepsNumbers}
+use Rattle.nomos_floor.specs.FloorPass.{AddsAtMostOne}
 use Rattle.nomos_floor.proofs.HistoryLaws.{prefix_push}
-use Rattle.nomos_floor.specs.declared.floor.Pass.{Pass}
 use Rattle.nomos_workers.specs.Shops.{HasRun, IsShop, MayEnd, ShopState, history_of, opening}
 use Rattle.nomos_workers.specs.declared.batch.BatchEnd.{BatchEnd}
-use Rattle.nomos_workers.specs.declared.shop.Seeks.{Seeks}
 use Rattle.nomos_workers.specs.declared.shop.Turned.{Turned}
 use Rattle.nomos_workers.specs.declared.work.Onward.{Onward}
 use Rattle.nomos_workers.specs.declared.work.Onward.TheVariants as onward
-use Rattle.nomos_workers.specs.mirror.Turns.{HasTurned, IsKnown, LeadsTo, TurnsOut}
-
--- the numbers are kept over two turns
-pub keeps-twice : {W S E : Type 0} (p q r : Pass W S E) → KeepsNumbers p q → KeepsNumbers q r → KeepsNumbers p r
-keeps-twice p q r one two = record {
-  number = two.number ∙ one.number;
-  next = two.next ∙ one.next;
-  out = two.out ∙ one.out;
-  ended = two.ended ∙ one.ended;
-}
+use Rattle.nomos_workers.specs.mirror.Turns.{HasTurned, LeadsTo, TurnsOut}
 
 -- at most one entry more, of the same number and over the same history
 pub adds-moved : (m n : ℕ) (xs ys zs : List (ℕ × ℕ)) → m ≡ n → ys ≡ xs → AddsAtMostOne m xs zs → AddsAtMostOne n ys zs
@@ -56,7 +45,7 @@ shop-run s shop e ends =
     record {
       state = s.world.state;
       reached =
-          ap (run s.accepted (start_of s.accepted s.world).state) (history-pids s.world.firings)
+          ap (run s.accepted (ledger_begun s.accepted s.world).state) (history-pids s.world.firings)
           ∙ fires_at-run shop.stands.reached;
       within = omega (arith, count, shop.within);
       ends = subst (λ (n : ℕ). MayEnd s.accepted s.world.state n s.limit e) (sym count) ends;
@@ -64,15 +53,6 @@ shop-run s shop e ends =
 
 module _ {A E : Type 0} (program : A → Acceptance) (start : ShopState) (history : List (ℕ × ℕ))
     (turned : Result (Turned A) E) (has : HasTurned program start history turned) where
-  -- what is evaluated after a turn is right
-  pub turned-known : (o : Onward) (seeks : Seeks) → o ≡ onward.Seeks seeks
-      → ((s : ShopState) → IfOk turned (TurnsOut program s) → LeadsTo s o) → IfSome seeks.known (IsKnown start.accepted)
-  turned-known o seeks is leads =
-      let same : has.shop.accepted ≡ start.accepted = ap (λ (s : ShopState). s.accepted) has.opened in
-      let known : LeadsTo has.shop (onward.Seeks seeks) =
-      subst (LeadsTo has.shop) is (leads has.shop has.turns_out) in
-      subst (λ (a : Acceptance). IfSome seeks.known (IsKnown a)) same known
-
   -- and where the batch ends, the history has run
   pub turned-run : (o : Onward) (e : BatchEnd) → o ≡ onward.Ends e
       → ((s : ShopState) → IfOk turned (TurnsOut program s) → LeadsTo s o) → HasRun start history e

@@ -5,7 +5,7 @@ use Rattle.nomos_machine.specs.Run.{run}
 use Rattle.nomos_machine.specs.State.{State}
 use Rattle.nomos_legal.specs.Ending.{IsAllowed}
 use Rattle.nomos_legal.specs.StandsFor.{WorldStandsFor}
-use Rattle.nomos_legal.specs.World.{WorldState, start_of}
+use Rattle.nomos_legal.specs.World.{WorldState, ledger_begun}
 use Rattle.nomos_workers.specs.declared.batch.BatchEnd.{BatchEnd}
 use Rattle.nomos_workers.specs.declared.batch.BatchEnd.TheVariants as batch_end
 
@@ -20,18 +20,18 @@ pub record ShopState : Type 0 where
 pub record IsShop (s : ShopState) : Type 0 where
   pub stands : WorldStandsFor s.accepted s.world
   pub within : length s.world.firings ≤ s.limit
-  pub objects : (start_of s.accepted s.world).state.next_object + s.limit < 2 ^ 32
-  pub names : (start_of s.accepted s.world).state.next_name + s.limit < 2 ^ 32
+  pub objects : (ledger_begun s.accepted s.world).state.next_object + s.limit < 2 ^ 32
+  pub names : (ledger_begun s.accepted s.world).state.next_name + s.limit < 2 ^ 32
 
 -- the world before any firing
 abbrev pub unfired : Acceptance → WorldState → WorldState
 unfired a w = record {
   origin = w.origin;
   starts = w.starts;
-  contracts = (start_of a w).contracts;
+  contracts = (ledger_begun a w).contracts;
   firings = [];
   places = [];
-  state = (start_of a w).state;
+  state = (ledger_begun a w).state;
 }
 
 -- the shop as it was opened

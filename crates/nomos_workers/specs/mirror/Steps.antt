@@ -5,7 +5,7 @@ use Rattle.nomos_machine.specs.Policies.{FollowsPolicy, IsChosen}
 use Rattle.nomos_machine.specs.declared.policy.Policy.{Policy}
 use Rattle.nomos_legal.specs.Ending.{IsAllowed}
 use Rattle.nomos_legal.specs.StandsFor.{WorldStandsFor}
-use Rattle.nomos_legal.specs.World.{WorldState, pids_of, start_of}
+use Rattle.nomos_legal.specs.World.{WorldState, pids_of, ledger_begun}
 use Rattle.nomos_legal.specs.declared.journal.End.{End}
 use Rattle.nomos_legal.specs.declared.journal.End.TheVariants as end
 use Rattle.nomos_legal.specs.declared.journal.Firing.{Firing}
@@ -36,4 +36,4 @@ pub record HasMade (policy : Policy) (a : Acceptance) (made last : ℕ) (before 
   pub starts : after.starts ≡ before.starts
   pub count : length after.firings ≡ made
   pub passes : All (λ f. f.pass ≡ 0) after.firings
-  pub follows : FollowsPolicy policy a (start_of a after).state 0 (pids_of after.firings) after.state last
+  pub follows : FollowsPolicy policy a (ledger_begun a after).state 0 (pids_of after.firings) after.state last

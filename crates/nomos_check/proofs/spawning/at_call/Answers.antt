@@ -2,6 +2,7 @@ use Rattle.std.proofs.Common.{◌≡◌, ◌⊎◌, ◌∙◌, Bool, ap, sym, su
 use Rattle.nomos_equality.specs.Paths.{StandAtEqualPaths}
 use Rattle.nomos_ir.specs.declared.amount.Amount.{Amount}
 use Rattle.nomos_ir.specs.declared.code_node.CodeNode.TheVariants as code
+use Rattle.nomos_types.proofs.EqualityLaws.{no_dths}
 use Rattle.nomos_types.specs.Equality.{no_amounts}
 use Rattle.nomos_types.specs.Judgement.{Judgement}
 use Rattle.nomos_types.specs.TypingRule as row
@@ -13,7 +14,6 @@ use Rattle.nomos_check.proofs.ArgumentSteps.{arguments-ask, arguments-one, call-
 use Rattle.nomos_check.proofs.FoundLemmas.{code-in_range}
 use Rattle.nomos_check.proofs.LeadLemmas.{not-true}
 use Rattle.nomos_check.proofs.PairLemmas.{joins-same}
-use Rattle.nomos_check.proofs.StepRows.{worth-nothing}
 use Rattle.nomos_ir.specs.declared.declaration.ProcDecl.{ProcDecl}
 use Rattle.nomos_types.specs.Alike.{AlikeTypes}
 use Rattle.nomos_types.specs.Arguments.{ArgumentsFit}
@@ -96,7 +96,7 @@ returns-then-is_empty-clause-tells c =
     let Tells : Bool → Type 0 = λ b. TellsArguments lists s mid d c.args.args.now between new b in
     let alike = subst Alike c.if-not-branch.false c.in_ok-are_alike.ensures.tells in
     let passed = subst Tells c.if-not-branch-2.false c.in_ok-pass_arguments.ensures.tells in
-    let nothing = worth-nothing d.amount in
+    let nothing = no_dths d.amount in
     row.call c.requires.stands.1 (record {
       d = d;
       declared = c.proc-called.ensures;

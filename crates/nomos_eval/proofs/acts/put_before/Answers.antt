@@ -4,7 +4,7 @@ use Rattle.nomos_eval.proofs.acts.put_before.Goals as goal
 
 pub returns : goal.returns
 returns c =
-    put-done c.args.machine.now c.take-list.new.values c.take-value.new.values c.push-2.new.self c.add_more.new.self
+    put-done c.args.evaluator.now c.take-list.new.values c.take-value.new.values c.push-2.new.self c.add_more.new.self
     c.take-value.result c.take-list.result c.in-List.place c.in_ok-joined.joined c.weight.result c.weight-2.result
     c.requires c.take-list.ensures.taken c.take-list.ensures.rest c.take-value.ensures.taken
     c.take-value.ensures.rest c.in-List.is c.weight.ensures c.weight-2.ensures c.if-weight-ge-MAX_WEIGHT.false

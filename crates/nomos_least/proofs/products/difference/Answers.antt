@@ -1,6 +1,7 @@
 use Rattle.std.proofs.Common.{pos, ◌-ℤ◌, ◌*ℤ◌, to_z, of_z, sym, subst, ◌∙◌, arith, FitsSigned}
 use Rattle.std.specs.Int.{w128}
-use Rattle.nomos_least.proofs.ProductLemmas.{wide_fits, wide_back, first_size, second_size, difference_size, back_product}
+use Rattle.nomos_forms.proofs.ProductLemmas.{wide_fits, wide_back}
+use Rattle.nomos_least.proofs.ProductLemmas.{first_size, second_size, difference_size, back_product}
 use Rattle.nomos_least.proofs.products.difference.Goals as goal
 
 pub overflow_sub-result : goal.overflow_sub-result

@@ -2,7 +2,8 @@ use Rattle.std.proofs.Common.{rules, pos, ◌+ℤ◌, ◌-ℤ◌, ◌*ℤ◌, un
 use Rattle.std.specs.Int.{w128}
 use Rattle.std.proofs.lemmas.Int.{to_z-of_z}
 use Rattle.std.proofs.lemmas.Bool.{false≢true}
-use Rattle.nomos_least.proofs.ProductLemmas.{wide_fits, wide_back, one_product, same_from_parts, parts_from_same, sum_size}
+use Rattle.nomos_forms.proofs.ProductLemmas.{wide_fits, wide_back}
+use Rattle.nomos_least.proofs.ProductLemmas.{one_product, same_from_parts, parts_from_same, sum_size}
 use Rattle.nomos_least.proofs.products.is_same_product.Goals as goal
 
 pub overflow_add-high : goal.overflow_add-high

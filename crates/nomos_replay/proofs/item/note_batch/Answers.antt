@@ -1,5 +1,5 @@
 use Rattle.std.proofs.Common.{◌≡◌, ◌∙◌, ◌++◌, ◌∷◌, [], length, sym, ap, arith}
-use Rattle.nomos_legal.specs.World.{pids_of, start_of}
+use Rattle.nomos_legal.specs.World.{pids_of, ledger_begun}
 use Rattle.nomos_report.specs.Reported.{end_lines}
 use Rattle.nomos_replay.proofs.BatchLemmas.{count-same}
 use Rattle.nomos_replay.proofs.ItemLemmas.{items-same, keeps-run}
@@ -18,7 +18,7 @@ returns-clause-keeps g c = λ told batch same line keeps.
     ∙ (λ i. notes.entries.items ++ record { line = sym line i; firings = fired i; end = c.args.end } ∷ []))
     (items-same _ _ c.in_ok-note.ensures.report ∙ c.in_ok-push_batch_end.ensures
     ∙ (λ i. notes.report.items
-    ++ end_lines a (sym line i) (length w.firings) (start_of a w).state.spent w.state c.args.end))
+    ++ end_lines a (sym line i) (length w.firings) (ledger_begun a w).state.spent w.state c.args.end))
 
 pub returns-clause-stands : goal.returns-clause-stands
 returns-clause-stands g c = λ limit allowed.

@@ -5,13 +5,14 @@ use Rattle.nomos_forms.specs.Bounds.{IsForm}
 use Rattle.nomos_forms.specs.declared.form.Form.{Form}
 use Rattle.nomos_check.specs.Checking.{AnswersProcessBeside}
 use Rattle.nomos_check.specs.declared.checking.ProcError.{ProcError}
-use Rattle.nomos_rows.proofs.ProcessLemmas.{found-at, adds-joined, stuck-told}
+use Rattle.nomos_rows.proofs.ProcessLemmas.{adds-joined, stuck-told}
+use Rattle.nomos_types.proofs.Nodes.{element-there}
 use Rattle.nomos_rows.proofs.processes.process_fault.Goals as goal
 
 pub returns-in_ok-join-in-Ok-clause-adds : goal.returns-in_ok-join-in-Ok-clause-adds
 returns-in_ok-join-in-Ok-clause-adds c =
     let lists = c.args.program.now in
-    let (d, declared) = found-at lists.procs c.args.p.0 c.requires.p in
+    let (d, declared) = element-there lists.procs c.args.p.0 c.requires.p in
     let needs = c.in-Ok.ensures.answers d declared in
     adds-joined lists c.args.p.0 d declared needs c.args.gathered.now c.join.new.self c.in_ok-join-in-Ok.ensures.forms
     c.in_ok-join-in-Ok.ensures.pairs
@@ -20,7 +21,7 @@ pub returns-in_ok-join-in-Ok-clause-small : goal.returns-in_ok-join-in-Ok-clause
 returns-in_ok-join-in-Ok-clause-small c =
     let lists = c.args.program.now in
     let Small : Form → Type 0 = IsForm (star_count lists) in
-    let (d, declared) = found-at lists.procs c.args.p.0 c.requires.p in
+    let (d, declared) = element-there lists.procs c.args.p.0 c.requires.p in
     let needs = c.in-Ok.ensures.answers d declared in
     let both = All-append Small c.args.gathered.now.forms.items c.in-Ok.checked.forms c.requires.small needs.small in
     subst (λ (fs : List Form). All Small fs) (sym c.in_ok-join-in-Ok.ensures.forms) both
@@ -28,7 +29,7 @@ returns-in_ok-join-in-Ok-clause-small c =
 pub returns-in-Err-ProcType-clause-tells : goal.returns-in-Err-ProcType-clause-tells
 returns-in-Err-ProcType-clause-tells c =
     let lists = c.args.program.now in
-    let (d, declared) = found-at lists.procs c.args.p.0 c.requires.p in
+    let (d, declared) = element-there lists.procs c.args.p.0 c.requires.p in
     let new = c.check_process_with.new.equalities in
     let Says : ProcError → Type 0 =
     λ e. AnswersProcessBeside lists (star_count lists) d c.args.equalities.now new (Err e)

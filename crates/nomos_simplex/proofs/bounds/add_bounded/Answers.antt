@@ -1,9 +1,10 @@
 use Rattle.std.proofs.Common.{◌≡◌, ◌+◌, ◌≤◌, ◌^◌, arith, ℤ, ◌+ℤ◌, ◌*ℤ◌, unsigned_abs, FitsSigned, to_z, of_z, sym, subst, ◌∙◌}
 use Rattle.std.specs.Int.{w64, w128}
 use Rattle.std.proofs.lemmas.Int.{to_z-of_z}
+use Rattle.nomos_forms.proofs.ProductLemmas.{wide_fits, wide_back}
 use Rattle.nomos_forms.specs.Bounds.{IsSmall}
 use Rattle.nomos_simplex.specs.Sizes.{IsNumber}
-use Rattle.nomos_simplex.proofs.NumberLemmas.{wide_fits, number_back, narrow_back, wide_back, bounded_size, abs_sum}
+use Rattle.nomos_simplex.proofs.NumberLemmas.{number_back, narrow_back, bounded_size, abs_sum}
 use Rattle.nomos_simplex.proofs.bounds.add_bounded.Goals as goal
 
 bounded_sum : (sum product : ℤ) → unsigned_abs product ≤ 2 ^ 107 →

@@ -6,6 +6,7 @@ use Rattle.std.specs.Vec.{with_item}
 use Rattle.std.proofs.lemmas.Int.{to_z-of_z}
 use Rattle.std.proofs.lemmas.List.{get_or_default, get_or-map, length-set}
 use Rattle.std.proofs.lemmas.Option.{get_or_from_slice_get, slice_get_read}
+use Rattle.nomos_simplex.proofs.CountLemmas.{All-remove}
 use Rattle.nomos_simplex.specs.Divisors.{in_lowest_terms}
 use Rattle.nomos_simplex.specs.Exchange.{coef_at, put_into, solved_for, lines_exchanged, is_large_line}
 use Rattle.nomos_simplex.specs.Sizes.{IsLine, HasNumbers}
@@ -15,7 +16,6 @@ use Rattle.nomos_simplex.specs.declared.table.Line.{Line}
 use Rattle.nomos_simplex.specs.mirror.Keeping.{over_of, entered, solved_line, AreMade}
 use Rattle.nomos_simplex.specs.mirror.Opposite.{oriented_of}
 use Rattle.nomos_simplex.proofs.KeepingLemmas.{removed_overs, set_again, lines_by_oriented}
-use Rattle.nomos_simplex.proofs.LineLemmas.{All-remove}
 use Rattle.nomos_simplex.proofs.OppositeLemmas.{oriented_over, oriented_width, oriented_numbers, oriented_basic}
 use Rattle.nomos_simplex.proofs.exchanging.exchange.Goals as goal
 

@@ -2,6 +2,7 @@ use Rattle.std.proofs.Common.{◌≡◌, ◌++◌, [], ◌∷◌, false, length,
 use Rattle.std.specs.Int.{w128}
 use Rattle.std.specs.List.{list_any}
 use Rattle.std.proofs.lemmas.List.{length-map}
+use Rattle.nomos_forms.proofs.ProductLemmas.{wide_back}
 use Rattle.nomos_simplex.specs.Exchange.{is_large_line}
 use Rattle.nomos_simplex.specs.Sizes.{IsLine}
 use Rattle.nomos_simplex.specs.declared.table.Line.{Line}
@@ -9,7 +10,6 @@ use Rattle.nomos_simplex.specs.Tables.{bound_of}
 use Rattle.nomos_simplex.specs.mirror.Keeping.{over_of, before, entered, solved_line, AreMade}
 use Rattle.nomos_simplex.proofs.KeepingLemmas.{solved_is_line, written, map_behind, none_behind}
 use Rattle.nomos_simplex.proofs.LineLemmas.{over_by_bounds}
-use Rattle.nomos_simplex.proofs.NumberLemmas.{wide_back}
 use Rattle.nomos_simplex.proofs.exchanging.exchange_lines.Goals as goal
 
 pub over_of-requires-clause-line : goal.over_of-requires-clause-line

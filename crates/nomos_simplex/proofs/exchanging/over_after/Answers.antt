@@ -1,6 +1,6 @@
 use Rattle.std.proofs.Common.{◌∙◌, arith}
+use Rattle.nomos_forms.proofs.ProductLemmas.{wide_back}
 use Rattle.nomos_simplex.proofs.LineLemmas.{over_by_bounds}
-use Rattle.nomos_simplex.proofs.NumberLemmas.{wide_back}
 use Rattle.nomos_simplex.proofs.exchanging.over_after.Goals as goal
 
 pub returns : goal.returns

@@ -3,11 +3,12 @@ use Rattle.std.specs.Int.{w128}
 use Rattle.std.specs.Prelude.{IfSome}
 use Rattle.std.proofs.lemmas.Int.{to_z-of_z}
 use Rattle.std.proofs.lemmas.List.{length-set}
+use Rattle.nomos_forms.proofs.ProductLemmas.{wide_back}
 use Rattle.nomos_simplex.specs.Exchange.{coef_at, put_into}
 use Rattle.nomos_simplex.specs.Sizes.{IsNumber}
 use Rattle.nomos_simplex.specs.mirror.Keeping.{over_of, before}
 use Rattle.nomos_simplex.proofs.KeepingLemmas.{put_over}
-use Rattle.nomos_simplex.proofs.NumberLemmas.{number_back, wide_back}
+use Rattle.nomos_simplex.proofs.NumberLemmas.{number_back}
 use Rattle.nomos_simplex.proofs.exchanging.put_of.Goals as goal
 
 pub returns : goal.returns

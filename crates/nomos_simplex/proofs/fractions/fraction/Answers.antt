@@ -1,5 +1,6 @@
 use Rattle.std.proofs.Common.{◌≡◌, ◌<◌, ◌==◌, ◌<ℤ◌, ℕ, ℤ, pos, All, length, unsigned_abs, ap, sym, subst, ◌∙◌, arith}
 use Rattle.std.proofs.lemmas.Int.{ints}
+use Rattle.nomos_forms.proofs.ProductLemmas.{wide_back}
 use Rattle.nomos_simplex.specs.Exits.{fraction_in}
 use Rattle.nomos_simplex.specs.Sizes.{IsLine, IsNumber}
 use Rattle.nomos_simplex.specs.Tables.{bound_of}
@@ -7,7 +8,7 @@ use Rattle.nomos_simplex.specs.declared.table.Line.{Line}
 use Rattle.nomos_simplex.specs.mirror.Keeping.{sum_of}
 use Rattle.nomos_simplex.proofs.FractionLemmas.{found_in}
 use Rattle.nomos_simplex.proofs.LineLemmas.{sum_of_bounds}
-use Rattle.nomos_simplex.proofs.NumberLemmas.{number_back, wide_back}
+use Rattle.nomos_simplex.proofs.NumberLemmas.{number_back}
 use Rattle.nomos_simplex.proofs.fractions.fraction.Goals as goal
 
 pub sum_at_bounds-sum-requires : goal.sum_at_bounds-sum-requires

@@ -1,11 +1,12 @@
 use Rattle.std.proofs.Common.{◌≡◌, rules, pos, ◌*ℤ◌, ◌<ℤ◌, FitsSigned, to_z, of_z, None, Some, Bool, sym, subst, ◌∙◌, ap, arith, cond}
 use Rattle.std.specs.Int.{w64, w128}
 use Rattle.std.proofs.lemmas.Int.{to_z-of_z}
+use Rattle.nomos_forms.proofs.ProductLemmas.{wide_back}
 use Rattle.nomos_simplex.specs.Divisors.{in_lowest_terms}
 use Rattle.nomos_simplex.specs.GoalLine.{times_to_common, combined, with_added}
 use Rattle.nomos_simplex.specs.mirror.Steps.{AreSums}
 use Rattle.nomos_simplex.proofs.GoalLemmas.{huge-is_large, added_over}
-use Rattle.nomos_simplex.proofs.NumberLemmas.{number_back, wide_back}
+use Rattle.nomos_simplex.proofs.NumberLemmas.{number_back}
 use Rattle.nomos_simplex.proofs.goal.added.Goals as goal
 
 pub returns-in_default : goal.returns-in_default

@@ -2,8 +2,9 @@ use Rattle.std.proofs.Common.{◌≡◌, ◌≤◌, ◌^◌, ℤ, ◌+ℤ◌, �
 use Rattle.std.specs.Int.{w128}
 use Rattle.std.proofs.lemmas.Bool.{cases_lt}
 use Rattle.std.proofs.lemmas.Int.{ints, to_z-of_z}
+use Rattle.nomos_forms.proofs.ProductLemmas.{wide_fits, wide_back}
 use Rattle.nomos_simplex.specs.mirror.Steps.{IsSumOrHuge}
-use Rattle.nomos_simplex.proofs.NumberLemmas.{number_back, wide_back, wide_fits}
+use Rattle.nomos_simplex.proofs.NumberLemmas.{number_back}
 use Rattle.nomos_simplex.proofs.goal.sum_of_products.Goals as goal
 
 sum_or_huge : (o : Option ℤ) (w z : ℤ) → SomeIff o (FitsSigned w128 w) w → w ≡ z → IsSumOrHuge z o

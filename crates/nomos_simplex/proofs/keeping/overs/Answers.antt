@@ -1,9 +1,9 @@
 use Rattle.std.proofs.Common.{[], ◌∷◌, ◌++◌, map, arith, ap, sym, ◌∙◌}
 use Rattle.std.proofs.lemmas.List.{map_more}
+use Rattle.nomos_forms.proofs.ProductLemmas.{wide_back}
 use Rattle.nomos_simplex.specs.Tables.{bound_of}
 use Rattle.nomos_simplex.specs.mirror.Keeping.{over_of}
 use Rattle.nomos_simplex.proofs.LineLemmas.{over_by_bounds}
-use Rattle.nomos_simplex.proofs.NumberLemmas.{wide_back}
 use Rattle.nomos_simplex.proofs.keeping.overs.Goals as goal
 
 -- one line more

@@ -1,7 +1,8 @@
 use Rattle.std.proofs.Common.{ℤ, ◌-ℤ◌, ◌*ℤ◌, unsigned_abs, ◌<◌, ◌^◌, to_z, of_z, ◌∙◌, arith}
 use Rattle.std.specs.Int.{w128}
 use Rattle.std.proofs.lemmas.Int.{ints}
-use Rattle.nomos_simplex.proofs.NumberLemmas.{wide_back, number_back}
+use Rattle.nomos_forms.proofs.ProductLemmas.{wide_back}
+use Rattle.nomos_simplex.proofs.NumberLemmas.{number_back}
 use Rattle.nomos_simplex.proofs.lines.cross.Goals as goal
 
 difference_size : (x y : ℤ) → unsigned_abs x < 2 ^ 124 → unsigned_abs y < 2 ^ 124 → unsigned_abs (x -ℤ y) < 2 ^ 127

@@ -1,7 +1,8 @@
 use Rattle.std.proofs.Common.{◌≡◌, ℤ, ◌*ℤ◌, to_z, of_z, arith, ◌∙◌, sym, subst, FitsSigned}
 use Rattle.std.specs.Int.{w64, w128}
+use Rattle.nomos_forms.proofs.ProductLemmas.{wide_fits, wide_back}
 use Rattle.nomos_simplex.specs.Sizes.{IsNumber}
-use Rattle.nomos_simplex.proofs.NumberLemmas.{number_back, narrow_back, product_size, wide_back, wide_fits}
+use Rattle.nomos_simplex.proofs.NumberLemmas.{number_back, narrow_back, product_size}
 use Rattle.nomos_simplex.proofs.lines.product.Goals as goal
 
 -- a number, by way of 64 bits

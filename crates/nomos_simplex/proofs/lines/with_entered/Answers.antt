@@ -3,10 +3,11 @@ use Rattle.std.specs.Int.{w128}
 use Rattle.std.proofs.lemmas.List.{get_or_default}
 use Rattle.std.proofs.lemmas.List.Elements.{All-set}
 use Rattle.std.proofs.Math.Seq.{take-append_seam}
+use Rattle.nomos_forms.proofs.ProductLemmas.{wide_back}
 use Rattle.nomos_simplex.specs.Exchange.{coef_at, eliminated}
 use Rattle.nomos_simplex.specs.Sizes.{IsNumber}
 use Rattle.nomos_simplex.proofs.LineLemmas.{length-eliminated}
-use Rattle.nomos_simplex.proofs.NumberLemmas.{number_back, wide_back}
+use Rattle.nomos_simplex.proofs.NumberLemmas.{number_back}
 use Rattle.nomos_simplex.proofs.lines.with_entered.Goals as goal
 
 pub returns-clause-made : goal.returns-clause-made

@@ -1,8 +1,8 @@
 use Rattle.std.proofs.Common.{◌≡◌, ℤ, ◌-ℤ◌, ◌*ℤ◌, unsigned_abs, arith, ap, ◌∙◌}
 use Rattle.std.proofs.lemmas.Int.{ints}
+use Rattle.nomos_forms.proofs.ProductLemmas.{wide_back}
 use Rattle.nomos_simplex.specs.Tables.{bound_of, sum_at}
 use Rattle.nomos_simplex.proofs.LineLemmas.{over_by_bounds}
-use Rattle.nomos_simplex.proofs.NumberLemmas.{wide_back}
 use Rattle.nomos_simplex.proofs.refusing.missing.Goals as goal
 
 pub returns : goal.returns

@@ -1,5 +1,6 @@
+use Rattle.nomos_due.proofs.SourceLemmas.{if_ok-map}
 use Rattle.nomos_due.specs.Outside.{HaveRisen, source_state}
-use Rattle.nomos_top.proofs.DueLemmas.{if_ok-map, due-checked, due-out}
+use Rattle.nomos_top.proofs.DueLemmas.{due-checked, due-out}
 use Rattle.nomos_top.proofs.alone.check_due.Goals as goal
 use Rattle.nomos_top.specs.mirror.Judging.{Sources}
 use Rattle.nomos_words.specs.Words.{check}

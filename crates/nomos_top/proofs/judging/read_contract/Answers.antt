@@ -1,5 +1,6 @@
+use Rattle.nomos_due.proofs.SourceLemmas.{taken_text, some_text, long_text}
 use Rattle.nomos_syntax.specs.Limits.{text_limit}
-use Rattle.nomos_top.proofs.DueLemmas.{some_text, long_text, taken_text, too_long-refused}
+use Rattle.nomos_top.proofs.DueLemmas.{too_long-refused}
 use Rattle.nomos_top.proofs.judging.read_contract.Goals as goal
 
 pub returns-in-Ok : goal.returns-in-Ok

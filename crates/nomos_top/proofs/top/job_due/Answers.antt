@@ -1,4 +1,5 @@
-use Rattle.nomos_top.proofs.DueLemmas.{if_err-map, part-nothing}
+use Rattle.nomos_due.proofs.SourceLemmas.{if_err-map}
+use Rattle.nomos_top.proofs.DueLemmas.{part-nothing}
 use Rattle.nomos_top.proofs.top.job_due.Goals as goal
 use Rattle.nomos_words.specs.Words.{check, least}
 

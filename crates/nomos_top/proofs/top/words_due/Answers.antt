@@ -1,6 +1,7 @@
 use Rattle.std.proofs.Common.{None, refl, map, string_bytes}
+use Rattle.nomos_due.proofs.SourceLemmas.{if_ok-map, if_err-map}
 use Rattle.nomos_top.proofs.CallLemmas.{unwanted}
-use Rattle.nomos_top.proofs.DueLemmas.{if_ok-map, if_err-map, due-asked, due-usage, found-none, part-asked, part-usage}
+use Rattle.nomos_top.proofs.DueLemmas.{due-asked, due-usage, found-none, part-asked, part-usage}
 use Rattle.nomos_top.proofs.top.words_due.Goals as goal
 use Rattle.nomos_top.specs.Tasks.{ReadsJournal, ReadsScript}
 use Rattle.nomos_top.specs.mirror.Judging.{given_of}

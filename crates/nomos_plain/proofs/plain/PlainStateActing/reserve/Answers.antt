@@ -1,6 +1,6 @@
 use Rattle.std.proofs.Common.{arith}
+use Rattle.nomos_parts.proofs.BecomesLemmas.{on_ok}
 use Rattle.nomos_plain.proofs.SoundLemmas.{spare_at_least, spare_stays}
-use Rattle.nomos_plain.proofs.TakeLemmas.{on_ok}
 use Rattle.nomos_plain.proofs.plain.PlainStateActing.reserve.Goals as goal
 
 pub returns-clause-ok : goal.returns-clause-ok

@@ -1,7 +1,8 @@
 use Rattle.std.proofs.Common.{sym, ◌∙◌}
+use Rattle.nomos_equality.proofs.VisitLemmas.{ok-map}
 use Rattle.nomos_sync.specs.mirror.Walk.{stays}
 use Rattle.nomos_sync.proofs.ContinuationLemmas.{continuation-below}
-use Rattle.nomos_sync.proofs.WalkLemmas.{ok-map, follow-goes}
+use Rattle.nomos_sync.proofs.WalkLemmas.{follow-goes}
 use Rattle.nomos_sync.proofs.walk.Walk.follow.Goals as goal
 
 pub meet-requires-clause-in_range : goal.meet-requires-clause-in_range

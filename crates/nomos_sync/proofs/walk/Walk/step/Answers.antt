@@ -1,4 +1,5 @@
-use Rattle.nomos_sync.proofs.WalkLemmas.{walks-get, walks-through, all-followed, ok-map, ok-both}
+use Rattle.nomos_equality.proofs.VisitLemmas.{ok-map}
+use Rattle.nomos_sync.proofs.WalkLemmas.{walks-get, walks-through, all-followed, ok-both}
 use Rattle.nomos_sync.proofs.walk.Walk.step.Goals as goal
 
 pub follow_labels-requires-clause-there : goal.follow_labels-requires-clause-there

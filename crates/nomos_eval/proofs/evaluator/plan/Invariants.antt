@@ -1,6 +1,6 @@
 -- The acts behind are put on the top.
 use Rattle.std.proofs.Common.{◌≡◌, ◌≤◌, ◌++◌, drop, length}
-use Rattle.nomos_eval.proofs.machine.plan.Given as goal
+use Rattle.nomos_eval.proofs.evaluator.plan.Given as goal
 
 abbrev pub invariant-loop-left : goal.invariant-loop-left
 invariant-loop-left l = (l.left ≤ length l.acts) × (l.todo ≡ drop l.left l.acts ++ l.initial.todo)

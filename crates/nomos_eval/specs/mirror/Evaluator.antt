@@ -14,7 +14,7 @@ use Rattle.nomos_eval.specs.declared.act.Act.{Act}
 use Rattle.nomos_eval.specs.declared.act.Scope.{Scope}
 use Rattle.nomos_eval.specs.declared.datum.Datum.{Datum}
 use Rattle.nomos_eval.specs.declared.datum.Datum.TheVariants as datum
-use Rattle.nomos_eval.specs.declared.machine.Machine.{Machine}
+use Rattle.nomos_eval.specs.declared.evaluator.Evaluator.{Evaluator}
 use Rattle.nomos_eval.specs.declared.numbers.Given.{Given}
 use Rattle.nomos_eval.specs.declared.numbers.Given.TheVariants as give
 use Rattle.nomos_eval.specs.declared.numbers.Operator.{Operator}
@@ -31,22 +31,22 @@ use Rattle.nomos_eval.specs.mirror.EvalTable.{datum_value, reach}
 abbrev pub held : List ValueList → List (VarId × Datum) → Environment
 held lists scope = map (λ b. (b.0, datum_value lists b.1)) scope
 
-abbrev pub scopes_held : Machine → Variables
+abbrev pub scopes_held : Evaluator → Variables
 scopes_held m = record { bound = map (held m.lists) m.scopes; around = m.around.env.now }
 
-abbrev pub values_found : Machine → List Value
+abbrev pub values_found : Evaluator → List Value
 values_found m = map (datum_value m.lists) m.values
 
 -- what is left leads to this
-abbrev pub left : ProgramLists → Machine → Counted
+abbrev pub left : ProgramLists → Evaluator → Counted
 left program m = rest (evaluation_from program) program (scopes_held m) m.todo (values_found m)
 
 -- what is left where one more value was found
-abbrev pub left_with : ProgramLists → Machine → Value → Counted
+abbrev pub left_with : ProgramLists → Evaluator → Value → Counted
 left_with program m v = rest (evaluation_from program) program (scopes_held m) m.todo (v ∷ values_found m)
 
 -- all that is named is there
-pub record IsSound (m : Machine) : Type 0 where
+pub record IsSound (m : Evaluator) : Type 0 where
   pub todo : AllByRecursion (ScopeIn (length m.scopes)) m.todo
   pub values : AllByRecursion (λ d. reach d ≤ length m.lists) m.values
   pub scopes : AllByRecursion (AllByRecursion (λ b. reach b.1 ≤ length m.lists)) m.scopes
@@ -63,7 +63,7 @@ pub record IsFound (scopes : List (List (VarId × Datum))) (scope : Scope) (v : 
       (variables_at (record { bound = map (held before) scopes; around = old.env.now }) scope)) nought
 
 -- a node was entered
-pub record IsEntered (scope : Scope) (node : TermNode) (old new : Machine) : Type 0 where
+pub record IsEntered (scope : Scope) (node : TermNode) (old new : Evaluator) : Type 0 where
   pub sound : IsSound new
   pub same : (program : ProgramLists) (n : ℕ)
       → go_on (node_evaluation program (evaluation_from program) scope.calls
@@ -71,22 +71,22 @@ pub record IsEntered (scope : Scope) (node : TermNode) (old new : Machine) : Typ
   pub little : work new.todo ≤ 2 + work old.todo
 
 -- what an act leads to, with what is left after it
-abbrev pub left_of : ProgramLists → Act → Machine → Counted
+abbrev pub left_of : ProgramLists → Act → Evaluator → Counted
 left_of program a m = rest (evaluation_from program) program (scopes_held m) (a ∷ m.todo) (values_found m)
 
 -- an act was done
-pub record IsDone (a : Act) (old new : Machine) : Type 0 where
+pub record IsDone (a : Act) (old new : Evaluator) : Type 0 where
   pub sound : IsSound new
   pub same : (program : ProgramLists) (n : ℕ) → left_of program a old n ≡ left program new n
   pub less : work new.todo < act_work a + work old.todo
 
 -- an act leads to a fault
-abbrev pub Stops : Act → Machine → OrNoMemory Fault → Type 0
+abbrev pub Stops : Act → Evaluator → OrNoMemory Fault → Type 0
 Stops a old (stop.Answer f) = (program : ProgramLists) (n : ℕ) → left_of program a old n ≡ faults f
 Stops a old stop.NoMemory = Unit {0}
 
 -- an act was done, or it leads to a fault
-abbrev pub Does : Act → Machine → Machine → Result (Unit {0}) (OrNoMemory Fault) → Type 0
+abbrev pub Does : Act → Evaluator → Evaluator → Result (Unit {0}) (OrNoMemory Fault) → Type 0
 Does a old new (Ok done) = IsDone a old new
 Does a old new (Err why) = Stops a old why
 
@@ -116,16 +116,16 @@ Operated operator x y (Err (stop.Answer f)) =
 Operated operator x y (Err stop.NoMemory) = ⊥
 
 -- the same of one program
-pub record IsDoneFor (program : ProgramLists) (a : Act) (old new : Machine) : Type 0 where
+pub record IsDoneFor (program : ProgramLists) (a : Act) (old new : Evaluator) : Type 0 where
   pub sound : IsSound new
   pub same : (n : ℕ) → left_of program a old n ≡ left program new n
   pub less : work new.todo < act_work a + work old.todo
 
-abbrev pub StopsFor : ProgramLists → Act → Machine → OrNoMemory Fault → Type 0
+abbrev pub StopsFor : ProgramLists → Act → Evaluator → OrNoMemory Fault → Type 0
 StopsFor program a old (stop.Answer f) = (n : ℕ) → left_of program a old n ≡ faults f
 StopsFor program a old stop.NoMemory = Unit {0}
 
-abbrev pub DoesFor : ProgramLists → Act → Machine → Machine → Result (Unit {0}) (OrNoMemory Fault) → Type 0
+abbrev pub DoesFor : ProgramLists → Act → Evaluator → Evaluator → Result (Unit {0}) (OrNoMemory Fault) → Type 0
 DoesFor program a old new (Ok done) = IsDoneFor program a old new
 DoesFor program a old new (Err why) = StopsFor program a old why
 

@@ -19,8 +19,8 @@ use Rattle.nomos_eval.specs.declared.act.Act.TheVariants as act
 use Rattle.nomos_eval.specs.declared.act.Scope.{Scope}
 use Rattle.nomos_eval.specs.declared.datum.Datum.{Datum}
 use Rattle.nomos_eval.specs.declared.datum.Datum.TheVariants as datum
-use Rattle.nomos_eval.specs.declared.machine.Machine.{Machine}
-use Rattle.nomos_eval.specs.mirror.Machine.{held, scopes_held, values_found, left_with, IsSound, IsFound, IsEntered}
+use Rattle.nomos_eval.specs.declared.evaluator.Evaluator.{Evaluator}
+use Rattle.nomos_eval.specs.mirror.Evaluator.{held, scopes_held, values_found, left_with, IsSound, IsFound, IsEntered}
 use Rattle.nomos_eval.specs.mirror.Rest.{rest, seen_in, variables_at, work, ScopeIn, argument_acts}
 use Rattle.nomos_eval.specs.mirror.EvalTable.{datum_value, reach}
 use Rattle.nomos_eval.specs.declared.around.Around.{Around}
@@ -177,7 +177,7 @@ found-around scopes scope v a new lists after d outermost none looked =
     }
 
 -- a variable that was found is the value of its node
-pub variable-entered : (scope : Scope) (v : VarId) (old : Machine) (around : Around) (lists : List ValueList)
+pub variable-entered : (scope : Scope) (v : VarId) (old : Evaluator) (around : Around) (lists : List ValueList)
     (d : Datum) (values : List Datum) → IsSound old
     → IsFound old.scopes scope v old.around old.lists around lists d → values ≡ d ∷ old.values → (at : ℕ)
     → IsEntered scope (node.Var at v) old
@@ -221,7 +221,7 @@ pub last-list : (lists : List ValueList) (vs : ValueList) → get_or (lists ++ v
 last-list lists vs = get_or-append_seam lists vs [] no_values
 
 -- the empty list
-pub nil-entered : (scope : Scope) (at : ℕ) (k : Kind) (old : Machine) (place : ℕ) (lists : List ValueList)
+pub nil-entered : (scope : Scope) (at : ℕ) (k : Kind) (old : Evaluator) (place : ℕ) (lists : List ValueList)
     (values : List Datum) → IsSound old → place ≡ length old.lists → lists ≡ old.lists ++ no_values ∷ []
     → values ≡ datum.List place ∷ old.values
     → IsEntered scope (node.Nil at k) old
@@ -229,7 +229,7 @@ pub nil-entered : (scope : Scope) (at : ℕ) (k : Kind) (old : Machine) (place :
 nil-entered scope at k old place lists values sound place_is added pushed =
     let more = old.lists ++ no_values ∷ [] in
     let longer : length more ≡ length old.lists + 1 = omega (arith, length-append old.lists (no_values ∷ [])) in
-    let new : Machine = record {
+    let new : Evaluator = record {
       todo = old.todo;
       values = datum.List (length old.lists) ∷
           old.values;
@@ -249,7 +249,7 @@ nil-entered scope at k old place lists values sound place_is added pushed =
       scopes = old.scopes;
       around = old.around;
     }) added in
-    let P : Machine → Type 0 = λ m. IsEntered scope (node.Nil at k) old m in
+    let P : Evaluator → Type 0 = λ m. IsEntered scope (node.Nil at k) old m in
     subst
     P
     (sym all)
@@ -290,7 +290,7 @@ arguments-work : (scope : Scope) (ts : List TermId) (todo : List Act)
 arguments-work scope [] todo = refl
 arguments-work scope (t ∷ ts) todo = omega (arith, arguments-work scope ts todo)
 
-pub call-entered : (scope : Scope) (at : ℕ) (f : FnId) (ts : List TermId) (old : Machine) (todo : List Act)
+pub call-entered : (scope : Scope) (at : ℕ) (f : FnId) (ts : List TermId) (old : Evaluator) (todo : List Act)
     → IsSound old → scope.variables < length old.scopes
     → todo ≡ argument_acts scope ts ++ act.Enter scope.calls f (length ts) ∷ old.todo
     → IsEntered scope (node.Call at f ts) old
@@ -324,12 +324,12 @@ call-planned scope f ts given old new planned same =
     planned ∙ ap (λ l. argument_acts scope l ++ act.Enter scope.calls f (length l) ∷ old) same
 
 -- the same of a node that is known to be of this form
-pub variable-found : (x : TermNode) (scope : Scope) (at : ℕ) (v : VarId) (old new : Machine) → x ≡ node.Var at v
+pub variable-found : (x : TermNode) (scope : Scope) (at : ℕ) (v : VarId) (old new : Evaluator) → x ≡ node.Var at v
     → ((at : ℕ) → IsEntered scope (node.Var at v) old new) → IsEntered scope x old new
 variable-found x scope at v old new is entered =
     let P : TermNode → Type 0 = λ y. IsEntered scope y old new in subst P (sym is) (entered at)
 
-pub nil-found : (x : TermNode) (scope : Scope) (at : ℕ) (k : Kind) (old : Machine) (place : ℕ) (lists : List ValueList)
+pub nil-found : (x : TermNode) (scope : Scope) (at : ℕ) (k : Kind) (old : Evaluator) (place : ℕ) (lists : List ValueList)
     (values : List Datum) → x ≡ node.Nil at k → IsSound old → place ≡ length old.lists
     → lists ≡ old.lists ++ no_values ∷ [] → values ≡ datum.List place ∷ old.values
     → IsEntered scope x old (record {
@@ -352,7 +352,7 @@ nil-found x scope at k old place lists values is sound place_is added pushed =
     }) in
     subst P (sym is) (nil-entered scope at k old place lists values sound place_is added pushed)
 
-pub call-found : (x : TermNode) (scope : Scope) (at : ℕ) (f : FnId) (ts given : List TermId) (old : Machine)
+pub call-found : (x : TermNode) (scope : Scope) (at : ℕ) (f : FnId) (ts given : List TermId) (old : Evaluator)
     (todo : List Act) → x ≡ node.Call at f ts → IsSound old → scope.variables < length old.scopes
     → todo ≡ argument_acts scope given ++ act.Enter scope.calls f (length given) ∷ old.todo → given ≡ ts
     → IsEntered scope x old (record {

@@ -5,7 +5,7 @@ ghost use Rattle.std.specs.List.{AllByRecursion};
 ghost use Rattle.nomos_ir.specs.declared.term_node.TermNode.TheVariants as node;
 ghost use Rattle.nomos_eval.specs.mirror.Around.{IsKept};
 ghost use Rattle.nomos_eval.specs.mirror.EvalTable.{reach};
-ghost use Rattle.nomos_eval.specs.mirror.Machine.{IsSound, IsEntered, IsFound};
+ghost use Rattle.nomos_eval.specs.mirror.Evaluator.{IsSound, IsEntered, IsFound};
 ghost use Rattle.nomos_eval.specs.mirror.Rest.{argument_acts};
 
 use crate::act::{Act, Cases, Scope};
@@ -22,7 +22,7 @@ use std::alloc::AllocError;
 /// An evaluation: what is left to do, the values found, the lists and the variables that these name, and the variables
 /// around the term.
 #[derive(Drop)]
-pub(crate) struct Machine<'a> {
+pub(crate) struct Evaluator<'a> {
     pub(crate) todo: Stack<Act>,
     pub(crate) values: Stack<Datum>,
     pub(crate) lists: Lists,
@@ -65,65 +65,65 @@ fn look_up(
 }
 
 // Finds the value of a variable.
-fn enter_variable(machine: &mut Machine<'_>, scope: Scope, v: VarId) -> Result<(), AllocError>
-    requires inside { scope.variables < length machine.old.scopes }
-    requires sound { IsSound machine.old }
-    ensures { OnOk result ((at : ℕ) → IsEntered scope (node.Var at v) machine.old machine.new) }
+fn enter_variable(evaluator: &mut Evaluator<'_>, scope: Scope, v: VarId) -> Result<(), AllocError>
+    requires inside { scope.variables < length evaluator.old.scopes }
+    requires sound { IsSound evaluator.old }
+    ensures { OnOk result ((at : ℕ) → IsEntered scope (node.Var at v) evaluator.old evaluator.new) }
 {
     let value = look_up(
-        &machine.scopes,
-        &mut machine.around,
-        &mut machine.lists,
+        &evaluator.scopes,
+        &mut evaluator.around,
+        &mut evaluator.lists,
         scope,
         v,
     )?;
-    machine.values.push(value)
+    evaluator.values.push(value)
 }
 
 /// Finds the value of a node that was entered, or plans what leads to it.
 pub(crate) fn enter_node(
-    machine: &mut Machine<'_>,
+    evaluator: &mut Evaluator<'_>,
     scope: Scope,
     node: &TermNode,
 ) -> Result<(), AllocError>
-    requires inside { scope.variables < length machine.old.scopes }
-    requires sound { IsSound machine.old }
-    ensures { OnOk result (IsEntered scope node.now machine.old machine.new) }
+    requires inside { scope.variables < length evaluator.old.scopes }
+    requires sound { IsSound evaluator.old }
+    ensures { OnOk result (IsEntered scope node.now evaluator.old evaluator.new) }
 {
     match node {
-        TermNode::Number(_, n) => machine.values.push(Datum::Int(i64::from(*n))),
-        TermNode::Truth(_, b) => machine.values.push(Datum::Bool(*b)),
-        TermNode::Var(_, v) => enter_variable(machine, scope, *v),
-        TermNode::Call(_, f, values) => call(&mut machine.todo, scope, *f, values.as_slice()),
+        TermNode::Number(_, n) => evaluator.values.push(Datum::Int(i64::from(*n))),
+        TermNode::Truth(_, b) => evaluator.values.push(Datum::Bool(*b)),
+        TermNode::Var(_, v) => enter_variable(evaluator, scope, *v),
+        TermNode::Call(_, f, values) => call(&mut evaluator.todo, scope, *f, values.as_slice()),
         TermNode::Nil(_, _) => {
-            let place = machine.lists.add_empty()?;
-            machine.values.push(Datum::List(place))
+            let place = evaluator.lists.add_empty()?;
+            evaluator.values.push(Datum::List(place))
         }
-        TermNode::Add(_, a, b) => operate(&mut machine.todo, scope, *a, *b, Operator::Add),
-        TermNode::Sub(_, a, b) => operate(&mut machine.todo, scope, *a, *b, Operator::Sub),
-        TermNode::Mul(_, a, b) => operate(&mut machine.todo, scope, *a, *b, Operator::Mul),
-        TermNode::Div(_, a, b) => operate(&mut machine.todo, scope, *a, *b, Operator::Div),
-        TermNode::Rem(_, a, b) => operate(&mut machine.todo, scope, *a, *b, Operator::Rem),
-        TermNode::Less(_, a, b) => operate(&mut machine.todo, scope, *a, *b, Operator::Less),
-        TermNode::Equal(_, a, b) => operate(&mut machine.todo, scope, *a, *b, Operator::Equal),
+        TermNode::Add(_, a, b) => operate(&mut evaluator.todo, scope, *a, *b, Operator::Add),
+        TermNode::Sub(_, a, b) => operate(&mut evaluator.todo, scope, *a, *b, Operator::Sub),
+        TermNode::Mul(_, a, b) => operate(&mut evaluator.todo, scope, *a, *b, Operator::Mul),
+        TermNode::Div(_, a, b) => operate(&mut evaluator.todo, scope, *a, *b, Operator::Div),
+        TermNode::Rem(_, a, b) => operate(&mut evaluator.todo, scope, *a, *b, Operator::Rem),
+        TermNode::Less(_, a, b) => operate(&mut evaluator.todo, scope, *a, *b, Operator::Less),
+        TermNode::Equal(_, a, b) => operate(&mut evaluator.todo, scope, *a, *b, Operator::Equal),
         TermNode::And(_, a, b) => plan(
-            &mut machine.todo,
+            &mut evaluator.todo,
             &[Act::Term(scope, *a), Act::Both(scope, *b)],
         ),
         TermNode::Or(_, a, b) => plan(
-            &mut machine.todo,
+            &mut evaluator.todo,
             &[Act::Term(scope, *a), Act::Either(scope, *b)],
         ),
         TermNode::Cons(_, a, b) => {
             plan(
-                &mut machine.todo,
+                &mut evaluator.todo,
                 &[Act::Term(scope, *a), Act::Term(scope, *b), Act::PutBefore],
             )
         }
-        TermNode::Not(_, a) => plan(&mut machine.todo, &[Act::Term(scope, *a), Act::Not]),
+        TermNode::Not(_, a) => plan(&mut evaluator.todo, &[Act::Term(scope, *a), Act::Not]),
         TermNode::If(_, test, a, b) => {
             plan(
-                &mut machine.todo,
+                &mut evaluator.todo,
                 &[Act::Term(scope, *test), Act::Choose(scope, *a, *b)],
             )
         }
@@ -135,7 +135,7 @@ pub(crate) fn enter_node(
                 full: *full,
             };
             plan(
-                &mut machine.todo,
+                &mut evaluator.todo,
                 &[Act::Term(scope, *taken), Act::Open(scope, cases)],
             )
         }

@@ -1,7 +1,7 @@
 -- A variable is bound in the scope, or stands around it.
 use Rattle.std.proofs.lemmas.Result.{IfOk-weaker}
-use Rattle.nomos_eval.proofs.MachineLemmas.{found-bound, found-nothing, found-around}
-use Rattle.nomos_eval.proofs.machine.look_up.Goals as goal
+use Rattle.nomos_eval.proofs.EvaluatorLemmas.{found-bound, found-nothing, found-around}
+use Rattle.nomos_eval.proofs.evaluator.look_up.Goals as goal
 
 pub returns-in-Some : goal.returns-in-Some
 returns-in-Some c =

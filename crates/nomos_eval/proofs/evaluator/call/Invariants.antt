@@ -1,7 +1,7 @@
 -- The arguments behind are planned.
 use Rattle.std.proofs.Common.{◌≡◌, ◌≤◌, ◌++◌, drop, length}
 use Rattle.nomos_eval.specs.mirror.Rest.{argument_acts}
-use Rattle.nomos_eval.proofs.machine.call.Given as goal
+use Rattle.nomos_eval.proofs.evaluator.call.Given as goal
 
 abbrev pub invariant-loop-left : goal.invariant-loop-left
 invariant-loop-left l =
