@@ -4,5 +4,7 @@ pub mod OrderLaws
 pub mod ProductLemmas
 pub mod RowLaws
 pub mod RowLemmas
+pub mod ShareLemmas
 pub mod SmallLaws
 pub mod WholeLaws
+pub mod ZeroLemmas

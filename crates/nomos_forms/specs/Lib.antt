@@ -4,3 +4,5 @@ pub mod Meeting
 pub mod Refuting
 pub mod RowOrder
 pub mod RowsOf
+pub mod Shares
+pub mod mirror

@@ -5,11 +5,14 @@ ghost use Rattle.nomos_forms.specs.Bounds.{IsForm, IsRow};
 ghost use Rattle.std.specs.List.Sorted.{IsStrictlySortedBy};
 ghost use Rattle.nomos_forms.specs.declared.row.Row.{Row};
 ghost use Rattle.nomos_forms.specs.RowOrder.{row_cmp};
-ghost use Rattle.nomos_forms.specs.RowsOf.{form_row, share_of, units_in, difference_row, pair_rows, all_rows, AreRowsOf};
+ghost use Rattle.nomos_forms.specs.RowsOf.{form_row, units_in, difference_row, pair_rows, all_rows, AreRowsOf};
+ghost use Rattle.nomos_forms.specs.Shares.{share_table as share_table_of};
 
 use crate::form::{Form, Forms};
 use crate::row::Row;
 use crate::row_list::RowList;
+use crate::shared_coefs::SharedCoefs;
+use crate::shares::{ShareTable, share_table, shares_between};
 use nomos_ir::amount::Amount;
 use nomos_ir::items::Items;
 use nomos_ir::lists::AmountPairs;
@@ -23,16 +26,9 @@ fn row_of(alloc: Global, form: &Form) -> Result<Row, AllocError>
 {
     let coefs = Vec::from_slice(alloc, form.coefs.as_slice())?;
     Ok(Row {
-        coefs: Items::of_vec(coefs),
+        coefs: SharedCoefs::of_vec(alloc, coefs)?,
         least: -form.plus,
     })
-}
-
-/// How often a star stands in an amount.
-fn share(amount: Amount, star: u16) -> i64
-    ensures { result ≡ share_of amount star }
-{
-    if amount.star() == star { 1 } else { 0 }
 }
 
 /// The whole units that stand in an amount.
@@ -46,42 +42,22 @@ fn units(amount: Amount) -> i64
     }
 }
 
-/// How often a star stands in one amount more than in another.
-fn share_between(more: Amount, less: Amount, star: u16) -> i64
-    ensures small { unsigned_abs result ≤ 1 }
-    ensures share { result ≡ share_of more star -ℤ share_of less star }
-{
-    share(more, star) - share(less, star)
-}
-
-/// How often each star stands in one amount more than in another.
-fn shares_between(
-    alloc: Global,
-    more: &Amount,
-    less: &Amount,
-    stars: u16,
-) -> Result<Vec<i64>, AllocError>
-    ensures shares { IfOk result
-        (λ v. v.items ≡ map (λ star. share_of more.now star -ℤ share_of less.now star) (range_with_len 1 stars)) }
-    ensures small { IfOk result (λ v. All (λ share. unsigned_abs share ≤ 1) v.items) }
-{
-    let mut shares = Vec::with_capacity(alloc, usize::from(stars))?;
-    for before in 0..stars {
-        let share = share_between(*more, *less, before + 1);
-        shares.push(share)?;
-    }
-    Ok(shares)
-}
-
 /// The row that says that one amount is at least another.
-fn difference(alloc: Global, more: &Amount, less: &Amount, stars: u16) -> Result<Row, AllocError>
-    ensures row { IfOk result (λ row. row ≡ difference_row stars more.now less.now) }
+fn difference(
+    alloc: Global,
+    table: &ShareTable,
+    stars: u16,
+    more: Amount,
+    less: Amount,
+) -> Result<Row, AllocError>
+    requires { table.now ≡ share_table_of stars }
+    ensures row { IfOk result (λ row. row ≡ difference_row stars more less) }
     ensures small { IfOk result (IsRow stars) }
 {
-    let shares = shares_between(alloc, more, less, stars)?;
+    let coefs = shares_between(alloc, table, stars, more, less)?;
     Ok(Row {
-        coefs: Items::of_vec(shares),
-        least: units(*less) - units(*more),
+        coefs,
+        least: units(less) - units(more),
     })
 }
 
@@ -113,16 +89,18 @@ fn form_rows(alloc: Global, forms: &[Form], stars: u16) -> Result<Vec<Row>, Allo
 /// The two rows of a pair.
 fn add_pair(
     alloc: Global,
+    table: &ShareTable,
+    stars: u16,
     rows: &mut Vec<Row>,
     pair: &(Amount, Amount),
-    stars: u16,
 ) -> Result<(), AllocError>
-    requires { All (IsRow stars) rows.old.items }
+    requires table { table.now ≡ share_table_of stars }
+    requires rows { All (IsRow stars) rows.old.items }
     ensures rows { IfOk result (λ _. rows.new.items ≡ rows.old.items ++ pair_rows stars pair.now) }
     ensures small { IfOk result (λ _. All (IsRow stars) rows.new.items) }
 {
-    let first = difference(alloc, &pair.0, &pair.1, stars)?;
-    let second = difference(alloc, &pair.1, &pair.0, stars)?;
+    let first = difference(alloc, table, stars, pair.0, pair.1)?;
+    let second = difference(alloc, table, stars, pair.1, pair.0)?;
     rows.push(first)?;
     rows.push(second)?;
     Ok(())
@@ -131,16 +109,18 @@ fn add_pair(
 /// Adds the rows of pairs.
 fn add_pairs(
     alloc: Global,
+    table: &ShareTable,
+    stars: u16,
     rows: &mut Vec<Row>,
     pairs: &[(Amount, Amount)],
-    stars: u16,
 ) -> Result<(), AllocError>
-    requires { All (IsRow stars) rows.old.items }
+    requires table { table.now ≡ share_table_of stars }
+    requires rows { All (IsRow stars) rows.old.items }
     ensures rows { IfOk result (λ _. rows.new.items ≡ rows.old.items ++ flat_map (pair_rows stars) pairs.now) }
     ensures small { IfOk result (λ _. All (IsRow stars) rows.new.items) }
 {
     for pair in pairs {
-        add_pair(alloc, rows, pair, stars)?;
+        add_pair(alloc, table, stars, rows, pair)?;
     }
     Ok(())
 }
@@ -152,12 +132,14 @@ fn every_row(
     pairs: &AmountPairs,
     stars: u16,
 ) -> Result<Vec<Row>, AllocError>
-    requires { All (IsForm stars) forms.now }
+    requires stars { stars ≤ 64 }
+    requires forms { All (IsForm stars) forms.now }
     ensures rows { IfOk result (λ rows. rows.items ≡ all_rows stars forms.now pairs.now) }
     ensures small { IfOk result (λ rows. All (IsRow stars) rows.items) }
 {
     let mut rows = form_rows(alloc, forms.as_slice(), stars)?;
-    add_pairs(alloc, &mut rows, pairs.as_slice(), stars)?;
+    let table = share_table(alloc, stars)?;
+    add_pairs(alloc, &table, stars, &mut rows, pairs.as_slice())?;
     Ok(rows)
 }
 

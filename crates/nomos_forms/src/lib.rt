@@ -9,4 +9,7 @@ pub mod product;
 pub mod refuting;
 pub mod row;
 pub mod row_list;
+pub mod shared;
+pub mod shared_coefs;
+mod shares;
 pub mod verdict;

@@ -1,12 +1,12 @@
 //! Rows: what a sum of coefficients times stars has at least to be.
-use crate::form::Coefs;
+use crate::shared_coefs::SharedCoefs;
 use nomos_ir::items::Items;
 use std::cmp::Ordering;
 
 /// The row `coefs * stars >= least`, where `least` is a number of whole units.
 #[derive(Drop, Debug)]
 pub struct Row {
-    pub coefs: Coefs,
+    pub coefs: SharedCoefs,
     pub least: i64,
 }
 
@@ -23,7 +23,7 @@ impl PartialEq for Row {
     ghost laws = { Prim.search (comparing, rules) };
 
     fn eq(&self, other: &Row) -> bool {
-        self.coefs.as_slice() == other.coefs.as_slice() && self.least == other.least
+        self.coefs.is_same(&other.coefs) && self.least == other.least
     }
 }
 
@@ -62,7 +62,7 @@ impl Ord for Row {
 
     /// By the first coefficient that differs, and then by the least.
     fn cmp(&self, other: &Row) -> Ordering {
-        let coefs = self.coefs.as_slice().cmp(other.coefs.as_slice());
+        let coefs = self.coefs.order(&other.coefs);
         coefs.then(self.least.cmp(&other.least))
     }
 }

@@ -8,7 +8,7 @@ use Rattle.std.proofs.lemmas.List.Elements.{All-nil, All-cons, All-head, All-tai
 use Rattle.std.proofs.lemmas.Nat.Gcd.{dvd_refl, dvd_trans}
 use Rattle.std.proofs.Math.IntN.{*ℤ-zero, *ℤ_comm}
 use Rattle.std.proofs.Math.Nat.{div-one}
-use native.Mathlib.Nat.{one-dvd, dvd-mul_left, dvd-mul_right, dvd-mul_left_of_dvd, mul-dvd-mul, mul-dvd-mul_left, div-mul_cancel}
+use native.Mathlib.Nat.{one-dvd, dvd-mul_left, dvd-mul_right, dvd-mul_left_of_dvd, mul-dvd-mul, div-mul_cancel}
 use borrow.Author.Differences.{le_out, at_most_in}
 use Rattle.nomos_forms.specs.Linear.{dot}
 use Rattle.nomos_forms.specs.declared.row_list.RowList.{RowList}

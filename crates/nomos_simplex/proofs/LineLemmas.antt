@@ -1,5 +1,5 @@
 -- Lines, coefficient by coefficient.
-use Rattle.std.proofs.Common.{◌≡◌, ℕ, zero, suc, ◌+◌, ◌/◌, ◌<◌, ◌≤◌, map, drop, List, [], ◌∷◌, ◌++◌, length, get_or, take, refl, ap, sym, subst, ◌∙◌, arith, ℤ, pos, negsuc, neg_ℤ, ◌+ℤ◌, ◌*ℤ◌, ◌-ℤ◌, ◌<ℤ◌, unsigned_abs, add-one, set}
+use Rattle.std.proofs.Common.{◌≡◌, ℕ, zero, suc, ◌+◌, ◌-◌, ◌/◌, ◌<◌, ◌≤◌, map, drop, List, [], ◌∷◌, ◌++◌, length, get_or, take, refl, ap, sym, subst, ◌∙◌, arith, ℤ, pos, negsuc, neg_ℤ, ◌+ℤ◌, ◌*ℤ◌, ◌-ℤ◌, ◌<ℤ◌, unsigned_abs, add-one, set}
 use Rattle.std.specs.Prelude.{slice_set, int_div}
 use Rattle.std.proofs.lemmas.List.Elements.{All-map, All-weaker}
 use Rattle.std.proofs.lemmas.Int.{ints}
@@ -48,6 +48,27 @@ made_same p g (a ∷ as') (c ∷ cs) zero h w e z = λ i. once a (g *ℤ c) (ap 
     once x y f = less_nothing x y f ∙ ap (λ q. q *ℤ x -ℤ y) (sym e)
 made_same p g (a ∷ as') (c ∷ cs) (suc k) h w e z = rw add-one (ap (λ xs. (p *ℤ a -ℤ g *ℤ c) ∷ xs) (rw add-one at
     (made_same p g as' cs k (omega arith) (omega arith) e z)))
+
+-- and over places where nothing changes
+abbrev pub made_up_to : ℤ → ℤ → List ℤ → List ℤ → ℕ → List ℤ
+made_up_to p g as' cs k = eliminated p g (take k as') (take k cs) ++ drop k as'
+
+made_past : (p g : ℤ) (as' cs : List ℤ) (k count : ℕ) → k + count ≤ length as' → length as' ≡ length cs → p ≡ pos 1
+    → ((j : ℕ) → k ≤ j → j < k + count → get_or cs j (pos 0) ≡ pos 0)
+    → made_up_to p g as' cs k ≡ made_up_to p g as' cs (k + count)
+made_past p g as' cs k zero h w e zeros = ap (made_up_to p g as' cs) (omega arith)
+made_past p g as' cs k (suc count) h w e zeros =
+    made_past p g as' cs k count (omega arith) w e (λ j from below. zeros j from (omega (arith, below)))
+    ∙ made_same p g as' cs (k + count) (omega arith) w e (zeros (k + count) (omega arith) (omega arith))
+    ∙ ap (made_up_to p g as' cs) (omega arith)
+
+pub made_skipped : (p g : ℤ) (as' cs : List ℤ) (k n : ℕ) → k ≤ n → n ≤ length as' → length as' ≡ length cs
+    → p ≡ pos 1 → ((j : ℕ) → k ≤ j → j < n → get_or cs j (pos 0) ≡ pos 0)
+    → made_up_to p g as' cs k ≡ made_up_to p g as' cs n
+made_skipped p g as' cs k n order within w e zeros =
+    let sum : k + (n - k) ≡ n = omega (arith, order) in
+    made_past p g as' cs k (n - k) (omega (arith, sum, within)) w e (λ j from below. zeros j from (omega (arith, sum, below)))
+    ∙ ap (made_up_to p g as' cs) sum
 
 pub made_all : (p g : ℤ) (as' cs : List ℤ) (k : ℕ) → length as' ≤ k → length as' ≡ length cs →
     eliminated p g (take k as') (take k cs) ++ drop k as' ≡ eliminated p g as' cs

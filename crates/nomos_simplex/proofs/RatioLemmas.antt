@@ -8,7 +8,7 @@ use Rattle.std.proofs.lemmas.Option.{get_or_from_slice_get}
 use Rattle.std.proofs.Math.IntN.{*ℤ_comm}
 use Rattle.std.proofs.Math.Nat.{mul-le-mul_left}
 use native.Mathlib.Nat.{pos_of_dvd_of_pos}
-use borrow.Author.Differences.{le_out, lt_out, at_most_in, below_in, lt-true}
+use borrow.Author.Differences.{le_out, lt_out, at_most_in, below_in}
 use Rattle.nomos_forms.specs.declared.row_list.RowList.{RowList}
 use Rattle.nomos_forms.proofs.WholeLaws.{neg_times, times_assoc, less_by_times}
 use Rattle.nomos_simplex.proofs.ExitLemmas.{abs_of_below}

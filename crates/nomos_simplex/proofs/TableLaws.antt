@@ -1,5 +1,5 @@
 -- The tables of the run: the rows make their lines true, and these make the rows' sums true.
-use Rattle.std.proofs.Common.{◌≡◌, ℕ, ◌+◌, ◌-◌, ◌<◌, ◌^◌, ◌||◌, Bool, true, false, List, length, get_or, sym, ◌∙◌, arith, ℤ, pos, unsigned_abs, All, ⊎_elim}
+use Rattle.std.proofs.Common.{◌≡◌, ℕ, ◌+◌, ◌<◌, ◌^◌, ◌||◌, Bool, true, false, List, length, get_or, sym, ◌∙◌, arith, ℤ, pos, unsigned_abs, All, ⊎_elim}
 use Rattle.std.specs.List.{list_any, list_all}
 use Rattle.std.proofs.lemmas.Bool.{lt-leb, leb-false, cases_Bool, or_parts, false≢true}
 use Rattle.std.proofs.lemmas.List.{length-set}

@@ -1,3 +1,4 @@
 pub mod Keeping
 pub mod Opposite
+pub mod Places
 pub mod Steps

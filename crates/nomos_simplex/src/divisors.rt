@@ -1,10 +1,11 @@
 //! Greatest common divisors, and lowest terms.
-ghost use Rattle.std.specs.Prelude.{◌≡◌, ◌<◌, ◌%◌, pos, ◌<ℤ◌, int_div, map};
+ghost use Rattle.std.specs.Prelude.{◌≡◌, ◌<◌, ◌%◌, pos, ◌<ℤ◌, int_div, map, IfOk};
 ghost use Rattle.nomos_simplex.specs.Divisors.{gcd, common, divided_by, in_lowest_terms};
 
+use crate::numbers::Numbers;
 use crate::sizes::is_small;
 use crate::table::Line;
-use nomos_ir::items::Items;
+use std::alloc::{AllocError, Global};
 
 /// The greatest number of 64 bits: where numbers are no greater, the processor divides them itself.
 const NARROW: u128 = u64::MAX as u128;
@@ -74,15 +75,15 @@ fn common_divisor(first: u128, others: &[i128]) -> u128
 }
 
 /// The line divided by the greatest common divisor of its numbers.
-pub fn lowest_terms(line: Line) -> Line
+pub fn lowest_terms(alloc: Global, line: Line) -> Result<Line, AllocError>
     requires { pos 0 <ℤ line.times }
-    ensures { result ≡ in_lowest_terms line }
+    ensures { IfOk result (λ made. made ≡ in_lowest_terms line) }
 {
     let divisor = common_divisor(line.times.unsigned_abs(), line.coefs.as_slice());
     if divisor == 1 {
-        return line;
+        return Ok(line);
     }
-    divided(line, divisor as i128)
+    divided(alloc, line, divisor as i128)
 }
 
 /// A quotient, rounded toward 0.
@@ -97,22 +98,22 @@ fn quotient(number: i128, by: i128) -> i128
 }
 
 /// The line divided by a number.
-fn divided(line: Line, by: i128) -> Line
+fn divided(alloc: Global, line: Line, by: i128) -> Result<Line, AllocError>
     requires { pos 0 <ℤ by }
-    ensures { result ≡ divided_by by line }
+    ensures { IfOk result (λ made. made ≡ divided_by by line) }
 {
     let Line {
         times,
         basic,
         coefs,
     } = line;
-    let mut coefs = coefs.into_vec();
+    let mut coefs = coefs.into_vec(alloc)?;
     divide_all(&mut coefs, by);
-    Line {
+    Ok(Line {
         times: quotient(times, by),
         basic,
-        coefs: Items::of_vec(coefs),
-    }
+        coefs: Numbers::of_vec(coefs),
+    })
 }
 
 /// Divides numbers by a number.

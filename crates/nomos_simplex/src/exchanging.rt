@@ -9,7 +9,7 @@ ghost use Rattle.nomos_simplex.specs.mirror.Opposite.{oriented_of};
 
 use crate::bounds::{bounds_of, over_of};
 use crate::keeping::Kept;
-use crate::lines::{cross, enter, opposite, opposite_line, product, solved};
+use crate::lines::{cross, enter, next_places, opposite, opposite_line, product, solved};
 use crate::sizes::{has_large_number, is_large, is_too_large};
 use crate::table::{Line, Table};
 use nomos_forms::row_list::RowList;
@@ -17,13 +17,14 @@ use nomos_ir::items::Items;
 use std::alloc::{AllocError, Global};
 
 /// What an exchange does to a line: a variable enters, whose column it is, by the line that is left, where its
-/// coefficient is over 0. The nonbasic variables are those after the exchange, and the bounds are theirs. `over` is how
+/// coefficient is over 0; `next` has the places of those that are not 0. The nonbasic variables are those after the exchange, and the bounds are theirs. `over` is how
 /// far the variable that is left was over its bound, times the number before it, where that is not large.
 #[derive(Drop)]
 pub(crate) struct Entry {
     pub(crate) column: usize,
     pub(crate) entering: usize,
     pub(crate) left: Line,
+    pub(crate) next: Vec<usize>,
     pub(crate) over: Option<i128>,
     pub(crate) nonbasic: Vec<usize>,
     pub(crate) bounds: Vec<i64>,
@@ -81,23 +82,23 @@ fn enter_kept(
     entry: &Entry,
     line: &mut Line,
     over: i128,
-) -> Option<i128>
+) -> Result<Option<i128>, AllocError>
     requires entry { IsEntry entry.now }
     requires shows { EntryShows rows.now entry.now }
     requires line { IsLine (length entry.now.left.coefs) line.old }
     requires lowest { IsLowest line.old }
     requires over { over ≡ over_at rows.now (before entry.now) line.old }
-    ensures { IsMade rows.now entry.now (entered entry.now line.old) line.new result }
+    ensures { IfOk result (IsMade rows.now entry.now (entered entry.now line.old) line.new) }
 {
     if line.coefs.as_slice()[entry.column] == 0 {
-        return Some(over);
+        return Ok(Some(over));
     }
     let put = put_of(entry, line, over);
-    let small = enter(alloc, entry.column, &entry.left, line);
+    let small = enter(alloc, entry.column, &entry.left, &entry.next, line)?;
     if is_too_large(small, line) {
-        return None;
+        return Ok(None);
     }
-    Some(over_after(rows, entry, line, put))
+    Ok(Some(over_after(rows, entry, line, put)))
 }
 
 /// Puts the entering variable into lines, and says whether a number is then too large.
@@ -107,21 +108,22 @@ fn enter_all(
     entry: &Entry,
     lines: &mut [Line],
     over: &mut [i128],
-) -> bool
+) -> Result<bool, AllocError>
     requires entry { IsEntry entry.now }
     requires shows { EntryShows rows.now entry.now }
     requires lines { All (IsLine (length entry.now.left.coefs)) lines.old }
     requires lowest { All IsLowest lines.old }
     requires over { over.old ≡ map (over_at rows.now (before entry.now)) lines.old }
-    ensures { AreMade rows.now entry.now (map (entered entry.now) lines.old) lines.new over.new result }
+    ensures { IfOk result (AreMade rows.now entry.now (map (entered entry.now) lines.old) lines.new over.new) }
 {
     for i in 0..lines.len() {
-        match enter_kept(alloc, rows, entry, &mut lines[i], over[i]) {
+        let made = enter_kept(alloc, rows, entry, &mut lines[i], over[i])?;
+        match made {
             Some(next) => over[i] = next,
-            None => return true,
+            None => return Ok(true),
         }
     }
-    false
+    Ok(false)
 }
 
 /// A line, or its opposite where the coefficient in a column is below 0.
@@ -171,7 +173,7 @@ fn exchange_lines(
     ensures { IfOk result (AreMade rows.now entry.now
         (map (entered entry.now) lines.old.items ++ solved_line entry.now ∷ []) lines.new.items over.new.items) }
 {
-    let large = enter_all(alloc, rows, entry, lines, over);
+    let large = enter_all(alloc, rows, entry, lines, over)?;
     if large {
         return Ok(true);
     }
@@ -212,6 +214,7 @@ pub(crate) fn exchange(
     let own = lines.remove(place);
     let own_over = oriented_over(column, &own, over.remove(place));
     let left = oriented(alloc, column, own)?;
+    let next = next_places(alloc, left.coefs.as_slice())?;
     let entering = nonbasic[column];
     nonbasic[column] = left.basic;
     let bounds = bounds_of(alloc, rows, &nonbasic)?;
@@ -219,6 +222,7 @@ pub(crate) fn exchange(
         column,
         entering,
         left,
+        next,
         over: own_over,
         nonbasic,
         bounds,

@@ -11,6 +11,7 @@ mod keeping;
 mod lines;
 pub mod lowering;
 mod nearest;
+pub mod numbers;
 mod refusing;
 mod sizes;
 pub mod solved;

@@ -4,11 +4,12 @@ ghost use Rattle.nomos_simplex.specs.Divisors.{in_lowest_terms};
 ghost use Rattle.nomos_simplex.specs.Exchange.{coef_at, solved_for, eliminated, put_into};
 ghost use Rattle.nomos_simplex.specs.Sizes.{IsNumber, HasNumbers, IsLine, IsLowest};
 ghost use Rattle.nomos_simplex.specs.mirror.Opposite.{opposite_of};
+ghost use Rattle.nomos_simplex.specs.mirror.Places.{SkipsZeros};
 
 use crate::divisors::lowest_terms;
+use crate::numbers::Numbers;
 use crate::sizes::is_small;
 use crate::table::Line;
-use nomos_ir::items::Items;
 use std::alloc::{AllocError, Global};
 use std::mem;
 
@@ -42,47 +43,94 @@ fn still_small(small: bool, number: i128) -> bool
     small && is_small(number)
 }
 
-/// `p * a - g * c` for each of two lists of numbers, in place of the first, and whether all of these are small. Where
-/// that is `a` it is left alone.
-fn eliminate(p: i128, g: i128, of: &mut [i128], by: &[i128]) -> bool
+/// For each place up to the end the next one at which a number is not 0, or the end.
+pub fn next_places(alloc: Global, numbers: &[i128]) -> Result<Vec<usize>, AllocError>
+    ensures { IfOk result (λ next. SkipsZeros next.items numbers.now) }
+{
+    let count = numbers.len();
+    let mut next = vec![in alloc; count; count + 1]?;
+    for done in 0..count {
+        let place = count - 1 - done;
+        next[place] = if numbers[place] == 0 {
+            next[place + 1]
+        } else {
+            place
+        };
+    }
+    Ok(next)
+}
+
+/// `a - g * c` for each of two lists of numbers, in place of the first, and whether all of these are small. Where `c`
+/// is 0 that is `a`, so it goes from each `c` that is not 0 to the next.
+fn subtract(g: i128, of: &mut [i128], by: &[i128], next: &[usize]) -> bool
+    requires g { IsNumber g }
+    requires of { All IsNumber of.old }
+    requires by { All IsNumber by.now }
+    requires width { length of.old ≡ length by.now }
+    requires next { SkipsZeros next.now by.now }
+    ensures value { of.new ≡ eliminated (pos 1) g of.old by.now }
+    ensures small { IsTrue result → All IsNumber of.new }
+{
+    let mut small = true;
+    let mut i = next[0];
+    while i < of.len() {
+        let number = cross(1, of[i], g, by[i]);
+        small = still_small(small, number);
+        of[i] = number;
+        i = next[i + 1];
+    }
+    small
+}
+
+/// `p * a - g * c` for each of two lists of numbers, in place of the first, and whether all of these are small.
+fn eliminate(p: i128, g: i128, of: &mut [i128], by: &[i128], next: &[usize]) -> bool
     requires p { IsNumber p }
     requires g { IsNumber g }
     requires of { All IsNumber of.old }
     requires by { All IsNumber by.now }
     requires width { length of.old ≡ length by.now }
+    requires next { SkipsZeros next.now by.now }
     ensures value { of.new ≡ eliminated p g of.old by.now }
     ensures small { IsTrue result → All IsNumber of.new }
 {
+    if p == 1 {
+        return subtract(g, of, by, next);
+    }
     let mut small = true;
     for i in 0..of.len() {
-        if p != 1 || by[i] != 0 {
-            let number = cross(p, of[i], g, by[i]);
-            small = still_small(small, number);
-            of[i] = number;
-        }
+        let number = cross(p, of[i], g, by[i]);
+        small = still_small(small, number);
+        of[i] = number;
     }
     small
 }
 
 /// A line multiplied by the coefficient of the entering variable in the line that is left, with that variable put in.
 /// Beside it stands whether its numbers are small.
-fn with_entered(column: usize, left: &Line, line: Line) -> (Line, bool)
+fn with_entered(
+    alloc: Global,
+    column: usize,
+    left: &Line,
+    next: &[usize],
+    line: Line,
+) -> Result<(Line, bool), AllocError>
     requires column { column < length left.now.coefs }
     requires left { HasNumbers left.now }
+    requires next { SkipsZeros next.now left.now.coefs }
     requires line { IsLine (length left.now.coefs) line }
-    ensures made { result.0 ≡ put_into column left.now line }
-    ensures small { IsTrue result.1 → HasNumbers result.0 }
+    ensures made { IfOk result (λ made. made.0 ≡ put_into column left.now line) }
+    ensures small { IfOk result (λ made. IsTrue made.1 → HasNumbers made.0) }
 {
     let Line {
         times,
         basic,
         coefs,
     } = line;
-    let mut coefs = coefs.into_vec();
+    let mut coefs = coefs.into_vec(alloc)?;
     let by = left.coefs.as_slice();
     let p = by[column];
     let g = coefs[column];
-    let all = eliminate(p, g, &mut coefs, by);
+    let all = eliminate(p, g, &mut coefs, by, next);
     let entering = product(g, left.times);
     let times = product(p, times);
     let small = still_small(still_small(all, entering), times);
@@ -90,9 +138,9 @@ fn with_entered(column: usize, left: &Line, line: Line) -> (Line, bool)
     let made = Line {
         times,
         basic,
-        coefs: Items::of_vec(coefs),
+        coefs: Numbers::of_vec(coefs),
     };
-    (made, small)
+    Ok((made, small))
 }
 
 /// A line without numbers, which stands where one is taken out for a while.
@@ -100,28 +148,35 @@ fn no_line(alloc: Global) -> Line {
     Line {
         times: 0,
         basic: 0,
-        coefs: Items::of_vec(Vec::new(alloc)),
+        coefs: Numbers::of_vec(Vec::new(alloc)),
     }
 }
 
-/// Puts the entering variable into a line, in the line's own memory. A line without it stays as it is. The
-/// answer says where the line is known to have small numbers, with no look at those that were not changed.
-pub fn enter(alloc: Global, column: usize, left: &Line, line: &mut Line) -> bool
+/// Puts the entering variable into a line, in the line's own memory, by the line that is left and the places of its
+/// numbers that are not 0. A line without the variable stays as it is. The answer says where the line is known to have small numbers, with no look at those that were not changed.
+pub fn enter(
+    alloc: Global,
+    column: usize,
+    left: &Line,
+    next: &[usize],
+    line: &mut Line,
+) -> Result<bool, AllocError>
     requires column { column < length left.now.coefs }
     requires left { HasNumbers left.now }
     requires over_zero { pos 0 <ℤ coef_at column left.now }
+    requires next { SkipsZeros next.now left.now.coefs }
     requires line { IsLine (length left.now.coefs) line.old }
     requires lowest { IsLowest line.old }
-    ensures value { line.new ≡ in_lowest_terms (put_into column left.now line.old) }
-    ensures small { IsTrue result → HasNumbers line.new }
+    ensures value { IfOk result (λ _. line.new ≡ in_lowest_terms (put_into column left.now line.old)) }
+    ensures small { IfOk result (λ small. IsTrue small → HasNumbers line.new) }
 {
     if line.coefs.as_slice()[column] == 0 {
-        return true;
+        return Ok(true);
     }
     let own = mem::replace(line, no_line(alloc));
-    let (made, small) = with_entered(column, left, own);
-    *line = lowest_terms(made);
-    small
+    let (made, small) = with_entered(alloc, column, left, next, own)?;
+    *line = lowest_terms(alloc, made)?;
+    Ok(small)
 }
 
 /// The number with its sign changed.
@@ -154,7 +209,7 @@ pub fn opposite_line(alloc: Global, line: &Line) -> Result<Line, AllocError>
     Ok(Line {
         times: opposite(line.times),
         basic: line.basic,
-        coefs: Items::of_vec(coefs),
+        coefs: Numbers::of_vec(coefs),
     })
 }
 
@@ -173,9 +228,12 @@ pub fn solved(
     let numbers = left.coefs.as_slice();
     let mut coefs = negated(alloc, numbers)?;
     coefs[column] = left.times;
-    Ok(lowest_terms(Line {
-        times: numbers[column],
-        basic: entering,
-        coefs: Items::of_vec(coefs),
-    }))
+    lowest_terms(
+        alloc,
+        Line {
+            times: numbers[column],
+            basic: entering,
+            coefs: Numbers::of_vec(coefs),
+        },
+    )
 }

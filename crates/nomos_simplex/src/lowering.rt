@@ -25,7 +25,7 @@ use crate::exchanging::exchange;
 use crate::fractions::found;
 use crate::goal::goal_line;
 use crate::keeping::Kept;
-use crate::lines::{enter, negated, opposite_line};
+use crate::lines::{enter, negated, next_places, opposite_line};
 use crate::nearest::{lowering, nearest};
 use crate::refusing::{resolved, times_of, weights_of};
 use crate::sizes::is_too_large;
@@ -76,7 +76,8 @@ fn exchange_aimed(
 {
     let Aimed { kept, mut line } = aimed;
     let left = opposite_line(alloc, &kept.table.lines.as_slice()[place])?;
-    let small = enter(alloc, column, &left, &mut line);
+    let next = next_places(alloc, left.coefs.as_slice())?;
+    let small = enter(alloc, column, &left, &next, &mut line)?;
     if is_too_large(small, &line) {
         return Ok(None);
     }

@@ -69,12 +69,12 @@ pub fn weights_of(
     Ok(weights)
 }
 
-/// A copy of a row.
-fn copy_of(alloc: Global, row: &Row) -> Result<Row, AllocError>
+/// The same row, of which the coefficients are owned together.
+fn copy_of(row: &Row) -> Result<Row, AllocError>
     ensures { IfOk result (λ made. made ≡ row.now) }
 {
     Ok(Row {
-        coefs: Items::of_vec(Vec::from_slice(alloc, row.coefs.as_slice())?),
+        coefs: row.coefs.share()?,
         least: row.least,
     })
 }
@@ -89,7 +89,7 @@ fn of_variable(alloc: Global, rows: &RowList, variable: usize) -> Result<Of, All
         return Ok(Of::Star(variable as u16));
     }
     let row = &rows.rows.as_slice()[variable - stars - 1];
-    Ok(Of::Row(copy_of(alloc, row)?))
+    Ok(Of::Row(copy_of(row)?))
 }
 
 /// The weights with what their variables stand for.

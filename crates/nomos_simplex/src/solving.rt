@@ -18,10 +18,12 @@ use crate::choosing::{entering, leaving};
 use crate::exchanging::exchange;
 use crate::fractions::found;
 use crate::keeping::{Kept, Next, keep};
+use crate::numbers::Numbers;
 use crate::refusing::verdict;
 use crate::solved::{Solved, Stop};
 use crate::table::{Line, Table};
 use nomos_forms::row_list::RowList;
+use nomos_forms::shared::Shared;
 use nomos_ir::items::Items;
 use std::alloc::{AllocError, Global};
 
@@ -50,19 +52,41 @@ fn widened(alloc: Global, numbers: &[i64]) -> Result<Vec<i128>, AllocError>
     Ok(wide)
 }
 
+/// The coefficients of a row in the width of a table. Those of the row before it are at hand, and are owned together
+/// where they are the same.
+fn wide_coefs(
+    alloc: Global,
+    before: &[i64],
+    wide: Shared<i128>,
+    coefs: &[i64],
+) -> Result<Shared<i128>, AllocError>
+    requires { wide ≡ before.now }
+    ensures { IfOk result (λ made. made ≡ coefs.now) }
+{
+    if before == coefs {
+        return Ok(wide);
+    }
+    let own = widened(alloc, coefs)?;
+    Shared::of_vec(alloc, own)
+}
+
 /// The lines of the rows.
 fn first_lines(alloc: Global, rows: &RowList) -> Result<Vec<Line>, AllocError>
     ensures { IfOk result (λ v. v.items ≡ lines_from (rows.now.stars + 1) rows.now.rows) }
 {
     let stars = usize::from(rows.stars);
-    let mut lines = Vec::new(alloc);
     let list = rows.rows.as_slice();
+    let mut lines = Vec::with_capacity(alloc, list.len())?;
+    let mut before: &[i64] = &[];
+    let mut wide = Shared::of_vec(alloc, Vec::new(alloc))?;
     for i in 0..list.len() {
-        let coefs = widened(alloc, list[i].coefs.as_slice())?;
+        let coefs = list[i].coefs.as_slice();
+        wide = wide_coefs(alloc, before, wide, coefs)?;
+        before = coefs;
         lines.push(Line {
             times: 1,
             basic: stars + 1 + i,
-            coefs: Items::of_vec(coefs),
+            coefs: Numbers::of_shared(alloc, wide.share()?),
         })?;
     }
     Ok(lines)

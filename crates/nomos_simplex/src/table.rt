@@ -1,8 +1,6 @@
 //! The table of a pivot run.
+use crate::numbers::Numbers;
 use nomos_ir::items::Items;
-
-/// Coefficients of a line, one for each nonbasic variable of its table, in their order.
-pub type Numbers = Items<i128>;
 
 /// The line of a basic variable: `times * basic` is the sum of the coefficients times the nonbasic variables.
 #[derive(Drop, Debug)]

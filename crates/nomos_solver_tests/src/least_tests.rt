@@ -88,10 +88,14 @@ fn two_jobs_at_least(rt: HostRuntime) -> Result<(), Fail> {
         Found(Found { stars: Items { items: [3, 0, 3, 3, 3] }, unit: 1 }, \
         Proof { scale: 1, weights: Items { items: [\
         Weight { times: 1, of: Star(2) }, \
-        Weight { times: 1, of: Row(Row { coefs: Items { items: [-1, 0, 0, 0, 1] }, least: 0 }) }, \
-        Weight { times: 1, of: Row(Row { coefs: Items { items: [0, -2, 0, 1, -1] }, least: 0 }) }, \
-        Weight { times: 1, of: Row(Row { coefs: Items { items: [0, 1, 1, 0, 0] }, least: 3 }) }, \
-        Weight { times: 1, of: Row(Row { coefs: Items { items: [1, 0, -1, 0, 0] }, least: 0 }) }\
+        Weight { times: 1, of: Row(Row { coefs: \
+        SharedCoefs { coefs: Shared { items: [-1, 0, 0, 0, 1] }, first: 0, end: 5 }, least: 0 }) }, \
+        Weight { times: 1, of: Row(Row { coefs: \
+        SharedCoefs { coefs: Shared { items: [0, -2, 0, 1, -1] }, first: 1, end: 5 }, least: 0 }) }, \
+        Weight { times: 1, of: Row(Row { coefs: \
+        SharedCoefs { coefs: Shared { items: [0, 1, 1, 0, 0] }, first: 1, end: 3 }, least: 3 }) }, \
+        Weight { times: 1, of: Row(Row { coefs: \
+        SharedCoefs { coefs: Shared { items: [1, 0, -1, 0, 0] }, first: 0, end: 3 }, least: 0 }) }\
         ] }, total: 3 })",
     );
     Ok(())

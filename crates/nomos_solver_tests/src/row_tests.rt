@@ -7,6 +7,7 @@ use nomos_forms::found::Found;
 use nomos_forms::meeting::put_back;
 use nomos_forms::refuting::refutes;
 use nomos_forms::row::Row;
+use nomos_forms::shared_coefs::SharedCoefs;
 use nomos_forms::verdict::{Of, Verdict, Weight};
 use nomos_ir::amount::Amount;
 use nomos_ir::items::Items;
@@ -75,7 +76,7 @@ fn verdict(alloc: Global, times: u64, gives: u128) -> Result<Verdict, AllocError
     ensures { IfOk result IsVerdict }
 {
     let of = Of::Row(Row {
-        coefs: Items::of_vec(Vec::new(alloc)),
+        coefs: SharedCoefs::of_vec(alloc, Vec::new(alloc))?,
         least: 1,
     });
     let weights = Items::of_vec(vec![in alloc; Weight { times, of }]?);
@@ -108,7 +109,7 @@ fn nothing_is_at_least_one(rt: HostRuntime) -> Result<(), Fail> {
 fn row_weight(alloc: Global, times: u32) -> Result<Weight, AllocError>
     ensures { IfOk result (λ made. made.times ≡ times) }
 {
-    let coefs = Items::of_vec(vec![in alloc; -1i64]?);
+    let coefs = SharedCoefs::of_vec(alloc, vec![in alloc; -1i64]?)?;
     let of = Of::Row(Row { coefs, least: 1 });
     Ok(Weight {
         times: u64::from(times),

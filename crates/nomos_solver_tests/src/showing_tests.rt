@@ -4,6 +4,7 @@ ghost use Rattle.nomos_simplex.specs.ShowsLeast.{IsProof};
 
 use crate::forms::{form, system};
 use nomos_forms::row::Row;
+use nomos_forms::shared_coefs::SharedCoefs;
 use nomos_forms::verdict::{Of, Weight};
 use nomos_ir::items::Items;
 use nomos_least::showing::shows_least;
@@ -15,7 +16,7 @@ use std::test::Fail;
 fn row_weight(alloc: Global, times: u32) -> Result<Weight, AllocError>
     ensures { IfOk result (λ made. made.times ≡ times) }
 {
-    let coefs = Items::of_vec(vec![in alloc; 1i64, 2]?);
+    let coefs = SharedCoefs::of_vec(alloc, vec![in alloc; 1i64, 2]?)?;
     let of = Of::Row(Row { coefs, least: 3 });
     Ok(Weight {
         times: u64::from(times),

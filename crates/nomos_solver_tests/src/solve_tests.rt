@@ -77,7 +77,7 @@ fn no_stars_and_no_rows(rt: HostRuntime) -> Result<(), Fail> {
         &rt,
         found,
         "Refuted(Verdict { weights: Items { items: [Weight { times: 1, of: Row(Row { \
-        coefs: Items { items: [] }, least: 1 }) }] }, gives: 1 })",
+        coefs: SharedCoefs { coefs: Shared { items: [] }, first: 0, end: 0 }, least: 1 }) }] }, gives: 1 })",
     );
     Ok(())
 }

@@ -6,6 +6,7 @@ use Rattle.nomos_forms.specs.Bounds.{IsSmall}
 use Rattle.nomos_forms.specs.declared.row_list.RowList.{RowList}
 use Rattle.nomos_simplex.specs.Divisors.{in_lowest_terms}
 use Rattle.nomos_simplex.specs.Exchange.{coef_at, put_into, solved_for, is_large_line, is_large_table}
+use Rattle.nomos_simplex.specs.mirror.Places.{SkipsZeros}
 use Rattle.nomos_simplex.specs.Sizes.{IsNumber, HasNumbers}
 use Rattle.nomos_simplex.specs.Tables.{bound_of, sum_at}
 use Rattle.nomos_simplex.specs.declared.exchanging.Entry.{Entry}
@@ -45,6 +46,7 @@ pub record IsEntry (entry : Entry) : Type 0 where
   pub width : length entry.nonbasic.items ≡ length entry.left.coefs
   pub few : length entry.nonbasic.items ≤ 64
   pub over : IfSome entry.over IsNumber
+  pub skips : SkipsZeros entry.next.items entry.left.coefs
 
 -- the nonbasic variables before the exchange
 abbrev pub before : Entry → List ℕ

@@ -15,6 +15,7 @@ use Rattle.nomos_simplex.specs.declared.exchanging.Entry.{Entry}
 use Rattle.nomos_simplex.specs.declared.table.Line.{Line}
 use Rattle.nomos_simplex.specs.mirror.Keeping.{over_of, entered, solved_line, AreMade}
 use Rattle.nomos_simplex.specs.mirror.Opposite.{oriented_of}
+use Rattle.nomos_simplex.specs.mirror.Places.{SkipsZeros}
 use Rattle.nomos_simplex.proofs.KeepingLemmas.{removed_overs, set_again, lines_by_oriented}
 use Rattle.nomos_simplex.proofs.OppositeLemmas.{oriented_over, oriented_width, oriented_numbers, oriented_basic}
 use Rattle.nomos_simplex.proofs.exchanging.exchange.Goals as goal
@@ -42,6 +43,7 @@ exchange_lines-requires-clause-entry c =
       width = size ∙ sym line.width ∙ sym width;
       few = subst (λ n. n ≤ 64) (sym size) c.requires.few;
       over = c.oriented_over-own_over.ensures.small;
+      skips = subst (SkipsZeros c.in_ok-next.next.items) c.as_slice.ensures c.in_ok-next.ensures;
     }
 
 pub exchange_lines-requires-clause-lines : goal.exchange_lines-requires-clause-lines
@@ -118,6 +120,7 @@ returns-then-large c = λ left h.
       column = j;
       entering = e;
       left = c.in_ok-left.left;
+      next = c.in_ok-next.next;
       over = c.oriented_over-own_over.result;
       nonbasic = with_item c.into_vec-nonbasic.result j c.in_ok-left.left.basic;
       bounds = c.in_ok-bounds.bounds;
@@ -154,6 +157,7 @@ returns c = λ left h.
       column = j;
       entering = e;
       left = c.in_ok-left.left;
+      next = c.in_ok-next.next;
       over = c.oriented_over-own_over.result;
       nonbasic = with_item c.into_vec-nonbasic.result j c.in_ok-left.left.basic;
       bounds = c.in_ok-bounds.bounds;

@@ -1,13 +1,12 @@
-use Rattle.std.proofs.Common.{rules, ◌≡◌, pos, ◌++◌, ◌*ℤ◌, ◌-ℤ◌, take, drop, get_or, set, All, IsTrue, FitsSigned, to_z, of_z, ap, sym, subst, ◌∙◌, arith}
+use Rattle.std.proofs.Common.{rules, ◌≡◌, pos, ◌++◌, ◌<◌, ◌*ℤ◌, ◌-ℤ◌, take, drop, length, get_or, set, All, FitsSigned, to_z, of_z, ap, sym, subst, ◌∙◌, arith}
 use Rattle.std.specs.Int.{w128}
 use Rattle.std.proofs.lemmas.Int.{to_z-of_z}
 use Rattle.std.proofs.lemmas.List.Elements.{All-set}
 use Rattle.nomos_simplex.specs.Exchange.{eliminated}
 use Rattle.nomos_simplex.specs.Sizes.{IsNumber}
-use Rattle.nomos_simplex.proofs.LineLemmas.{made_at, made_more, made_same, made_all}
+use Rattle.nomos_simplex.proofs.LineLemmas.{made_at, made_more, made_all}
 use Rattle.nomos_simplex.proofs.NumberLemmas.{number_back}
 use Rattle.nomos_simplex.proofs.lines.eliminate.Goals as goal
-use Rattle.nomos_simplex.proofs.lines.eliminate.Goals.{then-p-ne1, else-p-ne1+else-by-i-ne0}
 
 -- one column more
 pub loop-i-preserved : goal.loop-i-preserved
@@ -17,31 +16,22 @@ loop-i-preserved c =
     let by = c.args.by.now in
     let p = to_z w128 (of_z w128 c.args.p) in
     let g = to_z w128 (of_z w128 c.args.g) in
-    let in_of = c.loop-i-test.true in
+    let in_of : i < length of = c.loop-i-test.true in
     let width = c.requires.width in
     let at : get_or c.loop-i.of i (pos 0) ≡ get_or of i (pos 0) =
-    ap (λ xs. get_or xs i (pos 0)) c.loop-i.invariant.value
-    ∙ made_at p g of by i (pos 0) in_of width in
+    ap (λ xs. get_or xs i (pos 0)) c.loop-i.invariant.value ∙ made_at p g of by i (pos 0) in_of width in
     let back_of : to_z w128 (of_z w128 (get_or c.loop-i.of i (pos 0))) ≡ get_or of i (pos 0) =
     (λ q. to_z w128 (of_z w128 (at q))) ∙ number_back (get_or of i (pos 0)) (c.requires.of i (pos 0) in_of) in
     let back_by = number_back (get_or by i (pos 0)) (c.requires.by i (pos 0) (omega (arith, width))) in
-    elim c.if-p-ne1.branch [
-      | then-p-ne1 w ↦ (let fits : FitsSigned w128 w.cross-number.result = search rules in
-          let x = to_z w128 (of_z w128 w.cross-number.result) in
-          let value = to_z-of_z w128 w.cross-number.result fits ∙ w.cross-number.ensures
-          ∙ (λ q. p *ℤ back_of q -ℤ g *ℤ back_by q) in
-          record {
-            value = w.of-is ∙ (λ q. set (c.loop-i.invariant.value q) i (value q)) ∙ made_more p g of by i in_of width;
-            small = λ t. let both = w.still_small-small.ensures.0 (subst IsTrue w.small-is t) in
-                subst (All IsNumber) (sym w.of-is) (All-set IsNumber c.loop-i.of i x both.1
-                (c.loop-i.invariant.small both.0));
-          })
-      | else-p-ne1+else-by-i-ne0 w ↦ record {
-        value = w.of-is ∙ c.loop-i.invariant.value ∙ made_same p g of by i in_of width (ap (to_z w128) w.if-p-ne1.false)
-            (sym back_by ∙ ap (to_z w128) w.if-by-i-ne0.false);
-        small = λ t. subst (All IsNumber) (sym w.of-is) (c.loop-i.invariant.small (subst IsTrue w.small-is t));
-      }
-    ]
+    let fits : FitsSigned w128 c.cross-number.result = search rules in
+    let x = to_z w128 (of_z w128 c.cross-number.result) in
+    let value = to_z-of_z w128 c.cross-number.result fits ∙ c.cross-number.ensures
+    ∙ (λ q. p *ℤ back_of q -ℤ g *ℤ back_by q) in
+    record {
+      value = (λ q. set (c.loop-i.invariant.value q) i (value q)) ∙ made_more p g of by i in_of width;
+      small = λ t. let both = c.still_small-small.ensures.0 t in
+          All-set IsNumber c.loop-i.of i x both.1 (c.loop-i.invariant.small both.0);
+    }
 
 pub returns-clause-value : goal.returns-clause-value
 returns-clause-value c =

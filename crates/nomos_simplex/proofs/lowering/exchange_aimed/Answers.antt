@@ -29,8 +29,8 @@ opposite_line-requires c =
     (c.requires.lines c.args.place line c.requires.place.within) in
     record { times = own.times; coefs = own.coefs }
 
-pub enter-small-requires-clause-left : goal.enter-small-requires-clause-left
-enter-small-requires-clause-left c =
+pub enter-requires-clause-left : goal.enter-requires-clause-left
+enter-requires-clause-left c =
     let line = c.index-as_slice-place.result in
     let is = c.index-as_slice-place.is ∙ ap (λ xs. get_or xs c.args.place line) c.as_slice.ensures in
     let own = subst (IsLine (length c.args.aimed.kept.table.nonbasic)) (sym is)
@@ -38,8 +38,8 @@ enter-small-requires-clause-left c =
     subst HasNumbers (sym c.in_ok-left.ensures)
     (opposite_numbers line (record { times = own.times; coefs = own.coefs }))
 
-pub enter-small-requires-clause-over_zero : goal.enter-small-requires-clause-over_zero
-enter-small-requires-clause-over_zero c =
+pub enter-requires-clause-over_zero : goal.enter-requires-clause-over_zero
+enter-requires-clause-over_zero c =
     let line = c.index-as_slice-place.result in
     let j = c.args.column in
     let is = c.index-as_slice-place.is ∙ ap (λ xs. get_or xs c.args.place line) c.as_slice.ensures in
@@ -92,8 +92,8 @@ returns-then-is_too_large c = λ left h.
     let at : line_at table.lines c.args.place ≡ line =
     get_or_default table.lines c.args.place _ line c.requires.place.within ∙ sym is in
     let n = not_zero (coef_at j line) (subst (λ (l : Line). coef_at j l <ℤ pos 0) at c.requires.place.below) in
-    let made : c.enter-small.new.line ≡ line_exchanged j left own =
-    c.enter-small.ensures.value ∙ ap (λ l. in_lowest_terms (put_into j l own)) c.in_ok-left.ensures
+    let made : c.enter.new.line ≡ line_exchanged j left own =
+    c.in_ok-small.ensures.value ∙ ap (λ l. in_lowest_terms (put_into j l own)) c.in_ok-left.ensures
     ∙ line_turned j line left own column n c.requires.line.positive same in
     or_right (is_large_table (exchanged c.args.place j left table)) (is_large_line (line_exchanged j left own))
     (ap is_large_line (sym made) ∙ sym c.is_too_large.ensures ∙ c.if-is_too_large.true)
@@ -113,8 +113,8 @@ returns-in-None c = λ left h.
     let at : line_at table.lines c.args.place ≡ line =
     get_or_default table.lines c.args.place _ line c.requires.place.within ∙ sym is in
     let n = not_zero (coef_at j line) (subst (λ (l : Line). coef_at j l <ℤ pos 0) at c.requires.place.below) in
-    let made : c.enter-small.new.line ≡ line_exchanged j left own =
-    c.enter-small.ensures.value ∙ ap (λ l. in_lowest_terms (put_into j l own)) c.in_ok-left.ensures
+    let made : c.enter.new.line ≡ line_exchanged j left own =
+    c.in_ok-small.ensures.value ∙ ap (λ l. in_lowest_terms (put_into j l own)) c.in_ok-left.ensures
     ∙ line_turned j line left own column n c.requires.line.positive same in
     let large = subst (IsKeptOrLarge rows (exchanged c.args.place j left table)) c.in-None.is
     (c.in_ok-kept.ensures left h) in
@@ -135,8 +135,8 @@ returns-in-Some c = λ left h.
     let at : line_at table.lines c.args.place ≡ line =
     get_or_default table.lines c.args.place _ line c.requires.place.within ∙ sym is in
     let n = not_zero (coef_at j line) (subst (λ (l : Line). coef_at j l <ℤ pos 0) at c.requires.place.below) in
-    let made : c.enter-small.new.line ≡ line_exchanged j left own =
-    c.enter-small.ensures.value ∙ ap (λ l. in_lowest_terms (put_into j l own)) c.in_ok-left.ensures
+    let made : c.enter.new.line ≡ line_exchanged j left own =
+    c.in_ok-small.ensures.value ∙ ap (λ l. in_lowest_terms (put_into j l own)) c.in_ok-left.ensures
     ∙ line_turned j line left own column n c.requires.line.positive same in
     let kept = subst (IsKeptOrLarge rows (exchanged c.args.place j left table)) c.in-Some.is
     (c.in_ok-kept.ensures left h) in (

@@ -10,8 +10,12 @@ loop-i-preserved c =
     let i = c.loop-i.i in
     let item = c.index-list-i.result in
     let list = c.as_slice-list.ensures in
-    let coefs = c.of_vec.ensures ∙ c.in_ok-coefs.ensures ∙ c.as_slice.ensures
+    let wide = c.in_ok-wide-2.ensures in
+    let coefs = c.of_shared.ensures ∙ c.in_ok-share.ensures ∙ wide ∙ c.as_slice-coefs.ensures
     ∙ ap (λ xs. (get_or xs i item).coefs) list in
     let line : ℕ → List ℤ → Line = λ n cs. record { times = pos 1; basic = n + 1 + i; coefs = cs } in
-    c.in_ok-push.ensures.items ∙ (λ p. c.loop-i.invariant p ++ line (c.from-stars.ensures p) (coefs p) ∷ [])
-    ∙ sym (lines_more (rows.stars + 1) rows.rows i item (omega (arith, ap length list, c.loop-i-test.true)))
+    record {
+      lines = c.in_ok-push.ensures.items ∙ (λ p. c.loop-i.invariant.lines p ++ line (c.from-stars.ensures p) (coefs p) ∷ [])
+          ∙ sym (lines_more (rows.stars + 1) rows.rows i item (omega (arith, ap length list, c.loop-i-test.true)));
+      wide = wide;
+    }
