@@ -10,6 +10,8 @@ ELSEWHERE.update(dict.fromkeys(("boolean", "Boolean"), "bool"))
 LOOPS = ("while", "for", "loop", "repeat", "foreach")
 # The instructions that are written with a channel behind them.
 WORDS = ("send", "recv", "put", "take", "wait", "pay", "get", "fwd", "acquire", "release")
+# the instructions that bind a name, and what stands before it
+COMING = {"recv": "", "take": "", "acquire": "as ", "release": "as "}
 
 
 class Habits(Wordings):
@@ -252,6 +254,11 @@ class Habits(Wordings):
             if mark.text == "(" and self.is_declared(before.text, "fn"):
                 mend = f"write `let .. =` before `{before.text}`, with a new name for its value"
                 yield Slip(row, mend, (before.at, before.at, "let x = "))
+            if mark.text == "=" and behind.text in COMING and self.token(2).kind == "word":
+                word, talk = behind.text, self.token(2)
+                new = f"{word} {talk.text} {COMING[word]}{before.text}"
+                old = self.text.text[before.at : talk.end]
+                yield Slip(row, f"write `{new}` in place of `{old}`", (before.at, talk.end, new))
             if mark.text == "=":
                 word = self.binder(1)
                 mend = f"write `{word}` before `{before.text}`, and a new name where `{before.text}` is bound already"
