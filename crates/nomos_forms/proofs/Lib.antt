@@ -1,10 +1,16 @@
 pub mod CertificateLaws
+pub mod CoefLemmas
+pub mod CollectLemmas
+pub mod CountLemmas
+pub mod GroupLemmas
 pub mod LinearLemmas
 pub mod OrderLaws
+pub mod PlaceLemmas
 pub mod ProductLemmas
 pub mod RowLaws
 pub mod RowLemmas
-pub mod ShareLemmas
 pub mod SmallLaws
+pub mod SortLemmas
+pub mod TakenLemmas
 pub mod WholeLaws
 pub mod ZeroLemmas

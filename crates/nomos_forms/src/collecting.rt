@@ -1,20 +1,21 @@
 //! The rows of forms and of pairs of amounts that have to be equal.
-ghost use Rattle.std.specs.Prelude.{◌≡◌, ◌≤◌, ◌++◌, ◌∷◌, [], pos, ◌<◌, ◌^◌, ◌-ℤ◌, ◌↔◌, unsigned_abs, length, map, All, Contains, IfOk};
-ghost use Rattle.std.specs.List.{range_with_len, flat_map};
-ghost use Rattle.nomos_forms.specs.Bounds.{IsForm, IsRow};
-ghost use Rattle.std.specs.List.Sorted.{IsStrictlySortedBy};
-ghost use Rattle.nomos_forms.specs.declared.row.Row.{Row};
-ghost use Rattle.nomos_forms.specs.RowOrder.{row_cmp};
+ghost use Rattle.std.specs.Prelude.{◌≡◌, ◌≤◌, ◌++◌, ◌∷◌, [], pos, ◌<◌, ◌^◌, ◌-ℤ◌, unsigned_abs, length, map, slice_index_or, All, IfOk};
+ghost use Rattle.std.specs.List.{flat_map};
+ghost use Rattle.nomos_forms.specs.Bounds.{IsSmall, IsForm, IsRow};
+ghost use Rattle.nomos_forms.specs.RowGroups.{row_of as row_with, rows_in};
 ghost use Rattle.nomos_forms.specs.RowsOf.{form_row, units_in, difference_row, pair_rows, all_rows, AreRowsOf};
-ghost use Rattle.nomos_forms.specs.Shares.{share_table as share_table_of};
+ghost use Rattle.nomos_forms.specs.mirror.Collected.{AreCounted};
+ghost use Rattle.nomos_forms.specs.mirror.Joining.{coefs_of};
+ghost use Rattle.nomos_forms.specs.mirror.SameRows.{HasSame};
 
+use crate::counts::{count_groups, place_of};
 use crate::form::{Form, Forms};
 use crate::row::Row;
+use crate::row_group::{RowGroup, group_of};
 use crate::row_list::RowList;
 use crate::shared_coefs::SharedCoefs;
-use crate::shares::{ShareTable, share_table, shares_between};
+use crate::sorting::in_order;
 use nomos_ir::amount::Amount;
-use nomos_ir::items::Items;
 use nomos_ir::lists::AmountPairs;
 use std::alloc::{AllocError, Global};
 
@@ -42,85 +43,91 @@ fn units(amount: Amount) -> i64
     }
 }
 
-/// The row that says that one amount is at least another.
-fn difference(
-    alloc: Global,
-    table: &ShareTable,
+/// The least of the row that says that one amount is at least another.
+fn units_between(more: Amount, less: Amount) -> i64
+    ensures small { IsSmall result }
+    ensures least { result ≡ pos (units_in less) -ℤ pos (units_in more) }
+{
+    units(less) - units(more)
+}
+
+/// Adds a least to the group at a place.
+fn add_least(groups: &mut Vec<RowGroup>, place: usize, least: i64) -> Result<(), AllocError>
+    requires { place < length (coefs_of groups.old.items) }
+    ensures coefs { IfOk result (λ _. coefs_of groups.new.items ≡ coefs_of groups.old.items) }
+    ensures rows { IfOk result (λ _. HasSame (rows_in groups.new.items)
+        (row_with (slice_index_or (coefs_of groups.old.items) place []) least ∷ rows_in groups.old.items)) }
+{
+    groups[place].leasts.push(least)?;
+    Ok(())
+}
+
+/// Adds the row that says that one amount is at least another.
+fn add_difference(
+    groups: &mut Vec<RowGroup>,
     stars: u16,
     more: Amount,
     less: Amount,
-) -> Result<Row, AllocError>
-    requires { table.now ≡ share_table_of stars }
-    ensures row { IfOk result (λ row. row ≡ difference_row stars more less) }
-    ensures small { IfOk result (IsRow stars) }
+) -> Result<(), AllocError>
+    requires stars { stars ≤ 64 }
+    requires groups { AreCounted stars groups.old.items }
+    ensures groups { IfOk result (λ _. AreCounted stars groups.new.items) }
+    ensures rows { IfOk result (λ _. HasSame (rows_in groups.new.items)
+        (difference_row stars more less ∷ rows_in groups.old.items)) }
 {
-    let coefs = shares_between(alloc, table, stars, more, less)?;
-    Ok(Row {
-        coefs,
-        least: units(less) - units(more),
-    })
-}
-
-/// Adds the row of a form.
-fn add_row(alloc: Global, rows: &mut Vec<Row>, form: &Form, stars: u16) -> Result<(), AllocError>
-    requires rows { All (IsRow stars) rows.old.items }
-    requires form { IsForm stars form.now }
-    ensures rows { IfOk result (λ _. rows.new.items ≡ rows.old.items ++ form_row form.now ∷ []) }
-    ensures small { IfOk result (λ _. All (IsRow stars) rows.new.items) }
-{
-    let row = row_of(alloc, form)?;
-    rows.push(row)?;
+    let place = place_of(stars, more.star(), less.star());
+    add_least(groups, place, units_between(more, less))?;
     Ok(())
 }
 
-/// The rows of forms.
-fn form_rows(alloc: Global, forms: &[Form], stars: u16) -> Result<Vec<Row>, AllocError>
-    requires { All (IsForm stars) forms.now }
-    ensures rows { IfOk result (λ rows. rows.items ≡ map form_row forms.now) }
-    ensures small { IfOk result (λ rows. All (IsRow stars) rows.items) }
-{
-    let mut rows = Vec::new(alloc);
-    for form in forms {
-        add_row(alloc, &mut rows, form, stars)?;
-    }
-    Ok(rows)
-}
-
-/// The two rows of a pair.
+/// Adds the two rows of a pair.
 fn add_pair(
-    alloc: Global,
-    table: &ShareTable,
+    groups: &mut Vec<RowGroup>,
     stars: u16,
-    rows: &mut Vec<Row>,
     pair: &(Amount, Amount),
 ) -> Result<(), AllocError>
-    requires table { table.now ≡ share_table_of stars }
-    requires rows { All (IsRow stars) rows.old.items }
-    ensures rows { IfOk result (λ _. rows.new.items ≡ rows.old.items ++ pair_rows stars pair.now) }
-    ensures small { IfOk result (λ _. All (IsRow stars) rows.new.items) }
+    requires stars { stars ≤ 64 }
+    requires groups { AreCounted stars groups.old.items }
+    ensures groups { IfOk result (λ _. AreCounted stars groups.new.items) }
+    ensures rows { IfOk result (λ _. HasSame (rows_in groups.new.items)
+        (rows_in groups.old.items ++ pair_rows stars pair.now)) }
 {
-    let first = difference(alloc, table, stars, pair.0, pair.1)?;
-    let second = difference(alloc, table, stars, pair.1, pair.0)?;
-    rows.push(first)?;
-    rows.push(second)?;
+    add_difference(groups, stars, pair.1, pair.0)?;
+    add_difference(groups, stars, pair.0, pair.1)?;
     Ok(())
 }
 
-/// Adds the rows of pairs.
-fn add_pairs(
+/// The rows of pairs, by the star in each amount.
+fn pair_groups(
     alloc: Global,
-    table: &ShareTable,
-    stars: u16,
-    rows: &mut Vec<Row>,
     pairs: &[(Amount, Amount)],
-) -> Result<(), AllocError>
-    requires table { table.now ≡ share_table_of stars }
-    requires rows { All (IsRow stars) rows.old.items }
-    ensures rows { IfOk result (λ _. rows.new.items ≡ rows.old.items ++ flat_map (pair_rows stars) pairs.now) }
-    ensures small { IfOk result (λ _. All (IsRow stars) rows.new.items) }
+    stars: u16,
+) -> Result<Vec<RowGroup>, AllocError>
+    requires { stars ≤ 64 }
+    ensures rows { IfOk result (λ groups. HasSame (rows_in groups.items) (flat_map (pair_rows stars) pairs.now)) }
+    ensures small { IfOk result (λ groups. All (IsRow stars) (rows_in groups.items)) }
 {
+    let mut groups = count_groups(alloc, stars)?;
     for pair in pairs {
-        add_pair(alloc, table, stars, rows, pair)?;
+        add_pair(&mut groups, stars, pair)?;
+    }
+    Ok(groups)
+}
+
+/// Adds the rows of forms.
+fn add_forms(
+    alloc: Global,
+    groups: &mut Vec<RowGroup>,
+    forms: &[Form],
+    stars: u16,
+) -> Result<(), AllocError>
+    requires rows { All (IsRow stars) (rows_in groups.old.items) }
+    requires forms { All (IsForm stars) forms.now }
+    ensures rows { IfOk result (λ _. rows_in groups.new.items ≡ rows_in groups.old.items ++ map form_row forms.now) }
+    ensures small { IfOk result (λ _. All (IsRow stars) (rows_in groups.new.items)) }
+{
+    for form in forms {
+        groups.push(group_of(alloc, row_of(alloc, form)?)?)?;
     }
     Ok(())
 }
@@ -131,25 +138,15 @@ fn every_row(
     forms: &Forms,
     pairs: &AmountPairs,
     stars: u16,
-) -> Result<Vec<Row>, AllocError>
+) -> Result<Vec<RowGroup>, AllocError>
     requires stars { stars ≤ 64 }
     requires forms { All (IsForm stars) forms.now }
-    ensures rows { IfOk result (λ rows. rows.items ≡ all_rows stars forms.now pairs.now) }
-    ensures small { IfOk result (λ rows. All (IsRow stars) rows.items) }
+    ensures rows { IfOk result (λ groups. HasSame (rows_in groups.items) (all_rows stars forms.now pairs.now)) }
+    ensures small { IfOk result (λ groups. All (IsRow stars) (rows_in groups.items)) }
 {
-    let mut rows = form_rows(alloc, forms.as_slice(), stars)?;
-    let table = share_table(alloc, stars)?;
-    add_pairs(alloc, &table, stars, &mut rows, pairs.as_slice())?;
-    Ok(rows)
-}
-
-/// Sorts rows, and keeps each once.
-fn sort_out(rows: &mut Vec<Row>)
-    ensures ascend { IsStrictlySortedBy row_cmp rows.new.items }
-    ensures same { (row : Row) → Contains rows.new.items row ↔ Contains rows.old.items row }
-{
-    rows.sort_unstable();
-    rows.dedup();
+    let mut groups = pair_groups(alloc, pairs.as_slice(), stars)?;
+    add_forms(alloc, &mut groups, forms.as_slice(), stars)?;
+    Ok(groups)
 }
 
 /// The rows of a program: each form is 0 or more, and the amounts of each pair are equal. They are distinct, and
@@ -165,10 +162,9 @@ pub fn rows(
     ensures stars { IfOk result (λ made. made.stars ≡ stars) }
     ensures rows { IfOk result (λ made. AreRowsOf stars forms.now pairs.now made.rows) }
 {
-    let mut rows = every_row(alloc, forms, pairs, stars)?;
-    sort_out(&mut rows);
+    let groups = every_row(alloc, forms, pairs, stars)?;
     Ok(RowList {
-        rows: Items::of_vec(rows),
+        rows: in_order(alloc, groups)?,
         stars,
     })
 }

@@ -2,14 +2,17 @@
 #![tactic(auto)]
 
 pub mod collecting;
+mod counts;
 pub mod form;
 pub mod found;
 pub mod meeting;
 pub mod product;
 pub mod refuting;
 pub mod row;
+mod row_group;
 pub mod row_list;
+pub mod rows;
 pub mod shared;
 pub mod shared_coefs;
-mod shares;
+mod sorting;
 pub mod verdict;

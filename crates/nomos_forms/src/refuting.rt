@@ -13,7 +13,7 @@ fn is_one_of(of: &Of, rows: &RowList) -> bool
 {
     match of {
         Of::Star(star) => 1 <= *star && *star <= rows.stars,
-        Of::Row(row) => rows.rows.as_slice().contains(row),
+        Of::Row(row) => rows.rows.contains(row),
     }
 }
 

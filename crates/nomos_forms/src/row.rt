@@ -1,6 +1,5 @@
 //! Rows: what a sum of coefficients times stars has at least to be.
 use crate::shared_coefs::SharedCoefs;
-use nomos_ir::items::Items;
 use std::cmp::Ordering;
 
 /// The row `coefs * stars >= least`, where `least` is a number of whole units.
@@ -9,9 +8,6 @@ pub struct Row {
     pub coefs: SharedCoefs,
     pub least: i64,
 }
-
-/// Rows.
-pub type Rows = Items<Row>;
 
 impl PartialEq for Row {
     ghost use Rattle.std.specs.Cmp.Rules.{comparing};

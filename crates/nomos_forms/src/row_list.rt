@@ -2,7 +2,7 @@
 ghost use Rattle.std.specs.Prelude.{◌≤◌, All};
 ghost use Rattle.nomos_forms.specs.Bounds.{IsRow};
 
-use crate::row::Rows;
+use crate::rows::Rows;
 
 /// Rows over a number of stars, at most 64. Each has one coefficient for each star, and numbers below 2^45.
 #[derive(Drop, Debug)]

@@ -1,5 +1,5 @@
 //! Lists that several own together.
-ghost use Rattle.std.specs.Prelude.{◌≡◌, ◌↔◌, IfOk, IsTrue, length};
+ghost use Rattle.std.specs.Prelude.{◌≡◌, IfOk, length};
 
 use std::alloc::{AllocError, Global};
 use std::marker::Model;

@@ -46,7 +46,8 @@ lcm_over_zero a b h i = product_over_zero (a / gcd a b) b (part_over_zero a (gcd
 
 pub common-divided : (u : ℕ) (fs : List (ℕ × ℕ)) → u ∣ common_denominator u fs
 common-divided u [] = dvd_refl u
-common-divided u (f ∷ fs) = dvd_trans u (first_divides_lcm u (denominator f)) (common-divided (lcm u (denominator f)) fs)
+common-divided u (f ∷ fs) =
+    dvd_trans u (first_divides_lcm u (denominator f)) (common-divided (lcm u (denominator f)) fs)
 
 pub common-divided_by_each : (u : ℕ) (fs : List (ℕ × ℕ)) → All (λ f. denominator f ∣ common_denominator u fs) fs
 common-divided_by_each u [] = All-nil (λ f. denominator f ∣ u)
@@ -208,7 +209,8 @@ values_high rows table v over none =
     low_in rows table v (find (λ line. line.basic == v) table.lines) (λ line e. line_of rows table v line over none e)
 
 -- ---- the fractions of the stars
-star_bound : (rows : RowList) (v : ℕ) → v ≤ rows.stars → bound_of rows v ≡ pos 0
+-- a star alone has nothing at the bounds
+pub star_bound : (rows : RowList) (v : ℕ) → v ≤ rows.stars → bound_of rows v ≡ pos 0
 star_bound rows v h =
     cond-true (nat_le v rows.stars) (pos 0) (least_or_zero (slice_get rows.rows (v - rows.stars - 1)))
     (le-leb v rows.stars h)

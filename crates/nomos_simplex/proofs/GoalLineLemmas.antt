@@ -56,7 +56,7 @@ one_more x y r c n false same h e = none x r ∙ h ∙ ap (λ k. pos k *ℤ y) (
     none : (x r : ℤ) → pos 0 *ℤ x +ℤ r ≡ r
     none x r = omega (arith, ints)
 
-itself_sum : (y : ℕ → ℤ) (v : ℕ) (vs : List ℕ) →
+pub itself_sum : (y : ℕ → ℤ) (v : ℕ) (vs : List ℕ) →
     sum_at y vs (map (λ w. cond (w == v) (pos 1) (pos 0)) vs) ≡ pos (nonbasic_times v vs) *ℤ y v
 itself_sum y v [] = none (y v)
   where

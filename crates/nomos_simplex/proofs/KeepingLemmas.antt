@@ -30,19 +30,22 @@ use Rattle.nomos_simplex.proofs.DivisorLemmas.{common_divides_first, exact, divi
 use Rattle.nomos_simplex.proofs.ExchangeLemmas.{divisor_left, lowest_over_zero, lowest_width, put_sum_free, put_width}
 use Rattle.nomos_simplex.proofs.ExchangedLemmas.{put_not_zero}
 use Rattle.nomos_simplex.proofs.OppositeLemmas.{put_oriented, solved_oriented}
-use Rattle.nomos_simplex.proofs.SignLemmas.{not_zero_over}
+use Rattle.nomos_simplex.proofs.SignLemmas.{minus_itself, not_zero_over}
 use Rattle.nomos_simplex.proofs.SumLemmas.{sum_neg, times_minus}
 use Rattle.nomos_simplex.proofs.TableLaws.{small_line}
 
 -- ---- which variables are below their bounds
-below_less : (a b : ℤ) → int_lt (a -ℤ b) (pos 0) ≡ int_lt a b
-below_less a b = by_tests (int_lt (a -ℤ b) (pos 0)) (int_lt a b) refl refl
+pub less_by : (over r s a b : ℤ) → over ≡ s -ℤ b → r ≡ a -ℤ b → int_lt over r ≡ int_lt s a
+less_by over r s a b e f = by_tests (int_lt over r) (int_lt s a) refl refl
   where
-    by_tests : (s t : Bool) → int_lt (a -ℤ b) (pos 0) ≡ s → int_lt a b ≡ t → s ≡ t
-    by_tests true true e f = refl
-    by_tests false false e f = refl
-    by_tests true false e f = absurd (omega (arith, ints, lt-true (a -ℤ b) (pos 0) e, lt-false a b f))
-    by_tests false true e f = absurd (omega (arith, ints, lt-false (a -ℤ b) (pos 0) e, lt-true a b f))
+    by_tests : (x y : Bool) → int_lt over r ≡ x → int_lt s a ≡ y → x ≡ y
+    by_tests true true g h = refl
+    by_tests false false g h = refl
+    by_tests true false g h = absurd (omega (arith, ints, e, f, lt-true over r g, lt-false s a h))
+    by_tests false true g h = absurd (omega (arith, ints, e, f, lt-false over r g, lt-true s a h))
+
+below_less : (a b : ℤ) → int_lt (a -ℤ b) (pos 0) ≡ int_lt a b
+below_less a b = less_by (a -ℤ b) (pos 0) a b b refl (sym (minus_itself b b refl))
 
 below_all : (rows : RowList) (nonbasic : List ℕ) (lines : List Line) →
     map (λ z. int_lt z (pos 0)) (map (over_of rows nonbasic) lines) ≡ map (is_below rows nonbasic) lines
@@ -215,7 +218,7 @@ pub removed_overs : (f : Line → ℤ) (lines : List Line) (overs : List ℤ) (i
     remove overs i ≡ map f (remove lines i)
 removed_overs f lines overs i e = ap (λ zs. remove zs i) e ∙ remove_map f lines i
 
-maps_alike : (f g : Line → Line) (xs : List Line) → All (λ x. f x ≡ g x) xs → map f xs ≡ map g xs
+pub maps_alike : {X Y : Type 0} (f g : X → Y) (xs : List X) → All (λ x. f x ≡ g x) xs → map f xs ≡ map g xs
 maps_alike f g [] h = refl
 maps_alike f g (x ∷ xs) h =
     λ p. All-head (λ y. f y ≡ g y) x xs h p ∷ maps_alike f g xs (All-tail (λ y. f y ≡ g y) x xs h) p

@@ -1,7 +1,7 @@
 -- What the foremost place that passes, and the lowest, say of the places.
-use Rattle.std.proofs.Common.{◌≡◌, ℕ, zero, suc, ◌<◌, Bool, true, false, cond, ap, refl, sym, subst, ◌∙◌, arith, ◌⊎◌, inl, inr, ⊎_elim, Option, Some, None}
+use Rattle.std.proofs.Common.{◌≡◌, ℕ, zero, suc, ◌<◌, ◌≤◌, Bool, true, false, cond, ap, refl, sym, subst, ◌∙◌, arith, ◌⊎◌, inl, inr, ⊎_elim, Option, Some, None}
 use Rattle.std.specs.Prelude.{nat_lt}
-use Rattle.std.proofs.lemmas.Bool.{cases_lt, false≢true}
+use Rattle.std.proofs.lemmas.Bool.{cases_lt, ltb-true, ltb-false, false≢true}
 use Rattle.nomos_simplex.specs.Lowest.{former_of, foremost_place, lowest_place}
 
 none_step : (t : Bool) (n : ℕ) (before : Option ℕ) → cond t (Some n) before ≡ None → (t ≡ false) × (before ≡ None)
@@ -105,3 +105,13 @@ module _ (passes : ℕ → Bool) (is_former : ℕ → ℕ → Bool) (AtMost : �
       passes k ≡ true → AtMost m k
   foremost-at_most zero m e k h pk = absurd (omega arith)
   foremost-at_most (suc n) m e k h pk = step n m (passes n) refl (λ m' e'. foremost-at_most n m' e') e k h pk
+
+-- of the lowest place, by its number
+pub lowest-at_most : (passes : ℕ → Bool) (number : ℕ → ℕ) (n m : ℕ) → lowest_place passes number n ≡ Some m →
+    (k : ℕ) → k < n → passes k ≡ true → number m ≤ number k
+lowest-at_most passes number = foremost-at_most passes (λ i k. nat_lt (number i) (number k))
+    (λ i k. number i ≤ number k)
+    (λ i. omega arith)
+    (λ i k h. omega (arith, ltb-true (number i) (number k) h))
+    (λ i k h. ltb-false (number i) (number k) h)
+    (λ i k m p a b. omega (arith, a, b))

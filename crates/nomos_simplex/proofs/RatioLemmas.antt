@@ -26,10 +26,10 @@ use Rattle.nomos_simplex.proofs.PlaceLemmas.{foremost-at_most}
 use Rattle.nomos_simplex.proofs.SumLemmas.{sum_set, sum_neg, sum_scaled, times_minus}
 
 -- ---- the nearest line: its reach is at most that of each other line with a coefficient below 0
-AtMost : ℕ × ℕ → ℕ × ℕ → Type 0
+unfoldable pub AtMost : ℕ × ℕ → ℕ × ℕ → Type 0
 AtMost f g = f.0 * g.1 ≤ g.0 * f.1
 
-through : (f g h : ℕ × ℕ) → 0 < g.1 → AtMost f g → AtMost g h → AtMost f h
+pub through : (f g h : ℕ × ℕ) → 0 < g.1 → AtMost f g → AtMost g h → AtMost f h
 unfolding AtMost
 through f g h p i j = cancel g.1 (f.0 * h.1) (h.0 * f.1) p
     (let a = mul-le-mul_left h.1 i in let b = mul-le-mul_left f.1 j in omega arith)
@@ -41,11 +41,11 @@ through f g h p i j = cancel g.1 (f.0 * h.1) (h.0 * f.1) p
         at_most_nat : pos a ≤ℤ pos b → a ≤ b
         at_most_nat l = omega (arith, le_out (pos a) (pos b) l)
 
-not_less : (f g : ℕ × ℕ) → is_less f g ≡ false → AtMost g f
+pub not_less : (f g : ℕ × ℕ) → is_less f g ≡ false → AtMost g f
 unfolding AtMost
 not_less f g e = ltb-false (f.0 * g.1) (g.0 * f.1) e
 
-less : (f g : ℕ × ℕ) → is_less f g ≡ true → AtMost f g
+pub less : (f g : ℕ × ℕ) → is_less f g ≡ true → AtMost f g
 unfolding AtMost
 less f g e = omega (arith, ltb-true (f.0 * g.1) (g.0 * f.1) e)
 
@@ -134,7 +134,7 @@ cross_signs (negsuc p) (negsuc g) n m under h =
     (omega (arith, ints, neg_times (pos (suc p)) (pos m), neg_times (pos (suc g)) (pos n)))
 
 -- how far a variable that is not below its bound is from it
-from_bound : (t s : ℤ) → t ≤ℤ s → pos (unsigned_abs (t -ℤ s)) ≡ s -ℤ t
+pub from_bound : (t s : ℤ) → t ≤ℤ s → pos (unsigned_abs (t -ℤ s)) ≡ s -ℤ t
 from_bound t s h = of_sign (t -ℤ s) (omega (arith, ints, le_out t s h)) ∙ turned t s
   where
     of_sign : (z : ℤ) → z ≤ℤ pos 0 → pos (unsigned_abs z) ≡ neg_ℤ z

@@ -1,4 +1,5 @@
+pub mod Classes
 pub mod Keeping
 pub mod Opposite
-pub mod Places
+pub mod SkipsZeros
 pub mod Steps

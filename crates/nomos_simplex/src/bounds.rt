@@ -18,8 +18,8 @@ pub fn bound(rows: &RowList, variable: usize) -> i64
     if variable <= stars {
         return 0;
     }
-    match rows.rows.as_slice().get(variable - stars - 1) {
-        Some(row) => row.least,
+    match rows.rows.least(variable - stars - 1) {
+        Some(least) => least,
         None => 0,
     }
 }

@@ -1,10 +1,12 @@
 //! The choice of the variables that are exchanged.
-ghost use Rattle.std.specs.Prelude.{◌≡◌, ◌<◌, length, pos, int_lt, slice_index, slice_index_or, map, IfSome};
+ghost use Rattle.std.specs.Prelude.{◌≡◌, ◌<◌, nat_lt, length, pos, int_lt, slice_index, slice_index_or, map, IfSome};
 ghost use Rattle.nomos_forms.specs.declared.row_list.RowList.{RowList};
 ghost use Rattle.nomos_simplex.specs.Lowest as lowest;
 ghost use Rattle.nomos_simplex.specs.Lowest.{lower_of, lowest_place};
+ghost use Rattle.nomos_simplex.specs.mirror.Classes.{Fit, IsFollowed, IsChosen, class_at};
 ghost use Rattle.nomos_simplex.specs.mirror.Keeping.{Shows};
 
+use crate::classes::{Class, Classed};
 use crate::keeping::Kept;
 use crate::table::{Line, Table};
 
@@ -86,4 +88,54 @@ pub fn entering(table: &Table, line: &Line) -> Option<usize>
         }
     }
     best
+}
+
+/// The column with the lowest nonbasic variable of those that are not the last of their classes. The variable that
+/// follows it has the same line as it at its bound, and is below its own.
+fn followed(nonbasic: &[usize], classes: &[Class]) -> Option<usize>
+    requires { length classes.now ≡ length nonbasic.now }
+    ensures choice { result ≡ lowest_place (λ j. nat_lt (slice_index nonbasic.now j) (class_at classes.now j).last)
+        (λ j. slice_index nonbasic.now j) (length nonbasic.now) }
+    ensures column { IfSome result (λ column. column < length nonbasic.now) }
+{
+    let mut best = None;
+    for column in 0..nonbasic.len() {
+        if nonbasic[column] < classes[column].last {
+            best = Some(lower_column(nonbasic, column, best));
+        }
+    }
+    best
+}
+
+/// What leaves the basic variables: the variable of the line at a place, or the one that follows the nonbasic variable
+/// of a column in its class.
+#[derive(Clone, Copy)]
+pub(crate) enum Choice {
+    Line(usize),
+    Column(usize),
+}
+
+/// The lowest variable below its bound.
+pub(crate) fn choose(classed: &Classed) -> Option<Choice>
+    requires over { length classed.now.kept.over ≡ length classed.now.kept.table.lines }
+    requires columns { length classed.now.classes.columns ≡ length classed.now.kept.table.nonbasic }
+    ensures { (rows : RowList) → Shows rows classed.now.kept →
+        IsChosen rows classed.now.kept.table classed.now.classes result }
+{
+    let table = &classed.kept.table;
+    let nonbasic = table.nonbasic.as_slice();
+    let line = leaving(&classed.kept);
+    let column = followed(nonbasic, classed.classes.columns.as_slice());
+    match (line, column) {
+        (Some(place), Some(column)) => {
+            if table.lines.as_slice()[place].basic <= nonbasic[column] {
+                Some(Choice::Line(place))
+            } else {
+                Some(Choice::Column(column))
+            }
+        }
+        (Some(place), None) => Some(Choice::Line(place)),
+        (None, Some(column)) => Some(Choice::Column(column)),
+        (None, None) => None,
+    }
 }

@@ -1,11 +1,10 @@
 //! Greatest common divisors, and lowest terms.
-ghost use Rattle.std.specs.Prelude.{◌≡◌, ◌<◌, ◌%◌, pos, ◌<ℤ◌, int_div, map, IfOk};
+ghost use Rattle.std.specs.Prelude.{◌≡◌, ◌<◌, ◌%◌, pos, ◌<ℤ◌, int_div, map};
 ghost use Rattle.nomos_simplex.specs.Divisors.{gcd, common, divided_by, in_lowest_terms};
 
-use crate::numbers::Numbers;
 use crate::sizes::is_small;
 use crate::table::Line;
-use std::alloc::{AllocError, Global};
+use nomos_ir::items::Items;
 
 /// The greatest number of 64 bits: where numbers are no greater, the processor divides them itself.
 const NARROW: u128 = u64::MAX as u128;
@@ -75,15 +74,15 @@ fn common_divisor(first: u128, others: &[i128]) -> u128
 }
 
 /// The line divided by the greatest common divisor of its numbers.
-pub fn lowest_terms(alloc: Global, line: Line) -> Result<Line, AllocError>
+pub fn lowest_terms(line: Line) -> Line
     requires { pos 0 <ℤ line.times }
-    ensures { IfOk result (λ made. made ≡ in_lowest_terms line) }
+    ensures { result ≡ in_lowest_terms line }
 {
     let divisor = common_divisor(line.times.unsigned_abs(), line.coefs.as_slice());
     if divisor == 1 {
-        return Ok(line);
+        return line;
     }
-    divided(alloc, line, divisor as i128)
+    divided(line, divisor as i128)
 }
 
 /// A quotient, rounded toward 0.
@@ -98,22 +97,22 @@ fn quotient(number: i128, by: i128) -> i128
 }
 
 /// The line divided by a number.
-fn divided(alloc: Global, line: Line, by: i128) -> Result<Line, AllocError>
+fn divided(line: Line, by: i128) -> Line
     requires { pos 0 <ℤ by }
-    ensures { IfOk result (λ made. made ≡ divided_by by line) }
+    ensures { result ≡ divided_by by line }
 {
     let Line {
         times,
         basic,
         coefs,
     } = line;
-    let mut coefs = coefs.into_vec(alloc)?;
+    let mut coefs = coefs.into_vec();
     divide_all(&mut coefs, by);
-    Ok(Line {
+    Line {
         times: quotient(times, by),
         basic,
-        coefs: Numbers::of_vec(coefs),
-    })
+        coefs: Items::of_vec(coefs),
+    }
 }
 
 /// Divides numbers by a number.

@@ -82,23 +82,23 @@ fn enter_kept(
     entry: &Entry,
     line: &mut Line,
     over: i128,
-) -> Result<Option<i128>, AllocError>
+) -> Option<i128>
     requires entry { IsEntry entry.now }
     requires shows { EntryShows rows.now entry.now }
     requires line { IsLine (length entry.now.left.coefs) line.old }
     requires lowest { IsLowest line.old }
     requires over { over ≡ over_at rows.now (before entry.now) line.old }
-    ensures { IfOk result (IsMade rows.now entry.now (entered entry.now line.old) line.new) }
+    ensures { IsMade rows.now entry.now (entered entry.now line.old) line.new result }
 {
     if line.coefs.as_slice()[entry.column] == 0 {
-        return Ok(Some(over));
+        return Some(over);
     }
     let put = put_of(entry, line, over);
-    let small = enter(alloc, entry.column, &entry.left, &entry.next, line)?;
+    let small = enter(alloc, entry.column, &entry.left, &entry.next, line);
     if is_too_large(small, line) {
-        return Ok(None);
+        return None;
     }
-    Ok(Some(over_after(rows, entry, line, put)))
+    Some(over_after(rows, entry, line, put))
 }
 
 /// Puts the entering variable into lines, and says whether a number is then too large.
@@ -108,22 +108,21 @@ fn enter_all(
     entry: &Entry,
     lines: &mut [Line],
     over: &mut [i128],
-) -> Result<bool, AllocError>
+) -> bool
     requires entry { IsEntry entry.now }
     requires shows { EntryShows rows.now entry.now }
     requires lines { All (IsLine (length entry.now.left.coefs)) lines.old }
     requires lowest { All IsLowest lines.old }
     requires over { over.old ≡ map (over_at rows.now (before entry.now)) lines.old }
-    ensures { IfOk result (AreMade rows.now entry.now (map (entered entry.now) lines.old) lines.new over.new) }
+    ensures { AreMade rows.now entry.now (map (entered entry.now) lines.old) lines.new over.new result }
 {
     for i in 0..lines.len() {
-        let made = enter_kept(alloc, rows, entry, &mut lines[i], over[i])?;
-        match made {
+        match enter_kept(alloc, rows, entry, &mut lines[i], over[i]) {
             Some(next) => over[i] = next,
-            None => return Ok(true),
+            None => return true,
         }
     }
-    Ok(false)
+    false
 }
 
 /// A line, or its opposite where the coefficient in a column is below 0.
@@ -173,7 +172,7 @@ fn exchange_lines(
     ensures { IfOk result (AreMade rows.now entry.now
         (map (entered entry.now) lines.old.items ++ solved_line entry.now ∷ []) lines.new.items over.new.items) }
 {
-    let large = enter_all(alloc, rows, entry, lines, over)?;
+    let large = enter_all(alloc, rows, entry, lines, over);
     if large {
         return Ok(true);
     }

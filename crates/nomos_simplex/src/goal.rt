@@ -12,10 +12,10 @@ use crate::bounds::add_bounded;
 use crate::divisors::{greatest_divisor, lowest_terms};
 use crate::fractions::line_of;
 use crate::lines::product;
-use crate::numbers::Numbers;
 use crate::sizes::has_large_number;
 use crate::table::{Line, Table};
 use nomos_forms::form::Form;
+use nomos_ir::items::Items;
 use std::alloc::{AllocError, Global};
 
 /// A nonbasic variable, as a line over itself.
@@ -29,7 +29,7 @@ fn itself(alloc: Global, nonbasic: &[usize], variable: usize) -> Result<Line, Al
     Ok(Line {
         times: 1,
         basic: variable,
-        coefs: Numbers::of_vec(coefs),
+        coefs: Items::of_vec(coefs),
     })
 }
 
@@ -101,12 +101,11 @@ fn added(alloc: Global, count: i64, star: &Line, line: &Line) -> Result<Option<L
     let Some(coefs) = combine(alloc, factors, line.coefs.as_slice(), star.coefs.as_slice())? else {
         return Ok(None);
     };
-    let sum = Line {
+    let made = lowest_terms(Line {
         times: product(p, line.times),
         basic: line.basic,
-        coefs: Numbers::of_vec(coefs),
-    };
-    let made = lowest_terms(alloc, sum)?;
+        coefs: Items::of_vec(coefs),
+    });
     if has_large_number(&made) {
         return Ok(None);
     }
@@ -148,7 +147,7 @@ fn no_goal(alloc: Global, table: &Table) -> Result<Line, AllocError>
     Ok(Line {
         times: 1,
         basic: 0,
-        coefs: Numbers::of_vec(coefs),
+        coefs: Items::of_vec(coefs),
     })
 }
 

@@ -5,7 +5,6 @@ ghost use Rattle.nomos_simplex.specs.mirror.Keeping as keeping;
 ghost use Rattle.nomos_simplex.specs.mirror.Keeping.{Shows};
 
 use crate::bounds::{bounds_of, over_of};
-use crate::solved::Solved;
 use crate::table::Table;
 use nomos_forms::row_list::RowList;
 use nomos_ir::items::Items;
@@ -17,13 +16,6 @@ use std::alloc::{AllocError, Global};
 pub(crate) struct Kept {
     pub(crate) table: Table,
     pub(crate) over: Items<i128>,
-}
-
-/// The run ends, or goes on at what is kept of a table.
-#[derive(Drop)]
-pub(crate) enum Next {
-    Ends(Solved),
-    Goes(Kept),
 }
 
 /// How far the variable of each line is over its bound.

@@ -3,6 +3,7 @@
 
 mod bounds;
 mod choosing;
+mod classes;
 mod divisors;
 mod exchanging;
 mod fractions;
@@ -11,10 +12,11 @@ mod keeping;
 mod lines;
 pub mod lowering;
 mod nearest;
-pub mod numbers;
 mod refusing;
+mod renaming;
 mod sizes;
 pub mod solved;
 pub mod solving;
 pub mod table;
 pub mod turn;
+mod turning;

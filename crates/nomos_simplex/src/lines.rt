@@ -4,12 +4,12 @@ ghost use Rattle.nomos_simplex.specs.Divisors.{in_lowest_terms};
 ghost use Rattle.nomos_simplex.specs.Exchange.{coef_at, solved_for, eliminated, put_into};
 ghost use Rattle.nomos_simplex.specs.Sizes.{IsNumber, HasNumbers, IsLine, IsLowest};
 ghost use Rattle.nomos_simplex.specs.mirror.Opposite.{opposite_of};
-ghost use Rattle.nomos_simplex.specs.mirror.Places.{SkipsZeros};
+ghost use Rattle.nomos_simplex.specs.mirror.SkipsZeros.{SkipsZeros};
 
 use crate::divisors::lowest_terms;
-use crate::numbers::Numbers;
 use crate::sizes::is_small;
 use crate::table::Line;
+use nomos_ir::items::Items;
 use std::alloc::{AllocError, Global};
 use std::mem;
 
@@ -107,26 +107,20 @@ fn eliminate(p: i128, g: i128, of: &mut [i128], by: &[i128], next: &[usize]) -> 
 
 /// A line multiplied by the coefficient of the entering variable in the line that is left, with that variable put in.
 /// Beside it stands whether its numbers are small.
-fn with_entered(
-    alloc: Global,
-    column: usize,
-    left: &Line,
-    next: &[usize],
-    line: Line,
-) -> Result<(Line, bool), AllocError>
+fn with_entered(column: usize, left: &Line, next: &[usize], line: Line) -> (Line, bool)
     requires column { column < length left.now.coefs }
     requires left { HasNumbers left.now }
     requires next { SkipsZeros next.now left.now.coefs }
     requires line { IsLine (length left.now.coefs) line }
-    ensures made { IfOk result (λ made. made.0 ≡ put_into column left.now line) }
-    ensures small { IfOk result (λ made. IsTrue made.1 → HasNumbers made.0) }
+    ensures made { result.0 ≡ put_into column left.now line }
+    ensures small { IsTrue result.1 → HasNumbers result.0 }
 {
     let Line {
         times,
         basic,
         coefs,
     } = line;
-    let mut coefs = coefs.into_vec(alloc)?;
+    let mut coefs = coefs.into_vec();
     let by = left.coefs.as_slice();
     let p = by[column];
     let g = coefs[column];
@@ -138,9 +132,9 @@ fn with_entered(
     let made = Line {
         times,
         basic,
-        coefs: Numbers::of_vec(coefs),
+        coefs: Items::of_vec(coefs),
     };
-    Ok((made, small))
+    (made, small)
 }
 
 /// A line without numbers, which stands where one is taken out for a while.
@@ -148,35 +142,29 @@ fn no_line(alloc: Global) -> Line {
     Line {
         times: 0,
         basic: 0,
-        coefs: Numbers::of_vec(Vec::new(alloc)),
+        coefs: Items::of_vec(Vec::new(alloc)),
     }
 }
 
 /// Puts the entering variable into a line, in the line's own memory, by the line that is left and the places of its
 /// numbers that are not 0. A line without the variable stays as it is. The answer says where the line is known to have small numbers, with no look at those that were not changed.
-pub fn enter(
-    alloc: Global,
-    column: usize,
-    left: &Line,
-    next: &[usize],
-    line: &mut Line,
-) -> Result<bool, AllocError>
+pub fn enter(alloc: Global, column: usize, left: &Line, next: &[usize], line: &mut Line) -> bool
     requires column { column < length left.now.coefs }
     requires left { HasNumbers left.now }
     requires over_zero { pos 0 <ℤ coef_at column left.now }
     requires next { SkipsZeros next.now left.now.coefs }
     requires line { IsLine (length left.now.coefs) line.old }
     requires lowest { IsLowest line.old }
-    ensures value { IfOk result (λ _. line.new ≡ in_lowest_terms (put_into column left.now line.old)) }
-    ensures small { IfOk result (λ small. IsTrue small → HasNumbers line.new) }
+    ensures value { line.new ≡ in_lowest_terms (put_into column left.now line.old) }
+    ensures small { IsTrue result → HasNumbers line.new }
 {
     if line.coefs.as_slice()[column] == 0 {
-        return Ok(true);
+        return true;
     }
     let own = mem::replace(line, no_line(alloc));
-    let (made, small) = with_entered(alloc, column, left, next, own)?;
-    *line = lowest_terms(alloc, made)?;
-    Ok(small)
+    let (made, small) = with_entered(column, left, next, own);
+    *line = lowest_terms(made);
+    small
 }
 
 /// The number with its sign changed.
@@ -209,7 +197,7 @@ pub fn opposite_line(alloc: Global, line: &Line) -> Result<Line, AllocError>
     Ok(Line {
         times: opposite(line.times),
         basic: line.basic,
-        coefs: Numbers::of_vec(coefs),
+        coefs: Items::of_vec(coefs),
     })
 }
 
@@ -228,12 +216,9 @@ pub fn solved(
     let numbers = left.coefs.as_slice();
     let mut coefs = negated(alloc, numbers)?;
     coefs[column] = left.times;
-    lowest_terms(
-        alloc,
-        Line {
-            times: numbers[column],
-            basic: entering,
-            coefs: Numbers::of_vec(coefs),
-        },
-    )
+    Ok(lowest_terms(Line {
+        times: numbers[column],
+        basic: entering,
+        coefs: Items::of_vec(coefs),
+    }))
 }

@@ -1,5 +1,5 @@
 //! The least run.
-ghost use Rattle.std.specs.Prelude.{◌≡◌, ◌+◌, ◌<◌, ◌≤◌, ◌^◌, pos, ◌<ℤ◌, ◌≤ℤ◌, unsigned_abs, length, map, All, IfOk, Ok, Some, None, slice_get, if◌then◌else◌};
+ghost use Rattle.std.specs.Prelude.{◌≡◌, ℕ, ◌+◌, ◌<◌, ◌≤◌, ◌^◌, pos, ◌<ℤ◌, ◌≤ℤ◌, unsigned_abs, length, map, All, IfOk, Ok, Some, None, slice_get, if◌then◌else◌};
 ghost use Rattle.nomos_forms.specs.Bounds.{IsForm, IsFound, IsVerdict};
 ghost use Rattle.nomos_forms.specs.Linear.{form_value};
 ghost use Rattle.nomos_forms.specs.Meeting.{MeetsRows};
@@ -11,20 +11,20 @@ ghost use Rattle.nomos_forms.specs.declared.verdict.Verdict.{Verdict};
 ghost use Rattle.nomos_simplex.specs.Divisors.{in_lowest_terms};
 ghost use Rattle.nomos_simplex.specs.Exchange.{coef_at, exchanged};
 ghost use Rattle.nomos_simplex.specs.Exits.{fractions, found_or_large};
-ghost use Rattle.nomos_simplex.specs.LeastRun.{EndsFound, Lowers, LeastRun, line_exchanged, is_large_with, proof_of, is_total, least_or_large};
+ghost use Rattle.nomos_simplex.specs.LeastRun.{Lowers, LeastRun, line_exchanged, is_large_with, proof_of, is_total, least_or_large};
 ghost use Rattle.nomos_simplex.specs.PivotRun.{answer_to};
 ghost use Rattle.nomos_simplex.specs.ShowsLeast.{ShowsLeast, IsProof};
 ghost use Rattle.nomos_simplex.specs.Sizes.{IsNumber, IsLine, IsLowest, IsTable, IsVariable};
 ghost use Rattle.nomos_simplex.specs.declared.solved.Proof.{Proof};
 ghost use Rattle.nomos_simplex.specs.declared.solved.SolvedLeast.TheVariants as least;
 ghost use Rattle.nomos_simplex.specs.declared.table.Line.{Line};
-ghost use Rattle.nomos_simplex.specs.mirror.Keeping.{Shows};
-ghost use Rattle.nomos_simplex.specs.mirror.Steps.{IsNext, IsNotFound, MayLeave, StandsAt, IsAimedOrLarge};
+ghost use Rattle.nomos_simplex.specs.declared.table.Table.{Table};
+ghost use Rattle.nomos_simplex.specs.mirror.Classes.{IsReached, IsKept, ShowsFull};
+ghost use Rattle.nomos_simplex.specs.mirror.Steps.{IsNext, IsNotFound, MayLeave, StandsAt, EndsFoundAt, LowersTo, IsAimedOrLarge};
 
-use crate::exchanging::exchange;
+use crate::classes::Classed;
 use crate::fractions::found;
 use crate::goal::goal_line;
-use crate::keeping::Kept;
 use crate::lines::{enter, negated, next_places, opposite_line};
 use crate::nearest::{lowering, nearest};
 use crate::refusing::{resolved, times_of, weights_of};
@@ -32,6 +32,7 @@ use crate::sizes::is_too_large;
 use crate::solved::{Proof, Solved, SolvedLeast, Stop};
 use crate::solving::{BUDGET, Sought, seek};
 use crate::table::Line;
+use crate::turning::exchange_classed;
 use nomos_forms::form::Form;
 use nomos_forms::found::Found;
 use nomos_forms::meeting::value_of;
@@ -42,7 +43,7 @@ use std::alloc::{AllocError, Global};
 /// What is kept of a table, and the line of the goal over its nonbasic variables.
 #[derive(Drop)]
 pub(crate) struct Aimed {
-    pub(crate) kept: Kept,
+    pub(crate) classed: Classed,
     pub(crate) line: Line,
 }
 
@@ -62,27 +63,24 @@ fn exchange_aimed(
     place: usize,
     column: usize,
 ) -> Result<Option<Aimed>, AllocError>
-    requires shows { Shows rows.now aimed.kept }
-    requires few { length aimed.kept.table.nonbasic ≤ 64 }
-    requires place { MayLeave aimed.kept.table column place }
-    requires column { column < length aimed.kept.table.nonbasic }
-    requires lines { All (IsLine (length aimed.kept.table.nonbasic)) aimed.kept.table.lines }
-    requires lowest { All IsLowest aimed.kept.table.lines }
-    requires line { IsLine (length aimed.kept.table.nonbasic) aimed.line }
+    requires kept { IsKept rows.now aimed.classed }
+    requires place { MayLeave aimed.classed.kept.table column place }
+    requires column { column < length aimed.classed.kept.table.nonbasic }
+    requires line { IsLine (length aimed.classed.kept.table.nonbasic) aimed.line }
     requires lowest_line { IsLowest aimed.line }
-    ensures { (left : Line) → slice_get aimed.kept.table.lines place ≡ Some left →
-        IfOk result (IsAimedOrLarge rows.now (exchanged place column left aimed.kept.table)
-        (line_exchanged column left aimed.line)) }
+    ensures { (full : Table) (k : ℕ) (left : Line) → IsReached rows.now full → ShowsFull rows.now aimed.classed full →
+        slice_get full.lines k ≡ Some left → slice_get aimed.classed.kept.table.lines place ≡ Some left →
+        IfOk result (IsAimedOrLarge rows.now (exchanged k column left full) (line_exchanged column left aimed.line)) }
 {
-    let Aimed { kept, mut line } = aimed;
-    let left = opposite_line(alloc, &kept.table.lines.as_slice()[place])?;
+    let Aimed { classed, mut line } = aimed;
+    let left = opposite_line(alloc, &classed.kept.table.lines.as_slice()[place])?;
     let next = next_places(alloc, left.coefs.as_slice())?;
-    let small = enter(alloc, column, &left, &next, &mut line)?;
+    let small = enter(alloc, column, &left, &next, &mut line);
     if is_too_large(small, &line) {
         return Ok(None);
     }
-    match exchange(alloc, rows, kept, place, column)? {
-        Some(kept) => Ok(Some(Aimed { kept, line })),
+    match exchange_classed(alloc, rows, classed, place, column)? {
+        Some(classed) => Ok(Some(Aimed { classed, line })),
         None => Ok(None),
     }
 }
@@ -108,12 +106,13 @@ const TOO_MUCH: i128 = 1 << 62;
 
 /// The weights of the coefficients over 0 of the goal's line, with its scale.
 fn proof_at(alloc: Global, rows: &RowList, aimed: &Aimed, total: u64) -> Result<Proof, AllocError>
-    requires line { IsLine (length aimed.now.kept.table.nonbasic) aimed.now.line }
-    requires nonbasic { All (IsVariable rows.now) aimed.now.kept.table.nonbasic }
-    ensures { IfOk result (λ made. made ≡ proof_of rows.now aimed.now.kept.table aimed.now.line total) }
+    requires line { IsLine (length aimed.now.classed.kept.table.nonbasic) aimed.now.line }
+    requires nonbasic { All (IsVariable rows.now) aimed.now.classed.kept.table.nonbasic }
+    ensures { IfOk result (λ made. made ≡ proof_of rows.now aimed.now.classed.kept.table aimed.now.line total) }
 {
     let negated = negated(alloc, aimed.line.coefs.as_slice())?;
-    let weights = weights_of(alloc, aimed.kept.table.nonbasic.as_slice(), &negated)?;
+    let nonbasic = aimed.classed.kept.table.nonbasic.as_slice();
+    let weights = weights_of(alloc, nonbasic, &negated)?;
     let list = resolved(alloc, rows, &weights)?;
     Ok(Proof {
         scale: times_of(aimed.line.times),
@@ -131,11 +130,12 @@ fn end_at(
     pivots: u32,
 ) -> Result<SolvedLeast, AllocError>
     requires goal { IsForm rows.now.stars goal.now }
-    requires run { Lowers rows.now goal.now pivots aimed.now.kept.table aimed.now.line }
-    ensures { IfOk result (λ answer. answer ≡ least_or_large pivots rows.now goal.now aimed.now.kept.table
-        aimed.now.line (found_or_large pivots (fractions rows.now aimed.now.kept.table))) }
+    requires run { LowersTo rows.now goal.now pivots aimed.now }
+    ensures { (full : Table) → Lowers rows.now goal.now pivots full aimed.now.line →
+        ShowsFull rows.now aimed.now.classed full → IfOk result (λ answer. answer ≡
+        least_or_large pivots rows.now goal.now full aimed.now.line (found_or_large pivots (fractions rows.now full))) }
 {
-    match found(alloc, rows, &aimed.kept.table, pivots)? {
+    match found(alloc, rows, &aimed.classed.kept.table, pivots)? {
         Solved::Found(found) => {
             let Some(total) = total_of(goal, &found) else {
                 return Ok(SolvedLeast::Unsolved(Stop::Large(pivots)));
@@ -159,14 +159,14 @@ fn turn_of(
     requires goal { IsForm rows.now.stars goal.now }
     requires coefs { All (λ c. pos 0 ≤ℤ c) goal.now.coefs }
     requires pivots { pivots ≤ 2000 }
-    requires run { Lowers rows.now goal.now pivots aimed.kept.table aimed.line }
-    requires shows { Shows rows.now aimed.kept }
+    requires run { LowersTo rows.now goal.now pivots aimed }
     ensures { IfOk result (IsNext rows.now goal.now pivots) }
 {
-    let Some(column) = lowering(&aimed.kept.table, &aimed.line) else {
+    let kept = &aimed.classed.kept;
+    let Some(column) = lowering(&kept.table, &aimed.line) else {
         return Ok(LeastTurn::Ends(end_at(alloc, rows, goal, &aimed, pivots)?));
     };
-    let Some(place) = nearest(&aimed.kept, column) else {
+    let Some(place) = nearest(kept, column) else {
         unreachable!()
     };
     if pivots >= BUDGET {
@@ -189,8 +189,7 @@ fn lower(
     requires goal { IsForm rows.now.stars goal.now }
     requires coefs { All (λ c. pos 0 ≤ℤ c) goal.now.coefs }
     requires pivots { pivots ≤ 2000 }
-    requires run { Lowers rows.now goal.now pivots aimed.kept.table aimed.line }
-    requires shows { Shows rows.now aimed.kept }
+    requires run { LowersTo rows.now goal.now pivots aimed }
     ensures { IfOk result (LeastRun rows.now goal.now) }
 {
     for made in pivots..BUDGET {
@@ -210,20 +209,19 @@ fn lower_from(
     alloc: Global,
     rows: &RowList,
     goal: &Form,
-    kept: Kept,
+    classed: Classed,
     pivots: u32,
 ) -> Result<SolvedLeast, AllocError>
     requires goal { IsForm rows.now.stars goal.now }
     requires coefs { All (λ c. pos 0 ≤ℤ c) goal.now.coefs }
     requires pivots { pivots ≤ 2000 }
-    requires run { EndsFound rows.now pivots kept.table }
-    requires shows { Shows rows.now kept }
+    requires run { EndsFoundAt rows.now classed pivots }
     ensures { IfOk result (LeastRun rows.now goal.now) }
 {
-    let Some(line) = goal_line(alloc, &kept.table, goal)? else {
+    let Some(line) = goal_line(alloc, &classed.kept.table, goal)? else {
         return Ok(SolvedLeast::Unsolved(Stop::Large(pivots)));
     };
-    lower(alloc, rows, goal, Aimed { kept, line }, pivots)
+    lower(alloc, rows, goal, Aimed { classed, line }, pivots)
 }
 
 /// An answer of the pivot run without amounts, as one of the least run.
@@ -243,16 +241,16 @@ fn run_on(
     alloc: Global,
     rows: &RowList,
     goal: &Form,
-    kept: Kept,
+    classed: Classed,
     pivots: u32,
 ) -> Result<SolvedLeast, AllocError>
     requires goal { IsForm rows.now.stars goal.now }
     requires coefs { All (λ c. pos 0 ≤ℤ c) goal.now.coefs }
-    requires stands { StandsAt rows.now kept pivots }
+    requires stands { StandsAt rows.now classed pivots }
     ensures { IfOk result (LeastRun rows.now goal.now) }
 {
-    match found(alloc, rows, &kept.table, pivots)? {
-        Solved::Found(_) => lower_from(alloc, rows, goal, kept, pivots),
+    match found(alloc, rows, &classed.kept.table, pivots)? {
+        Solved::Found(_) => lower_from(alloc, rows, goal, classed, pivots),
         Solved::Refuted(verdict) => Ok(SolvedLeast::Refuted(verdict)),
         Solved::Unsolved(stop) => Ok(SolvedLeast::Unsolved(stop)),
     }
@@ -265,7 +263,7 @@ fn run_both(alloc: Global, rows: &RowList, goal: &Form) -> Result<SolvedLeast, A
     ensures { IfOk result (LeastRun rows.now goal.now) }
 {
     match seek(alloc, rows)? {
-        Sought::Stands(kept, pivots) => run_on(alloc, rows, goal, kept, pivots),
+        Sought::Stands(classed, pivots) => run_on(alloc, rows, goal, classed, pivots),
         Sought::Ends(solved) => Ok(without_amounts(solved)),
     }
 }

@@ -69,16 +69,6 @@ pub fn weights_of(
     Ok(weights)
 }
 
-/// The same row, of which the coefficients are owned together.
-fn copy_of(row: &Row) -> Result<Row, AllocError>
-    ensures { IfOk result (λ made. made ≡ row.now) }
-{
-    Ok(Row {
-        coefs: row.coefs.share()?,
-        least: row.least,
-    })
-}
-
 /// What a variable stands for.
 fn of_variable(alloc: Global, rows: &RowList, variable: usize) -> Result<Of, AllocError>
     requires { IsVariable rows.now variable }
@@ -88,8 +78,10 @@ fn of_variable(alloc: Global, rows: &RowList, variable: usize) -> Result<Of, All
     if variable <= stars {
         return Ok(Of::Star(variable as u16));
     }
-    let row = &rows.rows.as_slice()[variable - stars - 1];
-    Ok(Of::Row(copy_of(row)?))
+    match rows.rows.row_at(variable - stars - 1)? {
+        Some(row) => Ok(Of::Row(row)),
+        None => Ok(Of::Star(0)),
+    }
 }
 
 /// The weights with what their variables stand for.

@@ -1,29 +1,29 @@
 //! The run.
-ghost use Rattle.std.specs.Prelude.{◌≡◌, ◌+◌, ◌-◌, ◌<◌, ◌≤◌, ◌^◌, length, IfOk, Ok, Some};
+ghost use Rattle.std.specs.Prelude.{◌≡◌, ◌+◌, ◌-◌, ◌<◌, ◌≤◌, ◌^◌, map, All, IfOk, Ok, Some};
 ghost use Rattle.std.specs.List.{range_with_len};
-ghost use Rattle.nomos_simplex.specs.Lowest as lowest;
-ghost use Rattle.nomos_simplex.specs.mirror.Keeping.{IsNextOf, Shows};
+ghost use Rattle.nomos_simplex.specs.mirror.Classes.{IsReached, IsKept, IsChosen, IsNextOf, ShowsFull, line_of_class, table_of_classes};
 ghost use Rattle.nomos_simplex.specs.mirror.Steps.{IsSought};
 ghost use Rattle.nomos_simplex.specs.PivotRun.{turn, answer_to};
-ghost use Rattle.nomos_simplex.specs.Sizes.{IsTable};
-ghost use Rattle.nomos_simplex.specs.Tables.{lines_from, first_table as table_at_first};
+ghost use Rattle.nomos_simplex.specs.Tables.{first_table as table_at_first};
+ghost use Rattle.nomos_simplex.specs.declared.choosing.Choice.TheVariants as choice;
 ghost use Rattle.nomos_simplex.specs.declared.solved.Solved.TheVariants as solved;
+ghost use Rattle.nomos_simplex.specs.declared.table.Table.{Table as FullTable};
 ghost use Rattle.nomos_forms.specs.Bounds.{IsFound, IsVerdict};
 ghost use Rattle.nomos_forms.specs.Meeting.{MeetsRows};
 ghost use Rattle.nomos_forms.specs.Refuting.{Refutes};
 ghost use Rattle.nomos_forms.specs.declared.found.Found.{Found};
 ghost use Rattle.nomos_forms.specs.declared.verdict.Verdict.{Verdict};
 
-use crate::choosing::{entering, leaving};
-use crate::exchanging::exchange;
+use crate::choosing::{Choice, choose, entering};
+use crate::classes::{Class, Classed, Classes, classes_of_rows, classes_of_stars, coefs_of};
 use crate::fractions::found;
-use crate::keeping::{Kept, Next, keep};
-use crate::numbers::Numbers;
+use crate::keeping::keep;
 use crate::refusing::verdict;
+use crate::renaming::rename;
 use crate::solved::{Solved, Stop};
 use crate::table::{Line, Table};
+use crate::turning::{Next, exchange_classed, step};
 use nomos_forms::row_list::RowList;
-use nomos_forms::shared::Shared;
 use nomos_ir::items::Items;
 use std::alloc::{AllocError, Global};
 
@@ -52,82 +52,83 @@ fn widened(alloc: Global, numbers: &[i64]) -> Result<Vec<i128>, AllocError>
     Ok(wide)
 }
 
-/// The coefficients of a row in the width of a table. Those of the row before it are at hand, and are owned together
-/// where they are the same.
-fn wide_coefs(
-    alloc: Global,
-    before: &[i64],
-    wide: Shared<i128>,
-    coefs: &[i64],
-) -> Result<Shared<i128>, AllocError>
-    requires { wide ≡ before.now }
-    ensures { IfOk result (λ made. made ≡ coefs.now) }
+/// The line of a class at first.
+fn first_line(alloc: Global, rows: &RowList, class: Class) -> Result<Line, AllocError>
+    requires { rows.now.stars < class.first }
+    ensures { IfOk result (λ line. line ≡ line_of_class rows.now class) }
 {
-    if before == coefs {
-        return Ok(wide);
-    }
-    let own = widened(alloc, coefs)?;
-    Shared::of_vec(alloc, own)
+    let coefs = widened(alloc, coefs_of(rows, class.first))?;
+    Ok(Line {
+        times: 1,
+        basic: class.first,
+        coefs: Items::of_vec(coefs),
+    })
 }
 
-/// The lines of the rows.
-fn first_lines(alloc: Global, rows: &RowList) -> Result<Vec<Line>, AllocError>
-    ensures { IfOk result (λ v. v.items ≡ lines_from (rows.now.stars + 1) rows.now.rows) }
+/// The lines of classes at first.
+fn first_lines(alloc: Global, rows: &RowList, classes: &[Class]) -> Result<Vec<Line>, AllocError>
+    requires { All (λ class. rows.now.stars < class.first) classes.now }
+    ensures { IfOk result (λ v. v.items ≡ map (line_of_class rows.now) classes.now) }
 {
-    let stars = usize::from(rows.stars);
-    let list = rows.rows.as_slice();
-    let mut lines = Vec::with_capacity(alloc, list.len())?;
-    let mut before: &[i64] = &[];
-    let mut wide = Shared::of_vec(alloc, Vec::new(alloc))?;
-    for i in 0..list.len() {
-        let coefs = list[i].coefs.as_slice();
-        wide = wide_coefs(alloc, before, wide, coefs)?;
-        before = coefs;
-        lines.push(Line {
-            times: 1,
-            basic: stars + 1 + i,
-            coefs: Numbers::of_shared(alloc, wide.share()?),
-        })?;
+    let mut lines = Vec::with_capacity(alloc, classes.len())?;
+    for i in 0..classes.len() {
+        lines.push(first_line(alloc, rows, classes[i])?)?;
     }
     Ok(lines)
 }
 
-/// The table at first: the stars are nonbasic, and the sums of the rows basic.
-fn first_table(alloc: Global, rows: &RowList) -> Result<Table, AllocError>
-    ensures { IfOk result (λ table. table ≡ table_at_first rows.now) }
+/// The table at first, with one line for each class of rows: the stars are nonbasic, and the sums of the rows basic.
+fn first_table(alloc: Global, rows: &RowList, classes: &[Class]) -> Result<Table, AllocError>
+    requires { All (λ class. rows.now.stars < class.first) classes.now }
+    ensures { IfOk result (λ table. table ≡ table_of_classes rows.now classes.now) }
 {
     let nonbasic = first_nonbasic(alloc, rows.stars)?;
-    let lines = first_lines(alloc, rows)?;
+    let lines = first_lines(alloc, rows, classes)?;
     Ok(Table {
         nonbasic: Items::of_vec(nonbasic),
         lines: Items::of_vec(lines),
     })
 }
 
+/// What is kept of the table at first.
+fn first(alloc: Global, rows: &RowList) -> Result<Classed, AllocError>
+    ensures { IfOk result (λ made. ShowsFull rows.now made (table_at_first rows.now)) }
+{
+    let classes = classes_of_rows(alloc, rows)?;
+    let table = first_table(alloc, rows, &classes)?;
+    let stars = classes_of_stars(alloc, rows.stars)?;
+    let classes = Classes {
+        lines: Items::of_vec(classes),
+        columns: Items::of_vec(stars),
+    };
+    let kept = keep(alloc, rows, table)?;
+    let kept = rename(alloc, rows, kept, &classes)?;
+    Ok(Classed { kept, classes })
+}
+
 /// Where the run comes to: what is kept of a table where no basic variable is below its bound, after so many pivots, or
 /// another end.
 #[derive(Drop)]
 pub(crate) enum Sought {
-    Stands(Kept, u32),
+    Stands(Classed, u32),
     Ends(Solved),
 }
 
-/// What comes at a table, after so many pivots, where the variable of the line at a place is below its bound.
-fn turn_at(
+/// What comes at a table, after so many pivots, where the variable of the line at a place leaves.
+fn line_leaves(
     alloc: Global,
     rows: &RowList,
-    kept: Kept,
+    classed: Classed,
     place: usize,
     pivots: u32,
 ) -> Result<Next, AllocError>
     requires pivots { pivots ≤ 2000 }
-    requires table { IsTable rows.now kept.table }
-    requires shows { Shows rows.now kept }
-    requires place { lowest.leaving rows.now kept.table ≡ Some place }
-    requires within { place < length kept.table.lines }
-    ensures { IfOk result (IsNextOf rows.now (turn (2000 - pivots) pivots rows.now kept.table)) }
+    requires kept { IsKept rows.now classed }
+    requires chosen { IsChosen rows.now classed.kept.table classed.classes (Some (choice.Line place)) }
+    ensures { (full : FullTable) → IsReached rows.now full → ShowsFull rows.now classed full →
+        IfOk result (IsNextOf rows.now (turn (2000 - pivots) pivots rows.now full)) }
 {
-    let table = &kept.table;
+    let table = &classed.kept.table;
     let line = &table.lines.as_slice()[place];
     let Some(column) = entering(table, line) else {
         return Ok(Next::Ends(Solved::Refuted(verdict(alloc, rows, table, line)?)));
@@ -135,9 +136,50 @@ fn turn_at(
     if pivots >= BUDGET {
         return Ok(Next::Ends(Solved::Unsolved(Stop::Pivots)));
     }
-    match exchange(alloc, rows, kept, place, column)? {
+    match exchange_classed(alloc, rows, classed, place, column)? {
         Some(after) => Ok(Next::Goes(after)),
         None => Ok(Next::Ends(Solved::Unsolved(Stop::Large(pivots + 1)))),
+    }
+}
+
+/// What comes at a table, after so many pivots, where the variable leaves that follows the nonbasic one of a column in
+/// its class.
+fn column_leaves(
+    alloc: Global,
+    rows: &RowList,
+    classed: Classed,
+    column: usize,
+    pivots: u32,
+) -> Result<Next, AllocError>
+    requires pivots { pivots ≤ 2000 }
+    requires kept { IsKept rows.now classed }
+    requires chosen { IsChosen rows.now classed.kept.table classed.classes (Some (choice.Column column)) }
+    ensures { (full : FullTable) → IsReached rows.now full → ShowsFull rows.now classed full →
+        IfOk result (IsNextOf rows.now (turn (2000 - pivots) pivots rows.now full)) }
+{
+    if pivots >= BUDGET {
+        return Ok(Next::Ends(Solved::Unsolved(Stop::Pivots)));
+    }
+    Ok(Next::Goes(step(alloc, rows, classed, column)?))
+}
+
+/// What comes at a table, after so many pivots, where a variable leaves.
+fn turn_at(
+    alloc: Global,
+    rows: &RowList,
+    classed: Classed,
+    choice: Choice,
+    pivots: u32,
+) -> Result<Next, AllocError>
+    requires pivots { pivots ≤ 2000 }
+    requires kept { IsKept rows.now classed }
+    requires chosen { IsChosen rows.now classed.kept.table classed.classes (Some choice) }
+    ensures { (full : FullTable) → IsReached rows.now full → ShowsFull rows.now classed full →
+        IfOk result (IsNextOf rows.now (turn (2000 - pivots) pivots rows.now full)) }
+{
+    match choice {
+        Choice::Line(place) => line_leaves(alloc, rows, classed, place, pivots),
+        Choice::Column(column) => column_leaves(alloc, rows, classed, column, pivots),
     }
 }
 
@@ -145,21 +187,20 @@ fn turn_at(
 pub(crate) fn seek(alloc: Global, rows: &RowList) -> Result<Sought, AllocError>
     ensures { IfOk result (IsSought rows.now) }
 {
-    let table = first_table(alloc, rows)?;
-    let mut kept = keep(alloc, rows, table)?;
+    let mut classed = first(alloc, rows)?;
     for pivots in 0..BUDGET {
-        let Some(place) = leaving(&kept) else {
-            return Ok(Sought::Stands(kept, pivots));
+        let Some(leaves) = choose(&classed) else {
+            return Ok(Sought::Stands(classed, pivots));
         };
-        match turn_at(alloc, rows, kept, place, pivots)? {
+        match turn_at(alloc, rows, classed, leaves, pivots)? {
             Next::Ends(solved) => return Ok(Sought::Ends(solved)),
-            Next::Goes(after) => kept = after,
+            Next::Goes(after) => classed = after,
         }
     }
-    let Some(place) = leaving(&kept) else {
-        return Ok(Sought::Stands(kept, BUDGET));
+    let Some(leaves) = choose(&classed) else {
+        return Ok(Sought::Stands(classed, BUDGET));
     };
-    match turn_at(alloc, rows, kept, place, BUDGET)? {
+    match turn_at(alloc, rows, classed, leaves, BUDGET)? {
         Next::Ends(solved) => Ok(Sought::Ends(solved)),
         Next::Goes(_) => Ok(Sought::Ends(Solved::Unsolved(Stop::Pivots))),
     }
@@ -170,7 +211,7 @@ fn run_all(alloc: Global, rows: &RowList) -> Result<Solved, AllocError>
     ensures { IfOk result (λ answer. answer ≡ answer_to rows.now) }
 {
     match seek(alloc, rows)? {
-        Sought::Stands(kept, pivots) => found(alloc, rows, &kept.table, pivots),
+        Sought::Stands(classed, pivots) => found(alloc, rows, &classed.kept.table, pivots),
         Sought::Ends(solved) => Ok(solved),
     }
 }

@@ -1,5 +1,4 @@
 //! The table of a pivot run.
-use crate::numbers::Numbers;
 use nomos_ir::items::Items;
 
 /// The line of a basic variable: `times * basic` is the sum of the coefficients times the nonbasic variables.
@@ -7,7 +6,7 @@ use nomos_ir::items::Items;
 pub struct Line {
     pub times: i128,
     pub basic: usize,
-    pub coefs: Numbers,
+    pub coefs: Items<i128>,
 }
 
 /// Numbers of variables. Those from 1 on are the stars, and those after them the sums of the rows.

@@ -22,9 +22,11 @@ fn rows_text(alloc: Global) -> Result<String, AllocError> {
     ];
     let list = system(alloc, &[(&[1, -1], -1), (&[0, 1], 0)], &pairs, 2)?;
     let mut text = String::new(alloc);
-    for row in list.rows.as_slice() {
-        let next = format!(in alloc; "{:?} >= {}; ", row.coefs.as_slice(), row.least)?;
-        text.push_str(next.as_str())?;
+    for place in 0..list.rows.len() {
+        if let Some(row) = list.rows.row_at(place)? {
+            let next = format!(in alloc; "{:?} >= {}; ", row.coefs.as_slice(), row.least)?;
+            text.push_str(next.as_str())?;
+        }
     }
     Ok(text)
 }

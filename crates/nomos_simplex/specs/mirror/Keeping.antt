@@ -6,18 +6,14 @@ use Rattle.nomos_forms.specs.Bounds.{IsSmall}
 use Rattle.nomos_forms.specs.declared.row_list.RowList.{RowList}
 use Rattle.nomos_simplex.specs.Divisors.{in_lowest_terms}
 use Rattle.nomos_simplex.specs.Exchange.{coef_at, put_into, solved_for, is_large_line, is_large_table}
-use Rattle.nomos_simplex.specs.mirror.Places.{SkipsZeros}
+use Rattle.nomos_simplex.specs.mirror.SkipsZeros.{SkipsZeros}
 use Rattle.nomos_simplex.specs.Sizes.{IsNumber, HasNumbers}
 use Rattle.nomos_simplex.specs.Tables.{bound_of, sum_at}
 use Rattle.nomos_simplex.specs.declared.exchanging.Entry.{Entry}
 use Rattle.nomos_simplex.specs.declared.exchanging.Put.{Put}
 use Rattle.nomos_simplex.specs.declared.keeping.Kept.{Kept}
-use Rattle.nomos_simplex.specs.declared.keeping.Next.{Next}
-use Rattle.nomos_simplex.specs.declared.keeping.Next.TheVariants as next
 use Rattle.nomos_simplex.specs.declared.table.Line.{Line}
 use Rattle.nomos_simplex.specs.declared.table.Table.{Table}
-use Rattle.nomos_simplex.specs.declared.turn.Turn.{Turn}
-use Rattle.nomos_simplex.specs.declared.turn.Turn.TheVariants.{Ends, Goes}
 
 -- how far the basic variable of a line is over its bound, times the number before it
 abbrev pub over_of : RowList → List ℕ → Line → ℤ
@@ -93,9 +89,3 @@ AreMade rows entry lines made over true = list_any is_large_line lines ≡ true
 abbrev pub IsKeptOrLarge : RowList → Table → Option Kept → Type 0
 IsKeptOrLarge rows table (Some kept) = (kept.table ≡ table) × Shows rows kept × (is_large_table table ≡ false)
 IsKeptOrLarge rows table None = is_large_table table ≡ true
-
--- ---- a turn
--- what is kept of the table at which the run goes on, or its end
-abbrev pub IsNextOf : RowList → Turn → Next → Type 0
-IsNextOf rows turn (next.Ends answer) = Ends answer ≡ turn
-IsNextOf rows turn (next.Goes kept) = (Goes kept.table ≡ turn) × Shows rows kept

@@ -5,11 +5,12 @@ use Rattle.nomos_forms.specs.declared.form.Form.{Form}
 use Rattle.nomos_forms.specs.declared.row_list.RowList.{RowList}
 use Rattle.nomos_simplex.specs.Exchange.{coef_at}
 use Rattle.nomos_simplex.specs.Exits.{fractions, found_or_large}
-use Rattle.nomos_simplex.specs.LeastRun.{PivotsTo, Lowers, LeastRun, is_large_with}
+use Rattle.nomos_simplex.specs.LeastRun.{PivotsTo, EndsFound, Lowers, LeastRun, is_large_with}
 use Rattle.nomos_simplex.specs.Lowest.{leaving}
 use Rattle.nomos_simplex.specs.Nearest.{line_at}
 use Rattle.nomos_simplex.specs.PivotRun.{answer_to}
 use Rattle.nomos_simplex.specs.Sizes.{IsLine}
+use Rattle.nomos_simplex.specs.declared.classes.Classed.{Classed}
 use Rattle.nomos_simplex.specs.declared.keeping.Kept.{Kept}
 use Rattle.nomos_simplex.specs.declared.lowering.Aimed.{Aimed}
 use Rattle.nomos_simplex.specs.declared.lowering.LeastTurn.{LeastTurn}
@@ -20,7 +21,7 @@ use Rattle.nomos_simplex.specs.declared.solving.Sought.{Sought}
 use Rattle.nomos_simplex.specs.declared.solving.Sought.TheVariants as sought
 use Rattle.nomos_simplex.specs.declared.table.Line.{Line}
 use Rattle.nomos_simplex.specs.declared.table.Table.{Table}
-use Rattle.nomos_simplex.specs.mirror.Keeping.{Shows}
+use Rattle.nomos_simplex.specs.mirror.Classes.{ShowsFull}
 
 -- a sum, or nothing where it is at least 2^125
 abbrev pub IsSumOrHuge : ℤ → Option ℤ → Type 0
@@ -47,11 +48,12 @@ pub record MayLeave (table : Table) (column place : ℕ) : Type 0 where
   pub below : coef_at column (line_at table.lines place) <ℤ pos 0
 
 -- no basic variable is below its bound, and this is the answer of the pivot run
-pub record StandsAt (rows : RowList) (kept : Kept) (pivots : ℕ) : Type 0 where
-  pub reaches : PivotsTo rows pivots kept.table
-  pub none_below : leaving rows kept.table ≡ None
-  pub answer : found_or_large pivots (fractions rows kept.table) ≡ answer_to rows
-  pub shows : Shows rows kept
+pub record StandsAt (rows : RowList) (classed : Classed) (pivots : ℕ) : Type 0 where
+  pub full : Table
+  pub reaches : PivotsTo rows pivots full
+  pub none_below : leaving rows full ≡ None
+  pub answer : found_or_large pivots (fractions rows full) ≡ answer_to rows
+  pub shows : ShowsFull rows classed full
   pub most : pivots ≤ 2000
 
 -- an answer without amounts
@@ -62,17 +64,28 @@ IsNotFound (solved.Unsolved stop) = Unit {0}
 
 -- where the pivot run comes to
 abbrev pub IsSought : RowList → Sought → Type 0
-IsSought rows (sought.Stands kept pivots) = StandsAt rows kept pivots
+IsSought rows (sought.Stands classed pivots) = StandsAt rows classed pivots
 IsSought rows (sought.Ends answer) = (answer ≡ answer_to rows) × IsNotFound answer
+
+-- the pivot run ends where amounts are found, and this is kept of its table
+pub record EndsFoundAt (rows : RowList) (classed : Classed) (pivots : ℕ) : Type 0 where
+  pub full : Table
+  pub ends : EndsFound rows pivots full
+  pub shows : ShowsFull rows classed full
+
+-- the least run comes to a table, of which this is kept, and to the goal's line
+pub record LowersTo (rows : RowList) (goal : Form) (pivots : ℕ) (aimed : Aimed) : Type 0 where
+  pub full : Table
+  pub run : Lowers rows goal pivots full aimed.line
+  pub shows : ShowsFull rows aimed.classed full
 
 -- what a turn of the least run comes to
 abbrev pub IsNext : RowList → Form → ℕ → LeastTurn → Type 0
 IsNext rows goal pivots (next.Ends answer) = LeastRun rows goal answer
-IsNext rows goal pivots (next.Goes after) =
-    Lowers rows goal (pivots + 1) after.kept.table after.line × (pivots < 2000) × Shows rows after.kept
+IsNext rows goal pivots (next.Goes after) = LowersTo rows goal (pivots + 1) after × (pivots < 2000)
 
 -- what is kept of a table, and the goal's line, unless a number is too large
 abbrev pub IsAimedOrLarge : RowList → Table → Line → Option Aimed → Type 0
-IsAimedOrLarge rows table line (Some aimed) =
-    (aimed.kept.table ≡ table) × (aimed.line ≡ line) × Shows rows aimed.kept × (is_large_with table line ≡ false)
-IsAimedOrLarge rows table line None = is_large_with table line ≡ true
+IsAimedOrLarge rows full line (Some aimed) =
+    ShowsFull rows aimed.classed full × (aimed.line ≡ line) × (is_large_with full line ≡ false)
+IsAimedOrLarge rows full line None = is_large_with full line ≡ true

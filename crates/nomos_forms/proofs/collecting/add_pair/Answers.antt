@@ -1,13 +1,19 @@
-use Rattle.std.proofs.Common.{All, sym, subst}
-use Rattle.std.proofs.lemmas.List.Elements.{All-push}
-use Rattle.nomos_forms.specs.Bounds.{IsRow}
+use Rattle.std.proofs.Common.{[], ◌∷◌, ◌++◌}
+use Rattle.nomos_forms.specs.RowsOf.{difference_row, pair_rows}
+use Rattle.nomos_forms.specs.RowGroups.{rows_in}
+use Rattle.nomos_forms.proofs.CollectLemmas.{same-trans, same-swapped}
+use Rattle.nomos_forms.proofs.GroupLemmas.{same-behind}
 use Rattle.nomos_forms.proofs.collecting.add_pair.Goals as goal
 
-pub returns-clause-small : goal.returns-clause-small
-returns-clause-small c =
-    let P = IsRow c.args.stars in
-    subst (All P) (sym c.in_ok-push-2.ensures.items)
-    (All-push P c.push.new.self.items c.in_ok-second.second
-    (subst (All P) (sym c.in_ok-push.ensures.items) (All-push P c.args.rows.now.items c.in_ok-first.first c.requires.rows
-    c.in_ok-first.ensures.small))
-    c.in_ok-second.ensures.small)
+pub returns-clause-rows : goal.returns-clause-rows
+returns-clause-rows c =
+    let stars = c.args.stars in
+    let pair = c.args.pair.now in
+    let old = rows_in c.args.groups.now.items in
+    let mid = rows_in c.add_difference.new.groups.items in
+    let first = difference_row stars pair.0 pair.1 in
+    let second = difference_row stars pair.1 pair.0 in
+    same-trans (rows_in c.add_difference-2.new.groups.items) (first ∷ mid) (old ++ pair_rows stars pair) c.in_ok-add_difference-2.ensures.rows
+    (same-trans (first ∷ mid) (first ∷ second ∷ old) (old ++ pair_rows stars pair)
+    (same-behind (first ∷ []) mid (second ∷ old) c.in_ok-add_difference.ensures.rows)
+    (same-swapped (pair_rows stars pair) old))

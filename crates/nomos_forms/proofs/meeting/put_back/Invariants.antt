@@ -1,7 +1,8 @@
-use Rattle.std.proofs.Common.{All, take}
-use Rattle.nomos_forms.specs.Meeting.{MeetsRow}
+use Rattle.std.proofs.Common.{take}
+use Rattle.nomos_forms.specs.Meeting.{MeetsRows}
+use Rattle.nomos_forms.specs.RowGroups.{rows_in}
 use Rattle.nomos_forms.proofs.meeting.put_back.Given as goal
 
--- the rows so far are met
-abbrev pub invariant-loop-row : goal.invariant-loop-row
-invariant-loop-row l = All (MeetsRow l.found.stars l.found.unit) (take l.row-index l.list)
+-- the rows of the groups so far are met
+abbrev pub invariant-loop-group : goal.invariant-loop-group
+invariant-loop-group l = MeetsRows l.found.stars l.found.unit (rows_in (take l.group-index l.group-items))

@@ -1,9 +1,7 @@
 use Rattle.std.proofs.Common.{rules, ◌≡◌, pos, ◌<ℤ◌, ◌<◌, ◌^◌, FitsSigned, unsigned_abs, ap, sym, subst, ◌∙◌, arith}
 use Rattle.std.specs.Int.{w128}
-use Rattle.std.specs.Result.{IfOk}
 use Rattle.std.proofs.lemmas.Int.{ints, to_z-of_z, to_z_pos}
 use Rattle.nomos_simplex.specs.Divisors.{common, divided_by}
-use Rattle.nomos_simplex.specs.declared.table.Line.{Line}
 use Rattle.nomos_simplex.proofs.DivisorLemmas.{lowest_is, divided_by_one, divisor_size}
 use Rattle.nomos_simplex.proofs.divisors.lowest_terms.Goals as goal
 
@@ -49,5 +47,4 @@ returns c =
     let size = divisor_size line g c.requires is in
     let over = c.requires in
     let small : g < 2 ^ 127 = omega (arith, ints, size.1) in
-    subst (λ (l : Line). IfOk c.divided.result (λ made. made ≡ l))
-    (ap (λ z. divided_by z line) (to_z_pos w128 g small) ∙ sym (lowest_is line g c.requires is)) c.divided.ensures
+    c.divided.ensures ∙ ap (λ z. divided_by z line) (to_z_pos w128 g small) ∙ sym (lowest_is line g c.requires is)

@@ -21,7 +21,7 @@ returns-in-None c =
     let at : x ≡ get_or lines i x = c.index-lines-i.is ∙ ap (λ ls. get_or ls i x) c.loop-i.invariant.lines
     ∙ seam_at (entered entry) lines lines i x within refl in
     let made = subst (IsMade rows entry (entered entry (get_or c.loop-i.lines i x)) c.enter_kept.new.line) c.in-None.is
-    c.in_ok-made.ensures in
+    c.enter_kept.ensures in
     let large = subst (λ (l : Line). is_large_line (entered entry l) ≡ true) (sym c.index-lines-i.is) made in
     some_large (entered entry) lines i x within at large
 
@@ -44,7 +44,7 @@ loop-i-preserved c =
     let made = subst (λ (l : Line). IsMade rows entry (g l) c.enter_kept.new.line (Some c.in-Some.next))
     (sym c.index-lines-i.is)
     (subst (IsMade rows entry (g (get_or c.loop-i.lines i x)) c.enter_kept.new.line) c.in-Some.is
-    c.in_ok-made.ensures) in
+    c.enter_kept.ensures) in
     let fits : FitsSigned w128 c.in-Some.next = search rules in
     let back : to_z w128 (of_z w128 c.in-Some.next) ≡ h x = to_z-of_z w128 c.in-Some.next fits ∙ made.1 in
     record {

@@ -34,7 +34,7 @@ pub over_after-requires-clause-line : goal.over_after-requires-clause-line
 over_after-requires-clause-line c =
     let entry = c.args.entry.now in
     let line = c.args.line.now in
-    let is : c.enter.new.line ≡ entered entry line = c.in_ok-small.ensures.value in
+    let is : c.enter-small.new.line ≡ entered entry line = c.enter-small.ensures.value in
     let small : is_large_line (entered entry line) ≡ false =
     ap is_large_line (sym is) ∙ sym c.is_too_large.ensures ∙ c.if-is_too_large.false in
     subst (IsLine (length entry.left.coefs)) (sym is) (entered_line entry line c.requires.entry c.requires.line small)
@@ -45,9 +45,9 @@ over_after-requires-clause-put c =
     let entry = c.args.entry.now in
     let line = c.args.line.now in
     let over = to_z-of_z w128 c.args.over c.ranges.over ∙ c.requires.over in
-    some_weaker (IsPut rows entry line) (IsKeptPut rows entry c.enter.new.line) c.put_of-put.result
-    (λ put. put_kept rows entry line c.enter.new.line put c.requires.entry c.requires.line
-    c.in_ok-small.ensures.value)
+    some_weaker (IsPut rows entry line) (IsKeptPut rows entry c.enter-small.new.line) c.put_of-put.result
+    (λ put. put_kept rows entry line c.enter-small.new.line put c.requires.entry c.requires.line
+    c.enter-small.ensures.value)
     (c.put_of-put.ensures rows c.requires.shows over)
 
 pub returns : goal.returns
@@ -55,7 +55,7 @@ returns c =
     let rows = c.args.rows.now in
     let entry = c.args.entry.now in
     let line = c.args.line.now in
-    let is : c.enter.new.line ≡ entered entry line = c.in_ok-small.ensures.value in
+    let is : c.enter-small.new.line ≡ entered entry line = c.enter-small.ensures.value in
     let fits : FitsSigned w128 c.over_after.result = search rules in (
       is,
       to_z-of_z w128 c.over_after.result fits ∙ c.over_after.ensures ∙ ap (over_of rows entry.nonbasic.items) is,

@@ -15,7 +15,7 @@ use Rattle.nomos_simplex.specs.declared.exchanging.Entry.{Entry}
 use Rattle.nomos_simplex.specs.declared.table.Line.{Line}
 use Rattle.nomos_simplex.specs.mirror.Keeping.{over_of, entered, solved_line, AreMade}
 use Rattle.nomos_simplex.specs.mirror.Opposite.{oriented_of}
-use Rattle.nomos_simplex.specs.mirror.Places.{SkipsZeros}
+use Rattle.nomos_simplex.specs.mirror.SkipsZeros.{SkipsZeros}
 use Rattle.nomos_simplex.proofs.KeepingLemmas.{removed_overs, set_again, lines_by_oriented}
 use Rattle.nomos_simplex.proofs.OppositeLemmas.{oriented_over, oriented_width, oriented_numbers, oriented_basic}
 use Rattle.nomos_simplex.proofs.exchanging.exchange.Goals as goal

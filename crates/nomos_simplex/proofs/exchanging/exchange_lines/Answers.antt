@@ -31,10 +31,10 @@ returns c =
     let f = λ (line : Line). over_of rows entry.nonbasic.items line in
     let all = map (entered entry) c.args.lines.now.items in
     let front = ap (map (entered entry)) c.deref_mut.ensures.value in
-    let made = subst (AreMade rows entry (map (entered entry) c.deref_mut.result.now) c.enter_all.new.lines
-    c.enter_all.new.over) c.if-large.false c.in_ok-large.ensures in
-    let lines : c.enter_all.new.lines ≡ all = made.0 ∙ front in
-    let over : c.enter_all.new.over ≡ map f all = made.1 ∙ ap (map f) front in
+    let made = subst (AreMade rows entry (map (entered entry) c.deref_mut.result.now) c.enter_all-large.new.lines
+    c.enter_all-large.new.over) c.if-large.false c.enter_all-large.ensures in
+    let lines : c.enter_all-large.new.lines ≡ all = made.0 ∙ front in
+    let over : c.enter_all-large.new.over ≡ map f all = made.1 ∙ ap (map f) front in
     let width = length-map c.args.lines.now.items (entered entry) in
     let count_lines = sym c.deref_mut.ensures.len ∙ ap length c.deref_mut.ensures.value ∙ sym width
     ∙ ap length (sym lines) in
@@ -49,11 +49,11 @@ returns c =
     ∙ over_by_bounds rows entry.nonbasic.items c.deref.result.now c.in_ok-line.line (c.deref.ensures.value
     ∙ c.requires.shows.value) ∙ ap f is in (
       c.in_ok-push-2.ensures.items
-          ∙ (λ p. (written c.args.lines.now.len c.enter_all.new.lines
-          (drop (length c.enter_all.new.lines) c.args.lines.now.items) count_lines ∙ lines) p ++ is p ∷ []),
+          ∙ (λ p. (written c.args.lines.now.len c.enter_all-large.new.lines
+          (drop (length c.enter_all-large.new.lines) c.args.lines.now.items) count_lines ∙ lines) p ++ is p ∷ []),
       c.in_ok-push.ensures.items
-          ∙ (λ p. (written c.args.over.now.len c.enter_all.new.over
-          (drop (length c.enter_all.new.over) c.args.over.now.items) count_over ∙ over) p ++ value p ∷ [])
+          ∙ (λ p. (written c.args.over.now.len c.enter_all-large.new.over
+          (drop (length c.enter_all-large.new.over) c.args.over.now.items) count_over ∙ over) p ++ value p ∷ [])
           ∙ sym (map_behind f all (solved_line entry)),
       none_behind all (solved_line entry) (ap (list_any is_large_line) (sym front) ∙ made.2) small,
     )

@@ -35,8 +35,8 @@ returns-in_default c =
     c.requires.star.positive c.requires.star.times c.requires.lowest_line huge.1 huge.2 in
     ap (λ (b : Bool). cond b None (Some made)) (sym large)
 
-pub lowest_terms-requires : goal.lowest_terms-requires
-lowest_terms-requires c =
+pub lowest_terms-made-requires : goal.lowest_terms-made-requires
+lowest_terms-made-requires c =
     let line = c.args.line.now in
     let star = c.args.star.now in
     let times = number_back line.times c.requires.line.times in

@@ -24,16 +24,16 @@ pub lowest_terms-requires : goal.lowest_terms-requires
 lowest_terms-requires c =
     let left = c.args.left.now in
     let positive = subst (λ (l : Line). pos 0 <ℤ l.times) (sym c.replace-own.ensures.value) c.requires.line.positive in
-    let times = ap (λ (l : Line). l.times) c.in_ok-made.ensures.made in
+    let times = ap (λ (l : Line). l.times) c.with_entered-made.ensures.made in
     subst (λ z. pos 0 <ℤ z) (sym times) (product_over (coef_at c.args.column left) c.replace-own.result.times
     c.requires.over_zero positive)
 
 pub returns-clause-small : goal.returns-clause-small
 returns-clause-small c = λ t.
-    let made = c.in_ok-made.made in
+    let made = c.with_entered-made.result.0 in
     let left = c.args.left.now in
     let positive = subst (λ (l : Line). pos 0 <ℤ l.times) (sym c.replace-own.ensures.value) c.requires.line.positive in
-    let times = ap (λ (l : Line). l.times) c.in_ok-made.ensures.made in
+    let times = ap (λ (l : Line). l.times) c.with_entered-made.ensures.made in
     let over = subst (λ z. pos 0 <ℤ z) (sym times) (product_over (coef_at c.args.column left) c.replace-own.result.times
     c.requires.over_zero positive) in
-    subst HasNumbers (sym c.in_ok-line.ensures) (lowest_small made over (c.in_ok-made.ensures.small t))
+    subst HasNumbers (sym c.lowest_terms.ensures) (lowest_small made over (c.with_entered-made.ensures.small t))

@@ -20,7 +20,7 @@ returns-clause-made c =
     let by_is = c.as_slice-by.ensures in
     let p = ap (λ xs. to_z w128 (of_z w128 (get_or xs j (pos 0)))) by_is
     ∙ number_back (coef_at j left) (c.requires.left.coefs j (pos 0) c.requires.column) in
-    let at = c.index-g.ensures ∙ ap (λ xs. get_or xs j e) c.in_ok-coefs.ensures
+    let at = c.index-g.ensures ∙ ap (λ xs. get_or xs j e) c.into_vec-coefs.ensures
     ∙ get_or_default line.coefs j e (pos 0) within in
     let g : to_z w128 (of_z w128 e) ≡ coef_at j line = (λ q. to_z w128 (of_z w128 (at q)))
     ∙ number_back (coef_at j line) (c.requires.line.coefs j (pos 0) within) in
@@ -28,14 +28,14 @@ returns-clause-made c =
     ∙ c.product-entering.ensures.value ∙ (λ q. g q *ℤ number_back left.times c.requires.left.times q) in
     let times = wide_back c.product-times.result (omega (arith, c.product-times.ensures.size))
     ∙ c.product-times.ensures.value ∙ (λ q. p q *ℤ number_back line.times c.requires.line.times q) in
-    let old : c.deref_mut.result.now ≡ line.coefs = c.deref_mut.ensures.value ∙ c.in_ok-coefs.ensures in
+    let old : c.deref_mut.result.now ≡ line.coefs = c.deref_mut.ensures.value ∙ c.into_vec-coefs.ensures in
     let all = eliminated (coef_at j left) (coef_at j line) line.coefs left.coefs in
     let made : c.eliminate-all.new.of ≡ all = c.eliminate-all.ensures.value
     ∙ (λ q. eliminated (p q) (g q) (old q) (by_is q)) in
     let count = sym c.deref_mut.ensures.len ∙ ap length old
     ∙ sym (length-eliminated (coef_at j left) (coef_at j line) line.coefs left.coefs c.requires.line.width)
     ∙ ap length (sym made) in
-    let rest = drop (length c.eliminate-all.new.of) c.in_ok-coefs.coefs.items in
+    let rest = drop (length c.eliminate-all.new.of) c.into_vec-coefs.result.items in
     let written = ap (λ n. take n (c.eliminate-all.new.of ++ rest)) count ∙ take-append_seam c.eliminate-all.new.of rest
     ∙ made in
     let coefs = c.of_vec.ensures ∙ (λ q. set (written q) j (first q)) in
@@ -48,7 +48,7 @@ returns-clause-small c = λ t.
     let j = c.args.column in
     let e = to_z w128 (of_z w128 c.product-entering.result) in
     let made = c.eliminate-all.new.of in
-    let rest = drop (length made) c.in_ok-coefs.coefs.items in
+    let rest = drop (length made) c.into_vec-coefs.result.items in
     let count = sym c.deref_mut.ensures.len ∙ sym c.eliminate-all.auto.of in
     let written = ap (λ n. take n (made ++ rest)) count ∙ take-append_seam made rest in
     let coefs = All-set IsNumber made j e inner.1 (c.eliminate-all.ensures.small inner.0) in

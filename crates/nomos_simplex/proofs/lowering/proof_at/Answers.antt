@@ -16,6 +16,6 @@ pub resolved-requires : goal.resolved-requires
 resolved-requires c =
     let Q = IsVariable c.args.rows.now in
     let P : ℕ × ℕ → Type 0 = λ w. Q w.0 in
-    let nonbasic = subst (All Q) (sym c.as_slice-2.ensures) c.requires.nonbasic in
+    let nonbasic = subst (All Q) (sym c.as_slice-nonbasic.ensures) c.requires.nonbasic in
     subst (All P) (sym (c.deref-2.ensures.value ∙ c.in_ok-weights.ensures))
-    (weights_all Q c.as_slice-2.result.now c.deref.result.now nonbasic)
+    (weights_all Q c.as_slice-nonbasic.result.now c.deref.result.now nonbasic)

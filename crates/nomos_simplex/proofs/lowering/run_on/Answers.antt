@@ -1,30 +1,38 @@
 use Rattle.std.proofs.Common.{sym, ◌∙◌}
 use Rattle.nomos_simplex.specs.LeastRun.{LeastRun}
-use Rattle.nomos_simplex.proofs.LoweringLemmas.{reached-is_table, lines-are_lines, few_columns}
+use Rattle.nomos_simplex.specs.mirror.Classes.{IsReached}
+use Rattle.nomos_simplex.proofs.ClassLoweringLemmas.{kept-few, kept-lines, stands-kept, found-stands}
 use Rattle.nomos_simplex.proofs.lowering.run_on.Goals as goal
 
 pub found-requires-clause-few : goal.found-requires-clause-few
 found-requires-clause-few c =
-    few_columns c.args.rows.now c.args.kept.table
-    (reached-is_table c.args.rows.now c.args.pivots c.args.kept.table c.requires.stands.reaches)
+    let rows = c.args.rows.now in
+    kept-few rows c.args.classed (stands-kept rows c.args.classed c.args.pivots c.requires.stands)
 
 pub found-requires-clause-lines : goal.found-requires-clause-lines
 found-requires-clause-lines c =
-    lines-are_lines c.args.rows.now c.args.kept.table
-    (reached-is_table c.args.rows.now c.args.pivots c.args.kept.table c.requires.stands.reaches)
+    let rows = c.args.rows.now in
+    kept-lines rows c.args.classed (stands-kept rows c.args.classed c.args.pivots c.requires.stands)
 
 pub lower_from-requires-clause-run : goal.lower_from-requires-clause-run
-lower_from-requires-clause-run c = record {
-  reaches = c.requires.stands.reaches;
-  none_below = c.requires.stands.none_below;
-  found = c.in-Found.field-0;
-  answer = sym c.requires.stands.answer ∙ sym c.in_ok-found.ensures ∙ c.in-Found.is;
-}
-
-pub returns-in-Refuted : goal.returns-in-Refuted
-returns-in-Refuted c = LeastRun.refuted c.in-Refuted.verdict
-    (sym c.requires.stands.answer ∙ sym c.in_ok-found.ensures ∙ c.in-Refuted.is)
+lower_from-requires-clause-run c =
+    let s = c.requires.stands in
+    let same = found-stands c.args.rows.now c.args.classed s.full c.args.pivots
+    (IsReached.by_pivots c.args.pivots s.reaches) s.shows in
+    record {
+      full = s.full;
+      ends = record {
+        reaches = s.reaches;
+        none_below = s.none_below;
+        found = c.in-Found.field-0;
+        answer = sym s.answer ∙ sym same ∙ sym c.in_ok-found.ensures ∙ c.in-Found.is;
+      };
+      shows = s.shows;
+    }
 
 pub returns-in-Unsolved : goal.returns-in-Unsolved
-returns-in-Unsolved c = LeastRun.stopped c.in-Unsolved.stop
-    (sym c.requires.stands.answer ∙ sym c.in_ok-found.ensures ∙ c.in-Unsolved.is)
+returns-in-Unsolved c =
+    let s = c.requires.stands in
+    let same = found-stands c.args.rows.now c.args.classed s.full c.args.pivots
+    (IsReached.by_pivots c.args.pivots s.reaches) s.shows in
+    LeastRun.stopped c.in-Unsolved.stop (sym s.answer ∙ sym same ∙ sym c.in_ok-found.ensures ∙ c.in-Unsolved.is)

@@ -1,9 +1,6 @@
-use Rattle.std.proofs.Common.{◌≡◌, ◌+◌, take}
-use Rattle.nomos_simplex.specs.Tables.{lines_from}
+use Rattle.std.proofs.Common.{◌≡◌, map, take}
+use Rattle.nomos_simplex.specs.mirror.Classes.{line_of_class}
 use Rattle.nomos_simplex.proofs.solving.first_lines.Given as goal
 
 abbrev pub invariant-loop-i : goal.invariant-loop-i
-invariant-loop-i l = record {
-  lines : l.lines.items ≡ lines_from (l.rows.stars + 1) (take l.i l.rows.rows);
-  wide : l.wide ≡ l.before;
-}
+invariant-loop-i l = l.lines.items ≡ map (line_of_class l.rows) (take l.i l.classes)
