@@ -38,10 +38,10 @@ use Rattle.nomos_machine.specs.declared.object.Payload.TheVariants as payload
 use Rattle.nomos_machine.specs.declared.object.PotentialList.{PotentialList}
 use Rattle.nomos_machine.specs.declared.object.Process.{Process}
 use Rattle.nomos_machine.proofs.ChangeLaws.{Replaces, news}
-use Rattle.nomos_machine.proofs.ForwardLaws.{user_of-found}
 use Rattle.nomos_machine.proofs.IdleLaws.{idle, idle_at, idle_among, idle_at-most, idle-own, idle-instead, idle-first, idle-next, idle-second, idle-chosen, idle-accepted, idle-detached, idle-found, idle-either, placed-first, placed-weighs}
 use Rattle.nomos_machine.proofs.PutLaws.{InOrder, object_at-own, object_at-other, object_at-put}
 use Rattle.nomos_machine.proofs.RenameLaws.{instead-number}
+use Rattle.nomos_machine.proofs.UserLaws.{user_of-found}
 
 -- what comes by a change, and is idle
 abbrev pub idle_news : Acceptance → Change → ℕ

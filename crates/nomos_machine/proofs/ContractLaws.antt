@@ -11,7 +11,7 @@ use Rattle.nomos_types.specs.Acceptance.{Acceptance, IsAccepted}
 use Rattle.nomos_types.specs.Modes.{HasMode}
 use Rattle.nomos_machine.specs.Change.{Change, made, changed}
 use Rattle.nomos_machine.specs.Objects.{mentioned, times}
-use Rattle.nomos_machine.specs.Outside.{opens_talk}
+use Rattle.nomos_machine.specs.Opening.{opens_talk}
 use Rattle.nomos_machine.specs.Run.{run}
 use Rattle.nomos_machine.specs.Starting.{CanStart, opened, credited, cleared, starts, started}
 use Rattle.nomos_machine.specs.State.{State, NameTypes, type_of}

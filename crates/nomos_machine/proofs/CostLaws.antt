@@ -16,7 +16,7 @@ use Rattle.nomos_machine.specs.Deeds.{changes}
 use Rattle.nomos_ir.specs.TermsEvaluation.{TermsResult, terms_evaluation}
 use Rattle.nomos_machine.specs.Given.{Given, begins}
 use Rattle.nomos_machine.specs.Optional.{◌>>=◌}
-use Rattle.nomos_machine.specs.Outside.{opens_talk}
+use Rattle.nomos_machine.specs.Opening.{opens_talk}
 use Rattle.nomos_machine.specs.Run.{run}
 use Rattle.nomos_machine.specs.Starting.{started}
 use Rattle.nomos_machine.specs.State.{State}
@@ -108,7 +108,7 @@ run-costs {a} accepted under s t pids typed is =
     }
 
 -- where objects come of which none is idle, and no gas is spent, nothing is fired
-costs-nothing : (a : Acceptance) (s t : State) → idle_among a t.objects ≡ idle_among a s.objects → t.spent ≡ s.spent
+pub costs-nothing : (a : Acceptance) (s t : State) → idle_among a t.objects ≡ idle_among a s.objects → t.spent ≡ s.spent
     → RunCosts a 0 s t
 costs-nothing a s t same spent =
     let as_many = ap (λ (n : ℕ). a.annotations.unit * n) same in

@@ -27,6 +27,7 @@ use Rattle.nomos_machine.specs.Given.{given}
 use Rattle.nomos_machine.specs.Objects.{object_number, object_at, potential_of, process_of}
 use Rattle.nomos_machine.specs.Optional.{◌>>=◌}
 use Rattle.nomos_machine.specs.Revised.{standing_at, under_name, with_channel, with_value, with_list, list_used_up, renamed, uses_instead}
+use Rattle.nomos_machine.specs.Run.{run}
 use Rattle.nomos_machine.specs.Sight.{is_own, present_name, message_on, offering, user_of, after_acquire, accept_next, detach_next}
 use Rattle.nomos_machine.specs.State.{State, node_of, process_at}
 use Rattle.nomos_machine.specs.Step.{deed, deed_by, fault, fault_in, step}
@@ -39,11 +40,12 @@ use Rattle.nomos_machine.specs.declared.object.PotentialList.{PotentialList}
 use Rattle.nomos_machine.specs.declared.object.Process.{Process}
 use Rattle.nomos_machine.proofs.ChangeLaws.{Replaces, done, further}
 use Rattle.nomos_machine.proofs.FiringLaws.{step-fires}
-use Rattle.nomos_machine.proofs.ForwardLaws.{user_of-found}
 use Rattle.nomos_machine.proofs.MessageLaws.{message_on-found}
-use Rattle.nomos_machine.proofs.PreservationLaws.{process_at-there}
+use Rattle.nomos_machine.proofs.PlainLaws.{run-by_any_steps}
+use Rattle.nomos_machine.proofs.PreservationLaws.{process_at-there, step-keeps}
 use Rattle.nomos_machine.proofs.PutLaws.{InOrder, HasNumber, object_at-own, object_at-other, object_at-put}
 use Rattle.nomos_machine.proofs.SectionLaws.{offering-found}
+use Rattle.nomos_machine.proofs.UserLaws.{user_of-found}
 
 -- ---- which places a deed has
 
@@ -513,3 +515,12 @@ fault-stays {a} accepted {s} {t} typed fires pid f steps is =
     in
     ap (λ (o : Option Process). (o >>= deed a t) >>= fault_in) found
     ∙ ap (λ (d : Option Deed). d >>= fault_in) ((deed-same a s t faulty.r stands.q stands.same).goes f faulty.has)
+
+-- and through a run of others
+pub run-fault_stays : {a : Acceptance} → IsAccepted a → (s t : State) (pids : List ℕ) → IsTyped a s
+    → run a s pids ≡ Some t → (pid : ℕ) (f : Fault) → fault a s pid ≡ Some f → fault a t pid ≡ Some f
+run-fault_stays {a} accepted s t pids typed is =
+    run-by_any_steps a (λ n s t. IsTyped a s → (pid : ℕ) (f : Fault) → fault a s pid ≡ Some f → fault a t pid ≡ Some f)
+    (λ s typed pid f is. is)
+    (λ n s u t fires steps rest typed pid f is. rest (step-keeps accepted typed fires u steps).typed pid f
+    (fault-stays accepted typed fires pid f steps is)) s t pids is typed

@@ -1,5 +1,5 @@
 -- A firing as what it is: the change that a process of a typed state makes.
-use Rattle.std.proofs.Common.{◌≡◌, ℕ, suc, Bool, List, [], ◌∷◌, length, Contains, Option, Some, None, refl, subst}
+use Rattle.std.proofs.Common.{◌≡◌, ℕ, suc, Bool, List, length, Contains, Option, Some, None, refl}
 use Rattle.nomos_types.specs.Acceptance.{Acceptance, IsAccepted}
 use Rattle.nomos_machine.specs.Change.{Change, changed}
 use Rattle.nomos_machine.specs.Deeds.{Deed, changes}
@@ -17,6 +17,7 @@ use Rattle.nomos_machine.proofs.DeedLaws.{deed-goes}
 use Rattle.nomos_machine.proofs.FitLaws.{Fits}
 use Rattle.nomos_machine.proofs.GasLaws.{KeepsGas}
 use Rattle.nomos_machine.proofs.GoesLaws.{Goes, acts, faulty, waits}
+use Rattle.nomos_machine.proofs.PlainLaws.{run-by_any_steps}
 use Rattle.nomos_machine.proofs.PreservationLaws.{process_at-there, step-keeps}
 
 -- The process that fires, the change that it makes, and the objects that are replaced.
@@ -64,21 +65,12 @@ module _ {a : Acceptance} (accepted : IsAccepted a) {s : State} (typed : IsTyped
 
 -- ---- runs
 
--- What holds of a state and itself, and goes on through each step from a typed state, holds from the first state of a
--- run to its last one.
+-- What holds of a state and itself, and goes on through each step from a typed state, as the change that it is, holds
+-- from the first state of a run to its last one.
 pub run-by_steps : {a : Acceptance} → IsAccepted a → (P : ℕ → State → State → Type 0) → ((s : State) → P 0 s s)
     → ((n : ℕ) (s u t : State) → IsTyped a s → FiringChange a s u → P n u t → P (suc n) s t)
     → (s t : State) (pids : List ℕ) → IsTyped a s → run a s pids ≡ Some t → P (length pids) s t
-run-by_steps {a} accepted P same goes s t [] typed is = subst (P 0 s) (one-state is) (same s)
-  where
-    one-state : Some s ≡ Some t → s ≡ t
-    one-state e = cc
-run-by_steps {a} accepted P same goes s t (pid ∷ pids) typed is =
-    at (step a s pid) refl is (λ u typed_u. run-by_steps accepted P same goes u t pids typed_u)
-  where
-    at : (o : Option State) → step a s pid ≡ o → (o >>= λ next. run a next pids) ≡ Some t
-        → ((u : State) → IsTyped a u → run a u pids ≡ Some t → P (length pids) u t) → P (length (pid ∷ pids)) s t
-    at (Some u) steps runs rest =
-        goes (length pids) s u t typed (step-fires accepted typed pid u steps)
-        (rest u (step-keeps accepted typed pid u steps).typed runs)
-    at None steps runs rest = absurd cc
+run-by_steps {a} accepted P same goes s t pids typed is =
+    run-by_any_steps a (λ n s t. IsTyped a s → P n s t) (λ s typed. same s)
+    (λ n s u t pid steps rest typed. goes n s u t typed (step-fires accepted typed pid u steps)
+    (rest (step-keeps accepted typed pid u steps).typed)) s t pids is typed

@@ -133,7 +133,7 @@ kept-mentioned s c name some = told (is_mentioned (made s c).objects name) refl
     told false none = absurd (omega (arith, (mentioned-told (made s c).objects name).1 none))
 
 -- a name that has a type is mentioned, and has it as the state is made
-mentioned-kept : (s : State) (c : Change) (name : ℕ) (t : TypeId) → type_of (changed s c).types name ≡ Some t
+pub mentioned-kept : (s : State) (c : Change) (name : ℕ) (t : TypeId) → type_of (changed s c).types name ≡ Some t
     → (1 ≤ times mentioned (made s c).objects name) × (type_of (made s c).types name ≡ Some t)
 mentioned-kept s c name t found = told (is_mentioned (made s c).objects name) refl
   where

@@ -1,9 +1,7 @@
 -- A process that forwards: it leaves its place to the one channel that it has to use.
-use Rattle.std.proofs.Common.{if◌then◌else◌, ◌≡◌, ◌≢◌, ◌∙◌, ◌≤◌, ◌⊎◌, inl, inr, ℕ, ◌+◌, ◌==◌, cond, Bool, true, false, List, [], ◌∷◌, ◌++◌, map, length, All, Contains, Option, Some, None, IsSome, slice_get, refl, sym, subst, ap, arith, append-nil, ne_eqb, eq-eqb, sum_by}
+use Rattle.std.proofs.Common.{if◌then◌else◌, ◌≡◌, ◌≢◌, ◌∙◌, ◌≤◌, ◌⊎◌, inl, inr, ℕ, ◌+◌, cond, Bool, true, List, [], ◌∷◌, ◌++◌, map, length, All, Contains, Option, Some, None, IsSome, slice_get, refl, sym, subst, ap, arith, append-nil, ne_eqb, eq-eqb, sum_by}
 use Rattle.std.proofs.lemmas.Bool.{cases_eq}
-use Rattle.std.proofs.lemmas.List.Elements.{All-nil, All-cons, All-contains, All-weaker, Contains-append_left, Contains-append_right}
-use Rattle.std.proofs.lemmas.List.Sums.{sum_by-cons}
-use Rattle.std.specs.List.{list_any}
+use Rattle.std.proofs.lemmas.List.Elements.{All-nil, All-cons, All-contains, All-weaker, Contains-append_left}
 use Rattle.std.specs.Option.{option_map, option_or, option_to_list}
 use Rattle.nomos_ir.specs.Bindings.{bound_to}
 use Rattle.nomos_ir.specs.Order.{count_of}
@@ -41,52 +39,13 @@ use Rattle.nomos_machine.proofs.FitLaws.{Fits}
 use Rattle.nomos_machine.proofs.GoesLaws.{Goes, acts, process-typed, process-variables, own-row, own-stands}
 use Rattle.nomos_machine.proofs.HeldLaws.{linear-name, based-shared}
 use Rattle.nomos_machine.proofs.MeetingLaws.{linear-alone}
-use Rattle.nomos_machine.proofs.NameLaws.{mentioned-sum, times-one, names-told}
+use Rattle.nomos_machine.proofs.NameLaws.{mentioned-sum, times-one}
 use Rattle.nomos_machine.proofs.ObjectLaws.{bound-somewhere, bound-among, object-kept}
 use Rattle.nomos_machine.proofs.OwnedLaws.{made-times}
 use Rattle.nomos_machine.proofs.ProcessLaws.{own_judgement, place-is_judgement}
 use Rattle.nomos_machine.proofs.PutLaws.{object_at-own, object_at-other, object_at-put, put-new, put-kept}
 use Rattle.nomos_machine.proofs.RenameLaws.{renamed-other, renamed-third, renamed-gone, renamed-new, renamed-itself, instead-number, instead-uses, instead-provides, instead-based, instead-stands, instead-end, renamed-typed, renamed-differ}
-
--- ---- the user of a name
-
-user-first : (name : ℕ) (e u : Object) (objects : List Object) (t : Bool) → list_any (λ n. n == name) (used e) ≡ t
-    → cond t (Some e) (user_of objects name) ≡ Some u
-    → (user_of objects name ≡ Some u → Contains objects u × (1 ≤ count_of name (used u)))
-    → Contains (e ∷ objects) u × (1 ≤ count_of name (used u))
-user-first name e u objects true uses found rest =
-    let same : e ≡ u = cc in (
-      Contains-append_left (e ∷ []) objects u (0, omega arith, same),
-      subst (λ (o : Object). 1 ≤ count_of name (used o)) same ((names-told (used e) name).0 uses),
-    )
-user-first name e u objects false uses found rest =
-    let further_on = rest found in
-    (Contains-append_right (e ∷ []) objects u further_on.0, further_on.1)
-
--- what is found uses the name
-pub user_of-found : (name : ℕ) (u : Object) (objects : List Object) → user_of objects name ≡ Some u
-    → Contains objects u × (1 ≤ count_of name (used u))
-user_of-found name u [] found = absurd cc
-user_of-found name u (e ∷ objects) found =
-    user-first name e u objects (list_any (λ n. n == name) (used e)) refl found (user_of-found name u objects)
-
-unused-first : (name : ℕ) (e : Object) (objects : List Object) (t : Bool) → list_any (λ n. n == name) (used e) ≡ t
-    → cond t (Some e) (user_of objects name) ≡ None → (user_of objects name ≡ None → times used objects name ≡ 0)
-    → times used (e ∷ objects) name ≡ 0
-unused-first name e objects true uses found rest = absurd (differ found)
-  where
-    differ : Some e ≡ None → ⊥
-    differ is = cc
-unused-first name e objects false uses found rest =
-    let here = (names-told (used e) name).1 uses in
-    let behind = rest found in
-    omega (arith, sum_by-cons (λ (o : Object). count_of name (used o)) e objects, here, behind)
-
--- where none is found nobody uses it
-pub user_of-none : (name : ℕ) (objects : List Object) → user_of objects name ≡ None → times used objects name ≡ 0
-user_of-none name [] found = refl
-user_of-none name (e ∷ objects) found =
-    unused-first name e objects (list_any (λ n. n == name) (used e)) refl found (user_of-none name objects)
+use Rattle.nomos_machine.proofs.UserLaws.{user_of-found, user_of-none}
 
 module _ {a : Acceptance} (accepted : IsAccepted a) {s : State} (typed : IsTyped a s) {p : Process}
     (there : Contains s.objects (object.Process p)) (v : VarId)

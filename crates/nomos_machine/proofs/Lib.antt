@@ -39,8 +39,10 @@ pub mod AcquireLaws
 pub mod ReleaseLaws
 pub mod MeetingLaws
 pub mod SharingDeeds
+pub mod UserLaws
 pub mod ForwardLaws
 pub mod DeedLaws
+pub mod PlainLaws
 pub mod PreservationLaws
 pub mod SpeakerLaws
 pub mod UnexpectedLaws
@@ -57,7 +59,18 @@ pub mod RunLaws
 pub mod PolicyLaws
 pub mod ContractLaws
 pub mod OutsideLaws
+pub mod BalanceLaws
+pub mod LifeLaws
 pub mod IdleLaws
 pub mod ChargeDeeds
 pub mod CostLaws
 mod OutsideExamples
+mod WrongExamples
+mod WrongValueExamples
+pub mod AwaitLaws
+pub mod SayingLaws
+pub mod HearingLaws
+pub mod OpeningLaws
+pub mod PurseLaws
+pub mod OutsideTalkLaws
+pub mod RestLaws

@@ -1,5 +1,5 @@
 -- In a typed state each name that is used exactly once has one owner, and an outside name has none.
-use Rattle.std.proofs.Common.{◌≡◌, ◌≤◌, inl, inr, ℕ, Contains, Option, Some, None, refl, ap, arith}
+use Rattle.std.proofs.Common.{◌≡◌, ◌≤◌, inl, inr, ℕ, Option, Some, None, refl, ap, arith}
 use Rattle.std.specs.Option.{option_map}
 use Rattle.std.proofs.lemmas.Bool.{cases_eq}
 use Rattle.nomos_ir.specs.Order.{count_of}
@@ -9,29 +9,21 @@ use Rattle.nomos_ir.specs.declared.mode.Mode.TheVariants as mode
 use Rattle.nomos_types.specs.Acceptance.{Acceptance, IsAccepted}
 use Rattle.nomos_types.specs.Modes.{HasMode, IsLinearMode}
 use Rattle.nomos_machine.specs.Objects.{object_number, used, times}
-use Rattle.nomos_machine.specs.Sight.{user_of, owner}
+use Rattle.nomos_machine.specs.Sight.{user_of, owner, HasOneOwner}
 use Rattle.nomos_machine.specs.State.{State, type_of}
 use Rattle.nomos_machine.specs.TypedState.{IsTyped}
 use Rattle.nomos_machine.specs.declared.object.Object.{Object}
-use Rattle.nomos_machine.proofs.ApartLaws.{times-two}
-use Rattle.nomos_machine.proofs.ForwardLaws.{user_of-found, user_of-none}
+use Rattle.nomos_machine.proofs.ApartLaws.{one-object, times-two}
 use Rattle.nomos_machine.proofs.NameLaws.{times-one}
 use Rattle.nomos_machine.proofs.NotWrongLaws.{name-used_once, outside-unused}
-
--- The owner of a name is found by search, and is the one object that uses it, which it does once.
-pub record HasOwner (s : State) (name : ℕ) : Type 0 where
-  pub object : Object
-  pub there : Contains s.objects object
-  pub found : owner s name ≡ Some (object_number object)
-  pub uses : count_of name (used object) ≡ 1
-  pub only : (o : Object) → Contains s.objects o → 1 ≤ count_of name (used o) → object_number o ≡ object_number object
+use Rattle.nomos_machine.proofs.UserLaws.{user_of-found, user_of-none}
 
 module _ {a : Acceptance} (accepted : IsAccepted a) {s : State} (typed : IsTyped a s) where
   -- a name that is used once has an owner
-  used-owned : (name : ℕ) → times used s.objects name ≡ 1 → HasOwner s name
+  used-owned : (name : ℕ) → times used s.objects name ≡ 1 → HasOneOwner s name
   used-owned name once = by_user (user_of s.objects name) refl
     where
-      by_user : (user : Option Object) → user_of s.objects name ≡ user → HasOwner s name
+      by_user : (user : Option Object) → user_of s.objects name ≡ user → HasOneOwner s name
       by_user (Some u) is =
           let (inside, some) = user_of-found name u s.objects is in
           record {
@@ -39,9 +31,9 @@ module _ {a : Acceptance} (accepted : IsAccepted a) {s : State} (typed : IsTyped
             there = inside;
             found = ap (λ (o : Option Object). option_map object_number o) is;
             uses = omega (arith, some, times-one used name s.objects u inside, once);
-            only = λ o within uses.
+            alone = λ o within uses.
                 elim (cases_eq (object_number o) (object_number u)) [
-                  | inl same ↦ same
+                  | inl same ↦ one-object s.objects typed.numbered.ascending u o inside within same
                   | inr other ↦
                       let two = times-two s.objects typed.numbered.ascending used name u o inside within other in
                       absurd (omega (arith, two, some, uses, once))
@@ -60,7 +52,7 @@ module _ {a : Acceptance} (accepted : IsAccepted a) {s : State} (typed : IsTyped
 
   -- each name of mode R or L that is no outside name has one owner
   pub name-has_owner : (name : ℕ) (t : TypeId) (m : Mode) → type_of s.types name ≡ Some t → HasMode a.program t m
-      → IsLinearMode m → count_of name s.outside ≡ 0 → HasOwner s name
+      → IsLinearMode m → count_of name s.outside ≡ 0 → HasOneOwner s name
   name-has_owner name t m found has linear inside =
       used-owned name (name-used_once accepted typed name t m found has linear inside)
 

@@ -1,8 +1,9 @@
--- Typing is kept by every firing, no gas appears or is lost, and readiness is told by one look.
+-- Typing is kept by every firing, no gas appears or is lost, no balance falls, and readiness is told by one look.
 use Rattle.std.proofs.Common.{◌≡◌, ◌∙◌, ◌↔◌, ◌≤◌, ℕ, ◌+◌, Bool, true, List, [], ◌∷◌, length, Contains, Option, Some, None, IsSome, refl, sym, subst, ap, arith}
 use Rattle.std.specs.Option.{option_to_list}
 use Rattle.nomos_ir.specs.declared.fault.Fault.{Fault}
 use Rattle.nomos_types.specs.Acceptance.{Acceptance, IsAccepted}
+use Rattle.nomos_machine.specs.Balances.{NoBalanceFalls}
 use Rattle.nomos_machine.specs.Change.{changed}
 use Rattle.nomos_machine.specs.Deeds.{Deed, changes, has_fault}
 use Rattle.nomos_machine.specs.Objects.{object_at, process_of}
@@ -15,6 +16,7 @@ use Rattle.nomos_machine.specs.TypedState.{IsTyped}
 use Rattle.nomos_machine.specs.declared.object.Object.{Object}
 use Rattle.nomos_machine.specs.declared.object.Object.TheVariants as object
 use Rattle.nomos_machine.specs.declared.object.Process.{Process}
+use Rattle.nomos_machine.proofs.BalanceLaws.{step-balances}
 use Rattle.nomos_machine.proofs.DeedLaws.{deed-goes}
 use Rattle.nomos_machine.proofs.FitLaws.{changed-typed}
 use Rattle.nomos_machine.proofs.GasLaws.{gas-changed}
@@ -50,14 +52,17 @@ pub record Keeps (a : Acceptance) (s t : State) : Type 0 where
   pub objects : t.next_object ≤ s.next_object + 1
   pub names_rise : s.next_name ≤ t.next_name
   pub names : t.next_name ≤ s.next_name + 1
+  -- no account has less
+  pub balances : NoBalanceFalls s t
 
 pub at-most-one : {X : Type 0} (o : Option X) → length (option_to_list o) ≤ 1
 at-most-one (Some x) = omega arith
 at-most-one None = omega arith
 
 module _ {a : Acceptance} (accepted : IsAccepted a) {s : State} (typed : IsTyped a s) where
-  goes-keeps : (ready : Bool) (d : Option Deed) (t : State) → Goes a s ready d → (d >>= state_after s) ≡ Some t → Keeps a s t
-  goes-keeps _ _ t (acts c olds replaces fits keeps) is =
+  goes-keeps : (ready : Bool) (d : Option Deed) (t : State) → NoBalanceFalls s t → Goes a s ready d
+      → (d >>= state_after s) ≡ Some t → Keeps a s t
+  goes-keeps _ _ t falls (acts c olds replaces fits keeps) is =
       let same : changed s c ≡ t = one-state is in
       let kept : Keeps a s (changed s c) = record {
         typed = changed-typed a s c typed fits;
@@ -66,22 +71,25 @@ module _ {a : Acceptance} (accepted : IsAccepted a) {s : State} (typed : IsTyped
         objects = omega (arith, at-most-one c.comes);
         names_rise = omega arith;
         names = omega (arith, at-most-one c.next_type);
+        balances = subst (NoBalanceFalls s) (sym same) falls;
       } in
       subst (Keeps a s) same kept
     where
       one-state : Some (changed s c) ≡ Some t → changed s c ≡ t
       one-state e = cc
-  goes-keeps _ _ t (faulty f) is = absurd cc
-  goes-keeps _ _ t waits is = absurd cc
+  goes-keeps _ _ t falls (faulty f) is = absurd cc
+  goes-keeps _ _ t falls waits is = absurd cc
 
-  -- Every step leads from a typed state to a typed state, keeps all gas, and takes one new number of each kind at most.
+  -- Every step leads from a typed state to a typed state, keeps all gas, lowers no balance, and takes one new number of
+  -- each kind at most.
   pub step-keeps : (pid : ℕ) (t : State) → step a s pid ≡ Some t → Keeps a s t
   step-keeps pid t is = at (process_at s pid) refl is
     where
       at : (o : Option Process) → process_at s pid ≡ o → ((o >>= deed a s) >>= state_after s) ≡ Some t → Keeps a s t
       at (Some p) found steps =
           let (there, number) = process_at-there s pid p found in
-          goes-keeps (looks_ready a s p) (deed a s p) t (deed-goes accepted typed there) steps
+          let falls = step-balances a s t pid is in
+          goes-keeps (looks_ready a s p) (deed a s p) t falls (deed-goes accepted typed there) steps
       at None found steps = absurd cc
 
   -- ---- readiness

@@ -1,17 +1,21 @@
--- How far the next numbers rise in a run, that it leaves the accounts, and its fronts.
+-- How far the next numbers rise in a run, that it leaves the accounts and lowers no balance, and its fronts.
 use Rattle.std.proofs.Common.{◌≡◌, ◌∙◌, ◌≤◌, ℕ, zero, suc, ◌+◌, List, [], ◌∷◌, ◌++◌, length, take, Option, Some, None, refl, subst, ap, arith}
 use Rattle.nomos_machine.proofs.PreservationLaws.{at-most-one}
 use Rattle.nomos_types.specs.Acceptance.{Acceptance, IsAccepted}
+use Rattle.nomos_machine.specs.Balances.{NoBalanceFalls}
 use Rattle.nomos_machine.specs.Change.{Change, changed, paid_out}
 use Rattle.nomos_machine.specs.Optional.{◌>>=◌}
 use Rattle.nomos_machine.specs.Run.{run}
 use Rattle.nomos_machine.specs.State.{State}
 use Rattle.nomos_machine.specs.Step.{step}
 use Rattle.nomos_machine.specs.TypedState.{IsTyped}
+use Rattle.nomos_machine.proofs.BalanceLaws.{changed-balances, balances-through}
 use Rattle.nomos_machine.proofs.FiringLaws.{run-by_steps}
 use Rattle.nomos_machine.proofs.GasLaws.{paid_in-length, paid_out-length}
+use Rattle.nomos_machine.proofs.PlainLaws.{deed-gives}
 
--- In so many firings both next numbers rise by so many at most, and accounts and gas spent stay at least as they were.
+-- In so many firings both next numbers rise by so many at most, the accounts stay, and neither a balance nor the gas
+-- spent falls.
 pub record Rises (n : ℕ) (s t : State) : Type 0 where
   pub objects_rise : s.next_object ≤ t.next_object
   pub objects : t.next_object ≤ s.next_object + n
@@ -19,15 +23,17 @@ pub record Rises (n : ℕ) (s t : State) : Type 0 where
   pub names : t.next_name ≤ s.next_name + n
   pub accounts : length t.balances ≡ length s.balances
   pub spends : s.spent ≤ t.spent
+  pub balances : NoBalanceFalls s t
 
-change-rises : (s : State) (c : Change) → Rises 1 s (changed s c)
-change-rises s c = record {
+change-rises : (s : State) (c : Change) → c.gives ≡ None → Rises 1 s (changed s c)
+change-rises s c none = record {
   objects_rise = omega arith;
   objects = omega (arith, at-most-one c.comes);
   names_rise = omega arith;
   names = omega (arith, at-most-one c.next_type);
   accounts = paid_in-length c.gets (paid_out c.gives s.balances) ∙ paid_out-length c.gives s.balances;
   spends = omega arith;
+  balances = changed-balances s c none;
 }
 
 rises-more : (n : ℕ) (s u t : State) → Rises 1 s u → Rises n u t → Rises (suc n) s t
@@ -38,6 +44,7 @@ rises-more n s u t first rest = record {
   names = omega (arith, first.names, rest.names);
   accounts = rest.accounts ∙ first.accounts;
   spends = omega (arith, first.spends, rest.spends);
+  balances = balances-through s u t first.balances rest.balances;
 }
 
 -- in a run from a typed state
@@ -52,8 +59,10 @@ run-rises {a} accepted s t pids typed is =
       names = omega arith;
       accounts = refl;
       spends = omega arith;
+      balances = λ account. omega arith;
     })
-    (λ n s u t typed firing rest. rises-more n s u t (subst (Rises 1 s) firing.after (change-rises s firing.c)) rest)
+    (λ n s u t typed firing rest. rises-more n s u t (subst (Rises 1 s) firing.after
+    (change-rises s firing.c (deed-gives a s firing.p firing.c firing.makes))) rest)
     s t pids typed is
 
 -- ---- one more firing, and fewer

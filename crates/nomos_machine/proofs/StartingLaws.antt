@@ -23,7 +23,7 @@ use Rattle.nomos_machine.specs.Given.{Given, begins}
 use Rattle.nomos_machine.specs.Matching.{NameHasType}
 use Rattle.nomos_machine.specs.Objects.{object_number, used}
 use Rattle.nomos_machine.specs.Optional.{◌>>=◌}
-use Rattle.nomos_machine.specs.Outside.{opens_talk}
+use Rattle.nomos_machine.specs.Opening.{opens_talk}
 use Rattle.nomos_machine.specs.Sight.{is_shared_name}
 use Rattle.nomos_machine.specs.Starting.{GivenFits, CanStart, CanStartWith, opened, credited, cleared, starts, started, value_bindings, channel_bindings, started_with}
 use Rattle.nomos_machine.specs.State.{State, NameTypes, empty, gas_of}

@@ -14,7 +14,7 @@ counts_process (object.Message m) = 0
 abbrev pub process_count : State → ℕ
 process_count s = sum_by counts_process s.objects
 
--- So many firings lead from the one state to the other: a unit for each of them comes to at most twice the gas spent
+-- So many firings are paid for between the two states: a unit for each of them comes to at most twice the gas spent
 -- meanwhile and a unit for each process of the first state.
 abbrev pub PaysFor : Acceptance → ℕ → State → State → Type 0
 PaysFor a firings s t =

@@ -11,10 +11,15 @@ pub mod Readiness
 pub mod Run
 pub mod Costs
 pub mod Policies
+pub mod Resting
 pub mod Starting
+pub mod Balances
 pub mod Matching
 pub mod TypedMessage
-pub mod Outside
+pub mod Opening
+pub mod Saying
+pub mod Hearing
+pub mod OutsideTalk
 pub mod TypedState
 pub mod Wrong
 pub mod RowPrograms

@@ -1,4 +1,5 @@
--- Small programs by which the machine is tried: one that has every instruction, and three short contracts.
+-- Examples, which nobody need believe: small programs by which the machine is tried, one that has every instruction,
+-- and five short contracts.
 use Rattle.std.specs.Prelude.{ℕ, List, [], ◌∷◌, Some, None, codes}
 use Rattle.nomos_ir.specs.TermKind.{int_kind}
 use Rattle.nomos_ir.specs.declared.amount.Amount.TheVariants.{Written}
@@ -331,6 +332,68 @@ payments =
           ∷ [];
       fns = [];
       procs = pays_all ∷ pays_three ∷ [];
+      labels = [];
+    })
+    []
+    1
+
+-- ---- a contract that is acquired and spoken to
+
+-- type S bell = up &{ ring : down bell };
+-- proc S ringer(;) : bell = accept; case self { ring => detach; call ringer(;) };
+-- proc T visitor(; b : bell) {3} = acquire b as x; x.ring; work {3}; release x as c; close;
+abbrev pub ringer : ProcDecl
+ringer = record (resource_decl 4 3) { mode = mode.S }
+
+abbrev pub visitor : ProcDecl
+visitor = record (transaction_decl 6 8) { channels = (var_id 1, type_id 5) ∷ []; amount = Written 3 }
+
+abbrev pub bells : Acceptance
+bells =
+    acceptance
+    (record {
+      defs = record { name = codes "bell"; mode = mode.S; body = type_id 0 } ∷ [];
+      types =
+          type_of (node.Up (type_id 1)) ∷ type_of (node.With (branch_to 0 2 ∷ [])) ∷ type_of (node.Down (type_id 3))
+          ∷ type_of (node.Named (record { 0 = 0 }))
+          ∷ type_of (node.Named (record { 0 = 0 })) ∷ type_of (node.Named (record { 0 = 0 }))
+          ∷ type_of node.One
+          ∷ [];
+      terms = [];
+      code =
+          code.Call 0 (proc_id 0) no_args
+          ∷ code.Detach 0 (code_id 0)
+          ∷ code.Case 0 chan.Own (arm_to 0 1 ∷ [])
+          ∷ code.Accept 0 (code_id 2)
+          ∷ code.Close 0
+          ∷ code.Release 0 (var_id 2) (var_id 3) (code_id 4)
+          ∷ code.Work 0 (Written 3) (code_id 5)
+          ∷ code.Label 0 (chan.Var (var_id 2)) (label_id 0) (code_id 6)
+          ∷ code.Acquire 0 (var_id 1) (var_id 2) (code_id 7)
+          ∷ [];
+      fns = [];
+      procs = ringer ∷ visitor ∷ [];
+      labels = codes "ring" ∷ [];
+    })
+    []
+    1
+
+-- ---- a number that is taken
+
+-- proc R number_taker(;) : int -> 1 = take self v; close;
+abbrev pub number_taker : ProcDecl
+number_taker = resource_decl 1 1
+
+abbrev pub takes_number : Acceptance
+takes_number =
+    acceptance
+    (record {
+      defs = [];
+      types = type_of node.One ∷ type_of (node.ValueIn int_kind (type_id 0)) ∷ [];
+      terms = [];
+      code = code.Close 0 ∷ code.Take 0 chan.Own (var_id 0) (code_id 0) ∷ [];
+      fns = [];
+      procs = number_taker ∷ [];
       labels = [];
     })
     []

@@ -1,4 +1,5 @@
--- Small states by which each instruction is tried: a process alone, or with a message or another process.
+-- Examples, which nobody need believe: small states by which each instruction is tried, a process alone, or with a
+-- message or another process.
 use Rattle.std.specs.Prelude.{ℕ, List, [], ◌∷◌, Some, None, pos, true, false}
 use Rattle.nomos_ir.specs.Value.{int}
 use Rattle.nomos_ir.specs.declared.mode.Mode.TheVariants as mode

@@ -1,8 +1,9 @@
 -- What a firing finds, by scanning the objects.
-use Rattle.std.specs.Prelude.{ℕ, ◌==◌, ◌&&◌, not, Bool, true, false, List, find, Option, Some, None}
+use Rattle.std.specs.Prelude.{◌≡◌, ◌≤◌, ℕ, ◌==◌, ◌&&◌, not, Bool, true, false, List, Contains, find, Option, Some, None}
 use Rattle.std.specs.Option.{option_map}
 use Rattle.std.specs.List.{list_any}
 use Rattle.nomos_ir.specs.Bindings.{bound_to}
+use Rattle.nomos_ir.specs.Order.{count_of}
 use Rattle.nomos_ir.specs.declared.code_node.Chan.{Chan}
 use Rattle.nomos_ir.specs.declared.code_node.Chan.TheVariants as chan
 use Rattle.nomos_ir.specs.declared.code_node.CodeNode.{CodeNode}
@@ -63,6 +64,14 @@ user_of objects name = find (λ o. list_any (λ n. n == name) (used o)) objects
 -- The owner of a name: the number of the object that uses it.
 abbrev pub owner : State → ℕ → Option ℕ
 owner s name = option_map object_number (user_of s.objects name)
+
+-- One object owns the name: it is found, it uses the name once, and no other object uses it.
+pub record HasOneOwner (s : State) (name : ℕ) : Type 0 where
+  pub object : Object
+  pub there : Contains s.objects object
+  pub found : owner s name ≡ Some (object_number object)
+  pub uses : count_of name (used object) ≡ 1
+  pub alone : (o : Object) → Contains s.objects o → 1 ≤ count_of name (used o) → o ≡ object
 
 -- the node to which the type of a channel's present name unfolds
 abbrev pub head_on : ProgramLists → NameTypes → Process → Chan → Option TypeNode

@@ -3,3 +3,4 @@
 
 pub mod object;
 pub mod policy;
+pub mod rest;

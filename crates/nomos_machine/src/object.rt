@@ -1,4 +1,4 @@
-//! What a state of the machine consists of: processes, and messages between them.
+//! What a state of the machine consists of, processes and messages; and what an outside party says and hears.
 
 use nomos_ir::ids::{CodeId, Label, VarId};
 use nomos_ir::items::Items;
@@ -69,4 +69,24 @@ pub struct Message {
 pub enum Object {
     Process(Process),
     Message(Message),
+}
+
+/// What an outside party says on its channel.
+#[derive(Drop, Debug)]
+pub enum Said {
+    Label(Label),
+    Value(Value),
+    /// As much potential as the channel's type asks for.
+    Pay,
+}
+
+/// What it hears there.
+#[derive(Drop, Debug)]
+pub enum Heard {
+    Label(Label),
+    Value(Value),
+    /// So many Dths.
+    Paid(u64),
+    /// The end of the talk.
+    Closed,
 }
