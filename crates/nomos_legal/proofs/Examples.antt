@@ -123,7 +123,7 @@ program =
 -- ---- deposits
 
 -- 10 units on the account u
-abbrev ten_units : LedgerState
+abbrev pub ten_units : LedgerState
 ten_units = deposited 3 empty_ledger (codes "u") 10
 
 ten : ten_units
@@ -158,7 +158,7 @@ abbrev pub resolved : ℕ → List Value → List ℕ → Option (List ℕ) → 
 resolved number values names contract =
     record { proc = record { 0 = number }; values = values; names = names; payer = 0; contract = contract }
 
-abbrev cheap_started : Resolved
+abbrev pub cheap_started : Resolved
 cheap_started = resolved 0 (int (pos 5) ∷ []) [] (Some (codes "c"))
 
 abbrev dear_started : Resolved
@@ -377,19 +377,19 @@ enough_gas =
 -- ---- batches
 
 -- a line finds the contracts and the balances as the lines before it left them
-abbrev new_cheap : Start
+abbrev pub new_cheap : Start
 new_cheap = create 2 (codes "c") (codes "cheap") (int (pos 5) ∷ [])
 
 abbrev new_dear : Start
 new_dear = create 3 (codes "d") (codes "dear") []
 
-cheap-starts : Resolves program ten_units new_cheap (Ok cheap_started)
+pub cheap-starts : Resolves program ten_units new_cheap (Ok cheap_started)
 cheap-starts =
     line.starts 0 0 cheap [] refl (record { first = refl; there = refl })
     (record { values = line.one (record { no_list = refl; kind = refl }) line.none; names = line.none }) refl
     (omega arith)
 
-abbrev after_cheap : LedgerState
+abbrev pub after_cheap : LedgerState
 after_cheap = after_start program ten_units cheap_started
 
 dear-starts : Resolves program after_cheap new_dear (Ok dear_started)

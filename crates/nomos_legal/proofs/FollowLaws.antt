@@ -2,7 +2,7 @@
 use Rattle.std.proofs.Common.{ℕ, List, [], ◌∷◌, ◌++◌}
 use Rattle.std.proofs.lemmas.List.Elements.{All-nil, All-push}
 use Rattle.nomos_types.specs.Acceptance.{Acceptance}
-use Rattle.nomos_machine.specs.Policies.{IsChosen, FollowsPolicy, IsRunOf, IsChosenAfter}
+use Rattle.nomos_machine.specs.Policies.{IsChosen, FollowsPolicy, IsChosenAfter}
 use Rattle.nomos_machine.specs.Policies as policies
 use Rattle.nomos_machine.specs.State.{State}
 use Rattle.nomos_machine.specs.declared.policy.Policy.{Policy}
@@ -13,6 +13,15 @@ use Rattle.nomos_legal.specs.Legal.{Aborts, PassesBy, FollowPolicy}
 use Rattle.nomos_legal.specs.Passage.{Passage, bare, runs, still}
 use Rattle.nomos_legal.specs.declared.journal.End.{End}
 use Rattle.nomos_legal.specs.declared.journal.End.TheVariants as end
+
+-- what holds of the process that an end names still does where less is asked of processes
+pub aborts-weaker : (P Q : ℕ → Type 0) → ((pid : ℕ) → P pid → Q pid) → (e : End) → Aborts P e → Aborts Q e
+aborts-weaker P Q weaker (end.Aborted pid f) aborts = weaker pid aborts
+aborts-weaker P Q weaker end.Deposited aborts = tt
+aborts-weaker P Q weaker end.Committed aborts = tt
+aborts-weaker P Q weaker end.Blocked aborts = tt
+aborts-weaker P Q weaker (end.Steps n) aborts = tt
+aborts-weaker P Q weaker (end.Refused line cause) aborts = tt
 
 module _ (kind : Policy) (a : Acceptance) where
   -- no passages follow it
@@ -37,14 +46,8 @@ module _ (kind : Policy) (a : Acceptance) where
       → Aborts (IsChosen kind a t last) answer
       → PassesBy kind a (runs batch pids answer before start t after)
       (runs batch pids answer before start t after).entry
-  batch-follows batch pids answer before start t after last follows chosen =
-      (record { last = last; follows = follows }, named answer chosen)
-    where
-      named : (e : End) → Aborts (IsChosen kind a t last) e
-          → Aborts (IsChosenAfter kind a start.state pids t) e
-      named (end.Aborted pid f) chosen = record { last = last; follows = follows; chosen = chosen }
-      named end.Deposited chosen = tt
-      named end.Committed chosen = tt
-      named end.Blocked chosen = tt
-      named (end.Steps n) chosen = tt
-      named (end.Refused line cause) chosen = tt
+  batch-follows batch pids answer before start t after last follows chosen = (
+    record { last = last; follows = follows },
+    aborts-weaker (IsChosen kind a t last) (IsChosenAfter kind a start.state pids t)
+        (λ pid chosen. record { last = last; follows = follows; chosen = chosen }) answer chosen,
+  )

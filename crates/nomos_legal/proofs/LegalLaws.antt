@@ -1,5 +1,6 @@
 -- Legal journals grow passage by passage.
-use Rattle.std.proofs.Common.{take, zero, suc, ◌≡◌, ◌∙◌, ℕ, ◌+◌, ◌^◌, ◌<◌, ◌≤◌, List, [], ◌∷◌, ◌++◌, length, Option, Some, None, ⊎_elim, refl, sym, subst, ap, arith, append-nil, append_assoc}
+use Rattle.std.proofs.Common.{take, zero, suc, ◌≡◌, ◌∙◌, ℕ, ◌+◌, ◌^◌, ◌<◌, ◌≤◌, List, [], ◌∷◌, ◌++◌, length, map, Option, Some, None, ⊎_elim, refl, sym, subst, ap, arith, append-nil, append_assoc}
+use Rattle.std.specs.List.{flat_map}
 use Rattle.std.specs.Option.{option_to_list}
 use Rattle.std.proofs.lemmas.Bool.{cases_lt}
 use Rattle.std.proofs.lemmas.List.{length-map, map-append, take-map}
@@ -11,7 +12,7 @@ use Rattle.nomos_script.specs.declared.item.ScriptItem.TheVariants as item
 use Rattle.nomos_legal.specs.Batch.{AllStart}
 use Rattle.nomos_legal.specs.Ending.{EndsAs, IsAllowed}
 use Rattle.nomos_legal.specs.Ledger.{LedgerState, FitsDeposits, empty_ledger}
-use Rattle.nomos_legal.specs.Legal.{Leads, IsLimit, Tells, batch_limit, entries_of, firings_in, firings_made, max_firings}
+use Rattle.nomos_legal.specs.Legal.{Leads, IsLimit, Tells, TellsFrom, batch_limit, entries_of, firings_in, firings_made, max_firings}
 use Rattle.nomos_legal.specs.Legal as legal
 use Rattle.nomos_legal.specs.Passage.{Passage, IsPassage, RunsTo, Undoes, bare, runs, still}
 use Rattle.nomos_legal.specs.Passage as passage
@@ -91,9 +92,9 @@ leads-within {limit = limit} (legal.passes made p ps last is rest) few =
     omega (arith, leads-within rest more, first-made p ps)
 
 -- the firings of a legal journal are at most those of a script
-pub tells-within : {a : Acceptance} {items : List ScriptItem} {journal : Journal} {ps : List Passage}
-    {last : LedgerState}
-    → Tells a items journal ps last → firings_made journal.entries ≤ max_firings
+pub tells-within : {a : Acceptance} {first : LedgerState} {items : List ScriptItem} {journal : Journal}
+    {ps : List Passage} {last : LedgerState}
+    → TellsFrom a first items journal ps last → firings_made journal.entries ≤ max_firings
 tells-within tells =
     subst (λ (es : List Entry). firings_made es ≤ max_firings) tells.entries_are
     (omega (arith, leads-within tells.leads (omega arith)))
@@ -156,24 +157,28 @@ abbrev pub journal_with : Journal → Option Entry → Journal
 journal_with journal entry = record journal { entries = journal.entries ++ option_to_list entry }
 
 -- nothing became of no items
-pub tells-none : (a : Acceptance) (limit : ℕ) → IsLimit limit
-    → Tells a [] (record { limit = limit; entries = [] }) [] empty_ledger
-tells-none a limit is = record {
+pub tells-none-from : (a : Acceptance) (first : LedgerState) (limit : ℕ) → IsLimit limit
+    → TellsFrom a first [] (record { limit = limit; entries = [] }) [] first
+tells-none-from a first limit is = record {
   limit = is;
   items_are = refl;
   entries_are = refl;
-  leads = legal.done 0 empty_ledger;
+  leads = legal.done 0 first;
 }
 
-module _ {a : Acceptance} {items : List ScriptItem} {journal : Journal} {ps : List Passage} {last : LedgerState}
-    (tells : Tells a items journal ps last) where
+pub tells-none : (a : Acceptance) (limit : ℕ) → IsLimit limit
+    → Tells a [] (record { limit = limit; entries = [] }) [] empty_ledger
+tells-none a limit is = tells-none-from a empty_ledger limit is
+
+module _ {a : Acceptance} {first : LedgerState} {items : List ScriptItem} {journal : Journal} {ps : List Passage}
+    {last : LedgerState} (tells : TellsFrom a first items journal ps last) where
   made-same : 0 + firings_made (entries_of ps) ≡ firings_made journal.entries
   made-same = let same = ap firings_made tells.entries_are in omega (arith, same)
 
   -- where one item more has become of the last ledger what may become of it, the journal with its entry tells that
   pub tells-more : (p : Passage) → p.before ≡ last
       → IsPassage a (batch_limit journal.limit (firings_made journal.entries)) p
-      → Tells a (items ++ p.item ∷ []) (journal_with journal p.entry) (ps ++ p ∷ []) p.after
+      → TellsFrom a first (items ++ p.item ∷ []) (journal_with journal p.entry) (ps ++ p ∷ []) p.after
   tells-more p before is = record {
     limit = tells.limit;
     items_are =
@@ -201,10 +206,11 @@ leads-front (legal.passes made p ps last is rest) (suc n) =
     (m, legal.passes made p (take n ps) m is front)
 
 -- so the journal of the first items, with the entries of what became of them, is legal
-pub tells-front : {a : Acceptance} {items : List ScriptItem} {journal : Journal} {ps : List Passage}
-    {last : LedgerState}
-    → Tells a items journal ps last → (n : ℕ)
-    → (m : LedgerState) × Tells a (take n items) (record journal { entries = entries_of (take n ps) }) (take n ps) m
+pub tells-front : {a : Acceptance} {first : LedgerState} {items : List ScriptItem} {journal : Journal}
+    {ps : List Passage} {last : LedgerState}
+    → TellsFrom a first items journal ps last → (n : ℕ)
+    → (m : LedgerState)
+    × TellsFrom a first (take n items) (record journal { entries = entries_of (take n ps) }) (take n ps) m
 tells-front {ps = ps} tells n =
     let (m, front) = leads-front tells.leads n in (
       m,
@@ -216,3 +222,36 @@ tells-front {ps = ps} tells n =
         leads = front;
       },
     )
+
+-- ---- lines
+
+-- the line of an item that has an entry
+abbrev pub told_line : ScriptItem → List ℕ
+told_line (item.Deposit line name units) = line ∷ []
+told_line (item.Batch batch) = batch.line ∷ []
+told_line (item.Show line) = []
+
+entry-line : {a : Acceptance} {most : ℕ} {p : Passage} → IsPassage a most p
+    → map (λ e. e.line) (option_to_list p.entry) ≡ told_line p.item
+entry-line (passage.deposit l line units name fits) = refl
+entry-line (passage.no_deposit l line units name never) = refl
+entry-line (passage.refused l batch line cause refuses) = refl
+entry-line (passage.stays l batch starts pids last begun reaches) = refl
+entry-line (passage.undone l batch starts pids last answer begun reaches undoes) = refl
+entry-line (passage.shown l line) = refl
+
+leads-lines : {a : Acceptance} {limit made : ℕ} {l last : LedgerState} {ps : List Passage}
+    → Leads a limit made l ps last
+    → map (λ e. e.line) (entries_of ps) ≡ flat_map told_line (map (λ p. p.item) ps)
+leads-lines (legal.done made l) = refl
+leads-lines (legal.passes made p ps last is rest) =
+    map-append (λ (e : Entry). e.line) (option_to_list p.entry) (entries_of ps)
+    ∙ (λ i. entry-line is i ++ leads-lines rest i)
+
+-- A legal journal has an entry for each deposit and each batch, in order, at its line.
+pub tells-lines : {a : Acceptance} {first : LedgerState} {items : List ScriptItem} {journal : Journal}
+    {ps : List Passage} {last : LedgerState}
+    → TellsFrom a first items journal ps last → map (λ e. e.line) journal.entries ≡ flat_map told_line items
+tells-lines tells =
+    ap (λ (es : List Entry). map (λ e. e.line) es) (sym tells.entries_are) ∙ leads-lines tells.leads
+    ∙ ap (λ (is : List ScriptItem). flat_map told_line is) tells.items_are

@@ -17,7 +17,7 @@ use Rattle.nomos_script.specs.declared.item.ScriptItem.TheVariants as item
 use Rattle.nomos_script.specs.declared.item.Start.{Start}
 use Rattle.nomos_legal.specs.Batch.{AllStart, after_start, after_starts, state_or}
 use Rattle.nomos_legal.specs.Ledger.{LedgerState, account_of, empty_ledger, state_with}
-use Rattle.nomos_legal.specs.Legal.{Leads, Tells, entries_of, firings_in, firings_made}
+use Rattle.nomos_legal.specs.Legal.{Leads, Tells, TellsFrom, entries_of, firings_in, firings_made}
 use Rattle.nomos_legal.specs.Legal as legal
 use Rattle.nomos_legal.specs.NextNumbers.{AllNumbered, HasNumbered, PassageNumbers, numbers_given}
 use Rattle.nomos_legal.specs.Passage.{Passage, IsPassage, runs, still}
@@ -177,33 +177,57 @@ leads-numbers {a} accepted {n = n} (legal.passes made p ps last passes rest) sta
 empty-numbered : HasNumbered 0 empty_ledger.state
 empty-numbered = record { objects = omega arith; names = omega arith }
 
-module _ {a : Acceptance} (accepted : IsAccepted a) {items : List ScriptItem} {journal : Journal} {ps : List Passage}
-    {last : LedgerState} (tells : Tells a items journal ps last) where
-  given-same : 0 + start_count (items_of ps) + firings_made (entries_of ps) ≡ numbers_given items journal
-  given-same =
+module _ {a : Acceptance} (accepted : IsAccepted a) {first : LedgerState} {items : List ScriptItem} {journal : Journal}
+    {ps : List Passage} {last : LedgerState} (tells : TellsFrom a first items journal ps last) where
+  given-from : (n : ℕ) → n + start_count (items_of ps) + firings_made (entries_of ps)
+      ≡ n + numbers_given items journal
+  given-from n =
       let starts = ap start_count tells.items_are in
       let firings = ap firings_made tells.entries_are in
       omega (arith, starts, firings)
 
-  tells-rise : Rise a 0 ps last
-  tells-rise = leads-numbers accepted tells.leads (empty-standing a) empty-numbered
+  tells-rise-from : (n : ℕ) → Standing a first → HasNumbered n first.state → Rise a n ps last
+  tells-rise-from n standing is = leads-numbers accepted tells.leads standing is
+
+  -- At each point of a journal that is legal from a ledger whose next numbers are at most 1 and n, both are at most 1,
+  -- n, and its starts and firings.
+  pub legal-numbers-from : (n : ℕ) → Standing a first → HasNumbered n first.state
+      → AllNumbered a (n + numbers_given items journal) ps
+  legal-numbers-from n standing is =
+      subst (λ (k : ℕ). AllNumbered a k ps) (given-from n) (tells-rise-from n standing is).all
+
+  -- so they are in the ledger to which it leads
+  pub last-numbers-from : (n : ℕ) → Standing a first → HasNumbered n first.state
+      → HasNumbered (n + numbers_given items journal) last.state
+  last-numbers-from n standing is =
+      subst (λ (k : ℕ). HasNumbered k last.state) (given-from n) (tells-rise-from n standing is).after
+
+  -- A journal of the items of a script has at most 2^20 starts and 20,000,000 firings.
+  pub given-few : IsScriptSize items → numbers_given items journal ≤ 2 ^ 20 + 20000000
+  given-few size = omega (arith, size.starts, tells-within tells)
+
+module _ {a : Acceptance} (accepted : IsAccepted a) {items : List ScriptItem} {journal : Journal} {ps : List Passage}
+    {last : LedgerState} (tells : Tells a items journal ps last) where
+  nothing-before : 0 + numbers_given items journal ≡ numbers_given items journal
+  nothing-before = omega arith
 
   -- At each point of a legal journal both next numbers are at most 1 and its starts and firings.
   pub legal-numbers : AllNumbered a (numbers_given items journal) ps
-  legal-numbers = subst (λ (n : ℕ). AllNumbered a n ps) given-same tells-rise.all
+  legal-numbers =
+      subst (λ (n : ℕ). AllNumbered a n ps) nothing-before
+      (legal-numbers-from accepted tells 0 (empty-standing a) empty-numbered)
 
   -- so they are in the ledger to which it leads
   pub last-numbers : HasNumbered (numbers_given items journal) last.state
-  last-numbers = subst (λ (n : ℕ). HasNumbered n last.state) given-same tells-rise.after
-
-  -- For the items of a script that are at most 2^20 starts and 20,000,000 firings.
-  pub given-few : IsScriptSize items → numbers_given items journal ≤ 2 ^ 20 + 20000000
-  given-few size = omega (arith, size.starts, tells-within tells)
+  last-numbers =
+      subst (λ (n : ℕ). HasNumbered n last.state) nothing-before
+      (last-numbers-from accepted tells 0 (empty-standing a) empty-numbered)
 
   pub script-numbers : IsScriptSize items → AllNumbered a (2 ^ 20 + 20000000) ps
   script-numbers size =
       All-weaker (PassageNumbers a (numbers_given items journal)) (PassageNumbers a (2 ^ 20 + 20000000))
-      (λ p is. passage-more (numbers_given items journal) (2 ^ 20 + 20000000) (given-few size) is) ps legal-numbers
+      (λ p is. passage-more (numbers_given items journal) (2 ^ 20 + 20000000) (given-few accepted tells size) is) ps
+      legal-numbers
 
 -- ---- worlds
 

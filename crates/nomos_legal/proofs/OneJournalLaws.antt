@@ -17,8 +17,8 @@ use Rattle.nomos_script.specs.declared.item.Batch.{Batch}
 use Rattle.nomos_script.specs.declared.item.ScriptItem.{ScriptItem}
 use Rattle.nomos_legal.specs.Batch.{AllStart, OneRefuses, after_starts}
 use Rattle.nomos_legal.specs.Ending.{EndsAs, IsAllowed}
-use Rattle.nomos_legal.specs.Ledger.{LedgerState, empty_ledger}
-use Rattle.nomos_legal.specs.Legal.{Aborts, FollowPolicy, Leads, PassesBy, Tells, batch_limit, entries_of, firings_in}
+use Rattle.nomos_legal.specs.Ledger.{LedgerState}
+use Rattle.nomos_legal.specs.Legal.{Aborts, FollowPolicy, Leads, PassesBy, TellsFrom, batch_limit, entries_of, firings_in}
 use Rattle.nomos_legal.specs.Legal as legal
 use Rattle.nomos_legal.specs.Passage.{Passage, IsPassage, RunsTo, bare}
 use Rattle.nomos_legal.specs.Passage as passage
@@ -29,6 +29,7 @@ use Rattle.nomos_legal.specs.declared.journal.Journal.{Journal}
 use Rattle.nomos_legal.specs.declared.refusal.Refusal.{Refusal}
 use Rattle.nomos_legal.specs.declared.refusal.Refusal.TheVariants as refusal
 use Rattle.nomos_legal.specs.declared.resolved.Resolved.{Resolved}
+use Rattle.nomos_legal.proofs.FollowLaws.{aborts-weaker}
 use Rattle.nomos_legal.proofs.UniqueLaws.{all_start-one, ends-one, passage-one, refuses-one, starts-or_refuses}
 
 -- ---- readiness
@@ -110,14 +111,11 @@ record RunBy (kind : Policy) (a : Acceptance) (most : ℕ) (start : State) (pids
 chosen-there : {kind : Policy} {a : Acceptance} {start t : State} {pids : List ℕ} {last : ℕ} (e : End)
     → FollowsPolicy kind a start 0 pids t last → Aborts (IsChosenAfter kind a start pids t) e
     → Aborts (IsChosen kind a t last) e
-chosen-there {kind} {a} {t = t} (end.Aborted pid f) follows after =
-    let same = (follows-one after.follows follows refl).2 in
-    subst (λ (n : ℕ). IsChosen kind a t n pid) same after.chosen
-chosen-there end.Deposited follows after = tt
-chosen-there end.Committed follows after = tt
-chosen-there end.Blocked follows after = tt
-chosen-there (end.Steps n) follows after = tt
-chosen-there (end.Refused line cause) follows after = tt
+chosen-there {kind} {a} {start} {t} {pids} {last} e follows after =
+    aborts-weaker (IsChosenAfter kind a start pids t) (IsChosen kind a t last)
+    (λ pid chosen.
+    let same = (follows-one chosen.follows follows refl).2 in
+    subst (λ (n : ℕ). IsChosen kind a t n pid) same chosen.chosen) e after
 
 run-by : {kind : Policy} {a : Acceptance} {most : ℕ} {start t : State} {pids : List ℕ} {answer : End}
     → RunsTo a most start pids t answer → IsRunOf kind a start pids t
@@ -310,14 +308,15 @@ leads-by kind {a} {limit} (legal.passes made p ps last is rest) (legal.passes k 
     in
     ((λ i. same i ∷ further i), end_ledger)
 
--- Two legal journals of the same items and limit that follow one policy are one journal.
-pub follows-one_journal : (kind : Policy) {a : Acceptance} {items : List ScriptItem} {journal other : Journal}
-    {ps qs : List Passage} {last m : LedgerState} → Tells a items journal ps last → Tells a items other qs m
+-- Two legal journals of the same items and limit from one ledger that follow one policy are one journal.
+pub follows-one_journal : (kind : Policy) {a : Acceptance} {first : LedgerState} {items : List ScriptItem}
+    {journal other : Journal} {ps qs : List Passage} {last m : LedgerState}
+    → TellsFrom a first items journal ps last → TellsFrom a first items other qs m
     → journal.limit ≡ other.limit → FollowPolicy kind a ps → FollowPolicy kind a qs
     → (journal ≡ other) × (ps ≡ qs) × (last ≡ m)
-follows-one_journal kind {a} {journal = journal} {other = other} {qs = qs} {m = m} one two limit by by_other =
-    let leads : Leads a journal.limit 0 empty_ledger qs m =
-    subst (λ (n : ℕ). Leads a n 0 empty_ledger qs m) (sym limit) two.leads
+follows-one_journal kind {a} {first} {journal = journal} {other = other} {qs = qs} {m = m} one two limit by by_other =
+    let leads : Leads a journal.limit 0 first qs m =
+    subst (λ (n : ℕ). Leads a n 0 first qs m) (sym limit) two.leads
     in
     let (same, ledger) = leads-by kind one.leads leads by by_other refl refl (one.items_are ∙ sym two.items_are) in
     let entries : journal.entries ≡ other.entries = sym one.entries_are ∙ ap entries_of same ∙ two.entries_are in

@@ -1,16 +1,13 @@
--- Along every legal journal nothing is wrong, each linear channel has one owner, and all gas is what was deposited.
+-- Along every legal journal nothing is wrong, each name has its type, each linear channel has one owner, all gas is
+-- what was deposited, and no firing debits an account.
 use Rattle.std.proofs.Common.{◌≡◌, ◌∙◌, ℕ, ◌*◌, List, [], length, take, Option, Some, refl, sym, subst, ap}
 use Rattle.std.proofs.lemmas.List.Elements.{All-nil, All-cons}
 use Rattle.nomos_ir.specs.Order.{count_of}
-use Rattle.nomos_ir.specs.declared.ids.TypeId.{TypeId}
-use Rattle.nomos_ir.specs.declared.mode.Mode.{Mode}
 use Rattle.nomos_types.specs.Acceptance.{Acceptance, IsAccepted}
-use Rattle.nomos_types.specs.Modes.{HasMode, IsLinearMode}
 use Rattle.nomos_machine.specs.Run.{IsQuiet, run}
 use Rattle.nomos_machine.specs.Starting.{cleared}
-use Rattle.nomos_machine.specs.State.{State, gas_of, type_of}
+use Rattle.nomos_machine.specs.State.{State, gas_of}
 use Rattle.nomos_machine.specs.TypedState.{IsTyped}
-use Rattle.nomos_machine.proofs.ApartLaws.{one-object}
 use Rattle.nomos_machine.proofs.NotWrongLaws.{typed-not_wrong}
 use Rattle.nomos_machine.proofs.OwnerLaws.{name-has_owner}
 use Rattle.nomos_machine.proofs.RunLaws.{run-front}
@@ -19,15 +16,16 @@ use Rattle.nomos_script.specs.declared.item.Start.{Start}
 use Rattle.nomos_legal.specs.Batch.{AllStart, after_starts}
 use Rattle.nomos_legal.specs.Ending.{HasTransaction}
 use Rattle.nomos_legal.specs.Ledger.{LedgerState, FitsDeposits, deposited, empty_ledger}
-use Rattle.nomos_legal.specs.Legal.{Leads, Tells, batch_limit, firings_in}
+use Rattle.nomos_legal.specs.Legal.{Leads, Tells, TellsFrom, firings_in}
 use Rattle.nomos_legal.specs.Legal as legal
 use Rattle.nomos_legal.specs.Passage.{Passage, IsPassage, still}
 use Rattle.nomos_legal.specs.Passage as passage
-use Rattle.nomos_legal.specs.Right.{HasOneOwner, IsRight, RunsRight, GoesRight, AllGoRight}
+use Rattle.nomos_legal.specs.Right.{IsRight, RunsRight, GoesRight, AllGoRight}
 use Rattle.nomos_legal.specs.StandsFor.{IsSettled, StandsFor}
 use Rattle.nomos_legal.specs.declared.journal.Entry.{Entry}
 use Rattle.nomos_legal.specs.declared.journal.Journal.{Journal}
 use Rattle.nomos_legal.specs.declared.resolved.Resolved.{Resolved}
+use Rattle.nomos_legal.proofs.DebitLaws.{passage-debits}
 use Rattle.nomos_legal.proofs.SettledLaws.{IsCounted, counted-stands, deposited-counted, empty-stands}
 use Rattle.nomos_legal.proofs.StartLaws.{Started, starts-started}
 use Rattle.nomos_legal.proofs.WorldLaws.{Reached, settled-reached, reached-stands}
@@ -38,25 +36,13 @@ module _ {a : Acceptance} (accepted : IsAccepted a) {s : State} (typed : IsTyped
   not-outside : (name : ℕ) → count_of name s.outside ≡ 0
   not-outside name = ap (count_of name) inside
 
-  -- each name of mode R or L has one owner
-  one-owner : (name : ℕ) (t : TypeId) (m : Mode) → type_of s.types name ≡ Some t → HasMode a.program t m
-      → IsLinearMode m → HasOneOwner s name
-  one-owner name t m found at linear =
-      let owner = name-has_owner accepted typed name t m found at linear (not-outside name) in
-      record {
-        object = owner.object;
-        there = owner.there;
-        found = owner.found;
-        uses = owner.uses;
-        alone = λ o there uses.
-            one-object s.objects typed.numbered.ascending owner.object o owner.there there (owner.only o there uses);
-      }
-
-  -- so the state is right, where it has all gas
+  -- the state is right, where it has all gas
   typed-right : (deposits : ℕ) → gas_of s ≡ deposits * a.annotations.unit → IsRight a deposits s
   typed-right deposits gas = record {
     not_wrong = typed-not_wrong accepted typed;
-    owned = one-owner;
+    typed = typed.numbered.typed;
+    owned = λ name t m found at linear.
+        name-has_owner accepted typed name t m found at linear (not-outside name);
     gas = gas;
   }
 
@@ -83,10 +69,12 @@ pub record Standing (a : Acceptance) (l : LedgerState) : Type 0 where
   pub stands : StandsFor a l
   pub counted : IsCounted l
 
--- what is proved of a passage
+-- what is proved of a passage, debits apart
 record Passes (a : Acceptance) (p : Passage) : Type 0 where
-  right : GoesRight a p
-  after : Standing a p.after
+  before : IsRight a p.before.deposits p.before.state
+  firings : RunsRight a p.before.deposits p.start.state (firings_in p.entry)
+  after : IsRight a p.after.deposits p.after.state
+  standing : Standing a p.after
 
 module _ {a : Acceptance} (accepted : IsAccepted a) where
   standing-right : {l : LedgerState} → Standing a l → IsRight a l.deposits l.state
@@ -134,49 +122,51 @@ module _ {a : Acceptance} (accepted : IsAccepted a) where
   unchanged : (item : ScriptItem) (entry : Option Entry) → firings_in entry ≡ [] → {l : LedgerState} → Standing a l
       → Passes a (still item entry l l)
   unchanged item entry none {l} standing = record {
-    right = record {
-      before = standing-right standing;
-      firings = subst (RunsRight a l.deposits l.state) (sym none) (still-right standing);
-      after = standing-right standing;
-    };
-    after = standing;
+    before = standing-right standing;
+    firings = subst (RunsRight a l.deposits l.state) (sym none) (still-right standing);
+    after = standing-right standing;
+    standing = standing;
   }
 
   passage-passes : {most : ℕ} {p : Passage} → IsPassage a most p → Standing a p.before → Passes a p
   passage-passes (passage.deposit l line units name fits) standing =
       let after = deposited-standing name units fits standing in
       record {
-        right = record {
-          before = standing-right standing;
-          firings = still-right standing;
-          after = standing-right after;
-        };
-        after = after;
+        before = standing-right standing;
+        firings = still-right standing;
+        after = standing-right after;
+        standing = after;
       }
   passage-passes (passage.no_deposit l line units name never) standing = unchanged _ _ refl standing
   passage-passes (passage.refused l batch line cause refuses) standing = unchanged _ _ refl standing
   passage-passes (passage.stays l batch starts pids last begun reaches) standing =
       let after = kept-standing pids standing begun reaches.reached reaches.allowed in
       record {
-        right = record {
-          before = standing-right standing;
-          firings = batch-right pids standing begun reaches.reached;
-          after = standing-right after;
-        };
-        after = after;
+        before = standing-right standing;
+        firings = batch-right pids standing begun reaches.reached;
+        after = standing-right after;
+        standing = after;
       }
   passage-passes (passage.undone l batch starts pids last answer begun reaches undoes) standing = record {
-    right = record {
-      before = standing-right standing;
-      firings = batch-right pids standing begun reaches.reached;
-      after = standing-right standing;
-    };
-    after = standing;
+    before = standing-right standing;
+    firings = batch-right pids standing begun reaches.reached;
+    after = standing-right standing;
+    standing = standing;
   }
   passage-passes (passage.shown l line) standing = unchanged _ _ refl standing
 
   pub passage-standing : {most : ℕ} {p : Passage} → IsPassage a most p → Standing a p.before → Standing a p.after
-  passage-standing is standing = (passage-passes is standing).after
+  passage-standing is standing = (passage-passes is standing).standing
+
+  passage-right : {most : ℕ} {p : Passage} → IsPassage a most p → Standing a p.before → GoesRight a p
+  passage-right is standing =
+      let passes = passage-passes is standing in
+      record {
+        before = passes.before;
+        firings = passes.firings;
+        after = passes.after;
+        debits = passage-debits accepted is standing.stands.settled standing.counted;
+      }
 
 -- ---- journals
 
@@ -184,17 +174,21 @@ leads-right : {a : Acceptance} → IsAccepted a → {limit made : ℕ} {l last :
     → Leads a limit made l ps last → Standing a l → AllGoRight a ps × Standing a last
 leads-right {a} accepted (legal.done made l) standing = (All-nil (GoesRight a), standing)
 leads-right {a} accepted (legal.passes made p ps last is rest) standing =
-    let first = passage-passes accepted is standing in
-    let (others, after) = leads-right accepted rest first.after in
-    (All-cons (GoesRight a) p ps first.right others, after)
+    let (others, after) = leads-right accepted rest (passage-standing accepted is standing) in
+    (All-cons (GoesRight a) p ps (passage-right accepted is standing) others, after)
 
 pub empty-standing : (a : Acceptance) → Standing a empty_ledger
 empty-standing a = record { stands = empty-stands a; counted = refl }
 
 -- What a reader of a legal journal relies on: all its passages go right, those of batches that are undone too, and the
--- ledger to which it leads stands for the program.
+-- ledger to which it leads stands for the program; from any ledger that stands.
+pub legal-right-from : {a : Acceptance} → IsAccepted a → {first : LedgerState} → Standing a first
+    → {items : List ScriptItem} {journal : Journal} {ps : List Passage} {last : LedgerState}
+    → TellsFrom a first items journal ps last → AllGoRight a ps × Standing a last
+legal-right-from {a} accepted standing tells = leads-right accepted tells.leads standing
+
 pub legal-right : {a : Acceptance} → IsAccepted a → {items : List ScriptItem} {journal : Journal} {ps : List Passage}
     {last : LedgerState} → Tells a items journal ps last → AllGoRight a ps × StandsFor a last
 legal-right {a} accepted tells =
-    let (right, standing) = leads-right accepted tells.leads (empty-standing a) in
+    let (right, standing) = legal-right-from accepted (empty-standing a) tells in
     (right, standing.stands)

@@ -18,7 +18,7 @@ use Rattle.nomos_legal.specs.Batch.{AllStart, OneRefuses, after_start, after_sta
 use Rattle.nomos_legal.specs.Batch as batch
 use Rattle.nomos_legal.specs.Ending.{EndsAs, IsAllowed}
 use Rattle.nomos_legal.specs.Ledger.{LedgerState, account_of, deposited, shared_name}
-use Rattle.nomos_legal.specs.Legal.{Leads, Tells, batch_limit, entries_of, firings_in}
+use Rattle.nomos_legal.specs.Legal.{Leads, TellsFrom, batch_limit, entries_of, firings_in}
 use Rattle.nomos_legal.specs.Legal as legal
 use Rattle.nomos_legal.specs.Passage.{Passage, IsPassage, RunsTo, Undoes, bare, runs, still}
 use Rattle.nomos_legal.specs.Passage as passage
@@ -332,11 +332,11 @@ passage-one one two item entry before = passage-same one two (record { item = it
 -- ---- journals
 
 -- all items but a `show` have an entry
-abbrev has_entry : ScriptItem → Bool
+abbrev pub has_entry : ScriptItem → Bool
 has_entry (item.Show line) = false
 has_entry _ = true
 
-entry-told : {a : Acceptance} {most : ℕ} {p : Passage} → IsPassage a most p → is_some p.entry ≡ has_entry p.item
+pub entry-told : {a : Acceptance} {most : ℕ} {p : Passage} → IsPassage a most p → is_some p.entry ≡ has_entry p.item
 entry-told (passage.deposit l line units name fits) = refl
 entry-told (passage.no_deposit l line units name never) = refl
 entry-told (passage.refused l batch line cause refuses) = refl
@@ -345,7 +345,7 @@ entry-told (passage.undone l batch starts pids last answer begun reaches undoes)
 entry-told (passage.shown l line) = refl
 
 -- where both are there or neither is, lists that begin with them are equal only where they are
-first-entry : (e f : Option Entry) (es fs : List Entry) → is_some e ≡ is_some f
+pub first-entry : (e f : Option Entry) (es fs : List Entry) → is_some e ≡ is_some f
     → option_to_list e ++ es ≡ option_to_list f ++ fs → (e ≡ f) × (es ≡ fs)
 first-entry (Some e) (Some f) es fs both same = (cc, cc)
 first-entry None None es fs both same = (refl, same)
@@ -373,8 +373,9 @@ leads-same {a} {limit} (legal.passes made p ps last is rest) (legal.passes k q q
     in
     ((λ i. same i ∷ further i), end_ledger)
 
--- the passages of a journal and the ledger to which they lead are determined
-pub tells-one : {a : Acceptance} {items : List ScriptItem} {journal : Journal} {ps qs : List Passage}
-    {last m : LedgerState} → Tells a items journal ps last → Tells a items journal qs m → (ps ≡ qs) × (last ≡ m)
+-- the passages of a journal from a ledger, and the ledger to which they lead, are determined
+pub tells-one : {a : Acceptance} {first : LedgerState} {items : List ScriptItem} {journal : Journal}
+    {ps qs : List Passage} {last m : LedgerState} → TellsFrom a first items journal ps last
+    → TellsFrom a first items journal qs m → (ps ≡ qs) × (last ≡ m)
 tells-one one two =
     leads-same one.leads two.leads refl refl (one.items_are ∙ sym two.items_are) (one.entries_are ∙ sym two.entries_are)

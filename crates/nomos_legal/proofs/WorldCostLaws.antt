@@ -1,4 +1,4 @@
--- What the firings of a world cost where the program is under `cost all`.
+-- What the firings of a batch cost where the program is under `cost all`.
 use Rattle.std.proofs.Common.{◌≡◌, ℕ, ◌+◌, List, [], ◌∷◌, length, Option, Some, None, slice_get, refl, subst, arith}
 use Rattle.std.proofs.lemmas.List.{length-map}
 use Rattle.nomos_ir.specs.CostAll.{IsUnderCostAll}
@@ -7,12 +7,14 @@ use Rattle.nomos_types.specs.Acceptance.{Acceptance, IsAccepted}
 use Rattle.nomos_machine.specs.Costs.{PaysFor}
 use Rattle.nomos_machine.specs.Optional.{◌>>=◌}
 use Rattle.nomos_machine.specs.Starting.{started, value_bindings, channel_bindings}
+use Rattle.nomos_machine.specs.Run.{run}
 use Rattle.nomos_machine.specs.State.{State}
+use Rattle.nomos_machine.specs.TypedState.{IsTyped}
 use Rattle.nomos_machine.proofs.CostLaws.{RunCosts, costs-bound, costs-through, run-costs, started-costs}
 use Rattle.nomos_legal.specs.Batch.{after_start, after_starts, state_or}
 use Rattle.nomos_legal.specs.Ledger.{LedgerState}
 use Rattle.nomos_legal.specs.StandsFor.{WorldStandsFor}
-use Rattle.nomos_legal.specs.World.{WorldState, pids_of, ledger_begun}
+use Rattle.nomos_legal.specs.World.{WorldState, pids_of}
 use Rattle.nomos_legal.specs.declared.resolved.Resolved.{Resolved}
 use Rattle.nomos_legal.proofs.WorldLaws.{world-run}
 
@@ -42,20 +44,24 @@ module _ {a : Acceptance} (under : IsUnderCostAll a.program) where
       none : 0 + 0 ≡ 0
       none = omega arith
 
-  -- The firings of a world, a unit for each, come to at most twice the gas spent since its origin, and a unit for each
-  -- process of its origin.
+  -- The firings behind the starts of a batch, a unit for each, come to at most twice the gas spent since the ledger
+  -- before it, and a unit for each process of that ledger.
+  pub begun-pays : IsAccepted a → (l : LedgerState) (rs : List Resolved) → IsTyped a (after_starts a l rs).state
+      → (pids : List ℕ) (t : State) → run a (after_starts a l rs).state pids ≡ Some t
+      → PaysFor a (length pids) l.state t
+  begun-pays accepted l rs typed pids t reached =
+      let start : State = (after_starts a l rs).state in
+      let fired = run-costs accepted under start t pids typed reached in
+      let all = costs-through a 0 (length pids) l.state start t (starts-cost l rs) fired in
+      subst (λ (n : ℕ). PaysFor a n l.state t) same (costs-bound a (0 + length pids) l.state t all)
+    where
+      same : 0 + length pids ≡ length pids
+      same = omega arith
+
+  -- so do the firings of a world
   pub world-pays : IsAccepted a → {w : WorldState} → WorldStandsFor a w
       → PaysFor a (length w.firings) w.origin.state w.state
   world-pays accepted {w} stands =
-      let start : State = (ledger_begun a w).state in
-      let fired = run-costs accepted under start w.state (pids_of w.firings) stands.start.typed
-      (world-run accepted stands)
-      in
-      let all = costs-through a 0 (length (pids_of w.firings)) w.origin.state start w.state
-      (starts-cost w.origin w.starts)
-      fired in
-      subst (λ (n : ℕ). PaysFor a n w.origin.state w.state) same
-      (costs-bound a (0 + length (pids_of w.firings)) w.origin.state w.state all)
-    where
-      same : 0 + length (pids_of w.firings) ≡ length w.firings
-      same = omega (arith, length-map w.firings (λ f. f.pid))
+      subst (λ (n : ℕ). PaysFor a n w.origin.state w.state) (length-map w.firings (λ f. f.pid))
+      (begun-pays accepted w.origin w.starts stands.start.typed (pids_of w.firings) w.state
+      (world-run accepted stands))

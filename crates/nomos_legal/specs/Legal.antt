@@ -1,5 +1,5 @@
 -- Which journals of a script are legal: one walk over its items, along which all that is said of a journal goes.
-use Rattle.std.specs.Prelude.{◌≡◌, ℕ, ◌+◌, ◌-◌, ◌≤◌, min, List, [], ◌∷◌, length, map, All, Option, Some, None, take, sum_by}
+use Rattle.std.specs.Prelude.{◌≡◌, ℕ, ◌+◌, ◌-◌, ◌≤◌, min, List, [], ◌∷◌, length, map, All, Option, Some, None, sum_by}
 use Rattle.std.specs.List.{flat_map}
 use Rattle.std.specs.Option.{option_to_list}
 use Rattle.nomos_types.specs.Acceptance.{Acceptance}
@@ -50,23 +50,28 @@ pub record IsLimit (limit : ℕ) : Type 0 where
   pub some : 1 ≤ limit
   pub few : limit ≤ 10000000
 
--- The passages are what became of these items by this journal: from the empty ledger they lead to this one.
-pub record Tells (a : Acceptance) (items : List ScriptItem) (journal : Journal) (ps : List Passage) (last : LedgerState)
-    : Type 0 where
+-- The passages are what became of these items by this journal: from the first ledger they lead to the last one.
+pub record TellsFrom (a : Acceptance) (first : LedgerState) (items : List ScriptItem) (journal : Journal)
+    (ps : List Passage) (last : LedgerState) : Type 0 where
   pub limit : IsLimit journal.limit
   pub items_are : map (λ p. p.item) ps ≡ items
   pub entries_are : entries_of ps ≡ journal.entries
-  pub leads : Leads a journal.limit 0 empty_ledger ps last
+  pub leads : Leads a journal.limit 0 first ps last
 
--- A journal of these items is legal: it tells what became of them.
-pub record IsLegal (a : Acceptance) (items : List ScriptItem) (journal : Journal) : Type 0 where
-  pub passages : List Passage
-  pub last : LedgerState
-  pub tells : Tells a items journal passages last
+-- the same from the empty ledger
+abbrev pub Tells : Acceptance → List ScriptItem → Journal → List Passage → LedgerState → Type 0
+Tells a items journal ps last = TellsFrom a empty_ledger items journal ps last
 
--- a journal of the first so many items is legal
-abbrev pub IsLegalUpTo : Acceptance → List ScriptItem → Journal → ℕ → Type 0
-IsLegalUpTo a items journal n = IsLegal a (take n items) journal
+-- A journal of these items is legal from the first ledger: it tells what became of them.
+pub record IsLegalFrom (a : Acceptance) (first : LedgerState) (items : List ScriptItem) (journal : Journal) : Type 0
+  where
+    pub passages : List Passage
+    pub last : LedgerState
+    pub tells : TellsFrom a first items journal passages last
+
+-- from the empty ledger
+abbrev pub IsLegal : Acceptance → List ScriptItem → Journal → Type 0
+IsLegal a items journal = IsLegalFrom a empty_ledger items journal
 
 -- ---- policies
 

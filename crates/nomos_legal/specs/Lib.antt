@@ -6,5 +6,6 @@ pub mod World
 pub mod StandsFor
 pub mod Passage
 pub mod Legal
+pub mod Debits
 pub mod Right
 pub mod NextNumbers

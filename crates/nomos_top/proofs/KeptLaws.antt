@@ -3,7 +3,7 @@ use Rattle.std.proofs.Common.{◌≡◌, ◌≢◌, ◌∙◌, ◌⊎◌, inl, i
 use Rattle.std.proofs.lemmas.List.Elements.{All-nil, All-cons}
 use Rattle.std.specs.Option.{option_to_list}
 use Rattle.nomos_due.specs.Outside.{HaveRisen}
-use Rattle.nomos_legal.proofs.DepositLaws.{tells-deposits}
+use Rattle.nomos_legal.proofs.DepositLaws.{front-deposits, tells-deposits}
 use Rattle.nomos_legal.proofs.RightLaws.{legal-right}
 use Rattle.nomos_legal.proofs.UniqueLaws.{tells-one}
 use Rattle.nomos_legal.specs.Legal.{FollowPolicy, PassesBy, Tells, entries_of}
@@ -287,7 +287,7 @@ pub kept-goes_right : (c : Call) (t : Texts) → EndsOn c t → KeptGoesRight c 
 kept-goes_right c t e = record {
   right = λ a items passages last gives tells.
       let (right, stands) = legal-right (e.fits a gives) tells in
-      record { right = right; stands = stands; deposits = tells-deposits tells };
+      record { right = right; stands = stands; deposits = tells-deposits tells; so_far = front-deposits tells };
 }
 
 -- ---- one worker follows the policy

@@ -1,5 +1,5 @@
 -- The journal of a call: every one is legal, goes right, and with one worker follows the policy.
-use Rattle.std.specs.Prelude.{◌≡◌, ◌≢◌, ◌⊎◌, ℕ, List, [], take, sum_by}
+use Rattle.std.specs.Prelude.{◌≡◌, ◌≢◌, ◌⊎◌, ℕ, List, [], Some, take, slice_get, sum_by}
 use Rattle.nomos_due.specs.Outside.{HaveRisen}
 use Rattle.nomos_journal.specs.JournalText.{IsTextOf}
 use Rattle.nomos_journal.specs.declared.line.Version.{Version}
@@ -77,13 +77,16 @@ pub record KeptIsLegal (c : Call) (t : Texts) : Type 0 where
   pub no_task : AskNothing c.words → HasNoEntry c
 
 -- Every journal that is kept goes right: before each of its passages, after each front of its firings and behind it, no
--- process meets a message that it does not expect and none lacks gas, each linear channel has exactly one owner, and
--- all gas, in accounts, in purses and spent, is what was deposited so far. The ledger to which it leads stands for the
--- program, and has the deposits that were carried out.
+-- process meets a message that it does not expect and none lacks gas, exactly the names that objects mention have a
+-- type, each linear channel has exactly one owner, and all gas, in accounts, in purses and spent, is what was deposited
+-- so far; accounts are debited once, at starts, and by no firing. The ledger to which it leads stands for the program.
+-- It has the deposits that were carried out, and the ledger before each passage those that were carried out until then.
 pub record GoesRightTo (a : Acceptance) (passages : List Passage) (last : LedgerState) : Type 0 where
   pub right : AllGoRight a passages
   pub stands : StandsFor a last
   pub deposits : last.deposits ≡ sum_by accepted_units passages
+  pub so_far : (k : ℕ) (p : Passage) → slice_get passages k ≡ Some p
+      → p.before.deposits ≡ sum_by accepted_units (take k passages)
 
 pub record KeptGoesRight (c : Call) (t : Texts) : Type 0 where
   pub right : (a : Acceptance) (items : List ScriptItem) (passages : List Passage) (last : LedgerState) → Gives c a
