@@ -1,4 +1,4 @@
-//! Tests of scripts, and of columns and what is kept in them.
+//! Tests of scripts and talks, and of columns and what is kept in them.
 #![tactic(auto)]
 
 #[cfg(test)]
@@ -11,3 +11,5 @@ mod places_tests;
 mod script_tests;
 #[cfg(test)]
 mod shelf_tests;
+#[cfg(test)]
+mod talk_tests;

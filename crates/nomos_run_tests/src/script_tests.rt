@@ -1,7 +1,8 @@
 //! Small scripts, scripts cut at every length, refusals, and the limits.
+use nomos_ir::limits::TEXT_LIMIT;
 use nomos_script::item::{ScriptItem, Start};
 use nomos_script::name::ScriptNames;
-use nomos_script::parsing::{ScriptError, TEXT_LIMIT, parse_script};
+use nomos_script::parsing::{ScriptError, parse_script};
 use std::alloc::Global;
 use std::process::Abort;
 use std::test::Fail;
@@ -29,7 +30,7 @@ fn start_text(alloc: Global, start: &Start) -> Result<String, Fail> {
         start.sender.as_str(),
         start.proc.as_str(),
         contract,
-        start.values.as_slice(),
+        start.values,
         names.as_str()
     )?)
 }

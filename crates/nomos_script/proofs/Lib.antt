@@ -15,4 +15,8 @@ pub mod StandingLemmas
 pub mod ReadingLaws
 pub mod LoopLemmas
 pub mod SizeLemmas
+pub mod TalkFormLemmas
+pub mod TalkLaws
+pub mod TalkLoopLemmas
 pub mod Examples
+pub mod TalkExamples

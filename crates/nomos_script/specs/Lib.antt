@@ -7,5 +7,7 @@ pub mod Paragraph
 pub mod Item
 pub mod Size
 pub mod ScriptReading
+pub mod TalkForm
+pub mod TalkReading
 pub mod mirror
 pub mod Seen

@@ -1,5 +1,6 @@
 -- When a text reads as a script, and at which line another is refused.
 use Rattle.std.specs.Prelude.{◌≡◌, ℕ, ◌+◌, ◌≤◌, List, [], ◌∷◌, ◌++◌, length, All, ◌⊎◌, Result, IsErrOf}
+use Rattle.nomos_ir.specs.Limits.{text_limit}
 use Rattle.nomos_script.specs.declared.item.ScriptItem.{ScriptItem}
 use Rattle.nomos_script.specs.declared.parsing.ScriptError.{ScriptError}
 use Rattle.nomos_script.specs.declared.parsing.ScriptError.TheVariants as error
@@ -7,10 +8,6 @@ use Rattle.nomos_script.specs.Form.{Form, begin, LineReadsAs}
 use Rattle.nomos_script.specs.Item.{items_of}
 use Rattle.nomos_script.specs.Lines.{lines_of}
 use Rattle.nomos_script.specs.Paragraph.{Paragraph, forms_of, IsParagraph, StandsInside}
-
--- the most bytes of a script
-abbrev pub text_limit : ℕ
-text_limit = 1048576
 
 -- the lines have these forms, one for one
 abbrev pub LinesReadAs : List (List ℕ) → List Form → Type 0

@@ -1,3 +1,4 @@
 -- Mirrors of the code, step by step. No promise stands on them.
 pub mod ValueReading
 pub mod Assembling
+pub mod TalkSaying

@@ -1,4 +1,4 @@
-//! Scripts: the deposits and transactions that are run against a contract, and how a text is read as one.
+//! Scripts: the deposits and transactions that are run against a contract, and how a text is read as one; and talks.
 #![tactic(auto)]
 
 mod arguments;
@@ -13,6 +13,8 @@ mod number;
 pub mod parsing;
 pub mod script;
 mod stop;
+pub mod talk_line;
+pub mod talk_parsing;
 mod tokens;
 mod value_reader;
 mod weighed;

@@ -4,12 +4,10 @@ ghost use Rattle.nomos_script.specs.ScriptNames.{IsScriptName};
 
 use nomos_ir::items::Items;
 use nomos_ir::letters::{is_letter, is_word_byte};
+use nomos_ir::limits::NAME_LIMIT;
 use smallvec::SmallVec;
 use std::alloc::{AllocError, Global};
 use std::marker::Model;
-
-/// The most bytes of a name.
-const NAME_LIMIT: usize = 64;
 
 /// The most bytes of a name that lies in the value itself, which is then no larger than it is for a longer one.
 const INLINE_LIMIT: usize = 16;

@@ -1,18 +1,17 @@
 //! How a text is read as a script.
 ghost use Rattle.std.specs.Prelude.{◌≡◌, ◌↔◌, ◌<◌, ◌≤◌, ℕ, List, length, IfOk, IsErrOf, IsOkUnless};
+ghost use Rattle.nomos_ir.specs.Limits.{text_limit};
 ghost use Rattle.nomos_script.specs.declared.item.ScriptItem.{ScriptItem};
-ghost use Rattle.nomos_script.specs.ScriptReading.{text_limit, ReadsAs, IsSyntaxAt, IsRefusedAs};
+ghost use Rattle.nomos_script.specs.ScriptReading.{ReadsAs, IsSyntaxAt, IsRefusedAs};
 
 use crate::assembly::Assembly;
 use crate::item::ScriptItems;
 use crate::lines::split_line;
 use crate::script::Script;
 use crate::stop::LineStop;
+use nomos_ir::limits::TEXT_LIMIT;
 use std::alloc::{AllocFailed, Global};
 use thiserror::Error;
-
-/// The most bytes of a script.
-pub const TEXT_LIMIT: usize = 1_048_576;
 
 /// Why a text is no script. Lines are counted from 1.
 #[derive(Clone, Copy, PartialEq, Eq, Debug, Error)]

@@ -1,8 +1,10 @@
 //! How the values of a line are read, token by token.
-ghost use Rattle.std.specs.Prelude.{◌≡◌, ◌≤◌, length, ◌∷◌, ◌++◌, [], ℕ, true, false, nat_le, IfOk, OnOk, IsErrOf, Some, None};
-ghost use Rattle.nomos_ir.specs.Value.{int, truth, list, value_list};
+ghost use Rattle.std.specs.Prelude.{◌≡◌, ◌≢◌, ◌≤◌, length, ◌∷◌, ◌++◌, [], ℕ, true, false, nat_le, IfOk, OnOk, IsErrOf, Some, None, codes};
+ghost use Rattle.nomos_ir.specs.Value.{Value as Meaning, int, truth, list, value_list};
+ghost use Rattle.nomos_ir.specs.ValueNode.{value_of};
 ghost use Rattle.nomos_ir.specs.Weight.{list_weight, max_weight};
 ghost use Rattle.nomos_script.specs.mirror.ValueReading.{nothing_read, awaits_value, may_end, put, put_number, take_digits, take_word, open_list, close_list, take_mark, take_token, ends_values, read_values};
+ghost use Rattle.nomos_script.specs.ScriptScan.{mark};
 ghost use Rattle.nomos_script.specs.Seen.{token_seen, HasDigits};
 ghost use Rattle.std.specs.Str.Parse.{IsNumeral};
 
@@ -12,7 +14,7 @@ use crate::stop::LineStop;
 use crate::tokens::{Token, Tokens};
 use crate::weighed::{OpenList, WeighedValue};
 use nomos_ir::stack::Stack;
-use nomos_ir::value::Values;
+use nomos_ir::value::{Value, Values};
 use nomos_ir::value_node::ValueNode;
 use std::alloc::Global;
 use std::marker::Model;
@@ -156,12 +158,12 @@ impl ValueReader {
     }
 
     // Closes the innermost list.
-    fn close_list(&mut self) -> Result<(), LineStop>
+    fn close_list(&mut self, alloc: Global) -> Result<(), LineStop>
         ensures ok { OnOk result (close_list self.old.values self.old.open_lists ≡ Some self.new) }
         ensures none { IsErrOf result LineStop.NoForm → close_list self.old.values self.old.open_lists ≡ None }
     {
         match self.open_lists.pop() {
-            Some(list) => self.put(list.into_value()),
+            Some(list) => self.put(list.into_value(alloc)?),
             None => Err(LineStop::NoForm),
         }
     }
@@ -177,7 +179,7 @@ impl ValueReader {
                 self.next = Awaited::Digits;
                 Ok(())
             }
-            b']' if self.next.may_end() => self.close_list(),
+            b']' if self.next.may_end() => self.close_list(alloc),
             b',' if self.next == Awaited::Separator => {
                 self.next = Awaited::NextValue;
                 Ok(())
@@ -216,6 +218,22 @@ impl ValueReader {
     {
         matches!(token, Token::Mark(b';')) && self.open_lists.len() == 0 && self.next.may_end()
     }
+
+    // The one value that was read, where there is one and the values may end.
+    fn into_single(self) -> Result<Value, LineStop>
+        ensures ok { IfOk result (λ v. read_values self (mark (codes ";") ∷ []) ≡ Some (v ∷ [], [])) }
+        ensures none { IsErrOf result LineStop.NoForm → (v : Meaning)
+            → read_values self (mark (codes ";") ∷ []) ≢ Some (v ∷ [], []) }
+    {
+        if !self.ends_at(Token::Mark(b';')) {
+            return Err(LineStop::NoForm);
+        }
+        let mut values = self.values;
+        match values.pop() {
+            Some(node) if values.is_empty() => Ok(value_from(node)),
+            _ => Err(LineStop::NoForm),
+        }
+    }
 }
 
 /// Takes values with commas between them, and the `;` behind them.
@@ -224,15 +242,42 @@ pub(crate) fn read_values(alloc: Global, tokens: &mut Tokens<'_>) -> Result<Valu
     ensures none { IsErrOf result LineStop.NoForm → read_values nothing_read tokens.old ≡ None }
 {
     if tokens.takes_close(b';') {
-        return Ok(Values::of_vec(Vec::new(alloc)));
+        return Ok(Values::empty());
     }
     let mut reader = ValueReader::new(alloc);
     while let Some(token) = tokens.next() {
         if reader.ends_at(token) {
-            return Ok(Values::of_vec(reader.values));
+            return Ok(Values::of_vec(alloc, reader.values)?);
         }
         reader.take(alloc, token)?;
         reader.take_comma(tokens);
     }
     Err(LineStop::NoForm)
+}
+
+// The value of a node.
+fn value_from(node: ValueNode) -> Value
+    ensures { result ≡ value_of node }
+{
+    match node {
+        ValueNode::Int(n) => Value::int(n),
+        ValueNode::Bool(b) => Value::truth(b),
+        ValueNode::List(values) => Value::list(values),
+    }
+}
+
+/// Takes one value, which has to be the last of the line. It is read as if `;` stood behind it.
+pub(crate) fn read_single_value(alloc: Global, tokens: &mut Tokens<'_>) -> Result<Value, LineStop>
+    ensures ok { IfOk result (λ v. read_values nothing_read (tokens.old ++ mark (codes ";") ∷ []) ≡ Some (v ∷ [], [])) }
+    ensures none { IsErrOf result LineStop.NoForm → (v : Meaning)
+        → read_values nothing_read (tokens.old ++ mark (codes ";") ∷ []) ≢ Some (v ∷ [], []) }
+{
+    let mut reader = ValueReader::new(alloc);
+    while let Some(token) = tokens.next() {
+        if reader.ends_at(token) {
+            return Err(LineStop::NoForm);
+        }
+        reader.take(alloc, token)?;
+    }
+    reader.into_single()
 }

@@ -1,17 +1,16 @@
 //! Values with their weights, and lists that are still read.
-ghost use Rattle.std.specs.Prelude.{◌≡◌, ◌∷◌, ◌++◌, [], true, false, nat_le, OnOk, IsErrOf};
+ghost use Rattle.std.specs.Prelude.{◌≡◌, ◌∷◌, ◌++◌, [], true, false, nat_le, IfOk, OnOk, IsErrOf};
 ghost use Rattle.nomos_ir.specs.Value.{int, truth, list, value_list};
 ghost use Rattle.nomos_ir.specs.ValueNode.{value_of};
 ghost use Rattle.nomos_ir.specs.Weight.{list_weight, max_weight};
 
 use crate::growing::put;
 use crate::stop::LineStop;
+use nomos_ir::limits::MAX_WEIGHT;
+use nomos_ir::value::Values;
 use nomos_ir::value_node::ValueNode;
-use std::alloc::Global;
+use std::alloc::{AllocError, Global};
 use std::marker::Model;
-
-/// The greatest weight of a list.
-const MAX_WEIGHT: u32 = 10_000;
 
 /// A value, with its weight, which is at most that of the heaviest list.
 #[derive(Drop)]
@@ -119,13 +118,11 @@ impl OpenList {
     }
 
     /// The whole list as a value.
-    pub(crate) fn into_value(self) -> WeighedValue
-        ensures { result ≡ list (value_list self) }
+    pub(crate) fn into_value(self, alloc: Global) -> Result<WeighedValue, AllocError>
+        ensures { IfOk result (λ value. value ≡ list (value_list self)) }
     {
         let OpenList { nodes, weight } = self;
-        WeighedValue {
-            node: ValueNode::List(nodes),
-            weight,
-        }
+        let node = ValueNode::List(Values::of_vec(alloc, nodes)?);
+        Ok(WeighedValue { node, weight })
     }
 }
