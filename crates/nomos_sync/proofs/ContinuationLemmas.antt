@@ -25,7 +25,7 @@ use Rattle.nomos_equality.proofs.PathLaws.{part-below}
 use Rattle.nomos_sync.specs.Continuing.{continuation_by, behind_down, Continues, stops, continues}
 
 -- the only element
-one-element : {X : Type 0} (x y : X) → Contains (x ∷ []) y → x ≡ y
+pub one-element : {X : Type 0} (x y : X) → Contains (x ∷ []) y → x ≡ y
 one-element x y (zero, inside, is) = is
 one-element x y (suc k, inside, is) = absurd (omega arith)
 
@@ -41,7 +41,7 @@ tested-later : (b : Branch) (rest : Option Branch) (passes : Bool) (t : TypeId) 
 tested-later b rest true t is goes = absurd cc
 tested-later b rest false t is goes = goes
 
-goes-own : (bs : List Branch) → AllDiffer (map (λ b. b.label.0) bs) → (c : Branch) → Contains bs c
+pub goes-own : (bs : List Branch) → AllDiffer (map (λ b. b.label.0) bs) → (c : Branch) → Contains bs c
     → goes_by bs c.label ≡ Some c.goes
 goes-own [] differ c among = absurd (omega (arith, among.1))
 goes-own (b ∷ bs) differ c (zero, inside, is) =
@@ -91,7 +91,8 @@ continuation-hop (node.PotOut q a) s differ among = (hop.Next, ap (λ (t : TypeI
 continuation-hop (node.PotIn q a) s differ among = (hop.Next, ap (λ (t : TypeId). Some t) (one-element a s among))
 continuation-hop n s differ among = absurd (omega (arith, among.1))
 
-branch-among : (bs : List Branch) (l : Label) (s : TypeId) → goes_by bs l ≡ Some s → Contains (map (λ b. b.goes) bs) s
+pub branch-among : (bs : List Branch) (l : Label) (s : TypeId) → goes_by bs l ≡ Some s
+    → Contains (map (λ b. b.goes) bs) s
 branch-among bs l s found = let c = goes-label bs l s found in contains-map (λ (b : Branch). b.goes) bs c.0 s c.1 c.3
 
 only : (a s : TypeId) → Some a ≡ Some s → Contains (a ∷ []) s

@@ -3,3 +3,5 @@ pub mod EntryLemmas
 pub mod PassingLemmas
 pub mod SyncLaws
 pub mod WalkLemmas
+pub mod CarryLaws
+pub mod SilentLemmas

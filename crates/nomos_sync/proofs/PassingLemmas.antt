@@ -148,7 +148,7 @@ passing-more lists start shared at old e f s n next from passing there agrees wa
 
 -- ---- the end
 
-none-past : {X : Type 0} (xs : List X) (n i : ℕ) (x : X) → slice_get xs n ≡ None → slice_get xs i ≡ Some x → i < n
+pub none-past : {X : Type 0} (xs : List X) (n i : ℕ) (x : X) → slice_get xs n ≡ None → slice_get xs i ≡ Some x → i < n
 none-past xs n i x none found =
     elim (cases_lt i n) [
       | inl less ↦ less

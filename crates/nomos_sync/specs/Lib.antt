@@ -1,3 +1,4 @@
 pub mod Continuing
 pub mod SyncAnswer
+pub mod Carrying
 pub mod mirror

@@ -2,6 +2,8 @@
 #![tactic(auto)]
 
 #[cfg(test)]
+mod carry_tests;
+#[cfg(test)]
 mod equality_tests;
 #[cfg(test)]
 mod fitting;
