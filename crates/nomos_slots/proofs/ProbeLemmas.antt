@@ -50,3 +50,15 @@ none-there homes p v at cells probed others over empty place e stands =
                 both_ways _ (ap is_some empty) (probed.full at place e stands (omega arith) (omega arith))
           ]
     ])
+
+-- where all cells from the home of a key on have other keys, no cell has the key
+pub none-past : (homes p v : ℕ) (cells : List Cell) → IsProbed homes cells
+    → ((i : ℕ) (e : Named) → home homes p v ≤ i → i < length cells → cell_at cells i ≡ Some e → is_of p v e ≡ false)
+    → (place : ℕ) (e : Named) → cell_at cells place ≡ Some e → is_of p v e ≡ false
+none-past homes p v cells probed others place e stands =
+    false_from_ne_true (is_of p v e)
+    (λ is.
+    let same = same-home homes p v e is in
+    let near : home_of homes e ≤ place = probed.near place e stands in
+    let within = filled-within cells place (filled-some cells place e stands) in
+    both_ways _ (others place e (omega arith) within stands) is)

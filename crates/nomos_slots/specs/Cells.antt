@@ -1,5 +1,5 @@
 -- Names by process and variable, in cells.
-use Rattle.std.specs.Prelude.{◌≡◌, ◌≤◌, ◌<◌, ◌==◌, ◌&&◌, ◌⊎◌, ◌+◌, ◌*◌, ◌%◌, ℕ, Bool, true, false, cond, List, [], ◌∷◌, length, slice_index_or, count_by, Option, Some, None, MatchOption, is_some}
+use Rattle.std.specs.Prelude.{◌≡◌, ◌≤◌, ◌<◌, ◌==◌, ◌&&◌, ◌⊎◌, ◌+◌, ◌*◌, ◌/◌, ◌%◌, ◌^◌, ℕ, Bool, true, false, cond, List, [], ◌∷◌, length, slice_index_or, count_by, bit_xor, Option, Some, None, MatchOption, is_some}
 use Rattle.nomos_slots.specs.declared.cells.Named.{Named}
 
 -- a cell, which is empty or has an entry
@@ -32,9 +32,16 @@ with_cell (Some e) process variable name = cond (is_of process variable e) (Some
 abbrev pub entries : List Cell → ℕ
 entries cells = count_by is_some cells
 
--- The home of an entry: the first cell in which it may stand, of so many that are homes.
+-- a process and a variable as one number of 64 bits, scattered so that processes in any steps do not come together
+abbrev pub scattered : ℕ → ℕ → ℕ
+scattered process variable =
+    let sum = (process * 11400714819323198485 + variable) % 2 ^ 64 in
+    (bit_xor sum (sum / 2 ^ 32) * 11400714819323198485) % 2 ^ 64
+
+-- The home of an entry: the first cell in which it may stand, of so many that are homes. The high bits tell it, so that
+-- how many homes there are has no part in which entries come together.
 abbrev pub home : ℕ → ℕ → ℕ → ℕ
-home homes process variable = (process * 2654435761 + variable * 1640531527) % homes
+home homes process variable = scattered process variable * homes / 2 ^ 64
 
 abbrev pub home_of : ℕ → Named → ℕ
 home_of homes e = home homes e.process e.variable

@@ -1,6 +1,6 @@
 //! Cells in which a hash finds the name of a variable of a process.
 ghost use Rattle.std.specs.Prelude.{◌≡◌, ◌≤◌, ◌<◌, ◌+◌, ◌-◌, ◌&&◌, ◌==◌, ℕ, [], ◌∷◌, cond, false, IsOk, IsSome, IfSome, IfOk, IsTrue, OnOk, Some, None, length, slice_set};
-ghost use Rattle.nomos_slots.specs.Cells.{IsEmptyFrom, IsGap, IsOnce, IsPlaceIn, IsProbed, cell_at, entries, home, home_of, is_of, name_in, with_cell};
+ghost use Rattle.nomos_slots.specs.Cells.{IsEmptyFrom, IsGap, IsOnce, IsPlaceIn, IsProbed, cell_at, entries, home, home_of, is_of, name_in, scattered, with_cell};
 
 use crate::column::Column;
 use std::alloc::{AllocError, Global};
@@ -13,14 +13,27 @@ pub struct Named {
     pub name: u32,
 }
 
+/// Its high half is near the golden section, so that multiples of it lie far apart.
+const MULTIPLIER: u64 = 11400714819323198485;
+
+// A process and a variable as one number of 64 bits.
+fn scattered(process: u32, variable: u32) -> u64
+    ensures { result ≡ scattered process variable }
+{
+    let sum = u64::from(process)
+        .wrapping_mul(MULTIPLIER)
+        .wrapping_add(u64::from(variable));
+    (sum ^ (sum >> 32)).wrapping_mul(MULTIPLIER)
+}
+
 // The first cell in which the entry of a variable of a process may stand.
 fn home(homes: usize, process: u32, variable: u32) -> usize
     requires { 0 < homes }
     ensures home { result ≡ home homes process variable }
     ensures within { result < homes }
 {
-    let spread = process as u64 * 2654435761 + variable as u64 * 1640531527;
-    (spread % homes as u64) as usize
+    let scattered = scattered(process, variable);
+    (u128::from(scattered) * homes as u128 >> 64) as usize
 }
 
 // Whether the entry is of this variable of this process.

@@ -6,6 +6,9 @@ use crate::column::Column;
 use std::alloc::{AllocError, Global};
 use std::marker::Model;
 
+// Of how many numbers at most it is remembered where they stood.
+const MOST_SEEN: usize = 65536;
+
 /// What stands under a number: or nothing any more.
 #[derive(Clone, Copy, Debug)]
 pub struct Slot<T> {
@@ -25,6 +28,8 @@ pub struct Numbered<T: Copy> {
     gaps: usize,
     /// About how many of those are that came since the mark.
     late_gaps: usize,
+    /// Where numbers stood when they were last put there, each under its low bits; no clause rests on it.
+    seen: Vec<u32>,
 }
 
 impl<T: Copy> Model for Numbered<T> {
@@ -74,6 +79,15 @@ fn guessed_from_first<T: Copy>(slots: &Column<Slot<T>>, number: u32) -> Option<u
     place_if(slots, number, over)
 }
 
+// The place of the slot of this number, where it stands as it is remembered.
+fn remembered<T: Copy>(slots: &Column<Slot<T>>, seen: &[u32], number: u32) -> Option<usize>
+    ensures { IfSome result (λ place. slice_get (numbers slots.now.now) place ≡ Some number) }
+{
+    let at = number as usize & seen.len().saturating_sub(1);
+    let place = *seen.get(at)?;
+    place_if(slots, number, place as usize)
+}
+
 // The place of the slot of this number, by halving.
 fn halved_place<T: Copy>(slots: &Column<Slot<T>>, number: u32) -> Option<usize>
     requires { IsAscending slots.now.now }
@@ -97,10 +111,13 @@ fn halved_place<T: Copy>(slots: &Column<Slot<T>>, number: u32) -> Option<usize>
 }
 
 // The place of the slot of this number.
-fn place_in<T: Copy>(slots: &Column<Slot<T>>, number: u32) -> Option<usize>
+fn place_in<T: Copy>(slots: &Column<Slot<T>>, seen: &[u32], number: u32) -> Option<usize>
     requires { IsAscending slots.now.now }
     ensures { IsPlaceOf number slots.now.now result }
 {
+    if let Some(place) = remembered(slots, seen, number) {
+        return Some(place);
+    }
     if let Some(place) = guessed_from_last(slots, number) {
         return Some(place);
     }
@@ -142,6 +159,7 @@ impl<T: Copy> Numbered<T> {
             slots: Column::new(alloc),
             gaps: 0,
             late_gaps: 0,
+            seen: Vec::new(alloc),
         }
     }
 
@@ -154,7 +172,33 @@ impl<T: Copy> Numbered<T> {
         ensures room { self.old.room ≤ self.new.room }
         ensures frugal { n ≤ self.old.room → IsOk result }
     {
-        self.slots.reserve_all(n)
+        self.slots.reserve_all(n)?;
+        self.widen();
+        Ok(())
+    }
+
+    // Remembers where the slot of a number stands.
+    fn remember(&mut self, number: u32, place: usize)
+        ensures { self.new ≡ self.old }
+    {
+        let at = number as usize & self.seen.len().saturating_sub(1);
+        let Ok(place) = u32::try_from(place) else {
+            return;
+        };
+        if let Some(seen) = self.seen.get_mut(at) {
+            *seen = place;
+        }
+    }
+
+    // Remembers more numbers, where there are more slots than that. Want of memory changes nothing.
+    fn widen(&mut self)
+        ensures { self.new ≡ self.old }
+    {
+        let size = self.seen.len();
+        if size >= MOST_SEEN || size >= self.slots.len() {
+            return;
+        }
+        let _widened = self.seen.resize(size + size.max(64), 0);
     }
 
     /// The number of slots, gaps among them.
@@ -176,14 +220,14 @@ impl<T: Copy> Numbered<T> {
     pub fn place_of(&self, number: u32) -> Option<usize>
         ensures { IsPlaceOf number self.now.now result }
     {
-        place_in(&self.slots, number)
+        place_in(&self.slots, self.seen.as_slice(), number)
     }
 
     /// What stands under a number.
     pub fn get(&self, number: u32) -> Option<T>
         ensures { result ≡ found self.now.now number }
     {
-        let place = place_in(&self.slots, number)?;
+        let place = place_in(&self.slots, self.seen.as_slice(), number)?;
         let slot = self.slots.get(place)?;
         slot.item
     }
@@ -196,10 +240,12 @@ impl<T: Copy> Numbered<T> {
         ensures marked { self.new.marked ≡ self.old.marked }
         ensures room { self.old.room ≤ self.new.room + 1 }
     {
+        let place = self.slots.len();
         self.slots.push(Slot {
             number,
             item: Some(item),
         });
+        self.remember(number, place);
     }
 
     /// The slot at this place keeps its number and has this item, or is a gap. It takes no room and no memory.
@@ -218,6 +264,7 @@ impl<T: Copy> Numbered<T> {
                 },
             );
             self.count_gap(place, item.is_none());
+            self.remember(slot.number, place);
         }
     }
 
@@ -309,6 +356,7 @@ impl<T: Copy> Numbered<T> {
             slots,
             gaps: self.gaps,
             late_gaps: self.gaps,
+            seen: Vec::new(alloc),
         })
     }
 }

@@ -22,11 +22,11 @@ use Rattle.nomos_machine.specs.TypedState.{IsTyped}
 use Rattle.nomos_machine.specs.declared.object.Object.{Object}
 use Rattle.nomos_machine.specs.declared.object.Object.TheVariants as object
 use Rattle.nomos_machine.specs.declared.object.Process.{Process}
-use Rattle.nomos_machine.proofs.ForwardLaws.{user_of-found}
 use Rattle.nomos_machine.proofs.NameLaws.{times-contains, type_of-below}
 use Rattle.nomos_machine.proofs.ObjectLaws.{bound-among}
 use Rattle.nomos_machine.proofs.PreservationLaws.{process_at-there, ready-none}
 use Rattle.nomos_machine.proofs.PutLaws.{contains-one}
+use Rattle.nomos_machine.proofs.UserLaws.{user_of-found}
 use Rattle.nomos_types.proofs.OccurrenceLaws.{contained}
 use Rattle.nomos_deeds.specs.Readers.{acquires, acquires_at, waits}
 use Rattle.nomos_wake.specs.Beginning.{HasGrown, IsNewIn}

@@ -1,5 +1,5 @@
 -- A set that covers a state covers the state after a firing, once all whom that may have woken were told to it.
-use Rattle.std.proofs.Common.{◌≡◌, ◌≢◌, ◌∙◌, ◌⊎◌, ◌<◌, ◌≤◌, ◌+◌, inl, inr, ℕ, IfSome, IsTrue, arith, ⊎_elim, Bool, true, false, Option, Some, None, slice_get, is_some, refl, sym, subst, ap}
+use Rattle.std.proofs.Common.{◌≡◌, ◌≢◌, ◌∙◌, ◌⊎◌, ◌<◌, ◌≤◌, ◌+◌, inl, inr, ℕ, IfSome, IsTrue, arith, ⊎_elim, Bool, true, false, Option, Some, None, IsSome, slice_get, is_some, refl, sym, subst, ap}
 use Rattle.std.proofs.lemmas.Bool.{cases_eq, cases_lt}
 use Rattle.std.proofs.lemmas.List.Elements.{All-contains}
 use Rattle.std.specs.BTreeSet.{BTreeSet, contains}
@@ -12,7 +12,7 @@ use Rattle.nomos_machine.specs.Optional.{◌>>=◌}
 use Rattle.nomos_machine.specs.Readiness.{is_met_at, looks_ready, met_or_not}
 use Rattle.nomos_machine.specs.Sight.{offering, owner, accept_next}
 use Rattle.nomos_machine.specs.State.{State, process_at}
-use Rattle.nomos_machine.specs.Step.{IsReady, step}
+use Rattle.nomos_machine.specs.Step.{IsReady, deed, step}
 use Rattle.nomos_machine.specs.TypedState.{IsTyped}
 use Rattle.nomos_machine.specs.declared.object.Object.{Object}
 use Rattle.nomos_machine.specs.declared.object.Object.TheVariants as object
@@ -43,6 +43,15 @@ waiting-process a s q name is = at (process_at s q) refl is
     at : (o : Option Process) → process_at s q ≡ o → (o >>= acquires a) ≡ Some name
         → (p : Process) × (process_at s q ≡ Some p) × (acquires a p ≡ Some name)
     at (Some p) found is = (p, found, is)
+    at None found is = absurd cc
+
+-- a process that is ready is there
+ready-process : (a : Acceptance) (s : State) (q : ℕ) → IsReady a s q → (p : Process) × (process_at s q ≡ Some p)
+ready-process a s q is = at (process_at s q) refl is
+  where
+    at : (o : Option Process) → process_at s q ≡ o → IsSome (o >>= deed a s)
+        → (p : Process) × (process_at s q ≡ Some p)
+    at (Some p) found is = (p, found)
     at None found is = absurd cc
 
 -- whether a contract stands at `accept`
@@ -120,7 +129,7 @@ module _ (a : Acceptance) (t : State) where
   wakes-within : (u v w x : Awake) (number : ℕ) → Tells u v → WakesBy a t number v w → Tells w x
       → WakesBy a t number u x
   wakes-within u v w x number before wakes after = record {
-    itself = after.ready number wakes.itself;
+    itself = λ r found. after.ready number (wakes.itself r found);
     tells = tells-twice u v x before (tells-twice v w x wakes.tells after);
     releasing = λ r n q stands detaches owns. after.ready q (wakes.releasing r n q stands detaches owns);
     acquiring = λ r n q stands accepts over noted.
@@ -227,14 +236,19 @@ module _ {a : Acceptance} (accepted : IsAccepted a) {s t : State} (typed_s : IsT
   abbrev Told : ℕ → Type 0
   Told q = MayBeReady w q ⊎ ((name : ℕ) × HasProxy w name q)
 
-  its-own : (q : ℕ) → changed q → Told q
-  its-own q changes = inl ((wakes q changes).itself)
+  its-own : (q : ℕ) → (p : Process) × (process_at t q ≡ Some p) → changed q → Told q
+  its-own q (p, there) changes = inl ((wakes q changes).itself p there)
+
+  its-waiting : (q name : ℕ) → waits a t.objects q ≡ Some name → changed q → MayBeReady w q
+  its-waiting q name is changes =
+      let (p, there, acquiring_it) = waiting-process a t q name is in
+      (wakes q changes).itself p there
 
   -- one in whose place another was told
-  proxy-told : (q name : ℕ) → HasProxy v name q → Told q
-  proxy-told q name has =
+  proxy-told : (q name : ℕ) → (p : Process) × (process_at t q ≡ Some p) → HasProxy v name q → Told q
+  proxy-told q name there has =
       elim (leaves.noted name q has.noted) [
-        | inr changes ↦ its-own q changes
+        | inr changes ↦ its-own q there changes
         | inl noted ↦ by_proxy (noted-on u w tells name q noted) (waits-on has.proxy name its_waits)
       ]
     where
@@ -293,7 +307,7 @@ module _ {a : Acceptance} (accepted : IsAccepted a) {s t : State} (typed_s : IsT
       → ((q : ℕ) → ¬ (IsFollowed u r.offers) → MayBeReady w q) → Told q
   opened-told r q changes waiting crowd unknown =
       elim (waited q r.offers waiting) [
-        | inl own ↦ its-own q own
+        | inl own ↦ inl (its-waiting q r.offers waiting own)
         | inr before ↦
             elim (followed-or_not u r.offers) [
               | inr unfollowed ↦ inl (unknown q unfollowed)
@@ -308,7 +322,7 @@ module _ {a : Acceptance} (accepted : IsAccepted a) {s t : State} (typed_s : IsT
       by_note : IsNoted v r.offers q → Told q
       by_note noted =
           elim (leaves.noted r.offers q noted) [
-            | inr own ↦ its-own q own
+            | inr own ↦ inl (its-waiting q r.offers waiting own)
             | inl still ↦
                 elim (crowd q (waiter-over typed_t q r.offers waiting) still) [
                   | inl may ↦ inl may
@@ -316,14 +330,14 @@ module _ {a : Acceptance} (accepted : IsAccepted a) {s t : State} (typed_s : IsT
                 ]
           ]
 
-  woken-told : (q : ℕ) → Woken a changed heard t q → Told q
-  woken-told q (itself _ changes) = its-own q changes
-  woken-told q (client name _ hears owns) = inl (clients name q hears owns)
-  woken-told _ (provider name r hears offering_it) = inl (providers name r hears offering_it)
-  woken-told q (releasing r n _ changes there stands detaches owns) =
+  woken-told : (q : ℕ) → (p : Process) × (process_at t q ≡ Some p) → Woken a changed heard t q → Told q
+  woken-told q found (itself _ changes) = its-own q found changes
+  woken-told q found (client name _ hears owns) = inl (clients name q hears owns)
+  woken-told _ found (provider name r hears offering_it) = inl (providers name r hears offering_it)
+  woken-told q found (releasing r n _ changes there stands detaches owns) =
       inl ((wakes r.pid changes).releasing r n q
       (record { there = process_at-own typed_t r there; stands = stands }) detaches owns)
-  woken-told q (acquiring r n _ changes there stands accepts waiting) =
+  woken-told q found (acquiring r n _ changes there stands accepts waiting) =
       opened-told r q changes waiting
       (λ k over noted. (wakes r.pid changes).acquiring r n k
       (record { there = process_at-own typed_t r there; stands = stands }) accepts over noted)
@@ -333,11 +347,11 @@ module _ {a : Acceptance} (accepted : IsAccepted a) {s t : State} (typed_s : IsT
   ready-told_again : (q : ℕ) → IsReady a t q → Told q
   ready-told_again q ready =
       elim (ready-or_woken accepted typed_s typed_t changed heard same q ready) [
-        | inr woken ↦ woken-told q woken
+        | inr woken ↦ woken-told q (ready-process a t q ready) woken
         | inl before ↦
             elim (covers.ready q before) [
               | inl may ↦ inl (may-on q may)
-              | inr has ↦ proxy-told q has.0 has.1
+              | inr has ↦ proxy-told q has.0 (ready-process a t q ready) has.1
             ]
       ]
 
@@ -346,14 +360,14 @@ module _ {a : Acceptance} (accepted : IsAccepted a) {s t : State} (typed_s : IsT
     ready = ready-told_again;
     waiting = λ q name is followed.
         elim (waited q name is) [
-          | inl own ↦ inl ((wakes q own).itself)
+          | inl own ↦ inl (its-waiting q name is own)
           | inr before ↦
               elim (covers.waiting q name before (leaves.followed name (tells.followed name followed))) [
                 | inl may ↦ inl (may-on q may)
                 | inr noted ↦
                     elim (leaves.noted name q noted) [
                       | inl still ↦ inr (noted-on u w tells name q still)
-                      | inr own ↦ inl ((wakes q own).itself)
+                      | inr own ↦ inl (its-waiting q name is own)
                     ]
               ]
         ];

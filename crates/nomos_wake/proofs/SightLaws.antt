@@ -30,12 +30,12 @@ use Rattle.nomos_machine.specs.declared.object.Object.TheVariants as object
 use Rattle.nomos_machine.specs.declared.object.Payload.{Payload}
 use Rattle.nomos_machine.specs.declared.object.Process.{Process}
 use Rattle.nomos_machine.proofs.ApartLaws.{times-two}
-use Rattle.nomos_machine.proofs.ForwardLaws.{user_of-found, user_of-none}
 use Rattle.nomos_machine.proofs.GoesLaws.{process-typed, own-row, own-stands}
 use Rattle.nomos_machine.proofs.NameLaws.{times-contains}
 use Rattle.nomos_machine.proofs.ObjectLaws.{bound-among}
 use Rattle.nomos_machine.proofs.PutLaws.{contains-one}
 use Rattle.nomos_machine.proofs.TalkLaws.{brings-linear}
+use Rattle.nomos_machine.proofs.UserLaws.{user_of-found, user_of-none}
 
 -- ---- a message that waits is found
 

@@ -35,12 +35,12 @@ use Rattle.nomos_machine.specs.declared.object.PotentialList.{PotentialList}
 use Rattle.nomos_machine.specs.declared.object.Process.{Process}
 use Rattle.nomos_machine.proofs.ChangeLaws.{Replaces, done, further}
 use Rattle.nomos_machine.proofs.DeedLaws.{deed-goes}
-use Rattle.nomos_machine.proofs.ForwardLaws.{user_of-found}
 use Rattle.nomos_machine.proofs.GoesLaws.{Goes, acts, faulty, waits}
 use Rattle.nomos_machine.proofs.PreservationLaws.{process_at-there}
 use Rattle.nomos_machine.proofs.ApartLaws.{numbers-differ}
 use Rattle.nomos_machine.proofs.MessageLaws.{message_on-found}
 use Rattle.nomos_machine.proofs.PutLaws.{InOrder, HasNumber, contains-one, put-kept}
+use Rattle.nomos_machine.proofs.UserLaws.{user_of-found}
 use Rattle.std.proofs.lemmas.Bool.{cases_eq}
 use Rattle.nomos_machine.specs.Readiness.{looks_ready}
 use Rattle.nomos_wake.specs.Touching.{IsChanged, IsHeard, meets, says_on, touch_at, touch_by, touch_from, touch_of}

@@ -66,14 +66,14 @@ fn wake_heard<M: Machine>(awake: &mut Awake, machine: &M, heard: Option<Heard>)
     }
 }
 
-// Wakes the process of a number, which changed, and who meets it where it stands now.
+// Wakes the process of a number, which changed, if there is one, and who meets it where it stands now.
 fn wake_changed<M: Machine>(awake: &mut Awake, machine: &M, accepted: &Accepted, number: u32)
     ensures { WakesBy accepted.now (M.state machine.now) number awake.old awake.new }
 {
-    awake.wake(number);
     let Some(seen) = machine.process(number) else {
         return;
     };
+    awake.wake(number);
     match node_at(accepted, seen.code) {
         Some(CodeNode::Detach(_, _)) => wake_user(awake, machine, seen.offers),
         Some(CodeNode::Accept(_, _)) => awake.open(seen.offers),
@@ -97,7 +97,14 @@ fn wake_partner<M: Machine>(
 
 // A process that is about to fire may acquire a contract: then all who wait for that are ready, and its name is followed
 // from now on.
-fn follow_acquired<M: Machine>(awake: &mut Awake, machine: &M, accepted: &Accepted, pid: u32)
+fn follow_acquired<M: Machine>(
+    awake: &mut Awake,
+    machine: &M,
+    accepted: &Accepted,
+    pid: u32,
+    awaited: Option<u32>,
+)
+    requires awaited { awaited ≡ waits accepted.now (M.state machine.now).objects pid }
     requires typed { IsTyped accepted.now (M.state machine.now) }
     requires ready { IsReady accepted.now (M.state machine.now) pid }
     requires covers { Covers accepted.now (M.state machine.now) awake.old }
@@ -105,7 +112,7 @@ fn follow_acquired<M: Machine>(awake: &mut Awake, machine: &M, accepted: &Accept
 {
     // Where the program is read it is known to be accepted.
     let _program = accepted.program();
-    if let Some(name) = machine.waits(accepted, pid) {
+    if let Some(name) = awaited {
         awake.follow(name);
     }
 }
@@ -131,13 +138,14 @@ pub fn foresee<M: Machine>(
     ensures covers { Covers accepted.now (M.state machine.now) awake.new }
     ensures foreseen { IsForeseen accepted.now (M.state machine.now) pid result }
 {
-    follow_acquired(awake, machine, accepted, pid);
+    let waits = machine.waits(accepted, pid);
+    follow_acquired(awake, machine, accepted, pid, waits);
     let touch = touch_of(machine, accepted, pid);
     Foreseen {
         pid,
         next: machine.next_object(),
         touch,
-        waits: machine.waits(accepted, pid),
+        waits,
         partner_waits: waits_if(machine, accepted, touch.partner),
     }
 }

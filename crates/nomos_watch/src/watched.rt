@@ -96,7 +96,8 @@ impl<M: Undo> Watched<M> {
         }
     }
 
-    /// The lowest process over a number that is ready, or none where no process over it is ready. It takes no memory.
+    /// The lowest process over a number that is ready, or none where no process over it is ready. Want of memory
+    /// costs speed alone.
     pub fn next_ready(&mut self, accepted: &Accepted, after: u32) -> Option<u32>
         requires stands { WorldStandsFor accepted.now self.old.world }
         requires watched { IsWatched accepted.now self.old.world.state self.old.awake }
@@ -113,7 +114,8 @@ impl<M: Undo> Watched<M> {
         }
     }
 
-    /// The lowest process that is ready, or none where no process is. It takes no memory.
+    /// The lowest process that is ready, or none where no process is. Want of memory
+    /// costs speed alone.
     pub fn lowest(&mut self, accepted: &Accepted) -> Option<u32>
         requires stands { WorldStandsFor accepted.now self.old.world }
         requires watched { IsWatched accepted.now self.old.world.state self.old.awake }
@@ -127,7 +129,8 @@ impl<M: Undo> Watched<M> {
         self.next_ready(accepted, 0)
     }
 
-    /// A process that is ready, if one is: one over a number, where one is known there. It takes no memory.
+    /// A process that is ready, if one is: one over a number, where one is known there. Want of memory
+    /// costs speed alone.
     pub fn any_ready(&mut self, accepted: &Accepted, after: u32) -> Option<u32>
         requires stands { WorldStandsFor accepted.now self.old.world }
         requires watched { IsWatched accepted.now self.old.world.state self.old.awake }
@@ -177,7 +180,8 @@ impl<M: Undo> Watched<M> {
         }
     }
 
-    /// How the batch ends here that may make so many firings, faults apart, or none where it goes on. It takes no memory.
+    /// How the batch ends here that may make so many firings, faults apart, or none where it goes on. Want of memory costs
+    /// speed alone.
     pub fn end(&mut self, accepted: &Accepted, limit: u32) -> Option<End>
         requires stands { WorldStandsFor accepted.now self.old.world }
         requires watched { IsWatched accepted.now self.old.world.state self.old.awake }

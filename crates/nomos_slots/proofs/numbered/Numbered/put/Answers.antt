@@ -15,7 +15,8 @@ invariant_of-self g c =
 
 pub returns-in-Some-clause-now : goal.returns-in-Some-clause-now
 returns-in-Some-clause-now g c =
-    ap (λ (m : Marking (Slot _)). m.now) c.count_gap.ensures
+    ap (λ (m : Marking (Slot _)). m.now) c.remember.ensures
+    ∙ ap (λ (m : Marking (Slot _)). m.now) c.count_gap.ensures
     ∙ c.put.ensures.now
     ∙ put_at-set c.self.inside.slots.now c.args.place c.in-Some.slot c.args.item (sym c.in-Some.ensures)
     ∙ ap (λ (m : Marking (Slot _)). put_at m.now c.args.place c.args.item) c.self.view_is
