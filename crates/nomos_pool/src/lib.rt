@@ -1,0 +1,9 @@
+//! Pools: senders submit items from threads of their own, and one taker takes them, of each sender in its order.
+#![tactic(auto)]
+
+mod dealing;
+pub mod gathering;
+pub mod hands;
+pub mod pool;
+pub mod pooled;
+mod rule;

@@ -1,0 +1,7 @@
+//! Tests: a pool with room for one item, threads that submit, and scripts whose single lines threads submit.
+#![tactic(auto)]
+
+#[cfg(test)]
+mod pool_tests;
+#[cfg(test)]
+mod script_tests;

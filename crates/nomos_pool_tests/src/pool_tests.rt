@@ -1,0 +1,39 @@
+//! Tests: a pool with room for one item.
+ghost use Rattle.nomos_pool.specs.PoolPass.{IsSenderOf, IsTakerOf};
+
+use nomos_pool::pool::{Opened, Pool, Sender, Submitted, Taker, open};
+use std::process::Abort;
+use std::sync::Wait;
+
+// Whether the one place of a queue is taken by the first item, and is free again once that is taken.
+fn has_one_place<R: Wait>(
+    rt: &R,
+    pool: &Pool<u32>,
+    sender: &mut Sender<u32>,
+    taker: &mut Taker<u32>,
+) -> bool
+    requires sender { IsSenderOf pool.now sender.old }
+    requires taker { IsTakerOf pool.now taker.old }
+{
+    pool.take(rt, taker).is_none()
+        && matches!(pool.submit(rt, sender, 5), Submitted::Yes)
+        && matches!(pool.submit(rt, sender, 6), Submitted::Full(6))
+        && matches!(pool.take(rt, taker), Some(taken) if taken.item == 5)
+        && pool.take(rt, taker).is_none()
+        && matches!(pool.submit(rt, sender, 7), Submitted::Yes)
+}
+
+// `Full` means that the queue is full, and None that it is empty.
+#[test]
+fn a_pool_has_room_for_as_much_as_it_says(rt: HostRuntime) {
+    let Ok(opened) = open(rt.alloc(), 1, 1) else {
+        panic!(rt; "memory was wanting")
+    };
+    let Opened {
+        pool,
+        mut taker,
+        mut senders,
+    } = opened;
+    assert!(rt; senders.len() == 1);
+    assert!(rt; has_one_place(&rt, &pool, &mut senders[0], &mut taker));
+}
