@@ -22,7 +22,7 @@ use Rattle.nomos_parse.proofs.ParsingLaws.{refused-none}
 use Rattle.nomos_surface.specs.TreeReading.{ReadsAs}
 use Rattle.nomos_surface.specs.Tree.{FileTree}
 use Rattle.nomos_sync.proofs.SyncLaws.{offends-not_synchronizing}
-use Rattle.nomos_syntax.specs.Limits.{text_limit}
+use Rattle.nomos_ir.specs.Limits.{text_limit}
 use Rattle.nomos_syntax.specs.Reading.{IsPlainText}
 use Rattle.nomos_syntax.specs.Spans.{IsFirstNotAscii}
 use Rattle.nomos_types.specs.Equality.{no_amounts}

@@ -26,7 +26,7 @@ use Rattle.nomos_simplex.specs.declared.solved.Solved.TheVariants as solved
 use Rattle.nomos_simplex.specs.declared.solved.Stop.{Stop}
 use Rattle.nomos_surface.specs.TreeReading.{ReadsAs}
 use Rattle.nomos_surface.specs.Tree.{FileTree}
-use Rattle.nomos_syntax.specs.Limits.{text_limit}
+use Rattle.nomos_ir.specs.Limits.{text_limit}
 use Rattle.nomos_syntax.specs.Reading.{IsPlainText}
 use Rattle.nomos_syntax.specs.Scan.{tokens_of}
 use Rattle.nomos_syntax.specs.Spans.{IsFirstNotAscii}

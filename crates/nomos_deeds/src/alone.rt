@@ -27,9 +27,10 @@ use nomos_types::accepted::Accepted;
 fn one_of(values: &Values) -> Option<&ValueNode>
     ensures { option_map value_of (option_copied result) ≡ one_of values.now }
 {
-    match values.as_slice() {
-        [value] => Some(value),
-        _ => None,
+    let (value, rest) = values.parts()?;
+    match rest.parts() {
+        None => Some(value),
+        Some(_) => None,
     }
 }
 

@@ -55,12 +55,7 @@ fn choice_at<S: Sight>(sight: &S, accepted: &Accepted, pid: u32, node: &CodeNode
 
 // What a process does at an `if` whose test is a small one, and at an instruction that has no terms. It takes no
 // memory.
-fn decide_at_once<S: Sight>(
-    sight: &S,
-    alloc: Global,
-    accepted: &Accepted,
-    pid: u32,
-) -> Option<Decision>
+fn decide_at_once<S: Sight>(sight: &S, accepted: &Accepted, pid: u32) -> Option<Decision>
     requires { IsStrictlySortedBy nat_cmp (map object_number (S.state sight.now).objects) }
     ensures decides { IfSome result (IsDeedOf accepted.now (S.state sight.now) pid) }
     ensures frugal { IsFrugal accepted.now (S.state sight.now) pid → IsSome result }
@@ -69,7 +64,7 @@ fn decide_at_once<S: Sight>(
 {
     let seen = sight.process(pid)?;
     let node = code_at(accepted, seen.code)?;
-    let values = Values::of_vec(Vec::new(alloc));
+    let values = Values::empty();
     if let Some(next) = choice_at(sight, accepted, pid, node) {
         return Some(Decision {
             doing: Some(Doing::Acts(Act::Choose { next })),
@@ -84,13 +79,7 @@ fn decide_at_once<S: Sight>(
 }
 
 // What a process does whose instruction's terms come to this.
-fn decide_by<S: Sight>(
-    sight: &S,
-    alloc: Global,
-    accepted: &Accepted,
-    pid: u32,
-    outcome: Outcome,
-) -> Decision
+fn decide_by<S: Sight>(sight: &S, accepted: &Accepted, pid: u32, outcome: Outcome) -> Decision
     requires ordered { IsStrictlySortedBy nat_cmp (map object_number (S.state sight.now).objects) }
     requires outcome { TermsComeTo accepted.now (S.state sight.now) pid (outcome_of outcome) }
     ensures { IsDeedOf accepted.now (S.state sight.now) pid result }
@@ -102,7 +91,7 @@ fn decide_by<S: Sight>(
         }
         Outcome::Fault(fault) => Decision {
             doing: Some(Doing::Faults(fault)),
-            values: Values::of_vec(Vec::new(alloc)),
+            values: Values::empty(),
         },
     }
 }
@@ -130,11 +119,11 @@ pub(crate) fn decide<S: Sight>(
     ensures acts { IfOk result (λ decision.
         IsFrugal accepted.now (S.state sight.now) pid → IsFrugalDoing decision.doing) }
 {
-    match decide_at_once(sight, alloc, accepted, pid) {
+    match decide_at_once(sight, accepted, pid) {
         Some(decision) => Ok(decision),
         None => {
             let outcome = evaluated(sight, alloc, accepted, pid)?;
-            Ok(decide_by(sight, alloc, accepted, pid, outcome))
+            Ok(decide_by(sight, accepted, pid, outcome))
         }
     }
 }
@@ -156,11 +145,11 @@ pub(crate) fn decide_with<S: Sight>(
     ensures acts { IfOk result (λ decision.
         IsFrugal accepted.now (S.state sight.now) pid → IsFrugalDoing decision.doing) }
 {
-    match decide_at_once(sight, alloc, accepted, pid) {
+    match decide_at_once(sight, accepted, pid) {
         Some(decision) => Ok(decision),
         None => {
             let outcome = known_or_evaluated(sight, alloc, accepted, pid, known)?;
-            Ok(decide_by(sight, alloc, accepted, pid, outcome))
+            Ok(decide_by(sight, accepted, pid, outcome))
         }
     }
 }

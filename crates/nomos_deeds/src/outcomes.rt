@@ -74,19 +74,16 @@ pub(crate) fn evaluated<S: Sight>(
 {
     match sight.process(pid) {
         Some(seen) => evaluate_at(alloc, accepted.program(), seen.code, sight.values(pid)),
-        None => Ok(Outcome::Values(Values::of_vec(Vec::new(alloc)))),
+        None => Ok(Outcome::Values(Values::empty())),
     }
 }
 
 // A copy of an outcome.
-fn copy_outcome(alloc: Global, outcome: &Outcome) -> Result<Outcome, AllocError>
+fn copy_outcome(outcome: &Outcome) -> Result<Outcome, AllocError>
     ensures { IfOk result (λ made. outcome_of made ≡ outcome_of outcome.now) }
 {
     match outcome {
-        Outcome::Values(values) => {
-            let copy = values.copy(alloc)?;
-            Ok(Outcome::Values(copy))
-        }
+        Outcome::Values(values) => Ok(Outcome::Values(values.copy()?)),
         Outcome::Fault(fault) => Ok(Outcome::Fault(*fault)),
     }
 }
@@ -116,7 +113,7 @@ pub(crate) fn known_or_evaluated<S: Sight>(
     ensures { IfOk result (λ outcome. TermsComeTo accepted.now (S.state sight.now) pid (outcome_of outcome)) }
 {
     if is_wanted(sight, pid, known.0) {
-        copy_outcome(alloc, known.1)
+        copy_outcome(known.1)
     } else {
         evaluated(sight, alloc, accepted, pid)
     }

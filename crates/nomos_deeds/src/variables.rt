@@ -13,7 +13,7 @@ pub(crate) fn copy_env(alloc: Global, env: &[(VarId, Value)]) -> Result<Env, All
 {
     let mut made = Vec::new(alloc);
     for pair in env {
-        made.push((pair.0, pair.1.copy(alloc)?))?;
+        made.push((pair.0, pair.1.copy()?))?;
     }
     Ok(Items::of_vec(made))
 }

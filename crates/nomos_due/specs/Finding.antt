@@ -1,7 +1,8 @@
 -- What the code finds and makes. Private clauses alone cite it.
 use Rattle.std.specs.Prelude.{◌≡◌, ℕ, ◌<◌, List, take, length, None, Result, Ok, Err}
 use Rattle.nomos_types.specs.Acceptance.{Acceptance}
-use Rattle.nomos_script.specs.ScriptReading.{ReadsAs, IsSyntaxAt, text_limit}
+use Rattle.nomos_ir.specs.Limits.{text_limit}
+use Rattle.nomos_script.specs.ScriptReading.{ReadsAs, IsSyntaxAt}
 use Rattle.nomos_script.specs.declared.item.ScriptItem.{ScriptItem}
 use Rattle.nomos_legal.specs.Ledger.{LedgerState}
 use Rattle.nomos_legal.specs.Passage.{Passage}

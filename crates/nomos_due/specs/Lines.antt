@@ -2,7 +2,8 @@
 use Rattle.std.specs.Prelude.{ℕ, ◌<◌, List, [], ◌++◌, length, codes, decimal}
 use Rattle.nomos_legal.specs.declared.journal.Journal.{Journal}
 use Rattle.nomos_report.specs.Lines.{line}
-use Rattle.nomos_script.specs.ScriptReading.{IsSyntaxAt, text_limit}
+use Rattle.nomos_ir.specs.Limits.{text_limit}
+use Rattle.nomos_script.specs.ScriptReading.{IsSyntaxAt}
 use Rattle.nomos_due.specs.Outside.{HaveRisen, Input}
 
 -- the journal without entries, whose batches may make so many firings

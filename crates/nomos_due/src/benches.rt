@@ -131,7 +131,7 @@ fn ran_load_due<M: Undo + Drop + Send, G: Gate, R: Threads + Wait + Sync>(
 }
 
 /// What is due where a load is run on the accepted auction, by the runner's orders, which ask for the last result:
-/// the status, and the summary. Want of memory gives the journal of the items that were carried out. See
+/// the status, and the summary. Want of memory gives the journal of some first items. See
 /// docs/TEXTS.md, "The load of `bench`".
 pub fn bench_due<M: Undo + Drop + Send, G: Gate, R: Threads + Wait + Sync>(
     runner: &Runner<'_, G, R>,

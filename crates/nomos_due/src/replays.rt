@@ -18,6 +18,7 @@ use crate::due::{Due, bare_due, line_due, no_entries};
 use crate::script::{no_script_due, read_script};
 use nomos_base::{ReadError, Source, read_all};
 use nomos_deeds::undo::Undo;
+use nomos_ir::limits::USUAL_LIMIT;
 use nomos_legal::journal::Journal;
 use nomos_replay::error::ReplayError;
 use nomos_replay::refused::push_refusal;
@@ -26,9 +27,6 @@ use nomos_run::status::run_status;
 use nomos_script::script::Script;
 use nomos_types::accepted::Accepted;
 use std::alloc::{AllocError, Global};
-
-/// The most firings of a batch where nothing else is said.
-pub const USUAL_LIMIT: u32 = 1_000_000;
 
 // The line of a refusal.
 fn refusal_line(alloc: Global, unit: u32, why: &ReplayError) -> Result<Vec<u8>, AllocError>

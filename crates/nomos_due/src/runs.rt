@@ -59,7 +59,7 @@ fn ran_due<M: Undo + Drop + Send, G: Gate, R: Threads + Wait + Sync>(
 }
 
 /// What is due where the script that a source has is run on an accepted contract, from the empty ledger, by the
-/// runner's orders. Want of memory gives the journal of the items that were carried out. See docs/TEXTS.md, "The
+/// runner's orders. Want of memory gives the journal of some first items. See docs/TEXTS.md, "The
 /// script" and "Words and statuses".
 pub fn run_due<M: Undo + Drop + Send, S: Source, G: Gate, R: Threads + Wait + Sync>(
     runner: &Runner<'_, G, R>,

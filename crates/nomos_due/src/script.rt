@@ -7,8 +7,9 @@ ghost use Rattle.nomos_due.specs.Outside.{FaultCounts, Input, source_state};
 
 use crate::due::{Due, bare_due, line_due, no_entries};
 use nomos_base::{ReadError, Source, read_all};
+use nomos_ir::limits::TEXT_LIMIT;
 use nomos_legal::journal::Journal;
-use nomos_script::parsing::{ScriptError, TEXT_LIMIT, parse_script};
+use nomos_script::parsing::{ScriptError, parse_script};
 use nomos_script::script::Script;
 use nomos_texts::number::push_number;
 use std::alloc::{AllocError, Global};

@@ -13,10 +13,6 @@ before-push : (vs : List Value) (v : Value) (ws : ValueList)
 before-push [] v ws = refl
 before-push (u ∷ vs) v ws = ap (value u) (before-push vs v ws)
 
-before-none : (vs : List Value) → before_list vs no_values ≡ value_list vs
-before-none [] = refl
-before-none (v ∷ vs) = ap (value v) (before-none vs)
-
 -- one more value is given out
 pub unload-step : (lists : List ValueList) (items more : List ValueNode) (node : ValueNode) (at place tail : ℕ)
     (head : Datum) (whole : ValueList) → more ≡ items ++ node ∷ [] → value_of node ≡ datum_value lists head
@@ -35,9 +31,17 @@ unload-step lists items more node at place tail head whole pushed node_is parts 
       ∙ so_far.2,
 )
 
--- all values are given out
-pub unload-all : (lists : List ValueList) (items : List ValueNode) (at : ℕ) (whole : ValueList)
-    → get_or lists at no_values ≡ no_values → before_list (map value_of items) (get_or lists at no_values) ≡ whole
-    → list (value_list (map value_of items)) ≡ list whole
-unload-all lists items at whole last so_far =
-    ap list (sym (before-none (map value_of items)) ∙ ap (before_list (map value_of items)) (sym last) ∙ so_far)
+-- values before others are one list
+pub before-all : (vs ws : List Value) → before_list vs (value_list ws) ≡ value_list (vs ++ ws)
+before-all [] ws = refl
+before-all (v ∷ vs) ws = ap (value v) (before-all vs ws)
+
+-- what was gathered stands before what was given
+pub unload-given : (lists : List ValueList) (items : List ValueNode) (at : ℕ) (whole : ValueList)
+    (rest copy : List Value) (node : ValueNode) → value_of node ≡ list (value_list (map value_of items ++ copy))
+    → copy ≡ rest → get_or lists at no_values ≡ value_list rest
+    → before_list (map value_of items) (get_or lists at no_values) ≡ whole → value_of node ≡ list whole
+unload-given lists items at whole rest copy node node_is copied there so_far =
+    node_is
+    ∙ ap (λ r. list (value_list (map value_of items ++ r))) copied
+    ∙ ap list (sym (before-all (map value_of items) rest) ∙ ap (before_list (map value_of items)) (sym there) ∙ so_far)

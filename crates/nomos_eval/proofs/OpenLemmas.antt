@@ -1,8 +1,8 @@
 -- A list is taken apart.
-use Rattle.std.proofs.Common.{◌≡◌, ◌+◌, ◌<◌, ◌≤◌, ℕ, zero, suc, List, [], ◌∷◌, ◌++◌, length, map, get_or, refl, sym, ap, ◌∙◌, subst, arith, append_assoc, length-append}
+use Rattle.std.proofs.Common.{◌≡◌, ◌+◌, ◌<◌, ◌≤◌, ℕ, zero, suc, List, [], ◌∷◌, ◌++◌, length, map, get_or, Some, refl, sym, ap, ◌∙◌, subst, arith, append_assoc, length-append}
 use Rattle.std.specs.List.{AllByRecursion}
 use Rattle.std.proofs.Math.Seq.{get_or-append_seam}
-use Rattle.std.proofs.lemmas.List.{map-append, length-map}
+use Rattle.std.proofs.lemmas.List.{map-append, length-map, get_or_append_left}
 use Rattle.nomos_ir.specs.declared.ids.VarId.{VarId}
 use Rattle.nomos_ir.specs.declared.lists.ProgramLists.{ProgramLists}
 use Rattle.nomos_ir.specs.Evaluation.{go_on, taken_apart, bind_parts}
@@ -15,11 +15,13 @@ use Rattle.nomos_eval.specs.declared.act.Scope.{Scope}
 use Rattle.nomos_eval.specs.declared.datum.Datum.{Datum}
 use Rattle.nomos_eval.specs.declared.datum.Datum.TheVariants as datum
 use Rattle.nomos_eval.specs.declared.evaluator.Evaluator.{Evaluator}
-use Rattle.nomos_eval.specs.mirror.Evaluator.{held, scopes_held, IsSound, IsDone, top_datum, below_top}
+use Rattle.nomos_eval.specs.mirror.Evaluator.{held, scopes_held, values_found, left_of, IsSound, IsDone, top_datum, below_top}
+use Rattle.nomos_eval.specs.mirror.Parted.{IsParted}
 use Rattle.nomos_eval.specs.mirror.Rest.{Variables, rest, follow, seen_in, variables_at, below, ScopeIn}
 use Rattle.nomos_eval.specs.mirror.EvalTable.{datum_value, reach}
 use Rattle.nomos_eval.proofs.ActLemmas.{top-found, below-found, top-in, below-in}
-use Rattle.nomos_eval.proofs.EvaluatorLemmas.{at-scope}
+use Rattle.nomos_eval.proofs.AroundLemmas.{taken-more}
+use Rattle.nomos_eval.proofs.EvaluatorLemmas.{at-scope, values-more, scopes-more, values-higher, scopes-higher}
 use Rattle.nomos_eval.proofs.RestLemmas.{go_on-next, rest-more}
 
 -- what is left is in scopes that are there, where more are added
@@ -74,7 +76,7 @@ open-step program lists scopes todo scope c old x xs n is =
 pub open-done : (scope : Scope) (c : Cases) (old : Evaluator) (mid : List Datum)
     (first second : List (List (VarId × Datum))) (todo : List Act) (place : ℕ) (h : Datum) (t with_head with_tail : ℕ)
     → IsSound old → scope.variables < length old.scopes → datum.List place ≡ top_datum old.values
-    → mid ≡ below_top old.values → (reach h ≤ place) × (t < place)
+    → mid ≡ below_top old.values → (reach h ≤ length old.lists) × (t < length old.lists)
     × (get_or old.lists place no_values ≡ value (datum_value old.lists h) (get_or old.lists t no_values))
     → with_head ≡ length old.scopes → first ≡ old.scopes ++ ((c.head, h) ∷ get_or old.scopes scope.variables []) ∷ []
     → with_tail ≡ length first → second ≡ first ++ ((c.tail, datum.List t) ∷ get_or first with_head []) ∷ []
@@ -132,16 +134,12 @@ open-done scope c old mid first second todo place h t with_head with_tail sound 
       scopes = l;
       around = old.around;
     }) second_is' in
-    let place_in : reach (datum.List place)
-    ≤ length old.lists = (let P : Datum
-    → Type 0 = λ d. reach d ≤ length old.lists in subst P (sym last)
-    (top-in (length old.lists) old.values sound.values)) in
     let is_list : datum_value old.lists (top_datum old.values)
     ≡ list (value (datum_value old.lists h) (get_or old.lists t no_values)) = ap (datum_value old.lists) (sym last)
     ∙ ap list parts.2 in
     let looked = at-scope (length old.lists) scope.variables old.scopes sound.scopes in
-    let s1_in : AllByRecursion (λ b. reach b.1 ≤ length old.lists) s1 = (omega (arith, parts.0, place_in), looked) in
-    let s2_in : AllByRecursion (λ b. reach b.1 ≤ length old.lists) s2 = (omega (arith, parts.1, place_in), s1_in) in
+    let s1_in : AllByRecursion (λ b. reach b.1 ≤ length old.lists) s1 = (parts.0, looked) in
+    let s2_in : AllByRecursion (λ b. reach b.1 ≤ length old.lists) s2 = (omega (arith, parts.1), s1_in) in
     let around = old.around.env.now in
     let all_held : Variables = record { bound = map (held old.lists) whole; around = around } in
     let env : variables_at all_held inner
@@ -192,3 +190,73 @@ open-done scope c old mid first second todo place h t with_head with_tail sound 
           old.values)) m todo_in));
       less = omega arith;
     })
+
+-- lists are added, and all else stays
+module _ (m : Evaluator) (more : List ValueList) (sound : IsSound m) where
+  abbrev grown : Evaluator
+  grown =
+      record { todo = m.todo; values = m.values; lists = m.lists ++ more; scopes = m.scopes; around = m.around }
+
+  longer : length m.lists ≤ length (m.lists ++ more)
+  longer = omega (arith, length-append m.lists more)
+
+  grown-sound : IsSound grown
+  grown-sound =
+      record {
+        todo = sound.todo;
+        values = values-higher (length m.lists) (length (m.lists ++ more)) m.values longer sound.values;
+        scopes = scopes-higher (length m.lists) (length (m.lists ++ more)) m.scopes longer sound.scopes;
+        kept = taken-more m.lists more m.around.env.now m.around.loaded.items sound.kept;
+      }
+
+  grown-left : (program : ProgramLists) (a : Act) (n : ℕ) → left_of program a m n ≡ left_of program a grown n
+  grown-left program a n =
+      ap (λ ss. rest (evaluation_from program) program (record { bound = ss; around = m.around.env.now }) (a ∷ m.todo)
+      (values_found m) n) (sym (scopes-more m.lists more m.scopes sound.scopes))
+      ∙ ap (λ vs. rest (evaluation_from program) program (scopes_held grown) (a ∷ m.todo) vs n)
+      (sym (values-more m.lists more m.values sound.values))
+
+  grown-done : (a : Act) (new : Evaluator) → IsDone a grown new → IsDone a m new
+  grown-done a new done =
+      record {
+        sound = done.sound;
+        same = λ program n. grown-left program a n ∙ done.same program n;
+        less = done.less;
+      }
+
+-- a list is taken apart, whose parts may be taken in
+pub open-parted : (scope : Scope) (c : Cases) (old : Evaluator) (mid : List Datum) (after : List ValueList)
+    (first second : List (List (VarId × Datum))) (todo : List Act) (place : ℕ) (h : Datum) (t with_head with_tail : ℕ)
+    → IsSound old → scope.variables < length old.scopes → datum.List place ≡ top_datum old.values
+    → mid ≡ below_top old.values → IsParted old.lists place after (Some (h, t))
+    → with_head ≡ length old.scopes → first ≡ old.scopes ++ ((c.head, h) ∷ get_or old.scopes scope.variables []) ∷ []
+    → with_tail ≡ length first → second ≡ first ++ ((c.tail, datum.List t) ∷ get_or first with_head []) ∷ []
+    → todo ≡ act.Term (record { variables = with_tail; calls = scope.calls }) c.full ∷ old.todo
+    → IsDone (act.Open scope c) old (record {
+      todo = todo;
+      values = mid;
+      lists = after;
+      scopes = second;
+      around = old.around;
+    })
+open-parted scope c old mid after first second todo place h t with_head with_tail sound inside last mid_is parted
+    head_at first_is tail_at second_is planned =
+    let more = parted.0.0 in
+    let place_in : reach (datum.List place)
+    ≤ length old.lists = (let P : Datum
+    → Type 0 = λ d. reach d ≤ length old.lists in subst P (sym last)
+    (top-in (length old.lists) old.values sound.values)) in
+    let stays : get_or (old.lists ++ more) place no_values
+    ≡ get_or old.lists place no_values = get_or_append_left old.lists more no_values place (omega (arith, place_in)) in
+    let P : List ValueList → Type 0 = λ l. (reach h ≤ length l) × (t < length l)
+    × (get_or old.lists place no_values ≡ value (datum_value l h) (get_or l t no_values)) in
+    let parts = subst P parted.0.1 (parted.1, parted.2, parted.3) in
+    let Q : List ValueList → Type 0 = λ l. IsDone (act.Open scope c) old
+    (record { todo = todo; values = mid; lists = l; scopes = second; around = old.around }) in
+    subst
+    Q
+    (sym parted.0.1)
+    (grown-done old more sound (act.Open scope c) _
+    (open-done scope c (grown old more sound) mid first second todo place h t with_head with_tail
+    (grown-sound old more sound) inside last mid_is (parts.0, parts.1, stays ∙ parts.2) head_at first_is tail_at
+    second_is planned))

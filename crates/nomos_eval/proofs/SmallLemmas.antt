@@ -81,18 +81,23 @@ equal-decides (int x) (list ys) n = record { value = nought; nodes = n; ended = 
 equal-decides (truth b) y n = record { value = nought; nodes = n; ended = refl; taken = refl }
 equal-decides (list xs) y n = record { value = nought; nodes = n; ended = refl; taken = refl }
 
+-- what a term comes to is what the node comes to that it enters
+pub whole-enters : (lists : ProgramLists) (env : Environment) (t : TermId) (o : Option TermNode) (e : Evaluation)
+    → slice_get lists.terms t.0 ≡ o → entered lists (evaluation_from lists) 0 env o 1 ≡ e
+    → term_evaluation lists env t ≡ e
+whole-enters lists env t o e is enters =
+    evaluation-whole lists env t ∙ entered-there lists env t 0 (omega arith)
+    ∙ ap (λ n. entered lists (evaluation_from lists) 0 env n 1) is ∙ enters
+
 -- what is decided of a term is what is decided of the node that it enters
 whole-decides : (lists : ProgramLists) (env : Environment) (t : TermId) (o : Option TermNode) (e : Evaluation)
     (first said : Bool) → slice_get lists.terms t.0 ≡ o → entered lists (evaluation_from lists) 0 env o 1 ≡ e
     → first ≡ said → Decides e said → Decides (term_evaluation lists env t) first
 whole-decides lists env t o e first said is enters same decided =
-    let whole : term_evaluation lists env t ≡ e =
-    evaluation-whole lists env t ∙ entered-there lists env t 0 (omega arith)
-    ∙ ap (λ n. entered lists (evaluation_from lists) 0 env n 1) is ∙ enters in
     record {
       value = decided.value;
       nodes = decided.nodes;
-      ended = whole ∙ decided.ended;
+      ended = whole-enters lists env t o e is enters ∙ decided.ended;
       taken = same ∙ decided.taken;
     }
 

@@ -5,6 +5,7 @@ pub mod ListCell
 pub mod Load
 pub mod Evaluator
 pub mod Operation
+pub mod Parted
 pub mod Rest
 pub mod EvalRun
 pub mod EvalScope

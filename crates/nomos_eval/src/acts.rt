@@ -9,11 +9,9 @@ use crate::evaluator::{Evaluator, plan};
 use crate::numbers::{Given, Operator, operate};
 use nomos_ir::fault::Fault;
 use nomos_ir::ids::TermId;
+use nomos_ir::limits::MAX_WEIGHT;
 use nomos_ir::or_no_memory::OrNoMemory;
 use nomos_ir::stack::Stack;
-
-/// The greatest weight of a list that a term makes.
-const MAX_WEIGHT: u32 = 10_000;
 
 /// Takes the topmost value. There is one wherever an act takes it; without one it would be 0.
 pub(crate) fn take(values: &mut Stack<Datum>) -> Datum

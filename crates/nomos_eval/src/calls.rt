@@ -7,6 +7,7 @@ use crate::act::{Act, Cases, Scope};
 use crate::acts::take;
 use crate::datum::Datum;
 use crate::evaluator::Evaluator;
+use crate::values::parts;
 use nomos_ir::fault::Fault;
 use nomos_ir::find::find_function;
 use nomos_ir::ids::{FnId, VarId};
@@ -31,7 +32,7 @@ pub(crate) fn open(
     let Datum::List(place) = take(&mut evaluator.values) else {
         return Ok(evaluator.todo.push(Act::Term(scope, cases.full))?);
     };
-    let Some((head, tail)) = evaluator.lists.parts(place) else {
+    let Some((head, tail)) = parts(&mut evaluator.lists, place)? else {
         return Ok(evaluator.todo.push(Act::Term(scope, cases.empty))?);
     };
     let with_head = evaluator

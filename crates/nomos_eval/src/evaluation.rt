@@ -1,26 +1,29 @@
 //! The evaluation of a term.
-ghost use Rattle.std.specs.Prelude.{◌≡◌, IfOk};
-ghost use Rattle.nomos_ir.specs.Evaluation.{term_evaluation};
+ghost use Rattle.std.specs.Prelude.{◌≡◌, IfOk, IfSome, unwrap_or};
+ghost use Rattle.nomos_ir.specs.Bindings.{bound_to};
+ghost use Rattle.nomos_ir.specs.Evaluation.{ends, nought, term_evaluation};
 ghost use Rattle.nomos_ir.specs.ValueNode.{value_of};
 ghost use Rattle.nomos_eval.specs.EvaluatedAs.{EvaluatedAs};
 ghost use Rattle.nomos_eval.specs.mirror.Begin.{IsBegun};
 ghost use Rattle.nomos_eval.specs.mirror.TermsFound.{IsValue};
 
 use crate::act::{Act, Scope};
-use crate::around::Around;
+use crate::around::{Around, bound_value};
 use crate::evaluator::Evaluator;
 use crate::lists::Lists;
 use crate::run::run;
 use crate::scopes::Scopes;
 use crate::values::unload;
 use nomos_ir::fault::Fault;
+use nomos_ir::find::find_term;
 use nomos_ir::ids::{TermId, VarId};
 use nomos_ir::items::Items;
 use nomos_ir::lists::ProgramLists;
 use nomos_ir::or_no_memory::OrNoMemory;
 use nomos_ir::program::Program;
 use nomos_ir::stack::Stack;
-use nomos_ir::value::{Value, Values};
+use nomos_ir::term_node::TermNode;
+use nomos_ir::value::Value;
 use nomos_ir::value_node::ValueNode;
 use std::alloc::{AllocError, Global};
 
@@ -41,7 +44,7 @@ pub fn value_from(node: ValueNode) -> Value
     match node {
         ValueNode::Int(z) => Value::int(z),
         ValueNode::Bool(b) => Value::truth(b),
-        ValueNode::List(nodes) => Value::list(Values::of_vec(nodes)),
+        ValueNode::List(items) => Value::list(items),
     }
 }
 
@@ -74,9 +77,9 @@ fn begin<'a>(
 }
 
 /// The value of the term among these variables, or the fault with which its evaluation ends; docs/LANGUAGE.md,
-/// "Evaluation of terms", says which. No depth of calls or of terms uses the evaluator's stack; only values with lists
-/// inside lists do, in step with how deep they are, as when they are dropped. It takes time and memory in step with the
-/// nodes entered and with the values of those variables that are looked up, each counted once.
+/// "Evaluation of terms", says which. No depth of calls or of terms uses the evaluator's stack; only lists inside lists
+/// that it makes do, in step with how deep they are. It takes time and memory in step with the nodes entered and with
+/// the value that it gives, where a list of a variable counts as one, whatever its length.
 pub fn eval(alloc: Global, program: &Program, t: TermId, env: &Env) -> Result<Evaluated, AllocError>
     ensures { IfOk result (λ evaluated. EvaluatedAs (term_evaluation program.now env.now t) evaluated) }
 {
@@ -96,8 +99,38 @@ pub(crate) fn eval_node(
 ) -> Result<ValueNode, OrNoMemory<Fault>>
     ensures { IsValue result (term_evaluation lists.now env.now t) }
 {
+    if let Some(node) = node_at_once(lists, t, env)? {
+        return Ok(node);
+    }
     let mut evaluator = begin(alloc, t, env)?;
     let found = run(lists, &mut evaluator)?;
     let node = unload(alloc, &evaluator.lists, found)?;
     Ok(node)
+}
+
+// The value of a number, a truth value or a variable as a node; nothing of other terms. It takes no memory.
+fn node_at_once(
+    lists: &ProgramLists,
+    t: TermId,
+    env: &[(VarId, Value)],
+) -> Result<Option<ValueNode>, AllocError>
+    ensures { IfOk result (λ found. IfSome found (λ node.
+        term_evaluation lists.now env.now t ≡ ends (value_of node) 1)) }
+{
+    match find_term(lists, t) {
+        Some(TermNode::Number(_, n)) => Ok(Some(ValueNode::Int(i64::from(*n)))),
+        Some(TermNode::Truth(_, b)) => Ok(Some(ValueNode::Bool(*b))),
+        Some(TermNode::Var(_, v)) => Ok(Some(node_bound(env, *v)?)),
+        _ => Ok(None),
+    }
+}
+
+// The value of a variable as a node; one without a value is 0. A list is not copied.
+fn node_bound(env: &[(VarId, Value)], v: VarId) -> Result<ValueNode, AllocError>
+    ensures { IfOk result (λ node. value_of node ≡ unwrap_or (bound_to v.0 env.now) nought) }
+{
+    match bound_value(env, v) {
+        Some(value) => value.node().copy(),
+        None => Ok(ValueNode::Int(0)),
+    }
 }

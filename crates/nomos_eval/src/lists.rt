@@ -1,20 +1,25 @@
 //! The lists of one evaluation. None of them is ever changed, so they share their parts.
-ghost use Rattle.std.specs.Prelude.{◌≡◌, ◌<◌, ◌≤◌, ◌++◌, ◌∷◌, [], length, IfOk, MatchOption, slice_index_or};
-ghost use Rattle.nomos_ir.specs.Value.{list, no_values, value};
+ghost use Rattle.std.specs.Prelude.{◌≡◌, ◌<◌, ◌≤◌, ◌++◌, ◌∷◌, [], length, IfOk, slice_index_or};
+ghost use Rattle.nomos_ir.specs.Value.{list, no_values, value, value_list};
 ghost use Rattle.nomos_eval.specs.mirror.EvalTable.{datum_value, reach, capped};
+ghost use Rattle.nomos_eval.specs.mirror.ListCell.{IsPart};
 
 use crate::datum::Datum;
+use nomos_ir::limits::MAX_WEIGHT;
+use nomos_ir::value::Values;
 use std::alloc::{AllocError, Global};
 use std::marker::Model;
 
 /// The weight from which on lists are not told apart: one more than the greatest that a term may make.
-const HEAVY: u32 = 10_001;
+const HEAVY: u32 = MAX_WEIGHT + 1;
 
-/// The empty list; or a first value, the place of the list of the others, and the weight of the whole, up to `HEAVY`.
-#[derive(Clone, Copy, PartialEq, Eq, Debug)]
+/// The empty list; a first value, the place of the list of the others, and the weight of the whole, up to `HEAVY`; or a
+/// list that was given, as it is.
+#[derive(Drop, Debug)]
 pub(crate) enum Cell {
     Empty,
     More(Datum, usize, u32),
+    Given(Values),
 }
 
 /// Lists by their places, which contracts see as the list of these lists.
@@ -73,6 +78,15 @@ impl Lists {
         Ok(place)
     }
 
+    /// Adds a list that is given, and gives its place. It is one cell, whatever its length.
+    pub(crate) fn add_given(&mut self, items: Values) -> Result<usize, AllocError>
+        ensures { IfOk result (λ p. (p ≡ length self.old) × (self.new ≡ self.old ++ value_list items ∷ [])) }
+    {
+        let place = self.cells.len();
+        self.cells.push(Cell::Given(items))?;
+        Ok(place)
+    }
+
     /// The weight of a value, up to `HEAVY`.
     pub(crate) fn weight(&self, of: Datum) -> u32
         requires { reach of ≤ length self.now }
@@ -89,23 +103,18 @@ impl Lists {
         requires { place < length self.now }
         ensures { result ≡ capped (list (slice_index_or self.now place no_values)) }
     {
-        match self.cells[place] {
+        match &self.cells[place] {
             Cell::Empty => 0,
-            Cell::More(_, _, weight) => weight,
+            Cell::More(_, _, weight) => *weight,
+            Cell::Given(items) => items.weight(),
         }
     }
 
-    /// The first value of the list at a place, and the place of the list of the others, where it is not empty.
-    pub(crate) fn parts(&self, place: usize) -> Option<(Datum, usize)>
+    /// What stands at a place.
+    pub(crate) fn look(&self, place: usize) -> &Cell
         requires { place < length self.now }
-        ensures { MatchOption result (slice_index_or self.now place no_values ≡ no_values)
-            (λ p. (reach p.0 ≤ place) × (p.1 < place)
-            × (slice_index_or self.now place no_values
-            ≡ value (datum_value self.now p.0) (slice_index_or self.now p.1 no_values))) }
+        ensures { IsPart self.now place result.now }
     {
-        match self.cells[place] {
-            Cell::Empty => None,
-            Cell::More(head, tail, _) => Some((head, tail)),
-        }
+        &self.cells[place]
     }
 }

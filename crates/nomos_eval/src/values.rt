@@ -1,36 +1,52 @@
 //! Values on their way into an evaluation and out of it.
-ghost use Rattle.std.specs.Prelude.{◌≡◌, ◌≤◌, length, map, IfOk};
+ghost use Rattle.std.specs.Prelude.{◌≡◌, ◌<◌, ◌≤◌, ◌++◌, length, map, IfOk};
 ghost use Rattle.nomos_ir.specs.Value.{list, value_list};
 ghost use Rattle.nomos_ir.specs.ValueNode.{value_of};
 ghost use Rattle.nomos_eval.specs.mirror.Load.{IsLoaded};
 ghost use Rattle.nomos_eval.specs.mirror.EvalTable.{datum_value, reach};
+ghost use Rattle.nomos_eval.specs.mirror.Parted.{IsParted};
 
 use crate::datum::Datum;
-use crate::lists::Lists;
+use crate::lists::{Cell, Lists};
+use nomos_ir::value::Values;
 use nomos_ir::value_node::ValueNode;
 use std::alloc::{AllocError, Global};
 
-/// Takes a value in. It uses the evaluator's stack in step with how deep lists are nested in the value.
+/// Takes a value in. A list is one cell of the store, whatever its length.
 pub(crate) fn load(lists: &mut Lists, node: &ValueNode) -> Result<Datum, AllocError>
     ensures { IfOk result (λ d. IsLoaded lists.old lists.new (value_of node.now) d) }
 {
     match node {
         ValueNode::Int(z) => Ok(Datum::Int(*z)),
         ValueNode::Bool(b) => Ok(Datum::Bool(*b)),
-        ValueNode::List(nodes) => {
-            let mut place = lists.add_empty()?;
-            let mut left = nodes.len();
-            while left > 0 {
-                left -= 1;
-                let head = load(lists, &nodes[left])?;
-                place = lists.add_more(head, place)?;
-            }
+        ValueNode::List(items) => {
+            let place = lists.add_given(items.copy()?)?;
             Ok(Datum::List(place))
         }
     }
 }
 
-/// Gives a value out. It uses the evaluator's stack in step with how deep lists are nested in the value.
+/// The first value of the list at a place, and the place of the list of the others, where it is not empty. The parts of
+/// a list that was given are taken in.
+pub(crate) fn parts(lists: &mut Lists, place: usize) -> Result<Option<(Datum, usize)>, AllocError>
+    requires { place < length lists.old }
+    ensures { IfOk result (λ found. IsParted lists.old place lists.new found) }
+{
+    let (head, rest) = match lists.look(place) {
+        Cell::Empty => return Ok(None),
+        Cell::More(head, tail, _) => return Ok(Some((*head, *tail))),
+        Cell::Given(items) => match items.parts() {
+            None => return Ok(None),
+            Some((head, rest)) => (head.copy()?, rest.copy()?),
+        },
+    };
+    let datum = load(lists, &head)?;
+    let tail = lists.add_given(rest)?;
+    Ok(Some((datum, tail)))
+}
+
+/// Gives a value out. It uses the evaluator's stack in step with how deep the lists are nested that the evaluation made;
+/// a list that was given is one step.
 pub(crate) fn unload(alloc: Global, lists: &Lists, of: Datum) -> Result<ValueNode, AllocError>
     requires { reach of ≤ length lists.now }
     ensures { IfOk result (λ node. value_of node ≡ datum_value lists.now of) }
@@ -39,20 +55,44 @@ pub(crate) fn unload(alloc: Global, lists: &Lists, of: Datum) -> Result<ValueNod
         Datum::Int(z) => Ok(ValueNode::Int(z)),
         Datum::Bool(b) => Ok(ValueNode::Bool(b)),
         Datum::List(place) => {
-            let mut items = Vec::new(alloc);
+            let mut heads = Vec::new(alloc);
             let mut at = place;
-            while let Some((head, tail)) = lists.parts(at) {
-                items.push(unload(alloc, lists, head)?)?;
-                at = tail;
+            loop {
+                match lists.look(at) {
+                    Cell::Empty => {
+                        let node = list_node(alloc, heads, Values::empty())?;
+                        return Ok(node);
+                    }
+                    Cell::Given(rest) => {
+                        let node = list_node(alloc, heads, rest.copy()?)?;
+                        return Ok(node);
+                    }
+                    Cell::More(head, tail, _) => {
+                        heads.push(unload(alloc, lists, *head)?)?;
+                        at = *tail;
+                    }
+                }
             }
-            Ok(list_node(items))
         }
     }
 }
 
-/// A list of values as a value's node.
-fn list_node(items: Vec<ValueNode>) -> ValueNode
-    ensures { value_of result ≡ list (value_list (map value_of items.items)) }
+// The list of values before others, as a node.
+fn list_node(alloc: Global, heads: Vec<ValueNode>, rest: Values) -> Result<ValueNode, AllocError>
+    ensures { IfOk result (λ node. value_of node ≡ list (value_list (map value_of heads.items ++ rest))) }
 {
-    ValueNode::List(items)
+    let items = values_before(alloc, heads, rest)?;
+    Ok(ValueNode::List(items))
+}
+
+// Values before others.
+fn values_before(alloc: Global, heads: Vec<ValueNode>, rest: Values) -> Result<Values, AllocError>
+    ensures { IfOk result (λ made. made ≡ map value_of heads.items ++ rest) }
+{
+    let mut left = heads;
+    let mut made = rest;
+    while let Some(node) = left.pop() {
+        made = Values::with_first(alloc, node, made)?;
+    }
+    Ok(made)
 }

@@ -67,7 +67,7 @@ fn values_at(
 {
     match find_code(lists, code) {
         Some(node) => values_in(alloc, lists, node, env),
-        None => Ok(Values::of_vec(Vec::new(alloc))),
+        None => Ok(Values::empty()),
     }
 }
 
@@ -89,7 +89,7 @@ fn values_in(
         CodeNode::Spawn(_, _, _, args, _) | CodeNode::Call(_, _, args) => {
             argument_values(alloc, lists, args.values.as_slice(), env)
         }
-        _ => Ok(Values::of_vec(Vec::new(alloc))),
+        _ => Ok(Values::empty()),
     }
 }
 
@@ -103,9 +103,7 @@ fn value_alone(
     ensures { AreValues result (terms_evaluation lists.now env.now (t.0 ∷ [])) }
 {
     let node = eval_node(alloc, lists, t, env)?;
-    let mut nodes = Vec::new(alloc);
-    nodes.push(node)?;
-    Ok(Values::of_vec(nodes))
+    Ok(Values::with_first(alloc, node, Values::empty())?)
 }
 
 // The values of those arguments that are terms.
@@ -124,5 +122,5 @@ fn argument_values(
             nodes.push(node)?;
         }
     }
-    Ok(Values::of_vec(nodes))
+    Ok(Values::of_vec(alloc, nodes)?)
 }

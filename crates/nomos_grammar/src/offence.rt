@@ -1,6 +1,6 @@
 //! The first token of a text that the grammar or a limit does not allow.
 ghost use Rattle.std.specs.Prelude.{◌≡◌, ◌≤◌, length};
-ghost use Rattle.nomos_syntax.specs.Limits.{text_limit};
+ghost use Rattle.nomos_ir.specs.Limits.{text_limit};
 ghost use Rattle.nomos_syntax.specs.Scan.{tokens_of};
 ghost use Rattle.nomos_syntax.specs.Spans.{StandFor};
 ghost use Rattle.nomos_grammar.specs.declared.offence.GrammarError.TheVariants.{NoMemory as memory};

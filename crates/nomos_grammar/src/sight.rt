@@ -9,10 +9,8 @@ ghost use Rattle.nomos_grammar.specs.mirror.Sights.{IsSeen};
 
 use crate::offence::Which;
 use crate::part::Terminal;
+use nomos_ir::limits::NAME_LIMIT;
 use nomos_syntax::token::{Token, TokenKind};
-
-/// The most bytes of a name.
-const NAME_LIMIT: usize = 64;
 
 /// The largest number.
 const NUMBER_LIMIT: u32 = 1_000_000_000;

@@ -8,8 +8,8 @@ use Rattle.nomos_machine.specs.Revised.{uses_instead}
 use Rattle.nomos_machine.specs.Sight.{owner, user_of}
 use Rattle.nomos_machine.specs.State.{State}
 use Rattle.nomos_machine.specs.declared.object.Object.{Object}
-use Rattle.nomos_machine.proofs.ForwardLaws.{user_of-found}
 use Rattle.nomos_machine.proofs.PutLaws.{InOrder, object_at-own}
+use Rattle.nomos_machine.proofs.UserLaws.{user_of-found}
 use Rattle.nomos_parts.specs.SmallChanges.{redirected}
 use Rattle.nomos_index.specs.Redirected.{redirected_at}
 

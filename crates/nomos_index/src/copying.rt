@@ -24,7 +24,7 @@ pub(crate) fn copy_values(
 {
     let mut made = Vec::new(alloc);
     for pair in values {
-        made.push((pair.0, pair.1.copy(alloc)?))?;
+        made.push((pair.0, pair.1.copy()?))?;
     }
     Ok(made)
 }
@@ -40,7 +40,7 @@ pub(crate) fn copy_lists(
     for pair in lists {
         let list = PotentialList {
             amount: pair.1.amount,
-            items: pair.1.items.copy(alloc)?,
+            items: pair.1.items.copy()?,
         };
         made.push((pair.0, list))?;
     }
@@ -87,7 +87,7 @@ fn copy_results(alloc: Global, results: &[(u32, Value)]) -> Result<Tail<(u32, Va
     let mut made = Tail::new(alloc);
     made.reserve(results.len())?;
     for pair in results {
-        made.push((pair.0, pair.1.copy(alloc)?));
+        made.push((pair.0, pair.1.copy()?));
     }
     Ok(made)
 }

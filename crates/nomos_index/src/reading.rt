@@ -64,7 +64,7 @@ fn copy_first(alloc: Global, row: &[(VarId, Value)]) -> Result<Option<Value>, Al
     ensures { IfOk result (λ found. found ≡ first_value row.now) }
 {
     match row.first() {
-        Some(pair) => Ok(Some(pair.1.copy(alloc)?)),
+        Some(pair) => Ok(Some(pair.1.copy()?)),
         None => Ok(None),
     }
 }

@@ -18,7 +18,7 @@ fn seen_list(list: &PotentialList) -> SeenList
 {
     SeenList {
         amount: list.amount,
-        is_empty: list.items.as_slice().is_empty(),
+        is_empty: list.items.len() == 0,
     }
 }
 

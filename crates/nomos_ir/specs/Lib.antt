@@ -9,6 +9,8 @@ pub mod FirstOffset
 pub mod Ids
 pub mod Instruction
 pub mod Kinds
+pub mod Limits
+pub mod Link
 pub mod Name
 pub mod Naming
 pub mod Nodes
@@ -17,6 +19,7 @@ pub mod Order
 pub mod Paired
 pub mod Parameters
 pub mod Program
+pub mod Row
 pub mod TermExample
 pub mod TermKind
 pub mod TermOffset

@@ -13,3 +13,17 @@ pub struct Kind {
     pub lists: u8,
     pub base: Base,
 }
+
+impl Kind {
+    /// The kind of numbers.
+    pub const INT: Kind = Kind {
+        lists: 0,
+        base: Base::Int,
+    };
+
+    /// The kind of truth values.
+    pub const BOOL: Kind = Kind {
+        lists: 0,
+        base: Base::Bool,
+    };
+}

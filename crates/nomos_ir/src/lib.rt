@@ -12,6 +12,7 @@ pub mod ids;
 pub mod items;
 pub mod kind;
 pub mod letters;
+pub mod limits;
 pub mod lists;
 pub mod mode;
 pub mod name;

@@ -42,8 +42,8 @@ use Rattle.nomos_machine.specs.declared.object.PotentialList.{PotentialList}
 use Rattle.nomos_machine.specs.declared.object.Process.{Process}
 use Rattle.nomos_machine.proofs.ChangeLaws.{made-all, news}
 use Rattle.nomos_machine.proofs.FiringLaws.{FiringChange, run-by_steps}
-use Rattle.nomos_machine.proofs.ForwardLaws.{user_of-found}
 use Rattle.nomos_machine.proofs.PutLaws.{object_at-found}
+use Rattle.nomos_machine.proofs.UserLaws.{user_of-found}
 use Rattle.nomos_deeds.specs.Readers.{IsTransaction}
 use Rattle.nomos_legal.specs.Batch.{after_start, after_starts, state_or}
 use Rattle.nomos_legal.specs.Ending.{HasTransaction}

@@ -1,5 +1,5 @@
 //! Whether values have the kinds of parameters.
-ghost use Rattle.std.specs.Prelude.{◌≡◌, ◌↔◌, IsTrue, MatchOption, map};
+ghost use Rattle.std.specs.Prelude.{◌≡◌, ◌↔◌, IsTrue, MatchOption};
 ghost use Rattle.nomos_ir.specs.TermKind.{list_kind};
 ghost use Rattle.nomos_ir.specs.Value.{value_list};
 ghost use Rattle.nomos_ir.specs.ValueKind.{ValueHasKind, AllHaveKind};
@@ -8,21 +8,9 @@ ghost use Rattle.nomos_ir.specs.declared.kind.Kind.{Kind};
 ghost use Rattle.nomos_legal.specs.Starting.{OneEach, ValueFits};
 
 use nomos_ir::declaration::Par;
-use nomos_ir::kind::{Base, Kind};
+use nomos_ir::kind::Kind;
 use nomos_ir::value::Values;
 use nomos_ir::value_node::ValueNode;
-
-/// The kind of numbers.
-const INT: Kind = Kind {
-    lists: 0,
-    base: Base::Int,
-};
-
-/// The kind of truth values.
-const BOOL: Kind = Kind {
-    lists: 0,
-    base: Base::Bool,
-};
 
 /// The kind of a list's elements, where the kind is that of a list.
 fn element_of(kind: Kind) -> Option<Kind>
@@ -44,24 +32,26 @@ pub(crate) fn has_kind(node: &ValueNode, kind: Kind) -> bool
     ensures { IsTrue result ↔ ValueHasKind (value_of node.now) kind }
 {
     match node {
-        ValueNode::Int(_) => kind == INT,
-        ValueNode::Bool(_) => kind == BOOL,
-        ValueNode::List(nodes) => match element_of(kind) {
-            Some(element) => all_have_kind(nodes.as_slice(), element),
+        ValueNode::Int(_) => kind == Kind::INT,
+        ValueNode::Bool(_) => kind == Kind::BOOL,
+        ValueNode::List(items) => match element_of(kind) {
+            Some(element) => all_have_kind(items, element),
             None => false,
         },
     }
 }
 
-/// Whether the values of all nodes have a kind.
+/// Whether all values have a kind.
 #[cycle(kinds)]
-fn all_have_kind(nodes: &[ValueNode], kind: Kind) -> bool
-    ensures { IsTrue result ↔ AllHaveKind (value_list (map value_of nodes.now)) kind }
+fn all_have_kind(items: &Values, kind: Kind) -> bool
+    ensures { IsTrue result ↔ AllHaveKind (value_list items.now) kind }
 {
-    for node in nodes {
-        if !has_kind(node, kind) {
+    let mut left = items;
+    while let Some((first, rest)) = left.parts() {
+        if !has_kind(first, kind) {
             return false;
         }
+        left = rest;
     }
     true
 }
@@ -73,24 +63,19 @@ fn value_fits(node: &ValueNode, par: &Par) -> bool
     par.amount.is_none() && has_kind(node, par.kind)
 }
 
-/// Whether the values of nodes fit parameters, one by one.
-fn nodes_fit(nodes: &[ValueNode], pars: &[Par]) -> bool
-    ensures { IsTrue result ↔ OneEach ValueFits (map value_of nodes.now) pars.now }
-{
-    if nodes.len() != pars.len() {
-        return false;
-    }
-    for at in 0..nodes.len() {
-        if !value_fits(&nodes[at], &pars[at]) {
-            return false;
-        }
-    }
-    true
-}
-
 /// Whether values fit parameters, one by one.
 pub(crate) fn values_fit(values: &Values, pars: &[Par]) -> bool
     ensures { IsTrue result ↔ OneEach ValueFits values.now pars.now }
 {
-    nodes_fit(values.as_slice(), pars)
+    let mut left = values;
+    for par in pars {
+        let Some((first, rest)) = left.parts() else {
+            return false;
+        };
+        if !value_fits(first, par) {
+            return false;
+        }
+        left = rest;
+    }
+    left.len() == 0
 }

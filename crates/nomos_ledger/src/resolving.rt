@@ -206,7 +206,7 @@ fn started_by(
     ensures { IfOk result (λ made. made ≡ started_by start.now proc.0 names payer) }
 {
     let contract = copy_contract(alloc, &start.contract)?;
-    let values = start.values.copy(alloc)?;
+    let values = start.values.copy()?;
     Ok(Resolved {
         proc,
         values,

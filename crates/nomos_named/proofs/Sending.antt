@@ -2,9 +2,9 @@
 -- stands by itself, so the parts stand apart here.
 use denote.Param.Send.{IsSend, sendable}
 use Rattle.std.proofs.Crossing as crossing
-use Rattle.nomos_ir.proofs.value_node.ValueNode.TheLaws.TheKnot as nodes
+use Rattle.nomos_ir.proofs.value_node.Values.TheLaws.TheKnot as nodes
 use Rattle.nomos_ir.specs.contracts.value.Value as Value
-use Rattle.nomos_ir.specs.contracts.value.Values as Values
+use Rattle.nomos_ir.specs.contracts.value_node.Values as Values
 use Rattle.nomos_machine.specs.contracts.object.PotentialList as PotentialList
 use Rattle.nomos_slots.proofs.channels.Channels.TheSendSync as channels
 use Rattle.nomos_slots.proofs.column.Column.TheSendSync as column

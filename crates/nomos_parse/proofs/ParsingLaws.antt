@@ -23,7 +23,7 @@ use Rattle.nomos_syntax.specs.declared.scan.TokenError.{TokenError}
 use Rattle.nomos_syntax.specs.declared.scan.TokenError.TheVariants as scan
 use Rattle.nomos_syntax.specs.declared.token.Token.{Token}
 use Rattle.nomos_syntax.specs.Lexeme.{Lexeme, name, reserved, number, symbol, bad, Placed}
-use Rattle.nomos_syntax.specs.Limits.{text_limit}
+use Rattle.nomos_ir.specs.Limits.{text_limit}
 use Rattle.nomos_syntax.specs.Reading.{IsPlainText}
 use Rattle.nomos_syntax.specs.Scan.{tokens_of}
 use Rattle.nomos_syntax.specs.Spans.{StandFor, placed_of, IsFirstNotAscii}

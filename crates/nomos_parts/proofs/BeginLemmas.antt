@@ -1,5 +1,5 @@
 -- What is given to a declaration is one thing.
-use Rattle.std.proofs.Common.{◌≡◌, ◌∙◌, ℕ, List, Option, Some, IfSome, sym, ap, subst, slice_get}
+use Rattle.std.proofs.Common.{◌≡◌, ◌∙◌, ℕ, List, Option, Some, IfSome, MatchOption, sym, ap, subst, slice_get}
 use Rattle.nomos_ir.specs.Value.{Value}
 use Rattle.nomos_ir.specs.declared.code_node.Args.{Args}
 use Rattle.nomos_ir.specs.declared.declaration.ProcDecl.{ProcDecl}
@@ -16,6 +16,10 @@ use Rattle.nomos_parts.specs.Beginnings.{Begins, HasBegun}
 -- what is said of what is there
 pub if-told : {X : Type 0} (P : X → Type 0) (o : Option X) (x : X) → o ≡ Some x → IfSome o P → P x
 if-told P o x is told = subst (λ o. IfSome o P) is told
+
+-- the same where something is said of what is not there too
+pub match-told : {X : Type 0} (A : Type 0) (P : X → Type 0) (o : Option X) (x : X) → o ≡ Some x → MatchOption o A P → P x
+match-told A P o x is told = subst (λ o. MatchOption o A P) is told
 
 pub record SameBegun (d e : ProcDecl) (args others : Args) (g h : Given) (payer own : ℕ) : Type 0 where
   pub declaration : d ≡ e

@@ -1,5 +1,5 @@
 //! Acts of a process by itself.
-ghost use Rattle.std.specs.Prelude.{◌≡◌, ◌≤◌, ◌+◌, ◌<◌, ◌^◌, List, Some, IsOk, IsSome, IfSome, OnOk, OnErr};
+ghost use Rattle.std.specs.Prelude.{◌≡◌, ◌≤◌, ◌+◌, ◌<◌, ◌^◌, List, Some, IsOk, IfOk, IsSome, IfSome, OnOk, OnErr};
 ghost use Rattle.std.specs.Option.{option_map};
 ghost use Rattle.nomos_ir.specs.Value.{Value as Meaning};
 ghost use Rattle.nomos_ir.specs.ValueNode.{value_of};
@@ -26,49 +26,66 @@ use nomos_ir::value_node::ValueNode;
 use std::alloc::{AllocError, Global};
 
 /// The value of the one term that an instruction has, as a node.
-pub(crate) fn the_node(values: Values) -> Option<ValueNode>
-    ensures { option_map value_of result ≡ one_of values }
+pub(crate) fn the_node(values: Values) -> Result<Option<ValueNode>, AllocError>
+    ensures { IfOk result (λ found. option_map value_of found ≡ one_of values) }
 {
-    let mut nodes = values.into_vec();
-    let node = nodes.pop()?;
-    if nodes.is_empty() { Some(node) } else { None }
+    let Some((node, rest)) = values.into_parts()? else {
+        return Ok(None);
+    };
+    match rest.parts() {
+        None => Ok(Some(node)),
+        Some(_) => Ok(None),
+    }
 }
 
 /// The value of the one term that an instruction has.
-pub(crate) fn the_value(values: Values) -> Option<Value>
-    ensures { result ≡ one_of values }
+pub(crate) fn the_value(values: Values) -> Result<Option<Value>, AllocError>
+    ensures { IfOk result (λ found. found ≡ one_of values) }
 {
-    let node = the_node(values)?;
-    Some(value_from(node))
+    match the_node(values)? {
+        Some(node) => Ok(Some(value_from(node))),
+        None => Ok(None),
+    }
 }
 
 /// What becomes of a process by an act by which nothing else changes, and where it goes on.
-pub(crate) fn revision_of(act: Act, values: Values) -> Option<(Revision, CodeId)>
+pub(crate) fn revision_of(
+    act: Act,
+    values: Values,
+) -> Result<Option<(Revision, CodeId)>, AllocError>
     ensures revises { (a : Acceptance) (s : State) (p : Process) (c : Change) → act_change a s p values act ≡ Some c
-        → IsRevisionAct act → IfSome result (λ r. Revises a s p r.0 r.1 c) × IsSome result }
-    ensures frugal { IsFrugalAct act → IfSome result (λ r. IsPlainRevision r.0) }
+        → IsRevisionAct act
+        → IfOk result (λ found. IfSome found (λ r. Revises a s p r.0 r.1 c) × IsSome found) }
+    ensures frugal { IsFrugalAct act → IsOk result }
+    ensures plain { IsFrugalAct act → IfOk result (λ found. IfSome found (λ r. IsPlainRevision r.0)) }
 {
     match act {
-        Act::Choose { next } => Some((Revision::Stands, next)),
-        Act::Let { variable, next } => Some((Revision::Binds(variable, the_value(values)?), next)),
+        Act::Choose { next } => Ok(Some((Revision::Stands, next))),
+        Act::Let { variable, next } => match the_value(values)? {
+            Some(value) => Ok(Some((Revision::Binds(variable, value), next))),
+            None => Ok(None),
+        },
         Act::Empty {
             variable,
             amount,
             next,
-        } => Some((Revision::Empty(variable, amount), next)),
+        } => Ok(Some((Revision::Empty(variable, amount), next))),
         Act::Add {
             variable,
             list,
             next,
-        } => Some((Revision::Longer(variable, list, the_node(values)?), next)),
-        Act::End { list, next } => Some((Revision::UsedUp(list), next)),
+        } => match the_node(values)? {
+            Some(node) => Ok(Some((Revision::Longer(variable, list, node), next))),
+            None => Ok(None),
+        },
+        Act::End { list, next } => Ok(Some((Revision::UsedUp(list), next))),
         Act::TakeApart {
             list,
             head,
             tail,
             next,
-        } => Some((Revision::Parted(list, head, tail), next)),
-        _ => None,
+        } => Ok(Some((Revision::Parted(list, head, tail), next))),
+        _ => Ok(None),
     }
 }
 
@@ -89,7 +106,7 @@ pub(crate) fn act_revision<P: Parts>(
     ensures frugal { IsFrugalAct act → IsOk result }
     ensures marked { P.marked parts.new ≡ P.marked parts.old }
 {
-    match revision_of(act, values) {
+    match revision_of(act, values)? {
         Some((revision, next)) => revise(parts, alloc, pid, revision, next),
         None => Ok(()),
     }
@@ -123,7 +140,7 @@ pub(crate) fn act_emit<P: Parts>(
     ensures room { P.room parts.old ≤ P.room parts.new + 7 }
     ensures marked { P.marked parts.new ≡ P.marked parts.old }
 {
-    let Some(value) = the_value(values) else {
+    let Some(value) = the_value(values)? else {
         return Ok(());
     };
     parts.emit(pid, value)?;

@@ -22,7 +22,7 @@ fn potential_of(lists: &[(VarId, PotentialList)]) -> u128
 {
     let mut sum: u128 = 0;
     for pair in lists {
-        sum += u128::from(pair.1.amount) * pair.1.items.as_slice().len() as u128;
+        sum += u128::from(pair.1.amount) * u128::from(pair.1.items.len());
     }
     sum
 }

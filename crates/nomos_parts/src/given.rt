@@ -39,12 +39,12 @@ pub(crate) fn list_of(lists: &[(VarId, PotentialList)], w: VarId) -> Option<&Pot
 }
 
 // A copy of a list.
-fn copy_list(alloc: Global, list: &PotentialList) -> Result<PotentialList, AllocError>
+fn copy_list(list: &PotentialList) -> Result<PotentialList, AllocError>
     ensures { IfOk result (λ made. made ≡ list.now) }
 {
     Ok(PotentialList {
         amount: list.amount,
-        items: list.items.copy(alloc)?,
+        items: list.items.copy()?,
     })
 }
 
@@ -88,7 +88,7 @@ fn give_values(
     if args.len() != pars.len() {
         return Ok(None);
     }
-    let mut nodes = values.into_vec().into_iter();
+    let mut left = values;
     let mut given = Given {
         values: Vec::new(alloc),
         lists: Vec::new(alloc),
@@ -96,20 +96,23 @@ fn give_values(
     };
     for at in 0..args.len() {
         match args[at] {
-            ValueArg::Term(_) => match nodes.next() {
-                Some(node) => given.values.push((pars[at].var, value_from(node)))?,
+            ValueArg::Term(_) => match left.into_parts()? {
+                Some((node, rest)) => {
+                    given.values.push((pars[at].var, value_from(node)))?;
+                    left = rest;
+                }
                 None => return Ok(None),
             },
             ValueArg::List(w) => match list_of(lists, w) {
-                Some(list) => given.lists.push((pars[at].var, copy_list(alloc, list)?))?,
+                Some(list) => given.lists.push((pars[at].var, copy_list(list)?))?,
                 None => return Ok(None),
             },
         }
     }
-    if nodes.next().is_some() {
-        return Ok(None);
+    match left.parts() {
+        None => Ok(Some(given)),
+        Some(_) => Ok(None),
     }
-    Ok(Some(given))
 }
 
 /// What a declaration is given by the process of this number, where its terms have these values; none, where something

@@ -1,5 +1,5 @@
 //! The lists of a process, once more and with a change.
-ghost use Rattle.std.specs.Prelude.{◌≡◌, ◌∷◌, IfOk, IfSome, IsSome, List, Some};
+ghost use Rattle.std.specs.Prelude.{◌≡◌, ◌∷◌, [], IfOk, IfSome, IsSome, List, MatchOption, Some};
 ghost use Rattle.nomos_ir.specs.Bindings.{bind, bound_to, unbind};
 ghost use Rattle.nomos_ir.specs.Value.{Value as Meaning};
 ghost use Rattle.nomos_ir.specs.ValueNode.{value_of};
@@ -25,7 +25,7 @@ pub(crate) fn copy_lists(
     for pair in lists {
         let list = PotentialList {
             amount: pair.1.amount,
-            items: pair.1.items.copy(alloc)?,
+            items: pair.1.items.copy()?,
         };
         made.push((pair.0, list))?;
     }
@@ -46,15 +46,34 @@ fn bind_list(
 }
 
 // The list with one more element in front.
-fn lengthen(list: PotentialList, first: ValueNode) -> Result<PotentialList, AllocError>
+fn lengthen(
+    alloc: Global,
+    list: PotentialList,
+    first: ValueNode,
+) -> Result<PotentialList, AllocError>
     ensures { IfOk result (λ made. made ≡ lengthened (value_of first) list) }
 {
-    let mut nodes = list.items.into_vec();
-    nodes.insert(0, first)?;
     Ok(PotentialList {
         amount: list.amount,
-        items: Values::of_vec(nodes),
+        items: Values::with_first(alloc, first, list.items)?,
     })
+}
+
+// The head and the rest of a list that has elements.
+fn parted(list: PotentialList) -> Result<Option<(Value, PotentialList)>, AllocError>
+    ensures { IfOk result (λ found. MatchOption found (list.items ≡ []) (λ p. list ≡ lengthened p.0 p.1)) }
+{
+    let PotentialList { amount, items } = list;
+    match items.into_parts()? {
+        Some((head, rest)) => Ok(Some((
+            value_from(head),
+            PotentialList {
+                amount,
+                items: rest,
+            },
+        ))),
+        None => Ok(None),
+    }
 }
 
 /// The lists, where a variable is bound to an empty one, whose elements carry so many Dths each.
@@ -68,7 +87,7 @@ pub(crate) fn with_empty(
 {
     let list = PotentialList {
         amount,
-        items: Values::of_vec(Vec::new(alloc)),
+        items: Values::empty(),
     };
     bind_list(copy_lists(alloc, lists)?, v, list)
 }
@@ -86,7 +105,7 @@ pub(crate) fn with_longer(
 {
     let mut made = copy_lists(alloc, lists)?;
     match unbind(&mut made, w) {
-        Some(list) => bind_list(made, v, lengthen(list, first)?),
+        Some(list) => bind_list(made, v, lengthen(alloc, list, first)?),
         None => Ok(made),
     }
 }
@@ -119,14 +138,8 @@ pub(crate) fn taken_apart(
     let Some(list) = unbind(&mut made, w) else {
         return Ok(None);
     };
-    let mut nodes = list.items.into_vec();
-    if nodes.is_empty() {
-        return Ok(None);
+    match parted(list)? {
+        Some((head, rest)) => Ok(Some((bind_list(made, tail, rest)?, head))),
+        None => Ok(None),
     }
-    let head = value_from(nodes.remove(0));
-    let rest = PotentialList {
-        amount: list.amount,
-        items: Values::of_vec(nodes),
-    };
-    Ok(Some((bind_list(made, tail, rest)?, head)))
 }

@@ -1,5 +1,5 @@
 //! Acts that send and take in messages, as what the machine's table says.
-ghost use Rattle.std.specs.Prelude.{◌≡◌, ◌≤◌, ◌+◌, Some, IsOk, OnOk, OnErr, List};
+ghost use Rattle.std.specs.Prelude.{◌≡◌, ◌≤◌, ◌+◌, Some, IsOk, IfOk, OnOk, OnErr, List};
 ghost use Rattle.nomos_ir.specs.Value.{Value as Meaning};
 ghost use Rattle.nomos_types.specs.Acceptance.{Acceptance};
 ghost use Rattle.nomos_deeds.specs.Acting.{CanAct, HasNumbers, IsFrugalInto};
@@ -17,14 +17,17 @@ use nomos_machine::object::Payload;
 use std::alloc::{AllocError, Global};
 
 // What a message that is sent brings.
-fn payload_of(sending: Sending, values: Values) -> Option<Payload>
-    ensures { result ≡ brought_by sending values }
+fn payload_of(sending: Sending, values: Values) -> Result<Option<Payload>, AllocError>
+    ensures { IfOk result (λ found. found ≡ brought_by sending values) }
 {
     match sending {
-        Sending::Label(label) => Some(Payload::Label(label)),
-        Sending::Channel { name, .. } => Some(Payload::Channel(name)),
-        Sending::Value => Some(Payload::Value(the_value(values)?)),
-        Sending::Potential(_) => Some(Payload::Pay),
+        Sending::Label(label) => Ok(Some(Payload::Label(label))),
+        Sending::Channel { name, .. } => Ok(Some(Payload::Channel(name))),
+        Sending::Value => match the_value(values)? {
+            Some(value) => Ok(Some(Payload::Value(value))),
+            None => Ok(None),
+        },
+        Sending::Potential(_) => Ok(Some(Payload::Pay)),
     }
 }
 
@@ -46,7 +49,7 @@ pub(crate) fn act_send<P: Parts>(
     ensures room { P.room parts.old ≤ P.room parts.new + 7 }
     ensures marked { P.marked parts.new ≡ P.marked parts.old }
 {
-    match payload_of(send.sending, values) {
+    match payload_of(send.sending, values)? {
         Some(payload) => send_message(parts, alloc, pid, send, payload),
         None => Ok(()),
     }

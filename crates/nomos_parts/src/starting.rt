@@ -44,17 +44,18 @@ fn declared(accepted: &Accepted, f: ProcId) -> &ProcDecl
 fn pair_values(
     alloc: Global,
     pars: &[Par],
-    values: Values,
+    values: &Values,
 ) -> Result<Vec<(VarId, Value)>, AllocError>
-    ensures { IfOk result (λ made. made.items ≡ zip (map (λ par. par.var) pars.now) values) }
+    ensures { IfOk result (λ made. made.items ≡ zip (map (λ par. par.var) pars.now) values.now) }
 {
-    let mut nodes = values.into_vec().into_iter();
+    let mut left = values;
     let mut made = Vec::new(alloc);
     for par in pars {
-        match nodes.next() {
-            Some(node) => made.push((par.var, value_from(node)))?,
-            None => return Ok(made),
-        }
+        let Some((first, rest)) = left.parts() else {
+            return Ok(made);
+        };
+        made.push((par.var, value_from(first.copy()?)))?;
+        left = rest;
     }
     Ok(made)
 }
@@ -89,7 +90,7 @@ fn given_by_line(
     ensures channels { IfOk result (λ made. made.channels.items ≡ channel_bindings declaration.now names.now) }
 {
     Ok(Given {
-        values: pair_values(alloc, declaration.values.as_slice(), values.copy(alloc)?)?,
+        values: pair_values(alloc, declaration.values.as_slice(), values)?,
         lists: Vec::new(alloc),
         channels: pair_names(alloc, declaration.channels.as_slice(), names)?,
     })

@@ -11,8 +11,8 @@ use Rattle.nomos_machine.specs.Revised.{uses_instead}
 use Rattle.nomos_machine.specs.Sight.{user_of}
 use Rattle.nomos_machine.specs.declared.object.Object.{Object}
 use Rattle.nomos_machine.specs.declared.object.Object.TheVariants as object
-use Rattle.nomos_machine.proofs.ForwardLaws.{user_of-found}
 use Rattle.nomos_machine.proofs.PutLaws.{InOrder, object_at-own}
+use Rattle.nomos_machine.proofs.UserLaws.{user_of-found}
 use Rattle.nomos_parts.specs.SmallChanges.{redirected}
 use Rattle.nomos_plain.specs.Parts.{has_number, object_in}
 use Rattle.nomos_plain.specs.declared.object.PlainObject.{PlainObject}

@@ -26,7 +26,7 @@ fn copy_values(alloc: Global, values: &[(VarId, Value)]) -> Result<Vec<(VarId, V
 {
     let mut made = Vec::new(alloc);
     for pair in values {
-        made.push((pair.0, pair.1.copy(alloc)?))?;
+        made.push((pair.0, pair.1.copy()?))?;
     }
     Ok(made)
 }
@@ -42,7 +42,7 @@ fn copy_lists(
     for pair in lists {
         let list = PotentialList {
             amount: pair.1.amount,
-            items: pair.1.items.copy(alloc)?,
+            items: pair.1.items.copy()?,
         };
         made.push((pair.0, list))?;
     }
@@ -69,12 +69,12 @@ fn copy_process(alloc: Global, p: &PlainProcess) -> Result<PlainProcess, AllocEr
 }
 
 // A copy of what a message brings.
-fn copy_payload(alloc: Global, payload: &Payload) -> Result<Payload, AllocError>
+fn copy_payload(payload: &Payload) -> Result<Payload, AllocError>
     ensures { IfOk result (λ made. made ≡ payload.now) }
 {
     match payload {
         Payload::Label(label) => Ok(Payload::Label(*label)),
-        Payload::Value(value) => Ok(Payload::Value(value.copy(alloc)?)),
+        Payload::Value(value) => Ok(Payload::Value(value.copy()?)),
         Payload::Channel(name) => Ok(Payload::Channel(*name)),
         Payload::Pay => Ok(Payload::Pay),
         Payload::Close => Ok(Payload::Close),
@@ -82,7 +82,7 @@ fn copy_payload(alloc: Global, payload: &Payload) -> Result<Payload, AllocError>
 }
 
 // A copy of a message.
-fn copy_message(alloc: Global, m: &Message) -> Result<Message, AllocError>
+fn copy_message(m: &Message) -> Result<Message, AllocError>
     ensures { IfOk result (λ made. made ≡ m.now) }
 {
     Ok(Message {
@@ -90,7 +90,7 @@ fn copy_message(alloc: Global, m: &Message) -> Result<Message, AllocError>
         to_client: m.to_client,
         from: m.from,
         next: m.next,
-        payload: copy_payload(alloc, &m.payload)?,
+        payload: copy_payload(&m.payload)?,
         purse: m.purse,
     })
 }
@@ -102,7 +102,7 @@ fn copy_object(alloc: Global, o: &PlainObject) -> Result<PlainObject, AllocError
 {
     match o {
         PlainObject::Process(p) => Ok(PlainObject::Process(copy_process(alloc, p)?)),
-        PlainObject::Message(m) => Ok(PlainObject::Message(copy_message(alloc, m)?)),
+        PlainObject::Message(m) => Ok(PlainObject::Message(copy_message(m)?)),
     }
 }
 
@@ -125,7 +125,7 @@ fn copy_results(alloc: Global, results: &[(u32, Value)]) -> Result<Vec<(u32, Val
 {
     let mut made = Vec::new(alloc);
     for pair in results {
-        made.push((pair.0, pair.1.copy(alloc)?))?;
+        made.push((pair.0, pair.1.copy()?))?;
     }
     Ok(made)
 }

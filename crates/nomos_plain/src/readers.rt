@@ -33,7 +33,7 @@ use nomos_ir::mode::Mode;
 use nomos_ir::value::Value;
 use nomos_machine::object::{Payload, PotentialList};
 use nomos_types::accepted::Accepted;
-use std::alloc::{AllocError, Global};
+use std::alloc::AllocError;
 
 // What an object carries, in Dths.
 fn purse_of(o: &PlainObject) -> u128
@@ -101,25 +101,24 @@ pub(crate) fn message_purse(objects: &[PlainObject], number: u32) -> u128
 }
 
 // The value among what a message brings, once more.
-fn copy_brought(alloc: Global, payload: &Payload) -> Result<Option<Value>, AllocError>
+fn copy_brought(payload: &Payload) -> Result<Option<Value>, AllocError>
     ensures { IfOk result (λ found. found ≡ value_in payload.now) }
 {
     match payload {
-        Payload::Value(x) => Ok(Some(x.copy(alloc)?)),
+        Payload::Value(x) => Ok(Some(x.copy()?)),
         _ => Ok(None),
     }
 }
 
 /// The value that the message of this number brings, if it brings one, once more.
 pub(crate) fn message_value(
-    alloc: Global,
     objects: &[PlainObject],
     number: u32,
 ) -> Result<Option<Value>, AllocError>
     ensures { IfOk result (λ found. found ≡ value_brought (map object_in objects.now) number) }
 {
     match message_at(objects, number) {
-        Some(m) => copy_brought(alloc, &m.payload),
+        Some(m) => copy_brought(&m.payload),
         None => Ok(None),
     }
 }

@@ -42,8 +42,8 @@ impl Parts for PlainState {
         readers::message_purse(&self.parts.objects, number)
     }
 
-    fn message_value(&self, alloc: Global, number: u32) -> Result<Option<Value>, AllocError> {
-        readers::message_value(alloc, &self.parts.objects, number)
+    fn message_value(&self, _alloc: Global, number: u32) -> Result<Option<Value>, AllocError> {
+        readers::message_value(&self.parts.objects, number)
     }
 
     fn set_fields(&mut self, fields: SeenProcess) {

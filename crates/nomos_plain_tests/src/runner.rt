@@ -108,7 +108,7 @@ impl Runner {
         if dths < u128::from(self.accepted.bound(f)) {
             return Ok(None);
         }
-        let nothing = Values::of_vec(Vec::new(alloc));
+        let nothing = Values::empty();
         let pid = self
             .machine
             .start(alloc, &self.accepted, f, (&nothing, &[]), payer)?;

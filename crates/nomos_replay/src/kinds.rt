@@ -5,11 +5,9 @@ ghost use Rattle.nomos_legal.specs.Legal.{IsLimit};
 ghost use Rattle.nomos_legal.specs.declared.journal.End.{End};
 ghost use Rattle.nomos_journal.specs.declared.line.Version.{Version};
 
+use nomos_ir::limits::HIGHEST_LIMIT;
 use nomos_journal::line::{JournalLine, Version};
 use nomos_legal::journal::End;
-
-/// The most firings that a journal may allow a batch.
-const LIMIT: u32 = 10_000_000;
 
 /// The version that a first line says.
 pub(crate) fn version_in(line: JournalLine) -> Option<Version>
@@ -27,7 +25,7 @@ pub(crate) fn limit_in(line: JournalLine) -> Option<u32>
         (λ n. IsLimit n × (line ≡ JournalLine.Steps n)) }
 {
     match line {
-        JournalLine::Steps(limit) if 1 <= limit && limit <= LIMIT => Some(limit),
+        JournalLine::Steps(limit) if 1 <= limit && limit <= HIGHEST_LIMIT => Some(limit),
         _ => None,
     }
 }

@@ -3,11 +3,9 @@
 ghost use Rattle.std.specs.Prelude.{◌≡◌, ◌≤◌, ◌+◌, ◌++◌, ◌∷◌, [], OnOk, length};
 ghost use Rattle.nomos_legal.specs.Legal.{batch_limit, max_firings};
 
+use nomos_ir::limits::MAX_FIRINGS;
 use nomos_legal::journal::Entry;
 use std::alloc::AllocError;
-
-/// The most firings of all batches of a script.
-const FIRINGS: u32 = 20_000_000;
 
 /// What was told so far: the most firings of a batch, the firings of all batches so far, the entries of the journal,
 /// and what is printed.
@@ -25,7 +23,7 @@ impl Notes {
         requires { self.now.made ≤ max_firings }
         ensures { result ≡ batch_limit self.now.limit self.now.made }
     {
-        self.limit.min(FIRINGS - self.made)
+        self.limit.min(MAX_FIRINGS - self.made)
     }
 
     /// Notes one entry more.

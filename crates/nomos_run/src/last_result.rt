@@ -49,7 +49,7 @@ fn end_result(
 {
     match end {
         End::Committed => match last_value(results) {
-            Some(value) => Ok(Some(value.copy(alloc)?)),
+            Some(value) => Ok(Some(value.copy()?)),
             None => Ok(None),
         },
         _ => Ok(None),

@@ -35,7 +35,7 @@ pub struct WholeRun<M: Undo> {
     pub ledger: Ledger<M>,
 }
 
-/// What a run of a script comes to: the journal of the items that were carried out, and the rest where these were all;
+/// What a run of a script comes to: the journal of some first items, and the rest where these were all;
 /// otherwise memory was wanting.
 #[derive(Drop, Debug)]
 pub struct ScriptRun<M: Undo> {

@@ -165,7 +165,7 @@ fn run_items<M: Undo + Drop + Send, G: Gate, R: Threads + Wait + Sync>(
 
 /// Runs a script from the empty ledger (docs/MACHINE.md, "Legal journals"): item by item, each batch by the crew. The
 /// report, and the text of the journal where it is wanted, are made while it goes. Where memory is wanting, the journal
-/// of the items that were carried out is given.
+/// of some first items is given.
 pub fn run_script<M: Undo + Drop + Send, G: Gate, R: Threads + Wait + Sync>(
     runner: &Runner<'_, G, R>,
     alloc: Global,

@@ -15,6 +15,7 @@ use crate::started::{BatchUnderWay, PassedItem, StartedItem};
 use nomos_deeds::machine::Machine;
 use nomos_deeds::undo::Undo;
 use nomos_ir::items::Items;
+use nomos_ir::limits::MAX_FIRINGS;
 use nomos_ledger::arguments::Arguments;
 use nomos_ledger::begun::Begun;
 use nomos_ledger::ledger::Ledger;
@@ -26,9 +27,6 @@ use nomos_script::name::ScriptName;
 use nomos_types::accepted::Accepted;
 use std::alloc::{AllocError, Global};
 use std::marker::Model;
-
-/// The most firings of all batches of a script.
-const FIRINGS: u32 = 20_000_000;
 
 /// How far a script was gone along: what arguments are judged by, the most firings of one batch, the firings so far,
 /// and what is written. Contracts see the program in place of the first.
@@ -115,7 +113,7 @@ impl<'a> Walk<'a> {
         ensures limit { result ≡ batch_limit self.now.limit self.now.made }
         ensures sum { self.now.made + result ≤ max_firings }
     {
-        self.limit.min(FIRINGS - self.made)
+        self.limit.min(MAX_FIRINGS - self.made)
     }
 
     /// What was written.

@@ -2,10 +2,7 @@
 use Rattle.std.specs.Prelude.{ℕ, ◌≤◌, length}
 use Rattle.nomos_syntax.specs.Lexeme.{Lexeme, name, reserved, number, symbol, bad}
 
--- the most bytes of a text, and of a name
-abbrev pub text_limit : ℕ
-text_limit = 1048576
-
+-- the most bytes of a name
 abbrev pub name_limit : ℕ
 name_limit = 64
 

@@ -1,6 +1,6 @@
 -- The texts that have tokens.
 use Rattle.std.specs.Prelude.{ℕ, ◌<◌, ◌≤◌, List, length, All}
-use Rattle.nomos_syntax.specs.Limits.{text_limit}
+use Rattle.nomos_ir.specs.Limits.{text_limit}
 
 -- a text short enough, of bytes below 128
 pub record IsPlainText (text : List ℕ) : Type 0 where

@@ -3,7 +3,7 @@ use Rattle.std.specs.Prelude.{◌≡◌, ℕ, ◌<◌, ◌≤◌, nat_le, List, 
 use Rattle.nomos_syntax.specs.declared.token.Token.{Token}
 use Rattle.nomos_syntax.specs.declared.token.TokenKind.{TokenKind}
 use Rattle.nomos_syntax.specs.declared.token.TokenKind.TheVariants as kind
-use Rattle.nomos_syntax.specs.Limits.{text_limit}
+use Rattle.nomos_ir.specs.Limits.{text_limit}
 use Rattle.nomos_syntax.specs.Spelling.{spelling}
 use Rattle.nomos_syntax.specs.Lexeme.{Lexeme, name, reserved, number, symbol, bad, Placed}
 

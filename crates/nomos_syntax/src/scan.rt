@@ -1,7 +1,7 @@
 //! The tokens of a text.
 ghost use Rattle.std.specs.Prelude.{◌≡◌, ◌↔◌, ◌<◌, ◌≤◌, ℕ, length, map, All, OnOk, IfOk, IfSome, IfNone, IsErrOf};
 ghost use Rattle.nomos_syntax.specs.Apart.{ComesApart};
-ghost use Rattle.nomos_syntax.specs.Limits.{text_limit};
+ghost use Rattle.nomos_ir.specs.Limits.{text_limit};
 ghost use Rattle.nomos_syntax.specs.Longest.{IsTakenIn};
 ghost use Rattle.nomos_syntax.specs.Reading.{IsPlainText};
 ghost use Rattle.nomos_syntax.specs.Scan.{tokens_of};
@@ -10,11 +10,9 @@ ghost use Rattle.nomos_syntax.specs.Spans.{StandFor, placed_of, first_not_ascii,
 use crate::pieces::piece_of;
 use crate::token::{Token, TokenList};
 use nomos_ir::items::Items;
+use nomos_ir::limits::TEXT_LIMIT;
 use std::alloc::{AllocError, Global};
 use thiserror::Error;
-
-/// The most bytes of a text.
-pub const TEXT_LIMIT: usize = 1_048_576;
 
 /// Why a text has no tokens.
 #[derive(Clone, Copy, PartialEq, Eq, Debug, Error)]

@@ -1,8 +1,10 @@
-//! Tests of the crates that find kinds and values of terms, on programs that are made by hand.
+//! Tests of the crates that find kinds and values of terms, on programs that are made by hand, and of lists of values.
 #![tactic(auto)]
 
 #[cfg(test)]
 mod kind_tests;
+#[cfg(test)]
+mod list_tests;
 #[cfg(test)]
 mod table;
 #[cfg(test)]

@@ -113,7 +113,7 @@ fn list_of(alloc: Global, length: u32) -> Result<Value, AllocError> {
     for _ in 0..length {
         nodes.push(ValueNode::Int(5))?;
     }
-    Ok(Value::list(Values::of_vec(nodes)))
+    Ok(Value::list(Values::of_vec(alloc, nodes)?))
 }
 
 // A number n, the greatest number, a list of so many numbers, and a truth value.
@@ -168,12 +168,14 @@ fn enters_a_hundred_thousand_nodes(rt: HostRuntime) -> Result<(), Fail> {
 }
 
 // What is asked: the body of the function, the term, n, and the length of the list.
-const ASKED: [(u32, u32, i64, u32); 13] = [
+const ASKED: [(u32, u32, i64, u32); 15] = [
     (0, 5, 0, 0),
     (0, 6, 0, 0),
     (0, 7, 0, 0),
     (0, 8, 0, 0),
     (0, 10, 0, 0),
+    (0, 11, 0, 2),
+    (0, 12, 0, 2),
     (0, 16, 0, 9999),
     (0, 16, 0, 10000),
     (0, 17, 0, 10000),
@@ -189,6 +191,8 @@ Value(Value { node: Int(-1) })
 Fault(DivideByZero)
 Fault(DivideByZero)
 Fault(Overflow)
+Value(Value { node: List([Int(5), Int(5)]) })
+Value(Value { node: List([Int(1), Int(5), Int(5)]) })
 Value(Value { node: Int(1) })
 Fault(ListLength)
 Value(Value { node: Int(10) })
@@ -266,8 +270,8 @@ fn decides_small_tests(rt: HostRuntime) -> Result<(), Fail> {
 #[test]
 fn finds_the_values_of_an_instruction(rt: HostRuntime) -> Result<(), Fail> {
     let found = outcome_at(rt.alloc(), 1)?;
-    assert_eq!(rt; found.as_str(), "Values(Values { nodes: [Int(7)] })");
+    assert_eq!(rt; found.as_str(), "Values([Int(7)])");
     let found = outcome_at(rt.alloc(), 2)?;
-    assert_eq!(rt; found.as_str(), "Values(Values { nodes: [] })");
+    assert_eq!(rt; found.as_str(), "Values([])");
     Ok(())
 }

@@ -13,24 +13,12 @@ use nomos_ir::bindings::{bound_first, bound_last};
 use nomos_ir::declaration::FnDecl;
 use nomos_ir::find::{find_function, find_term};
 use nomos_ir::ids::{FnId, TermId, VarId};
-use nomos_ir::kind::{Base, Kind};
+use nomos_ir::kind::Kind;
 use nomos_ir::or_no_memory::OrNoMemory;
 use nomos_ir::program::Program;
 use nomos_ir::stack::Stack;
 use nomos_ir::term_node::TermNode;
 use std::alloc::AllocError;
-
-/// The kind of numbers.
-const INT: Kind = Kind {
-    lists: 0,
-    base: Base::Int,
-};
-
-/// The kind of truth values.
-const BOOL: Kind = Kind {
-    lists: 0,
-    base: Base::Bool,
-};
 
 /// The kind of lists of values of a kind.
 fn list_of(kind: Kind) -> Kind
@@ -185,8 +173,8 @@ fn enter_node(
     ensures vain { IsErrOf result no_kind → IsVain program.now outer.now (task.Term t) search.old }
 {
     match node {
-        TermNode::Number(_, _) => put_kind(&mut search.kinds, INT),
-        TermNode::Truth(_, _) => put_kind(&mut search.kinds, BOOL),
+        TermNode::Number(_, _) => put_kind(&mut search.kinds, Kind::INT),
+        TermNode::Truth(_, _) => put_kind(&mut search.kinds, Kind::BOOL),
         TermNode::Var(_, v) => enter_variable(outer, search, *v),
         TermNode::Call(_, f, values) => enter_call(
             program,
@@ -199,12 +187,12 @@ fn enter_node(
         | TermNode::Sub(_, a, b)
         | TermNode::Mul(_, a, b)
         | TermNode::Div(_, a, b)
-        | TermNode::Rem(_, a, b) => operate(&mut search.todo, *a, *b, INT, INT),
+        | TermNode::Rem(_, a, b) => operate(&mut search.todo, *a, *b, Kind::INT, Kind::INT),
         TermNode::Less(_, a, b) | TermNode::Equal(_, a, b) => {
-            operate(&mut search.todo, *a, *b, INT, BOOL)
+            operate(&mut search.todo, *a, *b, Kind::INT, Kind::BOOL)
         }
         TermNode::And(_, a, b) | TermNode::Or(_, a, b) => {
-            operate(&mut search.todo, *a, *b, BOOL, BOOL)
+            operate(&mut search.todo, *a, *b, Kind::BOOL, Kind::BOOL)
         }
         TermNode::Cons(_, a, b) => lead_to(
             &mut search.todo,
@@ -212,12 +200,16 @@ fn enter_node(
         ),
         TermNode::Not(_, a) => lead_to(
             &mut search.todo,
-            &[Task::Term(*a), Task::Expect(BOOL), Task::Give(BOOL)],
+            &[
+                Task::Term(*a),
+                Task::Expect(Kind::BOOL),
+                Task::Give(Kind::BOOL),
+            ],
         ),
         TermNode::If(_, test, a, b) => {
             let tasks = [
                 Task::Term(*test),
-                Task::Expect(BOOL),
+                Task::Expect(Kind::BOOL),
                 Task::Term(*a),
                 Task::Term(*b),
                 Task::Same,

@@ -1,5 +1,6 @@
 //! The tokens of small texts, and the texts that have none.
-use nomos_syntax::scan::{TEXT_LIMIT, tokens};
+use nomos_ir::limits::TEXT_LIMIT;
+use nomos_syntax::scan::tokens;
 use std::alloc::{AllocError, Global};
 use std::test::Fail;
 

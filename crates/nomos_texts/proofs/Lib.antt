@@ -10,4 +10,3 @@ pub mod NamingLaws
 pub mod OneTextLaws
 pub mod ReadingLaws
 pub mod SplittingLaws
-mod ValueLemmas

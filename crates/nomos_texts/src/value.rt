@@ -2,11 +2,12 @@
 
 ghost use Rattle.std.specs.Prelude.{◌≡◌, ◌++◌, codes, OnOk, if◌then◌else◌};
 ghost use Rattle.std.specs.Fmt.{signed_decimal};
+ghost use Rattle.nomos_ir.specs.Value.{value_list};
 ghost use Rattle.nomos_ir.specs.ValueNode.{value_of};
-ghost use Rattle.nomos_texts.specs.Value.{value_text};
+ghost use Rattle.nomos_texts.specs.Value.{value_text, row_text};
 
 use itoa::Buffer;
-use nomos_ir::value::Value;
+use nomos_ir::value::{Value, Values};
 use nomos_ir::value_node::ValueNode;
 use std::alloc::AllocError;
 
@@ -26,7 +27,26 @@ fn truth_word(b: bool) -> &'static [u8]
     if b { b"true" } else { b"false" }
 }
 
+// Appends values, with a comma between one and the next.
+#[cycle(appended)]
+fn push_row(text: &mut Vec<u8>, values: &Values) -> Result<(), AllocError>
+    ensures { OnOk result (text.new.items ≡ text.old.items ++ row_text (value_list values.now)) }
+{
+    let Some((first, rest)) = values.parts() else {
+        return Ok(());
+    };
+    push_node(text, first)?;
+    let mut left = rest;
+    while let Some((next, rest)) = left.parts() {
+        text.push(b',')?;
+        push_node(text, next)?;
+        left = rest;
+    }
+    Ok(())
+}
+
 // Appends the value of a node. It uses the machine's stack in step with how deep lists are nested in the value.
+#[cycle(appended)]
 fn push_node(text: &mut Vec<u8>, node: &ValueNode) -> Result<(), AllocError>
     ensures { OnOk result (text.new.items ≡ text.old.items ++ value_text (value_of node.now)) }
 {
@@ -36,14 +56,9 @@ fn push_node(text: &mut Vec<u8>, node: &ValueNode) -> Result<(), AllocError>
             text.extend_from_slice(truth_word(*b))?;
             Ok(())
         }
-        ValueNode::List(nodes) => {
+        ValueNode::List(values) => {
             text.push(b'[')?;
-            for (at, node) in nodes.iter().enumerate() {
-                if at > 0 {
-                    text.push(b',')?;
-                }
-                push_node(text, node)?;
-            }
+            push_row(text, values)?;
             text.push(b']')?;
             Ok(())
         }

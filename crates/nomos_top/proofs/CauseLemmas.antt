@@ -26,7 +26,7 @@ use Rattle.nomos_simplex.specs.declared.solved.Solved.TheVariants as solved
 use Rattle.nomos_simplex.specs.declared.solved.SolvedLeast.TheVariants as least_solved
 use Rattle.nomos_simplex.specs.declared.solved.Stop.{Stop}
 use Rattle.nomos_surface.specs.Tree.{FileTree}
-use Rattle.nomos_syntax.specs.Limits.{text_limit}
+use Rattle.nomos_ir.specs.Limits.{text_limit}
 use Rattle.nomos_top.specs.Tasks.{IsGivenFor, HasStopped, HasLeastStopped, HasStoppedFor}
 use Rattle.nomos_types.specs.Acceptance.{Acceptance, acceptance}
 use Rattle.nomos_types.specs.Amount.{Annotations}

@@ -14,7 +14,7 @@ use crate::judging::{judge, judge_least};
 use crate::least_block::{accepted_block, least_block};
 use crate::unaccepted::unaccepted_due;
 use nomos_base::Source;
-use nomos_due::replays::USUAL_LIMIT;
+use nomos_ir::limits::USUAL_LIMIT;
 use nomos_least::least::LeastBounds;
 use nomos_types::accepted::Accepted;
 use std::alloc::Global;

@@ -7,8 +7,8 @@ ghost use Rattle.nomos_top.specs.Outcome.{bare, given};
 ghost use Rattle.nomos_top.specs.mirror.Judging.{IsNothing, behind_of, outcome_of};
 
 use nomos_due::due::Due;
-use nomos_due::replays::USUAL_LIMIT;
 use nomos_ir::items::Items;
+use nomos_ir::limits::USUAL_LIMIT;
 use nomos_legal::journal::Journal;
 use nomos_types::accepted::Accepted;
 use std::alloc::Global;

@@ -8,9 +8,9 @@ ghost use Rattle.nomos_top.specs.mirror.Judging.{ReadsContract, unaccepted_of, J
 use nomos_accept::accepting::accept;
 use nomos_accept::refusal::{AcceptError, Why};
 use nomos_base::{ReadError, Source, read_all};
+use nomos_ir::limits::TEXT_LIMIT;
 use nomos_least::least::{LeastBounds, least};
 use nomos_simplex::solved::Stop;
-use nomos_syntax::scan::TEXT_LIMIT;
 use nomos_types::accepted::Accepted;
 use nomos_words::load::auction_text;
 use std::alloc::Global;

@@ -1,6 +1,6 @@
 //! Tests: what is answered to words, to contracts that are checked, and to searches for least bounds.
 use crate::calling::{ACCEPTED, CUT_SHORT, EMPTY_ACCEPTED, FLIP, HALVES, expect, repeated};
-use nomos_syntax::scan::TEXT_LIMIT;
+use nomos_ir::limits::TEXT_LIMIT;
 use std::process::Abort;
 use std::sync::Wait;
 use std::test::Fail;

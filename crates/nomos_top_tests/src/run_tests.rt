@@ -1,6 +1,6 @@
 //! Tests: what is answered to runs, to replays, and to `bench`.
 use crate::calling::{ACCEPTED, BIT, CUT_SHORT, HALVES, expect, repeated};
-use nomos_script::parsing::TEXT_LIMIT;
+use nomos_ir::limits::TEXT_LIMIT;
 use std::process::Abort;
 use std::sync::Wait;
 use std::test::Fail;

@@ -44,8 +44,8 @@ pub enum Job<'a> {
     },
 }
 
-/// The job that the words ask for, or none where they have no form of the usage line (docs/TEXTS.md, "The words of what
-/// comes"). The words are those after the program's own name. It takes no memory.
+/// The job that the words ask for, or none where they have no form of the usage line (docs/TEXTS.md, "Words and
+/// statuses"). The words are those after the program's own name. It takes no memory.
 pub fn words<'a>(words: &'a [String]) -> Option<Job<'a>>
     ensures { FindsOne (Asks (map string_bytes words.now)) (option_map task result) }
 {

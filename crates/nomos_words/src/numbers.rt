@@ -5,6 +5,7 @@ ghost use Rattle.nomos_words.specs.FindsOne.{FindsOne};
 ghost use Rattle.nomos_words.specs.Options.{AreSteps, IsCount, IsCountOr};
 ghost use Rattle.nomos_words.specs.Words.{IsSeed};
 
+use nomos_ir::limits::{HIGHEST_LIMIT, USUAL_LIMIT};
 use nomos_texts::number::{read_number, read_u64};
 
 /// The number from 1 to the most that is allowed which a word writes.
@@ -38,5 +39,5 @@ pub(crate) fn count_or(word: Option<&str>, missing: u32, most: u32) -> Option<u3
 pub(crate) fn steps_of(word: Option<&str>) -> Option<u32>
     ensures { FindsOne (AreSteps (option_map (λ word. word.now) word.entry)) result }
 {
-    count_or(word, 1_000_000, 10_000_000)
+    count_or(word, USUAL_LIMIT, HIGHEST_LIMIT)
 }

@@ -15,7 +15,7 @@ pub(crate) struct GivenOptions<'a> {
     pub(crate) journal: Option<&'a str>,
 }
 
-// The options with one more, if_new its name is none or was there before.
+// The options with one more; nothing, where its name is none or was there before.
 fn with_option<'a>(given: GivenOptions<'a>, name: &str, value: &'a str) -> Option<GivenOptions<'a>>
     ensures { option_map option_values result ≡ with_option (option_values given.entry) name.now value.now }
 {

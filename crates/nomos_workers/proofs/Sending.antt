@@ -7,8 +7,8 @@ use Rattle.std.proofs.Crossing as crossing
 use Rattle.nomos_deeds.specs.declared.acting.Acting as acting
 use Rattle.nomos_deeds.specs.declared.sight.Sight as sight
 use Rattle.nomos_ir.proofs.items.Items.TheSendSync as items
-use Rattle.nomos_ir.proofs.value_node.ValueNode.TheLaws.TheKnot as nodes
-use Rattle.nomos_ir.specs.contracts.value.Values as Values
+use Rattle.nomos_ir.proofs.value_node.Values.TheLaws.TheKnot as nodes
+use Rattle.nomos_ir.specs.contracts.value_node.Values as Values
 use Rattle.nomos_legal.specs.contracts.resolved.Resolved as Resolved
 use Rattle.nomos_script.proofs.name.ScriptName.TheSendSync as names
 use Rattle.nomos_ledger.proofs.books.Books.TheSendSync as books

@@ -1,5 +1,4 @@
-use Rattle.std.proofs.Common.{◌≡◌, ◌∙◌, [], sym, ap, map, option_copied}
-use Rattle.nomos_ir.specs.ValueNode.{value_of}
+use Rattle.std.proofs.Common.{◌≡◌, ◌∙◌, [], sym, ap, option_copied}
 use Rattle.nomos_ir.specs.CodeParts.{code_terms}
 use Rattle.nomos_deeds.proofs.DecisionLemmas.{deed-without_terms, stands-seen, none-told}
 use Rattle.nomos_deeds.proofs.decide.decide_at_once.Goals as goal
@@ -13,6 +12,5 @@ returns-clause-decides g c p there =
     (sym c.code_at.ensures.found ∙ ap option_copied c.in_ok-node.was) in
     let none : code_terms node ≡ [] =
     none-told c.has_terms.result (code_terms node) c.has_terms.ensures c.if-has_terms.false in
-    let empty : c.of_vec-values.result ≡ [] = c.of_vec-values.ensures ∙ ap (map value_of) c.new.ensures.items in
     c.deed_of-doing.ensures.decides p there
-    ∙ sym (deed-without_terms a s p node c.of_vec-values.result stands none empty)
+    ∙ sym (deed-without_terms a s p node c.empty-values.result stands none c.empty-values.ensures)

@@ -1,4 +1,4 @@
-use Rattle.nomos_script.specs.ScriptReading.{text_limit}
+use Rattle.nomos_ir.specs.Limits.{text_limit}
 use Rattle.nomos_due.specs.Outside.{FaultCounts}
 use Rattle.nomos_due.proofs.SourceLemmas.{long_text, some_text, taken_text}
 use Rattle.nomos_due.proofs.script.read_script.Goals as goal

@@ -9,10 +9,10 @@ use Rattle.nomos_eval.proofs.values.+unload.Given as goal
 abbrev pub decreases-unload : goal.decreases-unload
 decreases-unload l = reach l.of
 
-abbrev pub invariant-loop-head : goal.invariant-loop-head
-invariant-loop-head l =
+abbrev pub invariant-loop-alloc : goal.invariant-loop-alloc
+invariant-loop-alloc l =
     (l.at ≤ l.place) × (l.at < length l.lists)
-    × (before_list (map value_of l.items.items) (get_or l.lists l.at no_values) ≡ get_or l.lists l.place no_values)
+    × (before_list (map value_of l.heads.items) (get_or l.lists l.at no_values) ≡ get_or l.lists l.place no_values)
 
-abbrev pub decreases-loop-head : goal.decreases-loop-head
-decreases-loop-head l = l.at
+abbrev pub decreases-loop-alloc : goal.decreases-loop-alloc
+decreases-loop-alloc l = l.at

@@ -1,4 +1,4 @@
-use Rattle.std.proofs.Common.{rules, ◌≡◌, ◌∙◌, ◌∷◌, [], Option, Some, sym, ap}
+use Rattle.std.proofs.Common.{◌≡◌, ◌∙◌, ◌∷◌, [], Option, Some, sym, ap}
 use Rattle.nomos_ir.specs.Value.{Value}
 use Rattle.nomos_machine.specs.Deeds.{alone, one_of}
 use Rattle.nomos_machine.specs.Optional.{◌>>=◌}
@@ -15,7 +15,7 @@ returns-clause-ok g c a can =
     let acts = can-acts a s c.args.pid c.args.values (act.Emit c.args.next) can in
     let p = acts.process in
     let q = standing_at c.args.next p in
-    let one : Some c.in-Some.value ≡ one_of c.args.values = search rules in
+    let one : Some c.in-Some.value ≡ one_of c.args.values = sym c.in-Some.is ∙ c.in_ok-value.ensures in
     let is = one-some acts.change (record (alone a s p q) { emitted = (p.pid, c.in-Some.value) ∷ [] })
     (sym acts.changes ∙ ap (λ (o : Option Value). o >>= λ x.
     Some (record (alone a s p q) { emitted = (p.pid, x) ∷ [] })) (sym one)) in

@@ -1,14 +1,15 @@
-use Rattle.std.proofs.Common.{rules, ◌≡◌, ◌∙◌, Some, sym, ap, refl}
+use Rattle.std.proofs.Common.{◌≡◌, ◌∙◌, Some, sym, ap, refl}
+use Rattle.std.specs.Option.{option_map}
 use Rattle.nomos_ir.specs.ValueNode.{value_of}
 use Rattle.nomos_deeds.specs.Acts.{act_change}
 use Rattle.nomos_machine.specs.Deeds.{one_of}
 use Rattle.nomos_parts.proofs.RevisionLemmas.{let-revises, empty-revises, end-revises, add-revises, parted-revises}
 use Rattle.nomos_parts.proofs.alone.revision_of.Goals as goal
 
-pub returns-in_ok-the_value-in-Let-clause-revises : goal.returns-in_ok-the_value-in-Let-clause-revises
-returns-in_ok-the_value-in-Let-clause-revises c a s p change is alone =
-    let one : Some c.in_ok-the_value-in-Let.field-0 ≡ one_of c.args.values = search rules in (
-      let-revises a s p c.args.values change c.in_ok-the_value-in-Let.field-0 c.in-Let.variable c.in-Let.next one
+pub returns-in-Some-clause-revises : goal.returns-in-Some-clause-revises
+returns-in-Some-clause-revises c a s p change is alone =
+    let one : Some c.in-Some.value ≡ one_of c.args.values = sym c.in-Some.is ∙ c.in_ok-value-in-Let.ensures in (
+      let-revises a s p c.args.values change c.in-Some.value c.in-Let.variable c.in-Let.next one
           (ap (act_change a s p c.args.values) (sym c.in-Let.is) ∙ is),
       refl,
     )
@@ -20,10 +21,11 @@ returns-in-Empty-clause-revises c a s p change is alone = (
   refl,
 )
 
-pub returns-in_ok-the_node-in-Add-clause-revises : goal.returns-in_ok-the_node-in-Add-clause-revises
-returns-in_ok-the_node-in-Add-clause-revises c a s p change is alone =
-    let one : Some (value_of c.in_ok-the_node-in-Add.field-0) ≡ one_of c.args.values = search rules in (
-      add-revises a s p c.args.values change c.in_ok-the_node-in-Add.field-0 c.in-Add.variable c.in-Add.list
+pub returns-in-Some-2-clause-revises : goal.returns-in-Some-2-clause-revises
+returns-in-Some-2-clause-revises c a s p change is alone =
+    let one : Some (value_of c.in-Some-2.node) ≡ one_of c.args.values =
+    ap (option_map value_of) (sym c.in-Some-2.is) ∙ c.in_ok-node-in-Add.ensures in (
+      add-revises a s p c.args.values change c.in-Some-2.node c.in-Add.variable c.in-Add.list
           c.in-Add.next one
           (ap (act_change a s p c.args.values) (sym c.in-Add.is) ∙ is),
       refl,

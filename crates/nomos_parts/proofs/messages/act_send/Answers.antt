@@ -1,4 +1,4 @@
-use Rattle.std.proofs.Common.{rules, ◌≡◌, ◌∙◌, Some, None, sym, ap}
+use Rattle.std.proofs.Common.{◌≡◌, ◌∙◌, Some, None, sym, ap}
 use Rattle.nomos_deeds.specs.declared.act.Act.TheVariants as act
 use Rattle.nomos_machine.specs.Revised.{standing_at, under_name}
 use Rattle.nomos_machine.specs.Sight.{is_own}
@@ -18,7 +18,8 @@ returns-in-Some-clause-ok g c a can =
     let acts = can-acts a s pid c.args.values (act.Send send.channel send.sending send.goes send.next) can in
     let p = acts.process in
     let sent = sending-is a s p send.channel send.goes send.next send.sending c.args.values acts.change acts.changes in
-    let told : Some c.in-Some.payload ≡ brought_by send.sending c.args.values = search rules in
+    let told : Some c.in-Some.payload ≡ brought_by send.sending c.args.values =
+    sym c.in-Some.is ∙ c.in_ok-payload.ensures in
     let same = one-some c.in-Some.payload sent.brought (told ∙ sent.brings) in
     let gas = gas_of_sending send.sending in
     let sender = after_sending send.sending p in
@@ -40,6 +41,6 @@ returns-in-None-clause-ok g c a can =
     let acts = can-acts a s c.args.pid c.args.values (act.Send send.channel send.sending send.goes send.next) can in
     let sent = sending-is a s acts.process send.channel send.goes send.next send.sending c.args.values acts.change
     acts.changes in
-    let told : None ≡ brought_by send.sending c.args.values = search rules in
+    let told : None ≡ brought_by send.sending c.args.values = sym c.in-None.is ∙ c.in_ok-payload.ensures in
     let both : None ≡ Some sent.brought = told ∙ sent.brings in
     absurd cc

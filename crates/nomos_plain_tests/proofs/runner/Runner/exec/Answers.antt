@@ -1,14 +1,13 @@
-use Rattle.std.proofs.Common.{◌≡◌, ◌∙◌, [], map, sym, ap, arith}
-use Rattle.nomos_ir.specs.ValueNode.{value_of}
+use Rattle.std.proofs.Common.{◌≡◌, [], sym, arith}
 use Rattle.nomos_plain_tests.specs.Running.{Running}
 use Rattle.nomos_plain_tests.proofs.RunningLemmas.{can-start, started-goes_on}
 use Rattle.nomos_plain_tests.proofs.runner.Runner.exec.Goals as goal
 
 pub start-requires-clause-start : goal.start-requires-clause-start
 start-requires-clause-start c =
-    let nothing : c.of_vec-nothing.result ≡ [] = c.of_vec-nothing.ensures ∙ ap (map value_of) c.new.ensures.items in
+    let nothing : c.empty-nothing.result ≡ [] = c.empty-nothing.ensures in
     can-start c.self.inside.accepted c.self.inside.machine.state c.in-Some.f.0 c.args.payer c.bound.result
-    c.in-Some-balance.dths c.of_vec-nothing.result nothing c.in-Some.ensures.number c.in-Some.ensures.takes
+    c.in-Some-balance.dths c.empty-nothing.result nothing c.in-Some.ensures.number c.in-Some.ensures.takes
     c.bound.ensures (sym c.in-Some-balance.ensures) (omega arith)
 
 pub invariant_of-self-2 : goal.invariant_of-self-2
@@ -16,9 +15,9 @@ invariant_of-self-2 c =
     let run : Running =
     record { accepted = c.self.inside.accepted; state = c.self.inside.machine.state; left = c.self.inside.left }
     in
-    let nothing : c.of_vec-nothing.result ≡ [] = c.of_vec-nothing.ensures ∙ ap (map value_of) c.new.ensures.items in
-    started-goes_on run c.self.invariant (omega arith) c.in-Some.f.0 c.args.payer c.of_vec-nothing.result
+    let nothing : c.empty-nothing.result ≡ [] = c.empty-nothing.ensures in
+    started-goes_on run c.self.invariant (omega arith) c.in-Some.f.0 c.args.payer c.empty-nothing.result
     c.start.new.self.state
     (can-start c.self.inside.accepted c.self.inside.machine.state c.in-Some.f.0 c.args.payer c.bound.result
-    c.in-Some-balance.dths c.of_vec-nothing.result nothing c.in-Some.ensures.number c.in-Some.ensures.takes
+    c.in-Some-balance.dths c.empty-nothing.result nothing c.in-Some.ensures.number c.in-Some.ensures.takes
     c.bound.ensures (sym c.in-Some-balance.ensures) (omega arith)) c.in_ok-pid.ensures.ok.1
