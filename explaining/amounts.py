@@ -5,6 +5,7 @@ tried: with each amount written as is said, the program accepts the contract.
 """
 from typing import NamedTuple
 
+from .mends import mend
 from .texts import Text
 
 STARS = 64
@@ -159,7 +160,7 @@ class Mends:
         return left
 
 
-def mend(amount, value):
+def said(amount, value):
     """Gives in words what to write for an amount."""
     if amount.is_missing:
         return f"write `{{{value}}}` here, behind the parameters, where no amount is declared"
@@ -192,6 +193,7 @@ def explained(text, program, charged):
         return "NoPotential", []
     if values:
         places = sorted(values, key=lambda it: it.at)
-        return "NoPotential amount", [(it.at, f"mend: {mend(it, values[it])}") for it in places]
+        edits = [it.edit(values[it]) for it in places]
+        return "NoPotential amount", [(it.at, mend(said(it, values[it]), *edits)) for it in places]
     works = unpaid(text, program, charged)
     return "NoPotential none", [(at, f"see: {value} spent here, and nothing brings it") for at, value in works]

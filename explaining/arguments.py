@@ -1,5 +1,6 @@
 """Which argument of a line of a script does not fit the parameter of the process that the line starts."""
 from .amounts import closing
+from .mends import mend
 from .syntax import nearest
 from .texts import listed, tokens_of
 
@@ -122,14 +123,16 @@ class Arguments:
         see = f"see: {self.declared()}, and `{wanted.name}` is `{wanted.type}`; `{argument.text}` is `{made.offers}`"
         others, token = self.suiting(wanted), argument.tokens[0]
         does = [name for name in others[:3] if self.refused.goes_on((token.at, token.end, name))]
-        mends = [f"mend: write `{name}` in place of `{argument.text}`" for name in does] or self.changed(token)
+        where = f"in place of `{argument.text}`"
+        mends = [mend(f"write `{name}` {where}", (token.at, token.end, name)) for name in does] or self.changed(token)
         return token.at, "BadArguments type", [*mends, see, *([self.made(others)] if others and not mends else [])]
 
     def changed(self, token):
         """Gives a line for the other name with which this one has changed places."""
         for it in (other.tokens[0] for other in self.names):
-            if it.at > token.at and self.refused.goes_on((token.at, token.end, it.text), (it.at, it.end, token.text)):
-                return [f"mend: let `{token.text}` and `{it.text}` change places"]
+            edits = (token.at, token.end, it.text), (it.at, it.end, token.text)
+            if it.at > token.at and self.refused.goes_on(*edits):
+                return [mend(f"let `{token.text}` and `{it.text}` change places", *edits)]
         return []
 
     def suits(self, name, type):

@@ -2,11 +2,14 @@
 import collections
 
 from . import faults
+from .mends import mend
 from .texts import listed
 from .tracks import track
 
 # A batch that does not end is looked at for so many firings.
 FIRINGS = 20_000
+# How many times as many firings are tried then, and how many a batch may make at most.
+TIMES, MOST_FIRINGS = 10, 10_000_000
 
 
 class Waiting:
@@ -95,11 +98,12 @@ class Waiting:
         if len(rows) < 2:
             return []
         begin, last = self.run.script.row(self.number), self.run.script.row(end)
-        answer = self.run.asked(end, (begin.at, begin.end, ""), (last.at, last.end, ""))
+        edits = (begin.at, begin.end, ""), (last.at, last.end, "")
+        answer = self.run.asked(end, *edits)
         entries = answer.entries[-len(rows) :] if answer and answer.status in (0, 3) else [[["", "", ""]]]
         if any(it[0][2] != "committed" for it in entries):
             return []
-        return ["mend: take the `begin` and the `end` out, so that each line is a batch of its own"]
+        return [mend("take the `begin` and the `end` out, so that each line is a batch of its own", *edits)]
 
 
 def of_blocked(run, entry):
@@ -118,7 +122,20 @@ def of_steps(run, entry):
         fired = [standing.process.name for standing, _ in found[1].fired]
         most = [name for name, count in collections.Counter(fired).most_common(3) if count * 4 >= len(fired)]
         lines = [f"see: most of the first {len(fired)} firings are of {listed(most)}"] if most else []
-    return run.script.row(number).tokens[0].at, "steps", "steps", lines
+    return run.script.row(number).tokens[0].at, "steps", "steps", [*more_steps(run, number, int(entry[0][3])), *lines]
+
+
+def more_steps(run, number, allowed):
+    """Gives a line on how many firings a batch may make, and how many do where ten times as many do."""
+    options = run.program.options
+    see = f"see: a batch may make {allowed} firings here; `--steps N` behind the words of the call lets it make N"
+    most = min(allowed * TIMES, MOST_FIRINGS)
+    part, others = run.script.part(run.script.batch(number)[1]), [*without(options, "--steps"), "--steps", str(most)]
+    answer = run.program.run(run.text.data, part, *others, seconds=run.seconds())
+    words = answer.entries[-1][0] if answer and answer.status in (0, 3) else []
+    if words[2:4] == ["committed", "firings"]:
+        return [mend(f"write `--steps {words[4]}` behind the words of the call"), see]
+    return [see]
 
 
 def firings_of(options):

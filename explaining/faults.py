@@ -1,10 +1,10 @@
 """Which term of which instruction had a fault, and with which values."""
+from .telling import Telling
 from .tracks import track
 
 FORMS = ("put", "spawn", "let", "add", "emit", "if", "call")
 # The signs that can have a fault; any can come out of a function too.
 SIGNS = {"Overflow": "+-*/", "DivideByZero": "/%", "ListLength": ("::",), "TermSteps": (), "Depth": ()}
-STANDING_FOR = {"emit": ("0",), "if": ("true", "false"), "put": ("0", "true"), "let": ("0", "true")}
 
 
 class Fault:
@@ -52,35 +52,26 @@ class Fault:
         return [it for it in dict.fromkeys(used) if it not in bound]
 
     def told(self):
-        """Gives a line on the values of the variables, which the process is made to tell before the instruction while
-        its term is left out, where the batch then comes to its end."""
-        names = self.values()
-        codes, step = self.run.codes, self.step
-        if not names or not self.standing.is_sure or step.form not in STANDING_FOR:
+        """Gives a line on the values of the variables, where these are sure."""
+        values = Telling(self).find()
+        if not values:
             return []
-        at, end = codes.tokens[step.at].at, codes.tokens[step.end].at
-        words = codes.said(step.at, step.at + {"put": 2, "let": 3}.get(step.form, 1))
-        tells = "".join(f"emit {it}; " for it in names)
-        passed = self.standing.passed.get(id(step), 0)
-        emitted = sum(form == "emit" for standing, form in self.track.fired if standing is self.standing)
-        for term in STANDING_FOR[step.form]:
-            contract = self.run.text.edited((at, end, f"{tells}{words} {term}{' ' if step.form == 'if' else ''}"))
-            answer = self.run.asked(self.run.script.batch(self.number)[1], contract=contract)
-            if answer is None or answer.status not in (0, 3) or answer.entries[-1][0][2] != "committed":
-                continue
-            results = [it[2] for it in answer.entries[-1] if it[0] == "result" and it[1] == str(self.pid)]
-            first = emitted + passed * len(names)
-            values = results[first : first + len(names)]
-            if len(values) == len(names):
-                return ["see: there " + ", ".join(f"`{name}` is {it}" for name, it in zip(names, values))]
-        return []
+        return ["see: there " + ", ".join(f"`{name}` is {it}" for name, it in zip(self.values(), values))]
 
     def lines(self):
         if self.step is None:
             return [f"see: {self.who()} had the fault"]
         at, text = self.at(), self.run.text
         head = f"{text.place(at)}: {self.fault} in {self.who()}"
-        return [head, *text.shown(at), *self.told()]
+        return [head, *text.shown(at), *self.told(), *self.payer()]
+
+    def payer(self):
+        """Gives a line on the account that `me` is, where the instruction has one."""
+        line, script = self.standing.line, self.run.script
+        if not line or "me" not in [self.run.codes.tokens[at].text for at in self.within()]:
+            return []
+        known, name = script.accounts(self.number), line.sender.text
+        return [f"see: there `me` is {known.index(name)}, the account `{name}`"] if name in known else []
 
 
 def explained(run, entry):

@@ -1,6 +1,7 @@
 """Slips in a line of a script that has all it needs, in another form: as other languages would have it."""
 from typing import NamedTuple
 
+from .numbers import PARTED, in_digits
 from .texts import joined
 
 # How many lines are looked at behind one that may go on there.
@@ -21,8 +22,8 @@ class Forms:
     """What is found of the tokens around the marked one, by the class that is made of this one."""
 
     def of_forms(self):
-        ways = (self.of_rows, self.of_dots, self.of_words, self.of_makes, self.of_payers, self.of_lists)
-        for way in (*ways, self.of_numbers, self.of_terms):
+        ways = (self.of_accounts, self.of_rows, self.of_dots, self.of_words, self.of_makes, self.of_payers)
+        for way in (*ways, self.of_lists, self.of_numbers, self.of_terms):
             yield from way()
 
     def of_rows(self):
@@ -56,6 +57,14 @@ class Forms:
             yield Slip((before.at, behind.end, new), f"write `{new}` in place of `{before.text}.{behind.text}`")
         yield Slip((before.at, mark.end, ""), f"take `{before.text}.` out")
 
+    def of_accounts(self):
+        """An account where a value is wanted, which its number is."""
+        mark, known = self.marked, self.script.accounts(self.row.number)
+        if "NUMBER" in self.wanted and mark.text in known and mark.text not in self.made():
+            number = str(known.index(mark.text))
+            mend = f"write `{number}` in place of `{mark.text}`, which is the number of this account"
+            yield Slip((mark.at, mark.end, number), mend)
+
     def made(self):
         """Gives the names that the lines of the script give to contracts."""
         return {it.tokens[1].text for it in self.script.rows if it.word == "let" and len(it.tokens) > 1}
@@ -65,7 +74,8 @@ class Forms:
         mark, before, behind = self.marked, self.at(-1), self.at(1)
         texts = [it.text for it in self.tokens]
         if not self.count and mark.kind == "word" and behind.text in self.accounts() and texts[3:4] == ["("]:
-            yield Slip((mark.at, mark.end, "exec"), f"write `exec` in place of `{mark.text}`")
+            if mark.text != "new":
+                yield Slip((mark.at, mark.end, "exec"), f"write `exec` in place of `{mark.text}`")
         if mark.text + behind.text in ("/*", "--") and mark.end == behind.at:
             sign = mark.text + behind.text
             yield Slip((mark.at, behind.end, "//"), f"begin a comment with `//` in place of `{sign}`")
@@ -96,6 +106,11 @@ class Forms:
         """A contract that is made by other words than `let .. = new ..`, or has its type before its name."""
         mark, before, behind = self.marked, self.at(-1), self.at(1)
         texts = [it.text for it in self.tokens]
+        if not self.count and mark.text == "new" and texts[2:3] == ["("]:
+            said = "`let .. = new ..` in place of `new`, with a name for the contract, and the account that pays"
+            yield Slip((mark.at, mark.end, "let x = new x"), f"write {said}")
+        if self.wanted == {"new"} and mark.text in self.accounts():
+            yield Slip((mark.at, mark.at, "new "), f"write `new` before `{mark.text}`")
         if self.wanted == {"new"} and mark.text != "exec" and behind.kind == "word" and texts[5:6]:
             is_paid = texts[5] != "("
             said, why = ("new", "") if is_paid else ("new ..", ", with the account that pays")
@@ -156,8 +171,8 @@ class Forms:
         parts = [it for it in self.tokens[self.count - 1 :] if it.at >= before.at]
         end = next((at for at in range(1, len(parts)) if parts[at].at != parts[at - 1].end), len(parts))
         said = joined(parts[:end])
-        new = "".join(sign for sign in said if sign.isdigit())
-        if mark.text not in ADDED and set(said) <= set("0123456789,_'") and new != before.text:
+        new = in_digits(said) if PARTED.fullmatch(said) else ""
+        if mark.text not in ADDED and new:
             yield Slip((before.at, parts[end - 1].end, new), f"write `{new}` in place of `{said}`")
         if mark.text in ADDED and behind.kind == "number" and max(len(before.text), len(behind.text)) < 10:
             new = str(ADDED[mark.text](int(before.text), int(behind.text)))

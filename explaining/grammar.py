@@ -111,9 +111,13 @@ class Grammar:
             ways = further
         return len(tokens), ways
 
+    def next(self, ways):
+        """Gives the leaves with which these ways go on."""
+        return [leaf for leaf, _ in self._leaves([it.rest for it in ways])]
+
     def wanted(self, ways):
         """Gives the texts of the leaves with which these ways go on."""
-        return {leaf.text for leaf, _ in self._leaves([it.rest for it in ways])}
+        return {it.text for it in self.next(ways)}
 
     def may_end(self, ways):
         """Whether one of these ways may end."""

@@ -1,12 +1,10 @@
 """Slips of those who write other languages, or who have not met yet how a thing is written in this one."""
-from .shapes import HEADS, KINDS, Slip
+from .numbers import WRITTEN, in_digits
+from .renamed import fresh, is_known, renaming
+from .shapes import ELSEWHERE, HEADS, KINDS, Slip
 from .texts import joined
 from .wordings import Wordings
 
-# The kinds of values by the names that other languages have for them.
-ELSEWHERE = dict.fromkeys(("integer", "number", "nat", "uint", "uint256", "i32", "i64", "u64", "long"), "int")
-ELSEWHERE.update(dict.fromkeys(("address", "account"), "int"))
-ELSEWHERE.update(dict.fromkeys(("boolean", "Boolean"), "bool"))
 LOOPS = ("while", "for", "loop", "repeat", "foreach")
 # The instructions that are written with a channel behind them.
 WORDS = ("send", "recv", "put", "take", "wait", "pay", "get", "fwd", "acquire", "release")
@@ -118,7 +116,9 @@ class Habits(Wordings):
             yield Slip("Syntax text", "", (mark.at, end if end else mark.end, "0"))
         if before.kind == "number" and before.end == mark.at and (mark.text == "." or mark.kind == "word"):
             end = behind.end if behind.kind == "number" and behind.at == mark.end else mark.end
-            yield Slip("Syntax number", "", (mark.at, end, ""))
+            new = in_digits(before.text + mark.text)
+            mend = f"write `{new}` in place of `{before.text}{mark.text}`" if new else ""
+            yield Slip("Syntax number", mend, (before.at, end, new or "0"), (), (WRITTEN,))
         if self.wants("vtype") and before.text in ("nil", "list"):
             mend = f"write `int`, or another kind of values, behind `{before.text}`"
             yield Slip("Syntax", mend, (before.end, before.end, " int"))
@@ -191,13 +191,22 @@ class Habits(Wordings):
             last = end if mark.text == "(" else mark
             said = self.text.text[mark.at : last.end]
             yield Slip("Syntax", f"take `{said}` out, since `close` stands alone", (mark.at, last.end, ""))
-        if before.text == "." and mark.text == "wait":
-            name = self.token(-2)
-            end = self.token(2).end if (behind.text, self.token(2).text) == ("(", ")") else mark.end
-            mend = f"write `wait {name.text}` in place of `{name.text}.wait`"
-            yield Slip("Syntax word", mend, (name.at, end, f"wait {name.text}"))
+        if before.text == "." and mark.text in WORDS:
+            yield self.of_dotted()
         if mark.kind == "word" and self.wanted == {"("} and self.is_declared(mark.text, "proc"):
             yield Slip("Syntax", f"take `{before.text}` out", (before.at, mark.at, ""))
+
+    def of_dotted(self):
+        """An instruction that is written as a label of its channel."""
+        name, mark, opening = self.token(-2), self.marked, self.token(1)
+        start, end = mark.end, self.tokens[self.apart(self.index, (";", "}", "|")) - 1].end
+        inside = self.text.text[start:end]
+        if opening.text == "(":
+            start, end = opening.end, self.closing(1, "(", ")").end
+            inside = self.text.text[start : end - 1]
+        new = f"{mark.text} {name.text} {inside.strip()}".strip()
+        mend = f"write `{new}` in place of `{self.text.text[name.at : end]}`"
+        return Slip("Syntax word", mend, (name.at, end, new))
 
     def of_braces(self):
         """Slips with braces around the body of a declaration."""
@@ -260,16 +269,12 @@ class Habits(Wordings):
                 old = self.text.text[before.at : talk.end]
                 yield Slip(row, f"write `{new}` in place of `{old}`", (before.at, talk.end, new))
             if mark.text == "=":
-                word = self.binder(1)
-                mend = f"write `{word}` before `{before.text}`, and a new name where `{before.text}` is bound already"
-                yield Slip(row, mend, (before.at, before.at, f"{word} "))
+                yield self.of_written(self.binder(1))
             if mark.kind == "word" and self.is_label(before.text):
                 new = f"{mark.text}.{before.text}"
                 yield Slip(row, f"write `{new}` in place of `{before.text} {mark.text}`", (before.at, mark.end, new))
             if mark.text in ("+", "-", "*", "/") and behind.text == "=":
-                new = f"let .. = {before.text} {mark.text}"
-                mend = f"write `{new}` in place of `{before.text} {mark.text}=`, with a new name for the value"
-                yield Slip(row, mend, (before.at, behind.end, new.replace("..", "x")))
+                yield self.of_written("let", f"{before.text} {mark.text} ")
             if mark.kind == "word" and behind.text == "=":
                 word = self.binder(2)
                 yield Slip(row, f"write `{word}` in place of `{before.text}`", (before.at, before.end, word))
@@ -279,6 +284,23 @@ class Habits(Wordings):
         if mark.text in KINDS and behind.kind == "word" and self.token(2).text == "=":
             word = self.binder(3)
             yield Slip("Syntax instruction", f"write `{word}` in place of `{mark.text}`", (mark.at, mark.end, word))
+
+    def of_written(self, word, part=""):
+        """A name that is written anew, as if it could change its value. What is computed of it stands first."""
+        before = self.token(-1)
+        at = self.text.index_at(before.at)
+        if not part and not is_known(self.text.tokens, at):
+            mend = f"write `{word}` before `{before.text}`"
+            return Slip("Syntax instruction", mend, (before.at, before.at, f"{word} "))
+        start = self.token(2 if part else 1)
+        end = self.tokens[self.apart(self.index, (";", "}", "|")) - 1]
+        new, old = fresh(self.text, before.text), self.text.text[before.at : end.end]
+        said = f"{word} {new} = {part}{self.text.text[start.at : end.end]}"
+        edits, where = renaming(self.text, at, new)
+        words = f", and `{new}` in place of `{before.text}` at {where}" if edits else ""
+        see = f"see: `{before.text}` itself stays what it was, since a name never changes its value"
+        mend = f"write `{said}` in place of `{old}`{words}"
+        return Slip("Syntax instruction", mend, (before.at, start.at, f"{word} {new} = {part}"), edits, (see,))
 
     def is_last(self):
         """Whether what stands in the parentheses at the offence is the end of a code."""

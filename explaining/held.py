@@ -30,10 +30,16 @@ class Type(NamedTuple):
 
 
 class Held(NamedTuple):
-    """A channel: the type that it is at, and the token that bound it."""
+    """A channel: the type that it is at, the token that bound it, and the type that it was bound at."""
 
     type: Type
     bound: int
+    first: Type
+
+
+def bound_at(it, at):
+    """Gives a channel of a type as it is bound by a token."""
+    return Held(it, at, it)
 
 
 class Types(Codes):
@@ -111,9 +117,9 @@ class Types(Codes):
         held = {}
         while self.tokens[at].text != "=":
             if self.key(at) == ("cpar", 0):
-                held[self.tokens[at].text] = Held(self.type(at + 2), at)
+                held[self.tokens[at].text] = bound_at(self.type(at + 2), at)
             if self.tokens[at].text == ":" and self.rule(at) == "decl":
-                held["self"] = Held(self.type(at + 1), at)
+                held["self"] = bound_at(self.type(at + 1), at)
             at += 1
         return held
 
@@ -142,15 +148,15 @@ class Types(Codes):
         parts = self.unfolded(bound.type).parts
         if form == "acquire":
             held[via] = bound
-            held[names[3]] = Held(parts[-1], step.at + 3)
+            held[names[3]] = bound_at(parts[-1], step.at + 3)
         elif form == "release":
-            held[names[3]] = Held(parts[-1], step.at + 3)
+            held[names[3]] = bound_at(parts[-1], step.at + 3)
         elif form != "wait":
             label = names[2] if form == "label" else label
             further = dict(parts)[label] if form in ("label", "case") else parts[-1]
-            held[via] = Held(further, bound.bound)
+            held[via] = Held(further, bound.bound, bound.first)
         if form == "recv":
-            held[names[2]] = Held(parts[0], step.at + 2)
+            held[names[2]] = bound_at(parts[0], step.at + 2)
         if form == "send":
             self.passed(held, names[2:])
         return None
@@ -158,7 +164,7 @@ class Types(Codes):
     def spawned(self, held, step, names):
         self.passed(held, names[len(names) - names[::-1].index(";") : -1])
         offered = self.start(self.processes[names[3]])
-        held[names[1]] = Held(offered["self"].type, step.at + 1)
+        held[names[1]] = bound_at(offered["self"].type, step.at + 1)
 
     def passed(self, held, names):
         """Takes the channels that are passed on, but for shared ones."""

@@ -2,6 +2,7 @@
 
 from .arguments import taken
 from .codes import Parameter
+from .mends import mend
 from .texts import LONGEST, joined
 
 # What is put in the place of a part, with how that is said, and for how many parts.
@@ -19,12 +20,14 @@ def parts(names, start, end):
 
 
 def other_parts(names, start, end, goes_on):
-    """Gives in words for which parts of the terms between two tokens a term of another kind lets the check go on."""
+    """Gives lines on the parts of the terms between two tokens of which a term of another kind lets the check go on."""
     found = []
     for it in list(parts(names, start, end))[:MOST_PARTS]:
-        does = [said for new, said in OTHERS if goes_on((it.at, it.end, new))]
+        tried = [((it.at, it.end, new), said) for new, said in OTHERS]
+        does = [(edit, said) for edit, said in tried if goes_on(edit)]
         if does and len(found) < 3:
-            found.append(f"write {' or '.join(does)} in place of `{it.text}` at {names.text.place(it.at)}")
+            what = " or ".join(said for _, said in does)
+            found.append(mend(f"write {what} in place of `{it.text}` at {names.text.place(it.at)}", does[0][0]))
     return found
 
 
@@ -79,8 +82,8 @@ def explained(text, answer, program, names):
     first, last = declared_kind(names, index)
     declared = " ".join(text.text[first.at : last.end].split())
     tried = [it for it in KINDS if it != declared and goes_on((first.at, last.end, it))]
-    mends = [f"write `{it}` in place of `{declared}` at {text.place(first.at)}" for it in tried]
+    where = f"in place of `{declared}` at {text.place(first.at)}"
+    mends = [mend(f"write `{it}` {where}", (first.at, last.end, it)) for it in tried]
     body = text.index_at(last.end) + 1
     end = next(at for at in range(body, len(names.tokens)) if names.tokens[at].text == ";")
-    found = [f"mend: {it}" for it in [*mends, *other_parts(names, body, end, goes_on)][:3]]
-    return found or miscounted(names, body, end)
+    return [*mends, *other_parts(names, body, end, goes_on)][:3] or miscounted(names, body, end)

@@ -1,4 +1,5 @@
 """What to do with a type that may not stand at its place: a word before it, or another mode of its declaration."""
+from .mends import mend
 from .shapes import HEADS
 from .texts import joined
 
@@ -13,8 +14,8 @@ def turned(text, at):
     first, sign, sent = joined(text.tokens[start:at]), text.tokens[at].text, text.tokens[at + 1]
     if sign in ("*", "-o") and sent.kind == "word":
         new = f"{sent.text} {sign} {first}"
-        mend = f"write `{new}` in place of `{first} {sign} {sent.text}`, since what is sent stands first"
-        yield (text.tokens[start].at, sent.end, new), mend
+        said = f"write `{new}` in place of `{first} {sign} {sent.text}`, since what is sent stands first"
+        yield (text.tokens[start].at, sent.end, new), said
 
 
 def tries(text, at):
@@ -44,8 +45,8 @@ def tries(text, at):
 def explained(text, answer, program):
     """Gives lines on what to do: what makes the program accept the contract, or else nothing."""
     found = []
-    for edit, mend in tries(text, text.index_at(answer.offset)):
+    for edit, words in tries(text, text.index_at(answer.offset)):
         after = program.check(text.edited(edit))
         if after.is_accepted or after.is_cause("NoPotential"):
-            found.append(f"mend: {mend}")
+            found.append(mend(words, edit))
     return found[:3]

@@ -1,5 +1,7 @@
 """What is wrong with a name that breaks a rule of "Names" in docs/LANGUAGE.md."""
 from .amounts import closing
+from .mends import mend
+from .renamed import fresh, renaming
 from .syntax import nearest
 from .texts import joined
 
@@ -94,15 +96,6 @@ class Names:
                 return before
         return None
 
-    def still_known(self, at):
-        """Gives a line on a use of the name that a token binds anew, which is of the one that is known already."""
-        end = next((it for it in range(at, len(self.tokens)) if self.tokens[it].text == ";"), len(self.tokens))
-        for it in range(end, len(self.tokens)):
-            if self.tokens[it].text == self.tokens[at].text and self.used(it) and self.leads(at, it):
-                place = self.text.place(self.tokens[it].at)
-                return [f"see: `{self.tokens[it].text}` at {place} stays the old one, where it is not renamed too"]
-        return []
-
     def known_otherwise(self, at):
         """Gives the token that declares or binds the name of this one, and does not count here, with as what."""
         found = [it for it in self.places(self.tokens[at].text) if it[1] != "label"]
@@ -146,8 +139,8 @@ def others(names, at, other):
             yield (token.at, token.end, name), f"write `{name}`, which offers it, in place of `{token.text}`"
     if words[2:3] and words[2] in ("take", "recv", "send") and names.used(at) == "channel":
         pair = f"{words[4]} {token.text}"
-        mend = f"write `{words[2]} {pair}` in place of `{words[2]} {token.text} {words[4]}`"
-        yield (token.at, tokens[at + 1].end, pair), mend
+        said = f"write `{words[2]} {pair}` in place of `{words[2]} {token.text} {words[4]}`"
+        yield (token.at, tokens[at + 1].end, pair), said
     if other == "channel" and (words[0:1], words[2:3], words[4:5]) == (["let"], ["="], [";"]):
         new = f"take {token.text} {words[1]}"
         yield (tokens[at - 3].at, token.end, new), f"write `{new}` in place of `let {words[1]} = {token.text}`"
@@ -158,13 +151,13 @@ def others(names, at, other):
     if other == "list" and words[2:3] == ["::"] and words[4:5] == [";"]:
         start = next(before for before in range(at, 0, -1) if tokens[before].text == "=") + 1
         term = joined(tokens[start : at - 1])
-        mend = f"write `list {term}, {token.text}` in place of `{term} :: {token.text}`"
-        yield (tokens[start].at, token.end, f"list {term}, {token.text}"), mend
+        said = f"write `list {term}, {token.text}` in place of `{term} :: {token.text}`"
+        yield (tokens[start].at, token.end, f"list {term}, {token.text}"), said
     if other == "process" and names.used(at) == "function" and (words[0:1], words[2:3]) == (["let"], ["="]):
         end = closing(tokens, at + 1)
         call = f"{token.text}({joined(tokens[at + 2 : end])};)"
-        mend = f"write `spawn {words[1]} = {call}` in place of `let {words[1]} = {joined(tokens[at : end + 1])}`"
-        yield (tokens[at - 3].at, tokens[end].end, f"spawn {words[1]} = {call}"), mend
+        said = f"write `spawn {words[1]} = {call}` in place of `let {words[1]} = {joined(tokens[at : end + 1])}`"
+        yield (tokens[at - 3].at, tokens[end].end, f"spawn {words[1]} = {call}"), said
     if other == "function" and names.used(at) == "value":
         yield (token.at, token.end, f"{token.text}()"), f"write `{token.text}()` in place of `{token.text}`"
     yield from sent(names, at, other)
@@ -177,8 +170,8 @@ def sent(names, at, other):
     pair = words.get((names.used(at), other))
     if pair and tokens[at - 2].text == pair[0] and tokens[at + 1].text == ";":
         it, via = tokens[at - 2], tokens[at - 1].text
-        mend = f"write `{pair[1]} {via} {token.text}` in place of `{pair[0]} {via} {token.text}`"
-        yield (it.at, it.end, pair[1]), mend
+        said = f"write `{pair[1]} {via} {token.text}` in place of `{pair[0]} {via} {token.text}`"
+        yield (it.at, it.end, pair[1]), said
     found = names.known_otherwise(at)
     words = {("value", "channel"): ("recv", "take"), ("channel", "value"): ("take", "recv")}
     pair = words.get((names.used(at), other))
@@ -196,13 +189,24 @@ def is_past(after, edit, token):
 def mended(names, at, other, program):
     """Gives lines for such edits, three at most, of which the check goes on past each."""
     found = []
-    for edit, mend in others(names, at, other):
+    for edit, words in others(names, at, other):
         after = program.check(names.text.edited(edit))
         is_stuck = after.is_cause("Name") or after.is_cause("ProcType")
         is_behind = is_stuck and is_past(after, edit, names.tokens[at])
         if after.is_accepted or after.is_cause("NoPotential") or is_behind:
-            found.append(f"mend: {mend}")
+            found.append(mend(words, edit))
     return found[:3]
+
+
+def another(names, at):
+    """Gives a line with another name for what is known already: of what an instruction binds, also where it is used."""
+    text, token = names.text, names.tokens[at]
+    if names.leaves[at].rule not in ("step", "last"):
+        return mend(f"take another name than `{token.text}`", (token.at, token.end, fresh(text, token.text)))
+    new = fresh(text, token.text)
+    edits, where = renaming(text, at, new)
+    words = f"write `{new}` in place of `{token.text}`{f', here and at {where}' if edits else ''}"
+    return mend(words, (token.at, token.end, new), *edits)
 
 
 def explained(text, answer, program, grammar):
@@ -223,7 +227,7 @@ def explained(text, answer, program, grammar):
     if is_new:
         before = names.known_before(at)
         see = [] if before is None else [f"see: `{token.text}` is known since {text.place(text.tokens[before].at)}"]
-        return "Name twice", [f"mend: take another name than `{token.text}`", *see, *names.still_known(at)]
+        return "Name twice", [another(names, at), *see]
     wanted, other = names.used(at), names.known_otherwise(at)
     if wanted is None:
         return "Name", []
@@ -237,5 +241,5 @@ def explained(text, answer, program, grammar):
         return "Name other", [f"see: `{token.text}` is {said(kind)}, by {place}, and {said(wanted)} is wanted here"]
     for name in names.near(at):
         if moves_on(name):
-            return "Name near", [f"mend: did you mean `{name}`?"]
+            return "Name near", [mend(f"did you mean `{name}`?", (token.at, token.end, name))]
     return "Name unknown", [f"see: {said(wanted)} is wanted here, and none has the name `{token.text}`"]

@@ -3,6 +3,17 @@ from .arguments import taken
 from .names import unused
 
 
+def separated(tokens, start, end):
+    """Gives from which token to which the arguments stand that have a comma between them."""
+    depth, begin = 0, start
+    for at in range(start, end + 1):
+        text = tokens[at].text
+        depth += (text in "({") - (text in ")}")
+        if begin < at and (at == end or text == "," and depth == 0):
+            yield begin, at
+            begin = at + 1
+
+
 class Passed:
     """The arguments of an instruction, and the parameters of its process: values and lists, and channels."""
 
@@ -12,23 +23,13 @@ class Passed:
         at = next(at for at in range(step.at, step.end) if types.used(at) == "process")
         self.name, self.process = tokens[at], types.processes[tokens[at].text]
         opening, semicolon = at + 1, self.semicolon(at + 1)
-        self.values = list(self.separated(opening + 1, semicolon))
+        self.values = list(separated(tokens, opening + 1, semicolon))
         self.names = [tokens[it] for it in range(semicolon + 1, step.end - 1) if tokens[it].text != ","]
         self.wanted_values = [it for it in self.process.parameters if it.kind != "channel"]
         self.wanted_names = self.process.of_kind("channel")
 
     def semicolon(self, opening):
         return next(at for at in range(opening, self.step.end) if self.types.tokens[at].text == ";")
-
-    def separated(self, start, end):
-        """Gives from which token to which the arguments stand that have a comma between them."""
-        depth, begin = 0, start
-        for at in range(start, end + 1):
-            text = self.types.tokens[at].text
-            depth += (text in "({") - (text in ")}")
-            if begin < at and (at == end or text == "," and depth == 0):
-                yield begin, at
-                begin = at + 1
 
     def of_count(self):
         sides = ((self.values, self.wanted_values, "value"), (self.names, self.wanted_names, "channel"))

@@ -2,8 +2,12 @@
 import re
 
 from .forms import Forms, Slip
+from .found import Found
+from .marks import MARK, TAKE_OUT
+from .mends import mend
+from .numbers import PARTED, WRITTEN, in_digits
 from .syntax import nearest
-from .texts import Token
+from .texts import Token, joined
 
 INSIDE, OUTSIDE = ("let", "exec", "end"), ("deposit", "let", "exec", "show", "begin")
 MOST_UNITS, MOST_NUMBER, MOST_BYTES, MOST_DEEP = 10**18, 2**63, 64, 64
@@ -59,6 +63,8 @@ class Line(Forms):
     def slips(self):
         """Gives edits of which one may be what is meant, the likeliest first."""
         mark, before = self.marked, self.at(-1)
+        if self.script.text.startswith(MARK) and self.row.number == 1:
+            yield Slip((0, len(MARK), ""), TAKE_OUT)
         if mark.text in ("\"", "'"):
             new = self.row_text().replace(mark.text, "")
             yield Slip((self.row.at, self.row.end, new), "take the quotes out")
@@ -72,7 +78,7 @@ class Line(Forms):
         if self.count and not self.is_part():
             yield from self.of_sides()
             yield from self.of_signs()
-        if self.count and mark.kind and mark.text != ".":
+        if self.count and mark.kind not in ("", "number") and mark.text not in (".", "-"):
             yield Slip((mark.at, mark.end, ""), f"take `{mark.text}` out")
             yield Slip((mark.at, mark.end, "\n"), f"write what stands behind `{mark.text}` on another line")
             yield Slip((mark.at, self.row.end, ""), f"take what stands behind `{before.text}` out")
@@ -80,13 +86,14 @@ class Line(Forms):
     def of_starts(self):
         """Slips at the start of a line: what is left out there, or stands in another order."""
         mark, before, behind = self.marked, self.at(-1), self.at(1)
-        if before.text == "deposit" and mark.kind == "number" and behind.kind == "word":
+        is_whole = not (behind.at == mark.end and in_digits(mark.text + behind.text))
+        if before.text == "deposit" and mark.kind == "number" and behind.kind == "word" and is_whole:
             edit = (mark.at, behind.end, f"{behind.text} {mark.text}")
             yield Slip(edit, f"write `{behind.text} {mark.text}` in place of `{mark.text} {behind.text}`")
         if self.wanted == {"NAME"} and mark.text == ".":
             yield Slip((mark.at, mark.end, " "), "write a blank in place of `.`")
         if before.text == "deposit" and mark.kind == "number" and self.tokens[-1].kind == "word":
-            new = f"{self.tokens[-1].text} {mark.text}"
+            new = f"{self.tokens[-1].text} {mark.text if is_whole else in_digits(mark.text + behind.text)}"
             yield Slip((mark.at, self.row.end, new), f"write `deposit {new}`")
         if self.wanted == {"new"} and mark.text == "exec":
             said = self.script.text[self.row.at : mark.at].strip()
@@ -110,7 +117,30 @@ class Line(Forms):
 
     def is_part(self):
         """Whether a number that is not whole stands here."""
-        return self.marked.text == "." and self.at(-1).kind == self.at(1).kind == "number"
+        mark, before, behind = self.marked, self.at(-1), self.at(1)
+        is_inside = before.kind == behind.kind == "number" and before.end == mark.at and mark.end == behind.at
+        said = joined([it for it in self.tokens if before.at <= it.at and it.end <= self.number_end()])
+        return is_inside and (mark.text == "." or mark.text == "," and not PARTED.fullmatch(said))
+
+    def number_end(self):
+        """Gives where the tokens end that stand behind the marked one without a blank."""
+        end = self.marked.end
+        for it in (other for other in self.tokens if other.at >= self.marked.at):
+            end = it.end if it.at in (end, self.marked.at) else end
+        return end
+
+    def is_number(self):
+        """Whether a number stands here as other languages write it."""
+        mark, before = self.marked, self.at(-1)
+        return mark.kind == "word" and before.kind == "number" and before.end == mark.at and mark.text[0] != "_"
+
+    def of_digits(self):
+        """Gives lines on such a number: the same in digits, where it is one and may stand here."""
+        mark, before = self.marked, self.at(-1)
+        new = in_digits(before.text + mark.text)
+        edit = (before.at, mark.end, new)
+        does = new and self.has_form(edit)
+        return [*([mend(f"write `{new}` in place of `{before.text}{mark.text}`", edit)] if does else []), WRITTEN]
 
     def of_sides(self):
         """Slips in which values and names have changed their sides, and one in which the account is missing."""
@@ -155,8 +185,10 @@ class Line(Forms):
     def mends(self):
         if self.is_part():
             return ["see: numbers are whole"]
+        if self.is_number():
+            return self.of_digits()
         found = next((it for it in self.slips() if self.has_form(it.edit)), None)
-        return [f"mend: {found.mend}"] if found else []
+        return [mend(found.mend, found.edit)] if found else []
 
     def said(self):
         """Gives a line on the tokens that may stand at the marked one."""
@@ -200,12 +232,10 @@ class Line(Forms):
 
 
 def explained(program, script, answer, grammar, codes=None):
-    """Gives the row of docs/CAUSES.md and the lines above it. The processes of the contract are there where they are
-    known."""
+    """Gives what was found. The processes of the contract are there where they are known."""
     cause = " ".join(answer.words[:1] + answer.words[2:3])
     if cause != "script Syntax":
         at = script.row(int(answer.words[3])).at if answer.words[3:] else 1_048_576
-        return cause, [f"{script.place(at)}: {cause}", *script.shown(at)]
-    line = Line(program, script, int(answer.words[3]), grammar, codes)
-    at, row, lines = line.explained()
-    return row, [f"{script.place(at)}: {cause}", *script.shown(at), *lines]
+        return Found(script, at, cause, cause, [], answer.words)
+    at, row, lines = Line(program, script, int(answer.words[3]), grammar, codes).explained()
+    return Found(script, at, cause, row, lines, answer.words)

@@ -1,4 +1,6 @@
 """What to write in a type where the instructions agree with one another and not with it."""
+from .mends import mend
+
 # What goes the other way at each sign.
 OTHER = {"/\\": "->", "->": "/\\", "*": "-o", "-o": "*", "+": "&", "&": "+"}
 FORMS = ("label", "case", "send", "recv", "put", "take")
@@ -30,8 +32,8 @@ def ended(types, it, form, is_self):
     sign, last = SENDING.get((form, is_self)), types.tokens[it.end - 1]
     if sign:
         place = types.text.place(last.at)
-        mend = f"write `{sign} 1` behind `{last.text}` at {place}, in the type, where the talk goes on as that so far"
-        yield (last.end, last.end, f" {sign} 1"), mend
+        said = f"write `{sign} 1` behind `{last.text}` at {place}, in the type, where the talk goes on as that so far"
+        yield (last.end, last.end, f" {sign} 1"), said
 
 
 def retyped(types, stuck, held, reach):
@@ -42,11 +44,11 @@ def retyped(types, stuck, held, reach):
     if stuck.form not in FORMS or name not in held:
         return []
     it, found = held[name].type, []
-    for edit, mend in turned(types, it):
+    for edit, words in turned(types, it):
         if reach(edit) == types.text.size + 1:
-            found.append(f"mend: {mend}")
+            found.append(mend(words, edit))
     is_behind = types.tokens[it.at - 1].text in ("*", "-o")
-    for edit, mend in ended(types, it, stuck.form, name == "self") if is_behind and not found else ():
+    for edit, words in ended(types, it, stuck.form, name == "self") if is_behind and not found else ():
         if reach(edit) > types.tokens[stuck.at].at:
-            found.append(f"mend: {mend}")
+            found.append(mend(words, edit))
     return found

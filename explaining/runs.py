@@ -3,6 +3,7 @@ import time
 
 from . import ends, starts
 from .codes import Codes
+from .found import Found
 from .names import MOST_TOKENS
 
 # How many lines are explained, and for how many seconds in all the program is asked about other scripts: where the run
@@ -73,7 +74,7 @@ class Run:
 
 
 def explained(run):
-    """Gives for each line that was not carried out the row that fits, and the lines above it."""
+    """Gives what was found of each line that was not carried out, and of how many nothing is said."""
     found, left = [], 0
     for entry in run.answer.entries:
         words = entry[0]
@@ -83,6 +84,5 @@ def explained(run):
             left += 1
             continue
         at, cause, row, lines = (starts if words[2] == "refused" else ends).explained(run, entry)
-        above = [f"{run.script.place(at)}: {cause}", *run.script.shown(at)]
-        found.append((row, [*above, *lines], words))
+        found.append(Found(run.script, at, cause, row, lines, words))
     return found, left

@@ -2,7 +2,7 @@
 import re
 from typing import NamedTuple
 
-from .texts import Text, Token, joined
+from .texts import Edited, Text, Token, joined
 
 TOKEN = re.compile(
     r"(?P<word>[A-Za-z_][A-Za-z_0-9]*)|(?P<number>[0-9]+)|(?P<blank>[ \t]+|//.*)|(?P<symbol>.)", re.DOTALL
@@ -106,6 +106,12 @@ class Script(Text):
     def row(self, number):
         return self.rows[number - 1]
 
+    def accounts(self, number):
+        """Gives the names that lines before a line deposit to, in the order of the first deposit to each: that of their
+        numbers."""
+        rows = self.rows[: number - 1]
+        return list(dict.fromkeys(it.tokens[1].text for it in rows if it.word == "deposit" and len(it.tokens) > 1))
+
     def batch(self, number):
         """Gives the lines that start a process of the batch that begins at a line, and the line that it ends at."""
         if self.row(number).word != "begin":
@@ -118,3 +124,7 @@ class Script(Text):
         end = self.row(last).end
         kept = [it for it in edits if it[1] <= end]
         return Text(self.name, self.data[:end]).edited(*kept)
+
+
+class EditedScript(Edited, Script):
+    """A script with edits."""

@@ -4,6 +4,11 @@ from typing import NamedTuple
 from .texts import joined
 
 KINDS = ("int", "bool", "list")
+# The kinds of values by the names that other languages have for them.
+WHOLE = "integer Integer Int number nat uint usize long short byte address account Address"
+SIZED = "u8 u16 u32 u64 u128 i8 i16 i32 i64 i128 uint8 uint32 uint64 uint128 uint256 int8 int32 int64 int256"
+ELSEWHERE = dict.fromkeys(f"{WHOLE} {SIZED}".split(), "int")
+ELSEWHERE.update(dict.fromkeys(("boolean", "Boolean", "Bool"), "bool"))
 HEADS = ("type", "fn", "proc")
 LASTS = ("close", "fwd", "call", "if", "case", "match")
 # What stands for a channel where a sign for values is written, and the signs for values by what holds the label.
@@ -12,11 +17,14 @@ SENT = {"+": ("/\\", "*"), "&": ("->", "-o")}
 
 
 class Slip(NamedTuple):
-    """A row of docs/CAUSES.md, what to do, or nothing, and an edit that the text is read further with."""
+    """A row of docs/CAUSES.md, what to do, or nothing, an edit that the text is read further with, those that go along
+    with it, and lines on other places."""
 
     row: str
     mend: str
     edit: tuple
+    more: tuple = ()
+    see: tuple = ()
 
 
 class Shapes:
@@ -33,12 +41,25 @@ class Shapes:
         if mark.text in OF_CHANNELS.values() and set(OF_CHANNELS) <= self.wanted:
             mend = f"write `/\\` in place of `{mark.text}` where the provider sends it, and `->` where it receives it"
             yield Slip("Syntax value", mend, (mark.at, mark.end, "/\\"))
-        if mark.text in OF_CHANNELS and set(OF_CHANNELS.values()) <= self.wanted:
+        if mark.text in OF_CHANNELS and before.kind == "word" and not self.is_declared(before.text, "type"):
+            yield from self.of_unknown_kind()
+        elif mark.text in OF_CHANNELS and set(OF_CHANNELS.values()) <= self.wanted:
             sign = OF_CHANNELS[mark.text]
             mend = f"write `{sign}` in place of `{mark.text}`, since a channel stands before it, and no value"
             yield Slip("Syntax", mend, (mark.at, mark.end, sign))
         if before.text == "list" and self.wants("vtype") and self.is_declared(mark.text, "type"):
             yield Slip("Syntax elements", "", (mark.at, mark.end, "int"))
+
+    def of_unknown_kind(self):
+        """A value of a kind that is none, before what comes behind it in a type."""
+        before = self.token(-1)
+        kind = ELSEWHERE.get(before.text)
+        if set(OF_CHANNELS.values()) <= self.wanted and kind:
+            mend = f"write `{kind}` in place of `{before.text}`"
+            yield Slip("Syntax spelling", mend, (before.at, before.end, kind))
+        elif set(OF_CHANNELS.values()) <= self.wanted:
+            mend = f"write `int`, or another kind of values, in place of `{before.text}`, which is declared nowhere"
+            yield Slip("Syntax spelling", mend, (before.at, before.end, "int"))
 
     def of_payloads(self):
         """A label of a type that is written with what goes with it between parentheses."""

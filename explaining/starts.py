@@ -1,5 +1,6 @@
 """What to write in a line of a script that could not be carried out: a deposit, or the start of a process."""
 from .arguments import Arguments
+from .mends import mend
 from .names import unused
 from .syntax import nearest
 from .texts import listed
@@ -29,7 +30,7 @@ class Refused:
         """Gives lines for the nearest of the names that may stand at a token, if the batch goes on with it."""
         for name in nearest(token.text, known):
             if self.goes_on((token.at, token.end, name)):
-                return [f"mend: did you mean `{name}`?"]
+                return [mend(f"did you mean `{name}`?", (token.at, token.end, name))]
         return []
 
     def deposit(self, account, amount):
@@ -37,7 +38,8 @@ class Refused:
         new = f"deposit {account} {amount}"
         if not self.run.goes_on_behind(self.number, self.cause, self.line.number, new):
             return []
-        return [f"mend: write `{new}` on a line before {'it' if self.number == self.line.number else 'the `begin`'}"]
+        at, what = self.run.script.row(self.number).at, "it" if self.number == self.line.number else "the `begin`"
+        return [mend(f"write `{new}` on a line before {what}", (at, at, f"{new}\n"))]
 
     def no_account(self):
         token = self.line.sender
@@ -53,7 +55,7 @@ class Refused:
     def paying(self, token, known):
         """Gives lines for accounts that may pay, in place of a contract that stands there."""
         does = [it for it in dict.fromkeys(known[-3:]) if self.goes_on((token.at, token.end, it))]
-        mends = [f"mend: write `{it}` in place of `{token.text}`" for it in does]
+        mends = [mend(f"write `{it}` in place of `{token.text}`", (token.at, token.end, it)) for it in does]
         return [*mends, f"see: `{token.text}` is a contract, and the account that pays is wanted here"]
 
     def changed(self, known):
@@ -62,7 +64,7 @@ class Refused:
         new = f"{second.text} {first.text}"
         if second.text not in known or not self.goes_on((first.at, second.end, new)):
             return []
-        return [f"mend: write `{new}` in place of `{first.text} {second.text}`"]
+        return [mend(f"write `{new}` in place of `{first.text} {second.text}`", (first.at, second.end, new))]
 
     def no_process(self):
         token, codes = self.line.process, self.run.codes
@@ -95,17 +97,16 @@ class Refused:
             new, said = f"let {unused(self.run.script)} = new ", "`let .. = new` in place of `exec`"
         else:
             return []
-        does = self.goes_on((first.at, sender.at, new))
-        return [f"mend: write {said}"] if does else []
+        edit = (first.at, sender.at, new)
+        return [mend(f"write {said}", edit)] if self.goes_on(edit) else []
 
     def name_taken(self):
         token = self.line.contract
         other = self.run.contracts(self.number, self.line.number).get(token.text)
         edit = (token.at, token.end, unused(self.run.script))
-        does = self.goes_on(edit)
-        mend = [f"mend: take another name than `{token.text}`"] if does else []
+        lines = [mend(f"take another name than `{token.text}`", edit)] if self.goes_on(edit) else []
         see = [f"see: `{token.text}` is made at {self.run.script.place(other.contract.at)}"] if other else []
-        return token.at, "NameTaken", [*mend, *see]
+        return token.at, "NameTaken", [*lines, *see]
 
     def no_gas(self):
         has, needs = self.words[8], self.words[10]
@@ -117,8 +118,9 @@ class Refused:
     def too_much(self):
         token = self.line.tokens[2]
         left = MOST_UNITS - sum(int(it.tokens[2].text) for it in self.run.before(self.number, "deposit"))
-        does = self.goes_on((token.at, token.end, str(left)))
-        return token.at, "TooMuchGas", [f"mend: write `{left}` at most, in place of `{token.text}`"] if does else []
+        edit = (token.at, token.end, str(left))
+        lines = [mend(f"write `{left}` at most, in place of `{token.text}`", edit)] if self.goes_on(edit) else []
+        return token.at, "TooMuchGas", lines
 
     def bad_arguments(self):
         if self.run.codes is None:

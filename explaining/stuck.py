@@ -3,8 +3,10 @@ import itertools
 from typing import NamedTuple
 
 from .amounts import closing
-from .held import now, reached
+from .held import PROVIDED, TALK, now, reached
 from .kinds import miscounted, other_parts
+from .losing import Keeping, values_of, warned
+from .mends import mend
 from .names import Names, unused
 from .passing import passed
 from .retyped import retyped
@@ -26,6 +28,8 @@ ORDERED = ("label", "send", "recv", "put", "take", "pay", "get", "wait", "acquir
 TALKING = ("label", "case", "send", "recv", "put", "take", "pay", "get", "wait", "release")
 TERMS = ("put", "spawn", "let", "add", "emit", "if", "call")
 TAKEN_OUT = ("label", "put", "take", "recv", "pay", "get", "wait", "accept", "detach", "work")
+HERE = "see: a shared process acquires behind its `accept` alone"
+BEFORE_ACCEPT = f"{HERE}; acquire there, or take the value as a parameter"
 
 
 class Try(NamedTuple):
@@ -36,11 +40,11 @@ class Try(NamedTuple):
 
 
 class Stuck:
-    def __init__(self, text, answer, program, names):
+    def __init__(self, text, answer, program, names, reached):
         self.text, self.program, self.names, self.form = text, program, names, answer.words[3]
         self.tokens, self.at = text.tokens, answer.offset
         self.index = text.index_at(self.at)
-        self.asked, self.is_whole = 0, False
+        self.reached, self.asked, self.is_whole = reached, 0, False
         self.new = unused(text)
         heads = [at for at in range(self.index) if self.tokens[at].text in ("proc", "fn", "type")]
         self.head = heads[-1]
@@ -76,49 +80,63 @@ class Stuck:
         written = self.tokens[self.index + 2].text if self.form == "label" else ""
         return sorted(dict.fromkeys(found), key=lambda it: distance(it, written) if written else 0)[:12]
 
-    def put_before(self, new, only):
-        """Gives the instructions on a channel, or on each where none is named, that may be put before the stuck one:
-        the channel, the code, in which a name that is bound is new, and how that is said."""
-        channels = [only] if only else self.channels()
-        for it in channels:
-            if it != "self":
-                yield it, f"wait {it};", f"wait {it};"
-            for label in self.labels():
-                yield it, f"{it}.{label};", f"{it}.{label};"
-        for it in channels:
-            for word in ("pay", "get"):
-                yield it, f"{word} {it} {{*}};", f"{word} {it} {{..}};"
-            for word in ("take", "recv"):
-                yield it, f"{word} {it} {new};", f"{word} {it} ..;"
-            for term in ("0", "true"):
-                yield it, f"put {it} {term};", f"put {it} ..;"
-            for word in ("release", "acquire") if it != "self" else ():
-                yield it, f"{word} {it} as {new};", f"{word} {it} as ..;"
+    def put_before(self, name, it, new):
+        """Gives the instructions on a channel at a type that may be put before the stuck one: the code, in which a name
+        that is bound is new, how that is said, and the type behind it, or none where nothing more is put there."""
+        types = self.reached[0]
+        whole = types.unfolded(it)
+        is_sent = (whole.sign in PROVIDED) == (name == "self")
+        behind = whole.parts[-1] if whole.parts else None
+        if whole.sign in ("+", "&"):
+            for label, further in whole.parts if is_sent else ():
+                yield f"{name}.{label};", f"{name}.{label};", further
+        elif whole.sign == "1":
+            if name != "self":
+                yield f"wait {name};", f"wait {name};", None
+        elif whole.sign in ("up", "down"):
+            word = {"up": ("accept", "acquire"), "down": ("detach", "release")}[whole.sign][name != "self"]
+            code = f"{word};" if name == "self" else f"{word} {name} as {new};"
+            yield code, code.replace(f" as {new}", " as .."), behind if word == "accept" else None
+        else:
+            yield from self.sent_before(name, whole, is_sent, new)
+
+    def sent_before(self, name, whole, is_sent, new):
+        """Gives the instructions with which something is sent or received on a channel."""
+        word = TALK[whole.sign][0 if is_sent else 1].split()[0]
+        behind = whole.parts[-1]
+        if word in ("pay", "get"):
+            yield f"{word} {name} {{*}};", f"{word} {name} {{..}};", behind
+        elif word in ("take", "recv"):
+            yield f"{word} {name} {new};", f"{word} {name} ..;", behind
+        elif word == "put":
+            kind = self.tokens[whole.at].text
+            for term in {"int": ("0",), "bool": ("true",)}.get(kind, ()):
+                yield f"put {name} {term};", f"put {name} ..;", behind
+        else:
             for other in self.channels()[1:]:
-                if it != other:
-                    yield it, f"send {it} {other};", f"send {it} {other};"
-        for word in ("accept", "detach") if "self" in channels else ():
-            yield "self", f"{word};", f"{word};"
+                if other != name:
+                    yield f"send {name} {other};", f"send {name} {other};", behind
 
     def instructions(self):
         """Goes through rows of instructions on one channel put before the stuck one, short ones first, and gives those
         with which the check goes on past it."""
-        waiting = [(None, "", "")]
+        held = self.reached[2]
+        waiting = [(name, held[name].type, "", "") for name in self.channels() if name in held]
         for depth in range(DEEP):
             further = []
-            for only, code, said in waiting:
-                for channel, more, words in self.put_before(self.new + "x" * depth, only):
-                    if words == "accept;" and said.endswith("detach; "):
+            for name, it, code, said in waiting:
+                for more, words, behind in self.put_before(name, it, self.new + "x" * depth):
+                    if words == "accept;" and (said.endswith("detach; ") or self.is_dead_end()):
                         continue
                     edit = f"{code}{more} "
-                    it = Try((self.at, self.at, edit), f"write `{said}{words}` before it")
-                    reached = self.reach(it)
+                    tried = Try((self.at, self.at, edit), f"write `{said}{words}` before it")
+                    reached = self.reach(tried)
                     if reached is None:
                         return
                     if reached > self.at:
-                        yield reached, it
-                    elif reached == self.at:
-                        further.append((channel, edit, f"{said}{words} "))
+                        yield reached, tried
+                    elif reached == self.at and behind is not None:
+                        further.append((name, behind, edit, f"{said}{words} "))
             waiting = further
 
     def end(self, index=None):
@@ -241,8 +259,70 @@ class Stuck:
             if reached is not None and reached > self.tokens[self.text.index_at(end) + 1].at:
                 yield reached, it
 
+    def is_dead_end(self):
+        """Whether another `accept`, or the call of a process that begins with one, follows before any `detach`."""
+        for at in range(self.index, len(self.tokens)):
+            words = [it.text for it in self.tokens[at : at + 2]]
+            if words[:1] == ["detach"] or words[0] in ("type", "fn", "proc"):
+                return False
+            if words[0] == "accept":
+                return True
+            if words[0] == "call":
+                return words[1] == self.tokens[self.head + 2].text or self.accepts_first(words[1])
+        return False
+
+    def is_before_accept(self):
+        """Whether the stuck instruction stands in a shared process before its first `accept`."""
+        words = [it.text for it in self.tokens[self.head : self.index]]
+        return words[1] == "S" and "accept" not in words
+
+    def accepts_first(self, name):
+        """Whether the process of a name begins with an `accept`."""
+        found = [at for at, kind in self.names.places(name) if kind == "process"]
+        equal = next(at for at in range(found[0], len(self.tokens)) if self.tokens[at].text == "=") if found else 0
+        return bool(found) and self.tokens[equal + 1].text == "accept"
+
+    def keeping(self, types, step, held):
+        """Gives what lets the check go on, where the stuck instruction leaves something behind, and gives all that to
+        somebody: a call that takes it, or instructions that send it."""
+        if self.form not in ("close", "call", "fwd"):
+            return
+        it = Keeping(types, step, held, values_of(self.names, self.head, self.index))
+        if not it.assets:
+            return
+        token, end = self.tokens[self.index], self.tokens[self.behind() - 1].end
+        old = self.text.text[token.at : end]
+        process = next(other for other in types.processes.values() if other.at == self.head + 2)
+        for new in (*it.forwards(process), *it.calls(process)):
+            if new != old:
+                yield Try((token.at, end, new), f"write `{new}` in place of `{old}`")
+        for asset, new in it.sends():
+            said = new.replace("{*}", "{..}")
+            yield Try((token.at, token.at, f"{new} "), f"write `{said}` before it, so that somebody gets `{asset}`")
+
     def find(self):
-        """Gives what lets the check go on past the stuck instruction, the furthest ones, three at most."""
+        """Gives what lets the check go on past the stuck instruction: first what keeps all that is held, then the
+        furthest ones, three at most. Behind each stands what is lost by it."""
+        types, step, held = self.reached
+        kept = [it for it in self.keeping(types, step, held) if (self.reach(it) or 0) > self.at]
+        lines = [mend(it.mend, it.edit) for it in kept]
+        edits = [it.edit for it in kept]
+        for it in (other for other in self.others_found() if other.edit not in edits):
+            end = warned(types, held, self.code_of(it.edit))
+            lines.append(mend(f"{it.mend}{end}", it.edit))
+        lines.sort(key=lambda it: "nobody gets it" in it)
+        return list(dict.fromkeys(lines))[:3] or self.parts()
+
+    def code_of(self, edit):
+        """Gives the instructions that an edit puts before the stuck one, or the label that it has in its place."""
+        start, end, new = edit
+        if start == end == self.at:
+            return new
+        is_label = self.form == "label" and start == self.tokens[self.index + 2].at
+        return f"{self.tokens[self.index].text}.{new};" if is_label else ""
+
+    def others_found(self):
+        """Gives what lets the check go on past the stuck instruction, the furthest ones."""
         asked = ((self.reach(it), it) for it in self.others())
         found = [(reached, it) for reached, it in asked if reached is not None and reached > self.at]
         if not found or self.form == "close" or self.form in DUAL:
@@ -250,7 +330,7 @@ class Stuck:
         found = found or list(self.taken_out())
         furthest = max((reached for reached, _ in found), default=0)
         self.is_whole = furthest > self.text.size
-        return list(dict.fromkeys(it.mend for reached, it in found if reached == furthest))[:3] or self.parts()
+        return [it for reached, it in found if reached == furthest]
 
     def parts(self):
         """Gives the parts of the terms of the stuck instruction of which another kind lets the check go on past it."""
@@ -304,9 +384,9 @@ def explained(text, answer, program, grammar):
     names = Names(text, grammar)
     if names.leaves is None or text.size > LONGEST:
         return []
-    stuck = Stuck(text, answer, program, names)
-    lines = [f"mend: {it}" for it in stuck.find()]
     types, step, held = reached(text, answer, grammar)
+    stuck = Stuck(text, answer, program, names, (types, step, held))
+    lines = stuck.find()
     if not stuck.is_whole:
         lines = [*retyped(types, step, held, lambda edit: stuck.reach(Try(edit, "")) or 0), *lines][:3]
     declared = stuck.declaration() if stuck.form in ("spawn", "call") else []
@@ -314,4 +394,6 @@ def explained(text, answer, program, grammar):
         declared += passed(types, step, held, program)
     if not lines and stuck.form in TERMS:
         declared += miscounted(names, stuck.index, stuck.behind())
+    if stuck.form == "acquire" and stuck.is_before_accept():
+        lines = lines or [BEFORE_ACCEPT]
     return [*(lines or stuck.given_away()), *declared, *now(types, step, held, bool(lines))]

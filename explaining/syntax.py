@@ -1,6 +1,7 @@
 """What is wrong where no contract goes on: the slip that was made, and an edit with which the text is read further."""
 import re
 from .habits import Habits
+from .mends import mend
 from .shapes import HEADS, KINDS, Slip
 from .texts import Token, tokens_of
 
@@ -229,7 +230,8 @@ class Slips(Habits):
         for sign in signs:
             if mark.kind and mark.kind != "word":
                 yield Slip(row, f"write `{sign}` in place of `{mark.text}`", (mark.at, mark.end, sign))
-        if mark.kind and mark.text not in self.grammar.reserved and not self.is_known(mark.text):
+        is_other = mark.text not in self.grammar.reserved and not self.is_known(mark.text)
+        if mark.kind not in ("", "number") and is_other:
             yield Slip(row, f"take `{mark.text}` out", (mark.at, mark.end, ""))
 
 
@@ -242,7 +244,7 @@ def explained(text, answer, program, grammar):
         start, end, new = slip.edit
         edited = text.edited(slip.edit)
         after = program.check(edited)
-        reached = at + len(new) - (end - start if end <= at else 0)
+        reached = at + len(new) - (end - start if end <= at else 0) if slip.mend else start + len(new)
         is_whole = end > at and after.offset == len(edited)
         if after.is_cause("Syntax") and after.offset <= reached and not is_whole:
             slip = None
@@ -250,7 +252,8 @@ def explained(text, answer, program, grammar):
         row = next((name for name, wanted in SURE if slips.wanted and wanted(slips.wanted)), row)
     if slip:
         row = slip.row
-        lines += [f"mend: {' '.join(slip.mend.split())}"] if slip.mend else []
+        lines += [mend(" ".join(slip.mend.split()), slip.edit, *slip.more)] if slip.mend else []
+        lines += slip.see
     words = grammar.said(slips.wanted)
     if words:
         lines.append(f"here may stand: {', '.join(words)}")

@@ -103,6 +103,10 @@ class Text:
         """Gives the number of the token at an offset, or how many there are."""
         return next((at for at, it in enumerate(self.tokens) if it.at >= offset), len(self.tokens))
 
+    def before(self, edit):
+        """Gives an edit as one of the text that was read, which this is."""
+        return edit
+
     def edited(self, *edits):
         """Gives the bytes with other texts in place of some pieces, each given by where it begins and where it ends."""
         pieces, done = [], 0
@@ -110,3 +114,37 @@ class Text:
             pieces += [self.text[done:start], new]
             done = end
         return "".join([*pieces, self.text[done:]]).encode("latin-1")
+
+
+class Edited:
+    """Of a text with edits: its places are those of the text that these were made in."""
+
+    def __init__(self, base, edits):
+        super().__init__(base.name, base.edited(*edits))
+        self.base, self.edits = base, sorted(edits)
+
+    def back(self, offset):
+        """Gives the offset before the edits, and whether it is outside of what they wrote."""
+        moved = 0
+        for start, end, new in self.edits:
+            if offset < start + moved:
+                break
+            if offset < start + moved + len(new):
+                return start, False
+            moved += len(new) - (end - start)
+        return offset - moved, True
+
+    def where(self, offset):
+        return self.base.where(self.back(offset)[0])
+
+    def shown(self, offset):
+        return self.base.shown(self.back(offset)[0])
+
+    def before(self, edit):
+        (start, is_out), (end, is_out_too) = self.back(edit[0]), self.back(max(edit[1] - 1, edit[0]))
+        end = end + (edit[1] > edit[0])
+        return self.base.before((start, end, edit[2])) if is_out and is_out_too else None
+
+
+class EditedText(Edited, Text):
+    """A contract with edits."""

@@ -29,7 +29,7 @@ class Place(NamedTuple):
 
 class Standing:
     """A process: its number, its declaration, the line of the script that started it, if one did, the places at one of
-    which it stands, whether that was always one, and how often it fired at each instruction."""
+    which it stands, whether that was always one, and how often it fired at each instruction in the last entry."""
 
     def __init__(self, pid, process, line, knows):
         self.pid, self.process, self.line = pid, process, line
@@ -48,11 +48,11 @@ class Standing:
 
 
 class Track:
-    """What a journal tells of the entries that are not undone, and of its last one."""
+    """What a journal tells of the entries that are not undone, and of its last one, and what has fired."""
 
     def __init__(self, codes, script, entries):
         self.codes, self.script = codes, script
-        self.next, self.processes, self.contracts = 1, {}, {}
+        self.next, self.processes, self.contracts, self.seen = 1, {}, {}, set()
         self.fired = []
         for number, (line, firings, end) in enumerate(entries, 1):
             if end[0] == "committed" or number == len(entries) and end[0] not in ("deposited", "refused"):
@@ -60,6 +60,8 @@ class Track:
 
     def entry(self, line, firings):
         self.fired = []
+        for it in self.processes.values():
+            it.passed = {}
         for row in self.script.batch(line)[0]:
             self.start(row)
         for firing in firings:
@@ -85,6 +87,7 @@ class Track:
         standing.is_sure = standing.is_sure and len(steps) == 1
         if steps[0].form == form:
             standing.passed[id(steps[0])] = standing.passed.get(id(steps[0]), 0) + 1
+        self.seen |= {id(it) for it in steps}
         standing.places = list(dict.fromkeys(it for _, places in found for it in places))
         if len(standing.places) > MOST_PLACES:
             raise Lost

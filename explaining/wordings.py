@@ -10,6 +10,23 @@ BETWEEN = ("to", "from", "into", "in", "on", "via")
 TEXTS = ("string", "String", "str", "text", "char")
 CHOOSING = ("switch", "select", "when")
 FUNCTIONS = ("func", "function", "fun", "def")
+# What other languages declare, and what stands in for it here.
+DECLARATIONS = {
+    "mapping": "a value for each of many is kept in a pile of processes, one for each key, or in a list",
+    "struct": "what belongs together is handed on as the parameters of a process, or is sent one behind the other",
+    "enum": "one of several is a number, or the labels of a `+` or a `&`",
+    "event": "a transaction writes a result by `emit v;`, and each stands in the report",
+    "import": "a contract is one text; copy what it needs into it",
+    "use": "a contract is one text; copy what it needs into it",
+    "modifier": "what is asked for before stands in an `if`, in each place",
+    "contract": "a contract is a process of mode S, by `proc S`, and its type by `type S`",
+    "interface": "what is asked of a contract is its type, by `type S`",
+    "constructor": "a contract begins as its process of mode S, by `let .. = new` in a script",
+}
+SENDERS = (("msg", "sender"), ("tx", "origin"), ("Tx", "sender"))
+DEMANDS = ("require", "assert", "revert", "throw", "panic", "abort")
+IN_AN_IF = "see: what is to be done only where something holds stands in an `if`"
+DEMANDED = f"{IN_AN_IF}; a fault, as in `1 / 0`, undoes all"
 # The signs that a difference stands behind in parentheses.
 TIGHT = ("-", "*", "/", "%")
 TRUTHS = ("true", "false")
@@ -82,7 +99,9 @@ class Wordings(Shapes):
         """Several things that one instruction sends, receives or names."""
         mark, at = self.marked, self.instruction()
         word = self.tokens[at].text if at < len(self.tokens) else ""
-        if mark.text != "," or ";" not in self.wanted or word not in (*TALKING, "emit", "wait", "let", "spawn"):
+        before, behind = self.token(-1), self.token(1)
+        is_inside = before.kind == behind.kind == "number" and before.end == mark.at and mark.end == behind.at
+        if is_inside or mark.text != "," or ";" not in self.wanted or word not in (*TALKING, "emit", "wait", "let", "spawn"):
             return
         new = f"{word} {self.tokens[at + 1].text}" if word in TALKING else word
         yield Slip("Syntax", f"write `; {new}` in place of this `,`", (mark.at, mark.end, f"; {new} "))
@@ -183,6 +202,15 @@ class Wordings(Shapes):
                 return found, end
             start = end + 1
 
+    def of_declaration(self):
+        """A declaration that other languages have."""
+        mark = self.marked
+        end = self.apart(self.index, (";",))
+        brace = next((it for it in range(self.index, end) if self.tokens[it].text == "{"), None)
+        last = self.closing(brace - self.index, "{", "}") if brace else self.tokens[min(end, len(self.tokens) - 1)]
+        see = f"see: there is no `{mark.text}`: {DECLARATIONS[mark.text]}"
+        return Slip("Syntax declaration", "", (mark.at, last.end, ""), (), (see,))
+
     def of_foreign(self):
         """Words of other languages, and a value that is declared outside of processes."""
         mark, before, behind = self.marked, self.token(-1), self.token(1)
@@ -191,8 +219,16 @@ class Wordings(Shapes):
         if before.text in CHOOSING and self.wanted == {"."}:
             mend = f"write `case` in place of `{before.text}`"
             yield Slip("Syntax instruction", mend, (before.at, before.end, "case"))
+        if mark.text == "." and (before.text, behind.text) in SENDERS:
+            said = f"{before.text}.{behind.text}"
+            yield Slip("Syntax", f"write `me` in place of `{said}`", (before.at, behind.end, "me"))
+        if before.text in DEMANDS and self.wanted == {"."}:
+            end = self.tokens[self.apart(self.index, (";",)) - 1].end
+            yield Slip("Syntax instruction", "", (before.at, end, "work {0}"), (), (DEMANDED,))
         if not set(HEADS) <= self.wanted:
             return
+        if mark.text in DECLARATIONS:
+            yield self.of_declaration()
         if mark.text in FUNCTIONS and behind.kind == "word":
             yield Slip("Syntax declaration", f"write `fn` in place of `{mark.text}`", (mark.at, mark.end, "fn"))
         end = self.apart(self.index, (";",))
