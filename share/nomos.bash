@@ -1,7 +1,35 @@
-# Completion for bash of the words of nomos and nomos-explain.
+# Completion for bash of the words of nomos, nomos-explain and nomos-test.
+
+# _nomos_explain: offers the options of nomos-explain and of a run, and else says which files are wanted
+_nomos_explain() {
+    local at=$COMP_CWORD offered=
+    case ${COMP_WORDS[1]} in
+    --all | --json) at=$((at - 1)) ;;
+    esac
+    case $at:$before in
+    1:nomos-explain | 1:*/nomos-explain | 1:explain | 1:*/explain)
+        [[ $word != -* ]] || offered='--all --json --version'
+        ;;
+    1:*) ;;
+    2:*) wanted='*.script' ;;
+    *:--policy) offered='first round' ;;
+    *:--workers | *:--steps) return 0 ;;
+    *) offered='--workers --policy --steps' ;;
+    esac
+    [ -n "$offered" ] && mapfile -t COMPREPLY < <(compgen -W "$offered" -- "$word")
+}
+
+# _nomos_test: offers the options of nomos-test, and else says which files are wanted
+_nomos_test() {
+    wanted='*.@(nomos|script)'
+    [ "$before" != --orders ] || return 0
+    [[ $word == -* ]] || return 1
+    local offered='--write --orders --json --help --version'
+    mapfile -t COMPREPLY < <(compgen -W "$offered" -- "$word")
+}
 
 _nomos() {
-    local word=${COMP_WORDS[COMP_CWORD]} wanted='*.nomos'
+    local word=${COMP_WORDS[COMP_CWORD]} wanted='*.nomos' before=${COMP_WORDS[COMP_CWORD - 1]}
     COMPREPLY=()
     if [ "${COMP_WORDS[0]##*/}" = nomos ]; then
         if [ "$COMP_CWORD" -eq 1 ]; then
@@ -13,7 +41,7 @@ _nomos() {
         run:3 | replay:3) wanted='*.script' ;;
         replay:4) wanted='*' ;;
         run:*)
-            case ${COMP_WORDS[COMP_CWORD - 1]} in
+            case $before in
             --journal) wanted='*' ;;
             --policy) mapfile -t COMPREPLY < <(compgen -W 'first round' -- "$word") && return ;;
             --workers | --steps) return ;;
@@ -22,16 +50,17 @@ _nomos() {
             ;;
         *) return ;;
         esac
-    elif [ "$COMP_CWORD" -eq 2 ]; then
-        wanted='*.script'
-    elif [ "$COMP_CWORD" -ne 1 ]; then
-        return
+    elif [ "${COMP_WORDS[0]##*/}" = nomos-test ]; then
+        _nomos_test && return
+    else
+        _nomos_explain && return
     fi
     compopt -o filenames 2>/dev/null
     mapfile -t COMPREPLY < <(
+        shopt -s extglob
         compgen -d -- "$word"
         compgen -f -X "!$wanted" -- "$word"
     )
 }
 
-complete -F _nomos nomos nomos-explain
+complete -F _nomos nomos nomos-explain nomos-test
