@@ -1,0 +1,4 @@
+mod Examples
+pub mod LeadLaws
+mod VariableLaws
+mod WordLemmas

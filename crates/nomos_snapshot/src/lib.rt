@@ -1,0 +1,5 @@
+//! Snapshots: a ledger as text, and a text as the ledger that it is the snapshot of.
+#![tactic(auto)]
+
+pub mod line;
+pub mod words;
