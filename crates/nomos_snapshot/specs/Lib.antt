@@ -5,3 +5,4 @@ pub mod Gathering
 pub mod Reading
 pub mod Text
 pub mod Leading
+pub mod mirror

@@ -3,6 +3,7 @@ use Rattle.std.specs.Prelude.{ℕ, ◌≤◌, ◌<◌, ◌^◌, Bool, true, fals
 use Rattle.std.specs.List.{flat_map}
 use Rattle.nomos_ir.specs.Value.{list, value_list}
 use Rattle.nomos_ir.specs.declared.ids.CodeId.{CodeId}
+use Rattle.nomos_ir.specs.declared.ids.Label.{Label}
 use Rattle.nomos_ir.specs.declared.ids.TypeId.{TypeId}
 use Rattle.nomos_ir.specs.declared.lists.ProgramLists.{ProgramLists}
 use Rattle.nomos_ir.specs.declared.mode.Mode.{Mode}
@@ -98,6 +99,10 @@ IsTypeNumber lists t = IsNumber t.0 × (t.0 < length lists.types)
 abbrev pub IsPlace : ProgramLists → CodeId → Type 0
 IsPlace lists c = IsNumber c.0 × (c.0 < length lists.code)
 
+-- the number of a label of the program
+abbrev pub IsLabel : ProgramLists → Label → Type 0
+IsLabel lists l = IsNumber l.0 × (l.0 < length lists.labels)
+
 -- the next numbers leave room for further runs
 abbrev pub IsNext : ℕ → Type 0
 IsNext n = n ≤ 2 ^ 31
@@ -107,7 +112,7 @@ IsNumberIfAny (Some n) = IsNumber n
 IsNumberIfAny None = Unit {0}
 
 abbrev pub IsLinePayload : ProgramLists → Payload → Type 0
-IsLinePayload lists (payload.Label l) = l.0 < length lists.labels
+IsLinePayload lists (payload.Label l) = IsLabel lists l
 IsLinePayload lists (payload.Value v) = IsLineValue v
 IsLinePayload lists (payload.Channel name) = IsNumber name
 IsLinePayload lists payload.Pay = Unit {0}

@@ -2,4 +2,5 @@
 #![tactic(auto)]
 
 pub mod line;
+mod values;
 pub mod words;

@@ -1,0 +1,2 @@
+-- Mirrors of the code, on which no promise stands.
+pub mod ValueReading
