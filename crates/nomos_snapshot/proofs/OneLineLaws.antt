@@ -42,7 +42,7 @@ no-dash n is e =
     let digit = digit_at (decimal n) 0 numeral.1 numeral.0 in
     absurd (omega (arith, digit, ap (λ t. get_or t 0 0) e))
 
-any-only : (m n : Option ℕ) → IsNumberIfAny m → IsNumberIfAny n → name_word m ≡ name_word n → m ≡ n
+pub any-only : (m n : Option ℕ) → IsNumberIfAny m → IsNumberIfAny n → name_word m ≡ name_word n → m ≡ n
 any-only (Some m) (Some n) a b e = ap (λ (k : ℕ). Some k) (number-only m n a b e)
 any-only (Some m) None a b e = absurd (no-dash m a e)
 any-only None (Some n) a b e = absurd (no-dash n b (sym e))
