@@ -4,6 +4,7 @@ use Rattle.std.proofs.lemmas.List.{append-nil}
 use Rattle.std.proofs.lemmas.List.Elements.{All-weaker, All-contains_itself, Contains-append_left, Contains-append_right, Contains-append_cases}
 use Rattle.nomos_ir.specs.declared.amount.Amount.{Amount}
 use Rattle.nomos_ir.specs.declared.declaration.ProcDecl.{ProcDecl}
+use Rattle.nomos_ir.specs.declared.ids.CodeId.{CodeId}
 use Rattle.nomos_ir.specs.declared.lists.ProgramLists.{ProgramLists}
 use Rattle.nomos_ir.specs.Amounts.{IsAmount, star_count}
 use Rattle.nomos_equality.specs.Comparing.{Compared, nothing_compared}
@@ -30,7 +31,7 @@ use Rattle.nomos_check.specs.declared.walk.Walk.{Walk}
 use Rattle.nomos_check.specs.mirror.ProcessAnswers.{IsGathered, JoinsPairs}
 use Rattle.nomos_check.specs.mirror.Fresh.{IsFresh}
 use Rattle.nomos_check.specs.mirror.StartingWalk.{IsStartOf}
-use Rattle.nomos_check.specs.mirror.Walking.{LeadsFrom, StaysWithin, IsStuckBy, AtStanding, IsPending, IsReached, IsOpen, IsOnWay, IsWalk, Walking, Goes}
+use Rattle.nomos_check.specs.mirror.Walking.{IsReached, LeadsFrom, StaysWithin, IsStuckBy, AtStanding, IsPending, IsOpen, IsOnWay, IsWalk, Walking, Goes}
 
 -- a process gets to where it begins
 pub start-reached : {lists : ProgramLists} {n : ℕ} (o : Outset) (s : Standing) → IsStartOf n o s
@@ -94,6 +95,16 @@ module _ {lists : ProgramLists} {n : ℕ} (o : Outset) (within : StaysWithin lis
     stuck =
         λ t at.
         ⊎_elim (λ early. let none = fresh.stuck in absurd cc) (λ of. of) (walking.gathers.stuck t at);
+    places =
+        λ t among.
+        ⊎_elim (λ early. absurd (contains-none t (subst (λ (l : List Standing). Contains l t) fresh.places early)))
+        (λ reached. reached) (walking.gathers.places t among);
+    potentials =
+        λ e among.
+        ⊎_elim
+        (λ early. absurd (contains-none e (subst (λ (l : List (CodeId
+        × Form)). Contains l e) fresh.potentials early)))
+        (λ reached. reached) (walking.gathers.potentials e among);
   }
 
 module _ {lists : ProgramLists} (p : ℕ) (d : ProcDecl) (formed : IsWellFormed lists)

@@ -1,5 +1,5 @@
 -- How what is gathered grows.
-use Rattle.std.proofs.Common.{◌≡◌, ◌≤◌, ◌<◌, ◌⊎◌, inl, inr, ⊎_elim, ℕ, Bool, true, false, cond, ltb, Option, Some, None, refl, arith}
+use Rattle.std.proofs.Common.{◌≡◌, ◌≤◌, ◌<◌, ◌⊎◌, ◌∙◌, inl, inr, ⊎_elim, ℕ, List, Bool, true, false, cond, ltb, length, Option, Some, None, refl, subst, arith}
 use Rattle.nomos_ir.specs.declared.lists.ProgramLists.{ProgramLists}
 use Rattle.nomos_types.specs.Judgement.{Judgement}
 use Rattle.nomos_check.specs.Account.{Account}
@@ -8,6 +8,7 @@ use Rattle.nomos_check.specs.declared.walk.Stuck.{Stuck}
 use Rattle.nomos_check.specs.declared.walk.Walk.{Walk}
 use Rattle.nomos_check.specs.mirror.Stops.{first_stuck}
 use Rattle.nomos_check.specs.mirror.Walking.{IsDone, Grows, Gathers, IsStuckBy}
+use Rattle.nomos_check.specs.InHand.{IsWanted}
 
 -- nothing changes
 pub grows-same : {w : Walk} → Grows w w
@@ -16,6 +17,7 @@ grows-same = record {
   pairs = λ free pair has. has;
   stuck = λ at by. by;
   none = λ free. free;
+  places = record { wanted = refl; kept = λ t among. among; noted = λ e among. among };
 }
 
 -- one growth after another
@@ -25,16 +27,32 @@ grows-through first second = record {
   pairs = λ free pair has. second.pairs free pair (first.pairs (second.none free) pair has);
   stuck = λ at by. second.stuck at (first.stuck at by);
   none = λ free. first.none (second.none free);
+  places = record {
+    wanted = second.places.wanted ∙ first.places.wanted;
+    kept = λ t among. second.places.kept t (first.places.kept t among);
+    noted = λ e among. second.places.noted e (first.places.noted e among);
+  };
 }
 
 -- what is done stays done
 pub done-grows : {lists : ProgramLists} {n : ℕ} {old new : Walk} {j : Judgement} {a : Account} → Grows old new
     → IsDone lists n old j a → IsDone lists n new j a
-done-grows grows done = record {
+done-grows {j = j} grows done = record {
   forms = λ f point. grows.forms f (done.forms f point);
   pairs = λ free pair asks. grows.pairs free pair (done.pairs (grows.none free) pair asks);
   row = λ free. done.row (grows.none free);
   stuck = λ none n stands. grows.stuck _ (done.stuck none n stands);
+  placed = λ wanted.
+      let place = done.placed
+      (subst (λ (w : List Bool). IsWanted w j.code.0) grows.places.wanted wanted) in
+      record {
+        standing = place.standing;
+        among = grows.places.kept place.standing place.among;
+        shape = place.shape;
+        has = place.has;
+      };
+  noted = λ below. grows.places.noted _
+      (done.noted (subst (λ (w : List Bool). j.code.0 < length w) grows.places.wanted below));
 }
 
 -- nothing is gathered
@@ -43,6 +61,8 @@ gathers-none = record {
   forms = λ f among. inl among;
   pairs = λ free pair has. inl has;
   stuck = λ s is. inl is;
+  places = λ t among. inl among;
+  potentials = λ e among. inl among;
 }
 
 module _ {lists : ProgramLists} {n : ℕ} {o : Outset} where
@@ -55,6 +75,9 @@ module _ {lists : ProgramLists} {n : ℕ} {o : Outset} where
         λ free pair has.
         ⊎_elim (λ before. first.pairs (grows.none free) pair before) (λ here. inr here) (second.pairs free pair has);
     stuck = λ s is. ⊎_elim (λ before. first.stuck s before) (λ here. inr here) (second.stuck s is);
+    places = λ t among. ⊎_elim (λ before. first.places t before) (λ here. inr here) (second.places t among);
+    potentials =
+        λ e among. ⊎_elim (λ before. first.potentials e before) (λ here. inr here) (second.potentials e among);
   }
 
 -- ---- what is stuck first

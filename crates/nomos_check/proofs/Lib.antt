@@ -18,6 +18,8 @@ pub mod GatherLemmas
 pub mod GivingSteps
 pub mod GoingLemmas
 pub mod HalvesExample
+pub mod KeepLemmas
+pub mod KeptLemmas
 pub mod LeadLemmas
 pub mod LeavingLemmas
 pub mod LimitLemmas

@@ -22,16 +22,34 @@ use Rattle.nomos_check.specs.declared.walk.Stuck.{Stuck}
 use Rattle.nomos_check.specs.declared.walk.Walk.{Walk}
 use Rattle.nomos_check.specs.mirror.StandingData.{shape_of, HasAccount, NoRow, LeadsTo, LeadsAlong, StepTells, StepAsks, JoinsAsked}
 use Rattle.nomos_check.specs.mirror.Stops.{first_stuck}
-use Rattle.nomos_check.specs.mirror.Walking.{HasRow, Notes, Visits, Going, Goes, IsOnWay}
+use Rattle.nomos_check.specs.mirror.Walking.{HasRow, Notes, Visits, Going, Goes, IsOnWay, Takes}
 
 module _ (lists : ProgramLists) (s : Standing) (old noted : Walk) (notes : Notes lists s old noted)
     (asked : Asked) where
+  -- what is asked for and what is left to do do not matter to what is kept
+  takes-beside : {todo : List Forks} {stuck : Option Stuck}
+      → Takes s old (record noted { asked = asked; todo = todo; stuck = stuck })
+  takes-beside = record {
+    wanted = notes.takes.wanted;
+    place = record {
+      kept = notes.takes.place.kept;
+      one = notes.takes.place.one;
+      here = notes.takes.place.here;
+    };
+    potential = record {
+      kept = notes.takes.potential.kept;
+      one = notes.takes.potential.one;
+      here = notes.takes.potential.here;
+    };
+  }
+
   -- a standing at which a rule applies was visited
   visits-row : (todo : List Forks) → JoinsAsked lists s noted.asked asked → HasRow lists (shape_of s)
       → Visits lists s old (record noted { asked = asked; todo = todo })
   visits-row todo joins row = record {
     forms = notes.forms;
     pairs = λ free. subst (λ (k : Asked). JoinsAsked lists s k asked) notes.asked joins;
+    takes = takes-beside;
     stuck = inl (notes.stuck, row);
   }
 
@@ -47,6 +65,7 @@ module _ (lists : ProgramLists) (s : Standing) (old noted : Walk) (notes : Notes
       record {
         forms = notes.forms;
         pairs = λ free. absurd (first-some noted.stuck here free);
+        takes = takes-beside;
         stuck = inr (record {
           no_row = none;
           node = n;

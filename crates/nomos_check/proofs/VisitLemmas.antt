@@ -1,6 +1,7 @@
 -- A standing that is visited.
-use Rattle.std.proofs.Common.{◌≡◌, inl, inr, ⊎_elim, Option, sym, ap, subst, ◌∙◌}
+use Rattle.std.proofs.Common.{◌≡◌, ◌<◌, inl, inr, ⊎_elim, List, Bool, Contains, Option, length, refl, sym, ap, subst, ◌∙◌}
 use Rattle.nomos_ir.specs.declared.code_node.CodeNode.{CodeNode}
+use Rattle.nomos_ir.specs.declared.ids.CodeId.{CodeId}
 use Rattle.nomos_ir.specs.declared.lists.ProgramLists.{ProgramLists}
 use Rattle.nomos_ir.specs.Amounts.{star_count}
 use Rattle.nomos_forms.specs.declared.form.Form.{Form}
@@ -12,8 +13,9 @@ use Rattle.nomos_check.specs.Reaching.{Outset, IsFormOf}
 use Rattle.nomos_check.specs.declared.standing.Standing.{Standing}
 use Rattle.nomos_check.specs.declared.walk.Stuck.{Stuck}
 use Rattle.nomos_check.specs.declared.walk.Walk.{Walk}
+use Rattle.nomos_check.specs.mirror.Walking.{IsReached, IsFormAt, IsStuckBy, IsDone, Grows, Gathers, StuckOf, IsFirstStop, Visits}
 use Rattle.nomos_check.specs.mirror.StandingData.{shape_of, HasAccount}
-use Rattle.nomos_check.specs.mirror.Walking.{IsFormAt, IsStuckBy, IsDone, Grows, Gathers, StuckOf, IsReached, IsFirstStop, Visits}
+use Rattle.nomos_check.specs.InHand.{IsWanted, IsPotentialAt}
 
 -- what is stuck there
 abbrev stop_of : CodeNode → Stuck
@@ -38,6 +40,11 @@ module _ {lists : ProgramLists} {s : Standing} {old new : Walk} (visits : Visits
         (λ (stop : IsFirstStop lists s old.stuck new.stuck).
         absurd (first-some old.stuck (stop_of stop.node) (sym stop.counts ∙ free)))
         visits.stuck;
+    places = record {
+      wanted = visits.takes.wanted;
+      kept = visits.takes.place.kept;
+      noted = visits.takes.potential.kept;
+    };
   }
 
   stop-here : (stop : IsFirstStop lists s old.stuck new.stuck) (n : CodeNode) → StandsAtCode lists (shape_of s) n
@@ -66,6 +73,15 @@ module _ {lists : ProgramLists} {s : Standing} {old new : Walk} (visits : Visits
     stuck =
         λ none n stands.
         ⊎_elim (λ kept. absurd (none kept.1.0 kept.1.1)) (λ stop. stop-here stop n stands) visits.stuck;
+    placed =
+        λ wanted.
+        let before = subst (λ (w : List Bool). IsWanted w s.code.0) visits.takes.wanted wanted in
+        record { standing = s; among = visits.takes.place.here before; shape = refl; has = has };
+    noted =
+        λ below.
+        let before = subst (λ (w : List Bool). s.code.0 < length w) visits.takes.wanted below in
+        subst (λ (f : Form). Contains new.potentials.items (s.code, f)) has.potential
+        (visits.takes.potential.here before);
   }
 
   -- and all that is gathered comes from there
@@ -91,6 +107,18 @@ module _ {lists : ProgramLists} {s : Standing} {old new : Walk} (visits : Visits
       is_form = ap (λ (u : Stuck). u.form) same;
     }
 
+    potential-there : (e : CodeId × Form) → e ≡ (s.code, s.potential)
+        → IsPotentialAt lists (star_count lists) o e.0 e.1
+    potential-there e same =
+        let here : IsPotentialAt lists (star_count lists) o s.code s.potential = record {
+          judgement = shape_of s;
+          account = r.account;
+          reached = r.reached;
+          at = refl;
+          is = r.has.potential;
+        } in
+        subst (λ (p : CodeId × Form). IsPotentialAt lists (star_count lists) o p.0 p.1) (sym same) here
+
     pub visits-gathers : Gathers lists (star_count lists) o old new
     visits-gathers = record {
       forms = λ f among. ⊎_elim (λ early. inl early) (λ is. inr (point-form f is))
@@ -107,4 +135,11 @@ module _ {lists : ProgramLists} {s : Standing} {old new : Walk} (visits : Visits
           ⊎_elim (λ early. inl early) (λ same. inr (stop-of stop t same)) (first-one old.stuck (stop_of stop.node) t
           (sym stop.counts ∙ is)))
           visits.stuck;
+      places =
+          λ t among.
+          ⊎_elim (λ early. inl early)
+          (λ same. inr (subst (IsReached lists (star_count lists) o) (sym same) r)) (visits.takes.place.one t among);
+      potentials =
+          λ e among.
+          ⊎_elim (λ early. inl early) (λ same. inr (potential-there e same)) (visits.takes.potential.one e among);
     }

@@ -21,7 +21,7 @@ use Rattle.nomos_check.specs.declared.standing.Way.{Way}
 use Rattle.nomos_check.specs.declared.standing.Way.TheVariants as way
 use Rattle.nomos_check.specs.declared.walk.Walk.{Walk}
 use Rattle.nomos_check.specs.mirror.StandingData.{shape_of, HasAccount, IsWithin, IsWayOf, way_shape, way_account}
-use Rattle.nomos_check.specs.mirror.Walking.{LeadsFrom, IsDone, Grows, Gathers, AtStanding, AlongWay, IsPending, IsReached, IsOpen, IsOnWay, IsWalk, WalksOn, Walking, Goes, way_next, weight, width, forks_work, work}
+use Rattle.nomos_check.specs.mirror.Walking.{IsReached, LeadsFrom, IsDone, Grows, Gathers, AtStanding, AlongWay, IsPending, IsOpen, IsOnWay, IsWalk, WalksOn, Walking, Goes, way_next, weight, width, forks_work, work}
 use Rattle.nomos_check.specs.mirror.Ways.{HasWayRoom, GoesWay}
 
 -- what is left to do beside does not matter
@@ -31,6 +31,7 @@ grows-beside w todo = record {
   pairs = λ free pair has. has;
   stuck = λ at by. by;
   none = λ free. free;
+  places = record { wanted = refl; kept = λ t among. among; noted = λ e among. among };
 }
 
 gathers-beside : {lists : ProgramLists} {n : ℕ} {o : Outset} (w : Walk) (todo : List Forks)
@@ -39,6 +40,8 @@ gathers-beside w todo = record {
   forms = λ f among. inl among;
   pairs = λ free pair has. inl has;
   stuck = λ s is. inl is;
+  places = λ t among. inl among;
+  potentials = λ e among. inl among;
 }
 
 pub walks-beside : (lists : ProgramLists) (n : ℕ) (todo : List Forks) (w : Walk) (beside : List Forks)

@@ -2,6 +2,7 @@ pub mod Account
 pub mod Accounting
 pub mod Reaching
 pub mod UnderAmounts
+pub mod InHand
 pub mod Room
 pub mod Asking
 pub mod Checker

@@ -12,7 +12,7 @@ use std::mem;
 /// What is bound to variables, which contracts see as a map from variables (`Bindings`). It is found by binary search,
 /// and copied in one piece.
 #[derive(Drop)]
-pub(crate) struct Bound<X> {
+pub struct Bound<X> {
     alloc: Global,
     pairs: Items<(VarId, X)>,
 }
@@ -77,7 +77,7 @@ impl<X: Copy> Bound<X> {
     }
 
     /// What the variable is bound to.
-    pub(crate) fn get(&self, v: VarId) -> Option<X>
+    pub fn get(&self, v: VarId) -> Option<X>
         ensures { result ≡ bound_to v.0 self.now }
     {
         let pairs = self.pairs.as_slice();
@@ -124,14 +124,14 @@ impl<X: Copy> Bound<X> {
     }
 
     /// Whether nothing is bound.
-    pub(crate) fn is_empty(&self) -> bool
+    pub fn is_empty(&self) -> bool
         ensures { IsTrue result ↔ (self.now ≡ []) }
     {
         self.pairs.is_empty()
     }
 
-    /// The variables with what is bound to them.
-    pub(crate) fn pairs(&self) -> &Items<(VarId, X)>
+    /// The variables with what is bound to them, in order of number.
+    pub fn pairs(&self) -> &Items<(VarId, X)>
         ensures { result.now ≡ self.now }
     {
         &self.pairs

@@ -26,7 +26,7 @@ fn copy_bindings(now: &Standing, made: &mut Standing) -> Result<(), AllocError>
 }
 
 /// The same once more.
-fn copy_of(alloc: Global, now: &Standing) -> Result<Standing, AllocError>
+pub(crate) fn copy_of(alloc: Global, now: &Standing) -> Result<Standing, AllocError>
     ensures { IfOk result (λ s. s ≡ now.now) }
 {
     let potential = now.potential.copy(alloc)?;

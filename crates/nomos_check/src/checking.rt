@@ -1,5 +1,5 @@
 //! Whether a process is typed, and which rows its potential and its types give.
-ghost use Rattle.std.specs.Prelude.{◌≡◌, ◌<◌, [], MatchOption, Some, None, Ok, Err, OnOk, slice_get, length};
+ghost use Rattle.std.specs.Prelude.{◌≡◌, ◌<◌, [], MatchOption, Some, None, Ok, Err, IfOk, OnOk, slice_get, length};
 ghost use Rattle.nomos_ir.specs.declared.amount.Amount.{Amount};
 ghost use Rattle.nomos_ir.specs.declared.declaration.ProcDecl.{ProcDecl};
 ghost use Rattle.nomos_ir.specs.Amounts.{star_count};
@@ -10,17 +10,20 @@ ghost use Rattle.nomos_check.specs.Checking.{AnswersProcess, AnswersProcessBesid
 ghost use Rattle.nomos_check.specs.mirror.ProcessAnswers.{GathersAll, JoinsPairs};
 ghost use Rattle.nomos_check.specs.mirror.Fresh.{IsFresh};
 ghost use Rattle.nomos_check.specs.mirror.StandingData.{IsReady, KeepsCompared};
+ghost use Rattle.nomos_check.specs.InHand.{AreWanted, ArePotentials};
+ghost use Rattle.nomos_check.specs.Reaching.{outset_of};
 
 use crate::asked::Asked;
 use crate::checker::Checker;
 use crate::going::{go_all, go_along};
+use crate::standing::Standing;
 use crate::start::start;
 use crate::walk::{Stuck, Walk};
 use nomos_equality::equalities::Equalities;
 use nomos_forms::form::{Form, Forms};
 use nomos_ir::amount::Amount;
 use nomos_ir::code_form::CodeForm;
-use nomos_ir::ids::ProcId;
+use nomos_ir::ids::{CodeId, ProcId};
 use nomos_ir::items::Items;
 use nomos_ir::lists::AmountPairs;
 use nomos_ir::program::Program;
@@ -61,6 +64,7 @@ fn gather(
     requires fresh { IsFresh walk.old }
     ensures ready { IsReady program.now walk.new.asked }
     ensures kept { KeepsCompared walk.old.asked walk.new.asked }
+    ensures wanted { OnOk result (walk.new.wanted.now ≡ walk.old.wanted.now) }
     ensures gathers { OnOk result (GathersAll program.now p walk.old walk.new) }
 {
     let first = start(program, checker, p)?;
@@ -107,13 +111,16 @@ pub fn check_process_with(
 {
     let alloc = checker.alloc;
     let known = mem::replace(equalities, Equalities::new(alloc));
-    let mut walk = Walk::new(alloc, checker.modes.as_slice(), known);
+    let mut walk = Walk::new(alloc, checker.modes.as_slice(), known, &[]);
     let gathered = gather(checker, program, &mut walk, p);
     let Walk {
         asked,
         forms,
         stuck,
         todo: _,
+        wanted: _,
+        places: _,
+        potentials: _,
     } = walk;
     let Asked {
         alloc: _,
@@ -126,6 +133,57 @@ pub fn check_process_with(
         Ok(()) => answer(forms, pairs, stuck),
         Err(_) => Err(ProcError::NoMemory),
     }
+}
+
+/// What is in hand along the code of a declaration.
+#[derive(Drop)]
+pub struct InHand {
+    /// At the instructions that are wanted, each as often as the code leads there.
+    pub standings: Items<Standing>,
+    /// The potential before each instruction of which something is said, in units, as a form over the program's stars.
+    pub potentials: Items<(CodeId, Form)>,
+}
+
+/// What the process of this declaration has in hand at each of its instructions that is wanted, by number, and its
+/// potential at each whose number is below the length of `wanted`. Nothing is asked of the declaration: where no rule
+/// applies to an instruction, it stands there, and does not go on.
+pub fn standings_of(
+    checker: &Checker,
+    program: &Program,
+    p: ProcId,
+    wanted: &[bool],
+) -> Result<InHand, AllocError>
+    requires formed { IsWellFormed program.now }
+    requires checker { IsCheckerOf program.now checker.now }
+    requires p { p.0 < length program.now.procs }
+    ensures standings { (d : ProcDecl) → slice_get program.now.procs p.0 ≡ Some d → IfOk result
+        (λ found. AreWanted program.now (star_count program.now) (outset_of program.now d) wanted.now
+        found.standings) }
+    ensures potentials { (d : ProcDecl) → slice_get program.now.procs p.0 ≡ Some d → IfOk result
+        (λ found. ArePotentials program.now (star_count program.now) (outset_of program.now d) (length wanted.now)
+        found.potentials) }
+{
+    let alloc = checker.alloc;
+    let mut walk = Walk::new(
+        alloc,
+        checker.modes.as_slice(),
+        Equalities::new(alloc),
+        wanted,
+    );
+    gather(checker, program, &mut walk, p)?;
+    let Walk {
+        asked: _,
+        forms: _,
+        stuck: _,
+        todo: _,
+        wanted: _,
+        places,
+        potentials,
+    } = walk;
+    Ok(InHand {
+        standings: Items::of_vec(places),
+        potentials: Items::of_vec(potentials),
+    })
 }
 
 /// The pairs of `equalities` beside those that were given.

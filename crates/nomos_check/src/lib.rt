@@ -3,7 +3,7 @@
 
 mod arguments;
 mod asked;
-mod bound;
+pub mod bound;
 mod branch;
 mod cases;
 mod chances;
@@ -26,7 +26,7 @@ mod sending;
 mod sharing;
 mod sides;
 mod spawning;
-mod standing;
+pub mod standing;
 mod start;
 mod step;
 mod values;

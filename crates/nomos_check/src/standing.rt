@@ -12,22 +12,23 @@ use std::alloc::Global;
 
 /// A list that carries potential: the kind of its elements, and the amount that each of them carries.
 #[derive(Clone, Copy)]
-pub(crate) struct Carried {
-    pub(crate) kind: Kind,
-    pub(crate) amount: Amount,
+pub struct Carried {
+    pub kind: Kind,
+    pub amount: Amount,
 }
 
-/// What the process has in hand at an instruction.
+/// What the process has in hand at an instruction: its mode, the kinds of its values, its lists, the types of its
+/// references and of its other channels, its potential in units, the instruction, and what it offers.
 #[derive(Drop)]
-pub(crate) struct Standing {
-    pub(crate) mode: Mode,
-    pub(crate) kinds: Bound<Kind>,
-    pub(crate) lists: Bound<Carried>,
-    pub(crate) shared: Bound<TypeId>,
-    pub(crate) linear: Bound<TypeId>,
-    pub(crate) potential: Potential,
-    pub(crate) code: CodeId,
-    pub(crate) offers: TypeId,
+pub struct Standing {
+    pub mode: Mode,
+    pub kinds: Bound<Kind>,
+    pub lists: Bound<Carried>,
+    pub shared: Bound<TypeId>,
+    pub linear: Bound<TypeId>,
+    pub potential: Potential,
+    pub code: CodeId,
+    pub offers: TypeId,
 }
 
 impl Standing {

@@ -7,9 +7,10 @@ ghost use Rattle.nomos_check.specs.mirror.Fresh.{IsFresh};
 ghost use Rattle.nomos_check.specs.Room.{HasRoom};
 ghost use Rattle.nomos_check.specs.mirror.StandingData.{IsWithin};
 ghost use Rattle.nomos_check.specs.mirror.Stops.{first_stuck};
-ghost use Rattle.nomos_check.specs.mirror.Walking.{Notes};
+ghost use Rattle.nomos_check.specs.mirror.Walking.{Notes, NotesForms, TakesPlace, TakesPotential};
 
 use crate::asked::Asked;
+use crate::branch::copy_of;
 use crate::potential::Potential;
 use crate::standing::{Forks, Standing};
 use nomos_equality::equalities::Equalities;
@@ -17,6 +18,7 @@ use nomos_forms::form::Form;
 use nomos_ir::amount::Amount;
 use nomos_ir::code_form::CodeForm;
 use nomos_ir::code_node::CodeNode;
+use nomos_ir::ids::CodeId;
 use nomos_ir::mode::Mode;
 use nomos_ir::program::Program;
 use nomos_ir::stack::Stack;
@@ -37,6 +39,12 @@ pub(crate) struct Walk<'p> {
     pub(crate) forms: Vec<Form>,
     pub(crate) stuck: Option<Stuck>,
     pub(crate) todo: Stack<Forks>,
+    /// Whether what is in hand at the instruction of this number is wanted.
+    pub(crate) wanted: &'p [bool],
+    /// What is in hand at such instructions.
+    pub(crate) places: Vec<Standing>,
+    /// The potential before each instruction of which `wanted` says something, as a form.
+    pub(crate) potentials: Vec<(CodeId, Form)>,
 }
 
 /// The one of the two that is stuck first.
@@ -67,7 +75,13 @@ fn less(alloc: Global, potential: &Potential, amount: Amount) -> Result<Form, Al
 
 impl<'p> Walk<'p> {
     /// Nothing is gathered yet. It takes no memory.
-    pub(crate) fn new(alloc: Global, modes: &'p [Mode], equalities: Equalities) -> Walk<'p>
+    pub(crate) fn new(
+        alloc: Global,
+        modes: &'p [Mode],
+        equalities: Equalities,
+        wanted: &'p [bool],
+    ) -> Walk<'p>
+        ensures wanted { result.wanted.now ≡ wanted.now }
         ensures modes { result.asked.modes.now ≡ modes.now }
         ensures equalities { result.asked.equalities ≡ equalities }
         ensures fresh { IsFresh result }
@@ -82,15 +96,57 @@ impl<'p> Walk<'p> {
             forms: Vec::new(alloc),
             stuck: None,
             todo: Stack::new(alloc),
+            wanted,
+            places: Vec::new(alloc),
+            potentials: Vec::new(alloc),
         }
     }
 
-    /// Notes the potential before the instruction, and at a call that less what the called declaration needs.
+    // Keeps what is in hand, where it is wanted.
+    fn keep(&mut self, now: &Standing) -> Result<(), AllocError>
+        ensures asked { self.new.asked ≡ self.old.asked }
+        ensures others { OnOk result (self.new ≡ record self.old { places = self.new.places }) }
+        ensures takes { OnOk result (TakesPlace now.now self.old self.new) }
+    {
+        if let Some(true) = self.wanted.get(now.code.0 as usize).copied() {
+            let kept = copy_of(self.asked.alloc, now)?;
+            self.places.push(kept)?;
+        }
+        Ok(())
+    }
+
+    // Keeps the potential, where something is said of what is wanted.
+    fn keep_potential(&mut self, now: &Standing) -> Result<(), AllocError>
+        ensures asked { self.new.asked ≡ self.old.asked }
+        ensures others { OnOk result (self.new ≡ record self.old { potentials = self.new.potentials }) }
+        ensures takes { OnOk result (TakesPotential now.now self.old self.new) }
+    {
+        if (now.code.0 as usize) < self.wanted.len() {
+            let form = now.potential.copy(self.asked.alloc)?.into_form();
+            self.potentials.push((now.code, form))?;
+        }
+        Ok(())
+    }
+
+    /// Notes what is in hand before the instruction, where it is wanted, and the potential before it, and at a call that
+    /// less what the called declaration needs.
     pub(crate) fn note(&mut self, program: &Program, now: &Standing) -> Result<(), AllocError>
         requires formed { IsWellFormed program.now }
         requires within { IsWithin program.now now.now }
         ensures asked { self.new.asked ≡ self.old.asked }
         ensures notes { OnOk result (Notes program.now now.now self.old self.new) }
+    {
+        self.keep(now)?;
+        self.keep_potential(now)?;
+        self.note_forms(program, now)
+    }
+
+    // Notes the potential before the instruction, and at a call that less what the called declaration needs.
+    fn note_forms(&mut self, program: &Program, now: &Standing) -> Result<(), AllocError>
+        requires formed { IsWellFormed program.now }
+        requires within { IsWithin program.now now.now }
+        ensures asked { self.new.asked ≡ self.old.asked }
+        ensures notes { OnOk result (NotesForms program.now now.now self.old self.new) }
     {
         let _lists = program.lists();
         let alloc = self.asked.alloc;

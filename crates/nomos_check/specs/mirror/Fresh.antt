@@ -8,3 +8,5 @@ pub record IsFresh (w : Walk) : Type 0 where
   pub pairs : w.asked.pairs.items ≡ []
   pub stuck : w.stuck ≡ None
   pub todo : w.todo ≡ []
+  pub places : w.places.items ≡ []
+  pub potentials : w.potentials.items ≡ []

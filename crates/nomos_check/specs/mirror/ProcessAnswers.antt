@@ -4,6 +4,7 @@ use Rattle.std.specs.declared.result.Result.{Result}
 use Rattle.std.specs.declared.result.Result.TheVariants.{Ok, Err}
 use Rattle.nomos_ir.specs.declared.amount.Amount.{Amount}
 use Rattle.nomos_ir.specs.declared.declaration.ProcDecl.{ProcDecl}
+use Rattle.nomos_ir.specs.declared.ids.CodeId.{CodeId}
 use Rattle.nomos_ir.specs.declared.ids.ProcId.{ProcId}
 use Rattle.nomos_ir.specs.declared.lists.ProgramLists.{ProgramLists}
 use Rattle.nomos_ir.specs.Amounts.{star_count}
@@ -12,14 +13,16 @@ use Rattle.nomos_forms.specs.declared.form.Form.{Form}
 use Rattle.nomos_types.specs.Judgement.{Judgement}
 use Rattle.nomos_check.specs.Account.{Account}
 use Rattle.nomos_check.specs.Asking.{IsAsked}
+use Rattle.nomos_check.specs.InHand.{IsPotentialAt}
 use Rattle.nomos_check.specs.Reaching.{Outset, outset_of, GetsTo, IsFormOf}
 use Rattle.nomos_check.specs.declared.checking.Checked.{Checked}
 use Rattle.nomos_check.specs.declared.checking.ProcError.{ProcError}
 use Rattle.nomos_check.specs.declared.checking.ProcError.TheVariants as error
+use Rattle.nomos_check.specs.declared.standing.Standing.{Standing}
 use Rattle.nomos_check.specs.declared.walk.Stuck.{Stuck}
 use Rattle.nomos_check.specs.declared.walk.Walk.{Walk}
 use Rattle.nomos_check.specs.mirror.StandingData.{HasPair}
-use Rattle.nomos_check.specs.mirror.Walking.{IsDone, StuckOf}
+use Rattle.nomos_check.specs.mirror.Walking.{IsDone, IsReached, StuckOf}
 
 -- what the process asks for from the outset on was gathered, beside what was compared before
 pub record IsGathered (lists : ProgramLists) (n : ℕ) (o : Outset) (known : Compared) (w : Walk) : Type 0 where
@@ -29,6 +32,8 @@ pub record IsGathered (lists : ProgramLists) (n : ℕ) (o : Outset) (known : Com
       → Contains known.amounts pair ⊎ IsAsked lists o pair
   pub keeps : w.stuck ≡ None → (pair : Amount × Amount) → Contains known.amounts pair → HasPair w.asked pair
   pub stuck : (s : Stuck) → w.stuck ≡ Some s → StuckOf lists o s
+  pub places : (t : Standing) → Contains w.places.items t → IsReached lists n o t
+  pub potentials : (e : CodeId × Form) → Contains w.potentials.items e → IsPotentialAt lists n o e.0 e.1
 
 -- all that the declaration with this number asks for
 abbrev pub GathersAll : ProgramLists → ProcId → Walk → Walk → Type 0

@@ -2,6 +2,7 @@
 use Rattle.std.specs.Prelude.{◌≡◌, ◌<◌, ◌≤◌, ◌+◌, ◌*◌, ◌⊎◌, ◌↔◌, ℕ, zero, suc, List, ◌++◌, map, All, Contains, Option, Some, None, length, sum_by}
 use Rattle.nomos_ir.specs.declared.amount.Amount.{Amount}
 use Rattle.nomos_ir.specs.declared.code_node.CodeNode.{CodeNode}
+use Rattle.nomos_ir.specs.declared.ids.CodeId.{CodeId}
 use Rattle.nomos_ir.specs.declared.lists.ProgramLists.{ProgramLists}
 use Rattle.nomos_ir.specs.Amounts.{star_count, greatest}
 use Rattle.nomos_ir.specs.CodeParts.{code_next}
@@ -21,6 +22,7 @@ use Rattle.nomos_check.specs.declared.walk.Stuck.{Stuck}
 use Rattle.nomos_check.specs.declared.walk.Walk.{Walk}
 use Rattle.nomos_check.specs.mirror.Stops.{first_stuck}
 use Rattle.nomos_check.specs.mirror.StandingData.{shape_of, HasAccount, IsWithin, way_shape, way_account, IsWayOf, NoRow, HasPair, JoinsAsked}
+use Rattle.nomos_check.specs.InHand.{IsWanted, IsPotentialAt}
 
 -- ---- places
 
@@ -31,6 +33,46 @@ LeadsFrom lists j a k b = GetsTo lists (record { judgement = j; account = a }) k
 -- the form stands for an account that has to be afforded there
 abbrev pub IsFormAt : ProgramLists → ℕ → Judgement → Account → Form → Type 0
 IsFormAt lists n j a form = (point : Account) × IsPointAt lists j a point × (form ≡ form_of n point)
+
+-- the process gets to where the code's data stands
+pub record IsReached (lists : ProgramLists) (n : ℕ) (o : Outset) (s : Standing) : Type 0 where
+  pub account : Account
+  pub has : HasAccount n s account
+  pub reached : GetsTo lists o (shape_of s) account
+
+-- ---- places that are wanted
+
+-- what is in hand where the process gets to was kept
+pub record HasPlace (n : ℕ) (w : Walk) (j : Judgement) (a : Account) : Type 0 where
+  pub standing : Standing
+  pub among : Contains w.places.items standing
+  pub shape : shape_of standing ≡ j
+  pub has : HasAccount n standing a
+
+-- the same is wanted, and what was kept stays
+pub record KeepsPlaces (old new : Walk) : Type 0 where
+  pub wanted : new.wanted.now ≡ old.wanted.now
+  pub kept : (t : Standing) → Contains old.places.items t → Contains new.places.items t
+  pub noted : (e : CodeId × Form) → Contains old.potentials.items e → Contains new.potentials.items e
+
+-- what is in hand there is kept too, where it is wanted, and nothing else
+pub record TakesPlace (s : Standing) (old new : Walk) : Type 0 where
+  pub kept : (t : Standing) → Contains old.places.items t → Contains new.places.items t
+  pub one : (t : Standing) → Contains new.places.items t → Contains old.places.items t ⊎ (t ≡ s)
+  pub here : IsWanted old.wanted.now s.code.0 → Contains new.places.items s
+
+-- the potential there is kept too, where something is said of what is wanted, and nothing else
+pub record TakesPotential (s : Standing) (old new : Walk) : Type 0 where
+  pub kept : (e : CodeId × Form) → Contains old.potentials.items e → Contains new.potentials.items e
+  pub one : (e : CodeId × Form) → Contains new.potentials.items e
+      → Contains old.potentials.items e ⊎ (e ≡ (s.code, s.potential))
+  pub here : s.code.0 < length old.wanted.now → Contains new.potentials.items (s.code, s.potential)
+
+-- both are kept, and the same is wanted
+pub record Takes (s : Standing) (old new : Walk) : Type 0 where
+  pub wanted : new.wanted.now ≡ old.wanted.now
+  pub place : TakesPlace s old new
+  pub potential : TakesPotential s old new
 
 -- ---- what was gathered
 
@@ -45,6 +87,8 @@ pub record IsDone (lists : ProgramLists) (n : ℕ) (w : Walk) (j : Judgement) (a
   pub pairs : w.stuck ≡ None → (pair : Amount × Amount) → AsksPair lists j a pair → HasPair w.asked pair
   pub row : w.stuck ≡ None → (after : List Judgement) × TypingRule lists no_amounts j after
   pub stuck : NoRow lists j → (n : CodeNode) → StandsAtCode lists j n → IsStuckBy w.stuck (code_offset n)
+  pub placed : IsWanted w.wanted.now j.code.0 → HasPlace n w j a
+  pub noted : j.code.0 < length w.wanted.now → Contains w.potentials.items (j.code, form_of n a)
 
 -- nothing of what was gathered is lost; pairs count only where nothing is stuck
 pub record Grows (old new : Walk) : Type 0 where
@@ -52,6 +96,7 @@ pub record Grows (old new : Walk) : Type 0 where
   pub pairs : new.stuck ≡ None → (pair : Amount × Amount) → HasPair old.asked pair → HasPair new.asked pair
   pub stuck : (at : ℕ) → IsStuckBy old.stuck at → IsStuckBy new.stuck at
   pub none : new.stuck ≡ None → old.stuck ≡ None
+  pub places : KeepsPlaces old new
 
 -- an instruction to which the process gets and that no rule applies to
 pub record StuckOf (lists : ProgramLists) (o : Outset) (s : Stuck) : Type 0 where
@@ -70,6 +115,9 @@ pub record Gathers (lists : ProgramLists) (n : ℕ) (o : Outset) (old new : Walk
   pub pairs : new.stuck ≡ None → (pair : Amount × Amount) → HasPair new.asked pair
       → HasPair old.asked pair ⊎ IsAsked lists o pair
   pub stuck : (s : Stuck) → new.stuck ≡ Some s → (old.stuck ≡ Some s) ⊎ StuckOf lists o s
+  pub places : (t : Standing) → Contains new.places.items t → Contains old.places.items t ⊎ IsReached lists n o t
+  pub potentials : (e : CodeId × Form) → Contains new.potentials.items e
+      → Contains old.potentials.items e ⊎ IsPotentialAt lists n o e.0 e.1
 
 -- ---- what is left
 
@@ -103,12 +151,6 @@ pub record IsPending (lists : ProgramLists) (n : ℕ) (todo : List Forks) (j : J
   pub way : Way
   pub inside : Contains forks.ways.items way
   pub along : AlongWay lists n forks way j a
-
--- the process gets to where the code's data stands
-pub record IsReached (lists : ProgramLists) (n : ℕ) (o : Outset) (s : Standing) : Type 0 where
-  pub account : Account
-  pub has : HasAccount n s account
-  pub reached : GetsTo lists o (shape_of s) account
 
 -- the process gets to the ways, and to what stands before them
 pub record IsOpen (lists : ProgramLists) (n : ℕ) (o : Outset) (f : Forks) : Type 0 where
@@ -155,7 +197,19 @@ work width todo = sum_by (forks_work width) todo
 -- ---- what is told of going along the code
 
 -- the forms of a place were noted
+pub record NotesForms (lists : ProgramLists) (s : Standing) (old new : Walk) : Type 0 where
+  pub asked : new.asked ≡ old.asked
+  pub stuck : new.stuck ≡ old.stuck
+  pub todo : new.todo ≡ old.todo
+  pub wanted : new.wanted.now ≡ old.wanted.now
+  pub places : new.places ≡ old.places
+  pub potentials : new.potentials ≡ old.potentials
+  pub forms : (a : Account) → HasAccount (star_count lists) s a → (f : Form)
+      → Contains new.forms.items f ↔ (Contains old.forms.items f ⊎ IsFormAt lists (star_count lists) (shape_of s) a f)
+
+-- a place was noted
 pub record Notes (lists : ProgramLists) (s : Standing) (old new : Walk) : Type 0 where
+  pub takes : Takes s old new
   pub asked : new.asked ≡ old.asked
   pub stuck : new.stuck ≡ old.stuck
   pub todo : new.todo ≡ old.todo
@@ -188,6 +242,7 @@ pub record Visits (lists : ProgramLists) (s : Standing) (old new : Walk) : Type 
   pub forms : (a : Account) → HasAccount (star_count lists) s a → (f : Form)
       → Contains new.forms.items f ↔ (Contains old.forms.items f ⊎ IsFormAt lists (star_count lists) (shape_of s) a f)
   pub pairs : new.stuck ≡ None → JoinsAsked lists s old.asked new.asked
+  pub takes : Takes s old new
   pub stuck : ((new.stuck ≡ old.stuck) × HasRow lists (shape_of s)) ⊎ IsFirstStop lists s old.stuck new.stuck
 
 -- wherever the process gets to from the outset, the code's data is in order

@@ -1,4 +1,4 @@
-use Rattle.std.proofs.Common.{[]}
+use Rattle.std.proofs.Common.{◌≡◌, []}
 use Rattle.std.proofs.lemmas.Result.{on_ok_weaker}
 use Rattle.nomos_ir.specs.Amounts.{star_count}
 use Rattle.nomos_check.proofs.ConcludingLemmas.{declared-there, start-on_way, start-walking, start-walk, all-gathered}
@@ -43,3 +43,20 @@ returns-clause-gathers c =
 
 pub returns-clause-kept : goal.returns-clause-kept
 returns-clause-kept c = λ known front. c.go_all.ensures.kept known (c.go_along.ensures.kept known front)
+
+pub returns-clause-wanted : goal.returns-clause-wanted
+returns-clause-wanted c =
+    let lists = c.args.program.now in
+    let n = star_count lists in
+    let p = c.args.p.0 in
+    let old = c.args.walk.now in
+    let between = c.go_along.new.walk in
+    let new = c.go_all.new.walk in
+    let s = c.in_ok-first.first in
+    let (d, found) = declared-there lists.procs p c.requires.p in
+    let within = start-within p c.requires.formed found in
+    let begun =
+    start-walking (outset_of lists d) within s (c.in_ok-first.ensures d found) old c.requires.fresh between
+    c.in_ok-go_along.ensures.goes in
+    on_ok_weaker {P = WalksOn lists n between.todo between [] new} {Q = new.wanted.now ≡ old.wanted.now}
+    c.go_all.result (λ walks. (walks (outset_of lists d) old begun).grows.places.wanted) c.go_all.ensures.walks
