@@ -5,7 +5,6 @@ use Rattle.nomos_ir.specs.CodeParts.{code_terms}
 use Rattle.nomos_ir.specs.TermsEvaluation.{terms_evaluation, terms_of, instruction_evaluation}
 use Rattle.nomos_ir.specs.Value.{Value}
 use Rattle.nomos_ir.specs.declared.code_node.CodeNode.{CodeNode}
-use Rattle.nomos_ir.specs.declared.code_node.CodeNode.TheVariants as code
 use Rattle.nomos_types.specs.Acceptance.{Acceptance}
 use Rattle.nomos_machine.specs.Deeds.{deed_at}
 use Rattle.nomos_machine.specs.Optional.{◌>>=◌}

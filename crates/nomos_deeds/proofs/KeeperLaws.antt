@@ -4,10 +4,6 @@ use Rattle.std.proofs.Common.{◌≡◌, ◌≤◌, ℕ, Bool, true, false, Cont
 use Rattle.std.specs.Option.{option_map}
 use Rattle.std.proofs.lemmas.Bool.{cases_eq}
 use Rattle.nomos_ir.specs.Order.{count_of}
-use Rattle.nomos_ir.specs.declared.code_node.CodeNode.{CodeNode}
-use Rattle.nomos_ir.specs.declared.code_node.CodeNode.TheVariants as code
-use Rattle.nomos_ir.specs.declared.mode.Mode.{Mode}
-use Rattle.nomos_ir.specs.declared.mode.Mode.TheVariants as mode
 use Rattle.nomos_types.specs.Acceptance.{Acceptance}
 use Rattle.nomos_types.proofs.OccurrenceLaws.{counted}
 use Rattle.nomos_machine.specs.Objects.{object_number, process_of, shared_names, times}
@@ -19,7 +15,7 @@ use Rattle.nomos_machine.specs.declared.object.Object.TheVariants as object
 use Rattle.nomos_machine.specs.declared.object.Process.{Process}
 use Rattle.nomos_machine.proofs.ApartLaws.{times-two}
 use Rattle.nomos_machine.proofs.NameLaws.{contains-times, names-told, times-one}
-use Rattle.nomos_deeds.specs.Readers.{keeper, stands_for, waits}
+use Rattle.nomos_deeds.specs.Readers.{keeper, stands_for}
 use Rattle.nomos_deeds.proofs.LowestLaws.{IsFirst, first-found, none-passes}
 
 -- The keeper is found by search, stands for the name once, and nobody else does.

@@ -3,6 +3,7 @@ mod ReceivingLemmas
 mod SharingLemmas
 mod DeedLemmas
 mod DecisionLemmas
+mod WayLemmas
 pub mod FireLaws
 pub mod LowestLaws
 pub mod LinearNameLaws

@@ -29,8 +29,8 @@ pub(crate) fn unfolded(program: &Program, t: TypeId) -> Option<&TypeNode>
     }
 }
 
-// The type with which a choice goes on after a label.
-fn goes_by(branches: &[Branch], label: Label) -> Option<TypeId>
+/// The type with which a choice goes on after a label.
+pub(crate) fn goes_by(branches: &[Branch], label: Label) -> Option<TypeId>
     ensures { result ≡ goes_by branches.now label }
 {
     branches
