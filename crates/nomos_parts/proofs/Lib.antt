@@ -5,11 +5,14 @@ pub mod BehindLemmas
 pub mod BirthLemmas
 pub mod GivenLemmas
 pub mod HandLemmas
+pub mod HearingLemmas
 pub mod MadeLemmas
 pub mod MessageLemmas
+pub mod OpeningLemmas
 pub mod PairLemmas
 pub mod PotentialLemmas
 pub mod RevisionLemmas
+pub mod SayingLemmas
 pub mod SendActLemmas
 pub mod SharingLemmas
 pub mod StartingLemmas

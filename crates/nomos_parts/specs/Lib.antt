@@ -1,5 +1,6 @@
 pub mod Beginnings
 pub mod Gives
+pub mod Hearings
 pub mod Leavings
 pub mod Performing
 pub mod Providers

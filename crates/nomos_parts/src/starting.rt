@@ -31,8 +31,8 @@ pub struct Line<'a> {
     pub payer: u32,
 }
 
-// The declaration of this number.
-fn declared(accepted: &Accepted, f: ProcId) -> &ProcDecl
+/// The declaration of this number.
+pub(crate) fn declared(accepted: &Accepted, f: ProcId) -> &ProcDecl
     requires { f.0 < length accepted.now.program.procs }
     ensures { slice_get accepted.now.program.procs f.0 ≡ Some result.now }
 {
@@ -96,9 +96,9 @@ fn given_by_line(
     })
 }
 
-// A process comes, whose name has this type, and its payer gives so many Dths. Want of memory leaves the state as it
-// was.
-fn come<P: Parts>(
+/// A process comes, whose name has this type, and its payer gives so many Dths. Want of memory leaves the state as it
+/// was.
+pub(crate) fn come<P: Parts>(
     parts: &mut P,
     alloc: Global,
     child: Newborn,
