@@ -15,6 +15,7 @@ mod looking;
 mod marking;
 pub mod mentions;
 mod naming;
+mod outside;
 pub mod readers;
 mod reading;
 mod redirecting;
