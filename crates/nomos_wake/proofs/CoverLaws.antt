@@ -22,9 +22,9 @@ use Rattle.nomos_deeds.specs.Readers.{acquires, acquires_at, waits}
 use Rattle.nomos_wake.specs.Covering.{by_both, Covers, HasProxy, IsFollowed, IsNoted, MayBeReady}
 use Rattle.nomos_wake.specs.Foreseeing.{IsForeseen}
 use Rattle.nomos_wake.specs.Touching.{IsChanged, IsHeard, touch_of}
-use Rattle.nomos_wake.specs.Woken.{IsSameBut, Woken, itself, client, provider, releasing, acquiring}
+use Rattle.nomos_wake.specs.Woken.{NoneChanged, IsSpoken, IsSpokenTo, IsSameBut, Woken, itself, client, provider, releasing, acquiring}
 use Rattle.nomos_wake.specs.declared.awake.Awake.{Awake}
-use Rattle.nomos_wake.specs.declared.touch.Heard.{Heard}
+use Rattle.nomos_wake.specs.declared.touch.Incoming.{Incoming}
 use Rattle.nomos_wake.specs.declared.touch.Touch.{Touch}
 use Rattle.nomos_wake.specs.declared.waking.Foreseen.{Foreseen}
 use Rattle.nomos_wake.specs.mirror.Telling.{Tells}
@@ -153,7 +153,7 @@ module _ (a : Acceptance) (t : State) where
       subst (λ (k : ℕ). WakesBy a t k v w) same wakes
   partner-wakes None n v w is wakes = absurd cc
 
-  heard-client : (heard : Option Heard) (name q : ℕ) (w : Awake) → heard ≡ Some (record { to_client = true; name = name })
+  heard-client : (heard : Option Incoming) (name q : ℕ) (w : Awake) → heard ≡ Some (record { to_client = true; name = name })
       → WakesHeard t heard w → owner t name ≡ Some q → MayBeReady w q
   heard-client (Some h) name q w is wakes owns =
       let way : h.to_client ≡ true = cc in
@@ -161,7 +161,7 @@ module _ (a : Acceptance) (t : State) where
       wakes.0 way q (ap (owner t) same ∙ owns)
   heard-client None name q w is wakes owns = absurd cc
 
-  heard-provider : (heard : Option Heard) (name : ℕ) (r : Process) (w : Awake)
+  heard-provider : (heard : Option Incoming) (name : ℕ) (r : Process) (w : Awake)
       → heard ≡ Some (record { to_client = false; name = name }) → WakesHeard t heard w
       → offering t.objects name ≡ Some r → MayBeReady w r.pid
   heard-provider (Some h) name r w is wakes offers =
@@ -572,3 +572,25 @@ followed-covers {a} accepted {s} typed pid name v w ready own covers may same fo
         let one : Some has.0 ≡ Some n = sym (covers.noted q has.0 has.1.noted) ∙ is in
         let equal : has.0 ≡ n = cc in
         inr (on n q (subst (λ (k : ℕ). IsNoted v k q) equal has.1.noted))
+
+-- where an outside party spoke on a name, whose provider is told then, the set covers the state that came of it
+pub spoken-covers : {a : Acceptance} → IsAccepted a → {s t : State} → IsTyped a s → IsTyped a t → (name : ℕ)
+    → IsSpokenTo name s t → (v w : Awake) → Covers a s v → Tells v w
+    → ((r : Process) → offering t.objects name ≡ Some r → MayBeReady w r.pid) → Covers a t w
+spoken-covers {a} accepted {s} {t} typed_s typed_t name same v w covers tells told =
+    covers-again accepted typed_s typed_t NoneChanged (IsSpoken name) same v v w covers
+    (record {
+      ready = λ q may. may;
+      noted = λ n q is. inl is;
+      back = λ n q is. (is, λ none. none);
+      followed = λ n is. is;
+      sought = λ q r over. (over, λ more. inl more);
+    })
+    tells
+    (λ n none. absurd none)
+    (λ on q is. absurd (differ is.0))
+    (λ on r is offers. told r (subst (λ (n : ℕ). offering t.objects n ≡ Some r) is.1 offers))
+    (λ r q on none waits_so over noted. absurd none)
+  where
+    differ : true ≡ false → ⊥
+    differ is = cc

@@ -45,7 +45,7 @@ use Rattle.std.proofs.lemmas.Bool.{cases_eq}
 use Rattle.nomos_machine.specs.Readiness.{looks_ready}
 use Rattle.nomos_wake.specs.Touching.{IsChanged, IsHeard, meets, says_on, touch_at, touch_by, touch_from, touch_of}
 use Rattle.nomos_wake.specs.Woken.{IsSameBut, WasThere}
-use Rattle.nomos_wake.specs.declared.touch.Heard.{Heard}
+use Rattle.nomos_wake.specs.declared.touch.Incoming.{Incoming}
 use Rattle.nomos_wake.specs.declared.touch.Touch.{Touch}
 
 -- ---- what a change that is told does
@@ -355,7 +355,7 @@ module _ (a : Acceptance) (s : State) (p : Process) (touch : Touch) where
       hears : (from : ℕ) → present_name p c ≡ Some from → IsHeard touch (is_own c) from
       hears from is =
           ap (λ (u : Touch). u.heard) is_touch
-          ∙ ap (λ (o : Option ℕ). option_map (λ n. let h : Heard = record { to_client = is_own c; name = n } in h) o) is
+          ∙ ap (λ (o : Option ℕ). option_map (λ n. let h : Incoming = record { to_client = is_own c; name = n } in h) o) is
 
   takes-told : (m : Message) (q : Process) → Contains s.objects (object.Message m) → IsTold (takes a s p m q)
   takes-told m q there = record {
@@ -449,7 +449,7 @@ module _ (a : Acceptance) (s : State) (p : Process) (touch : Touch) where
       hears : IsHeard touch false name
       hears =
           ap (λ (u : Touch). u.heard) is_touch
-          ∙ ap (λ (o : Option ℕ). option_map (λ n. let h : Heard = record { to_client = false; name = n } in h) o) bound
+          ∙ ap (λ (o : Option ℕ). option_map (λ n. let h : Incoming = record { to_client = false; name = n } in h) o) bound
 
       partner : (u : Object) → user_of s.objects p.offers ≡ Some u → touch.partner ≡ Some (object_number u)
       partner u found =

@@ -11,7 +11,7 @@ use Rattle.nomos_machine.specs.Optional.{◌>>=◌}
 use Rattle.nomos_machine.specs.Sight.{is_own, present_name, offering, owner}
 use Rattle.nomos_machine.specs.State.{State, process_at}
 use Rattle.nomos_machine.specs.declared.object.Process.{Process}
-use Rattle.nomos_wake.specs.declared.touch.Heard.{Heard}
+use Rattle.nomos_wake.specs.declared.touch.Incoming.{Incoming}
 use Rattle.nomos_wake.specs.declared.touch.Touch.{Touch}
 
 -- nothing else is touched
@@ -19,8 +19,8 @@ abbrev pub no_touch : Touch
 no_touch = record { partner = None; heard = None }
 
 -- a message comes this way on this name
-abbrev pub heard_on : Bool → Option ℕ → Option Heard
-heard_on way name = option_map (λ n. let heard : Heard = record { to_client = way; name = n } in heard) name
+abbrev pub heard_on : Bool → Option ℕ → Option Incoming
+heard_on way name = option_map (λ n. let heard : Incoming = record { to_client = way; name = n } in heard) name
 
 -- it says something on a channel
 abbrev pub says_on : Process → Chan → Touch

@@ -37,3 +37,16 @@ pub data Woken (a : Acceptance) (changed : ℕ → Type 0) (heard : Bool → ℕ
   acquiring : (r : Process) (n : CodeNode) (q : ℕ) → changed r.pid → Contains t.objects (object.Process r)
       → slice_get a.program.code r.code.0 ≡ Some n → IsSome (accept_next n) → waits a t.objects q ≡ Some r.offers
       → Woken a changed heard t q
+
+-- no process changed
+abbrev pub NoneChanged : ℕ → Type 0
+NoneChanged q = ⊥
+
+-- a message came to the provider of this name
+abbrev pub IsSpoken : ℕ → Bool → ℕ → Type 0
+IsSpoken name way on = (way ≡ false) × (on ≡ name)
+
+-- An outside party spoke on the name, or heard something: the second state is the first one but for messages, and those
+-- that it has besides go to the provider of the name.
+abbrev pub IsSpokenTo : ℕ → State → State → Type 0
+IsSpokenTo name s t = IsSameBut NoneChanged (IsSpoken name) s t

@@ -2,7 +2,7 @@
 
 /// A name on which a message comes, and which way it goes.
 #[derive(Clone, Copy, Debug)]
-pub struct Heard {
+pub struct Incoming {
     pub to_client: bool,
     pub name: u32,
 }
@@ -13,5 +13,5 @@ pub struct Touch {
     /// The number of another object that goes on otherwise.
     pub partner: Option<u32>,
     /// Where a message may be read afterwards that was not there.
-    pub heard: Option<Heard>,
+    pub heard: Option<Incoming>,
 }

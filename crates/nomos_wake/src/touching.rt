@@ -7,7 +7,7 @@ ghost use Rattle.nomos_machine.specs.State.{process_at};
 ghost use Rattle.nomos_machine.specs.declared.object.Process.{Process};
 ghost use Rattle.nomos_wake.specs.Touching.{hands_on, heard_on, meets, no_touch, says_on, touch_at, touch_of};
 
-use crate::touch::{Heard, Touch};
+use crate::touch::{Incoming, Touch};
 use nomos_deeds::sight::Sight;
 use nomos_ir::code_node::{Chan, CodeNode};
 use nomos_ir::find::find_code;
@@ -32,10 +32,10 @@ fn no_touch() -> Touch
 }
 
 // Where a message comes this way on a name, if there is one.
-fn heard_on(to_client: bool, name: Option<u32>) -> Option<Heard>
+fn heard_on(to_client: bool, name: Option<u32>) -> Option<Incoming>
     ensures { result ≡ heard_on to_client name }
 {
-    name.map(|name| Heard { to_client, name })
+    name.map(|name| Incoming { to_client, name })
 }
 
 // It says something on a channel.

@@ -8,11 +8,12 @@ ghost use Rattle.nomos_machine.specs.declared.object.Process.{Process};
 ghost use Rattle.nomos_deeds.specs.Readers.{waits};
 ghost use Rattle.nomos_wake.specs.Covering.{Covers, HasProxy, IsNoted, MayBeReady};
 ghost use Rattle.nomos_wake.specs.Foreseeing.{IsForeseen};
+ghost use Rattle.nomos_wake.specs.Woken.{IsSpokenTo};
 ghost use Rattle.nomos_wake.specs.mirror.Telling.{Tells};
 ghost use Rattle.nomos_wake.specs.mirror.Waking.{Leaves, MayWakeBy, WakesBy, WakesHeard};
 
 use crate::awake::Awake;
-use crate::touch::{Heard, Touch};
+use crate::touch::{Incoming, Touch};
 use crate::touching::{node_at, touch_of};
 use nomos_deeds::machine::Machine;
 use nomos_ir::code_node::CodeNode;
@@ -54,7 +55,7 @@ fn wake_provider<M: Machine>(awake: &mut Awake, machine: &M, name: u32)
 }
 
 // Wakes who may read what is heard.
-fn wake_heard<M: Machine>(awake: &mut Awake, machine: &M, heard: Option<Heard>)
+fn wake_heard<M: Machine>(awake: &mut Awake, machine: &M, heard: Option<Incoming>)
     ensures woken { WakesHeard (M.state machine.now) heard awake.new }
     ensures tells { Tells awake.old awake.new }
 {
@@ -193,4 +194,16 @@ pub fn wake_after<M: Machine>(
     wake_heard(awake, machine, foreseen.touch.heard);
     offer_if(awake, foreseen.waits);
     offer_if(awake, foreseen.partner_waits);
+}
+
+/// Wakes who may read what an outside party said on a name: if the set covered the state before, it covers the state
+/// after. The same holds where that party heard something.
+pub fn wake_spoken<M: Machine>(awake: &mut Awake, machine: &M, accepted: &Accepted, name: u32)
+    requires { IsTyped accepted.now (M.state machine.now) }
+    ensures { (s : State) → IsTyped accepted.now s → IsSpokenTo name s (M.state machine.now)
+        → Covers accepted.now s awake.old → Covers accepted.now (M.state machine.now) awake.new }
+{
+    // Where the program is read it is known to be accepted.
+    let _program = accepted.program();
+    wake_provider(awake, machine, name);
 }

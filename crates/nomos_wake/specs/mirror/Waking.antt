@@ -7,12 +7,12 @@ use Rattle.nomos_machine.specs.State.{State, process_at}
 use Rattle.nomos_machine.specs.declared.object.Process.{Process}
 use Rattle.nomos_wake.specs.Covering.{HasProxy, IsFollowed, IsNoted, MayBeReady}
 use Rattle.nomos_wake.specs.declared.awake.Awake.{Awake}
-use Rattle.nomos_wake.specs.declared.touch.Heard.{Heard}
+use Rattle.nomos_wake.specs.declared.touch.Incoming.{Incoming}
 use Rattle.nomos_wake.specs.declared.waking.Foreseen.{Foreseen}
 use Rattle.nomos_wake.specs.mirror.Telling.{Tells}
 
 -- who may read what is heard may be ready
-abbrev pub WakesHeard : State → Option Heard → Awake → Type 0
+abbrev pub WakesHeard : State → Option Incoming → Awake → Type 0
 WakesHeard t (Some h) w = (h.to_client ≡ true → (q : ℕ) → owner t h.name ≡ Some q → MayBeReady w q)
     × (h.to_client ≡ false → (r : Process) → offering t.objects h.name ≡ Some r → MayBeReady w r.pid)
 WakesHeard t None w = Unit {0}
