@@ -345,3 +345,33 @@ module _ {W E : Type 0} (v : View W E) (held : List (ℕ × Option W)) (m : Hold
       (subst (λ (u : View W E). u.own ≡ mine number u.seen) view own) in
       let ready = is_ready history t m n work p.0 p.1 own_here counted in
       (ready.0, ready.1, ready.2, ready.3 ∙ ap (λ (k : ℕ). mine k (history work)) (sym number_here))
+
+  -- and what the pass knows of the floor and of its numbers it still knows
+  pub counts_kept : (history : W → List (ℕ × E)) (n : Holder W E) → Puts → HasCounted history m n
+      → (n.0.opened ≡ v.opened) × (n.0.number ≡ v.number) × (n.0.next ≡ v.next) × (n.0.out ≡ v.out)
+      × (n.0.ended ≡ v.ended)
+  counts_kept history n put counted = ⊎_elim
+      (λ (added : (entry : E) × (n ≡ (adding entry m.0, m.1))). (
+        ap (λ (k : Holder W E). k.0.opened) added.1 ∙ ap (λ (k : Holder W E). k.0.opened) put.0,
+        ap (λ (k : Holder W E). k.0.number) added.1 ∙ ap (λ (k : Holder W E). k.0.number) put.0,
+        ap (λ (k : Holder W E). k.0.next) added.1 ∙ ap (λ (k : Holder W E). k.0.next) put.0,
+        ap (λ (k : Holder W E). k.0.out) added.1 ∙ ap (λ (k : Holder W E). k.0.out) put.0,
+        ap (λ (k : Holder W E). k.0.ended) added.1 ∙ ap (λ (k : Holder W E). k.0.ended) put.0,
+      ))
+      (λ (same : n ≡ m). (
+        ap (λ (k : Holder W E). k.0.opened) same ∙ ap (λ (k : Holder W E). k.0.opened) put.0,
+        ap (λ (k : Holder W E). k.0.number) same ∙ ap (λ (k : Holder W E). k.0.number) put.0,
+        ap (λ (k : Holder W E). k.0.next) same ∙ ap (λ (k : Holder W E). k.0.next) put.0,
+        ap (λ (k : Holder W E). k.0.out) same ∙ ap (λ (k : Holder W E). k.0.out) put.0,
+        ap (λ (k : Holder W E). k.0.ended) same ∙ ap (λ (k : Holder W E). k.0.ended) put.0,
+      )) counted.0
+
+-- the work that is taken out is the one that was put in
+pub same_work : {W : Type 0} (held : List (ℕ × Option W)) (work other : W) (found : Option W)
+    → held ≡ (0, Some work) ∷ [] → held ≡ (0, found) ∷ rest held → found ≡ Some other → work ≡ other
+same_work {W} held work other found put taken is =
+    let here : Some (Some work) ≡ Some found = ap first_value (sym put ∙ taken) in cc (here, is)
+  where
+    first_value : {W : Type 0} → List (ℕ × Option W) → Option (Option W)
+    first_value [] = None
+    first_value (e ∷ es) = Some e.1

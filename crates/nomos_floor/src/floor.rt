@@ -67,7 +67,7 @@ pub enum OpenError<W> {
 impl<W: Shared> Floor<W> {
     ghost use Rattle.nomos_floor.specs.FloorPass.{IsPassOf, IsTurnOf, IsOpening, KeepsNumbers, AddsAtMostOne, opened_work, pass_number, seen_by, own_of, next_of, out_of, ended_of, entries_of, pass_of, taken_history};
     ghost use Rattle.nomos_floor.specs.OwnEntries.{mine, longer, without_number};
-    ghost use Rattle.nomos_floor.specs.mirror.TurnSeats.{HasDrawn, GetsTurn, HoldsWork, IsNew, HasCounted};
+    ghost use Rattle.nomos_floor.specs.mirror.TurnSeats.{HasDrawn, GetsTurn, HoldsWork, IsNew, HasCounted, HasPut};
 
     /// Opens a floor over a work with no entry, and gives the opening pass, whose number is 0.
     pub fn open(alloc: Global, work: W) -> Result<(Floor<W>, Pass<W>), OpenError<W>>
@@ -180,6 +180,54 @@ impl<W: Shared> Floor<W> {
         }
     }
 
+    // Puts the work of a turn into the slot, and counts its last entry, if it is new. The pass has its turn still.
+    fn put_and_count(&self, turn: Turn<W>) -> Pass<W>
+        requires of_floor { IsTurnOf self.now turn }
+        requires history { AddsAtMostOne (pass_number (pass_of turn)) (taken_history turn) (W.history turn.work) }
+        ensures { HasPut W.history self.now turn result }
+    {
+        let Turn {
+            work,
+            entries,
+            pass,
+        } = turn;
+        let Pass {
+            number,
+            next,
+            mut seat,
+        } = pass;
+        let is_new = work.entries() != entries;
+        drop(self.table.shared.exchange(&mut seat, WORK, Some(work)));
+        self.count_new(&mut seat, is_new);
+        Pass { number, next, seat }
+    }
+
+    /// Counts the entry that a turn has added, if it has added one, and goes on with the turn: the pass may add one entry
+    /// more, and no other pass has had a turn in between.
+    pub fn go_on(&self, turn: Turn<W>) -> Turn<W>
+        requires of_floor { IsTurnOf self.now turn }
+        requires start { W.start turn.work ≡ W.start (opened_work self.now) }
+        requires history { AddsAtMostOne (pass_number (pass_of turn)) (taken_history turn) (W.history turn.work) }
+        ensures of_floor { IsTurnOf self.now result }
+        ensures work { result.work ≡ turn.work }
+        ensures taken { taken_history result ≡ W.history turn.work }
+        ensures own { own_of (pass_of result) ≡ mine (pass_number (pass_of result)) (W.history turn.work) }
+        ensures kept { KeepsNumbers (pass_of turn) (pass_of result) }
+    {
+        let mut pass = self.put_and_count(turn);
+        let work = self
+            .table
+            .shared
+            .exchange(&mut pass.seat, WORK, None)
+            .unwrap();
+        let entries = work.entries();
+        Turn {
+            work,
+            entries,
+            pass,
+        }
+    }
+
     /// Ends a turn, and gives the pass back. The work has the entries that it had when it was taken, or one more, which
     /// is of this pass.
     pub fn give_back(&self, turn: Turn<W>) -> Pass<W>
@@ -195,19 +243,11 @@ impl<W: Shared> Floor<W> {
             → own_of result ≡ own_of (pass_of turn) ++ entry ∷ [] }
         ensures kept { KeepsNumbers (pass_of turn) result }
     {
-        let Turn {
-            work,
-            entries,
-            pass,
-        } = turn;
         let Pass {
             number,
             next,
             mut seat,
-        } = pass;
-        let is_new = work.entries() != entries;
-        drop(self.table.shared.exchange(&mut seat, WORK, Some(work)));
-        self.count_new(&mut seat, is_new);
+        } = self.put_and_count(turn);
         self.table.shared.fetch_add::<Serve>(&mut seat, SERVING, 1);
         Pass { number, next, seat }
     }

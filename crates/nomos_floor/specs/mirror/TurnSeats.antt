@@ -1,6 +1,11 @@
 -- A mirror of the code: what the parts of a turn tell one another. Private clauses alone cite it.
 use Rattle.std.specs.Prelude.{◌≡◌, ◌⊎◌, ℕ, ◌%◌, ◌^◌, Bool, MatchBool, Some, List, [], ◌∷◌, ◌++◌}
 use Rattle.nomos_floor.specs.FloorSteps.{Holder, Continues, at_turn, adding}
+use Rattle.nomos_floor.specs.FloorPass.{IsOfFloor, KeepsNumbers, own_of, pass_number, pass_of, seen_by}
+use Rattle.nomos_floor.specs.OwnEntries.{mine}
+use Rattle.nomos_floor.specs.declared.floor.Floor.{Floor}
+use Rattle.nomos_floor.specs.declared.floor.Pass.{Pass}
+use Rattle.nomos_floor.specs.declared.floor.Turn.{Turn}
 use Rattle.nomos_floor.specs.declared.view.Stage.TheVariants.{Waiting, Serving}
 
 module _ {W E : Type 0} where
@@ -28,3 +33,14 @@ module _ {W E : Type 0} where
   GetsTurn start history m n =
       (work : W) × (ticket : ℕ) × (n ≡ (at_turn ticket (history work) m.0, (0, Some work) ∷ m.1))
       × Continues start history m.0 work
+
+module _ {W S E : Type 0} where
+  -- the work of the turn lies in the slot, its last entry is counted if it was new, and the pass has its turn still
+  pub record HasPut (history : W → List (ℕ × E)) (floor : Floor W S E) (turn : Turn W S E)
+      (pass : Pass W S E) : Type 0 where
+    pub of_floor : IsOfFloor floor pass
+    pub served : (ticket : ℕ) × (pass.seat.me.0.stage ≡ Serving ticket)
+    pub holds : pass.seat.me.1 ≡ (0, Some turn.work) ∷ []
+    pub seen : seen_by pass ≡ history turn.work
+    pub own : own_of pass ≡ mine (pass_number pass) (history turn.work)
+    pub kept : KeepsNumbers (pass_of turn) pass
