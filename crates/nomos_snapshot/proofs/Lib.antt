@@ -1,7 +1,10 @@
 mod Examples
+mod KindLemmas
+mod LabelLemmas
 pub mod LeadLaws
 pub mod LineLaws
 pub mod OneLineLaws
+mod MessageLemmas
 pub mod OneReadingLaws
 mod RowLemmas
 mod ValueLemmas

@@ -2,9 +2,12 @@
 #![tactic(auto)]
 
 mod kind;
+mod labels;
 pub mod line;
 mod marked;
+mod message_lines;
 mod plain_lines;
 mod process_lines;
+pub mod reading;
 mod values;
 pub mod words;

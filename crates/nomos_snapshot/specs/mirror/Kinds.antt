@@ -1,15 +1,16 @@
 -- A mirror: the kinds of lines, by their first word, and lines of one kind by the words behind it.
-use Rattle.std.specs.Prelude.{◌≡◌, ◌≢◌, ℕ, List, [], ◌∷◌, Option, MatchOption, codes, drop, find}
+use Rattle.std.specs.Prelude.{◌≡◌, ◌≢◌, ℕ, List, [], ◌∷◌, Option, MatchOption, codes, decimal, drop, find}
 use Rattle.std.specs.Str.{bytes_eq}
 use Rattle.nomos_ir.specs.Value.{list, value_list}
 use Rattle.nomos_ir.specs.declared.lists.ProgramLists.{ProgramLists}
 use Rattle.nomos_script.specs.ScriptNames.{IsScriptName}
-use Rattle.nomos_snapshot.specs.Line.{IsGas, IsNext, IsNumber, IsMessageLine, IsProcessLine, IsTypeNumber, line_words}
+use Rattle.nomos_snapshot.specs.Line.{IsGas, IsNext, IsNumber, IsNumberIfAny, IsMessageLine, IsProcessLine, IsTypeNumber, line_words, name_word, way_word}
 use Rattle.nomos_snapshot.specs.LineValue.{IsLineValue}
 use Rattle.nomos_snapshot.specs.declared.kind.LineKind.{LineKind}
 use Rattle.nomos_snapshot.specs.declared.kind.LineKind.TheVariants as kind
 use Rattle.nomos_snapshot.specs.declared.line.SnapshotLine.{SnapshotLine}
 use Rattle.nomos_snapshot.specs.declared.line.SnapshotLine.TheVariants as line
+use Rattle.nomos_snapshot.specs.declared.message_lines.MessageHead.{MessageHead}
 
 -- ---- kinds
 
@@ -122,3 +123,14 @@ IsOfKind lists kind.Value = IsValueLine
 IsOfKind lists kind.List = IsListLine
 IsOfKind lists kind.Channel = IsChannelLine
 IsOfKind lists kind.Message = IsMessageOf lists
+
+-- ---- parts of lines
+
+-- what stands in the line of a message before what it brings
+pub record IsMessageHead (h : MessageHead) : Type 0 where
+  pub number : IsNumber h.number
+  pub from : IsNumber h.from
+  pub next : IsNumberIfAny h.next
+
+abbrev pub head_words : MessageHead → List (List ℕ) → List (List ℕ)
+head_words h rest = decimal h.number ∷ way_word h.to_client ∷ decimal h.from ∷ name_word h.next ∷ rest
