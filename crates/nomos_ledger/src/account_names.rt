@@ -11,7 +11,7 @@ use std::marker::Model;
 
 /// Names of accounts by number, each found by its text in one step. No two are the same.
 #[derive(Drop, Debug)]
-pub(crate) struct AccountNames {
+pub struct AccountNames {
     names: IndexSet<String>,
 }
 
@@ -28,7 +28,7 @@ impl Model for AccountNames {
 
 impl AccountNames {
     /// No names. It takes no memory.
-    pub(crate) fn new(alloc: Global) -> AccountNames
+    pub fn new(alloc: Global) -> AccountNames
         ensures { result ≡ [] }
     {
         AccountNames {
@@ -37,24 +37,32 @@ impl AccountNames {
     }
 
     /// The name of an account, if there is one of this number.
-    pub(crate) fn name(&self, n: u32) -> Option<&str>
+    pub fn name(&self, n: u32) -> Option<&str>
         ensures name { option_map (λ name. name.now) result ≡ slice_get self.now n }
         ensures names { All IsScriptName self.now }
     {
         self.names.get_index(n as usize).map(|name| name.as_str())
     }
 
-    /// The number of the account of this name.
-    pub(crate) fn number_of(&self, name: &ScriptName) -> Option<u32>
+    /// The number of the account of this name, if there is one, whatever the text is.
+    pub(crate) fn number_by(&self, name: &str) -> Option<u32>
         requires { length self.now < 2 ^ 32 }
         ensures { result ≡ account_of self.now name.now }
     {
-        let number = self.names.get_index_of(name.as_str())?;
+        let number = self.names.get_index_of(name)?;
         Some(number as u32)
     }
 
+    /// The number of the account of this name.
+    pub fn number_of(&self, name: &ScriptName) -> Option<u32>
+        requires { length self.now < 2 ^ 32 }
+        ensures { result ≡ account_of self.now name.now }
+    {
+        self.number_by(name.as_str())
+    }
+
     /// Puts a name at the end that no account has yet. Want of memory changes nothing.
-    pub(crate) fn add(&mut self, alloc: Global, name: &ScriptName) -> Result<(), AllocError>
+    pub fn add(&mut self, alloc: Global, name: &ScriptName) -> Result<(), AllocError>
         requires { account_of self.old name.now ≡ None }
         ensures ok { OnOk result (self.new ≡ self.old ++ name.now ∷ []) }
         ensures err { OnErr result (self.new ≡ self.old) }

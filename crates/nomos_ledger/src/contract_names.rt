@@ -12,7 +12,7 @@ use std::marker::Model;
 
 /// Contracts in order of naming, each found by its name in one step. No two have the same name.
 #[derive(Drop, Debug)]
-pub(crate) struct ContractNames {
+pub struct ContractNames {
     names: IndexMap<String, u32>,
 }
 
@@ -31,7 +31,7 @@ impl Model for ContractNames {
 
 impl ContractNames {
     /// No contracts. It takes no memory.
-    pub(crate) fn new(alloc: Global) -> ContractNames
+    pub fn new(alloc: Global) -> ContractNames
         ensures { result ≡ [] }
     {
         ContractNames {
@@ -40,14 +40,14 @@ impl ContractNames {
     }
 
     /// The number of contracts.
-    pub(crate) fn len(&self) -> usize
+    pub fn len(&self) -> usize
         ensures { result ≡ length self.now }
     {
         self.names.len()
     }
 
     /// The contract of this place, if there is one.
-    pub(crate) fn contract(&self, n: usize) -> Option<Named<'_>>
+    pub fn contract(&self, n: usize) -> Option<Named<'_>>
         ensures contract { option_map (λ c. (c.name.now, c.shared)) result ≡ slice_get self.now n }
         ensures names { All (λ c. IsScriptName c.0) self.now }
     {
@@ -59,19 +59,14 @@ impl ContractNames {
     }
 
     /// The shared name of the contract of this name, if there is one.
-    pub(crate) fn shared_name(&self, name: &ScriptName) -> Option<u32>
+    pub fn shared_name(&self, name: &ScriptName) -> Option<u32>
         ensures { result ≡ shared_name self.now name.now }
     {
         self.names.get(name.as_str()).copied()
     }
 
     /// Puts a contract at the end whose name none has yet. Want of memory changes nothing.
-    pub(crate) fn add(
-        &mut self,
-        alloc: Global,
-        name: &ScriptName,
-        shared: u32,
-    ) -> Result<(), AllocError>
+    pub fn add(&mut self, alloc: Global, name: &ScriptName, shared: u32) -> Result<(), AllocError>
         requires { shared_name self.old name.now ≡ None }
         ensures ok { OnOk result (self.new ≡ self.old ++ (name.now, shared) ∷ []) }
         ensures err { OnErr result (self.new ≡ self.old) }

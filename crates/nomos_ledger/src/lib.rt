@@ -1,11 +1,11 @@
 //! Ledgers and batches under way, over a machine that can go back to a state that was marked.
 #![tactic(auto)]
 
-mod account_names;
+pub mod account_names;
 pub mod arguments;
 pub mod begun;
 mod books;
-mod contract_names;
+pub mod contract_names;
 mod declared;
 mod fired;
 mod fitting;
@@ -14,5 +14,6 @@ mod lines;
 pub mod named;
 mod resolving;
 mod rest;
+mod taking;
 pub mod world;
 mod worth;
