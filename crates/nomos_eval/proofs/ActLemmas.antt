@@ -20,7 +20,6 @@ use Rattle.nomos_eval.specs.mirror.Evaluator.{held, scopes_held, IsSound, IsDone
 use Rattle.nomos_eval.specs.mirror.Operation.{operation}
 use Rattle.nomos_eval.specs.mirror.Rest.{Variables, rest, top, below}
 use Rattle.nomos_eval.specs.mirror.EvalTable.{datum_value, reach, capped}
-use Rattle.nomos_eval.proofs.AroundLemmas.{taken-more}
 use Rattle.nomos_eval.proofs.EvaluatorLemmas.{values-more, scopes-more, values-higher, scopes-higher, last-list}
 
 -- the topmost value, and those below it
@@ -98,8 +97,7 @@ numbers-done operator old mid others values x y d sound last mid_is first others
         todo = sound.todo;
         values = (omega (arith, gave.1), inside);
         scopes = sound.scopes;
-        kept =
-            sound.kept;
+        rises = sound.rises;
       };
       same =
           λ program n. numbers-step program old.lists (scopes_held old) old.todo operator old.values others x y n took
@@ -226,7 +224,7 @@ put-done old mid others values lists x y place joined a b sound last mid_is firs
                   inside,
             );
             scopes = scopes-higher (length old.lists) (length more) old.scopes (omega (arith, longer)) sound.scopes;
-            kept = taken-more old.lists (vs ∷ []) old.around.env.now old.around.loaded.items sound.kept;
+            rises = sound.rises;
           };
       same = λ program n.
           put-step program old.lists (scopes_held old) old.todo old.values others x y n took

@@ -9,8 +9,7 @@ use Rattle.nomos_eval.specs.declared.act.Act.{Act}
 use Rattle.nomos_eval.specs.declared.act.Act.TheVariants as act
 use Rattle.nomos_eval.specs.declared.around.Around.{Around}
 use Rattle.nomos_eval.specs.declared.datum.Datum.{Datum}
-use Rattle.nomos_eval.specs.mirror.Around.{IsTakenIn}
-use Rattle.std.specs.List.{AllByRecursion}
+use Rattle.nomos_eval.specs.mirror.Around.{Rises}
 use Rattle.nomos_eval.specs.mirror.Begin.{IsBegun}
 
 -- nothing follows
@@ -18,8 +17,8 @@ go_on-nothing : (e : Evaluation) → go_on e (λ v n. ends v n) ≡ e
 go_on-nothing (ends v n) = refl
 go_on-nothing (faults f) = refl
 
--- nothing is bound, and nothing was taken in
-first : (t : TermId) (env : Environment) (a : Around) → env ≡ a.env.now → a.loaded.items ≡ []
+-- nothing is bound yet
+first : (t : TermId) (env : Environment) (a : Around) → env ≡ a.env.now → Rises a.env.now a.known
     → IsBegun t env (record {
       todo = act.Term (record { variables = 0; calls = 0 }) t ∷ [];
       values = [];
@@ -27,14 +26,13 @@ first : (t : TermId) (env : Environment) (a : Around) → env ≡ a.env.now → 
       scopes = [] ∷ [];
       around = a;
     })
-first t env a same none =
-    let P : List (VarId × ℕ) → Type 0 = λ l. AllByRecursion (IsTakenIn [] a.env.now) l in
+first t env a same rises =
     record {
       sound = record {
         todo = (omega arith, tt);
         values = tt;
         scopes = (tt, tt);
-        kept = subst P (sym none) tt;
+        rises = rises;
       };
       same = λ program.
           go_on-nothing (evaluation_from program 0 a.env.now t 0)
@@ -43,11 +41,11 @@ first t env a same none =
     }
 
 pub begun : (t : TermId) (env : Environment) (a : Around) (none scopes : List (List (VarId × Datum))) (place : ℕ)
-    (todo before : List Act) (values : List Datum) (lists : List ValueList) → env ≡ a.env.now → a.loaded.items ≡ []
+    (todo before : List Act) (values : List Datum) (lists : List ValueList) → env ≡ a.env.now → Rises a.env.now a.known
     → none ≡ [] → place ≡ length none → scopes ≡ none ++ [] ∷ [] → before ≡ []
     → todo ≡ act.Term (record { variables = place; calls = 0 }) t ∷ before → values ≡ [] → lists ≡ []
     → IsBegun t env (record { todo = todo; values = values; lists = lists; scopes = scopes; around = a })
-begun t env a none scopes place todo before values lists same fresh none_is place_is added before_is planned
+begun t env a none scopes place todo before values lists same rises none_is place_is added before_is planned
     values_are lists_are =
     let place_zero : place ≡ 0 = place_is ∙ ap length none_is in
     let scopes_are : scopes ≡ [] ∷ [] = added ∙ ap (λ l. l ++ [] ∷ []) none_is in
@@ -78,4 +76,4 @@ begun t env a none scopes place todo before values lists same fresh none_is plac
       around = a;
     }) in
     subst P (sym todo_is) (subst Q (sym values_are) (subst R (sym lists_are)
-    (subst S (sym scopes_are) (first t env a same fresh))))
+    (subst S (sym scopes_are) (first t env a same rises))))

@@ -183,7 +183,7 @@ module _ (program : ProgramLists) (calls : ℕ) (f : FnId) (count : ℕ) (old : 
               todo = todo-higher (length old.scopes) (length scopes) old.todo longer sound.todo;
               values = (omega arith, held_in.0);
               scopes = held_in.1;
-              kept = sound.kept;
+              rises = sound.rises;
             };
         same = λ n.
             ap (λ o. go_on (body_evaluation (evaluation_from program) calls o (arguments_on count (values_found old)) n)
@@ -223,7 +223,7 @@ module _ (program : ProgramLists) (calls : ℕ) (f : FnId) (count : ℕ) (old : 
               todo = (binding.there, todo-higher (length old.scopes) (length scopes) old.todo longer sound.todo);
               values = held_in.0;
               scopes = held_in.1;
-              kept = sound.kept;
+              rises = sound.rises;
             };
         same = λ n.
             ap (λ o. go_on (body_evaluation (evaluation_from program) calls o (arguments_on count (values_found old)) n)

@@ -24,8 +24,7 @@ use Rattle.nomos_eval.specs.mirror.Evaluator.{held, scopes_held, values_found, l
 use Rattle.nomos_eval.specs.mirror.Rest.{rest, seen_in, variables_at, work, ScopeIn, argument_acts}
 use Rattle.nomos_eval.specs.mirror.EvalTable.{datum_value, reach}
 use Rattle.nomos_eval.specs.declared.around.Around.{Around}
-use Rattle.nomos_eval.specs.mirror.Around.{IsKept, IsLookedUp}
-use Rattle.nomos_eval.proofs.AroundLemmas.{taken-more}
+use Rattle.nomos_eval.specs.mirror.Around.{Rises, IsLookedUp}
 use Rattle.nomos_eval.proofs.ListLemmas.{datum-more}
 use Rattle.nomos_eval.proofs.RestLemmas.{leaves-arguments}
 
@@ -119,14 +118,14 @@ at-held lists (suc k) (s ∷ ss) = at-held lists k ss
 
 -- a variable that is bound in the scope
 pub found-bound : (scopes : List (List (VarId × Datum))) (scope : Scope) (v : VarId) (a : Around)
-    (lists : List ValueList) (d : Datum) → IsKept lists a
+    (lists : List ValueList) (d : Datum) → Rises a.env.now a.known
     → AllByRecursion (AllByRecursion (λ b. reach b.1 ≤ length lists)) scopes
     → Some d ≡ bound_to v.0 (get_or scopes scope.variables []) → IsFound scopes scope v a lists a lists d
-found-bound scopes scope v a lists d kept inside is =
+found-bound scopes scope v a lists d rises inside is =
     record {
       env = refl;
       grown = ([], sym (append-nil lists));
-      kept = kept;
+      rises = rises;
       there = bound-reach (length lists) v.0 (get_or scopes scope.variables []) d
           (at-scope (length lists) scope.variables scopes inside) is;
       same = sym (ap (λ e. unwrap_or (bound_to v.0 (e ++ seen_in scope.calls a.env.now)) nought)
@@ -147,15 +146,15 @@ around-is scopes scope v env lists none =
 
 -- a function sees no more
 pub found-nothing : (scopes : List (List (VarId × Datum))) (scope : Scope) (v : VarId) (a : Around)
-    (lists : List ValueList) → IsKept lists a → 0 < scope.calls
+    (lists : List ValueList) → Rises a.env.now a.known → 0 < scope.calls
     → None ≡ bound_to v.0 (get_or scopes scope.variables [])
     → IsFound scopes scope v a lists a lists (datum.Int (pos 0))
-found-nothing scopes scope v a lists kept some none =
+found-nothing scopes scope v a lists rises some none =
     let deeper : scope.calls ≡ suc (scope.calls - 1) = omega arith in
     record {
       env = refl;
       grown = ([], sym (append-nil lists));
-      kept = kept;
+      rises = rises;
       there = omega arith;
       same = sym (ap (λ k. unwrap_or (bound_to v.0 (seen_in k a.env.now)) nought) deeper)
           ∙ around-is scopes scope v a.env.now lists none;
@@ -170,7 +169,7 @@ found-around scopes scope v a new lists after d outermost none looked =
     record {
       env = looked.env;
       grown = looked.grown;
-      kept = looked.kept;
+      rises = looked.rises;
       there = looked.there;
       same = looked.same ∙ sym (ap (λ k. unwrap_or (bound_to v.0 (seen_in k a.env.now)) nought) first)
           ∙ around-is scopes scope v a.env.now lists none;
@@ -201,7 +200,7 @@ variable-entered scope v old around lists d values sound found pushed at =
             todo = sound.todo;
             values = (found.there, values-higher (length old.lists) (length lists) old.values longer sound.values);
             scopes = scopes-higher (length old.lists) (length lists) old.scopes longer sound.scopes;
-            kept = found.kept;
+            rises = found.rises;
           };
       same = λ program n.
           ap (λ w. left_with program old w n) (sym found.same)
@@ -264,7 +263,7 @@ nil-entered scope at k old place lists values sound place_is added pushed =
             );
             scopes = scopes-higher (length old.lists) (length more) old.scopes (omega (arith, longer))
                 sound.scopes;
-            kept = taken-more old.lists (no_values ∷ []) old.around.env.now old.around.loaded.items sound.kept;
+            rises = sound.rises;
           };
       same = λ program n.
           ap (λ ss. rest (evaluation_from program) program (record { bound = ss; around = old.around.env.now }) old.todo
@@ -308,7 +307,7 @@ call-entered scope at f ts old todo sound inside planned =
                 inside (tt, sound.todo);
             values = sound.values;
             scopes = sound.scopes;
-            kept = sound.kept;
+            rises = sound.rises;
           };
       same =
           λ program n. leaves-arguments (evaluation_from program) program (scopes_held old) scope f (length ts) ts []

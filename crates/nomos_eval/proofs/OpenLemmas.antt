@@ -20,7 +20,6 @@ use Rattle.nomos_eval.specs.mirror.Parted.{IsParted}
 use Rattle.nomos_eval.specs.mirror.Rest.{Variables, rest, follow, seen_in, variables_at, below, ScopeIn}
 use Rattle.nomos_eval.specs.mirror.EvalTable.{datum_value, reach}
 use Rattle.nomos_eval.proofs.ActLemmas.{top-found, below-found, top-in, below-in}
-use Rattle.nomos_eval.proofs.AroundLemmas.{taken-more}
 use Rattle.nomos_eval.proofs.EvaluatorLemmas.{at-scope, values-more, scopes-more, values-higher, scopes-higher}
 use Rattle.nomos_eval.proofs.RestLemmas.{go_on-next, rest-more}
 
@@ -173,7 +172,7 @@ open-done scope c old mid first second todo place h t with_head with_tail sound 
             scopes =
                 scopes-in (length old.lists) (old.scopes ++ s1 ∷ []) s2
                 (scopes-in (length old.lists) old.scopes s1 sound.scopes s1_in) s2_in;
-            kept = sound.kept;
+            rises = sound.rises;
           };
       same = λ program n.
           open-step program old.lists (scopes_held old) old.todo scope c old.values (datum_value old.lists h)
@@ -206,7 +205,7 @@ module _ (m : Evaluator) (more : List ValueList) (sound : IsSound m) where
         todo = sound.todo;
         values = values-higher (length m.lists) (length (m.lists ++ more)) m.values longer sound.values;
         scopes = scopes-higher (length m.lists) (length (m.lists ++ more)) m.scopes longer sound.scopes;
-        kept = taken-more m.lists more m.around.env.now m.around.loaded.items sound.kept;
+        rises = sound.rises;
       }
 
   grown-left : (program : ProgramLists) (a : Act) (n : ℕ) → left_of program a m n ≡ left_of program a grown n

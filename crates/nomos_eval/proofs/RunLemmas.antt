@@ -8,8 +8,6 @@ use Rattle.nomos_ir.proofs.EvaluationLaws.{evaluation_from, evaluation-step}
 use Rattle.nomos_eval.specs.declared.act.Act.{Act}
 use Rattle.nomos_eval.specs.declared.act.Act.TheVariants as act
 use Rattle.nomos_eval.specs.declared.act.Scope.{Scope}
-use Rattle.nomos_eval.specs.declared.datum.Datum.{Datum}
-use Rattle.nomos_eval.specs.declared.datum.Datum.TheVariants as datum
 use Rattle.nomos_eval.specs.declared.evaluator.Evaluator.{Evaluator}
 use Rattle.nomos_ir.specs.declared.fault.Fault.{Fault}
 use Rattle.nomos_ir.specs.declared.or_no_memory.OrNoMemory.{OrNoMemory}

@@ -4,6 +4,7 @@ ghost use Rattle.nomos_ir.specs.Bindings.{bound_to};
 ghost use Rattle.nomos_ir.specs.Evaluation.{ends, nought, term_evaluation};
 ghost use Rattle.nomos_ir.specs.ValueNode.{value_of};
 ghost use Rattle.nomos_eval.specs.EvaluatedAs.{EvaluatedAs};
+ghost use Rattle.nomos_eval.specs.mirror.Around.{Rises};
 ghost use Rattle.nomos_eval.specs.mirror.Begin.{IsBegun};
 ghost use Rattle.nomos_eval.specs.mirror.TermsFound.{IsValue};
 
@@ -48,12 +49,14 @@ pub fn value_from(node: ValueNode) -> Value
     }
 }
 
-// An evaluation before its first step: the term is left to do, and none of the variables around it is taken in.
+// An evaluation before its first step: the term is left to do.
 fn begin<'a>(
     alloc: Global,
     t: TermId,
     env: &'a [(VarId, Value)],
+    known: usize,
 ) -> Result<Evaluator<'a>, AllocError>
+    requires { Rises env.now known }
     ensures { IfOk result (λ evaluator. IsBegun t env.now evaluator) }
 {
     let mut scopes = Scopes::new(alloc);
@@ -69,10 +72,7 @@ fn begin<'a>(
         values: Stack::new(alloc),
         lists: Lists::new(alloc),
         scopes,
-        around: Around {
-            env,
-            loaded: Vec::new(alloc),
-        },
+        around: Around { env, known },
     })
 }
 
@@ -83,26 +83,28 @@ fn begin<'a>(
 pub fn eval(alloc: Global, program: &Program, t: TermId, env: &Env) -> Result<Evaluated, AllocError>
     ensures { IfOk result (λ evaluated. EvaluatedAs (term_evaluation program.now env.now t) evaluated) }
 {
-    match eval_node(alloc, program.lists(), t, env.as_slice()) {
+    match eval_node(alloc, program.lists(), t, env.as_slice(), 0) {
         Ok(node) => Ok(Evaluated::Value(value_from(node))),
         Err(OrNoMemory::Answer(fault)) => Ok(Evaluated::Fault(fault)),
         Err(OrNoMemory::NoMemory) => Err(AllocError),
     }
 }
 
-/// The value of the term as a node.
+/// The value of the term as a node, among variables of which so many first ones are known to ascend.
 pub(crate) fn eval_node(
     alloc: Global,
     lists: &ProgramLists,
     t: TermId,
     env: &[(VarId, Value)],
+    known: usize,
 ) -> Result<ValueNode, OrNoMemory<Fault>>
+    requires { Rises env.now known }
     ensures { IsValue result (term_evaluation lists.now env.now t) }
 {
-    if let Some(node) = node_at_once(lists, t, env)? {
+    if let Some(node) = node_at_once(lists, t, env, known)? {
         return Ok(node);
     }
-    let mut evaluator = begin(alloc, t, env)?;
+    let mut evaluator = begin(alloc, t, env, known)?;
     let found = run(lists, &mut evaluator)?;
     let node = unload(alloc, &evaluator.lists, found)?;
     Ok(node)
@@ -113,23 +115,26 @@ fn node_at_once(
     lists: &ProgramLists,
     t: TermId,
     env: &[(VarId, Value)],
+    known: usize,
 ) -> Result<Option<ValueNode>, AllocError>
+    requires { Rises env.now known }
     ensures { IfOk result (λ found. IfSome found (λ node.
         term_evaluation lists.now env.now t ≡ ends (value_of node) 1)) }
 {
     match find_term(lists, t) {
         Some(TermNode::Number(_, n)) => Ok(Some(ValueNode::Int(i64::from(*n)))),
         Some(TermNode::Truth(_, b)) => Ok(Some(ValueNode::Bool(*b))),
-        Some(TermNode::Var(_, v)) => Ok(Some(node_bound(env, *v)?)),
+        Some(TermNode::Var(_, v)) => Ok(Some(node_bound(env, known, *v)?)),
         _ => Ok(None),
     }
 }
 
 // The value of a variable as a node; one without a value is 0. A list is not copied.
-fn node_bound(env: &[(VarId, Value)], v: VarId) -> Result<ValueNode, AllocError>
+fn node_bound(env: &[(VarId, Value)], known: usize, v: VarId) -> Result<ValueNode, AllocError>
+    requires { Rises env.now known }
     ensures { IfOk result (λ node. value_of node ≡ unwrap_or (bound_to v.0 env.now) nought) }
 {
-    match bound_value(env, v) {
+    match bound_value(env, known, v) {
         Some(value) => value.node().copy(),
         None => Ok(ValueNode::Int(0)),
     }

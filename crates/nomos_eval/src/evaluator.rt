@@ -3,7 +3,7 @@ ghost use Rattle.std.specs.Prelude.{◌≡◌, ◌<◌, ◌≤◌, ◌++◌, ◌
 ghost use Rattle.nomos_eval.specs.declared.act.Act.TheVariants as act;
 ghost use Rattle.std.specs.List.{AllByRecursion};
 ghost use Rattle.nomos_ir.specs.declared.term_node.TermNode.TheVariants as node;
-ghost use Rattle.nomos_eval.specs.mirror.Around.{IsKept};
+ghost use Rattle.nomos_eval.specs.mirror.Around.{Rises};
 ghost use Rattle.nomos_eval.specs.mirror.EvalTable.{reach};
 ghost use Rattle.nomos_eval.specs.mirror.Evaluator.{IsSound, IsEntered, IsFound};
 ghost use Rattle.nomos_eval.specs.mirror.Rest.{argument_acts};
@@ -52,7 +52,7 @@ fn look_up(
 ) -> Result<Datum, AllocError>
     requires inside { scope.variables < length scopes.now }
     requires scopes { AllByRecursion (AllByRecursion (λ b. reach b.1 ≤ length lists.old)) scopes.now }
-    requires kept { IsKept lists.old around.old }
+    requires rises { Rises around.old.env.now around.old.known }
     ensures { IfOk result (λ d. IsFound scopes.now scope v around.old lists.old around.new lists.new d) }
 {
     if let Some(value) = scopes.look_up(scope.variables, v) {

@@ -1,17 +1,37 @@
 //! The variables of one evaluation. No list of them is ever changed, so they share their parts.
-ghost use Rattle.std.specs.Prelude.{◌≡◌, ◌<◌, ◌≤◌, ◌++◌, ◌∷◌, [], length, IfOk, slice_index_or};
+ghost use Rattle.std.specs.Prelude.{◌≡◌, ◌<◌, ◌≤◌, ◌++◌, ◌∷◌, ◌↔◌, [], IsTrue, length, IfOk, slice_index_or};
 ghost use Rattle.nomos_ir.specs.Bindings.{bound_to};
+ghost use Rattle.nomos_eval.specs.mirror.EvalScope.{IsOutside, Leads};
 
 use crate::datum::Datum;
 use nomos_ir::ids::VarId;
 use std::alloc::{AllocError, Global};
 use std::marker::Model;
 
-/// No variables, or a variable with its value, and the place of the others.
+/// A place further on, and between which numbers all variables stand that are passed on the way there; with how many
+/// they are.
+#[derive(Clone, Copy, PartialEq, Eq, Debug)]
+pub(crate) struct Leap {
+    place: usize,
+    least: u32,
+    most: u32,
+    count: u32,
+}
+
+/// No variables, or a variable with its value, the place of the others, and a leap over this one and some of those.
 #[derive(Clone, Copy, PartialEq, Eq, Debug)]
 pub(crate) enum Binding {
     Nothing,
-    More(VarId, Datum, usize),
+    More(VarId, Datum, usize, Leap),
+}
+
+impl Leap {
+    // Whether a look-up of the variable may take this leap.
+    fn passes(&self, v: VarId) -> bool
+        ensures { IsTrue result ↔ IsOutside self.now v.0 }
+    {
+        v.0 < self.least || self.most < v.0
+    }
 }
 
 /// Lists of variables by their places, which contracts see as the list of these lists.
@@ -65,8 +85,38 @@ impl Scopes {
             × (self.new ≡ self.old ++ ((v, value) ∷ slice_index_or self.old others []) ∷ [])) }
     {
         let place = self.cells.len();
-        self.cells.push(Binding::More(v, value, others))?;
+        let leap = self.leap_from(v, others);
+        self.cells.push(Binding::More(v, value, others, leap))?;
         Ok(place)
+    }
+
+    // The leap of a variable before those at a place: over itself, or, where the two leaps behind it are alike, over
+    // both of them too. So a look-up takes few steps where variables ascend or descend.
+    fn leap_from(&self, v: VarId, others: usize) -> Leap
+        requires { others < length self.now }
+        ensures { Leads self.now v others result }
+    {
+        let near = Leap {
+            place: others,
+            least: v.0,
+            most: v.0,
+            count: 1,
+        };
+        let Binding::More(_, _, _, first) = self.cells[others] else {
+            return near;
+        };
+        let Binding::More(_, _, _, second) = self.cells[first.place] else {
+            return near;
+        };
+        if first.count != second.count {
+            return near;
+        }
+        Leap {
+            place: second.place,
+            least: v.0.min(first.least).min(second.least),
+            most: v.0.max(first.most).max(second.most),
+            count: first.count.saturating_mul(2).saturating_add(1),
+        }
     }
 
     /// The value of the variable, by the first with its number at a place.
@@ -78,11 +128,11 @@ impl Scopes {
         loop {
             match self.cells[at] {
                 Binding::Nothing => return None,
-                Binding::More(w, value, others) => {
+                Binding::More(w, value, others, leap) => {
                     if w == v {
                         return Some(value);
                     }
-                    at = others;
+                    at = if leap.passes(v) { leap.place } else { others };
                 }
             }
         }

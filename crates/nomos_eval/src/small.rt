@@ -47,7 +47,7 @@ pub fn small_truth(program: &Program, t: TermId, env: &[(VarId, Value)]) -> Opti
 fn is_true(env: &[(VarId, Value)], v: VarId) -> bool
     ensures { result ≡ truth_in (unwrap_or (bound_to v.0 env.now) nought) }
 {
-    match bound_value(env, v) {
+    match bound_value(env, 0, v) {
         Some(value) => truth_in(value),
         None => false,
     }
@@ -80,7 +80,7 @@ fn small_part(lists: &ProgramLists, t: TermId, env: &[(VarId, Value)]) -> Option
 fn part_bound(env: &[(VarId, Value)], v: VarId) -> Part
     ensures { result ≡ part_of (unwrap_or (bound_to v.0 env.now) nought) }
 {
-    match bound_value(env, v) {
+    match bound_value(env, 0, v) {
         Some(value) => part_from(value),
         None => Part::Number(0),
     }

@@ -4,8 +4,10 @@ ghost use Rattle.std.specs.List.{flat_map};
 ghost use Rattle.nomos_ir.specs.CodeParts.{arg_terms, code_terms};
 ghost use Rattle.nomos_ir.specs.TermsEvaluation.{instruction_evaluation, terms_evaluation};
 ghost use Rattle.nomos_eval.specs.Outcomes.{outcome_of};
+ghost use Rattle.nomos_eval.specs.mirror.Around.{Rises};
 ghost use Rattle.nomos_eval.specs.mirror.TermsFound.{AreValues};
 
+use crate::around::rising;
 use crate::evaluation::{Env, eval_node};
 use nomos_ir::code_node::{CodeNode, ValueArg};
 use nomos_ir::fault::Fault;
@@ -16,6 +18,9 @@ use nomos_ir::or_no_memory::OrNoMemory;
 use nomos_ir::program::Program;
 use nomos_ir::value::{Value, Values};
 use std::alloc::{AllocError, Global};
+
+// So many terms of one instruction are many.
+const MANY_TERMS: usize = 8;
 
 /// The instruction at which a process stands, and its values.
 #[derive(Drop, Debug)]
@@ -102,8 +107,17 @@ fn value_alone(
 ) -> Result<Values, OrNoMemory<Fault>>
     ensures { AreValues result (terms_evaluation lists.now env.now (t.0 ∷ [])) }
 {
-    let node = eval_node(alloc, lists, t, env)?;
+    let node = eval_node(alloc, lists, t, env, 0)?;
     Ok(Values::with_first(alloc, node, Values::empty())?)
+}
+
+// Of how many first variables it is known that they ascend, before so many terms are evaluated among them: it is looked
+// at where the terms are many, since each of them may look along all variables otherwise.
+fn known_for(terms: usize, env: &[(VarId, Value)]) -> usize
+    ensures { Rises env.now result }
+{
+    let end = if terms < MANY_TERMS { 0 } else { env.len() };
+    rising(env, 0, end)
 }
 
 // The values of those arguments that are terms.
@@ -115,10 +129,11 @@ fn argument_values(
 ) -> Result<Values, OrNoMemory<Fault>>
     ensures { AreValues result (terms_evaluation lists.now env.now (flat_map arg_terms args.now)) }
 {
+    let known = known_for(args.len(), env);
     let mut nodes = Vec::new(alloc);
     for arg in args {
         if let ValueArg::Term(e) = arg {
-            let node = eval_node(alloc, lists, *e, env)?;
+            let node = eval_node(alloc, lists, *e, env, known)?;
             nodes.push(node)?;
         }
     }

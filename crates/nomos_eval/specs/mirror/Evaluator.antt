@@ -24,7 +24,7 @@ use Rattle.nomos_ir.specs.declared.or_no_memory.OrNoMemory.TheVariants as stop
 use Rattle.nomos_eval.specs.mirror.Operation.{operation}
 use Rattle.nomos_eval.specs.mirror.Rest.{rest, Variables, variables_at, act_work, work, ScopeIn}
 use Rattle.nomos_eval.specs.declared.around.Around.{Around}
-use Rattle.nomos_eval.specs.mirror.Around.{IsKept}
+use Rattle.nomos_eval.specs.mirror.Around.{Rises}
 use Rattle.nomos_eval.specs.mirror.EvalTable.{datum_value, reach}
 
 -- variables with their values
@@ -50,14 +50,14 @@ pub record IsSound (m : Evaluator) : Type 0 where
   pub todo : AllByRecursion (ScopeIn (length m.scopes)) m.todo
   pub values : AllByRecursion (λ d. reach d ≤ length m.lists) m.values
   pub scopes : AllByRecursion (AllByRecursion (λ b. reach b.1 ≤ length m.lists)) m.scopes
-  pub kept : IsKept m.lists m.around
+  pub rises : Rises m.around.env.now m.around.known
 
 -- a variable was looked up in a scope
 pub record IsFound (scopes : List (List (VarId × Datum))) (scope : Scope) (v : VarId) (old : Around)
     (before : List ValueList) (new : Around) (after : List ValueList) (d : Datum) : Type 0 where
   pub env : new.env.now ≡ old.env.now
   pub grown : (more : List ValueList) × (after ≡ before ++ more)
-  pub kept : IsKept after new
+  pub rises : Rises new.env.now new.known
   pub there : reach d ≤ length after
   pub same : datum_value after d ≡ unwrap_or (bound_to v.0
       (variables_at (record { bound = map (held before) scopes; around = old.env.now }) scope)) nought

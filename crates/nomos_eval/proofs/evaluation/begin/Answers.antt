@@ -1,11 +1,11 @@
--- Nothing is taken in yet.
+-- Nothing is bound yet.
 use Rattle.std.proofs.Common.{refl}
 use Rattle.nomos_eval.proofs.BeginLemmas.{begun}
 use Rattle.nomos_eval.proofs.evaluation.begin.Goals as goal
 
 pub returns : goal.returns
 returns c =
-    begun c.args.t c.args.env.now (record { env = c.args.env; loaded = c.new-3.result }) c.new-scopes.result
+    begun c.args.t c.args.env.now (record { env = c.args.env; known = c.args.known }) c.new-scopes.result
     c.add_nothing.new.self c.in_ok-variables.variables c.push.new.self c.new-todo.result c.new.result c.new-2.result
-    refl c.new-3.ensures.items c.new-scopes.ensures c.in_ok-variables.ensures.0 c.in_ok-variables.ensures.1
+    refl c.requires c.new-scopes.ensures c.in_ok-variables.ensures.0 c.in_ok-variables.ensures.1
     c.new-todo.ensures c.in_ok-push.ensures c.new.ensures c.new-2.ensures

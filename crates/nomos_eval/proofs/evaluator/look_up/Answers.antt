@@ -6,11 +6,11 @@ use Rattle.nomos_eval.proofs.evaluator.look_up.Goals as goal
 pub returns-in-Some : goal.returns-in-Some
 returns-in-Some c =
     found-bound c.args.scopes.now c.args.scope c.args.v c.args.around.now c.args.lists.now c.in-Some.value
-    c.requires.kept c.requires.scopes c.in-Some.ensures
+    c.requires.rises c.requires.scopes c.in-Some.ensures
 
 pub returns-then-scope-gt0 : goal.returns-then-scope-gt0
 returns-then-scope-gt0 c =
-    found-nothing c.args.scopes.now c.args.scope c.args.v c.args.around.now c.args.lists.now c.requires.kept
+    found-nothing c.args.scopes.now c.args.scope c.args.v c.args.around.now c.args.lists.now c.requires.rises
     c.if-scope-gt0.true c.in_default.ensures
 
 pub returns : goal.returns
