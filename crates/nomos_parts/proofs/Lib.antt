@@ -1,3 +1,4 @@
+pub mod AscentLemmas
 pub mod BecomesLemmas
 pub mod BeginActLemmas
 pub mod BeginLemmas

@@ -1,5 +1,5 @@
 //! Variables with what is bound to them, in a vector that has room.
-ghost use Rattle.std.specs.Prelude.{◌≡◌, ◌==◌, ◌≤◌, ◌<◌, ◌+◌, IfOk, Some, None, length, nat_lt};
+ghost use Rattle.std.specs.Prelude.{◌≡◌, ◌==◌, ◌≤◌, ◌<◌, ◌+◌, IsTrue, IfOk, Some, None, length, nat_lt};
 ghost use Rattle.std.specs.List.{insert, position, prefix_len};
 ghost use Rattle.std.specs.Vec.{vec_len, vec_capacity};
 ghost use Rattle.nomos_ir.specs.Bindings.{bind, bindings_of, bound_to, unbind};
@@ -60,6 +60,20 @@ pub fn unbind<X>(pairs: &mut Vec<(VarId, X)>, v: VarId) -> Option<X>
     Some(pair.1)
 }
 
+// Whether each pair has a lower variable than the next one, so that the pairs are a map as they stand.
+fn is_map<X>(pairs: &[(VarId, X)]) -> bool
+    ensures { IsTrue result → bindings_of pairs.now ≡ pairs.now }
+{
+    let mut at = pairs.len();
+    while at > 1 {
+        at -= 1;
+        if pairs[at].0.0 <= pairs[at - 1].0.0 {
+            return false;
+        }
+    }
+    true
+}
+
 /// Pairs as a map, with room for so many more; where a variable stands twice, the first pair counts.
 pub fn bindings_of<X: Drop>(
     alloc: Global,
@@ -71,6 +85,10 @@ pub fn bindings_of<X: Drop>(
 {
     let count = pairs.len().checked_add(more).ok_or(AllocError)?;
     let mut made = Vec::with_capacity(alloc, count)?;
+    if is_map(pairs.as_slice()) {
+        made.append(&mut pairs)?;
+        return Ok(made);
+    }
     while let Some(pair) = pairs.pop() {
         bind(&mut made, pair.0, pair.1);
     }
