@@ -48,7 +48,7 @@ impl Tallied {
         self.tallies.suspects.clear(self.was_lost);
     }
 
-    /// Forgets which state is marked. It takes no memory.
+    /// Forgets which state is marked. It takes no memory; gaps are closed then, where they are many.
     pub(crate) fn forget(&mut self)
         ensures state { self.new.state ≡ self.old.state }
         ensures marked { self.new.marked ≡ None }
@@ -56,5 +56,6 @@ impl Tallied {
     {
         self.inside.forget();
         self.tallies.names.forget();
+        self.close_gaps();
     }
 }
