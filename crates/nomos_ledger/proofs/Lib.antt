@@ -6,10 +6,12 @@ pub mod BooksLemmas
 pub mod ContractLemmas
 pub mod ContractsLemmas
 pub mod DeclaredLemmas
+pub mod FaultLemmas
 pub mod FittingLemmas
 pub mod LineLemmas
 pub mod ResolvingLemmas
 pub mod RestLemmas
+pub mod RunningLaws
 pub mod TransactionLemmas
 pub mod WorldLemmas
 pub mod WorthLemmas

@@ -10,6 +10,7 @@ mod declared;
 mod fired;
 mod fitting;
 pub mod ledger;
+pub mod lent;
 mod lines;
 pub mod named;
 mod resolving;

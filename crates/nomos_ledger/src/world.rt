@@ -12,6 +12,7 @@ ghost use Rattle.nomos_machine.specs.TypedState.{IsTyped};
 ghost use Rattle.nomos_deeds.specs.Acting.{HasNumbers};
 ghost use Rattle.nomos_deeds.specs.Firings.{Wants};
 ghost use Rattle.nomos_legal.specs.Ending.{EndsAs, GoesOn};
+ghost use Rattle.nomos_legal.specs.LowestFault.{IsFaultless, IsLowestFault};
 ghost use Rattle.nomos_legal.specs.StandsFor.{StandsFor, WorldStandsFor};
 ghost use Rattle.nomos_legal.specs.World.{IsWorld, committed};
 ghost use Rattle.nomos_ledger.specs.Calls.{FiresIn};
@@ -92,6 +93,28 @@ impl<M: Undo> World<M> {
         ensures { IfOk result (λ found. found ≡ fault accepted.now self.now.state pid) }
     {
         self.machine(accepted).fault(alloc, accepted, pid)
+    }
+
+    /// The lowest process that has a fault, with it, or none where no process has one. It goes along all processes.
+    pub fn lowest_fault(
+        &self,
+        alloc: Global,
+        accepted: &Accepted,
+    ) -> Result<Option<(u32, Fault)>, AllocError>
+        requires { WorldStandsFor accepted.now self.now }
+        ensures { IfOk result (λ found. MatchOption found (IsFaultless accepted.now self.now.state)
+            (λ it. IsLowestFault accepted.now self.now.state it.0 it.1)) }
+    {
+        // Where the program is read it is known to be accepted.
+        let _program = accepted.program();
+        let mut after = 0;
+        'processes: while let Some(pid) = self.next_ready(accepted, after) {
+            if let Some(fault) = self.fault(alloc, accepted, pid)? {
+                return Ok(Some((pid, fault)));
+            }
+            after = pid;
+        }
+        Ok(None)
     }
 
     /// What has to be evaluated for the process of this number: its instruction, where that has terms, and its values.

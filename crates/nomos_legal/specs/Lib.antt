@@ -5,6 +5,8 @@ pub mod Ending
 pub mod World
 pub mod StandsFor
 pub mod Passage
+pub mod Leaving
+pub mod LowestFault
 pub mod Legal
 pub mod Debits
 pub mod Right

@@ -14,8 +14,8 @@ use Rattle.nomos_machine.specs.declared.object.Object.TheVariants as object
 use Rattle.nomos_deeds.specs.Readers.{acquires, keeper}
 use Rattle.nomos_script.specs.declared.item.ScriptItem.{ScriptItem}
 use Rattle.nomos_script.specs.declared.item.ScriptItem.TheVariants as item
-use Rattle.nomos_legal.specs.Legal.{Tells}
-use Rattle.nomos_legal.specs.Ledger.{LedgerState}
+use Rattle.nomos_legal.specs.Legal.{TellsFrom}
+use Rattle.nomos_legal.specs.Ledger.{LedgerState, empty_ledger}
 use Rattle.nomos_legal.specs.Passage.{Passage}
 use Rattle.nomos_legal.specs.declared.journal.End.{End}
 use Rattle.nomos_legal.specs.declared.journal.End.TheVariants as end
@@ -93,12 +93,17 @@ passage_lines a p = shown_lines a p.before p.item ++ flat_map (entry_lines a p) 
 abbrev pub report_of : Acceptance → List Passage → List ℕ
 report_of a ps = accepted_block a ++ flat_map (passage_lines a) ps
 
--- the text is the report of this journal of these items
-pub record IsReport (a : Acceptance) (items : List ScriptItem) (journal : Journal) (text : List ℕ) : Type 0 where
+-- The text is the report of this journal of these items, from the first ledger.
+pub record IsReportFrom (a : Acceptance) (first : LedgerState) (items : List ScriptItem) (journal : Journal)
+    (text : List ℕ) : Type 0 where
   pub passages : List Passage
   pub last : LedgerState
-  pub tells : Tells a items journal passages last
+  pub tells : TellsFrom a first items journal passages last
   pub is : text ≡ report_of a passages
+
+-- from the empty ledger
+abbrev pub IsReport : Acceptance → List ScriptItem → Journal → List ℕ → Type 0
+IsReport a items journal text = IsReportFrom a empty_ledger items journal text
 
 -- the ends of what was carried out: a deposit, and a batch that stays
 abbrev pub is_well : End → Bool

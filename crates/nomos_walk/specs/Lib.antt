@@ -1,0 +1,5 @@
+pub mod Wanted
+pub mod Papers
+pub mod WalkState
+pub mod Walks
+pub mod Coming
