@@ -1,0 +1,3 @@
+pub mod Telling
+pub mod Messages
+pub mod mirror

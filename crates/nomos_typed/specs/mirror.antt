@@ -1,0 +1,3 @@
+-- What private calls answer; no promise stands on these.
+pub mod Told
+pub mod Heads
