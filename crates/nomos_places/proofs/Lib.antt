@@ -1,0 +1,3 @@
+pub mod PlaceLemmas
+pub mod ShiftLaws
+pub mod SpareLaws

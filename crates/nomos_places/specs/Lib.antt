@@ -1,0 +1,3 @@
+pub mod LeastPotential
+pub mod Places
+pub mod mirror

@@ -1,0 +1,2 @@
+-- What private calls make; no promise stands on it.
+pub mod Making
