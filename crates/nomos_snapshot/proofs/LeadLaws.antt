@@ -1,5 +1,5 @@
 -- Lines that lead to a ledger are those of its snapshot; so a ledger has one row of lines.
-use Rattle.std.proofs.Common.{◌≡◌, ℕ, ◌+◌, List, [], ◌∷◌, ◌++◌, map, length, zip, Option, Some, None, Result, Ok, Err, refl, ap, sym, subst, ◌∙◌, arith}
+use Rattle.std.proofs.Common.{◌≡◌, ℕ, ◌+◌, List, [], ◌∷◌, ◌++◌, map, length, zip, None, Ok, refl, ap, sym, subst, ◌∙◌, arith}
 use Rattle.std.proofs.lemmas.List.{append-nil, append_assoc, map-append, length-append}
 use Rattle.std.proofs.lemmas.List.Concat.{flat_map-append}
 use Rattle.std.specs.List.{flat_map}
@@ -15,7 +15,7 @@ use Rattle.nomos_types.specs.Acceptance.{Acceptance}
 use Rattle.nomos_snapshot.proofs.VariableLaws.{value-line, list-line, channel-line}
 use Rattle.nomos_snapshot.specs.Gathering.{Gathered, Goes, Stand, at_head, behind, ledger_of, settled, unfinished, with_account, with_contract, with_name, with_objects}
 use Rattle.nomos_snapshot.specs.Gathering as gathering
-use Rattle.nomos_snapshot.specs.Line.{IsLine, line_text, lines_text}
+use Rattle.nomos_snapshot.specs.Line.{line_text, lines_text}
 use Rattle.nomos_snapshot.specs.Reading.{Reads}
 use Rattle.nomos_snapshot.specs.Reading as reading
 use Rattle.nomos_snapshot.specs.Leading.{LeadTo}

@@ -4,9 +4,11 @@ mod LabelLemmas
 pub mod LeadLaws
 pub mod LineLaws
 pub mod OneLineLaws
+mod LowestLaws
 mod MessageLemmas
 pub mod OneReadingLaws
 mod RowLemmas
 mod ValueLemmas
 mod VariableLaws
 mod WordLemmas
+mod WritingLemmas

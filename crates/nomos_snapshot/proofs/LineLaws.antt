@@ -1,36 +1,28 @@
 -- No two lines of a snapshot are written alike, and none has a line feed.
-use Rattle.std.proofs.Common.{◌≡◌, ◌≢◌, ℕ, ◌<◌, ◌≤◌, ◌^◌, Bool, true, false, List, [], ◌∷◌, ◌++◌, get_or, length, Option, Some, None, refl, sym, ◌∙◌, ap, subst, arith}
-use Rattle.std.specs.Prelude.{decimal, codes, slice_get, not, ◌==◌, All, IsTrue, AllPairs}
+use Rattle.std.proofs.Common.{◌≡◌, ◌≢◌, ℕ, ◌<◌, ◌^◌, Bool, true, false, List, [], ◌∷◌, ◌++◌, get_or, length, Option, Some, None, refl, subst, arith}
+use Rattle.std.specs.Prelude.{decimal, codes, slice_get, not, ◌==◌, All, IsTrue}
 use Rattle.std.specs.List.{list_all}
 use Rattle.std.proofs.lemmas.Bool.{false≢true}
-use Rattle.std.proofs.lemmas.Fmt.{decimal_is_IsNumeral_wide}
 use Rattle.std.proofs.lemmas.List.Elements.{All-nil, All-cons, All-get_or, All-weaker}
 use Rattle.std.proofs.lemmas.Option.{slice_get-get_or}
-use Rattle.std.proofs.lemmas.Bool.{cases_lt}
-use Rattle.std.proofs.lemmas.Str.Parse.{digit_at}
-use Rattle.nomos_deeds.specs.declared.sight.SeenProcess.{SeenProcess}
 use Rattle.nomos_ir.specs.Name.{IsShortName, is_word_byte}
-use Rattle.nomos_ir.specs.Naming.{NamesAreShort, NamesDiffer}
+use Rattle.nomos_ir.specs.Naming.{NamesAreShort}
 use Rattle.nomos_ir.specs.Value.{Value, list, value_list}
 use Rattle.nomos_ir.specs.declared.lists.ProgramLists.{ProgramLists}
 use Rattle.nomos_ir.specs.declared.mode.Mode.{Mode}
 use Rattle.nomos_ir.specs.declared.mode.Mode.TheVariants as mode
-use Rattle.nomos_machine.specs.declared.object.Message.{Message}
 use Rattle.nomos_machine.specs.declared.object.Payload.{Payload}
 use Rattle.nomos_machine.specs.declared.object.Payload.TheVariants as payload
 use Rattle.nomos_script.specs.ScriptNames.{IsScriptName}
 use Rattle.nomos_texts.specs.Splitting.{Lacks}
 use Rattle.nomos_texts.specs.Value.{value_text}
-use Rattle.nomos_texts.proofs.OneTextLaws.{decimal-only}
 use Rattle.nomos_texts.proofs.SplittingLaws.{Lacks-decimal, Lacks-tested}
-use Rattle.nomos_snapshot.specs.Line.{IsGas, IsLine, IsLinePayload, IsNext, IsNumber, IsNumberIfAny, label_word, line_text, line_words, mode_word, name_word, payload_words, way_word}
+use Rattle.nomos_snapshot.specs.Line.{IsLine, IsLinePayload, IsNumberIfAny, label_word, line_text, line_words, mode_word, name_word, payload_words, way_word}
 use Rattle.nomos_snapshot.specs.LineValue.{IsLineValue}
-use Rattle.nomos_snapshot.specs.Words.{joined, words_in}
 use Rattle.nomos_snapshot.specs.declared.line.SnapshotLine.{SnapshotLine}
 use Rattle.nomos_snapshot.specs.declared.line.SnapshotLine.TheVariants as line
-use Rattle.nomos_snapshot.proofs.RowLemmas.{value_text-only}
 use Rattle.nomos_snapshot.proofs.ValueLemmas.{IsSolid, value-solid}
-use Rattle.nomos_snapshot.proofs.WordLemmas.{joined-lacks, joined-words, words-joined}
+use Rattle.nomos_snapshot.proofs.WordLemmas.{joined-lacks}
 
 -- ---- words without blank and line feed
 

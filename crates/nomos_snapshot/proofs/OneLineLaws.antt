@@ -1,5 +1,5 @@
 -- No two lines of a snapshot are written alike.
-use Rattle.std.proofs.Common.{◌≡◌, ◌≢◌, ℕ, ◌+◌, ◌*◌, ◌<◌, ◌≤◌, ◌^◌, Bool, true, false, List, [], ◌∷◌, ◌++◌, get_or, length, Option, Some, None, refl, sym, ◌∙◌, ap, arith, inl, inr}
+use Rattle.std.proofs.Common.{◌≡◌, ℕ, ◌+◌, ◌*◌, ◌<◌, Bool, true, false, List, [], ◌∷◌, ◌++◌, get_or, length, Option, Some, None, refl, sym, ◌∙◌, ap, arith, inl, inr}
 use Rattle.std.specs.Prelude.{decimal, codes}
 use Rattle.std.proofs.lemmas.Bool.{cases_lt}
 use Rattle.std.proofs.lemmas.Fmt.{decimal_is_IsNumeral_wide}
@@ -7,7 +7,6 @@ use Rattle.std.proofs.lemmas.Str.Parse.{digit_at}
 use Rattle.nomos_deeds.specs.declared.sight.SeenProcess.{SeenProcess}
 use Rattle.nomos_ir.specs.Naming.{NamesAreShort, NamesDiffer}
 use Rattle.nomos_ir.specs.Value.{Value, list, value_list}
-use Rattle.nomos_ir.specs.declared.ids.Label.{Label}
 use Rattle.nomos_ir.specs.declared.ids.TypeId.{TypeId}
 use Rattle.nomos_ir.specs.declared.ids.VarId.{VarId}
 use Rattle.nomos_ir.specs.declared.lists.ProgramLists.{ProgramLists}
@@ -19,8 +18,7 @@ use Rattle.nomos_machine.specs.declared.object.Payload.TheVariants as payload
 use Rattle.nomos_texts.specs.Value.{value_text}
 use Rattle.nomos_texts.proofs.OneTextLaws.{decimal-only}
 use Rattle.nomos_snapshot.specs.Line.{IsGas, IsLine, IsLinePayload, IsMessageLine, IsNumber, IsNumberIfAny, IsProcessLine, label_word, line_text, line_words, mode_word, name_word, payload_words, way_word}
-use Rattle.nomos_snapshot.specs.LineValue.{IsLineValue}
-use Rattle.nomos_snapshot.specs.Words.{joined, words_in}
+use Rattle.nomos_snapshot.specs.Words.{words_in}
 use Rattle.nomos_snapshot.specs.declared.line.SnapshotLine.{SnapshotLine}
 use Rattle.nomos_snapshot.specs.declared.line.SnapshotLine.TheVariants as line
 use Rattle.nomos_snapshot.proofs.LineLaws.{label-at, line-blankless}

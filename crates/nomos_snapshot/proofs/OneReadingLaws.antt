@@ -1,5 +1,5 @@
 -- A text tells one thing: a ledger, or its first bad line.
-use Rattle.std.proofs.Common.{◌≡◌, ◌≢◌, ℕ, ◌+◌, List, [], ◌∷◌, ◌++◌, length, Option, Some, None, Result, Ok, Err, refl, sym, ◌∙◌, ap, subst, arith, length-append}
+use Rattle.std.proofs.Common.{◌≡◌, ℕ, ◌+◌, List, [], ◌∷◌, length, Option, Some, None, Result, Ok, refl, sym, ◌∙◌, ap, subst, arith, length-append}
 use Rattle.nomos_ir.specs.Naming.{NamesAreShort, NamesDiffer}
 use Rattle.nomos_ir.specs.declared.lists.ProgramLists.{ProgramLists}
 use Rattle.nomos_legal.specs.Ledger.{LedgerState}
@@ -9,10 +9,9 @@ use Rattle.nomos_machine.specs.declared.object.Object.TheVariants as object
 use Rattle.nomos_machine.specs.declared.object.Process.{Process}
 use Rattle.nomos_snapshot.specs.Gathering.{Goes, Stand, at_head, at_next, at_spent, at_unit, behind, ledger_of, no_ledger, process_with, settled, unfinished, with_account, with_channel, with_contract, with_list, with_name, with_objects, with_value}
 use Rattle.nomos_snapshot.specs.Gathering as gathering
-use Rattle.nomos_snapshot.specs.Line.{IsLine, line_text, line_words}
+use Rattle.nomos_snapshot.specs.Line.{line_text}
 use Rattle.nomos_snapshot.specs.Reading.{BeginsWith, NoneMayStand, Reads, WantsLine}
 use Rattle.nomos_snapshot.specs.Reading as reading
-use Rattle.nomos_snapshot.specs.Text.{ledger_lines, snapshot_text}
 use Rattle.nomos_snapshot.specs.declared.line.SnapshotLine.{SnapshotLine}
 use Rattle.nomos_snapshot.specs.declared.line.SnapshotLine.TheVariants as line
 use Rattle.nomos_snapshot.proofs.LineLaws.{line-feedless}

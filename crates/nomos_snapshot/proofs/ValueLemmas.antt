@@ -1,5 +1,5 @@
 -- Values come off the front of a text in one way.
-use Rattle.std.proofs.Common.{◌≡◌, ◌≢◌, ℕ, zero, suc, ◌+◌, ◌-◌, ◌<◌, ◌≤◌, ◌^◌, ℤ, pos, negsuc, true, false, List, [], ◌∷◌, ◌++◌, drop, get_or, map, refl, sym, ◌∙◌, ap, subst, arith, append_assoc, append-nil}
+use Rattle.std.proofs.Common.{◌≡◌, ◌≢◌, ℕ, zero, suc, ◌<◌, ◌≤◌, ◌^◌, ℤ, pos, negsuc, true, false, List, [], ◌∷◌, ◌++◌, drop, get_or, refl, sym, ◌∙◌, ap, subst, arith, append_assoc}
 use Rattle.std.specs.Prelude.{decimal, codes, All, Option, Some, None, SomeIff, neg_ℤ}
 use Rattle.std.specs.Fmt.{signed_decimal}
 use Rattle.std.proofs.lemmas.Fmt.{decimal_nonempty, decimal_is_IsNumeral_wide}
@@ -7,14 +7,14 @@ use Rattle.std.proofs.lemmas.Int.{ints}
 use Rattle.std.proofs.lemmas.List.{get_or_append_left}
 use Rattle.std.proofs.lemmas.List.Elements.{All-append, All-nil, All-cons, All-head, All-tail, All-from_get_or}
 use Rattle.std.proofs.lemmas.Str.Parse.{digit_at}
-use Rattle.nomos_ir.specs.Value.{Value, ValueList, int, truth, list, no_values, value, value_list}
+use Rattle.nomos_ir.specs.Value.{Value, ValueList, int, truth, list, no_values, value}
 use Rattle.nomos_texts.specs.Value.{value_text, row_text, tail_text}
 use Rattle.nomos_texts.specs.Number.{ReadsNumber}
 use Rattle.nomos_texts.specs.Reading.{ReadsAs}
 use Rattle.nomos_texts.proofs.OneTextLaws.{decimal-only}
 use Rattle.nomos_texts.proofs.ReadingLaws.{ReadsAs-none}
-use Rattle.nomos_snapshot.specs.LineValue.{IsLineNumber, HasSmallNumbers, HaveSmallNumbers, nesting, nestings}
-use Rattle.nomos_snapshot.specs.mirror.ValueReading.{IsScalar, IsWithin, AreWithin, IsInner, Ends, BeginsScalar, BeginsValue, HasNoValue, BeginsRow, HasNoRow}
+use Rattle.nomos_snapshot.specs.LineValue.{IsLineNumber, HasSmallNumbers, HaveSmallNumbers}
+use Rattle.nomos_snapshot.specs.mirror.ValueReading.{IsScalar, IsInner, Ends}
 
 -- ---- fronts without comma and `]`
 

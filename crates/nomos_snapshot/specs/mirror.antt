@@ -1,3 +1,4 @@
 -- Mirrors of the code, on which no promise stands.
 pub mod Kinds
 pub mod ValueReading
+pub mod Written

@@ -11,3 +11,4 @@ mod process_lines;
 pub mod reading;
 mod values;
 pub mod words;
+pub mod writing;

@@ -1,5 +1,5 @@
 -- The words of a message come off one part after another.
-use Rattle.std.proofs.Common.{◌∷◌, ◌++◌, List, ℕ, ap, sym, ◌∙◌}
+use Rattle.std.proofs.Common.{◌++◌, List, ℕ, ap, ◌∙◌}
 use Rattle.nomos_snapshot.specs.Line.{payload_words}
 use Rattle.nomos_snapshot.specs.mirror.Kinds.{head_words}
 use Rattle.nomos_snapshot.proofs.MessageLemmas.{head-none, payload-none, purse-none}

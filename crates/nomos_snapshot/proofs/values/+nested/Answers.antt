@@ -1,5 +1,5 @@
 -- A value off the front of a text, and the values of a list up to its `]`.
-use Rattle.std.proofs.Common.{◌∙◌, ◌++◌, ◌∷◌, [], List, map, ap}
+use Rattle.std.proofs.Common.{◌∙◌, ◌∷◌, [], map, ap}
 use Rattle.std.proofs.lemmas.List.{map-append}
 use Rattle.std.proofs.lemmas.Bool.{false≢true}
 use Rattle.nomos_ir.specs.ValueNode.{value_of}

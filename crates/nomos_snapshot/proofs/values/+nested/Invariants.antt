@@ -1,5 +1,5 @@
 -- Lists stand in one another as deep as was said; in a list what was taken and what is left are the text.
-use Rattle.std.proofs.Common.{ℕ, ◌+◌, ◌*◌, List, length, map}
+use Rattle.std.proofs.Common.{◌+◌, ◌*◌, length, map}
 use Rattle.nomos_ir.specs.ValueNode.{value_of}
 use Rattle.nomos_snapshot.proofs.RowLemmas.{ReadItems}
 use Rattle.nomos_snapshot.proofs.values.+nested.Given as goal

@@ -1,5 +1,5 @@
 -- The labels are those of the program.
-use Rattle.std.proofs.Common.{ap, sym, ◌∙◌}
+use Rattle.std.proofs.Common.{ap, ◌∙◌}
 use Rattle.nomos_ir.specs.declared.lists.ProgramLists.{ProgramLists}
 use Rattle.nomos_snapshot.proofs.reading.LineReader.read_kind.Goals as goal
 
