@@ -30,6 +30,12 @@ adds-prefix n seen xs ys zs begins (inr added) is =
     subst (λ (l : List (ℕ × ℕ)). IsPrefix seen l) (sym (is ∙ added.1))
     (prefix_push seen xs ((n, added.0) ∷ []) begins)
 
+-- what began what was taken out begins the history with at most one entry more
+pub look-begins : (n : ℕ) (seen taken xs ys : List (ℕ × ℕ)) → IsPrefix seen taken → xs ≡ taken → AddsAtMostOne n xs ys
+    → IsPrefix seen ys
+look-begins n seen taken xs ys begins fresh adds =
+    adds-prefix n seen xs ys ys (subst (λ (l : List (ℕ × ℕ)). IsPrefix seen l) (sym fresh) begins) adds refl
+
 -- the processes of the history are those that fired
 history-pids : (firings : List Firing)
     → map (λ (f : ℕ × ℕ). f.1) (map (λ (f : Firing). (f.pass, f.pid)) firings) ≡ pids_of firings

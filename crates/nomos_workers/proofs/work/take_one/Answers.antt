@@ -1,16 +1,16 @@
-use Rattle.nomos_floor.specs.FloorPass.{pass_number, pass_of, seen_by}
+use Rattle.std.proofs.Common.{List, ℕ, subst, sym}
+use mathlib.Core.List.{IsPrefix}
+use Rattle.nomos_floor.specs.FloorPass.{seen_by, taken_history}
+use Rattle.nomos_floor.proofs.HistoryLaws.{prefix_trans}
 use Rattle.nomos_workers.specs.Shops.{history_of}
-use Rattle.nomos_workers.proofs.WorkLemmas.{adds-moved, adds-prefix}
 use Rattle.nomos_workers.proofs.work.take_one.Goals as goal
-
-pub give_back-pass-requires-clause-history : goal.give_back-pass-requires-clause-history
-give_back-pass-requires-clause-history g c =
-    adds-moved c.number-number.result (pass_number (pass_of c.take_turn-turn.result))
-    (history_of c.take_turn-turn.result.work) (seen_by c.take_turn-turn.result.pass) (history_of c.step-turned.new.self)
-    c.number-number.ensures c.take_turn-turn.ensures.taken c.step-turned.ensures.history
 
 pub returns-clause-seen : goal.returns-clause-seen
 returns-clause-seen g c =
-    adds-prefix c.number-number.result (seen_by c.args.pass) (history_of c.take_turn-turn.result.work)
-    (history_of c.step-turned.new.self) (seen_by c.give_back-pass.result) c.take_turn-turn.ensures.seen
-    c.step-turned.ensures.history c.give_back-pass.ensures.seen
+    let seen = seen_by c.args.pass in
+    let taken = taken_history c.take_turn-turn.result in
+    let last = history_of c.carry_on-turn.result.turn.work in
+    let begins : IsPrefix seen taken =
+    subst (λ (l : List (ℕ × ℕ)). IsPrefix seen l) (sym c.take_turn-turn.ensures.taken) c.take_turn-turn.ensures.seen in
+    subst (λ (l : List (ℕ × ℕ)). IsPrefix seen l) (sym c.give_back-pass.ensures.seen)
+    (prefix_trans seen taken last begins c.carry_on-turn.ensures.seen)

@@ -6,5 +6,5 @@ use Rattle.nomos_workers.proofs.work.work.Goals as goal
 pub returns-in-Ends-clause-run : goal.returns-in-Ends-clause-run
 returns-in-Ends-clause-run g c =
     turned-run g.A.Lent.program (opening (opened_work c.args.floor.now)) (seen_by c.take_one-same.result.pass)
-    c.take_one-same.result.turned c.take_one-same.ensures.turned c.go_on.result c.in-Ends.end c.in-Ends.is
-    c.go_on.ensures
+    c.take_one-same.result.turned c.take_one-same.ensures.turned c.after_turn.result c.in-Ends.end c.in-Ends.is
+    c.after_turn.ensures

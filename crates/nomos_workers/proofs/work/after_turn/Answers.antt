@@ -1,4 +1,4 @@
-use Rattle.nomos_workers.proofs.work.go_on.Goals as goal
+use Rattle.nomos_workers.proofs.work.after_turn.Goals as goal
 
 pub returns-in-Ok-Wants : goal.returns-in-Ok-Wants
 returns-in-Ok-Wants g c = λ s out.
