@@ -5,7 +5,7 @@ tried: with each amount written as is said, the program accepts the contract.
 """
 from typing import NamedTuple
 
-from .mends import mend
+from .mends import mend, says
 from .texts import Text
 
 STARS = 64
@@ -163,10 +163,10 @@ class Mends:
 def said(amount, value):
     """Gives in words what to write for an amount."""
     if amount.is_missing:
-        return f"write `{{{value}}}` here, behind the parameters, where no amount is declared"
-    how = "is left open, since no whole number does" if value == "*" else (
-        "is too small" if value > amount.value else "is not what is due here"
-    )
+        return says("missing", more=value)
+    if value != "*" and value > amount.value:
+        return says("small", amount=amount.value, more=value)
+    how = "is left open, since no whole number does" if value == "*" else "is not what is due here"
     return f"{amount.value} {how}; write `{{{value}}}`"
 
 

@@ -1,4 +1,5 @@
 """What ends by a mend without anybody who gets it, and instructions that give it to somebody instead."""
+from .mends import says
 from .renamed import fresh
 from .texts import tokens_of
 
@@ -45,7 +46,7 @@ def lost(types, held, code):
 
 def warned(types, held, code):
     """Gives in words what is lost by the instructions of a mend."""
-    return "".join(f"; what `{it}` is ends here, and nobody gets it" for it in lost(types, held, code))
+    return "".join(says("lost", channel=it) for it in lost(types, held, code))
 
 
 class Keeping:

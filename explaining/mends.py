@@ -1,10 +1,26 @@
-"""A line on what to write, with the edits that do it."""
+"""A line on what to write, with the edits that do it; and what mends.json has of it, which the page reads too."""
+import json
+import os
+import string
+
+with open(f"{os.path.dirname(os.path.realpath(__file__))}/mends.json", encoding="utf-8") as _file:
+    DATA = json.load(_file)
 
 # What stands in the words of a mend that leaves something to the writer.
 OPEN = (
     "..", ", or ", "where the provider", "another name", "new name", "write a number", "write a truth", "write a list",
     "write ``",
 )
+
+
+def filled(template, /, **known):
+    """Gives a text of the data with what is known in place of its names."""
+    return string.Template(template).substitute(known)
+
+
+def says(sentence, /, **known):
+    """Gives the words of a mend of the data."""
+    return filled(DATA["says"][sentence], **known)
 
 
 class Mend(str):

@@ -1,6 +1,6 @@
 """What is wrong with a name that breaks a rule of "Names" in docs/LANGUAGE.md."""
 from .amounts import closing
-from .mends import mend
+from .mends import mend, says
 from .renamed import fresh, renaming
 from .syntax import nearest
 from .texts import joined
@@ -241,5 +241,5 @@ def explained(text, answer, program, grammar):
         return "Name other", [f"see: `{token.text}` is {said(kind)}, by {place}, and {said(wanted)} is wanted here"]
     for name in names.near(at):
         if moves_on(name):
-            return "Name near", [mend(f"did you mean `{name}`?", (token.at, token.end, name))]
+            return "Name near", [mend(says("near", name=name), (token.at, token.end, name))]
     return "Name unknown", [f"see: {said(wanted)} is wanted here, and none has the name `{token.text}`"]

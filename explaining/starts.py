@@ -1,6 +1,6 @@
 """What to write in a line of a script that could not be carried out: a deposit, or the start of a process."""
 from .arguments import Arguments
-from .mends import mend
+from .mends import mend, says
 from .names import unused
 from .syntax import nearest
 from .texts import listed
@@ -30,7 +30,7 @@ class Refused:
         """Gives lines for the nearest of the names that may stand at a token, if the batch goes on with it."""
         for name in nearest(token.text, known):
             if self.goes_on((token.at, token.end, name)):
-                return [mend(f"did you mean `{name}`?", (token.at, token.end, name))]
+                return [mend(says("near", name=name), (token.at, token.end, name))]
         return []
 
     def deposit(self, account, amount):
@@ -38,8 +38,8 @@ class Refused:
         new = f"deposit {account} {amount}"
         if not self.run.goes_on_behind(self.number, self.cause, self.line.number, new):
             return []
-        at, what = self.run.script.row(self.number).at, "it" if self.number == self.line.number else "the `begin`"
-        return [mend(f"write `{new}` on a line before {what}", (at, at, f"{new}\n"))]
+        at, place = self.run.script.row(self.number).at, "it" if self.number == self.line.number else "the `begin`"
+        return [mend(says("deposit", account=account, units=amount, place=place), (at, at, f"{new}\n"))]
 
     def no_account(self):
         token = self.line.sender

@@ -3,10 +3,10 @@ import itertools
 from typing import NamedTuple
 
 from .amounts import closing
-from .held import PROVIDED, TALK, now, reached
+from .held import PROVIDED, now, reached
 from .kinds import miscounted, other_parts
 from .losing import Keeping, values_of, warned
-from .mends import mend
+from .mends import DATA, filled, mend, says
 from .names import Names, unused
 from .passing import passed
 from .retyped import retyped
@@ -14,8 +14,7 @@ from .syntax import distance
 from .texts import LONGEST, joined
 
 # How often the program is asked at most, and how many instructions are put before a stuck one.
-ASKED = 200
-DEEP = 3
+ASKED, DEEP = DATA["asked"], DATA["deep"]
 # The modes that a process of each mode may spawn.
 SPAWNED = {"R": "R", "S": "RS", "L": "RS", "T": "RS"}
 # The leaves as which a channel is passed on or ended: by send, wait and release, and as an argument.
@@ -78,44 +77,32 @@ class Stuck:
         """Gives the labels of types, the nearest to the one that is written first, if one is."""
         found = [it.text for at, it in enumerate(self.tokens) if self.names.key(at) == ("lab", 0)]
         written = self.tokens[self.index + 2].text if self.form == "label" else ""
-        return sorted(dict.fromkeys(found), key=lambda it: distance(it, written) if written else 0)[:12]
+        return sorted(dict.fromkeys(found), key=lambda it: distance(it, written) if written else 0)[: DATA["labels"]]
 
     def put_before(self, name, it, new):
-        """Gives the instructions on a channel at a type that may be put before the stuck one: the code, in which a name
-        that is bound is new, how that is said, and the type behind it, or none where nothing more is put there."""
-        types = self.reached[0]
-        whole = types.unfolded(it)
+        """Gives the instructions on a channel at a type that may be put before the stuck one, by the rows of the data:
+        the code, in which a name that is bound is new, how that is said, and the type behind it, or none where nothing
+        more is put there."""
+        whole = self.reached[0].unfolded(it)
         is_sent = (whole.sign in PROVIDED) == (name == "self")
-        behind = whole.parts[-1] if whole.parts else None
-        if whole.sign in ("+", "&"):
-            for label, further in whole.parts if is_sent else ():
-                yield f"{name}.{label};", f"{name}.{label};", further
-        elif whole.sign == "1":
-            if name != "self":
-                yield f"wait {name};", f"wait {name};", None
-        elif whole.sign in ("up", "down"):
-            word = {"up": ("accept", "acquire"), "down": ("detach", "release")}[whole.sign][name != "self"]
-            code = f"{word};" if name == "self" else f"{word} {name} as {new};"
-            yield code, code.replace(f" as {new}", " as .."), behind if word == "accept" else None
-        else:
-            yield from self.sent_before(name, whole, is_sent, new)
+        for row in DATA["before"]:
+            if (row["at"], row["sent"]) == (whole.sign, is_sent):
+                for known, behind in self.fillings(row["write"], name, whole):
+                    known = {"channel": name, "new": new, "amount": DATA["amount"], **known}
+                    open_ones = dict.fromkeys({"new", "amount", "value"} & known.keys(), DATA["left_open"])
+                    said = filled(row["write"], **{**known, **open_ones})
+                    yield filled(row["write"], **known), said, behind if "goes_on" in row else None
 
-    def sent_before(self, name, whole, is_sent, new):
-        """Gives the instructions with which something is sent or received on a channel."""
-        word = TALK[whole.sign][0 if is_sent else 1].split()[0]
-        behind = whole.parts[-1]
-        if word in ("pay", "get"):
-            yield f"{word} {name} {{*}};", f"{word} {name} {{..}};", behind
-        elif word in ("take", "recv"):
-            yield f"{word} {name} {new};", f"{word} {name} ..;", behind
-        elif word == "put":
-            kind = self.tokens[whole.at].text
-            for term in {"int": ("0",), "bool": ("true",)}.get(kind, ()):
-                yield f"put {name} {term};", f"put {name} ..;", behind
-        else:
-            for other in self.channels()[1:]:
-                if other != name:
-                    yield f"send {name} {other};", f"send {name} {other};", behind
+    def fillings(self, write, name, whole):
+        """Gives what stands for the names of a row, each with the type behind it: a label, another channel, a value."""
+        behind = whole.parts[-1] if whole.parts else None
+        if "$label" in write:
+            return [({"label": label}, further) for label, further in whole.parts]
+        if "$other" in write:
+            return [({"other": it}, behind) for it in self.channels()[1:] if it != name]
+        if "$value" in write:
+            return [({"value": it}, behind) for it in DATA["values"].get(self.tokens[whole.at].text, ())]
+        return [({}, behind)]
 
     def instructions(self):
         """Goes through rows of instructions on one channel put before the stuck one, short ones first, and gives those
@@ -129,7 +116,7 @@ class Stuck:
                     if words == "accept;" and (said.endswith("detach; ") or self.is_dead_end()):
                         continue
                     edit = f"{code}{more} "
-                    tried = Try((self.at, self.at, edit), f"write `{said}{words}` before it")
+                    tried = Try((self.at, self.at, edit), says("before", code=said + words))
                     reached = self.reach(tried)
                     if reached is None:
                         return
@@ -168,7 +155,7 @@ class Stuck:
         if self.form == "label":
             label = self.tokens[self.index + 2]
             for it in self.labels():
-                yield Try((label.at, label.end, it), f"write `{it}` in place of `{label.text}`")
+                yield Try((label.at, label.end, it), says("instead", new=it, old=label.text))
         if self.form == "case":
             yield from self.branches()
         if self.form in DUAL:
@@ -295,10 +282,10 @@ class Stuck:
         process = next(other for other in types.processes.values() if other.at == self.head + 2)
         for new in (*it.forwards(process), *it.calls(process)):
             if new != old:
-                yield Try((token.at, end, new), f"write `{new}` in place of `{old}`")
+                yield Try((token.at, end, new), says("instead", new=new, old=old))
         for asset, new in it.sends():
-            said = new.replace("{*}", "{..}")
-            yield Try((token.at, token.at, f"{new} "), f"write `{said}` before it, so that somebody gets `{asset}`")
+            said = says("gets", code=new.replace("{*}", "{..}"), place="it", channel=asset)
+            yield Try((token.at, token.at, f"{new} "), said)
 
     def find(self):
         """Gives what lets the check go on past the stuck instruction: first what keeps all that is held, then the

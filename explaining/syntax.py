@@ -1,7 +1,7 @@
 """What is wrong where no contract goes on: the slip that was made, and an edit with which the text is read further."""
 import re
 from .habits import Habits
-from .mends import mend
+from .mends import mend, says
 from .shapes import HEADS, KINDS, Slip
 from .texts import Token, tokens_of
 
@@ -149,7 +149,7 @@ class Slips(Habits):
             near = [it for it in sorted(reserved) if is_near(token.text, it)]
             for word in sorted(near, key=lambda it: distance(token.text, it)):
                 row = "Syntax case" if word.lower() == token.text.lower() else "Syntax spelling"
-                mend = f"write `{word}` in place of `{token.text}` at {self.text.place(token.at)}"
+                mend = f"{says('instead', new=word, old=token.text)} at {self.text.place(token.at)}"
                 yield Slip(row, mend, (token.at, token.end, word))
         mark = self.marked
         if mark.text in self.grammar.reserved and "NAME" in self.wanted and not self.wants("term"):
