@@ -3,7 +3,7 @@
 ghost use Rattle.std.specs.Prelude.{◌≡◌, ℕ, ◌<◌, ◌≤◌, length, None, IsSome};
 ghost use Rattle.std.specs.Option.{option_map};
 ghost use Rattle.nomos_base.specs.Source.{Reads};
-ghost use Rattle.nomos_files.specs.FaultCounting.{count_after_read, GetsSome};
+ghost use Rattle.nomos_files.specs.FaultCounting.{count_after_read, GetsSome, TakesBy};
 
 use nomos_base::{Got, Source};
 use std::fs::{File, Files};
@@ -82,14 +82,25 @@ fn opened<R: Files<File = File>>(rt: &R, word: Option<&str>) -> Option<File>
 
 // Reads once. Where there is no file, or the system reports an error, the read failed.
 fn read_piece(file: &mut Option<File>, into: &mut [u8]) -> Got
+    requires { 0 < length into.old }
     ensures { GetsSome result into.new }
 {
     match file {
         None => Got::Failed,
-        Some(file) => match file.read(into) {
-            Ok(0) => Got::End,
-            Ok(count) => Got::Got(count),
-            Err(_) => Got::Failed,
-        },
+        Some(file) => read_once(file, into),
+    }
+}
+
+// Reads once from whatever can be read. What it is known to give is taken just as the answer says; where the read failed,
+// nothing is.
+fn read_once<R: Read>(reader: &mut R, into: &mut [u8]) -> Got
+    requires { 0 < length into.old }
+    ensures some { GetsSome result into.new }
+    ensures taken { TakesBy result into.new (R.remaining reader.old) (R.remaining reader.new) }
+{
+    match reader.read(into) {
+        Ok(0) => Got::End,
+        Ok(count) => Got::Got(count),
+        Err(_) => Got::Failed,
     }
 }

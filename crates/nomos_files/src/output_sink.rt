@@ -3,7 +3,7 @@
 ghost use Rattle.std.specs.Prelude.{◌≡◌, ◌<◌, ◌≤◌, length, None, IsSome};
 ghost use Rattle.std.specs.Option.{option_map};
 ghost use Rattle.nomos_base.specs.Sink.{Writes};
-ghost use Rattle.nomos_files.specs.FaultCounting.{count_after_write, PutsSome};
+ghost use Rattle.nomos_files.specs.FaultCounting.{count_after_write, AddsBy, PutsSome};
 
 use nomos_base::{Put, Sink};
 use std::fs::{File, Files};
@@ -132,7 +132,8 @@ fn made<R: Files<File = File>>(files: &R, word: Option<&str>) -> Option<File>
 
 // Writes once. Where nothing is taken, or the system reports an error, the write failed.
 fn write_piece<W: Write>(writer: &mut W, from: &[u8]) -> Put
-    ensures { PutsSome result from.now }
+    ensures some { PutsSome result from.now }
+    ensures added { AddsBy result from.now (W.contents writer.old) (W.contents writer.new) }
 {
     match writer.write(from) {
         Ok(0) | Err(_) => Put::Failed,
