@@ -1,7 +1,7 @@
--- A text reads as one program at most, and a text that is typed is refused for no cause.
+-- A text reads as one program at most, and what is typed is answered so where the run does not stop.
 use Rattle.std.proofs.Common.{◌≡◌, ℕ, List, ap, sym, subst, ◌∙◌}
-use Rattle.nomos_accept.specs.AcceptedText.{IsReadAs, IsTypedAs, IsNeverTypedText, PivotRunEndsWith, IsProgramWith, IsRefused, IsUnsolved}
-use Rattle.nomos_accept.specs.declared.refusal.Why.{Why}
+use Rattle.nomos_accept.specs.AcceptedText.{PivotRunEndsWith, IsProgramWith, IsUnsolved}
+use Rattle.nomos_accept.specs.TypedText.{IsReadAs, IsTypedAs, IsNeverTypedText}
 use Rattle.nomos_elaborate.specs.FileBuild.{program_of}
 use Rattle.nomos_ir.specs.declared.lists.ProgramLists.{ProgramLists}
 use Rattle.nomos_rows.specs.PartFaults.{IsNeverTyped}
@@ -31,11 +31,6 @@ pub never-typed : (text : List ℕ) (lists : ProgramLists) → IsReadAs text lis
 never-typed text lists read never = λ other x typed.
     never x (subst (λ (l : ProgramLists). IsTypedProgram l x) (one-program text other lists typed.read read)
     typed.typed)
-
--- a text that is typed under some amounts is refused for no cause
-pub typed-not_refused : (text : List ℕ) (lists : ProgramLists) (x : Annotations) → IsTypedAs text lists x → (why : Why)
-    → ¬ IsRefused text why
-typed-not_refused text lists x typed why refused = refused.never lists x typed
 
 -- where the run on the rows of its program does not stop without an answer, it is answered that it is typed
 pub typed-solved : (text : List ℕ) (lists : ProgramLists) (x : Annotations) → IsTypedAs text lists x

@@ -3,7 +3,8 @@ use Rattle.std.proofs.Common.{◌≡◌, ◌≢◌, ◌<◌, ℕ, zero, suc, Lis
 use Rattle.nomos_accept.proofs.AcceptLaws.{one-tree, one-program}
 use Rattle.nomos_accept.proofs.OneFormLaws.{tells-once, kind-told, stuck-told}
 use Rattle.nomos_accept.proofs.StepLemmas.{one-step}
-use Rattle.nomos_accept.specs.AcceptedText.{IsReadAs, ReadsWith, IsOffence, IsCauseOf}
+use Rattle.nomos_accept.specs.AcceptedText.{ReadsWith, IsOffence, IsCauseOf}
+use Rattle.nomos_accept.specs.TypedText.{IsReadAs}
 use Rattle.nomos_accept.specs.Causes.{step_of, offset_of, limit_of, form_of, SameCause}
 use Rattle.nomos_accept.specs.declared.refusal.Why.{Why}
 use Rattle.nomos_accept.specs.declared.refusal.Why.TheVariants as why

@@ -1,7 +1,8 @@
 -- What the pivot run on the rows of a program says of a text that reads as it.
 use Rattle.std.proofs.Common.{◌≡◌, ◌≤◌, ◌^◌, ℕ, List, length, sym, subst, ◌∙◌}
 use Rattle.nomos_accept.proofs.AcceptLaws.{one-program}
-use Rattle.nomos_accept.specs.AcceptedText.{IsReadAs, AreRowsFor, IsAcceptedAs, IsProgramWith, IsRefused, IsUnsolved}
+use Rattle.nomos_accept.specs.AcceptedText.{AreRowsFor, IsAcceptedAs, IsProgramWith, IsRefused, IsUnsolved}
+use Rattle.nomos_accept.specs.TypedText.{IsReadAs}
 use Rattle.nomos_accept.specs.Preparing.{HasRows}
 use Rattle.nomos_accept.specs.declared.refusal.Why.TheVariants as why
 use Rattle.nomos_forms.specs.Bounds.{IsFound}

@@ -8,3 +8,4 @@ pub mod RowListLaws
 pub mod RisingLemmas
 pub mod OneFormLaws
 pub mod ReadLaws
+pub mod NeverLaws

@@ -2,7 +2,7 @@
 -- instruction begins. So what is faulty at an offset of a text is fixed by the text.
 use Rattle.std.proofs.Common.{◌≡◌, ◌-◌, ◌≤◌, ℕ, [], ◌∷◌, List, Option, Some, None, Contains, slice_get, inl, inr, ap, sym, subst, ◌∙◌, arith}
 use Rattle.nomos_accept.proofs.RisingLemmas.{stands-once}
-use Rattle.nomos_accept.specs.AcceptedText.{IsReadAs}
+use Rattle.nomos_accept.specs.TypedText.{IsReadAs}
 use Rattle.nomos_check.proofs.StuckLaws.{stuck-rowless}
 use Rattle.nomos_check.specs.Checking.{IsStuckAt}
 use Rattle.nomos_elaborate.proofs.InstructionLaws.{form_at, Tells, IsPutIn, instructions-told, functions-told}

@@ -1,6 +1,6 @@
 -- What a text reads as is a program.
 use Rattle.std.proofs.Common.{ℕ, List, sym, subst}
-use Rattle.nomos_accept.specs.AcceptedText.{IsReadAs}
+use Rattle.nomos_accept.specs.TypedText.{IsReadAs}
 use Rattle.nomos_program.proofs.ProgramLaws.{is-program}
 use Rattle.nomos_ir.specs.Program.{IsProgram}
 use Rattle.nomos_ir.specs.declared.lists.ProgramLists.{ProgramLists}

@@ -2,7 +2,7 @@
 use Rattle.std.proofs.Common.{◌≡◌, ℕ, List, All, Some, None, IsTrue, ◌≢◌, sym, subst, ◌∙◌}
 use Rattle.std.proofs.lemmas.List.Elements.{All-contains}
 use Rattle.nomos_accept.proofs.AcceptLaws.{one-tree}
-use Rattle.nomos_accept.specs.AcceptedText.{IsNeverTypedText}
+use Rattle.nomos_accept.specs.TypedText.{IsNeverTypedText}
 use Rattle.nomos_program.specs.Elaborated.{BreaksCosts}
 use Rattle.nomos_elaborate.specs.NameClaim.{first_broken}
 use Rattle.nomos_elaborate.specs.FileClaims.{claims_of}

@@ -4,7 +4,8 @@ use Rattle.std.proofs.lemmas.Bool.Decides.{leb_tells}
 use Rattle.std.proofs.lemmas.List.Quantifiers.{position-Some}
 use Rattle.nomos_accept.proofs.AcceptLaws.{one-tree, one-program}
 use Rattle.nomos_accept.proofs.RefusalLemmas.{bare-not_contractive, offence-not_obeying}
-use Rattle.nomos_accept.specs.AcceptedText.{IsReadAs, IsOffence, IsProgramWith, ReadsWith, IsCauseOf}
+use Rattle.nomos_accept.specs.AcceptedText.{IsOffence, IsProgramWith, ReadsWith, IsCauseOf}
+use Rattle.nomos_accept.specs.TypedText.{IsReadAs}
 use Rattle.nomos_accept.specs.Causes.{step_of}
 use Rattle.nomos_accept.specs.declared.refusal.Why.{Why}
 use Rattle.nomos_accept.specs.declared.refusal.Why.TheVariants as why

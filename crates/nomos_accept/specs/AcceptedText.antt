@@ -4,7 +4,7 @@ use Rattle.nomos_accept.specs.declared.refusal.AcceptError.{AcceptError}
 use Rattle.nomos_accept.specs.declared.refusal.AcceptError.TheVariants as error
 use Rattle.nomos_accept.specs.declared.refusal.Why.{Why}
 use Rattle.nomos_accept.specs.declared.refusal.Why.TheVariants as why
-use Rattle.nomos_program.specs.Elaborated.{ElaboratesTo, BreaksCosts}
+use Rattle.nomos_program.specs.Elaborated.{BreaksCosts}
 use Rattle.nomos_elaborate.specs.NameClaim.{first_broken}
 use Rattle.nomos_elaborate.specs.FileClaims.{claims_of}
 use Rattle.nomos_forms.specs.Refuting.{Refutes}
@@ -31,26 +31,10 @@ use Rattle.nomos_syntax.specs.Reading.{IsPlainText}
 use Rattle.nomos_syntax.specs.Scan.{tokens_of}
 use Rattle.nomos_syntax.specs.Spans.{IsFirstNotAscii}
 use Rattle.nomos_types.specs.Acceptance.{Acceptance}
-use Rattle.nomos_types.specs.Amount.{Annotations, HasUnit}
+use Rattle.nomos_accept.specs.TypedText.{IsReadAs, IsTypedAs, IsNeverTypedText}
+use Rattle.nomos_types.specs.Amount.{Annotations}
 use Rattle.nomos_types.specs.Forming.{IsFirstBareName, IsFirstOffence}
-use Rattle.nomos_types.specs.Typed.{IsTypedProgram, IsWellFormed, HasSkeletons}
-
--- The text reads as a tree, which stands for this program.
-pub record IsReadAs (text : List ℕ) (lists : ProgramLists) : Type 0 where
-  pub tree : FileTree
-  pub reads : ReadsAs text tree
-  pub elaborates : ElaboratesTo tree lists
-
--- The text reads as this program, which is typed under these amounts over their unit, one amount for each of its stars.
-pub record IsTypedAs (text : List ℕ) (lists : ProgramLists) (x : Annotations) : Type 0 where
-  pub read : IsReadAs text lists
-  pub unit : HasUnit x
-  pub each_star : length x.stars ≡ star_count lists
-  pub typed : IsTypedProgram lists x
-
--- the text is typed under no amounts over any unit
-abbrev pub IsNeverTypedText : List ℕ → Type 0
-IsNeverTypedText text = (lists : ProgramLists) (x : Annotations) → ¬ (IsTypedAs text lists x)
+use Rattle.nomos_types.specs.Typed.{IsWellFormed, HasSkeletons}
 
 -- the rows of the program, over its stars
 pub record AreRowsFor (lists : ProgramLists) (rows : RowList) : Type 0 where

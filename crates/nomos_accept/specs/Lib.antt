@@ -1,3 +1,4 @@
+pub mod TypedText
 pub mod AcceptedText
 pub mod Causes
 pub mod Preparing

@@ -1,6 +1,7 @@
 -- Which contract texts are prepared for a solver.
 use Rattle.std.specs.Prelude.{ℕ, List, Result, Ok, Err}
-use Rattle.nomos_accept.specs.AcceptedText.{IsReadAs, AreRowsFor, IsRefused}
+use Rattle.nomos_accept.specs.AcceptedText.{AreRowsFor, IsRefused}
+use Rattle.nomos_accept.specs.TypedText.{IsReadAs}
 use Rattle.nomos_accept.specs.declared.preparing.Prepared.{Prepared}
 use Rattle.nomos_accept.specs.declared.refusal.AcceptError.{AcceptError}
 use Rattle.nomos_accept.specs.declared.refusal.AcceptError.TheVariants as error

@@ -1,6 +1,7 @@
 //! Acceptance of contract texts.
 ghost use Rattle.std.specs.Prelude.{◌≡◌, ◌≤◌, ◌^◌, ℕ, List};
-ghost use Rattle.nomos_accept.specs.AcceptedText.{Answers, IsReadAs};
+ghost use Rattle.nomos_accept.specs.AcceptedText.{Answers};
+ghost use Rattle.nomos_accept.specs.TypedText.{IsReadAs};
 ghost use Rattle.nomos_accept.specs.Preparing.{HasRows};
 ghost use Rattle.nomos_forms.specs.Bounds.{IsFound, IsVerdict};
 ghost use Rattle.nomos_forms.specs.Meeting.{MeetsRows};

@@ -1,6 +1,6 @@
 //! The causes of refusals, from what the parts of the checker answer.
 ghost use Rattle.std.specs.Prelude.{ℕ, List, Err};
-ghost use Rattle.nomos_accept.specs.AcceptedText.{IsReadAs};
+ghost use Rattle.nomos_accept.specs.TypedText.{IsReadAs};
 ghost use Rattle.nomos_accept.specs.Preparing.{AnswersRefusal};
 ghost use Rattle.nomos_program.specs.Elaborated.{Answers as AnswersElaborate};
 ghost use Rattle.nomos_ir.specs.declared.lists.ProgramLists.{ProgramLists};

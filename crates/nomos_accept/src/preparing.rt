@@ -1,6 +1,6 @@
 //! Programs of which each part has a skeleton, with their rows.
 ghost use Rattle.std.specs.Prelude.{◌≤◌, ℕ, List, length, IfErr, IfOk};
-ghost use Rattle.nomos_accept.specs.AcceptedText.{IsReadAs};
+ghost use Rattle.nomos_accept.specs.TypedText.{IsReadAs};
 ghost use Rattle.nomos_accept.specs.Preparing.{AnswersPrepared, AnswersRefusal, HasRows};
 ghost use Rattle.nomos_accept.specs.mirror.Read.{AnswersRead};
 ghost use Rattle.nomos_ir.specs.Program.{IsProgram};

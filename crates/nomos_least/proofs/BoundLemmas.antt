@@ -2,7 +2,8 @@
 use Rattle.std.proofs.Common.{◌≡◌, ◌≤◌, ◌*◌, ◌^◌, ℕ, List, ap, sym, subst, ◌∙◌, arith, ℤ, pos, ◌*ℤ◌, ◌≤ℤ◌}
 use Rattle.std.proofs.lemmas.Int.{ints}
 use Rattle.nomos_accept.proofs.JudgingLaws.{found-is_accepted, refuted-answer}
-use Rattle.nomos_accept.specs.AcceptedText.{IsReadAs, IsProgramWith, IsRefused}
+use Rattle.nomos_accept.specs.AcceptedText.{IsProgramWith, IsRefused}
+use Rattle.nomos_accept.specs.TypedText.{IsReadAs}
 use Rattle.nomos_accept.specs.Preparing.{HasRows}
 use Rattle.nomos_accept.specs.declared.refusal.Why.TheVariants as why
 use Rattle.nomos_forms.specs.Bounds.{IsFound}

@@ -5,7 +5,7 @@ use Rattle.std.proofs.lemmas.Bool.{lt-ltb}
 use Rattle.std.proofs.lemmas.Int.{ints}
 use Rattle.nomos_accept.proofs.ReadLaws.{read-is_program}
 use Rattle.nomos_accept.proofs.RowListLaws.{rows_for-once}
-use Rattle.nomos_accept.specs.AcceptedText.{IsReadAs}
+use Rattle.nomos_accept.specs.TypedText.{IsReadAs}
 use Rattle.nomos_forms.specs.Bounds.{IsForm}
 use Rattle.nomos_forms.specs.Linear.{dot, form_value}
 use Rattle.nomos_forms.specs.declared.form.Form.{Form}

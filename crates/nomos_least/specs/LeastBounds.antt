@@ -1,6 +1,7 @@
 -- Least bounds of contract texts: amounts under which a text is typed, and of which the transactions declare the least.
 use Rattle.std.specs.Prelude.{◌≡◌, ◌≤◌, ◌*◌, ℕ, List, Result, Ok, Err}
-use Rattle.nomos_accept.specs.AcceptedText.{IsTypedAs, AreRowsFor, IsProgramWith, IsRefused, found_amounts}
+use Rattle.nomos_accept.specs.AcceptedText.{AreRowsFor, IsProgramWith, IsRefused, found_amounts}
+use Rattle.nomos_accept.specs.TypedText.{IsTypedAs}
 use Rattle.nomos_accept.specs.declared.refusal.AcceptError.{AcceptError}
 use Rattle.nomos_accept.specs.declared.refusal.AcceptError.TheVariants as error
 use Rattle.nomos_forms.specs.Meeting.{MeetsRows}

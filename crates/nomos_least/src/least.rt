@@ -1,6 +1,6 @@
 //! Least bounds of contract texts.
 ghost use Rattle.std.specs.Prelude.{◌≡◌, ◌≤◌, ◌^◌, ℕ, List, All, pos, ◌≤ℤ◌};
-ghost use Rattle.nomos_accept.specs.AcceptedText.{IsReadAs};
+ghost use Rattle.nomos_accept.specs.TypedText.{IsReadAs};
 ghost use Rattle.nomos_accept.specs.Preparing.{HasRows};
 ghost use Rattle.nomos_forms.specs.Bounds.{IsForm, IsFound};
 ghost use Rattle.nomos_forms.specs.Meeting.{MeetsRows};

@@ -1,7 +1,8 @@
 -- What is accepted is typed, and what is typed is accepted.
 use Rattle.std.proofs.Common.{◌≡◌, ◌≢◌, ◌∙◌, ◌⊎◌, inl, inr, ℕ, List, Option, Some, None, Err, sym, subst, arith}
 use Rattle.std.specs.Prelude.{codes}
-use Rattle.nomos_accept.specs.AcceptedText.{IsTypedAs, PivotRunEndsWith}
+use Rattle.nomos_accept.specs.AcceptedText.{PivotRunEndsWith}
+use Rattle.nomos_accept.specs.TypedText.{IsTypedAs}
 use Rattle.nomos_due.proofs.ReplayLaws.{legal-not_refused}
 use Rattle.nomos_due.specs.Lines.{read_fault_line}
 use Rattle.nomos_due.specs.Outside.{HaveRisen}
@@ -18,10 +19,12 @@ use Rattle.nomos_simplex.specs.declared.solved.Solved.TheVariants as solved
 use Rattle.nomos_simplex.specs.declared.solved.SolvedLeast.TheVariants as least_solved
 use Rattle.nomos_simplex.specs.declared.solved.Stop.{Stop}
 use Rattle.nomos_top.specs.Accepted.{AcceptedIsTyped, GivesOne, IsBehindStatus}
-use Rattle.nomos_top.specs.Call.{Call, Texts, EndsOn, Gives, HasWritten, inputs_of, outcome_with}
+use Rattle.nomos_top.specs.Call.{EndsOn, inputs_of, outcome_with}
+use Rattle.nomos_top.specs.Seen.{Call, Texts, Gives, HasWritten}
 use Rattle.nomos_top.specs.Complete.{HasReport, IsAnswered, TypedIsAccepted}
 use Rattle.nomos_top.specs.Outcome.{Inputs, Outcome}
-use Rattle.nomos_top.specs.Tasks.{HasStoppedFor, IsAlone, IsGivenFor, IsLeast, ReadsJournal, ReadsScript, contract_of}
+use Rattle.nomos_top.specs.TaskRuns.{HasStoppedFor, IsGivenFor}
+use Rattle.nomos_top.specs.Tasks.{IsAlone, IsLeast, ReadsJournal, ReadsScript, contract_of}
 use Rattle.nomos_top.proofs.CauseLemmas.{given-no_cause, given-no_stop, given-one, stops, least-stops}
 use Rattle.nomos_top.proofs.EndLaws.{IsOrFault, bad-unread, done-not, done-status, or-fails, whole-at, words-sound}
 use Rattle.nomos_top.proofs.Views.{Against, Carried, Further, DueView, WordsView, Whole, PartView, EndView, end-view}
@@ -201,7 +204,7 @@ record DueAnswers (task : Task) (status : ℕ) : Type 0 where
   eight : status ≢ 8
   alone : IsAlone task → IsOrFault status 0
 
-further-status : {i : Inputs} {task : Task} {o : Outcome} {a : Acceptance} → Further i task o a
+pub further-status : {i : Inputs} {task : Task} {o : Outcome} {a : Acceptance} → Further i task o a
     → (o.status ≢ 1) × (o.status ≢ 8)
 further-status (view.script_fault reads rose idle n is) = (λ e. omega (arith, e, n), λ e. omega (arith, e, n))
 further-status (view.bad_script reads line bad idle n is) = (λ e. omega (arith, e, n), λ e. omega (arith, e, n))

@@ -3,7 +3,7 @@ use Rattle.std.proofs.Common.{◌≡◌, ◌≢◌, ◌∙◌, ◌⊎◌, inl, i
 use Rattle.std.specs.Prelude.{IfOk, IfErr}
 use Rattle.nomos_due.specs.Outside.{SinkState}
 use Rattle.nomos_due.specs.Sources.{kept_text}
-use Rattle.nomos_top.specs.Call.{Call, IsDone}
+use Rattle.nomos_top.specs.Seen.{Call, IsDone}
 use Rattle.nomos_top.specs.Outcome.{Inputs, Outcome}
 use Rattle.nomos_top.specs.Tasks.{KeepsJournal}
 use Rattle.nomos_top.specs.Turns.{MayKeep}

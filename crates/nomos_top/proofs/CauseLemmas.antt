@@ -1,11 +1,11 @@
 -- Of a text of which a cause is true nothing is accepted, and neither run stops on it; nor on a text that is accepted,
 -- which is accepted once.
 use Rattle.std.proofs.Common.{◌≡◌, ◌≤◌, ℕ, List, length, Some, None, ap, sym, subst, ◌∙◌, arith}
-use Rattle.nomos_accept.proofs.AcceptLaws.{one-tree, one-program}
-use Rattle.nomos_accept.proofs.RefusalLemmas.{offends-not_obeying, bare-not_contractive}
+use Rattle.nomos_accept.proofs.AcceptLaws.{one-program}
+use Rattle.nomos_accept.proofs.NeverLaws.{cause-refutes}
 use Rattle.nomos_accept.proofs.RowListLaws.{ends-once}
-use Rattle.nomos_accept.proofs.StepLemmas.{not_ascii-not_plain}
-use Rattle.nomos_accept.specs.AcceptedText.{IsReadAs, IsAcceptedAs, IsOffence, IsCauseOf, PivotRunEndsWith, found_amounts}
+use Rattle.nomos_accept.specs.AcceptedText.{IsAcceptedAs, IsOffence, IsCauseOf, PivotRunEndsWith, found_amounts}
+use Rattle.nomos_accept.specs.TypedText.{IsReadAs}
 use Rattle.nomos_accept.specs.declared.refusal.Why.{Why}
 use Rattle.nomos_accept.specs.declared.refusal.Why.TheVariants as why
 use Rattle.nomos_elaborate.specs.FileClaims.{claims_of}
@@ -27,7 +27,7 @@ use Rattle.nomos_simplex.specs.declared.solved.SolvedLeast.TheVariants as least_
 use Rattle.nomos_simplex.specs.declared.solved.Stop.{Stop}
 use Rattle.nomos_surface.specs.Tree.{FileTree}
 use Rattle.nomos_ir.specs.Limits.{text_limit}
-use Rattle.nomos_top.specs.Tasks.{IsGivenFor, HasStopped, HasLeastStopped, HasStoppedFor}
+use Rattle.nomos_top.specs.TaskRuns.{IsGivenFor, HasStopped, HasLeastStopped, HasStoppedFor}
 use Rattle.nomos_types.specs.Acceptance.{Acceptance, acceptance}
 use Rattle.nomos_types.specs.Amount.{Annotations}
 use Rattle.nomos_types.specs.Typed.{IsTypedProgram}
@@ -35,59 +35,13 @@ use Rattle.nomos_words.specs.Words.{Task, check, run, replay, bench, least}
 
 -- ---- what a cause rules out
 
--- a text that the grammar refuses reads as no program
-offence-unread : (text : List ℕ) (e : GrammarError) (lists : ProgramLists) → (e ≡ grammar.NoMemory → ⊥)
-    → IsOffence text e → ¬ IsReadAs text lists
-offence-unread text e lists some offence read =
-    (refused-none text e some offence.plain offence.refused).none read.tree read.reads
-
--- a program that is typed under no amounts
-never-here : (text : List ℕ) (lists other : ProgramLists) (x : Annotations) → IsReadAs text lists
-    → IsReadAs text other → IsTypedProgram lists x → IsNeverTyped other → ⊥
-never-here text lists other x read again typed never =
-    never x (subst (λ (l : ProgramLists). IsTypedProgram l x) (one-program text lists other read again) typed)
-
 -- A text of which a cause is true, and that reads as a program that is typed under some amounts, skeletons too, is
 -- refused for its potential: the pivot run on the rows of the program ends with weights.
 cause-refuted : (text : List ℕ) (v : Why) (lists : ProgramLists) (x : Annotations) → IsCauseOf text v
     → IsReadAs text lists → IsTypedProgram lists x
     → (verdict : Verdict) × PivotRunEndsWith lists (solved.Refuted verdict)
-cause-refuted text why.TooLong lists x long read typed =
-    absurd (let short : length text ≤ text_limit = read.reads.plain.length_limit in omega (arith, long, short))
-cause-refuted text (why.NotAscii at) lists x first read typed =
-    absurd (not_ascii-not_plain text at first read.reads.plain)
-cause-refuted text (why.Syntax at) lists x offence read typed =
-    absurd (offence-unread text (grammar.Syntax at) lists (λ same. absurd cc) offence read)
-cause-refuted text (why.Limit which at) lists x offence read typed =
-    absurd (offence-unread text (grammar.Limit which at) lists (λ same. absurd cc) offence read)
-cause-refuted text (why.Name at) lists x (tree, reads, broken) read typed =
-    let same : read.tree ≡ tree = one-tree text read.tree tree read.reads reads in
-    let obeys : first_broken (claims_of tree) ≡ None =
-    subst (λ (t : FileTree). first_broken (claims_of t) ≡ None) same read.elaborates.names in
-    let both : None ≡ Some at = sym obeys ∙ broken in
-    absurd cc
-cause-refuted text (why.Cost at) lists x (tree, reads, breaks) read typed =
-    let same : read.tree ≡ tree = one-tree text read.tree tree read.reads reads in
-    let obeys : written_work tree ≡ None =
-    subst (λ (t : FileTree). written_work t ≡ None) same read.elaborates.costs in
-    let both : None ≡ Some at = sym obeys ∙ breaks.work in
-    absurd cc
-cause-refuted text (why.Contractive at) lists x (other, again, bare) read typed =
-    absurd (never-here text lists other x read again typed
-    (λ y is. bare-not_contractive other at bare is.formed.contractive))
-cause-refuted text (why.Mode at) lists x (other, again, both) read typed =
-    let (t, offends, stands) = both.1.there in
-    absurd (never-here text lists other x read again typed
-    (λ y is. offends-not_obeying other t offends is.formed.modes))
-cause-refuted text (why.NotSync at path) lists x (other, again, both) read typed =
-    let (astray, first, never) = both.1 in absurd (never-here text lists other x read again typed never)
-cause-refuted text (why.TermType at) lists x (other, again, both) read typed =
-    let (back, kind, first, never) = both.1 in absurd (never-here text lists other x read again typed never)
-cause-refuted text (why.ProcType at form) lists x (other, again, both) read typed =
-    let (back, stuck, first, never) = both.1 in absurd (never-here text lists other x read again typed never)
-cause-refuted text (why.NoPotential verdict) lists x (other, again, refuted) read typed =
-    let same : other ≡ lists = one-program text other lists again read in
-    (verdict, subst (λ (l : ProgramLists). PivotRunEndsWith l (solved.Refuted verdict)) same refuted.ends)
+cause-refuted text v lists x cause read typed =
+    let (verdict, refuted) = cause-refutes text v lists x cause read typed in (verdict, refuted.ends)
 
 -- ---- the ends of the two runs
 

@@ -17,12 +17,14 @@ use Rattle.nomos_report.specs.Block.{accepted_block}
 use Rattle.nomos_run.specs.declared.orders.Orders.{Orders}
 use Rattle.nomos_simplex.specs.declared.solved.Stop.{Stop}
 use Rattle.nomos_ir.specs.Limits.{text_limit}
-use Rattle.nomos_top.specs.Call.{Call, HasEnded, Texts}
+use Rattle.nomos_top.specs.Call.{HasEnded}
+use Rattle.nomos_top.specs.Seen.{Call, Texts}
 use Rattle.nomos_top.specs.LeastBlock.{least_block}
 use Rattle.nomos_top.specs.Outcome as outcome
 use Rattle.nomos_top.specs.Outcome.{Outcome, IsTaskDue, bare, given}
 use Rattle.nomos_top.specs.Refusal.{refusal, unsolved_line}
-use Rattle.nomos_top.specs.Tasks.{AskNothing, HasStopped, HasStoppedFor, ReadsContract, bench_orders, contract_of, limit_of, run_orders}
+use Rattle.nomos_top.specs.TaskRuns.{HasStopped, HasStoppedFor, bench_orders, limit_of, run_orders}
+use Rattle.nomos_top.specs.Tasks.{AskNothing, ReadsContract, contract_of}
 use Rattle.nomos_top.specs.declared.due.CallDue.{CallDue}
 use Rattle.nomos_top.specs.declared.due.DoneSoFar.{DoneSoFar}
 use Rattle.nomos_top.specs.declared.judging.Unaccepted.{Unaccepted}

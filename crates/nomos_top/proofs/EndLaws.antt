@@ -10,8 +10,10 @@ use Rattle.nomos_report.specs.Reported.{is_well, run_status}
 use Rattle.nomos_script.proofs.ReadingLaws.{reads_without_syntax}
 use Rattle.nomos_script.specs.ScriptReading.{ReadsAs}
 use Rattle.nomos_script.specs.declared.item.ScriptItem.{ScriptItem}
-use Rattle.nomos_top.specs.Call.{Call, Texts, IsDone, IsOrFails, inputs_of, outcome_with}
-use Rattle.nomos_top.specs.Tasks.{IsAlone, IsGivenFor, KeepsJournal, ReadsJournal, ReadsScript, contract_of, script_of}
+use Rattle.nomos_top.specs.Call.{inputs_of, outcome_with}
+use Rattle.nomos_top.specs.Seen.{Call, Texts, IsDone, IsOrFails}
+use Rattle.nomos_top.specs.TaskRuns.{IsGivenFor}
+use Rattle.nomos_top.specs.Tasks.{IsAlone, KeepsJournal, ReadsJournal, ReadsScript, contract_of, script_of}
 use Rattle.nomos_top.proofs.Views.{DueView, WordsView, Whole, EndView}
 use Rattle.nomos_top.proofs.Views as view
 use Rattle.nomos_top.specs.Outcome.{Inputs, Outcome}

@@ -14,11 +14,14 @@ use Rattle.nomos_report.specs.Reported.{run_status}
 use Rattle.nomos_script.proofs.ReadingLaws.{reads_once}
 use Rattle.nomos_script.specs.ScriptReading.{ReadsAs}
 use Rattle.nomos_script.specs.declared.item.ScriptItem.{ScriptItem}
-use Rattle.nomos_top.specs.Call.{Call, Texts, EndsOn, Gives, IsDone, inputs_of, outcome_with}
+use Rattle.nomos_top.specs.Call.{EndsOn, inputs_of, outcome_with}
+use Rattle.nomos_top.specs.Seen.{Call, Texts, Gives, IsDone}
 use Rattle.nomos_top.specs.Complete.{HasReport}
-use Rattle.nomos_top.specs.Kept.{CarriesOut, CarriesOutSome, HasNoEntry, KeptGoesRight, KeptIsLegal, OneWorkerFollows, SourceFailed}
+use Rattle.nomos_top.specs.Headline.{HasNoEntry}
+use Rattle.nomos_top.specs.Kept.{CarriesOut, CarriesOutSome, KeptGoesRight, KeptIsLegal, OneWorkerFollows, SourceFailed}
 use Rattle.nomos_top.specs.Outcome.{Inputs, Outcome}
-use Rattle.nomos_top.specs.Tasks.{AskNothing, IsAlone, IsByOne, IsGivenFor, contract_of, script_of}
+use Rattle.nomos_top.specs.TaskRuns.{IsByOne, IsGivenFor}
+use Rattle.nomos_top.specs.Tasks.{AskNothing, IsAlone, contract_of, script_of}
 use Rattle.nomos_top.proofs.AcceptedLaws.{due-reported, task-view}
 use Rattle.nomos_top.proofs.EndLaws.{done-not, done-status, whole-done, whole-of}
 use Rattle.nomos_top.proofs.Views.{Carried, CarriedSome, Further, DueView, PartView, WordsView, Whole, EndView, end-view}
@@ -78,7 +81,7 @@ due-told c t status out kept task (view.alone a what alone gives is idle zero) =
 due-told c t status out kept task (view.behind a what further gives is) =
     further-told c t status out kept task a gives what
 
-words-told : (c : Call) (t : Texts) (status : ℕ) (out : List ℕ) (kept : Option (List ℕ))
+pub words-told : (c : Call) (t : Texts) (status : ℕ) (out : List ℕ) (kept : Option (List ℕ))
     → WordsView c.words (inputs_of c t) (outcome_with c status out kept) → HasNoEntry c ⊎ CarriesOut c t
 words-told c t status out kept (view.nothing_asked silent idle void four is) = inl idle.entries
 words-told c t status out kept (view.task_asked task asks due) = either (due-told c t status out kept task due)
@@ -180,7 +183,7 @@ carries-some c t task a asks gives r = record {
   limit = r.limit;
 }
 
-abbrev FollowsSome : Call → Texts → Type 0
+abbrev pub FollowsSome : Call → Texts → Type 0
 FollowsSome c t = (run : CarriesOutSome c t) × ((policy : Policy) → IsByOne run.task policy
     → FollowPolicy policy run.a run.passages)
 
@@ -192,7 +195,7 @@ part-told c t (view.some task a asks further gives is (inl entries)) = inl entri
 part-told c t (view.some task a asks further gives is (inr r)) =
     inr (carries-some c t task a asks gives r, r.follows)
 
-end-part : (c : Call) (t : Texts) → EndView c t → c.status ≡ 7 → HasNoEntry c ⊎ FollowsSome c t
+pub end-part : (c : Call) (t : Texts) → EndView c t → c.status ≡ 7 → HasNoEntry c ⊎ FollowsSome c t
 end-part c t (view.all w) seven = absurd (never w.view)
   where
     never : WordsView c.words (inputs_of c t) (outcome_with c c.status w.out w.kept) → ⊥

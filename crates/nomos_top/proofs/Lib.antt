@@ -10,3 +10,5 @@ pub mod OneAnswerLaws
 pub mod RefusingLaws
 pub mod ReplayingLaws
 pub mod ShownLaws
+pub mod HeadlineLaws
+pub mod ClaimLaws

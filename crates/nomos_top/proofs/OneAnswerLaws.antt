@@ -2,6 +2,7 @@
 use Rattle.std.proofs.Common.{ℕ, List}
 use Rattle.nomos_accept.proofs.AcceptLaws.{one-program}
 use Rattle.nomos_accept.proofs.CauseLaws.{one-cause}
+use Rattle.nomos_accept.proofs.NeverLaws.{cause-never}
 use Rattle.nomos_accept.proofs.RowListLaws.{ends-once}
 use Rattle.nomos_accept.proofs.StarLaws.{no_stars-stop}
 use Rattle.nomos_least.proofs.OneLeastLaws.{least_ends-once, no_stars-least_stop}
@@ -15,6 +16,7 @@ pub one-answer : (text : List ℕ) → HasOneAnswer text
 one-answer text = record {
   reads_once = one-program text;
   one_cause = one-cause text;
+  cause_rules_out = cause-never text;
   one_refusal = one-refusal text;
   one_end = λ lists a b read ends other. ends-once lists a b ends other;
   one_least_end = λ lists a b read ends other. least_ends-once lists a b ends other;

@@ -1,5 +1,5 @@
 -- Refusals are true.
-use Rattle.std.proofs.Common.{◌≡◌, ◌≢◌, ◌∙◌, inl, inr, ℕ, List, Option, Err, sym, subst, arith}
+use Rattle.std.proofs.Common.{◌≡◌, ◌≢◌, ◌∙◌, ◌⊎◌, inl, inr, ℕ, List, Option, Err, sym, subst, arith}
 use Rattle.nomos_accept.specs.AcceptedText.{IsCauseOf, IsRefused}
 use Rattle.nomos_accept.specs.declared.refusal.Why.{Why}
 use Rattle.nomos_due.proofs.ReplayLaws.{legal-not_refused}
@@ -12,12 +12,14 @@ use Rattle.nomos_script.proofs.ReadingLaws.{reads_once}
 use Rattle.nomos_script.specs.ScriptReading.{ReadsAs}
 use Rattle.nomos_script.specs.declared.item.ScriptItem.{ScriptItem}
 use Rattle.nomos_simplex.specs.declared.solved.Stop.{Stop}
-use Rattle.nomos_top.specs.Call.{Call, Texts, EndsOn, Gives, HasWritten, inputs_of, outcome_with}
+use Rattle.nomos_top.specs.Call.{EndsOn, inputs_of, outcome_with}
+use Rattle.nomos_top.specs.Seen.{Call, Texts, Gives, HasWritten}
 use Rattle.nomos_top.specs.Kept.{IsOwn}
 use Rattle.nomos_top.specs.Outcome.{Inputs, Outcome}
 use Rattle.nomos_top.specs.Refusal.{refusal, unsolved_line}
 use Rattle.nomos_top.specs.Refusing.{IsBadJournal, IsBadScript, IsBehind, RefusesTruly}
-use Rattle.nomos_top.specs.Tasks.{AskNothing, HasStoppedFor, IsGivenFor, ReadsJournal, ReadsScript, contract_of}
+use Rattle.nomos_top.specs.TaskRuns.{HasStoppedFor, IsGivenFor}
+use Rattle.nomos_top.specs.Tasks.{AskNothing, ReadsJournal, ReadsScript, contract_of}
 use Rattle.nomos_top.proofs.AcceptedLaws.{task-view}
 use Rattle.nomos_top.proofs.CauseLemmas.{cause-no_stop_for, given-no_cause, given-no_stop, given-one}
 use Rattle.nomos_top.proofs.EndLaws.{IsOrFault, bad-unread, done-not, done-status, journal-script, or-fails, reads-script, script-not_alone, whole-at}
@@ -75,9 +77,14 @@ module _ (c : Call) (t : Texts) (e : EndsOn c t) where
       absurd (further-not_four what four)
 
   usage-due : AskNothing c.words → (out : List ℕ) (kept : Option (List ℕ))
-      → WordsView c.words (inputs_of c t) (outcome_with c c.status out kept) → IsOrFault c.status 4
-  usage-due none out kept (view.nothing_asked none2 idle never n is) = inl n
+      → WordsView c.words (inputs_of c t) (outcome_with c c.status out kept) → c.status ≡ 4
+  usage-due none out kept (view.nothing_asked none2 idle never n is) = n
   usage-due none out kept (view.task_asked task asks due) = absurd (none task asks)
+
+  usage-or_fails : AskNothing c.words → EndView c t → (c.status ≡ 4) ⊎ ((c.status ≡ 6) ⊎ (c.status ≡ 7))
+  usage-or_fails none (view.all w) = inl (usage-due none w.out w.kept w.view)
+  usage-or_fails none (view.failed f) = inr (inl f.is)
+  usage-or_fails none (view.wanting m) = inr (inr m.is)
 
   -- ---- 1 and 8
 
@@ -282,7 +289,7 @@ refuses-truly c t e =
       usage = λ four.
           let w = whole-at c t 4 ends four (λ z. omega (arith, z)) (λ z. omega (arith, z)) in
           usage-told c t e w w.view four;
-      no_task = λ none. or-fails c t 4 ends (usage-due c t e none);
+      no_task = λ none. usage-or_fails c t e none ends;
       refused = λ one.
           let w = whole-at c t 1 ends one (λ z. omega (arith, z)) (λ z. omega (arith, z)) in
           refused-told c t e w w.view one;

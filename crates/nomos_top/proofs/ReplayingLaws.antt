@@ -17,10 +17,12 @@ use Rattle.nomos_run.specs.Carried.{journal_text_of}
 use Rattle.nomos_script.proofs.ReadingLaws.{reads_once}
 use Rattle.nomos_script.specs.ScriptReading.{ReadsAs}
 use Rattle.nomos_script.specs.declared.item.ScriptItem.{ScriptItem}
-use Rattle.nomos_top.specs.Call.{Call, Texts, EndsOn, Gives, HasWritten, inputs_of, outcome_with}
-use Rattle.nomos_top.specs.Replaying.{DoesTheSame, Fails, KeepsText, KeptReplays, ReplaysText}
+use Rattle.nomos_top.specs.Call.{EndsOn, inputs_of, outcome_with}
+use Rattle.nomos_top.specs.Seen.{Call, Texts, Gives, HasWritten, Fails}
+use Rattle.nomos_top.specs.Replaying.{DoesTheSame, KeepsText, KeptReplays, ReplaysText}
 use Rattle.nomos_top.specs.Shown.{told_of}
-use Rattle.nomos_top.specs.Tasks.{IsGivenFor, KeepsJournal, contract_of}
+use Rattle.nomos_top.specs.TaskRuns.{IsGivenFor}
+use Rattle.nomos_top.specs.Tasks.{KeepsJournal, contract_of}
 use Rattle.nomos_top.proofs.AcceptedLaws.{task-view}
 use Rattle.nomos_top.proofs.CauseLemmas.{accepted-one, given-no_cause, given-no_stop}
 use Rattle.nomos_top.proofs.EndLaws.{bad-unread, keeps-or_not, keeps-script, reads-script}

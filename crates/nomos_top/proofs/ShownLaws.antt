@@ -13,7 +13,8 @@ use Rattle.nomos_run.specs.Carried.{journal_text_of}
 use Rattle.nomos_script.proofs.ReadingLaws.{reads_once}
 use Rattle.nomos_script.specs.ScriptReading.{ReadsAs}
 use Rattle.nomos_script.specs.declared.item.ScriptItem.{ScriptItem}
-use Rattle.nomos_top.specs.Call.{Call, Texts, EndsOn, Gives, HasWritten, IsDone, IsDueOf, inputs_of, outcome_with}
+use Rattle.nomos_top.specs.Call.{EndsOn, IsDueOf, inputs_of, outcome_with}
+use Rattle.nomos_top.specs.Seen.{Call, Texts, Gives, HasWritten, IsDone}
 use Rattle.nomos_top.specs.Kept.{CarriesOut}
 use Rattle.nomos_top.specs.LeastBlock.{least_block}
 use Rattle.nomos_top.specs.Outcome.{Inputs, Outcome}

@@ -31,14 +31,16 @@ use Rattle.nomos_run.specs.Carried.{journal_text_of, where_wanted}
 use Rattle.nomos_script.specs.ScriptReading.{ReadsAs}
 use Rattle.nomos_script.specs.declared.item.ScriptItem.{ScriptItem}
 use Rattle.nomos_simplex.specs.declared.solved.Stop.{Stop}
-use Rattle.nomos_top.specs.Call.{Call, Texts, EndsOn, EndsWritten, EndsWithoutMemory, IsDueOf, inputs_of, outcome_with}
+use Rattle.nomos_top.specs.Call.{EndsOn, EndsWritten, EndsWithoutMemory, IsDueOf, inputs_of, outcome_with}
+use Rattle.nomos_top.specs.Seen.{Call, Texts}
 use Rattle.nomos_top.specs.Kept.{IsOwn}
 use Rattle.nomos_top.specs.LeastBlock.{least_block}
 use Rattle.nomos_top.specs.Outcome as outcome
 use Rattle.nomos_top.specs.Outcome.{Inputs, Outcome, IsUnaccepted, IsTaskDue, IsDue, IsTaskPart, IsPart, bare, given}
 use Rattle.nomos_top.specs.Refusal.{refusal, unsolved_line}
 use Rattle.nomos_top.specs.Shown.{told_of}
-use Rattle.nomos_top.specs.Tasks.{AskNothing, HasStoppedFor, IsAlone, IsByOne, IsGivenFor, KeepsJournal, ReadsContract, ReadsJournal, ReadsScript, RunsScript, bench_orders, contract_of, crew_of, limit_of, run_orders, script_of}
+use Rattle.nomos_top.specs.TaskRuns.{HasStoppedFor, IsByOne, IsGivenFor, bench_orders, crew_of, limit_of, run_orders}
+use Rattle.nomos_top.specs.Tasks.{AskNothing, IsAlone, KeepsJournal, ReadsContract, ReadsJournal, ReadsScript, RunsScript, contract_of, script_of}
 use Rattle.nomos_types.specs.Acceptance.{Acceptance}
 use Rattle.nomos_words.specs.Usage.{usage_line}
 use Rattle.nomos_words.specs.Words.{Task, check, run, replay, bench, least, Asks}

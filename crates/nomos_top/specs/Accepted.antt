@@ -2,8 +2,9 @@
 use Rattle.std.specs.Prelude.{◌≡◌, ◌≢◌, ◌⊎◌, ℕ, codes}
 use Rattle.nomos_due.specs.Lines.{read_fault_line}
 use Rattle.nomos_due.specs.Outside.{HaveRisen}
-use Rattle.nomos_top.specs.Call.{Call, Texts, HasWritten, Gives}
-use Rattle.nomos_top.specs.Tasks.{IsAlone, IsGivenFor, contract_of}
+use Rattle.nomos_top.specs.Seen.{Call, Texts, HasWritten, Gives}
+use Rattle.nomos_top.specs.TaskRuns.{IsGivenFor}
+use Rattle.nomos_top.specs.Tasks.{IsAlone, contract_of}
 use Rattle.nomos_types.specs.Acceptance.{Acceptance}
 use Rattle.nomos_words.specs.Words.{Task, Asks}
 

@@ -1,7 +1,10 @@
--- All that is claimed of a call, of one and the same texts of its sources.
+-- All that is claimed of a call, of one and the same texts of its sources: first what a reader has to believe, then how it
+-- ends, and what follows from that.
 use Rattle.nomos_top.specs.Accepted.{AcceptedIsTyped}
-use Rattle.nomos_top.specs.Call.{Call, Texts, EndsOn}
+use Rattle.nomos_top.specs.Call.{EndsOn}
+use Rattle.nomos_top.specs.Seen.{Call, Texts}
 use Rattle.nomos_top.specs.Complete.{TypedIsAccepted}
+use Rattle.nomos_top.specs.Headline.{AcceptsTyped, KeepsRuns}
 use Rattle.nomos_top.specs.Kept.{KeptIsLegal, KeptGoesRight, OneWorkerFollows}
 use Rattle.nomos_top.specs.Refusing.{RefusesTruly}
 use Rattle.nomos_top.specs.Replaying.{KeptReplays}
@@ -9,6 +12,8 @@ use Rattle.nomos_top.specs.Shown.{WritesWhatIsDue, FailsTruly}
 
 pub record Claims (c : Call) : Type 0 where
   pub texts : Texts
+  pub accepts_typed : AcceptsTyped c texts
+  pub keeps_runs : KeepsRuns c texts
   pub ends : EndsOn c texts
   pub accepted_is_typed : AcceptedIsTyped c texts
   pub typed_is_accepted : TypedIsAccepted c texts

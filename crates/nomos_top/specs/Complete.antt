@@ -1,6 +1,7 @@
 -- What is typed is accepted, and what behind it is as it should be is carried out.
 use Rattle.std.specs.Prelude.{◌≢◌, List}
-use Rattle.nomos_accept.specs.AcceptedText.{IsTypedAs, PivotRunEndsWith}
+use Rattle.nomos_accept.specs.AcceptedText.{PivotRunEndsWith}
+use Rattle.nomos_accept.specs.TypedText.{IsTypedAs}
 use Rattle.nomos_ir.specs.declared.lists.ProgramLists.{ProgramLists}
 use Rattle.nomos_journal.specs.JournalText.{IsTextOf}
 use Rattle.nomos_journal.specs.declared.line.Version.{Version}
@@ -12,8 +13,9 @@ use Rattle.nomos_script.specs.declared.item.ScriptItem.{ScriptItem}
 use Rattle.nomos_simplex.specs.declared.solved.Solved.TheVariants as solved
 use Rattle.nomos_simplex.specs.declared.solved.SolvedLeast.TheVariants as least_solved
 use Rattle.nomos_simplex.specs.declared.solved.Stop.{Stop}
-use Rattle.nomos_top.specs.Call.{Call, Texts, IsOrFails}
-use Rattle.nomos_top.specs.Tasks.{IsAlone, IsLeast, IsGivenFor, contract_of}
+use Rattle.nomos_top.specs.Seen.{Call, Texts, IsOrFails}
+use Rattle.nomos_top.specs.TaskRuns.{IsGivenFor}
+use Rattle.nomos_top.specs.Tasks.{IsAlone, IsLeast, contract_of}
 use Rattle.nomos_types.specs.Acceptance.{Acceptance}
 use Rattle.nomos_types.specs.Amount.{Annotations}
 use Rattle.nomos_words.specs.Words.{Task, run, replay, bench, Asks}

@@ -1,20 +1,20 @@
 -- The journal of a call: every one is legal, goes right, and with one worker follows the policy.
-use Rattle.std.specs.Prelude.{◌≡◌, ◌≢◌, ◌⊎◌, ℕ, List, [], Some, take, slice_get, sum_by}
+use Rattle.std.specs.Prelude.{◌≡◌, ◌≢◌, ◌⊎◌, ℕ, List, take}
 use Rattle.nomos_due.specs.Outside.{HaveRisen}
 use Rattle.nomos_journal.specs.JournalText.{IsTextOf}
 use Rattle.nomos_journal.specs.declared.line.Version.{Version}
 use Rattle.nomos_legal.specs.Ledger.{LedgerState}
 use Rattle.nomos_legal.specs.Legal.{FollowPolicy, Tells}
-use Rattle.nomos_legal.specs.Passage.{Passage, accepted_units}
-use Rattle.nomos_legal.specs.Right.{AllGoRight}
-use Rattle.nomos_legal.specs.StandsFor.{StandsFor}
+use Rattle.nomos_legal.specs.Passage.{Passage}
 use Rattle.nomos_legal.specs.declared.journal.Journal.{Journal}
 use Rattle.nomos_machine.specs.declared.policy.Policy.{Policy}
 use Rattle.nomos_script.specs.ScriptReading.{ReadsAs}
 use Rattle.nomos_script.specs.declared.item.ScriptItem.{ScriptItem}
-use Rattle.nomos_top.specs.Call.{Call, Texts, Gives, IsDone}
+use Rattle.nomos_top.specs.Seen.{Call, Texts, Gives, IsDone}
 use Rattle.nomos_top.specs.Complete.{HasReport}
-use Rattle.nomos_top.specs.Tasks.{AskNothing, IsAlone, IsByOne, IsGivenFor, RunsScript, contract_of, limit_of, script_of}
+use Rattle.nomos_top.specs.Headline.{GoesRightTo, HasNoEntry}
+use Rattle.nomos_top.specs.TaskRuns.{IsByOne, IsGivenFor, limit_of}
+use Rattle.nomos_top.specs.Tasks.{AskNothing, IsAlone, RunsScript, contract_of, script_of}
 use Rattle.nomos_types.specs.Acceptance.{Acceptance}
 use Rattle.nomos_words.specs.Words.{Task, replay, Asks}
 
@@ -53,10 +53,6 @@ pub record CarriesOutSome (c : Call) (t : Texts) : Type 0 where
   pub tells : Tells a (take count items) c.journal passages last
   pub limit : c.journal.limit ≡ limit_of task
 
--- nothing was carried out
-abbrev pub HasNoEntry : Call → Type 0
-HasNoEntry c = c.journal.entries ≡ []
-
 -- a source failed in this call
 abbrev pub SourceFailed : Call → Type 0
 SourceFailed c = HaveRisen c.contract.counts ⊎ (HaveRisen c.script.counts ⊎ HaveRisen c.journal_in.counts)
@@ -76,18 +72,7 @@ pub record KeptIsLegal (c : Call) (t : Texts) : Type 0 where
   pub alone : (task : Task) → Asks c.words task → IsAlone task → HasNoEntry c
   pub no_task : AskNothing c.words → HasNoEntry c
 
--- Every journal that is kept goes right: before each of its passages, after each front of its firings and behind it, no
--- process meets a message that it does not expect and none lacks gas, exactly the names that objects mention have a
--- type, each linear channel has exactly one owner, and all gas, in accounts, in purses and spent, is what was deposited
--- so far; accounts are debited once, at starts, and by no firing. The ledger to which it leads stands for the program.
--- It has the deposits that were carried out, and the ledger before each passage those that were carried out until then.
-pub record GoesRightTo (a : Acceptance) (passages : List Passage) (last : LedgerState) : Type 0 where
-  pub right : AllGoRight a passages
-  pub stands : StandsFor a last
-  pub deposits : last.deposits ≡ sum_by accepted_units passages
-  pub so_far : (k : ℕ) (p : Passage) → slice_get passages k ≡ Some p
-      → p.before.deposits ≡ sum_by accepted_units (take k passages)
-
+-- Every journal that is kept goes right.
 pub record KeptGoesRight (c : Call) (t : Texts) : Type 0 where
   pub right : (a : Acceptance) (items : List ScriptItem) (passages : List Passage) (last : LedgerState) → Gives c a
       → Tells a items c.journal passages last → GoesRightTo a passages last

@@ -1,11 +1,14 @@
 pub mod Refusal
 pub mod LeastBlock
 pub mod Tasks
+pub mod Seen
+pub mod TaskRuns
 pub mod Outcome
 pub mod Call
 pub mod Accepted
 pub mod Complete
 pub mod Refusing
+pub mod Headline
 pub mod Kept
 pub mod Shown
 pub mod Turns

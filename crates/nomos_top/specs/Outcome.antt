@@ -14,7 +14,8 @@ use Rattle.nomos_report.specs.Block.{accepted_block}
 use Rattle.nomos_simplex.specs.declared.solved.Stop.{Stop}
 use Rattle.nomos_top.specs.LeastBlock.{least_block}
 use Rattle.nomos_top.specs.Refusal.{refusal, unsolved_line}
-use Rattle.nomos_top.specs.Tasks.{AskNothing, ReadsContract, HasStoppedFor, contract_of, limit_of, run_orders, bench_orders}
+use Rattle.nomos_top.specs.TaskRuns.{HasStoppedFor, limit_of, run_orders, bench_orders}
+use Rattle.nomos_top.specs.Tasks.{AskNothing, ReadsContract, contract_of}
 use Rattle.nomos_types.specs.Acceptance.{Acceptance}
 use Rattle.nomos_words.specs.Usage.{usage_line}
 use Rattle.nomos_words.specs.Words.{Task, check, run, replay, bench, least, Asks}

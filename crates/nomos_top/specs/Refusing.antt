@@ -1,7 +1,8 @@
 -- Refusals are true: each has a cause, which is written, and comes wherever that cause is true and nothing before it
 -- stands against it. And one text has one answer.
-use Rattle.std.specs.Prelude.{◌≡◌, ℕ, List, Result, Err}
-use Rattle.nomos_accept.specs.AcceptedText.{IsReadAs, IsAcceptedAs, IsCauseOf, IsRefused, PivotRunEndsWith}
+use Rattle.std.specs.Prelude.{◌≡◌, ◌⊎◌, ℕ, List, Result, Err}
+use Rattle.nomos_accept.specs.AcceptedText.{IsAcceptedAs, IsCauseOf, IsRefused, PivotRunEndsWith}
+use Rattle.nomos_accept.specs.TypedText.{IsReadAs, IsNeverTypedText}
 use Rattle.nomos_accept.specs.Causes.{SameCause}
 use Rattle.nomos_accept.specs.declared.refusal.Why.{Why}
 use Rattle.nomos_due.specs.Lines.{IsNoScript}
@@ -20,9 +21,10 @@ use Rattle.nomos_simplex.specs.declared.solved.Solved.TheVariants as solved
 use Rattle.nomos_simplex.specs.declared.solved.SolvedLeast.{SolvedLeast}
 use Rattle.nomos_simplex.specs.declared.solved.SolvedLeast.TheVariants as least
 use Rattle.nomos_simplex.specs.declared.solved.Stop.{Stop}
-use Rattle.nomos_top.specs.Call.{Call, Texts, HasWritten, Gives, IsOrFails}
+use Rattle.nomos_top.specs.Seen.{Call, Texts, HasWritten, Gives, IsOrFails}
 use Rattle.nomos_top.specs.Refusal.{refusal, unsolved_line}
-use Rattle.nomos_top.specs.Tasks.{AskNothing, ReadsScript, ReadsJournal, HasStopped, HasLeastStopped, HasStoppedFor, IsGivenFor, contract_of}
+use Rattle.nomos_top.specs.TaskRuns.{HasStopped, HasLeastStopped, HasStoppedFor, IsGivenFor}
+use Rattle.nomos_top.specs.Tasks.{AskNothing, ReadsScript, ReadsJournal, contract_of}
 use Rattle.nomos_types.specs.Acceptance.{Acceptance, IsAccepted}
 use Rattle.nomos_words.specs.Usage.{usage_line}
 use Rattle.nomos_words.specs.Words.{Task, Asks}
@@ -45,9 +47,9 @@ pub record IsBehind (c : Call) (Reads : Task → Type 0) (a : Acceptance) : Type
   pub gives : Gives c a
 
 pub record RefusesTruly (c : Call) (t : Texts) : Type 0 where
-  -- the words have no form
+  -- the words have no form; then no source is read, so that none can fail
   pub usage : c.status ≡ 4 → AskNothing c.words × HasWritten c usage_line
-  pub no_task : AskNothing c.words → IsOrFails c.status 4
+  pub no_task : AskNothing c.words → (c.status ≡ 4) ⊎ ((c.status ≡ 6) ⊎ (c.status ≡ 7))
   -- the text of the contract has a cause of refusal, and is typed under no amounts over any unit
   pub refused : c.status ≡ 1
       → (task : Task) × (why : Why) × Asks c.words task × IsRefused (contract_of task t.contract) why
@@ -79,6 +81,8 @@ pub record HasOneAnswer (text : List ℕ) : Type 0 where
   pub reads_once : (a b : ProgramLists) → IsReadAs text a → IsReadAs text b → a ≡ b
   -- it is refused by one step of the checker at most, and at one place; a stuck instruction has one form
   pub one_cause : (v w : Why) → IsCauseOf text v → IsCauseOf text w → SameCause v w
+  -- a cause rules out all amounts: where one is true of it, it is typed under none, over any unit
+  pub cause_rules_out : (why : Why) → IsCauseOf text why → IsNeverTypedText text
   -- what is written of a refusal is fixed by it
   pub one_refusal : (v w : Why) → IsCauseOf text v → IsCauseOf text w → refusal v ≡ refusal w
   -- The pivot run on the rows of its program has one end: so the amounts of a check, the weights of a refusal without

@@ -1,6 +1,7 @@
 -- Journals that are kept replay.
 use Rattle.std.specs.Prelude.{◌≡◌, ◌≢◌, ◌⊎◌, ◌++◌, ℕ, List, [], Some}
-use Rattle.nomos_top.specs.Call.{Call, Texts, EndsOn, HasWritten}
+use Rattle.nomos_top.specs.Call.{EndsOn}
+use Rattle.nomos_top.specs.Seen.{Call, Texts, HasWritten, Fails}
 use Rattle.nomos_words.specs.Words.{replay, Asks}
 
 -- the journal's sink told what it had, and has got this text, which is not empty, to its end
@@ -30,10 +31,6 @@ pub record DoesTheSame (c d : Call) : Type 0 where
   pub report : List ℕ
   pub wrote : HasWritten c report
   pub writes : HasWritten d report
-
--- reading, writing or memory failed
-abbrev pub Fails : Call → Type 0
-Fails d = (d.status ≡ 5) ⊎ ((d.status ≡ 6) ⊎ (d.status ≡ 7))
 
 -- Where a journal's text was kept, each replay of it does the same, unless it fails.
 pub record KeptReplays (c : Call) (t : Texts) : Type 0 where

@@ -12,7 +12,8 @@ use Rattle.nomos_legal.specs.declared.journal.Journal.{Journal}
 use Rattle.nomos_report.specs.Block.{accepted_block}
 use Rattle.nomos_report.specs.Reported.{report_of}
 use Rattle.nomos_run.specs.Carried.{journal_text_of, result_behind}
-use Rattle.nomos_top.specs.Call.{Call, Texts, HasWritten, Gives, IsDone, IsDueOf, inputs_of}
+use Rattle.nomos_top.specs.Call.{IsDueOf, inputs_of}
+use Rattle.nomos_top.specs.Seen.{Call, Texts, HasWritten, Gives, IsDone}
 use Rattle.nomos_top.specs.Kept.{CarriesOut}
 use Rattle.nomos_top.specs.LeastBlock.{least_block}
 use Rattle.nomos_top.specs.Tasks.{KeepsJournal}

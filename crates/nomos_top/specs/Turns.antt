@@ -1,6 +1,6 @@
 -- Whose turn it is to be read, or to be written.
 use Rattle.std.specs.Prelude.{◌≡◌, ◌⊎◌, ℕ, List, Option, Some}
-use Rattle.nomos_top.specs.Call.{IsDone}
+use Rattle.nomos_top.specs.Seen.{IsDone}
 use Rattle.nomos_top.specs.Tasks.{KeepsJournal, ReadsContract, ReadsJournal, ReadsScript}
 use Rattle.nomos_types.specs.Acceptance.{Acceptance}
 use Rattle.nomos_words.specs.Words.{Task, Asks}

@@ -8,7 +8,7 @@ ghost use Rattle.nomos_due.specs.Sources.{IsReplayDueFor, IsRunDueFor, IsRunPart
 ghost use Rattle.nomos_legal.specs.Legal.{IsLimit};
 ghost use Rattle.nomos_script.specs.ScriptReading.{ReadsAs};
 ghost use Rattle.nomos_script.specs.declared.item.ScriptItem.{ScriptItem};
-ghost use Rattle.nomos_top.specs.Tasks.{run_orders, bench_orders};
+ghost use Rattle.nomos_top.specs.TaskRuns.{run_orders, bench_orders};
 ghost use Rattle.nomos_top.specs.mirror.Judging.{IsTaskDueOn, IsTaskPartOn, given_of};
 ghost use Rattle.nomos_words.specs.Words.{run, replay, bench};
 ghost use Rattle.nomos_words.specs.declared.workers.Workers.{Workers};

@@ -7,14 +7,10 @@ ghost use Rattle.nomos_due.specs.Sources.{kept_text};
 ghost use Rattle.nomos_due.specs.Written.{IsWritten};
 ghost use Rattle.nomos_script.specs.ScriptReading.{ReadsAs};
 ghost use Rattle.nomos_script.specs.declared.item.ScriptItem.{ScriptItem};
-ghost use Rattle.nomos_top.specs.Accepted.{AcceptedIsTyped};
-ghost use Rattle.nomos_top.specs.Call.{HasEnded, OfEachCall};
-ghost use Rattle.nomos_top.specs.Complete.{TypedIsAccepted};
-ghost use Rattle.nomos_top.specs.Kept.{KeptIsLegal, KeptGoesRight, OneWorkerFollows};
-ghost use Rattle.nomos_top.specs.Refusing.{RefusesTruly, HasOneAnswer, HasOneReading};
-ghost use Rattle.nomos_top.specs.Replaying.{KeptReplays};
-ghost use Rattle.nomos_top.specs.Shown.{WritesWhatIsDue, FailsTruly};
-ghost use Rattle.nomos_top.specs.Tasks.{ReadsContract, ReadsJournal, ReadsScript, run_orders};
+ghost use Rattle.nomos_top.specs.Claims.{Claims};
+ghost use Rattle.nomos_top.specs.Refusing.{HasOneAnswer, HasOneReading};
+ghost use Rattle.nomos_top.specs.TaskRuns.{run_orders};
+ghost use Rattle.nomos_top.specs.Tasks.{ReadsContract, ReadsJournal, ReadsScript};
 ghost use Rattle.nomos_top.specs.Turns.{WantsContract, WantsJournal, WantsScript, MayKeep};
 ghost use Rattle.nomos_top.specs.mirror.Judging.{EndsDue, EndsPart, IsDueOn, IsPartOn, IsTaskDueOn, IsTaskPartOn, given_of};
 ghost use Rattle.nomos_types.specs.Acceptance.{Acceptance, IsAccepted};
@@ -70,8 +66,9 @@ pub fn nomos<S: Source, K: Sink, G: Gate, R: Threads + Wait + Sync>(
     journal_out: &mut K,
     gate: &G,
 ) -> Ended
-    // How the call ends: what is due of the texts of its sources was written, or a sink failed, or memory was wanting.
-    ensures ends { HasEnded (record {
+    // All that is claimed of this call, on the texts of its sources: first that what is accepted is typed, and what is
+    // typed is accepted, and that what is kept is a run in which nothing goes wrong; then how it ends, and the rest.
+    ensures claims { Claims (record {
       words = map string_bytes words.now;
       contract = source_state (S.left contract.old) (S.faults contract.old) (S.faults contract.new);
       script = source_state (S.left script.old) (S.faults script.old) (S.faults script.new);
@@ -83,17 +80,6 @@ pub fn nomos<S: Source, K: Sink, G: Gate, R: Threads + Wait + Sync>(
       accepted = result.accepted;
       journal = result.journal;
     }) }
-
-    // What this says of every call, on whatever texts it ends.
-    ensures accepted_is_typed { OfEachCall AcceptedIsTyped }
-    ensures typed_is_accepted { OfEachCall TypedIsAccepted }
-    ensures refuses_truly { OfEachCall RefusesTruly }
-    ensures kept_is_legal { OfEachCall KeptIsLegal }
-    ensures kept_goes_right { OfEachCall KeptGoesRight }
-    ensures one_worker_follows { OfEachCall OneWorkerFollows }
-    ensures writes_what_is_due { OfEachCall WritesWhatIsDue }
-    ensures fails_truly { OfEachCall FailsTruly }
-    ensures kept_replays { OfEachCall KeptReplays }
 
     // What holds of every text: of a contract, and of a script or a journal.
     ensures one_answer { (text : List ℕ) → HasOneAnswer text }

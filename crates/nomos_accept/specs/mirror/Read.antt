@@ -1,6 +1,6 @@
 -- A mirror of the code: what is answered where a text is read as a program. No promise stands on it.
 use Rattle.std.specs.Prelude.{ℕ, List, Result, Ok, Err}
-use Rattle.nomos_accept.specs.AcceptedText.{IsReadAs}
+use Rattle.nomos_accept.specs.TypedText.{IsReadAs}
 use Rattle.nomos_accept.specs.Preparing.{AnswersRefusal}
 use Rattle.nomos_accept.specs.declared.refusal.AcceptError.{AcceptError}
 use Rattle.nomos_ir.specs.declared.lists.ProgramLists.{ProgramLists}

@@ -13,10 +13,10 @@ use Rattle.nomos_least.specs.LeastBounds.{IsLeastAs}
 use Rattle.nomos_least.specs.declared.least.LeastBounds.{LeastBounds}
 use Rattle.nomos_legal.specs.declared.journal.Journal.{Journal}
 use Rattle.nomos_simplex.specs.declared.solved.Stop.{Stop}
-use Rattle.nomos_top.specs.Call.{Call, Texts}
+use Rattle.nomos_top.specs.Seen.{Call, Texts}
 use Rattle.nomos_top.specs.Outcome.{Inputs, Outcome, IsTaskDue, IsTaskPart, IsDue, IsPart, bare}
 use Rattle.nomos_top.specs.Refusal.{refusal, unsolved_line}
-use Rattle.nomos_top.specs.Tasks.{HasStopped, HasLeastStopped}
+use Rattle.nomos_top.specs.TaskRuns.{HasStopped, HasLeastStopped}
 use Rattle.nomos_top.specs.declared.due.CallDue.{CallDue}
 use Rattle.nomos_top.specs.declared.due.DoneSoFar.{DoneSoFar}
 use Rattle.nomos_top.specs.declared.judging.Unaccepted.{Unaccepted}
