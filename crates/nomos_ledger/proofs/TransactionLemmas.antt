@@ -22,7 +22,7 @@ use Rattle.nomos_ir.specs.declared.mode.Mode.{Mode}
 use Rattle.nomos_ir.specs.declared.mode.Mode.TheVariants as mode
 use Rattle.nomos_types.specs.Acceptance.{Acceptance, IsAccepted}
 use Rattle.nomos_types.specs.Amount.{dths}
-use Rattle.nomos_machine.specs.Change.{Change, changed}
+use Rattle.nomos_machine.specs.Change.{Change}
 use Rattle.nomos_machine.specs.Deeds.{Deed, changes, has_fault, takes, label_in, value_in, channel_in, potential_in, close_in, arm_for, one_of, lengthened, is_light, where_it_has, sends, receives, hears_end, closes, forwards, acquires, releases, adds, takes_apart, unless_shared, hands_over, hands_over_all, hands_over_lists, deed_at}
 use Rattle.nomos_machine.specs.Given.{given}
 use Rattle.nomos_machine.specs.Objects.{object_number, potential_of}

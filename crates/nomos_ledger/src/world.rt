@@ -1,5 +1,5 @@
 //! Worlds: a batch under way.
-ghost use Rattle.std.specs.Prelude.{◌≡◌, ◌≤◌, ◌+◌, ◌-◌, ℕ, IfOk, OnErr, MatchOption, length, slice_get};
+ghost use Rattle.std.specs.Prelude.{◌≡◌, ◌≤◌, ◌<◌, ◌+◌, ◌-◌, ℕ, IfOk, OnErr, MatchOption, length, slice_get};
 ghost use Rattle.std.specs.Option.{option_map};
 ghost use Rattle.nomos_ir.specs.CostAll.{IsUnderCostAll};
 ghost use Rattle.nomos_ir.specs.TermsEvaluation.{instruction_evaluation};
@@ -11,6 +11,7 @@ ghost use Rattle.nomos_machine.specs.Step.{IsReady, fault};
 ghost use Rattle.nomos_machine.specs.TypedState.{IsTyped};
 ghost use Rattle.nomos_deeds.specs.Acting.{HasNumbers};
 ghost use Rattle.nomos_deeds.specs.Firings.{Wants};
+ghost use Rattle.nomos_deeds.specs.Readers.{IsTransaction};
 ghost use Rattle.nomos_legal.specs.Ending.{EndsAs, GoesOn};
 ghost use Rattle.nomos_legal.specs.LowestFault.{IsFaultless, IsLowestFault};
 ghost use Rattle.nomos_legal.specs.StandsFor.{StandsFor, WorldStandsFor};
@@ -241,6 +242,16 @@ impl<M: Undo> World<M> {
         lowered(without_firings, self.starts())
     }
 
+    /// A number below that of each transaction that is left. It takes no memory.
+    pub fn before_transactions(&self, accepted: &Accepted) -> u32
+        requires { WorldStandsFor accepted.now self.now }
+        ensures { (pid : ℕ) → IsTransaction self.now.state.objects pid → result < pid }
+    {
+        // Where the program is read it is known to be accepted.
+        let _program = accepted.program();
+        self.first_number(accepted).saturating_sub(1)
+    }
+
     /// How a batch ends in which no process is ready: a transaction is left, or none is. It takes no memory, and looks
     /// only among the objects that came in the batch.
     pub fn end_at_rest(&self, accepted: &Accepted) -> End
@@ -250,7 +261,7 @@ impl<M: Undo> World<M> {
     {
         // Where the program is read it is known to be accepted.
         let _program = accepted.program();
-        let before = self.first_number(accepted).saturating_sub(1);
+        let before = self.before_transactions(accepted);
         if has_transaction(self.machine(accepted), before) {
             End::Blocked
         } else {

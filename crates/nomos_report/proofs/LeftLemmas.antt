@@ -1,5 +1,5 @@
 -- The lines of what is left, as objects are found in order of number.
-use Rattle.std.proofs.Common.{◌≡◌, ◌∙◌, ◌<◌, ℕ, List, [], ◌++◌, Contains, Option, Some, None, IsSome, refl, sym, ap, subst, codes, decimal}
+use Rattle.std.proofs.Common.{◌≡◌, ◌∙◌, ◌<◌, ℕ, List, [], ◌++◌, Contains, Option, Some, None, IsSome, refl, sym, ap, subst, arith, codes, decimal}
 use Rattle.std.proofs.lemmas.List.Elements.{All-contains}
 use Rattle.std.specs.List.{flat_map}
 use Rattle.nomos_ir.specs.declared.mode.Mode.{Mode}
@@ -19,7 +19,7 @@ use Rattle.nomos_report.specs.Lines.{line}
 use Rattle.nomos_report.specs.Reported.{left_line, left_lines, waits_line, waits_lines}
 use Rattle.nomos_report.specs.mirror.Naming.{waiting_line}
 use Rattle.nomos_report.specs.mirror.Walked.{walked}
-use Rattle.nomos_report.proofs.WalkLemmas.{walked-all, walked-next, walked-none}
+use Rattle.nomos_report.proofs.WalkLemmas.{walked-all, walked-next, walked-none, walked-silent}
 
 -- ---- objects of which something holds, where the others have no lines
 
@@ -65,6 +65,13 @@ module _ {s : State} (numbered : Numbered s) where
       at mode.R is = refl
       at mode.S is = refl
       at mode.L is = refl
+
+  -- nothing is printed up to a number that each transaction is over
+  pub left-before : (n : ℕ) → ((pid : ℕ) → IsTransaction s.objects pid → n < pid)
+      → walked object_number left_lines n s.objects ≡ []
+  left-before n over =
+      walked-silent object_number left_lines n s.objects
+      (λ o there below. left-silent o there (λ is. let more = over (object_number o) is in omega arith))
 
   -- the line of a transaction
   pub left-told : (m : ℕ) (is : IsTransaction s.objects m)

@@ -1,6 +1,6 @@
 -- What is printed of a list in order of numbers, by going from one number to the next.
 use Rattle.std.proofs.Common.{◌≡◌, ◌∙◌, ℕ, ◌<◌, ◌≤◌, nat_lt, Bool, true, false, cond, List, [], ◌∷◌, ◌++◌, map, Contains, ap, refl, sym, arith, inl, inr, append_assoc, append-nil}
-use Rattle.std.proofs.lemmas.Bool.{le-ltb, lt-ltb, ltb-true}
+use Rattle.std.proofs.lemmas.Bool.{le-ltb, lt-ltb, ltb-false, ltb-true}
 use Rattle.std.proofs.lemmas.List.Elements.{Contains-append_cases, Contains-append_right}
 use Rattle.std.proofs.lemmas.Map.Keys.{sorted_head, sorted_tail}
 use Rattle.std.specs.List.{flat_map}
@@ -36,6 +36,19 @@ module _ {X : Type 0} (key : X → ℕ) (lines : X → List ℕ) where
       let first = silent n e (over e (0, omega arith, refl)) in
       let rest = walked-none n xs (λ y there. over y (Contains-append_right (e ∷ []) xs y there)) in
       ap (λ (t : List ℕ). t ++ walked key lines n xs) first ∙ rest
+
+  -- Nor is anything printed up to a number where no element up to it has lines.
+  pub walked-silent : (n : ℕ) (xs : List X) → ((y : X) → Contains xs y → key y ≤ n → lines y ≡ [])
+      → walked key lines n xs ≡ []
+  walked-silent n [] none = refl
+  walked-silent n (e ∷ xs) none =
+      let first : lines_to key lines n e ≡ [] = at (nat_lt n (key e)) refl in
+      let rest = walked-silent n xs (λ y there. none y (Contains-append_right (e ∷ []) xs y there)) in
+      ap (λ (t : List ℕ). t ++ walked key lines n xs) first ∙ rest
+    where
+      at : (b : Bool) → nat_lt n (key e) ≡ b → cond b [] (lines e) ≡ []
+      at true over = refl
+      at false below = none e (0, omega arith, refl) (ltb-false n (key e) below)
 
   -- What is printed up to a number, where no element over it has lines, is all.
   pub walked-all : (n : ℕ) (xs : List X) → ((y : X) → Contains xs y → n < key y → lines y ≡ [])

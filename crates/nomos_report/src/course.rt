@@ -1,8 +1,9 @@
 //! The lines of deposits and batches.
 
-ghost use Rattle.std.specs.Prelude.{◌≡◌, ◌++◌, ◌-◌, ℕ, codes, decimal, length, OnOk};
+ghost use Rattle.std.specs.Prelude.{◌≡◌, ◌<◌, ◌++◌, ◌-◌, ℕ, codes, decimal, length, OnOk};
 ghost use Rattle.std.specs.List.{flat_map};
 ghost use Rattle.nomos_base.specs.Gas.{gas_text};
+ghost use Rattle.nomos_deeds.specs.Readers.{IsTransaction};
 ghost use Rattle.nomos_machine.specs.State.{State};
 ghost use Rattle.nomos_machine.specs.TypedState.{IsTyped};
 ghost use Rattle.nomos_legal.specs.StandsFor.{WorldStandsFor};
@@ -30,12 +31,14 @@ pub struct Outset {
     pub spent: u128,
 }
 
-// How far a batch came: its line, the number of its firings, and what was spent before them, in Dths.
+// How far a batch came: its line, the number of its firings, what was spent before them, in Dths, and a number below
+// that of each transaction that is left.
 #[derive(Clone, Copy)]
 struct Course {
     line: u32,
     count: u64,
     spent: u128,
+    before: u32,
 }
 
 // Appends a result.
@@ -106,14 +109,15 @@ fn push_blocked<M: Machine>(
     machine: &M,
     course: Course,
 ) -> Result<(), AllocError>
-    requires { IsTyped accepted.now (M.state machine.now) }
+    requires typed { IsTyped accepted.now (M.state machine.now) }
+    requires over { (pid : ℕ) → IsTransaction (M.state machine.now).objects pid → course.before < pid }
     ensures { OnOk result (text.new.items
         ≡ text.old.items ++ end_lines accepted.now course.line course.count course.spent
         (M.state machine.now) End.Blocked) }
 {
     push_course(text, accepted.unit(), course, &End::Blocked)?;
     text.push(b'\n')?;
-    push_left(text, machine)?;
+    push_left(text, machine, course.before)?;
     push_waits(text, accepted, machine)
 }
 
@@ -135,7 +139,8 @@ fn push_course_end<M: Machine>(
     course: Course,
     end: &End,
 ) -> Result<(), AllocError>
-    requires { IsTyped accepted.now (M.state machine.now) }
+    requires typed { IsTyped accepted.now (M.state machine.now) }
+    requires over { (pid : ℕ) → IsTransaction (M.state machine.now).objects pid → course.before < pid }
     ensures { OnOk result (text.new.items
         ≡ text.old.items ++ end_lines accepted.now course.line course.count course.spent
         (M.state machine.now) end.now) }
@@ -187,6 +192,7 @@ pub fn push_batch_end<M: Undo>(
         line: outset.line,
         count: world.firings().len() as u64,
         spent: outset.spent,
+        before: world.before_transactions(accepted),
     };
     push_course_end(text, accepted, world.state(), course, end)
 }

@@ -1,7 +1,8 @@
 //! The lines of what is left where a batch is blocked: transactions, and processes that wait.
 
-ghost use Rattle.std.specs.Prelude.{◌≡◌, ◌++◌, codes, decimal, OnOk};
+ghost use Rattle.std.specs.Prelude.{◌≡◌, ◌<◌, ◌++◌, ℕ, codes, decimal, OnOk};
 ghost use Rattle.std.specs.List.{flat_map};
+ghost use Rattle.nomos_deeds.specs.Readers.{IsTransaction};
 ghost use Rattle.nomos_machine.specs.TypedState.{IsTyped, Numbered};
 ghost use Rattle.nomos_report.specs.Lines.{line};
 ghost use Rattle.nomos_report.specs.Reported.{left_lines, waits_lines};
@@ -21,13 +22,18 @@ fn push_left_line(text: &mut Vec<u8>, pid: u32) -> Result<(), AllocError>
     Ok(())
 }
 
-/// Appends the transactions that are left, by number.
-pub(crate) fn push_left<M: Machine>(text: &mut Vec<u8>, machine: &M) -> Result<(), AllocError>
-    requires { Numbered (M.state machine.now) }
+/// Appends the transactions that are left, by number, where each has one over this number.
+pub(crate) fn push_left<M: Machine>(
+    text: &mut Vec<u8>,
+    machine: &M,
+    before: u32,
+) -> Result<(), AllocError>
+    requires numbered { Numbered (M.state machine.now) }
+    requires over { (pid : ℕ) → IsTransaction (M.state machine.now).objects pid → before < pid }
     ensures { OnOk result (text.new.items
         ≡ text.old.items ++ flat_map left_lines (M.state machine.now).objects) }
 {
-    let mut pid = 0;
+    let mut pid = before;
     while let Some(next) = machine.next_transaction(pid) {
         push_left_line(text, next)?;
         pid = next;

@@ -5,10 +5,13 @@ use Rattle.nomos_report.specs.Reported.{end_lines}
 use Rattle.nomos_report.proofs.SpentLaws.{starts-spent}
 use Rattle.nomos_report.proofs.course.push_batch_end.Goals as goal
 
-pub push_course_end-requires : goal.push_course_end-requires
-push_course_end-requires g c =
+pub push_course_end-requires-clause-typed : goal.push_course_end-requires-clause-typed
+push_course_end-requires-clause-typed g c =
     subst (IsTyped c.args.accepted.now) (sym c.state.ensures.state)
     (world-typed c.program-program.ensures.accepted c.requires.stands)
+
+pub push_course_end-requires-clause-over : goal.push_course_end-requires-clause-over
+push_course_end-requires-clause-over g c = rw c.state.ensures.state c.before_transactions.ensures
 
 pub returns : goal.returns
 returns g c =
