@@ -213,22 +213,32 @@ def bound(count):
             + "call t(n - 1;) };\n")
 
 
-def with_values(count):
-    """A call with so many values."""
+def with_values(count, turned=False):
+    """A call with so many values, which are named from the first or from the last."""
     pars = joined(lambda i: f"v{i}: int", count, ", ")
-    args = joined(lambda i: f"v{i}", count, ", ")
+    args = joined(lambda i: f"v{count - 1 - i if turned else i}", count, ", ")
     zeros = ", ".join(["0"] * count)
     return (f"proc T loop(n: int, {pars};) = if n < 1 {{ close }} else {{ call loop(n - 1, {args};) }};\n"
             f"proc T t(n: int;) = call loop(n, {zeros};);\n")
 
 
-def evaluated(count):
-    """A function of so many parameters that calls itself."""
+def evaluated(count, turned=False):
+    """A function of so many parameters that calls itself, and names them from the first or from the last."""
     pars = joined(lambda i: f"v{i}: int", count, ", ")
-    args = joined(lambda i: f"v{i}", count, ", ")
+    args = joined(lambda i: f"v{count - 1 - i if turned else i}", count, ", ")
     zeros = ", ".join(["0"] * count)
     return (f"fn f(n: int, {pars}) : int = if n < 1 then 0 else f(n - 1, {args});\n"
             f"proc T t(n: int;) = if n < 1 {{ close }} else {{ let x = f(20, {zeros}); call t(n - 1;) }};\n")
+
+
+def around(count):
+    """A term with so many lists that are bound around it."""
+    pars = joined(lambda i: f"v{i}: list int", count, ", ")
+    args = joined(lambda i: f"v{i}", count, ", ")
+    empty = ", ".join(["nil int"] * count)
+    return (f"fn f(n: int, {pars}) : int = n;\n"
+            f"proc T t(n: int;) = call u(n, {empty};);\n"
+            f"proc T u(n: int, {pars};) = if n < 1 {{ close }} else {{ let x = f(n, {args}); call u(x - 1, {args};) }};\n")
 
 
 def of_values():
@@ -247,7 +257,10 @@ def of_values():
     yield fired("1,500 lists with potential, one element put on each, 60 times", listed(1500), script(60))
     yield fired("4,900 variables bound, 200 times", bound(4900), script(200))
     yield fired("a call with 3,000 values, 400 times", with_values(3000), script(400))
+    yield fired("a call with 3,000 values, named from the last, 400 times", with_values(3000, True), script(400))
     yield fired("a function of 3,000 parameters that calls itself, 20 times", evaluated(3000), script(20))
+    yield fired("a function of 3,000 parameters, named from the last, 20 times", evaluated(3000, True), script(20))
+    yield fired("a term with 1,100 lists around it, and a call with them, 400 times", around(1100), script(400))
 
 
 # ---- channels and ledgers
