@@ -5,12 +5,15 @@ use nomos_deeds::act::Act;
 use nomos_deeds::acting::Acting;
 use nomos_deeds::machine::{Machine, View};
 use nomos_deeds::sight::{SeenList, SeenMessage, SeenProcess, Sight};
+use nomos_deeds::talking::Talking;
 use nomos_deeds::undo::Undo;
 use nomos_ir::ids::{ProcId, TypeId, VarId};
 use nomos_ir::value::{Value, Values};
 use nomos_ir::value_node::ValueNode;
+use nomos_machine::object::{Heard, Said};
 use nomos_parts::performing::{Intent, ROOM_OF_AN_ACT, perform};
 use nomos_parts::starting::{Line, start};
+use nomos_parts::talking::{Opening, Saying, hear, open_outside, say};
 use nomos_types::accepted::Accepted;
 use std::alloc::{AllocError, Global};
 use std::marker::Model;
@@ -228,5 +231,48 @@ impl Undo for IndexedState {
 
     fn forget(&mut self) {
         self.tallied.forget();
+    }
+}
+
+impl Talking for IndexedState {
+    fn outside(&self) -> Option<u32> {
+        self.tallied.inside.outside()
+    }
+
+    fn start_outside(
+        &mut self,
+        alloc: Global,
+        accepted: &Accepted,
+        declaration: ProcId,
+        account: u32,
+    ) -> Result<u32, AllocError> {
+        let keep = self.spare.checked_mul(ROOM_OF_AN_ACT).ok_or(AllocError)?;
+        let opening = Opening {
+            declaration,
+            account,
+        };
+        open_outside(&mut self.tallied, alloc, accepted, opening, keep)
+    }
+
+    fn say(
+        &mut self,
+        alloc: Global,
+        accepted: &Accepted,
+        account: u32,
+        said: &Said,
+    ) -> Result<(), AllocError> {
+        let keep = self.spare.checked_mul(ROOM_OF_AN_ACT).ok_or(AllocError)?;
+        let saying = Saying { account, said };
+        say(&mut self.tallied, alloc, accepted, saying, keep)
+    }
+
+    fn hear(
+        &mut self,
+        alloc: Global,
+        accepted: &Accepted,
+        account: u32,
+    ) -> Result<Option<Heard>, AllocError> {
+        let keep = self.spare.checked_mul(ROOM_OF_AN_ACT).ok_or(AllocError)?;
+        hear(&mut self.tallied, alloc, accepted, account, keep)
     }
 }

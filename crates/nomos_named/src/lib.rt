@@ -12,6 +12,7 @@ pub mod finding;
 pub mod indexed;
 mod leaving;
 mod marking;
+mod outside;
 mod redirecting;
 mod sight;
 pub mod tallied;
