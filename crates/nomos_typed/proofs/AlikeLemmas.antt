@@ -14,7 +14,8 @@ use Rattle.nomos_typed.specs.declared.told.Told.{Told}
 use Rattle.nomos_typed.specs.mirror.Told.{AreAlikeIn, FindsType, NameFits, program_of}
 
 module _ {lists : ProgramLists} {x : Annotations} {own t : TypeId} {m n : Mode} where
-  pub alike-equal : HasMode lists own m → HasMode lists t n → m ≡ n → EqualTypes lists x own t ↔ AlikeTypes lists x own t
+  pub alike-equal : HasMode lists own m → HasMode lists t n → m ≡ n
+      → EqualTypes lists x own t ↔ AlikeTypes lists x own t
   alike-equal left right same = (
     λ equal. record {
       equal = equal;

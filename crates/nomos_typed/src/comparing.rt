@@ -22,7 +22,8 @@ fn are_alike(
     requires other { IsTypeIn told.now t }
     requires compared { HasCompared (program_of told.now) equalities.old }
     ensures compared { HasCompared (program_of told.now) equalities.new }
-    ensures tells { IfOk result (Tells (amounts_in told.now) equalities.old.amounts equalities.new.amounts (AreAlikeIn told.now own t)) }
+    ensures tells { IfOk result (Tells (amounts_in told.now) equalities.old.amounts equalities.new.amounts
+        (AreAlikeIn told.now own t)) }
 {
     let program = told.accepted.program();
     let mode = told.mode_of(own);
@@ -46,7 +47,8 @@ pub(crate) fn has_type(
     requires other { IsTypeIn told.now t }
     requires compared { HasCompared (program_of told.now) equalities.old }
     ensures compared { HasCompared (program_of told.now) equalities.new }
-    ensures tells { IfOk result (Tells (amounts_in told.now) equalities.old.amounts equalities.new.amounts (NameFits told.now name t)) }
+    ensures tells { IfOk result (Tells (amounts_in told.now) equalities.old.amounts equalities.new.amounts
+        (NameFits told.now name t)) }
 {
     let _program = told.accepted.program();
     match told.type_of(name) {

@@ -7,7 +7,8 @@ ghost use Rattle.nomos_types.specs.Acceptance.{IsAmountOf};
 ghost use Rattle.nomos_typed.specs.Messages.{IsMessageTyped, AreMessagesTyped};
 ghost use Rattle.nomos_typed.specs.Telling.{Tells};
 ghost use Rattle.nomos_typed.specs.mirror.Heads.{SentFits, KindFits, AmountFits, PayloadFits};
-ghost use Rattle.nomos_typed.specs.mirror.Told.{IsTold, IsTypeIn, IsHeadIn, GoesOn, acceptance_of, program_of, amounts_in};
+ghost use Rattle.nomos_typed.specs.mirror.Told.{acceptance_of, program_of, amounts_in};
+ghost use Rattle.nomos_typed.specs.mirror.Told.{IsTold, IsTypeIn, IsHeadIn, GoesOn};
 
 use crate::comparing::has_type;
 use crate::heads::{due_by, goes_of, is_end, kind_by, label_fits, sent_by};
@@ -66,7 +67,8 @@ fn sent_fits(
     requires sent { IfSome sent (IsTypeIn told.now) }
     requires compared { HasCompared (program_of told.now) equalities.old }
     ensures compared { HasCompared (program_of told.now) equalities.new }
-    ensures tells { IfOk result (Tells (amounts_in told.now) equalities.old.amounts equalities.new.amounts (SentFits told.now sent name)) }
+    ensures tells { IfOk result (Tells (amounts_in told.now) equalities.old.amounts equalities.new.amounts
+        (SentFits told.now sent name)) }
 {
     match sent {
         Some(t) => has_type(told, equalities, name, t),
@@ -117,7 +119,8 @@ fn goes_on(
     requires goes { IfSome goes (IsTypeIn told.now) }
     requires compared { HasCompared (program_of told.now) equalities.old }
     ensures compared { HasCompared (program_of told.now) equalities.new }
-    ensures tells { IfOk result (Tells (amounts_in told.now) equalities.old.amounts equalities.new.amounts (GoesOn told.now next goes)) }
+    ensures tells { IfOk result (Tells (amounts_in told.now) equalities.old.amounts equalities.new.amounts
+        (GoesOn told.now next goes)) }
 {
     match next {
         Some(name) => match goes {

@@ -23,12 +23,14 @@ returns-in-Equal-clause-tells c =
     let lists = program_of told in
     let old = c.args.equalities.now in
     let new = c.compare.new.self in
-    let Answer : ProgramLists → Comparison → Type 0 = λ l found. AnswersComparison l c.args.own c.args.t old new found in
+    let Answer : ProgramLists → Comparison → Type 0 = λ l found. AnswersComparison l c.args.own c.args.t old new
+    found in
     let at = subst (λ (l : ProgramLists). Answer l c.in_ok-compare.field-0) c.program-program.ensures.program
     c.in_ok-compare.ensures.answers in
     let finds : FindsEqual lists c.args.own c.args.t old new = subst (Answer lists) c.in-Equal.is at in
     let same = c.is_mode.ensures.0 c.if-not-is_mode.false in
-    tells-same (amounts_in told) old.amounts new.amounts true (alike-equal c.mode_of-mode.ensures c.mode_of.ensures same) (equal-tells c.args.own c.args.t finds)
+    tells-same (amounts_in told) old.amounts new.amounts true (alike-equal c.mode_of-mode.ensures c.mode_of.ensures
+    same) (equal-tells c.args.own c.args.t finds)
 
 pub returns-in-Different-clause-tells : goal.returns-in-Different-clause-tells
 returns-in-Different-clause-tells c =
@@ -36,7 +38,8 @@ returns-in-Different-clause-tells c =
     let lists = program_of told in
     let old = c.args.equalities.now in
     let new = c.compare.new.self in
-    let Answer : ProgramLists → Comparison → Type 0 = λ l found. AnswersComparison l c.args.own c.args.t old new found in
+    let Answer : ProgramLists → Comparison → Type 0 = λ l found. AnswersComparison l c.args.own c.args.t old new
+    found in
     let at = subst (λ (l : ProgramLists). Answer l c.in_ok-compare.field-0) c.program-program.ensures.program
     c.in_ok-compare.ensures.answers in
     let differ = subst (Answer lists) c.in-Different.is at in

@@ -13,8 +13,10 @@ returns-in-Some-clause-tells c =
     let new = c.are_alike.new.equalities in
     let exact = name-exact told c.program-program.ensures.accepted.is_program c.args.name c.in-Some.own c.args.t
     c.in-Some.ensures.0 in
-    IfOk-weaker c.are_alike.result (Tells (amounts_in told) old.amounts new.amounts (AreAlikeIn told c.in-Some.own c.args.t))
-    (Tells (amounts_in told) old.amounts new.amounts (NameFits told c.args.name c.args.t)) (λ (yes : Bool) tells. tells-same (amounts_in told) old.amounts new.amounts yes exact
+    IfOk-weaker c.are_alike.result (Tells (amounts_in told) old.amounts new.amounts (AreAlikeIn told c.in-Some.own
+    c.args.t))
+    (Tells (amounts_in told) old.amounts new.amounts (NameFits told c.args.name c.args.t)) (λ (yes : Bool) tells.
+    tells-same (amounts_in told) old.amounts new.amounts yes exact
     tells) c.are_alike.ensures.tells
 
 pub returns-in-None-clause-tells : goal.returns-in-None-clause-tells

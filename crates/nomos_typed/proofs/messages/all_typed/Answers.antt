@@ -24,14 +24,16 @@ loop-object-preserved c =
     let i = c.loop-object.object-index in
     let objects = c.args.objects.now in
     let o = c.object-item.result in
-    let here = subst (λ (b : Bool). Tells (amounts_in told) c.loop-object.equalities.amounts c.is_typed_message.new.equalities.amounts
+    let here = subst (λ (b : Bool). Tells (amounts_in told) c.loop-object.equalities.amounts
+    c.is_typed_message.new.equalities.amounts
     (P o) b) c.if-not-branch.false c.in_ok-is_typed_message.ensures.tells in
     record {
       compared = c.is_typed_message.ensures.compared;
       tells = tells-same (amounts_in told) c.args.equalities.now.amounts c.is_typed_message.new.equalities.amounts true
           (all-more P objects i o (omega arith) c.object-item.is)
           (tells-through (amounts_in told) c.args.equalities.now.amounts c.loop-object.equalities.amounts
-          c.is_typed_message.new.equalities.amounts (All P (take i objects)) (P o) true c.loop-object.invariant.tells here);
+          c.is_typed_message.new.equalities.amounts (All P (take i objects)) (P o) true c.loop-object.invariant.tells
+          here);
     }
 
 pub returns-then-not-branch-clause-tells : goal.returns-then-not-branch-clause-tells
@@ -39,7 +41,8 @@ returns-then-not-branch-clause-tells c =
     let told = c.args.told.now in
     let P : Object → Type 0 = IsMessageTyped (acceptance_of told) told.types.now in
     let o = c.object-item.result in
-    let none = subst (λ (b : Bool). Tells (amounts_in told) c.loop-object.equalities.amounts c.is_typed_message.new.equalities.amounts
+    let none = subst (λ (b : Bool). Tells (amounts_in told) c.loop-object.equalities.amounts
+    c.is_typed_message.new.equalities.amounts
     (P o) b) c.if-not-branch.true c.in_ok-is_typed_message.ensures.tells in
     not-all P c.args.objects.now c.loop-object.object-index o (omega arith) c.object-item.is none
 
@@ -49,5 +52,6 @@ returns-clause-tells c =
     let P : Object → Type 0 = IsMessageTyped (acceptance_of told) told.types.now in
     let objects = c.args.objects.now in
     let all = take_all c.loop-object.object-index objects (omega arith) in
-    subst (λ (l : List Object). Tells (amounts_in told) c.args.equalities.now.amounts c.loop-object.equalities.amounts (All P l) true)
+    subst (λ (l : List Object). Tells (amounts_in told) c.args.equalities.now.amounts
+    c.loop-object.equalities.amounts (All P l) true)
     all c.loop-object.invariant.tells

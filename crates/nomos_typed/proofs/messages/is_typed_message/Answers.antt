@@ -19,5 +19,6 @@ pub returns-in-Process-clause-tells : goal.returns-in-Process-clause-tells
 returns-in-Process-clause-tells c =
     let told = c.args.told.now in
     let e = c.args.equalities.now in
-    subst (λ (o : Object). Tells (amounts_in told) e.amounts e.amounts (IsMessageTyped (acceptance_of told) told.types.now o) true)
+    subst (λ (o : Object). Tells (amounts_in told) e.amounts e.amounts (IsMessageTyped (acceptance_of told)
+    told.types.now o) true)
     (sym c.in-Process.is) (tells-plain (amounts_in told) e.amounts true (λ yes. tt, λ holds. refl))

@@ -50,7 +50,8 @@ returns-then-not-branch-clause-tells c =
     c.unfold.ensures.unfolds in
     let unfolds = head-unfolds c.in-Some.own.0 u head leads there in
     let exact = message-exact told m c.in-Some.own head c.in-Some.ensures.0 unfolds in
-    let none = subst (λ (b : Bool). Tells (amounts_in told) c.args.equalities.now.amounts c.payload_fits.new.equalities.amounts
+    let none = subst (λ (b : Bool). Tells (amounts_in told) c.args.equalities.now.amounts
+    c.payload_fits.new.equalities.amounts
     (PayloadFits told m.to_client head m.payload m.purse) b) c.if-not-branch.true
     c.in_ok-payload_fits.ensures.tells in
     λ typed. none (exact.1 typed).0
@@ -72,7 +73,8 @@ returns-clause-tells c =
     c.unfold.ensures.unfolds in
     let unfolds = head-unfolds c.in-Some.own.0 u head leads there in
     let exact = message-exact told m c.in-Some.own head c.in-Some.ensures.0 unfolds in
-    let first = subst (λ (b : Bool). Tells x old.amounts mid.amounts (PayloadFits told m.to_client head m.payload m.purse) b)
+    let first = subst (λ (b : Bool). Tells x old.amounts mid.amounts (PayloadFits told m.to_client head m.payload
+    m.purse) b)
     c.if-not-branch.false c.in_ok-payload_fits.ensures.tells in
     let Goes : Option TypeId → Bool → Type 0 = λ o yes. Tells x mid.amounts new.amounts (GoesOn told m.next o) yes in
     let tells : IfOk c.goes_on.result (Goes (goes_of head m.payload)) =
@@ -81,4 +83,5 @@ returns-clause-tells c =
     (λ (yes : Bool). Tells x old.amounts new.amounts (MessageTyped (acceptance_of told) told.types.now m) yes)
     (λ (yes : Bool) (second : Goes (goes_of head m.payload) yes). tells-same x old.amounts new.amounts yes exact
     (tells-through x old.amounts mid.amounts new.amounts
-    (PayloadFits told m.to_client head m.payload m.purse) (GoesOn told m.next (goes_of head m.payload)) yes first second)) tells
+    (PayloadFits told m.to_client head m.payload m.purse) (GoesOn told m.next (goes_of head m.payload)) yes first
+    second)) tells

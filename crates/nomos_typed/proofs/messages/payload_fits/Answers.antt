@@ -18,8 +18,10 @@ returns-in-Label-clause-tells c =
     let m = c.args.message.now in
     let e = c.args.equalities.now in
     let yes = c.if_unpaid.result in
-    subst (λ (p : Payload). Tells (amounts_in told) e.amounts e.amounts (PayloadFits told m.to_client c.args.head.now p m.purse) yes)
-    (sym c.in-Label.is) (tells-plain (amounts_in told) e.amounts yes (unpaid-exact c.if_unpaid.ensures c.label_fits.ensures))
+    subst (λ (p : Payload). Tells (amounts_in told) e.amounts e.amounts (PayloadFits told m.to_client c.args.head.now
+    p m.purse) yes)
+    (sym c.in-Label.is) (tells-plain (amounts_in told) e.amounts yes (unpaid-exact c.if_unpaid.ensures
+    c.label_fits.ensures))
 
 pub returns-in-Close-clause-tells : goal.returns-in-Close-clause-tells
 returns-in-Close-clause-tells c =
@@ -27,8 +29,10 @@ returns-in-Close-clause-tells c =
     let m = c.args.message.now in
     let e = c.args.equalities.now in
     let yes = c.if_unpaid-in-Close.result in
-    subst (λ (p : Payload). Tells (amounts_in told) e.amounts e.amounts (PayloadFits told m.to_client c.args.head.now p m.purse) yes)
-    (sym c.in-Close.is) (tells-plain (amounts_in told) e.amounts yes (unpaid-exact c.if_unpaid-in-Close.ensures c.is_end.ensures))
+    subst (λ (p : Payload). Tells (amounts_in told) e.amounts e.amounts (PayloadFits told m.to_client c.args.head.now
+    p m.purse) yes)
+    (sym c.in-Close.is) (tells-plain (amounts_in told) e.amounts yes (unpaid-exact c.if_unpaid-in-Close.ensures
+    c.is_end.ensures))
 
 pub returns-in-Pay-clause-tells : goal.returns-in-Pay-clause-tells
 returns-in-Pay-clause-tells c =
@@ -37,7 +41,8 @@ returns-in-Pay-clause-tells c =
     let e = c.args.equalities.now in
     let yes = c.amount_fits.result in
     let exact = subst (λ o. IsTrue yes ↔ AmountFits told o m.purse) c.due_by.ensures c.amount_fits.ensures in
-    subst (λ (p : Payload). Tells (amounts_in told) e.amounts e.amounts (PayloadFits told m.to_client c.args.head.now p m.purse) yes)
+    subst (λ (p : Payload). Tells (amounts_in told) e.amounts e.amounts (PayloadFits told m.to_client c.args.head.now
+    p m.purse) yes)
     (sym c.in-Pay.is) (tells-plain (amounts_in told) e.amounts yes exact)
 
 pub returns-in-Value-clause-tells : goal.returns-in-Value-clause-tells
@@ -48,7 +53,8 @@ returns-in-Value-clause-tells c =
     let yes = c.if_unpaid-in-Value.result in
     let exact = subst (λ o. IsTrue c.kind_fits-fits.result ↔ KindFits o c.in-Value.value) c.kind_by.ensures
     c.kind_fits-fits.ensures in
-    subst (λ (p : Payload). Tells (amounts_in told) e.amounts e.amounts (PayloadFits told m.to_client c.args.head.now p m.purse) yes)
+    subst (λ (p : Payload). Tells (amounts_in told) e.amounts e.amounts (PayloadFits told m.to_client c.args.head.now
+    p m.purse) yes)
     (sym c.in-Value.is) (tells-plain (amounts_in told) e.amounts yes (unpaid-exact c.if_unpaid-in-Value.ensures exact))
 
 pub sent_fits-requires-clause-sent : goal.sent_fits-requires-clause-sent

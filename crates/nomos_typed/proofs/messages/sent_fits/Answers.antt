@@ -10,5 +10,6 @@ returns-in-Some-clause-tells c =
     let told = c.args.told.now in
     let old = c.args.equalities.now in
     let new = c.has_type.new.equalities in
-    subst (λ (o : Option TypeId). IfOk c.has_type.result (Tells (amounts_in told) old.amounts new.amounts (SentFits told o c.args.name)))
+    subst (λ (o : Option TypeId). IfOk c.has_type.result (Tells (amounts_in told) old.amounts new.amounts (SentFits
+    told o c.args.name)))
     (sym c.in-Some.is) c.has_type.ensures.tells
