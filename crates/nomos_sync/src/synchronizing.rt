@@ -6,6 +6,7 @@ ghost use Rattle.nomos_ir.specs.Nodes.{type_node};
 ghost use Rattle.nomos_ir.specs.Unfold.{IsContractive};
 ghost use Rattle.nomos_equality.specs.Comparing.{HasCompared, StaysCompared};
 ghost use Rattle.nomos_sync.specs.SyncAnswer.{AnswersBeside, LeadsBack, AnswersShared, IsSharedExact};
+ghost use Rattle.nomos_sync.specs.SyncAnswer.{AnswersSynchronizing, IsSynchronizingExact};
 ghost use Rattle.nomos_sync.specs.mirror.Walk.{IsWalkable, TellsBehind};
 
 use crate::continuations::behind_down;
@@ -14,6 +15,7 @@ use nomos_equality::equalities::Equalities;
 use nomos_equality::equality::Comparison;
 use nomos_equality::hop::Path;
 use nomos_ir::ids::TypeId;
+use nomos_ir::items::Items;
 use nomos_ir::lists::AmountPairs;
 use nomos_ir::program::Program;
 use nomos_ir::type_node::TypeNode;
@@ -85,6 +87,52 @@ fn leads_back(
     Ok(Comparison::Equal)
 }
 
+/// Whether each `down` that a type reaches goes back to the shared one, beside what was compared before, as
+/// `synchronizing_with` says it of a body. The type may be any, as that of a talk that is half over.
+pub fn leads_back_with(
+    alloc: Global,
+    equalities: &mut Equalities,
+    program: &Program,
+    from: TypeId,
+    shared: TypeId,
+) -> Result<Comparison, AllocError>
+    requires contractive { IsContractive program.now }
+    requires from { from.0 < length program.now.types }
+    requires shared { shared.0 < length program.now.types }
+    requires compared { HasCompared program.now equalities.old }
+    ensures compared { HasCompared program.now equalities.new }
+    ensures kept { StaysCompared equalities.old equalities.new }
+    ensures answers { IfOk result (AnswersBeside program.now from shared equalities.old equalities.new) }
+{
+    let _lists = program.lists();
+    let mut walk = Walk::new(alloc);
+    leads_back(&mut walk, equalities, program, from, shared)
+}
+
+/// Whether each `down` that a type reaches goes back to the shared one: the pairs of amounts that need to be equal, or
+/// a path from the type to a `down` behind which another type stands.
+pub fn leads_back_to(
+    alloc: Global,
+    program: &Program,
+    from: TypeId,
+    shared: TypeId,
+) -> Result<Synced, AllocError>
+    requires contractive { IsContractive program.now }
+    requires from { from.0 < length program.now.types }
+    requires shared { shared.0 < length program.now.types }
+    ensures answers { IfOk result (AnswersSynchronizing program.now from shared) }
+    ensures exact { IfOk result (IsSynchronizingExact program.now from shared) }
+{
+    let mut equalities = Equalities::new(alloc);
+    match leads_back_with(alloc, &mut equalities, program, from, shared)? {
+        Comparison::Equal => {
+            let pairs = equalities.into_amounts()?;
+            Ok(Synced::Yes(pairs))
+        }
+        Comparison::Different(path) => Ok(Synced::No(path)),
+    }
+}
+
 /// Whether a shared type is synchronizing, beside what was compared before: where it is, the pairs of amounts
 /// that need to be equal join those that were there; where it is not, a path leads from its body to a `down`
 /// behind which another type stands. In every case what was compared stays, each pair in its place, and what joins
@@ -104,9 +152,8 @@ pub fn synchronizing_with(
     ensures answers { IfOk result (LeadsBack program.now shared equalities.old equalities.new) }
 {
     let _lists = program.lists();
-    let mut walk = Walk::new(alloc);
     match program.node(shared) {
-        TypeNode::Up(body) => leads_back(&mut walk, equalities, program, *body, shared),
+        TypeNode::Up(body) => leads_back_with(alloc, equalities, program, *body, shared),
         _ => Ok(Comparison::Equal),
     }
 }
@@ -120,12 +167,9 @@ pub fn synchronizing(alloc: Global, program: &Program, shared: TypeId) -> Result
     ensures answers { IfOk result (AnswersShared program.now shared) }
     ensures exact { IfOk result (IsSharedExact program.now shared) }
 {
-    let mut equalities = Equalities::new(alloc);
-    match synchronizing_with(alloc, &mut equalities, program, shared)? {
-        Comparison::Equal => {
-            let pairs = equalities.into_amounts()?;
-            Ok(Synced::Yes(pairs))
-        }
-        Comparison::Different(path) => Ok(Synced::No(path)),
+    let _lists = program.lists();
+    match program.node(shared) {
+        TypeNode::Up(body) => leads_back_to(alloc, program, *body, shared),
+        _ => Ok(Synced::Yes(Items::of_vec(Vec::new(alloc)))),
     }
 }

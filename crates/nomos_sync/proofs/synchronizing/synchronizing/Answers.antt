@@ -1,27 +1,11 @@
-use Rattle.std.proofs.Common.{List, subst, sym}
-use Rattle.nomos_ir.specs.declared.amount.Amount.{Amount}
-use Rattle.nomos_sync.specs.SyncAnswer.{SynchronizesWith}
-use Rattle.nomos_sync.specs.declared.synchronizing.Synced.TheVariants as synced
-use Rattle.nomos_sync.proofs.SyncLaws.{synced-exact, sync-answered}
+use Rattle.std.proofs.Common.{ap}
+use Rattle.nomos_ir.specs.declared.type_node.TypeNode.{TypeNode}
+use Rattle.nomos_equality.specs.declared.hop.Hop.TheVariants as hop
+use Rattle.nomos_equality.specs.Paths.{part_by}
+use Rattle.nomos_equality.proofs.PathLaws.{part-below}
 use Rattle.nomos_sync.proofs.synchronizing.synchronizing.Goals as goal
 
-pub returns-in_ok-pairs-in-Equal-clause-answers : goal.returns-in_ok-pairs-in-Equal-clause-answers
-returns-in_ok-pairs-in-Equal-clause-answers c =
-    let finds = rw c.new-equalities.ensures at (rw c.in-Equal.is at c.in_ok-synchronizing_with.ensures.answers) in
-    λ body there.
-    subst (λ (pairs : List (Amount × Amount)). SynchronizesWith c.args.program.now body c.args.shared pairs)
-    (sym c.in_ok-pairs-in-Equal.ensures)
-    (sync-answered c.args.program.now body c.args.shared c.synchronizing_with.new.equalities
-    c.in_ok-synchronizing_with.ensures.compared (finds body there))
-
-pub returns-in_ok-pairs-in-Equal-clause-exact : goal.returns-in_ok-pairs-in-Equal-clause-exact
-returns-in_ok-pairs-in-Equal-clause-exact c =
-    λ body there x.
-    synced-exact c.args.program.now body c.args.shared (synced.Yes c.in_ok-pairs-in-Equal.pairs) x
-    (returns-in_ok-pairs-in-Equal-clause-answers c body there)
-
-pub returns-in-Different-clause-exact : goal.returns-in-Different-clause-exact
-returns-in-Different-clause-exact c =
-    let offends = rw c.in-Different.is at c.in_ok-synchronizing_with.ensures.answers in
-    λ body there x. synced-exact c.args.program.now body c.args.shared (synced.No c.in-Different.path) x
-    (offends body there)
+pub leads_back_to-requires-clause-from : goal.leads_back_to-requires-clause-from
+leads_back_to-requires-clause-from c =
+    part-below c.args.program.now c.args.shared.0 c.node.result.now hop.Next c.in-Up.body c.lists-lists.ensures.program
+    c.node.ensures (ap (λ (n : TypeNode). part_by n hop.Next) c.in-Up.is)
