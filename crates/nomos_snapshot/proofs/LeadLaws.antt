@@ -93,7 +93,7 @@ record Adds (before after : LedgerState) (more : List SnapshotLine) : Type 0 whe
   even : IsEven after
 
 -- nothing behind the objects
-no-more : (l : LedgerState) → with_objects l [] ≡ l
+pub no-more : (l : LedgerState) → with_objects l [] ≡ l
 no-more l = ap (λ (os : List Object). record l { state = record l.state { objects = os } }) (append-nil l.state.objects)
 
 -- objects more

@@ -7,6 +7,8 @@ pub mod OneLineLaws
 mod LowestLaws
 mod MessageLemmas
 pub mod OneReadingLaws
+pub mod OrderlyLaws
+mod ProcessLaws
 mod RowLemmas
 mod ValueLemmas
 mod VariableLaws

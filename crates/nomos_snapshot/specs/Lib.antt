@@ -5,4 +5,5 @@ pub mod Gathering
 pub mod Reading
 pub mod Text
 pub mod Leading
+pub mod Orderly
 pub mod mirror
