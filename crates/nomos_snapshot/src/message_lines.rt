@@ -143,7 +143,8 @@ pub(crate) fn read_message(
     labels: &LabelTable,
     words: &mut Words<'_>,
 ) -> Result<Option<SnapshotLine>, AllocError>
-    ensures { (lists : ProgramLists) → labels.now ≡ lists.labels → IfOk result (ReadsWords (IsMessageOf lists) lists words.old) }
+    ensures { (lists : ProgramLists) → labels.now ≡ lists.labels
+        → IfOk result (ReadsWords (IsMessageOf lists) lists words.old) }
 {
     let Some(head) = take_head(words) else {
         return Ok(None);

@@ -18,7 +18,7 @@ use nomos_ir::program::Program;
 use std::alloc::{AllocError, Global};
 use std::marker::Model;
 
-/// What reads the lines of snapshots of ledgers of a program, which contracts see as the program's lists. It finds a label
+/// What reads the lines of a program's snapshots, which contracts see as the program's lists. It finds a label
 /// by its text in one step.
 #[derive(Drop)]
 pub struct LineReader<'a> {
@@ -73,11 +73,12 @@ impl<'a> LineReader<'a> {
         }
     }
 
-    /// The line that a text is without its line feed; none where it has no form, numbers over their bounds, leading zeros,
-    /// and types, places and labels that the program lacks included. It uses the machine's stack in step with how deep
-    /// lists stand in one another, at most 256.
+    /// The line that a text is without its line feed; none where it has no form, numbers over their bounds, leading
+    /// zeros, and types, places and labels that the program lacks included (docs/TEXTS.md, "Snapshots"). It uses the
+    /// machine's stack in step with how deep lists stand in one another, at most 256.
     pub fn read(&self, alloc: Global, text: &[u8]) -> Result<Option<SnapshotLine>, AllocError>
-        ensures { IfOk result (λ found. MatchOption found ((l : Told) → IsLine self.now l → text.now ≢ line_text self.now l)
+        ensures { IfOk result (λ found. MatchOption found
+            ((l : Told) → IsLine self.now l → text.now ≢ line_text self.now l)
             (λ l. IsLine self.now l × (text.now ≡ line_text self.now l))) }
     {
         let _lists = self.program.lists();

@@ -194,7 +194,8 @@ fn list_of(node: ValueNode) -> Option<Values>
 /// The values of the list that a text writes, if it is one of a snapshot.
 pub(crate) fn read_list(alloc: Global, text: &[u8]) -> Result<Option<Values>, AllocError>
     ensures { IfOk result (λ found. MatchOption found
-        ((items : List Meaning) → IsLineValue (list (value_list items)) → text.now ≢ value_text (list (value_list items)))
+        ((items : List Meaning) → IsLineValue (list (value_list items))
+        → text.now ≢ value_text (list (value_list items)))
         (λ items. IsLineValue (list (value_list items)) × (text.now ≡ value_text (list (value_list items))))) }
 {
     match read_node(alloc, text)? {
