@@ -6,6 +6,7 @@ ghost use Rattle.nomos_pool.specs.Gathering.{IsGathering};
 ghost use Rattle.nomos_pool.specs.Hands.{AreEmptyHands, sender_of, IsReady, GivesTo, AreDealt};
 
 use crate::dealing::deal_threads;
+use crate::gate::{Gate, OpenGate};
 use crate::hands::{Hand, hand_in_all};
 use crate::pool::{Opened, Pool, Sender, Submission, Taker, open};
 use nomos_script::item::Batch;
@@ -102,28 +103,36 @@ fn senders_of<T: Drop>(hands: Vec<Hand<T>>, mut room: Vec<Sender<T>>) -> Vec<Sen
     room
 }
 
+/// Which thread submits which item: at place k of `threads` stands that of the item at place k, counted from 0, and there
+/// are `count` threads.
+#[derive(Clone, Copy, Drop, Debug)]
+pub struct Shares<'a> {
+    pub threads: &'a [usize],
+    pub count: u32,
+}
+
 /// Gathers items that threads submit, each thread those that are dealt to it, in their order, from a thread of its own
-/// where one can be made. At place k of `threads` stands the thread, counted from 0, of the item at place k.
-/// All memory is taken before the first thread starts. That threads run at once is not promised.
-pub fn gather_dealt<T: Drop + Send, R: Threads + Wait + Sync>(
+/// where one can be made, which calls the gate before its first item. All memory is taken before the first thread
+/// starts. That threads run at once is not promised.
+pub fn gather_dealt<T: Drop + Send, G: Gate, R: Threads + Wait + Sync>(
     rt: &R,
+    gate: &G,
     alloc: Global,
     items: Vec<T>,
-    threads: &[usize],
-    count: u32,
+    shares: Shares<'_>,
 ) -> Result<Vec<Submission<T>>, AllocError>
-    requires some { 0 < count }
-    requires many { length threads.now ≡ length items.items }
-    requires threads { All (λ j. j < count) threads.now }
-    ensures { IfOk result (λ gathered. IsGathering count threads.now items.items gathered.items) }
+    requires some { 0 < shares.count }
+    requires many { length shares.threads.now ≡ length items.items }
+    requires threads { All (λ j. j < shares.count) shares.threads.now }
+    ensures { IfOk result (λ gathered. IsGathering shares.entry.count shares.entry.threads.now items.items gathered.items) }
 {
     let Ready {
         pool,
         taker,
         hands,
         room,
-    } = make_ready(alloc, items, threads, count)?;
-    let hands = hand_in_all(rt, &pool, hands);
+    } = make_ready(alloc, items, shares.threads, shares.count)?;
+    let hands = hand_in_all(rt, gate, &pool, hands);
     Ok(pool.close(rt, taker, senders_of(hands, room)))
 }
 
@@ -142,5 +151,9 @@ pub fn gather<R: Threads + Wait + Sync>(
         → sent_by_account name (map (λ s. s.item) gathered.items) ≡ sent_by_account name batches.items) }
 {
     let dealt = deal_threads(alloc, batches.as_slice(), threads)?;
-    gather_dealt(rt, alloc, batches, dealt.as_slice(), threads)
+    let shares = Shares {
+        threads: dealt.as_slice(),
+        count: threads,
+    };
+    gather_dealt(rt, &OpenGate, alloc, batches, shares)
 }

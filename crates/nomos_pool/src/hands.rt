@@ -4,6 +4,7 @@ ghost use Rattle.std.specs.Thread.{IsSend, IsSync};
 ghost use Rattle.nomos_pool.specs.PoolPass.{IsSenderOf, submitted_by};
 ghost use Rattle.nomos_pool.specs.Hands.{HandsIn, IsHandOf, AllHandIn};
 
+use crate::gate::Gate;
 use crate::pool::{Pool, Sender, Submitted};
 use std::sync::Wait;
 use std::thread;
@@ -34,20 +35,28 @@ fn submit_when_room<T: Drop, R: Wait>(rt: &R, pool: &Pool<T>, sender: &mut Sende
     unreachable!()
 }
 
-// Submits all items of a hand.
-fn hand_in<T: Drop, R: Wait>(rt: &R, pool: &Pool<T>, hand: &mut Hand<T>)
+// Calls the gate for the hand at a place, and submits all its items.
+fn hand_in<T: Drop, G: Gate, R: Wait>(
+    rt: &R,
+    gate: &G,
+    pool: &Pool<T>,
+    place: usize,
+    hand: &mut Hand<T>,
+)
     requires { IsHandOf pool.now hand.old }
     ensures { HandsIn pool.now hand.old hand.new }
 {
+    gate.before_submits(place);
     while let Some(item) = hand.items.pop() {
         submit_when_room(rt, pool, &mut hand.sender, item);
     }
 }
 
-/// Submits all items of all hands, of each hand in their order, each hand in a thread of its own where one can be made.
-/// While the queue is full, a hand waits for a taker.
-pub fn hand_in_all<T: Drop + Send, R: Threads + Wait + Sync>(
+/// Submits all items of all hands, of each hand in their order, each hand in a thread of its own where one can be made,
+/// which calls the gate first. While the queue is full, a hand waits for a taker.
+pub fn hand_in_all<T: Drop + Send, G: Gate, R: Threads + Wait + Sync>(
     rt: &R,
+    gate: &G,
     pool: &Pool<T>,
     mut hands: Vec<Hand<T>>,
 ) -> Vec<Hand<T>>
@@ -60,7 +69,10 @@ pub fn hand_in_all<T: Drop + Send, R: Threads + Wait + Sync>(
         rt,
         hands.as_mut_slice(),
         threads,
-        &|_, hand| hand_in(rt, pool, hand),
+        &|place, hand|
+            requires { IsSync G.row × IsHandOf pool.now hand.old }
+            ensures { HandsIn pool.entry.now hand.old hand.new }
+        { hand_in(rt, gate, pool, place, hand) },
     );
     hands
 }

@@ -2,6 +2,7 @@
 #![tactic(auto)]
 
 mod dealing;
+pub mod gate;
 pub mod gathering;
 pub mod hands;
 pub mod pool;
