@@ -2,6 +2,8 @@
 #![tactic(auto)]
 
 #[cfg(test)]
+mod gates;
+#[cfg(test)]
 mod pool_tests;
 #[cfg(test)]
 mod script_tests;
