@@ -113,10 +113,11 @@ def room(folder):
     known = crates()
     for name in ("crates.txt", "HANDLES"):
         shutil.copy2(f"{TOP}/{name}", f"{folder}/{name}")
-    for crate in known.listed(TOP):
+    for crate in os.listdir(f"{TOP}/crates"):
         for part in PARTS:
             if os.path.isdir(f"{TOP}/crates/{crate}/{part}"):
                 shutil.copytree(f"{TOP}/crates/{crate}/{part}", f"{folder}/crates/{crate}/{part}")
+    for crate in known.listed(TOP):
         if crate != PROGRAM:
             known.take_library(crate, TOP, folder)
     return f"{folder}/crates/{PROGRAM}"

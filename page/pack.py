@@ -29,6 +29,7 @@ CLASSES = (
     ("support.constant", "type"), ("keyword.operator.symbol", "operator"), ("keyword.other.instruction", "builtin"),
     ("keyword.control.last", "builtin"), ("keyword", "keyword"), ("storage.modifier", "keyword"),
 )
+KINDS = {True: "the proved program itself", False: "the program itself, in a build that is not proved"}
 PROVED = {
     True: "The program on this page is the proved one: it was proved and built for this page, over the proved libraries"
     " of its crates. What is proved of its answers stands in its README.",
@@ -103,6 +104,6 @@ def page(module):
     style = f"{read(f'{EDITOR}/codemirror.css')}\n{read(f'{HERE}/page.css')}"
     filled = {
         "STYLE": style, "SCRIPT": script, "PROVED": PROVED[module.is_proved], "VERSION": version(),
-        "SUM": html.escape(module.sum[:16]),
+        "KIND": KINDS[module.is_proved], "SUM": html.escape(module.sum[:16]),
     }
     return re.sub(r"@([A-Z]+)@", lambda it: filled[it[1]], read(f"{HERE}/page.html"))
