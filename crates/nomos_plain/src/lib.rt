@@ -6,6 +6,7 @@ mod coming;
 mod copying;
 mod finds;
 mod object;
+mod outside;
 mod parts;
 pub mod plain;
 mod readers;

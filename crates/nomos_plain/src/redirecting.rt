@@ -108,6 +108,17 @@ impl PlainParts {
         }
     }
 
+    /// An outside party uses the new name wherever it used the old one.
+    pub(crate) fn rename_outside(&mut self, old: u32, new: u32)
+        requires { IsSound self.old }
+        ensures state { state_of self.new ≡ record (state_of self.old)
+            { outside = map (renamed old new) self.old.outside.items } }
+        ensures sound { IsSound self.new }
+        ensures room { self.new.room ≡ self.old.room }
+    {
+        rename_names(self.outside.as_mut_slice(), old, new);
+    }
+
     /// Whoever uses the old name uses the new one instead, an outside party too.
     pub(crate) fn redirect(&mut self, old: u32, new: u32)
         requires { IsSound self.old }
@@ -119,6 +130,6 @@ impl PlainParts {
         ensures room { self.new.room ≡ self.old.room }
     {
         self.redirect_user(old, new);
-        rename_names(self.outside.as_mut_slice(), old, new);
+        self.rename_outside(old, new);
     }
 }
