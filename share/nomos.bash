@@ -24,7 +24,7 @@ _nomos_test() {
     wanted='*.@(nomos|script)'
     [ "$before" != --orders ] || return 0
     [[ $word == -* ]] || return 1
-    local offered='--write --orders --json --help --version'
+    local offered='--write --watch --orders --json --help --version'
     mapfile -t COMPREPLY < <(compgen -W "$offered" -- "$word")
 }
 

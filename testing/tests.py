@@ -51,10 +51,12 @@ def about(text, offset):
 
 
 class Tests:
-    """What was compared, and what differs. Each thing that differs is handed to `say` as it is found."""
+    """What was compared, what differs, and the contract of each script, if it has one. Each thing that differs is
+    handed to `say` as it is found."""
 
     def __init__(self, program, meaning, say, is_written=False, count=0):
         self.program, self.meaning, self.say, self.is_written, self.count = program, meaning, say, is_written, count
+        self.ran = {}
         self.contracts, self.scripts, self.lines, self.differ, self.mended, self.written = 0, 0, 0, 0, 0, 0
 
     def differs(self, *parts, **others):
@@ -101,7 +103,7 @@ class Tests:
         self.scripts += 1
         self.wrong(script, due)
         named_contract = [it.words[3:].encode("latin-1") for it in due.of("contract")]
-        contract = contract_of(file, os.fsdecode(named_contract[0]) if named_contract else None)
+        contract = self.ran[file] = contract_of(file, os.fsdecode(named_contract[0]) if named_contract else None)
         if contract is None:
             says = "there is no contract of its name beside it; write `//! on FILE.nomos` above all lines"
             self.differs(script.name, 1, 1, "", "", "", [], wrong=says)
