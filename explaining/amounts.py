@@ -130,7 +130,23 @@ class Mends:
         values = {it: self.found(left).get(it, "*") for it in left}
         for it in values:
             values[it] = self.least(it, values)
-        return values if self.accepts(values) else left
+        return self.kept(values) if self.accepts(values) else left
+
+    def kept(self, values):
+        """Gives amounts that do, of which those that are to be less than they are written are as great as they can be:
+        together, where they are written alike."""
+        for old in {it.value for it, new in values.items() if new != "*" and new < it.value}:
+            those = [it for it, new in values.items() if it.value == old and new != "*" and new < old]
+            low, high = min(values[it] for it in those), old
+            while low + 1 < high:
+                middle = (low + high) // 2
+                if self.accepts({**values, **dict.fromkeys(those, middle)}):
+                    low = middle
+                else:
+                    high = middle
+            more = {**values, **dict.fromkeys(those, low)}
+            values = more if self.accepts(more) else values
+        return values
 
     def least(self, amount, values):
         """Gives the least number that does for one amount, while the others are as they are."""
@@ -160,6 +176,36 @@ class Mends:
         return left
 
 
+def parts(tokens, at):
+    """Whether a token is a sign that a code begins behind, and no brace of an amount."""
+    text = tokens[at].text
+    if text == "{":
+        return tokens[at + 2].text != "}"
+    return text in ("=>", "=", "|") or text == "}" and tokens[at - 2].text != "{"
+
+
+def earlier(text, program):
+    """Gives the place of an instruction that gets gas behind others which have spent it before, with a line on where to
+    write it, where the contract is accepted then."""
+    tokens = text.tokens
+    for at, it in enumerate(tokens):
+        if it.text != "get" or tokens[at - 1].text != ";":
+            continue
+        start = next(place for place in range(at, 0, -1) if parts(tokens, place - 1))
+        begins = [place for place in range(start, at) if place == start or tokens[place - 1].text == ";"]
+        via, code = tokens[at + 1].text, text.text[it.at : tokens[at + 6].at]
+        talks = [place for place in begins if via in (tokens[place].text, tokens[place + 1].text)
+                 or tokens[place].text in ("accept", "detach", "acquire")]
+        begins = [place for place in begins if not talks or place > talks[-1]]
+        if begins:
+            one = tokens[begins[0]]
+            edits = (one.at, one.at, code), (it.at, tokens[at + 6].at, "")
+            if program.check(text.edited(*edits)).is_accepted:
+                words = f"write `{code.strip()}` before `{one.text}` at {text.place(one.at)}, and not here"
+                return [(it.at, mend(words, *edits))]
+    return []
+
+
 def said(amount, value):
     """Gives in words what to write for an amount."""
     if amount.is_missing:
@@ -184,9 +230,13 @@ def unpaid(text, program, charged):
         yield prices.get(it.at, it.at + head - before * len(PRICE)), it.value
 
 
-def explained(text, program, charged):
-    """Gives the row that fits a text whose amounts do not do, and places with a line on what to write there. The
-    offsets of the instructions that the cost model charges are given."""
+def explained(text, program, charged, brought=lambda at: []):
+    """Gives the row that fits a text whose amounts do not do, and places with lines on what to write there. The
+    offsets of the instructions that the cost model charges are given, and which lines there are on how what is spent at
+    one of them is brought there."""
+    early = earlier(text, program)
+    if early:
+        return "NoPotential amount", early
     mends = Mends(text, program)
     values = mends.find()
     if values is None:
@@ -195,5 +245,6 @@ def explained(text, program, charged):
         places = sorted(values, key=lambda it: it.at)
         edits = [it.edit(values[it]) for it in places]
         return "NoPotential amount", [(it.at, mend(said(it, values[it]), *edits)) for it in places]
-    works = unpaid(text, program, charged)
-    return "NoPotential none", [(at, f"see: {value} spent here, and nothing brings it") for at, value in works]
+    works = list(unpaid(text, program, charged))
+    see = "see: {} spent here, and nothing brings it"
+    return "NoPotential none", [(at, *brought(at), see.format(value)) for at, value in works]

@@ -1,7 +1,7 @@
 """Which argument of a line of a script does not fit the parameter of the process that the line starts."""
 from .amounts import closing
 from .mends import mend
-from .syntax import nearest
+from .syntax import distance, nearest
 from .texts import listed, tokens_of
 
 
@@ -55,8 +55,39 @@ class Arguments:
             if is_asset or it.kind == "list":
                 what = "an asset" if is_asset else "a list that carries potential"
                 see = f"see: {self.declared()}, and its parameter `{it.name}` is {what}"
-                return self.line.process.at, "BadArguments asset", [see]
+                return self.line.process.at, "BadArguments asset", [*self.of_making(), see]
         return self.of_count() or self.of_values() or self.of_names() or (self.line.process.at, "BadArguments", [])
+
+    def of_making(self):
+        """Gives lines on the processes that a line can start and that offer the same as this one."""
+        token, found = self.line.process, []
+        for it in self.run.codes.processes.values():
+            is_free = all(other.kind == "value" or self.is_shared(other.type) for other in it.parameters)
+            if (it.mode, it.offers) == ("S", self.process.offers) and is_free and self.line.word == "let":
+                found.append(it.name)
+        found = [it for it in found if self.goes_on_as(it)] or found
+        does = [it for it in found[:MOST_TRIED] if self.refused.goes_on((token.at, token.end, it))]
+        where = f"which makes one, in place of `{token.text}`"
+        mends = [mend(f"write `{it}`, {where}", (token.at, token.end, it)) for it in does[:3]]
+        return mends or [line for name in found[:1] for line in self.with_others(name)]
+
+    def with_others(self, name):
+        """Gives a line on a process that makes one, and takes other arguments."""
+        process, token, last = self.run.codes.processes[name], self.line.process, self.line.tokens[-1]
+        rows = process.of_kind("value"), process.of_kind("channel")
+        values = ", ".join({"int": "0", "bool": "true"}.get(it.type, "[]") for it in rows[0])
+        names = ", ".join(suits[0] for suits in map(self.suiting, rows[1]) if suits)
+        edit = (token.at, last.end, f"{name}({values};{' ' if names else ''}{names})")
+        said = f"{name}({'..' if rows[0] else ''};{' ..' if rows[1] else ''})"
+        words = f"write `{said}`, which makes one, in place of `{token.text}(..)`"
+        return [mend(words, edit)] if self.refused.goes_on(edit) else [f"see: `{name}` makes one"]
+
+    def goes_on_as(self, name):
+        """Whether a process calls the one of the line."""
+        tokens, at = self.run.codes.tokens, self.run.codes.processes[name].at
+        heads = [it for it in range(at, len(tokens)) if tokens[it].text in ("type", "fn", "proc")]
+        words = [it.text for it in tokens[at : heads[0] if heads else len(tokens)]]
+        return ("call", self.process.name) in zip(words, words[1:])
 
     def is_shared(self, type):
         while type.startswith("(") and closing(tokens_of(type), 0) == len(tokens_of(type)) - 1:
@@ -72,7 +103,35 @@ class Arguments:
                 lines.append(f"see: {taken(wanted, len(given), what)}")
         if not lines:
             return None
-        return self.line.process.at, "BadArguments count", [f"see: {self.declared()}", *lines]
+        return self.line.process.at, "BadArguments count", [*self.completed(), f"see: {self.declared()}", *lines]
+
+    def completed(self):
+        """Gives a line on the contracts that are left out, where one alone has the type of each that who pays here has
+        made: what goes to it goes to nobody else."""
+        given, names = [it.text for it in self.names], []
+        for it in self.wanted_names:
+            is_next = bool(given) and self.suits(given[0], it.type)
+            payer = self.line.sender.text
+            others = [] if is_next else [one for one in self.suiting(it) if self.known[one].sender.text == payer]
+            others = [name for name in others if name not in names] or others
+            if not is_next and len(others) != 1:
+                return []
+            names.append(given.pop(0) if is_next else others[0])
+        if given and set(given) <= set(names) and len(self.values) == len(self.wanted_values):
+            last = self.line.tokens[-1]
+            sign = next(it for it in self.line.tokens if it.text == ";")
+            edit = (sign.at, last.end, f";{' ' if names else ''}{', '.join(names)})")
+            words = f"take {listed(given)} out, which stands there already"
+            return [mend(words, edit)] if self.refused.goes_on(edit) else []
+        if not given and len(self.values) < len(self.wanted_values):
+            return self.valued(names)
+        if given or len(self.values) != len(self.wanted_values) or len(names) == len(self.names):
+            return []
+        tokens = self.line.tokens
+        sign = next(it for it in tokens if it.text == ";")
+        edit = (sign.at, tokens[-1].end, f"; {', '.join(names)})")
+        words = f"write `{', '.join(names)}` behind the `;`"
+        return [mend(words, edit)] if self.refused.goes_on(edit) else []
 
     def of_values(self):
         for it, wanted in zip(self.values, self.wanted_values):
@@ -80,16 +139,45 @@ class Arguments:
                 see = f"see: {self.declared()}, and `{wanted.name}` is of the kind `{wanted.type}`"
                 is_near = wanted.type.startswith("list") and isinstance(it.value, list)
                 what = "a list of other elements" if is_near else kind_of(it.value)
-                return it.tokens[0].at, "BadArguments kind", [f"{see}; `{it.text}` is {what}"]
+                lines = [*self.turned(it, wanted.type.split()), f"{see}; `{it.text}` is {what}"]
+                return it.tokens[0].at, "BadArguments kind", lines
         return None
+
+    def valued(self, names):
+        """Gives a line on the values that are left out, with the names of contracts behind them."""
+        token, last = self.line.process, self.line.tokens[-1]
+        left = self.wanted_values[len(self.values) :]
+        known = [it.text for it in self.values]
+        tried = ", ".join([*known, *({"int": "0", "bool": "true"}.get(it.type, "[]") for it in left)])
+        behind = f";{' ' if names else ''}{', '.join(names)})"
+        edit = (token.end, last.end, f"({tried}{behind}")
+        said = f"{token.text}({', '.join([*known, '..'])}{behind}"
+        kinds = listed([f"{it.name}: {it.type}" for it in left])
+        words = f"write `{said}`, with {counted(len(left), 'value')} for {kinds}"
+        return [mend(words, edit)] if self.refused.goes_on(edit) else []
+
+    def turned(self, argument, kind):
+        """Gives a line on the same value as one of another kind: a list of it alone, what a list has alone, or the
+        truth value that other languages write as 0 or 1."""
+        value, new = argument.value, ""
+        if kind[0] == "list" and fits(kind[1:], value):
+            new = f"[{argument.text}]"
+        elif isinstance(value, list) and len(value) == 1 and fits(kind, value[0]):
+            new = argument.text[1:-1]
+        elif kind[0] == "bool" and value in (0, 1):
+            new = ("false", "true")[value]
+        edit = (argument.tokens[0].at, argument.tokens[-1].end, new)
+        does = new and self.refused.goes_on(edit)
+        return [mend(f"write `{new}` in place of `{argument.text}`", edit)] if does else []
 
     def of_names(self):
         for it, wanted in zip(self.names, self.wanted_names):
             if it.text not in self.known:
                 suits = self.suiting(wanted)
                 see = self.made(suits) if suits else f"see: no contract of the type `{wanted.type}` is made so far"
-                meant = self.refused.meant(it.tokens[0], nearest(it.text, suits))
-                lines = self.made_elsewhere(it.text) or meant or [*self.of_account(it.text), see]
+                meant = self.refused.meant(it.tokens[0], nearest(it.text, suits)) or self.of_one(it.tokens[0], suits)
+                others = meant or self.of_type_name(it, wanted, suits)
+                lines = self.made_elsewhere(it.text) or others or [*self.of_account(it.text), see]
                 return it.tokens[0].at, "BadArguments name", lines
         for it, wanted in zip(self.names, self.wanted_names):
             if self.suits(it.text, wanted.type) is False:
@@ -105,6 +193,23 @@ class Arguments:
                     return [f"see: `{name}` is made at {place}, behind this line"]
                 return [f"see: `{name}` was to be made at {place}, and that was not carried out"]
         return []
+
+    def of_one(self, token, suits):
+        """Gives a line for the one contract that has the type, where its name is one letter away."""
+        edit = (token.at, token.end, suits[0] if suits else "")
+        does = len(suits) == 1 and distance(suits[0], token.text) == 1 and self.refused.goes_on(edit)
+        return [mend(f"did you mean `{suits[0]}`?", edit)] if does else []
+
+    def of_type_name(self, argument, wanted, suits):
+        """Gives a line where the name is that of the type, or of a process that offers it, and one contract alone has
+        this type."""
+        token, processes = argument.tokens[0], self.run.codes.processes
+        is_type = token.text == wanted.type or token.text in processes and processes[token.text].offers == wanted.type
+        edit = (token.at, token.end, suits[0] if suits else "")
+        if not is_type or len(suits) != 1 or not self.refused.goes_on(edit):
+            return []
+        what = "type" if token.text == wanted.type else "process"
+        return [mend(f"write `{suits[0]}`, which is of this {what}, in place of `{token.text}`", edit)]
 
     def of_account(self, name):
         accounts = [it.tokens[1].text for it in self.run.before(self.refused.number, "deposit")]

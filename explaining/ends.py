@@ -8,6 +8,8 @@ from .tracks import track
 
 # A batch that does not end is looked at for so many firings.
 FIRINGS = 20_000
+# How many other contracts are tried for one that stands in a line twice.
+MOST_TRIED = 8
 # How many times as many firings are tried then, and how many a batch may make at most.
 TIMES, MOST_FIRINGS = 10, 10_000_000
 
@@ -92,9 +94,26 @@ class Waiting:
                 return [f"see: each waits for the next one, and the last one for the first: {said}"]
         return []
 
+    def another(self, row):
+        """Gives a line on a contract that stands in a line twice, where the line is carried out with one other contract
+        in its second place that who pays here has made, and with none but this one."""
+        tokens = [it.tokens[0] for it in row.arguments()[1]]
+        twice = [it for at, it in enumerate(tokens) if it.text in [other.text for other in tokens[:at]]]
+        if not twice:
+            return []
+        token = twice[0]
+        made = self.run.contracts(self.number, row.number)
+        known = [it for it in made if made[it].sender.text == row.sender.text and it not in [at.text for at in tokens]]
+        edits = [(token.at, token.end, it) for it in known[:MOST_TRIED]]
+        does = [it for it in edits if self.run.end(self.number, it)[0] == "committed"]
+        said = f"in place of the second `{token.text}`, since nobody acquires a contract twice at once"
+        return [mend(f"write `{it[2]}` {said}", it) for it in does] if len(does) == 1 else []
+
     def mends(self):
         """Gives a line where the lines of the batch go through one after another."""
         rows, end = self.run.script.batch(self.number)
+        if len(rows) == 1:
+            return self.another(rows[0])
         if len(rows) < 2:
             return []
         begin, last = self.run.script.row(self.number), self.run.script.row(end)

@@ -56,7 +56,17 @@ class Fault:
         values = Telling(self).find()
         if not values:
             return []
-        return ["see: there " + ", ".join(f"`{name}` is {it}" for name, it in zip(self.values(), values))]
+        names = self.values()
+        said = [f"`{name}` is {it}{self.whose(name, it)}" for name, it in zip(names, values)]
+        return ["see: there " + ", ".join(said)]
+
+    def whose(self, name, value):
+        """Gives in words the account that a value is the number of, where the contract has it as one."""
+        known = self.run.script.accounts(self.number)
+        is_number = value.isdecimal() and int(value) < len(known)
+        if not is_number or not self.run.accounts().is_named(self.step, name):
+            return ""
+        return f", the account `{known[int(value)]}`"
 
     def lines(self):
         if self.step is None:

@@ -2,12 +2,30 @@
 from typing import NamedTuple
 
 from .numbers import PARTED, in_digits
-from .texts import joined
+from .syntax import distance
+from .texts import joined, listed
 
 # How many lines are looked at behind one that may go on there.
 MOST_ROWS = 4
 # How a value of a kind is named, and one of it.
 KINDS = {"int": ("a number", "0"), "bool": ("`true` or `false`", "true"), "list": ("a list", "[]")}
+# The first words of lines by those that others have for them, and what stands in for a line that there is none of.
+WORDS = {
+    **dict.fromkeys(("account", "fund", "faucet", "credit", "topup", "give", "mint", "load"), "deposit"),
+    **dict.fromkeys(("commit", "submit", "done", "finish", "stop", "endbatch"), "end"),
+    **dict.fromkeys(("batch", "start", "transaction", "atomic", "open"), "begin"),
+    **dict.fromkeys(("print", "state", "balances", "balance", "status", "dump", "ledger", "display"), "show"),
+}
+INSTEAD = {
+    **dict.fromkeys(("transfer", "pay", "move", "send"), "gas goes from one account to another through a contract"
+                    " alone, as docs/COINS.md says; a `deposit` is new gas"),
+    **dict.fromkeys(("withdraw", "burn", "refund"), "nothing takes gas out of an account but what a transaction"
+                    " spends"),
+    **dict.fromkeys(("assert", "expect", "check", "require"), "what is due of a line stands behind it, in a comment as"
+                    " `//! result 7`, and nomos-test compares it"),
+    **dict.fromkeys(("import", "include", "use", "source"), "the contract is named in the words of the call"),
+    **dict.fromkeys(("sleep", "wait", "advance"), "there is no time; a line is run behind the one before"),
+}
 ADDED = {"+": int.__add__, "-": int.__sub__, "*": int.__mul__}
 
 
@@ -22,7 +40,8 @@ class Forms:
     """What is found of the tokens around the marked one, by the class that is made of this one."""
 
     def of_forms(self):
-        ways = (self.of_accounts, self.of_rows, self.of_dots, self.of_words, self.of_makes, self.of_payers)
+        ways = (self.of_accounts, self.of_several, self.of_rows, self.of_left_out, self.of_dots, self.of_first_words)
+        ways = (*ways, self.of_words, self.of_makes, self.of_payers, self.of_calls, self.of_brackets)
         for way in (*ways, self.of_lists, self.of_numbers, self.of_terms):
             yield from way()
 
@@ -37,6 +56,11 @@ class Forms:
                 yield Slip((row.at, row.end, joined(tokens)), mend)
         if self.count and self.may_end and mark.text in self.words:
             yield Slip((mark.at, mark.at, "\n"), f"write this `{mark.text}` and what stands behind it on another line")
+
+    def instead(self):
+        """Gives a line on what stands in for a line that there is none of."""
+        word = self.marked.text.lower()
+        return [f"see: there is no `{word}`: {INSTEAD[word]}"] if not self.count and word in INSTEAD else []
 
     def of_dots(self):
         """Slips with a dot between two names: an account or a contract before what is run or given."""
@@ -64,10 +88,35 @@ class Forms:
             number = str(known.index(mark.text))
             mend = f"write `{number}` in place of `{mark.text}`, which is the number of this account"
             yield Slip((mark.at, mark.end, number), mend)
+        payer = self.payer()
+        if "NUMBER" in self.wanted and mark.text == "me" and payer in known and "me" not in self.made():
+            number = str(known.index(payer))
+            mend = f"write `{number}` in place of `me`, which is the number of the account `{payer}` that pays here"
+            yield Slip((mark.at, mark.end, number), mend)
+
+    def payer(self):
+        """Gives the name of the account that pays for the line, where it stands at its place."""
+        texts = [it.text for it in self.tokens]
+        at = 1 if texts[:1] == ["exec"] else texts.index("new") + 1 if "new" in texts else len(texts)
+        return texts[at] if at < len(texts) else ""
 
     def made(self):
         """Gives the names that the lines of the script give to contracts."""
         return {it.tokens[1].text for it in self.script.rows if it.word == "let" and len(it.tokens) > 1}
+
+    def of_first_words(self):
+        """Slips at the first word of a line, and in what a `deposit` and a bound result have."""
+        mark, texts = self.marked, [it.text for it in self.tokens]
+        if texts[:1] == ["deposit"] and self.wanted == {"N"} and not mark.kind:
+            mend = f"write `{joined(self.tokens)} ..`, with the number of units"
+            yield Slip((self.row.end, self.row.end, " 0"), mend)
+        other = WORDS.get(mark.text.lower()) if not self.count else None
+        if other in self.words:
+            yield Slip((mark.at, mark.end, other), f"write `{other}` in place of `{mark.text}`")
+            yield Slip((mark.at, self.row.end, other), f"write `{other}` alone on this line")
+        if not self.count and texts[1:2] == ["="] and texts[2:3] == ["exec"]:
+            said = joined(self.tokens[:2])
+            yield Slip((mark.at, self.tokens[2].at, ""), f"take `{said}` out, since results stand in the report alone")
 
     def of_words(self):
         """Slips at the first words of a line, and with what a line is for."""
@@ -76,6 +125,7 @@ class Forms:
         if not self.count and mark.kind == "word" and behind.text in self.accounts() and texts[3:4] == ["("]:
             if mark.text != "new":
                 yield Slip((mark.at, mark.end, "exec"), f"write `exec` in place of `{mark.text}`")
+        other = WORDS.get(mark.text.lower()) if not self.count else None
         if mark.text + behind.text in ("/*", "--") and mark.end == behind.at:
             sign = mark.text + behind.text
             yield Slip((mark.at, behind.end, "//"), f"begin a comment with `//` in place of `{sign}`")
@@ -101,6 +151,27 @@ class Forms:
             made = joined(self.tokens[self.count - 1 : end + 1])
             mend = f"write `let .. = {made}` on a line before, with the account that pays behind `new` and a name for "
             yield Slip((before.at, self.tokens[end].end, "x"), f"{mend}the contract, and this name here")
+
+    def of_left_out(self):
+        """A line that ends before it says what is run."""
+        processes = self.codes.processes.values() if self.codes else ()
+        mode = "T" if self.tokens[0].text == "exec" else "S"
+        names = [it.name for it in processes if it.mode == mode]
+        if self.wanted == {"NAME"} and not self.marked.kind and names:
+            before = self.at(-1).text
+            said = f"write `{before} ..(..)`, with what is run: {listed(names)}"
+            yield Slip((self.row.end, self.row.end, f" {names[0]}(;)"), said)
+
+    def of_several(self):
+        """Several contracts that one line makes."""
+        texts = [it.text for it in self.tokens]
+        if texts[:1] == ["let"] and self.marked.text == "," and "=" in texts:
+            equal = texts.index("=")
+            names = [it.text for it in self.tokens[1:equal] if it.kind == "word"]
+            rest = joined(self.tokens[equal:])
+            rows = [f"let {it} {rest}" for it in names]
+            said = " and ".join(f"`{it}`" for it in rows)
+            yield Slip((self.row.at, self.row.end, "\n".join(rows)), f"write {said}, each on a line of its own")
 
     def of_makes(self):
         """A contract that is made by other words than `let .. = new ..`, or has its type before its name."""
@@ -135,11 +206,86 @@ class Forms:
             rows = [f"exec {it} {call}" for it in accounts]
             said = " and ".join(f"`{it}`" for it in rows)
             yield Slip((self.row.at, self.row.end, "\n".join(rows)), f"write {said}, each on a line of its own")
+        processes = self.codes.processes if self.codes else {}
+        is_other = mark.text in processes and before.text not in processes and before.text not in self.made()
+        if self.wanted == {"("} and is_other and behind.text == "(":
+            yield Slip((before.at, mark.at, ""), f"take `{before.text}` out")
         if self.wanted == {"("} and before.text in self.made() and mark.kind == "word" and behind.text == "(":
             inside = joined(self.tokens[self.count + 2 :])[:-1].rstrip()
             sign = "; " if ";" not in inside else " " if inside[-1] == ";" else ", "
             mend = f"take `{before.text}` out, and write it among the names of contracts, behind the `;`"
             yield Slip((before.at, self.row.end, f"{mark.text}({inside}{sign}{before.text})"), mend)
+
+    def of_calls(self):
+        """A line that is written like a call, and one whose first words have changed places."""
+        mark, texts = self.marked, [it.text for it in self.tokens]
+        if self.tokens[0].text == "exec" and self.count == 1 and mark.text == "(" and texts[-1] == ")":
+            parts = [it for it in self.tokens[2:-1] if it.text not in ",;"]
+            names = [it.text for it in parts[2:] if it.kind == "word" and it.text not in ("true", "false")]
+            values = [it.text for it in parts[2:] if it.text not in names]
+            if len(parts) > 1:
+                new = f"exec {parts[0].text} {parts[1].text}({', '.join(values)}; {', '.join(names)})"
+                new = new.replace("; )", ";)")
+                yield Slip((self.row.at, self.row.end, new), f"write `{new}`")
+        if not self.count and mark.kind == "word" and texts[1:2] and distance(texts[1], "deposit") < 3:
+            new = f"deposit {mark.text} {joined(self.tokens[2:])}".strip()
+            yield Slip((self.row.at, self.row.end, new), f"write `{new}`")
+        payers = self.script.accounts(self.row.number)
+        if not self.count and texts[1:2] == ["."] and mark.text in self.made() and texts[3:4] == ["("] and payers:
+            inside = joined(self.tokens[4 : self.closing(3)]).rstrip("; ")
+            new = f"{texts[2]}({inside}; {mark.text})"
+            mend = f"write `exec .. {new}`, with the account that pays"
+            if len(payers) == 1:
+                mend = f"write `exec {payers[0]} {new}`"
+            yield Slip((self.row.at, self.row.end, f"exec {payers[0]} {new}"), mend)
+        if not self.count and texts[1:2] == ["exec"] and mark.text in self.accounts():
+            new = f"exec {mark.text}"
+            yield Slip((mark.at, self.tokens[1].end, new), f"write `{new}` in place of `{mark.text} exec`")
+
+    def of_brackets(self):
+        """Arguments in other brackets, or in none, lists without commas, and signs that stand twice or at an end."""
+        mark, before = self.marked, self.at(-1)
+        texts = [it.text for it in self.tokens]
+        signs = {"{": "}", "[": "]", "<": ">"}
+        if self.wanted == {"("} and signs.get(mark.text) == texts[-1]:
+            new = f"({joined(self.tokens[self.count + 1 : -1])})"
+            mend = f"write `(` and `)` in place of `{mark.text}` and `{texts[-1]}`"
+            yield Slip((mark.at, self.row.end, new), mend)
+        is_ended = mark.text == ";" and mark is self.tokens[-1]
+        if self.wanted == {"("} and (not mark.kind or is_ended):
+            slip = self.of_no_arguments()
+            yield slip._replace(edit=(slip.edit[0], self.row.end, slip.edit[2]))
+        if mark.text in (",", ";", ")") and before.text in (",", ";") and mark.text + before.text != ");":
+            it = before if mark.text == ")" else mark
+            yield Slip((it.at, it.end, ""), f"take this `{it.text}` out")
+        if mark.text == ";" and ";" in texts[: self.count] and before.kind == "word":
+            mend = "write `,` in place of this `;`, since one alone parts values and names"
+            yield Slip((mark.at, mark.end, ","), mend)
+        if mark.text == "(" and "(" in texts[: self.count] and "NUMBER" in self.wanted:
+            end = self.tokens[self.closing(self.count)]
+            old = self.script.text[mark.at : end.end]
+            yield Slip((mark.at, end.end, f"[{old[1:-1]}]"), f"write `[{old[1:-1]}]` in place of `{old}`")
+        opening = next((at for at in range(self.count - 1, 0, -1) if texts[at] in ("[", "]")), 0)
+        closing = next((at for at in range(self.count, len(texts)) if texts[at] in ("[", "]")), 0)
+        if texts[opening] == "[" and closing and texts[closing] == "]":
+            parts = [it for it in texts[opening + 1 : closing] if it not in (",", ";")]
+            new = f"[{', '.join(parts)}]".replace("-, ", "-")
+            old = joined(self.tokens[opening : closing + 1])
+            yield Slip((self.tokens[opening].at, self.tokens[closing].end, new), f"write `{new}` in place of `{old}`")
+
+    def of_no_arguments(self):
+        """A process without parentheses, which go behind its name."""
+        name = self.at(-1)
+        process = self.codes.processes.get(name.text) if self.codes else None
+        parameters = process.parameters if process else []
+        if not parameters:
+            return Slip((name.end, name.end, "(;)"), f"write `(;)` behind `{name.text}`")
+        rows = [[it for it in parameters if (it.kind == "channel") == is_channel] for is_channel in (False, True)]
+        said = f"({'..' if rows[0] else ''};{' ..' if rows[1] else ''})"
+        values = ", ".join({"int": "0", "bool": "true"}.get(it.type, "[]") for it in rows[0])
+        new = f"({values}; {', '.join('x' for _ in rows[1])})"
+        listed = ", ".join(f"`{it.name}: {it.type}`" for it in parameters)
+        return Slip((name.end, name.end, new), f"write `{said}` behind `{name.text}`, where {listed} stand")
 
     def of_lists(self):
         """A list that is written as in a contract, with `::` and `nil`."""
@@ -169,7 +315,8 @@ class Forms:
         if before.kind != "number" or mark.text not in (",", "_", "'", *ADDED) and mark.kind != "word":
             return
         parts = [it for it in self.tokens[self.count - 1 :] if it.at >= before.at]
-        end = next((at for at in range(1, len(parts)) if parts[at].at != parts[at - 1].end), len(parts))
+        ends = (at for at in range(1, len(parts)) if parts[at].at != parts[at - 1].end or parts[at].text in ";)]")
+        end = next(ends, len(parts))
         said = joined(parts[:end])
         new = in_digits(said) if PARTED.fullmatch(said) else ""
         if mark.text not in ADDED and new:

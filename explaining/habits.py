@@ -123,6 +123,7 @@ class Habits(Wordings):
             mend = f"write `int`, or another kind of values, behind `{before.text}`"
             yield Slip("Syntax", mend, (before.end, before.end, " int"))
         if self.wanted == {"nil"} and before.text == "{":
+            yield from self.of_first_branch()
             close = "close" if self.is_code(-3) else "0"
             yield Slip("Syntax match", "", (mark.at, mark.at, f"nil => {close} | "))
         if "else" in self.wanted:
@@ -134,9 +135,18 @@ class Habits(Wordings):
             mend = "write `{ .. } else { .. }` in place of `then .. else ..`, since these are instructions"
             yield Slip("Syntax else", mend, (mark.at, mark.end, " { "))
 
+    def of_first_branch(self):
+        """The two branches of a `match` the other way round."""
+        start, bar = self.index, self.apart(self.index, ("|", "}"))
+        end = self.apart(bar + 1, ("|", "}"))
+        if self.text_at(bar) == "|" and self.text_at(bar + 1) == "nil" and self.text_at(end) == "}":
+            first, second = joined(self.tokens[start:bar]), joined(self.tokens[bar + 1 : end])
+            edit = (self.tokens[start].at, self.tokens[end - 1].end, f"{second} | {first}")
+            yield Slip("Syntax match", "let the two branches change places, since that of `nil` comes first", edit)
+
     def of_kinds(self):
         """Slips where a kind or a type is written where none is, or none where one is."""
-        mark, before = self.marked, self.token(-1)
+        mark, before, behind = self.marked, self.token(-1), self.token(1)
         end = next((it for it in self.tokens[self.index :] if it.text in ("=", ";")), None)
         binds = self.token(-2).text in ("let", "spawn") or self.token(-3).text in ("take", "recv")
         if mark.text == ":" and end and binds:
@@ -148,6 +158,9 @@ class Habits(Wordings):
             is_term = self.tokens[0].text == "fn"
             what = "`: int`, or another kind of values," if is_term else "`:` and the type that is offered"
             yield Slip("Syntax", f"write {what} before this `=`", (mark.at, mark.at, ": int " if is_term else ": 1 "))
+        is_kind = behind.text in (*KINDS, *ELSEWHERE) or self.is_declared(behind.text, "type")
+        if mark.kind == "word" and ":" in self.wanted and before.text in (")", "}") and is_kind:
+            yield Slip("Syntax", f"write `:` in place of `{mark.text}`", (mark.at, mark.end, ":"))
         if self.wants("vtype") and mark.text in ELSEWHERE:
             mend = f"write `{ELSEWHERE[mark.text]}` in place of `{mark.text}`"
             yield Slip("Syntax spelling", mend, (mark.at, mark.end, ELSEWHERE[mark.text]))
@@ -183,7 +196,7 @@ class Habits(Wordings):
         mark, before, behind = self.marked, self.token(-1), self.token(1)
         end = self.closing(0, "(", ")")
         if mark.text == "(" and behind.text != ")" and before.kind == "word" and self.token(-2).text == ".":
-            yield Slip("Syntax sent", "", (mark.at, end.end, ""))
+            yield from self.of_sent(end)
         if mark.text == "(" and before.text in WORDS:
             inside = self.text.text[mark.end : end.at].replace(",", " ")
             yield Slip("Syntax", "take the parentheses and the commas out", (mark.at, end.end, f" {inside} "))
@@ -195,6 +208,34 @@ class Habits(Wordings):
             yield self.of_dotted()
         if mark.kind == "word" and self.wanted == {"("} and self.is_declared(mark.text, "proc"):
             yield Slip("Syntax", f"take `{before.text}` out", (before.at, mark.at, ""))
+
+    def of_sent(self, end):
+        """A label with what is sent behind it between parentheses, up to the one that closes them."""
+        via, label, row = self.token(-3), self.token(-1), "Syntax sent"
+        last = self.text.index_at(end.at) - self.text.index_at(self.marked.at)
+        parts, start = [], self.index + 1
+        while start < self.index + last:
+            stop = min(self.apart(start, (",", ";")), self.index + last)
+            parts.append(self.tokens[start:stop])
+            start = stop + 1
+        parts = [it for it in parts if it]
+        words = ["send" if len(it) == 1 and self.is_channel(it[0].text) else "put" for it in parts]
+        new = f"{via.text}.{label.text}"
+        new += "".join(f"; {word} {via.text} {joined(it)}" for word, it in zip(words, parts))
+        if via.kind == "word":
+            old = self.text.text[via.at : end.end]
+            yield Slip(row, f"write `{new}` in place of `{' '.join(old.split())}`", (via.at, end.end, new))
+        yield Slip(row, "", (self.marked.at, end.end, ""))
+
+    def is_channel(self, name):
+        """Whether a name is bound as a channel before the offence, in the head or by an instruction."""
+        words = [it.text for it in self.tokens[: self.index]]
+        body = words.index("=") if "=" in words else len(words)
+        for at in (at for at, it in enumerate(words) if it == name and at > 2):
+            is_parameter = at < body and words[at + 1] == ":" and ";" in words[:at]
+            if is_parameter or words[at - 1] in ("spawn", "as") or words[at - 2] == "recv":
+                return True
+        return False
 
     def of_dotted(self):
         """An instruction that is written as a label of its channel."""
@@ -237,7 +278,7 @@ class Habits(Wordings):
         """A list that is written between brackets."""
         end = self.closing(0, "[", "]")
         parts = [it.strip() for it in self.text.text[self.marked.end : end.at].split(",")]
-        kinds = {"int" if it.isdecimal() else "bool" if it in ("true", "false") else "" for it in parts if it}
+        kinds = {"int" if it.isdecimal() else "bool" if it in ("true", "false") else "" for it in parts if it} - {""}
         kind = kinds.pop() if len(kinds) == 1 else ""
         new = " :: ".join([it for it in parts if it] + [f"nil {kind or 'int'}"])
         yield Slip("Syntax list", f"write `{new}`" if kind else "", (self.marked.at, end.end, new))
@@ -273,6 +314,8 @@ class Habits(Wordings):
             if mark.kind == "word" and self.is_label(before.text):
                 new = f"{mark.text}.{before.text}"
                 yield Slip(row, f"write `{new}` in place of `{before.text} {mark.text}`", (before.at, mark.end, new))
+            if mark.text in ("+", "-") and behind.text == mark.text:
+                yield self.of_counted(mark.text)
             if mark.text in ("+", "-", "*", "/") and behind.text == "=":
                 yield self.of_written("let", f"{before.text} {mark.text} ")
             if mark.kind == "word" and behind.text == "=":
@@ -302,6 +345,17 @@ class Habits(Wordings):
         mend = f"write `{said}` in place of `{old}`{words}"
         return Slip("Syntax instruction", mend, (before.at, start.at, f"{word} {new} = {part}"), edits, (see,))
 
+    def of_counted(self, sign):
+        """A name that is counted up or down by two signs behind it."""
+        name, end = self.token(-1), self.token(1).end
+        new = fresh(self.text, name.text)
+        edits, where = renaming(self.text, self.text.index_at(name.at), new)
+        words = f", and `{new}` in place of `{name.text}` at {where}" if edits else ""
+        said = f"let {new} = {name.text} {sign} 1"
+        mend = f"write `{said}` in place of `{name.text}{sign}{sign}`{words}"
+        see = f"see: `{name.text}` itself stays what it was, since a name never changes its value"
+        return Slip("Syntax instruction", mend, (name.at, end, said), edits, (see,))
+
     def is_last(self):
         """Whether what stands in the parentheses at the offence is the end of a code."""
         end = self.closing(0, "(", ")")
@@ -316,6 +370,8 @@ class Habits(Wordings):
         mark = self.marked
         if not self.wanted == {"else"}:
             yield Slip("Syntax else", "", (mark.at, mark.at, " else 0 "))
+        elif mark.text in ("elif", "elsif", "elseif") or mark.text == "if":
+            yield from self.of_else_if()
         elif self.begins_instruction():
             heads = [at for at, it in enumerate(self.tokens) if at > self.index and it.text in HEADS]
             last = self.tokens[heads[0] - 1] if heads else self.tokens[-1]
@@ -324,6 +380,21 @@ class Habits(Wordings):
             yield Slip("Syntax else", mend, (mark.at, last.at, f"else {{ {inside} }}"))
         elif mark.text in (";", "}", "|"):
             yield Slip("Syntax else", "", (mark.at, mark.at, " else { close } "))
+
+    def of_else_if(self):
+        """A choice of several, in which what comes behind an `else` is an `if` without braces of its own."""
+        last = last_at = self.index
+        while self.text_at(last) not in ("{", "") and last < len(self.tokens):
+            last += 1
+        while self.text_at(last) == "{":
+            last = last_at = self.tokens.index(self.closing(last - self.index, "{", "}"))
+            if self.text_at(last + 1) in ("elif", "elsif", "elseif", "else"):
+                while self.text_at(last) not in ("{", "") and last < len(self.tokens):
+                    last += 1
+        mark, end = self.marked, self.tokens[min(last_at, len(self.tokens) - 1)]
+        inside = self.text.text[mark.end : end.end]
+        mend = f"write `else {{ if` in place of `{mark.text}`, and a `}}` behind the `}}` at {self.text.place(end.at)}"
+        yield Slip("Syntax else", mend, (mark.at, end.end, f"else {{ if{inside} }}"))
 
     def is_declared(self, name, word):
         """Whether a declaration that begins with this word has a name."""

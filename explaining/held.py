@@ -92,6 +92,11 @@ class Types(Codes):
     def unfolded(self, it):
         return self.bodies[self.name(it)] if it.sign == "name" else it
 
+    def amount(self, it):
+        """Gives the amount that a type names which pays or is paid: a number, or a star."""
+        at = next(at for at in range(it.at, it.end) if self.tokens[at].text != "(")
+        return self.tokens[at + 2].text
+
     def is_shared(self, it):
         return it.sign == "up" or it.sign == "name" and self.name(it) in self.shared
 

@@ -1,5 +1,6 @@
 """Which part of a term is of another kind than its place wants: other terms are tried in its place on the program."""
 
+from .amounts import closing
 from .arguments import taken
 from .codes import Parameter
 from .mends import mend
@@ -9,6 +10,9 @@ from .texts import LONGEST, joined
 OTHERS = (("0", "a number"), ("true", "a truth value"), ("nil int", "a list"))
 KINDS = ("int", "bool", "list int", "list bool")
 MOST_PARTS = 20
+MOST_FUNCTIONS = 4
+# What stands before a truth value that is compared with one of these.
+TRUTHS = {"1": "", "true": "", "0": "not ", "false": "not "}
 
 
 def parts(names, start, end):
@@ -19,9 +23,55 @@ def parts(names, start, end):
             yield names.tokens[at]
 
 
+def truths(names, start, end):
+    """Gives what a truth value is compared with between two tokens as if it were a number, in other words: an edit, and
+    what it is in words."""
+    tokens = names.tokens
+    for at in range(start + 1, end - 1):
+        pair = tokens[at - 1], tokens[at + 1]
+        known = [it for it in pair if it.text in TRUTHS]
+        others = [it for it, place in zip(pair, (at - 1, at + 1)) if names.used(place) == "value"]
+        if tokens[at].text == "=" and names.leaves[at].rule == "cmp" and len(known) == len(others) == 1:
+            new = f"{TRUTHS[known[0].text]}{others[0].text}"
+            old = joined(tokens[at - 1 : at + 2])
+            yield (pair[0].at, pair[1].end, new), f"write `{new}` in place of `{old}`"
+
+
+def operands(names, start, end):
+    """Gives the tokens of each part that an `and` or an `or` joins between two tokens, outside of parentheses."""
+    rows, depth = [[]], 0
+    for it in names.tokens[start:end]:
+        depth += (it.text == "(") - (it.text == ")")
+        if depth == 0 and it.text in ("and", "or"):
+            rows.append([])
+        else:
+            rows[-1].append(it)
+    return [it for it in rows if it] if len(rows) > 1 else []
+
+
+def functions(names, start, end):
+    """Gives the functions of one value, each given a variable between two tokens: an edit, and what it is in words."""
+    tokens = names.tokens
+    ones = [tokens[at + 1].text for at, it in enumerate(tokens) if it.text == "fn" and len(inside(names, at + 2)) == 1]
+    for at in range(start, end):
+        if names.used(at) == "value" and names.leaves[at].rule == "prim" and tokens[at].text != "me":
+            for one in ones[:MOST_FUNCTIONS]:
+                new = f"{one}({tokens[at].text})"
+                edit = (tokens[at].at, tokens[at].end, new)
+                yield edit, f"write `{new}` in place of `{tokens[at].text}` at {names.text.place(tokens[at].at)}"
+
+
 def other_parts(names, start, end, goes_on):
     """Gives lines on the parts of the terms between two tokens of which a term of another kind lets the check go on."""
-    found = []
+    tries = [*truths(names, start, end), *functions(names, start, end)]
+    found = [mend(words, edit) for edit, words in tries if goes_on(edit)]
+    if found:
+        return found[:3]
+    for it in operands(names, start, end):
+        edit = (it[0].at, it[-1].end, "true")
+        if len(it) > 1 and goes_on(edit) and len(found) < 3:
+            where = f"in place of `{joined(it)}` at {names.text.place(it[0].at)}"
+            found.append(mend(f"write a truth value {where}", edit))
     for it in list(parts(names, start, end))[:MOST_PARTS]:
         tried = [((it.at, it.end, new), said) for new, said in OTHERS]
         does = [(edit, said) for edit, said in tried if goes_on(edit)]
@@ -55,6 +105,15 @@ def miscounted(names, start, end):
         place = next(it for it, kind in names.places(names.tokens[at].text) if kind == "function")
         rows = [[names.tokens[it] for it in row] for row in inside(names, place + 1)]
         wanted, given = [Parameter(it[0].text, "value", joined(it[2:])) for it in rows], len(inside(names, at + 1))
+        missing = [it.name for it in wanted[given:]]
+        bound = [it for it in range(start) if names.declared(it) == "value" and names.leads(it, start)]
+        known = [names.tokens[it].text for it in bound]
+        if missing and set(missing) <= set(known):
+            close = closing(names.tokens, at + 1)
+            old = names.text.text[names.tokens[at].at : names.tokens[close].end]
+            new = f"{old[:-1].rstrip()}{', ' if given else ''}{', '.join(missing)})"
+            edit = (names.tokens[at].at, names.tokens[close].end, new)
+            lines.append(mend(f"write `{new}` in place of `{old}`", edit))
         if len(wanted) != given:
             where = f"`{names.tokens[at].text}` is called at {names.text.place(names.tokens[at].at)}"
             lines.append(f"see: {where}, and {taken(wanted, given, 'value')}")

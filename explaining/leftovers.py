@@ -1,7 +1,13 @@
-"""Gas that a contract is paid, does not spend, and never gives back: a remark on a contract that is accepted."""
+"""Gas that a contract is paid and neither spends nor pays on, so that no transaction takes it out again: a remark on a
+contract that is accepted.
+
+What a shared process has left where it detaches stays in its purse for ever: with one unit more spent there, all that
+it spends and pays behind that is still paid for.
+"""
+from .codes import Codes
 from .found import Found
-from .held import Types
 from .names import MOST_TOKENS
+from .rows import star_places
 from .texts import LONGEST
 
 # How many places are tried, and what is put there: where that much more may be spent, as much is left.
@@ -10,43 +16,55 @@ MORE = "work {1}; "
 
 
 def is_paid(text):
-    """Whether a type of a text has the client pay."""
-    pairs = zip(text.tokens, text.tokens[1:])
-    return any((it.text, behind.text) == ("<", "{") for it, behind in pairs)
+    """Whether a type of a text has the client pay, or a shared process is given gas when it is made."""
+    tokens = text.tokens
+    pairs = zip(tokens, tokens[1:])
+    is_client = any((it.text, behind.text) == ("<", "{") for it, behind in pairs)
+    heads = [at for at, it in enumerate(tokens) if it.text == "proc" and tokens[at + 1].text in ("S", "L")]
+    ends = [next(it for it in range(at, len(tokens)) if tokens[it].text == ")") for at in heads]
+    return is_client or any(tokens[at + 1].text == "{" for at in ends)
 
 
-def gives_back(types, it, seen):
-    """Whether a type, or one that the talk comes to behind it, has the provider pay."""
-    if it.sign == "|":
-        return True
-    if it.sign == "name":
-        name = types.name(it)
-        return name not in seen and gives_back(types, types.bodies[name], seen | {name})
-    parts = [part[1] for part in it.parts] if it.sign in ("+", "&") else it.parts
-    return any(gives_back(types, part, seen) for part in parts)
+def written(text, answer):
+    """Gives edits by which each amount that is open is written as it was found, or nothing where one is no whole
+    number of units."""
+    found = [it[3] for it in answer.lines if it[:1] == ["star"]]
+    places = star_places(text)
+    if len(found) != len(places) or not all(it.isdecimal() for it in found):
+        return None
+    return [(at, at + 1, new) for at, new in zip(places, found)]
 
 
-def places(types):
-    """Gives the tokens at which a shared process detaches whose type gives nothing back."""
-    for process in types.processes.values():
-        held = types.start(process) if process.mode == "S" else {}
-        if "self" in held and not gives_back(types, held["self"].type, frozenset()):
-            end = next((at for at in range(process.at, len(types.tokens)) if types.tokens[at].text == "proc"), None)
-            for at in range(process.at, end or len(types.tokens)):
-                if types.tokens[at].text == "detach":
-                    yield at, process
+def charges(codes):
+    """Gives edits by which the cost model is written out."""
+    if codes.model == "ticks":
+        return []
+    head = codes.tokens[0].at, codes.tokens[2].end, ""
+    return [head, *((at, at, MORE) for at in sorted(codes.charged()))]
+
+
+def places(codes):
+    """Gives the tokens at which a shared process detaches, and at which it goes on before it accepted anybody, with the
+    process and the instruction."""
+    for process in codes.processes.values():
+        waiting = [(process.first, True)] if process.mode in ("S", "L") else []
+        while waiting:
+            step, is_new = waiting.pop()
+            if step.form == "detach" or step.form == "call" and is_new and process.mode == "S":
+                yield step.at, process
+            waiting += [(further, is_new and step.form != "accept") for _, further in step.behind]
 
 
 def explained(text, answer, program, grammar):
-    """Gives what is found of an accepted contract whose amounts are all written: the first such place."""
-    is_open = any(it[:1] == ["star"] for it in answer.lines)
-    if is_open or not is_paid(text) or text.size > LONGEST or len(text.tokens) > MOST_TOKENS:
+    """Gives what is found of an accepted contract: the first such place."""
+    if not is_paid(text) or text.size > LONGEST or len(text.tokens) > MOST_TOKENS:
         return []
-    types = Types(text, grammar)
-    for at, process in list(places(types))[:MOST_TRIED] if types.model == "ticks" else ():
-        token = types.tokens[at]
-        if program.check(text.edited((token.at, token.at, MORE))).is_accepted:
-            back = f"and `{process.offers}` has no `|{{..}}>` that gives it back"
-            lines = [f"see: what is left here is at least 1 unit, {back}"]
-            return [Found(text, token.at, "remark", "remark", lines, answer.words)]
+    codes, edits = Codes(text, grammar), written(text, answer)
+    if edits is None:
+        return []
+    for at, process in sorted(places(codes), key=lambda it: it[0])[:MOST_TRIED]:
+        token = codes.tokens[at]
+        if program.check(text.edited(*edits, *charges(codes), (token.at, token.at, MORE))).is_accepted:
+            see = f"see: what is left here is at least 1 unit, and `{process.name}` neither spends it nor pays it on"
+            return [Found(text, token.at, "remark", "remark", [see], answer.words)]
     return []

@@ -1,5 +1,6 @@
 """What ends by a mend without anybody who gets it, and instructions that give it to somebody instead."""
 from .mends import says
+from .passing import separated
 from .renamed import fresh
 from .texts import tokens_of
 
@@ -78,8 +79,8 @@ class Keeping:
             yield f"fwd {left[0]}"
 
     def given(self, process):
-        """Gives the values and the channels that a process may be given: those of the same names where there are some,
-        or else those that a call here gives already; nothing where they do not fit."""
+        """Gives the values and the channels that a process may be given: the values that the call here gives, where it
+        takes such, or else those of the same names; nothing where they do not fit."""
         left, channels = list(self.held), []
         for it in process.of_kind("channel"):
             fits = [name for name in left if name != "self" and self.said(self.held[name].type) == it.type]
@@ -89,10 +90,20 @@ class Keeping:
             if not self.types.is_shared(self.held[channels[-1]].type):
                 left.remove(channels[-1])
         values = [it for it in process.parameters if it.kind == "value"]
-        known = [it.name for it in values if it.name in self.values]
+        known = self.called([it.type for it in values]) or [it.name for it in values if it.name in self.values]
         if len(known) < len(values) or set(self.left) & set(left):
             return None
         return known, channels
+
+    def called(self, kinds):
+        """Gives the values of a call that is stuck, where its process takes values of these kinds."""
+        tokens, at = self.types.tokens, self.step.at
+        other = self.types.processes.get(tokens[at + 1].text) if self.step.form == "call" else None
+        if not kinds or other is None or [it.type for it in other.parameters if it.kind != "channel"] != kinds:
+            return []
+        sign = next(place for place in range(at, self.step.end) if tokens[place].text == ";")
+        given = [self.types.said(start, end) for start, end in separated(tokens, at + 3, sign)]
+        return given if len(given) == len(kinds) else []
 
     def sends(self):
         """Gives rows of instructions that send an asset over another channel, whose talk takes one of its type."""
@@ -105,6 +116,18 @@ class Keeping:
                 else:
                     for code, _ in self.talks(asset, name, it.type, DEEP):
                         yield asset, code
+
+    def takers(self):
+        """Gives lines on the contracts that are held and take an asset, and then say what becomes of it."""
+        known = {self.said(it.type): (name, it) for name, it in reversed(self.held.items())}
+        for asset in self.assets:
+            for name, it in reversed(known.values()):
+                body = self.types.unfolded(it.type)
+                new = fresh(self.types.text, name)
+                for code, end in self.talks(asset, new, body.parts[-1], DEEP) if body.sign == "up" else ():
+                    if end.sign == "+":
+                        says = " or ".join(f"`{label}`" for label, _ in end.parts)
+                        yield f"see: `{name}` takes it: `acquire {name} as {new}; {code}`, and then it says {says}"
 
     def stored(self, asset, name, it):
         """Gives such rows for a contract, which is acquired for that and released behind it."""
@@ -129,7 +152,80 @@ class Keeping:
         elif whole.sign in ("<", "|"):
             word = "pay" if (whole.sign == "|") == is_self else "get"
             for code, end in self.talks(asset, name, whole.parts[-1], deep - 1):
-                yield f"{word} {name} {{*}}; {code}", end
+                yield f"{word} {name} {{{self.types.amount(whole)}}}; {code}", end
+
+    def returned(self, process):
+        """Gives edits by which an asset goes back to the client that it came from: one channel more in the type that
+        `self` is at, and a `send` there. What the process had before is not given to a client by this."""
+        found = None
+        for step, held in self.way(process):
+            own = held.get("self")
+            if own and own.type != own.first and not self.types.is_shared(own.type):
+                found = step, held
+        for asset in self.assets if found else ():
+            step, held = found
+            bound = self.held[asset].bound
+            is_given = [it.text for it in self.types.tokens[bound - 2 : bound]] == ["recv", "self"]
+            if is_given and asset in held and held[asset].type == self.held[asset].type:
+                yield asset, *self.sending(asset, step, held["self"].type)
+
+    def relabelled(self, process):
+        """Gives in words, and as edits, another label in place of the last one that `self` sent, whose talk sends what
+        is held, with the instructions for that before the stuck one."""
+        said = None
+        for step, held in self.way(process):
+            words = [it.text for it in self.types.tokens[step.at : step.at + 3]]
+            if step.form == "label" and words[0] == "self":
+                said = step, self.types.unfolded(held["self"].type), words[2]
+            elif step.at != self.step.at and words[1:2] == ["self"]:
+                said = None
+        if said is None:
+            return
+        step, whole, label = said
+        token, at = self.types.tokens[step.at + 2], self.types.tokens[self.step.at].at
+        for other, it in whole.parts if whole.sign == "+" else ():
+            code = self.ending(it, DEEP) if other != label else None
+            if code:
+                place = self.types.text.place(token.at)
+                gets = ", ".join(f"`{asset}`" for asset in self.assets if f" {asset};" in code)
+                words = f"write `{other}` in place of `{label}` at {place}, and `{code}` before it"
+                words = f"{words}; the client gets {gets}"
+                yield words, ((token.at, token.end, other), (at, at, f"{code} "))
+
+    def ending(self, it, deep):
+        """Gives the instructions by which a talk of `self` at a type sends what is held and comes to its end, with
+        something sent at least; nothing where that is not all it wants."""
+        whole, left, codes = self.types.unfolded(it), list(self.assets), []
+        while whole.sign == "*" and deep:
+            wanted = self.said(whole.parts[0])
+            fits = [asset for asset in left if self.said(self.held[asset].type) == wanted]
+            if not fits:
+                return ""
+            left.remove(fits[0])
+            codes.append(f"send self {fits[0]};")
+            whole, deep = self.types.unfolded(whole.parts[-1]), deep - 1
+        return " ".join(codes) if whole.sign in ("down", "1") else ""
+
+    def way(self, process):
+        """Gives the instructions up to the stuck one, each with what is held there."""
+        steps, stuck = self.types.ways(process, self.step.at)
+        held = self.types.start(process)
+        for step, label in steps:
+            yield step, dict(held)
+            self.types.behind(held, step, label)
+        yield stuck, held
+
+    def sending(self, asset, step, it):
+        """Gives in words, and as edits, a `send` before an instruction, and what is sent in the type there."""
+        types, text = self.types, self.types.text
+        carried = self.said(self.held[asset].type)
+        if self.held[asset].type.sign not in ("1", "name", "+", "&") and not carried.startswith("("):
+            carried = f"({carried})"
+        start, at = types.tokens[it.at].at, types.tokens[step.at].at
+        words = f"write `{carried} *` before `{types.tokens[it.at].text}` at {text.place(start)}, in the type, and "
+        where = "it" if step.at == self.step.at else f"`{types.tokens[step.at].text}` at {text.place(at)}"
+        words += f"`send self {asset};` before {where}"
+        return words, ((at, at, f"send self {asset}; "), (start, start, f"{carried} * "))
 
 
 def values_of(names, head, index):

@@ -3,7 +3,7 @@ from .amounts import closing
 from .mends import mend, says
 from .renamed import fresh, renaming
 from .syntax import nearest
-from .texts import joined
+from .texts import joined, listed
 
 # What a leaf NAME of the grammar is, by its rule and by which NAME of that rule it is.
 DECLARED = {
@@ -25,6 +25,8 @@ USED = {
 SPACES = ("definition", "function", "process")
 SHOWN = {"list": "a list that carries potential"}
 MOST_TOKENS = 20_000
+# How many channels are tried for one of another name.
+MOST_BOUND = 6
 
 
 def said(kind):
@@ -153,6 +155,10 @@ def others(names, at, other):
         term = joined(tokens[start : at - 1])
         said = f"write `list {term}, {token.text}` in place of `{term} :: {token.text}`"
         yield (tokens[start].at, token.end, f"list {term}, {token.text}"), said
+    if other == "function" and names.used(at) == "process" and words[2:3] == ["call"]:
+        yield from called(names, at)
+    if other is None and names.used(at) == "channel":
+        yield (token.at, token.end, "self"), f"write `self` in place of `{token.text}`"
     if other == "process" and names.used(at) == "function" and (words[0:1], words[2:3]) == (["let"], ["="]):
         end = closing(tokens, at + 1)
         call = f"{token.text}({joined(tokens[at + 2 : end])};)"
@@ -161,6 +167,19 @@ def others(names, at, other):
     if other == "function" and names.used(at) == "value":
         yield (token.at, token.end, f"{token.text}()"), f"write `{token.text}()` in place of `{token.text}`"
     yield from sent(names, at, other)
+
+
+def called(names, at):
+    """Gives an edit where a process goes on as a function: it goes on as itself, with what the function gives."""
+    tokens, token, end = names.tokens, names.tokens[at], closing(names.tokens, at + 1)
+    head = next(before for before in range(at, 0, -1) if tokens[before].text == "proc")
+    term = f"{token.text}({joined(tokens[at + 2 : end - 1])})" if tokens[end - 1].text == ";" else ""
+    values = [it for it in range(head, at) if names.key(it) in (("vpar", 0), ("par", 0))]
+    channels = [tokens[it].text for it in range(head, at) if names.key(it) == ("cpar", 0)]
+    if term and len(values) == 1:
+        new = f"call {tokens[head + 2].text}({term};{' ' if channels else ''}{', '.join(channels)})"
+        old = joined(tokens[at - 1 : end + 1])
+        yield (tokens[at - 1].at, tokens[end].end, new), f"write `{new}` in place of `{old}`"
 
 
 def sent(names, at, other):
@@ -195,7 +214,8 @@ def mended(names, at, other, program):
         is_behind = is_stuck and is_past(after, edit, names.tokens[at])
         if after.is_accepted or after.is_cause("NoPotential") or is_behind:
             found.append(mend(words, edit))
-    return found[:3]
+    sure = [it for it in found if not it.startswith("mend: write `self` in place of ")]
+    return (sure or found)[:3]
 
 
 def another(names, at):
@@ -207,6 +227,45 @@ def another(names, at):
     edits, where = renaming(text, at, new)
     words = f"write `{new}` in place of `{token.text}`{f', here and at {where}' if edits else ''}"
     return mend(words, (token.at, token.end, new), *edits)
+
+
+def acquired(names, at, program):
+    """Gives lines on the contracts that are known here, one of which is acquired under this name before the
+    instruction, where the check goes on past that then."""
+    text, tokens, token = names.text, names.tokens, names.tokens[at]
+    if names.used(at) != "channel":
+        return []
+    start = next(place for place in range(at, 0, -1) if tokens[place - 1].text in (";", "{", "=>", "="))
+    known = [it.text for place, it in enumerate(tokens[:start])
+             if names.declared(place) == "channel" and names.leads(place, start)]
+    does = []
+    for name in list(dict.fromkeys(known))[:MOST_BOUND]:
+        new = f"acquire {name} as {token.text}; "
+        after = program.check(text.edited((tokens[start].at, tokens[start].at, new)))
+        is_past = (after.is_cause("Name") or after.is_cause("ProcType")) and after.offset > token.end + len(new)
+        if after.is_accepted or after.is_cause("NoPotential") or is_past:
+            does.append(mend(f"write `{new.strip()}` before `{tokens[start].text}`", (tokens[start].at,) * 2 + (new,)))
+    return does[:3]
+
+
+def bound_here(names, at, program):
+    """Gives a line on the one channel that is bound on the way here with which the check goes on past this name, here
+    and where it stands behind that."""
+    text, token = names.text, names.tokens[at]
+    if names.used(at) != "channel":
+        return []
+    known = [it.text for place, it in enumerate(names.tokens[:at])
+             if names.declared(place) == "channel" and names.leads(place, at)]
+    does = []
+    for name in list(dict.fromkeys(known[::-1]))[:MOST_BOUND]:
+        more, where = renaming(text, at, name)
+        edits = (token.at, token.end, name), *more
+        after = program.check(text.edited(*edits))
+        is_past = (after.is_cause("Name") or after.is_cause("ProcType")) and after.offset > token.at + len(name)
+        if after.is_accepted or after.is_cause("NoPotential") or is_past:
+            words = f"write `{name}` in place of `{token.text}`{f', here and at {where}' if more else ''}"
+            does.append(mend(words, *edits))
+    return does if len(does) == 1 else acquired(names, at, program)
 
 
 def explained(text, answer, program, grammar):
@@ -237,9 +296,14 @@ def explained(text, answer, program, grammar):
     if other:
         place, kind = text.place(text.tokens[other[0]].at), other[1]
         if kind == wanted:
-            return "Name scope", [f"see: `{token.text}` is bound at {place}"]
-        return "Name other", [f"see: `{token.text}` is {said(kind)}, by {place}, and {said(wanted)} is wanted here"]
+            return "Name scope", [*bound_here(names, at, program), f"see: `{token.text}` is bound at {place}"]
+        see = f"see: `{token.text}` is {said(kind)}, by {place}, and {said(wanted)} is wanted here"
+        return "Name other", [*bound_here(names, at, program), see]
     for name in names.near(at):
         if moves_on(name):
             return "Name near", [mend(says("near", name=name), (token.at, token.end, name))]
-    return "Name unknown", [f"see: {said(wanted)} is wanted here, and none has the name `{token.text}`"]
+    lines = [f"see: {said(wanted)} is wanted here, and none has the name `{token.text}`"]
+    known = [it.text for place, it in enumerate(names.tokens[:at])
+             if names.declared(place) == wanted == "value" and names.leads(place, at)]
+    lines += [f"see: the values that are known here are {listed(known)}"] if known else []
+    return "Name unknown", [*bound_here(names, at, program), *lines]

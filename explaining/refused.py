@@ -11,6 +11,8 @@ from .texts import Token, joined
 
 INSIDE, OUTSIDE = ("let", "exec", "end"), ("deposit", "let", "exec", "show", "begin")
 MOST_UNITS, MOST_NUMBER, MOST_BYTES, MOST_DEEP = 10**18, 2**63, 64, 64
+# Words between the parts of a line that say nothing by themselves.
+FILLING = ("by", "as", "from", "with", "for", "on", "to", "new", "let", "exec", "contract", "account")
 PUT_IN = {"NAME": "x", "NUMBER": "0", "N": "0"}
 
 
@@ -78,10 +80,14 @@ class Line(Forms):
         if self.count and not self.is_part():
             yield from self.of_sides()
             yield from self.of_signs()
-        if self.count and mark.kind not in ("", "number") and mark.text not in (".", "-"):
+        if not self.count and len(self.tokens) == 1 and mark.text not in INSIDE + OUTSIDE:
+            yield Slip((self.row.at, self.row.end, ""), "take this line out")
+        is_of_number = before.kind == "number" and before.end == mark.at and mark.kind == "word"
+        if self.count and mark.kind not in ("", "number") and mark.text not in (".", "-") and not is_of_number:
             yield Slip((mark.at, mark.end, ""), f"take `{mark.text}` out")
             yield Slip((mark.at, mark.end, "\n"), f"write what stands behind `{mark.text}` on another line")
             yield Slip((mark.at, self.row.end, ""), f"take what stands behind `{before.text}` out")
+        yield from self.of_parts()
 
     def of_starts(self):
         """Slips at the start of a line: what is left out there, or stands in another order."""
@@ -107,6 +113,33 @@ class Line(Forms):
         if self.wanted == {"new"} and behind.text == "(":
             yield Slip((mark.at, mark.at, "new x "), f"write `new ..` before `{mark.text}`, with the account that pays")
 
+    def of_parts(self):
+        """A line with all its parts, in another order: the account, the process with its arguments, and for a contract
+        its name, before a `=`."""
+        tokens, processes = self.tokens, self.codes.processes if self.codes else {}
+        found = [at for at, it in enumerate(tokens) if it.text in processes and self.text_of(at + 1) == "("]
+        accounts = [it.text for it in tokens if it.text in self.accounts()]
+        if len(found) != 1 or not accounts:
+            return
+        at, end = found[0], self.closing(found[0])
+        parts = re.split(r"[,;](?![^\[]*\])", joined(tokens[at + 2 : end]))
+        parts = [it.strip() for it in parts if it.strip()]
+        named = [it for it in parts if it[0].isalpha() and it not in ("true", "false")]
+        values = ", ".join(it for it in parts if it not in named)
+        call = f"{tokens[at].text}({values}; {', '.join(named)})".replace("; )", ";)")
+        mode = processes[tokens[at].text].mode
+        names = [before.text for before, it in zip(tokens, tokens[1:]) if it.text == "=" and before.kind == "word"]
+        names = [tokens[1].text] if tokens[0].text == "let" and tokens[1].kind == "word" else names
+        new = f"let {names[0]} = new {accounts[0]} {call}" if names else ""
+        new = f"exec {accounts[0]} {call}" if mode == "T" else new
+        said = {it.text for it in tokens if it.kind in ("word", "number")}
+        is_whole = said <= {*FILLING, *re.findall(r"\w+", new), *(it.offers for it in processes.values())}
+        if new and mode in "ST" and is_whole:
+            yield Slip((self.row.at, self.row.end, new), f"write `{new}`")
+
+    def text_of(self, at):
+        return self.tokens[at].text if at < len(self.tokens) else ""
+
     def makes(self, name):
         """Whether a process of this name makes a contract."""
         return self.codes is not None and name in self.codes.processes and self.codes.processes[name].mode == "S"
@@ -121,6 +154,15 @@ class Line(Forms):
         is_inside = before.kind == behind.kind == "number" and before.end == mark.at and mark.end == behind.at
         said = joined([it for it in self.tokens if before.at <= it.at and it.end <= self.number_end()])
         return is_inside and (mark.text == "." or mark.text == "," and not PARTED.fullmatch(said))
+
+    def of_part(self):
+        """Gives lines on a number that is not whole, and one by which it is, where behind its point stands nothing but
+        zeros."""
+        mark, before, behind = self.marked, self.at(-1), self.at(1)
+        edit = (before.at, behind.end, before.text)
+        is_whole = mark.text == "." and not behind.text.strip("0") and self.has_form(edit)
+        said = f"write `{before.text}` in place of `{before.text}.{behind.text}`"
+        return [*([mend(said, edit)] if is_whole else []), "see: numbers are whole"]
 
     def number_end(self):
         """Gives where the tokens end that stand behind the marked one without a blank."""
@@ -167,10 +209,10 @@ class Line(Forms):
 
     def of_parentheses(self):
         """Arguments without parentheses."""
-        rest = [it for it in self.tokens[self.count :] if it.text not in ",;"]
+        rest = [it for it in self.tokens[self.count :] if it.text not in ",;()"]
         names = [it.text for it in rest if it.kind == "word" and it.text not in ("true", "false")]
         values = [it.text for it in rest if it.text not in names]
-        new = f"({', '.join(values)}; {', '.join(names)})"
+        new = f"({', '.join(values)}; {', '.join(names)})".replace("; )", ";)")
         return Slip((self.at(-1).end, self.row.end, new), f"write `{self.at(-1).text}{new}`")
 
     def of_signs(self):
@@ -184,11 +226,11 @@ class Line(Forms):
 
     def mends(self):
         if self.is_part():
-            return ["see: numbers are whole"]
+            return self.of_part()
         if self.is_number():
             return self.of_digits()
         found = next((it for it in self.slips() if self.has_form(it.edit)), None)
-        return [mend(found.mend, found.edit)] if found else []
+        return [mend(found.mend, found.edit)] if found else self.instead()
 
     def said(self):
         """Gives a line on the tokens that may stand at the marked one."""
@@ -198,11 +240,45 @@ class Line(Forms):
     def of_batch(self):
         """Gives what is said of a line that has a form and may not stand here."""
         if self.row.word == "begin" and not self.is_inside and len(self.tokens) == 1:
-            return self.row.tokens[0].at, "script Syntax begin", []
+            return self.row.tokens[0].at, "script Syntax begin", self.closed()
         word = self.row.word
         if self.tokens and not self.count and word in INSIDE + OUTSIDE:
-            return self.tokens[0].at, "script Syntax batch", self.said()
+            return self.tokens[0].at, "script Syntax batch", [*self.parted(), *self.said()]
         return None
+
+    def closed(self):
+        """Gives a line on the `end` that a batch lacks, where all lines up to the last one may stand in it."""
+        last = [it for it in self.script.rows if it.tokens][-1]
+        edit = (last.end, last.end, "\nend")
+        does = self.goes_through(edit)
+        return [mend(f"write `end` on a line behind line {last.number}", edit)] if does else []
+
+    def parted(self):
+        """Gives a line on where this line stands instead: a deposit before the batch, a `show` or a `begin` behind it,
+        and an `end` nowhere."""
+        rows, line, row = self.script.rows, joined(self.tokens), self.row
+        begin = next((it for it in rows[: row.number][::-1] if it.word == "begin" and it is not row), None)
+        end = next((it for it in rows[row.number :] if it.word == "end"), None)
+        out = (row.at, min(row.end + 1, self.script.size), "")
+        tries = []
+        if row.word == "deposit" and begin:
+            said = f"write this line before the `begin` in line {begin.number}"
+            tries.append(((out, (begin.at, begin.at, f"{line}\n")), said))
+        if row.word == "show" and end:
+            said = f"write this line behind the `end` in line {end.number}"
+            tries.append(((out, (end.end, end.end, f"\n{line}")), said))
+        if row.word == "begin" and self.is_inside:
+            tries.append((((row.at, row.at, "end\n"),), "write `end` on a line before it"))
+        if row.word == "end":
+            tries.append(((out,), "take this `end` out, since no `begin` stands before it"))
+        return [mend(said, *edits) for edits, said in tries if self.goes_through(*edits)][:1]
+
+    def goes_through(self, *edits):
+        """Whether the program reads a script with edits, or refuses it behind this line."""
+        answer = self.program.run(b"", self.script.edited(*edits), seconds=5)
+        if answer is None:
+            return False
+        return answer.words[:3] != ["script", "refused", "Syntax"] or int(answer.words[3]) > self.row.number
 
     def of_limit(self):
         """Gives the first token that is more than a script may have, with what is said of it."""

@@ -2,9 +2,12 @@
 import time
 
 from . import ends, starts
+from .accounts import PAYER, Accounts
 from .codes import Codes
 from .found import Found
+from .held import Types
 from .names import MOST_TOKENS
+from .tracks import track
 
 # How many lines are explained, and for how many seconds in all the program is asked about other scripts: where the run
 # itself took long, for several times as long, but not for more than so many.
@@ -19,11 +22,18 @@ class Run:
     where it has not too many tokens."""
 
     def __init__(self, text, script, answer, program, grammar):
-        self.text, self.script, self.answer, self.program = text, script, answer, program
+        self.text, self.script, self.answer, self.program, self.grammar = text, script, answer, program, grammar
+        self._accounts = None
         self.codes = Codes(text, grammar) if len(text.tokens) <= MOST_TOKENS else None
         self.bounds = {it[1]: it[3] for it in answer.lines if it[:1] == ["bound"]}
         self.ends = {int(it[0][1]): it[0][2:] for it in answer.entries}
         self.until = time.monotonic() + min(max(SECONDS, TIMES * answer.took), MOST_SECONDS)
+
+    def accounts(self):
+        """Gives which values of the contract are numbers of accounts."""
+        if self._accounts is None:
+            self._accounts = Accounts(Types(self.text, self.grammar))
+        return self._accounts
 
     def seconds(self):
         return max(self.until - time.monotonic(), 0.01)
@@ -86,3 +96,25 @@ def explained(run):
         at, cause, row, lines = (starts if words[2] == "refused" else ends).explained(run, entry)
         found.append(Found(run.script, at, cause, row, lines, words))
     return found, left
+
+
+def named(run):
+    """Gives a remark on the results of a script that are numbers of accounts, with the names of these."""
+    entries = [it for it in run.answer.entries if any(words[0] == "result" for words in it)]
+    if run.codes is None or not entries or PAYER not in {it.text for it in run.text.tokens}:
+        return []
+    found = track(run, len(run.script.rows))
+    lines, first = [], None
+    for entry in entries if found else ():
+        number = int(entry[0][1])
+        results, known = [it[2] for it in entry if it[0] == "result"], run.script.accounts(number)
+        for value, steps in zip(results, found[1].results.get(number, ())):
+            is_number = value.isdecimal() and int(value) < len(known)
+            is_one = is_number and all(run.accounts().is_emitted(it) for it in steps)
+            if is_one and len(lines) < MOST_LINES:
+                first = first or entry
+                lines.append(f"see: the result {value} of line {number} is the account `{known[int(value)]}`")
+    if not lines:
+        return []
+    at = run.script.row(int(first[0][1])).tokens[0].at
+    return [Found(run.script, at, "remark", "remark account", list(dict.fromkeys(lines)), first[0])]

@@ -108,12 +108,36 @@ class Shapes:
             new = f"{mark.text} {behind.text} {name}"
             mend = f"write `{new}` in place of `let {name} = {mark.text} {behind.text}`"
             yield Slip("Syntax", mend, (third.at, behind.end, new))
+        yield from self.of_taken()
+        yield from self.of_received()
         if mark.text == "(" and third.text == "send" and self.is_declared(before.text, "proc"):
             end = self.closing(0, "(", ")")
             call = self.text.text[before.at : end.end]
             mend = f"write `spawn .. = {call};` before `send`, with a new name, and this name in place of `{call}`"
             new = f"spawn x = {call}; send {self.token(-2).text} x"
             yield Slip("Syntax", mend, (third.at, end.end, new))
+
+    def of_received(self):
+        """What is received, or computed, with its kind before its name."""
+        mark, before, behind = self.marked, self.token(-1), self.token(1)
+        words = [self.text_at(self.index + at) for at in range(1, 6)]
+        if before.text == "let" and mark.text in (*KINDS, *ELSEWHERE) and behind.kind == "word" and words[1] == "=":
+            new, end = f"let {behind.text}", behind
+            if words[2] in ("take", "recv") and words[4] in (";", "}", "|"):
+                new, end = f"{words[2]} {words[3]} {behind.text}", self.token(4)
+            old = self.text.text[before.at : end.end]
+            yield Slip("Syntax", f"write `{new}` in place of `{old}`", (before.at, end.end, new))
+
+    def of_taken(self):
+        """What is received by a word behind the channel and a dot, and bound by `let`."""
+        dot = self.index + (self.marked.text == "self")
+        words = [self.text_at(at) for at in range(max(dot - 4, 0), dot + 4)]
+        if dot > 3 and words[0] == "let" and words[2] == "=" and words[4] == "." and words[5] in ("take", "recv"):
+            last = dot + 3 if words[6:8] == ["(", ")"] else dot + 1
+            new = f"{words[5]} {words[3]} {words[1]}"
+            start, end = self.tokens[dot - 4].at, self.tokens[last].end
+            mend = f"write `{new}` in place of `{self.text.text[start:end]}`"
+            yield Slip("Syntax", mend, (start, end, new))
 
     def of_small(self):
         """Slips in a token or two: braces, a hyphen, a word that is too much."""

@@ -6,6 +6,8 @@ from .syntax import nearest
 from .texts import listed
 
 MOST_UNITS = 2**64 - 1
+# How many processes that offer one type are tried.
+MOST_OFFERING = 3
 
 
 def units(gas):
@@ -83,9 +85,14 @@ class Refused:
         return token.at, "NoProcess", lines or self.offering(token.text, known) or [see]
 
     def offering(self, name, known):
-        """Gives a line on the processes that offer a definition, where this is the name of one."""
-        codes = self.run.codes
+        """Gives lines on the processes that offer a definition, where this is the name of one: of those with which the
+        line is carried out, or refused for a cause behind this one, what to write."""
+        codes, token = self.run.codes, self.line.process
         found = [it for it in known if codes.processes[it].offers == name]
+        does = [it for it in found[:MOST_OFFERING] if self.goes_on((token.at, token.end, it))]
+        if does:
+            where = f"which offers it, in place of `{name}`"
+            return [mend(f"write `{it}`, {where}", (token.at, token.end, it)) for it in does]
         return [f"see: `{name}` is a definition, and {listed(found)} offers it"] if found else []
 
     def other_word(self, process):
@@ -118,9 +125,7 @@ class Refused:
     def too_much(self):
         token = self.line.tokens[2]
         left = MOST_UNITS - sum(int(it.tokens[2].text) for it in self.run.before(self.number, "deposit"))
-        edit = (token.at, token.end, str(left))
-        lines = [mend(f"write `{left}` at most, in place of `{token.text}`", edit)] if self.goes_on(edit) else []
-        return token.at, "TooMuchGas", lines
+        return token.at, "TooMuchGas", [f"see: {left} is the most that can be deposited here"]
 
     def bad_arguments(self):
         if self.run.codes is None:

@@ -10,11 +10,14 @@ from .mends import DATA, filled, mend, says
 from .names import Names, unused
 from .passing import passed
 from .retyped import retyped
+from .shapes import LASTS
 from .syntax import distance
 from .texts import LONGEST, joined
 
-# How often the program is asked at most, and how many instructions are put before a stuck one.
+# How often the program is asked at most, how many instructions are put before a stuck one, and behind how many it is
+# tried.
 ASKED, DEEP = DATA["asked"], DATA["deep"]
+MOST_BEHIND = 4
 # The modes that a process of each mode may spawn.
 SPAWNED = {"R": "R", "S": "RS", "L": "RS", "T": "RS"}
 # The leaves as which a channel is passed on or ended: by send, wait and release, and as an argument.
@@ -32,10 +35,24 @@ BEFORE_ACCEPT = f"{HERE}; acquire there, or take the value as a parameter"
 
 
 class Try(NamedTuple):
-    """An edit, and what it is in words."""
+    """An edit, what it is in words, and those that go along with it."""
 
     edit: tuple
     mend: str
+    more: tuple = ()
+
+    @property
+    def edits(self):
+        return (self.edit, *self.more)
+
+
+def before(edits, offset):
+    """Gives the offset in a text of what stands at one behind edits."""
+    moved = 0
+    for start, end, new in sorted(edits):
+        if start + moved < offset:
+            moved += len(new) - (end - start)
+    return offset - moved
 
 
 class Stuck:
@@ -54,15 +71,15 @@ class Stuck:
         if self.asked >= ASKED:
             return None
         self.asked += 1
-        after = self.program.check(self.text.edited(it.edit))
+        after = self.program.check(self.text.edited(*it.edits))
         if after.is_accepted or after.is_cause("NoPotential") or after.words[:1] == ["unsolved"]:
             return self.text.size + 1
         if not after.is_cause("ProcType") and not after.is_cause("TermType"):
             return -1
         start, end, new = it.edit
-        if start == self.at and after.offset < start + len(new):
+        if start == self.at and not it.more and after.offset < start + len(new):
             return -1
-        return after.offset - (len(new) - (end - start) if start < after.offset else 0)
+        return before(it.edits, after.offset)
 
     def channels(self):
         """Gives the channels that are bound on the way here, shared contracts among them, the last ones first."""
@@ -88,18 +105,21 @@ class Stuck:
         for row in DATA["before"]:
             if (row["at"], row["sent"]) == (whole.sign, is_sent):
                 for known, behind in self.fillings(row["write"], name, whole):
-                    known = {"channel": name, "new": new, "amount": DATA["amount"], **known}
-                    open_ones = dict.fromkeys({"new", "amount", "value"} & known.keys(), DATA["left_open"])
+                    known = {"channel": name, "new": new, **known}
+                    open_ones = dict.fromkeys({"new", "value"} & known.keys(), DATA["left_open"])
                     said = filled(row["write"], **{**known, **open_ones})
                     yield filled(row["write"], **known), said, behind if "goes_on" in row else None
 
     def fillings(self, write, name, whole):
-        """Gives what stands for the names of a row, each with the type behind it: a label, another channel, a value."""
+        """Gives what stands for the names of a row, each with the type behind it: a label, another channel, a value,
+        an amount."""
         behind = whole.parts[-1] if whole.parts else None
         if "$label" in write:
             return [({"label": label}, further) for label, further in whole.parts]
         if "$other" in write:
             return [({"other": it}, behind) for it in self.channels()[1:] if it != name]
+        if "$amount" in write:
+            return [({"amount": self.reached[0].amount(whole)}, behind)]
         if "$value" in write:
             return [({"value": it}, behind) for it in DATA["values"].get(self.tokens[whole.at].text, ())]
         return [({}, behind)]
@@ -157,6 +177,7 @@ class Stuck:
             for it in self.labels():
                 yield Try((label.at, label.end, it), says("instead", new=it, old=label.text))
         if self.form == "case":
+            yield from self.relabelled()
             yield from self.branches()
         if self.form in DUAL:
             yield from self.dual()
@@ -188,14 +209,19 @@ class Stuck:
             yield Try((self.at, it.end, new), mend)
 
     def swapped(self):
-        """Gives the stuck instruction and the one behind it the other way round."""
-        end = self.text.index_at(self.end()) if self.form in ORDERED else len(self.tokens)
-        behind = self.end(end + 1)
-        if behind is not None:
-            this, other = (joined(self.tokens[at:to]) for at, to in (
-                (self.index, end), (end + 1, self.text.index_at(behind)),
-            ))
-            yield Try((self.at, behind, f"{other}; {this}"), f"let it and `{other}` behind it change places")
+        """Gives the stuck instruction and the one behind it the other way round, or it behind more of them."""
+        if self.form not in ORDERED:
+            return
+        end = last = self.text.index_at(self.end())
+        this = joined(self.tokens[self.index : end])
+        for count in range(MOST_BEHIND):
+            start, stop = last + 1, self.end(last + 1)
+            if stop is None or self.tokens[start].text in LASTS:
+                return
+            last = self.text.index_at(stop)
+            others, one = joined(self.tokens[end + 1 : last]), joined(self.tokens[start:last])
+            how = f"let it stand behind `{one}`" if count else f"let it and `{one}` behind it change places"
+            yield Try((self.at, stop, f"{others}; {this}"), how)
 
     def dual(self):
         """Gives what the other side would do, in place of the stuck instruction."""
@@ -219,6 +245,27 @@ class Stuck:
                 channels.append(self.tokens[at].text)
         return f"call {name}({', '.join(values)}; {', '.join(channels)})".replace("; )", ";)")
 
+    def relabelled(self):
+        """Gives the branches with the labels that the type has, where it has others, and without those that it has
+        not."""
+        types, step, held = self.reached
+        name = self.tokens[self.index + 1].text
+        whole = types.unfolded(held[name].type) if name in held else None
+        if whole is None or whole.sign not in ("+", "&"):
+            return
+        heads = [types.tokens[further.at - 2] for _, further in step.behind]
+        wanted, has = [it for it, _ in whole.parts], [it.text for it in heads]
+        lacking, left = [it for it in wanted if it not in has], [it for it in heads if it.text not in wanted]
+        if len(lacking) == len(left) and left:
+            edits = []
+            for it in left:
+                label = min(lacking, key=lambda other: distance(other, it.text))
+                lacking.remove(label)
+                edits.append((it.at, it.end, label))
+            pairs = [(it.text, *edit) for edit, it in zip(edits, left)]
+            said = " and ".join(f"`{new}` in place of `{old}` at {self.text.place(at)}" for old, at, _, new in pairs)
+            yield Try(edits[0], f"write {said}", tuple(edits[1:]))
+
     def branches(self):
         """Gives further branches of a case, one or two, each of which closes."""
         opening = self.index + 2
@@ -239,12 +286,26 @@ class Stuck:
 
     def taken_out(self):
         """Gives the text without the stuck instruction, where the one behind it is not stuck then."""
-        end = self.end()
-        if self.form in TAKEN_OUT and end is not None:
-            it = Try((self.at, end + 1, ""), "take it out")
-            reached = self.reach(it)
-            if reached is not None and reached > self.tokens[self.text.index_at(end) + 1].at:
+        end, name = self.end(), self.channel_at(self.index)
+        words = "take it out"
+        for _ in range(DEEP):
+            if self.form not in TAKEN_OUT or end is None:
+                return
+            it = Try((self.at, end + 1, ""), words)
+            reached, behind = self.reach(it), self.text.index_at(end) + 1
+            if reached is not None and reached > self.tokens[behind].at:
                 yield reached, it
+                return
+            if self.channel_at(behind) != name or self.end(behind) is None:
+                return
+            end = self.end(behind)
+            said = joined(self.tokens[self.index : self.text.index_at(end)])
+            words = f"take `{said}` out"
+
+    def channel_at(self, index):
+        """Gives the name that the instruction at a token is on, as far as it is on one."""
+        texts = [it.text for it in self.tokens[index : index + 2]]
+        return texts[0] if texts[1:] == ["."] else texts[-1]
 
     def is_dead_end(self):
         """Whether another `accept`, or the call of a process that begins with one, follows before any `detach`."""
@@ -272,33 +333,48 @@ class Stuck:
     def keeping(self, types, step, held):
         """Gives what lets the check go on, where the stuck instruction leaves something behind, and gives all that to
         somebody: a call that takes it, or instructions that send it."""
-        if self.form not in ("close", "call", "fwd"):
+        if self.form not in ("close", "call", "fwd", "detach"):
             return
         it = Keeping(types, step, held, values_of(self.names, self.head, self.index))
         if not it.assets:
             return
+        process = next(other for other in types.processes.values() if other.at == self.head + 2)
+        if self.form == "detach":
+            return
         token, end = self.tokens[self.index], self.tokens[self.behind() - 1].end
         old = self.text.text[token.at : end]
-        process = next(other for other in types.processes.values() if other.at == self.head + 2)
         for new in (*it.forwards(process), *it.calls(process)):
             if new != old:
                 yield Try((token.at, end, new), says("instead", new=new, old=old))
         for asset, new in it.sends():
-            said = says("gets", code=new.replace("{*}", "{..}"), place="it", channel=asset)
+            said = says("gets", code=new, place="it", channel=asset)
             yield Try((token.at, token.at, f"{new} "), said)
+        for asset, words, edits in it.returned(process):
+            yield Try(edits[0], f"{words}, so that the client gets `{asset}` back", edits[1:])
 
     def find(self):
         """Gives what lets the check go on past the stuck instruction: first what keeps all that is held, then the
         furthest ones, three at most. Behind each stands what is lost by it."""
         types, step, held = self.reached
         kept = [it for it in self.keeping(types, step, held) if (self.reach(it) or 0) > self.at]
-        lines = [mend(it.mend, it.edit) for it in kept]
+        lines = [mend(it.mend, *it.edits) for it in kept]
         edits = [it.edit for it in kept]
         for it in (other for other in self.others_found() if other.edit not in edits):
             end = warned(types, held, self.code_of(it.edit))
-            lines.append(mend(f"{it.mend}{end}", it.edit))
+            lines.append(mend(f"{it.mend}{end}", *it.edits))
         lines.sort(key=lambda it: "nobody gets it" in it)
-        return list(dict.fromkeys(lines))[:3] or self.parts()
+        moved = [it for it in lines if it.startswith("mend: let it ")]
+        lines = [it for it in lines if it not in moved[1:]]
+        return list(dict.fromkeys(lines))[:3] or self.by_label(types, step, held) or self.parts()
+
+    def by_label(self, types, step, held):
+        """Gives lines on another label for the last one, by which what is held is sent, where nothing else does."""
+        if self.form not in ("close", "detach"):
+            return []
+        it = Keeping(types, step, held, values_of(self.names, self.head, self.index))
+        process = next(other for other in types.processes.values() if other.at == self.head + 2)
+        tries = [Try(edits[0], words, edits[1:]) for words, edits in it.relabelled(process)]
+        return [mend(other.mend, *other.edits) for other in tries if (self.reach(other) or 0) > self.at]
 
     def code_of(self, edit):
         """Gives the instructions that an edit puts before the stuck one, or the label that it has in its place."""
@@ -308,8 +384,27 @@ class Stuck:
         is_label = self.form == "label" and start == self.tokens[self.index + 2].at
         return f"{self.tokens[self.index].text}.{new};" if is_label else ""
 
+    def released(self):
+        """Gives the release of a contract behind the last instruction on it, where another one is acquired between that
+        and the stuck instruction: held until here, a transaction could wait for itself."""
+        types, step, held = self.reached
+        for name, it in held.items():
+            uses = [at for at in range(self.head, self.index)
+                    if self.tokens[at].text == name and self.names.leads(at, self.index)]
+            if name == "self" or types.unfolded(it.type).sign != "down" or not uses:
+                continue
+            last = next(at for at in range(uses[-1], len(self.tokens)) if self.tokens[at].text in (";", "{", "}"))
+            between = [token.text for token in self.tokens[last : self.index]]
+            if self.tokens[last].text == ";" and "acquire" in between:
+                end = self.tokens[last].end
+                words = f"write `release {name} as ..;` behind the `;` at {self.text.place(end - 1)}"
+                yield Try((end, end, f" release {name} as {self.new};"), words)
+
     def others_found(self):
         """Gives what lets the check go on past the stuck instruction, the furthest ones."""
+        early = [it for it in self.released() if (self.reach(it) or 0) > self.at]
+        if early:
+            return early
         asked = ((self.reach(it), it) for it in self.others())
         found = [(reached, it) for reached, it in asked if reached is not None and reached > self.at]
         if not found or self.form == "close" or self.form in DUAL:
@@ -383,4 +478,6 @@ def explained(text, answer, program, grammar):
         declared += miscounted(names, stuck.index, stuck.behind())
     if stuck.form == "acquire" and stuck.is_before_accept():
         lines = lines or [BEFORE_ACCEPT]
+    if all("nobody gets it" in it for it in lines) and stuck.form in ("close", "call", "fwd"):
+        lines = [*lines, *Keeping(types, step, held, []).takers()]
     return [*(lines or stuck.given_away()), *declared, *now(types, step, held, bool(lines))]

@@ -1,5 +1,7 @@
 """What is wrong where no contract goes on: the slip that was made, and an edit with which the text is read further."""
 import re
+
+from .comparisons import written
 from .habits import Habits
 from .mends import mend, says
 from .shapes import HEADS, KINDS, Slip
@@ -12,6 +14,8 @@ SURE = (
     ("Syntax instruction", {"."}.__eq__), ("Syntax match", {"nil"}.__eq__), ("Syntax else", {"else"}.__eq__),
     ("Syntax declaration", set(HEADS).issubset),
 )
+# Rows of which the signs alone say what was meant.
+CERTAIN = ("Syntax equality", "Syntax logic")
 # How many tokens are looked at: of the declaration before the offence, and behind it.
 BEFORE = 5_000
 BEHIND = 400
@@ -89,7 +93,7 @@ class Slips(Habits):
             return None
         ways = (self.of_symbols, self.of_habits, self.of_words, self.of_places, self.of_heads, self.of_starts)
         for slip in (slip for way in ways for slip in way()):
-            if self.goes_on(slip, 1):
+            if self.goes_on(slip, 0 if slip.row in CERTAIN else 1):
                 return slip
         found = [it for it in self.of_any() if self.goes_on(it, 6) or self.ends_declaration(it)]
         furthest = max((self.reach(it.edit) for it in found), default=0)
@@ -106,19 +110,39 @@ class Slips(Habits):
         pair = before.text + mark.text if before.end == mark.at else ""
         ahead = mark.text + behind.text if mark.end == behind.at else ""
         for signs, at in ((pair, before.at), (ahead, mark.at)):
+            third = next((it for it in self.tokens if it.at == at + 2), None)
+            if signs == "==" and third and third.text == "=":
+                yield Slip("Syntax equality", "write `=` in place of `===`", (at, at + 3, "="))
             if signs in ("==", "&&", "||"):
                 row = "Syntax equality" if signs == "==" else "Syntax logic"
                 yield Slip(row, f"write `{PARTED[signs].strip()}` in place of `{signs}`", (at, at + 2, PARTED[signs]))
             if signs in ("!=", "<=", ">="):
-                yield Slip("Syntax comparison", "", (at, at + 2, PARTED[signs]))
-            if signs in ("/*", "--"):
+                yield from self.of_comparison(signs, at)
+            if signs in ("/*", "--") and not self.is_counted(at):
                 yield from self.of_comment(signs, at)
         if mark.text == ">":
-            yield Slip("Syntax comparison", "", (mark.at, mark.end, "<"))
+            yield from self.of_comparison(">", mark.at)
         if mark.text == "!":
             yield Slip("Syntax logic", "write `not` in place of `!`", (mark.at, mark.end, " not "))
         if mark.text == "#":
             yield from self.of_comment("#", mark.at)
+
+    def is_counted(self, at):
+        """Whether the two signs at an offset stand behind the name of an instruction, and nothing behind them."""
+        first = next(it for it, token in enumerate(self.tokens) if token.at == at)
+        before, behind = self.text_at(first - 2), self.text_at(first + 2)
+        return before in (";", "{", "=>", "=") and behind in (";", "}", "|")
+
+    def of_comparison(self, sign, at):
+        """A comparison by a sign of other languages, which begins at an offset."""
+        first = next(it for it, token in enumerate(self.tokens) if token.at == at)
+        found = written(self.tokens, first, sign, len(sign), self.begins_term)
+        if found:
+            new, start, end = found
+            edit = (self.tokens[start].at, self.tokens[end - 1].end, new)
+            old = self.text.text[edit[0] : edit[1]]
+            yield Slip("Syntax comparison", f"write `{new}` in place of `{' '.join(old.split())}`", edit)
+        yield Slip("Syntax comparison", "", (at, at + len(sign), PARTED.get(sign, "<")))
 
     def of_comment(self, sign, at):
         end = self.text.text.find("*/" if sign == "/*" else "\n", at + len(sign))
@@ -175,7 +199,8 @@ class Slips(Habits):
             mend = "write `{` before this `if`, and a `}` behind its end"
             yield Slip("Syntax else", mend, (mark.at, mark.at, "{ "))
         if mark.text in HEADS and self.wants("code"):
-            yield Slip("Syntax unfinished", "", (mark.at, mark.at, "close; "))
+            last = self.last_one()
+            yield Slip("Syntax unfinished", f"write `{last};` before `{mark.text}`", (mark.at, mark.at, f"{last}; "))
         if "proc" in self.wanted and self.index and self.begins_instruction():
             yield Slip("Syntax behind", "", (mark.at, mark.at, "proc T x(;) = "))
 
@@ -192,6 +217,11 @@ class Slips(Habits):
         in_head = {"=", "{"} & self.wanted and before.text in (")", "}")
         if mark.text == ":" and equal and in_head and self.tokens[1].text == "T":
             offered = self.text.text[mark.at : equal.at].strip()
+            mode = self.mode_of(self.token(1).text) if self.token(2) is equal else ""
+            if mode:
+                words = f"write `{mode}` in place of `T` at {self.text.place(self.tokens[1].at)}"
+                edit = (self.tokens[1].at, self.tokens[1].end, mode)
+                yield Slip("Syntax", f"{words}, since it offers `{self.token(1).text}`", edit)
             mend = f"take `{offered}` out, since a transaction offers nothing"
             yield Slip("Syntax", mend, (mark.at, equal.at, ""))
         if mark.text == "spawn" and third.text == "let" and before.text == "=":
@@ -200,7 +230,8 @@ class Slips(Habits):
         if mark.text == "." and self.token(-4).text == "let" and first == "=":
             asked = f"{before.text}.{self.token(1).text}"
             mend = f"write `{asked}; take {before.text} {third.text}` in place of `let {third.text} = {asked}`"
-            edit = (self.token(-4).at, self.token(1).end, f"{asked}; take {before.text} {third.text}")
+            last = self.token(3 if [self.token(2).text, self.token(3).text] == ["(", ")"] else 1)
+            edit = (self.token(-4).at, last.end, f"{asked}; take {before.text} {third.text}")
             yield Slip("Syntax", mend, edit)
         if mark.text == "(" and first == "spawn":
             mend = "write `.. =` behind `spawn`, with a new name for its channel"
@@ -208,6 +239,24 @@ class Slips(Habits):
         if self.wanted == {"as"}:
             mend = f"write `as ..` behind `{before.text}`, with a new name"
             yield Slip("Syntax", mend, (before.end, before.end, " as x"))
+
+    def mode_of(self, name):
+        """Gives the mode of the definition of a name, where there is one."""
+        tokens = self.text.tokens
+        found = (at for at, it in enumerate(tokens[:-2]) if it.text == "type" and tokens[at + 2].text == name)
+        return next((tokens[at + 1].text for at in found), "")
+
+    def last_one(self):
+        """Gives an instruction that a process of the mode of this declaration ends with: `close`, or the call by which
+        a shared one goes on as what it is, with the parameters under their names."""
+        if self.tokens[1].text in ("R", "T"):
+            return "close"
+        end = next(at for at, it in enumerate(self.tokens) if it.text == ")")
+        names = [[], []]
+        for at in range(4, end):
+            if self.tokens[at + 1].text == ":" and self.tokens[at - 1].text in ("(", ",", ";"):
+                names[";" in [it.text for it in self.tokens[4:at]]].append(self.tokens[at].text)
+        return f"call {self.tokens[2].text}({', '.join(names[0])}; {', '.join(names[1])})".replace("; )", ";)")
 
     def begins_instruction(self):
         word = self.marked.text
@@ -244,7 +293,7 @@ def explained(text, answer, program, grammar):
         start, end, new = slip.edit
         edited = text.edited(slip.edit)
         after = program.check(edited)
-        reached = at + len(new) - (end - start if end <= at else 0) if slip.mend else start + len(new)
+        reached = at + len(new) - (end - start) if slip.mend and end <= at else start + len(new)
         is_whole = end > at and after.offset == len(edited)
         if after.is_cause("Syntax") and after.offset <= reached and not is_whole:
             slip = None

@@ -91,7 +91,7 @@ class Telling:
 
     def find(self):
         """Gives the values, or nothing where they are not sure."""
-        if not self.names or not self.standing.is_sure:
+        if not self.names or not self.standing.is_sure(self.step):
             return None
         for choice in range(2 if self.terms() else 0):
             values = self.asked(choice)

@@ -29,12 +29,17 @@ class Place(NamedTuple):
 
 class Standing:
     """A process: its number, its declaration, the line of the script that started it, if one did, the places at one of
-    which it stands, whether that was always one, and how often it fired at each instruction in the last entry."""
+    which it stands, how often it fired at each instruction in the last entry, and at which of them it may have fired
+    there, or at another one."""
 
     def __init__(self, pid, process, line, knows):
         self.pid, self.process, self.line = pid, process, line
         self.places = [Place(process.first, False, knows)]
-        self.is_sure, self.passed = True, {}
+        self.passed, self.unsure = {}, set()
+
+    def is_sure(self, step):
+        """Whether it is told of each firing of the last entry if it was one at this instruction."""
+        return id(step) not in self.unsure
 
     def at(self, forms):
         """Gives the places of these forms at which it may stand."""
@@ -48,24 +53,27 @@ class Standing:
 
 
 class Track:
-    """What a journal tells of the entries that are not undone, and of its last one, and what has fired."""
+    """What a journal tells of the entries that are not undone, and of its last one, what has fired in that one, and at
+    which instructions each result of an entry may have been made, by the line of the entry."""
 
     def __init__(self, codes, script, entries):
         self.codes, self.script = codes, script
         self.next, self.processes, self.contracts, self.seen = 1, {}, {}, set()
-        self.fired = []
+        self.fired, self.results = [], {}
         for number, (line, firings, end) in enumerate(entries, 1):
             if end[0] == "committed" or number == len(entries) and end[0] not in ("deposited", "refused"):
                 self.entry(line, firings)
 
     def entry(self, line, firings):
-        self.fired = []
+        self.fired, self.results[line] = [], []
         for it in self.processes.values():
-            it.passed = {}
+            it.passed, it.unsure = {}, set()
         for row in self.script.batch(line)[0]:
             self.start(row)
         for firing in firings:
-            self.fire(int(firing[0]), firing[1])
+            steps = self.fire(int(firing[0]), firing[1])
+            if firing[1] == "emit":
+                self.results[line].append(steps)
 
     def start(self, row):
         process = self.codes.processes[row.process.text]
@@ -77,6 +85,7 @@ class Track:
         self.next += 1
 
     def fire(self, pid, form):
+        """Has a process fire, and gives the instructions at one of which it did."""
         standing = self.processes.get(pid)
         found = [self.fires(it, form) for it in standing.places] if standing else []
         found = [it for it in found if it]
@@ -84,7 +93,7 @@ class Track:
         if not steps:
             raise Lost
         self.fired.append((standing, form))
-        standing.is_sure = standing.is_sure and len(steps) == 1
+        standing.unsure |= {id(it) for it in steps} if len(steps) > 1 else set()
         if steps[0].form == form:
             standing.passed[id(steps[0])] = standing.passed.get(id(steps[0]), 0) + 1
         self.seen |= {id(it) for it in steps}
@@ -97,6 +106,7 @@ class Track:
             self.spawn({self.called(it)[0].at: it for it in steps})
         if form in ("close", "fwd"):
             del self.processes[pid]
+        return steps
 
     def fires(self, it, form):
         """Gives the instruction at which a process at a place fires by this form, and where it may stand then."""

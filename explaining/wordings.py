@@ -1,5 +1,7 @@
 """Slips in the wording of an instruction, a term or a kind: it has what it needs, in another order or by the words of
 other languages."""
+from .comparisons import translated
+from .renamed import fresh
 from .shapes import HEADS, KINDS, Shapes, Slip
 from .texts import joined
 
@@ -23,10 +25,13 @@ DECLARATIONS = {
     "interface": "what is asked of a contract is its type, by `type S`",
     "constructor": "a contract begins as its process of mode S, by `let .. = new` in a script",
 }
+# The words with which they write something, and what these are parts of.
+WRITING = ("print", "println", "printf", "log", "echo", "write", "display", "output", "puts")
+OUTPUTS = ("console", "System", "std", "out", "io")
 SENDERS = (("msg", "sender"), ("tx", "origin"), ("Tx", "sender"))
 DEMANDS = ("require", "assert", "revert", "throw", "panic", "abort")
 IN_AN_IF = "see: what is to be done only where something holds stands in an `if`"
-DEMANDED = f"{IN_AN_IF}; a fault, as in `1 / 0`, undoes all"
+DEMANDED = f"{IN_AN_IF}; a fault, as of `1 / 0`, undoes the whole batch"
 # The signs that a difference stands behind in parentheses.
 TIGHT = ("-", "*", "/", "%")
 TRUTHS = ("true", "false")
@@ -66,6 +71,11 @@ class Wordings(Shapes):
     def of_asked(self):
         """A label in a term, as if its answer were a value."""
         mark, via, label, at = self.marked, self.token(-1), self.token(1), self.instruction()
+        if mark.text == "." and self.is_declared(label.text, "fn") and self.token(2).text == "(":
+            end = self.closing(2, "(", ")")
+            inside = self.text.text[self.token(2).end : end.at].strip()
+            new, old = f"{label.text}({via.text}{', ' if inside else ''}{inside})", self.text.text[via.at : end.end]
+            yield Slip("Syntax", f"write `{new}` in place of `{old}`", (via.at, end.end, new))
         is_bound = self.token(-2).text == "=" and self.token(-4).text == "let"
         is_term = {"and", "+"} <= self.wanted and self.tokens[0].text == "proc" and not is_bound
         if mark.text == "." and is_term and via.kind == "word" and self.is_label(label.text):
@@ -87,7 +97,14 @@ class Wordings(Shapes):
         return words[found[-1] + 6] if is_way else ""
 
     def of_spawned(self):
-        """A process that is started by `let`."""
+        """A process that is started by `let`, or by a word of other languages."""
+        mark, word, before = self.marked, self.token(-1), self.token(-2)
+        if before.text == "=" and self.is_declared(mark.text, "proc") and self.token(-4).text in ("let", "spawn"):
+            start, end = self.token(-4), self.closing(1, "(", ")")
+            inside = self.text.text[self.token(1).end : end.at].strip()
+            new = f"spawn {self.token(-3).text} = {mark.text}({inside}{'' if ';' in inside else ';'})"
+            old = self.text.text[start.at : end.end]
+            yield Slip("Syntax", f"write `{new}` in place of `{old}`", (start.at, end.end, new))
         opening = max((at for at in range(self.index) if self.tokens[at].text == "("), default=0)
         words = [it.text for it in self.tokens[max(opening - 4, 0) : opening]]
         if self.marked.text == ";" and words[:1] + words[2:3] == ["let", "="] and self.is_declared(words[3], "proc"):
@@ -101,7 +118,8 @@ class Wordings(Shapes):
         word = self.tokens[at].text if at < len(self.tokens) else ""
         before, behind = self.token(-1), self.token(1)
         is_inside = before.kind == behind.kind == "number" and before.end == mark.at and mark.end == behind.at
-        if is_inside or mark.text != "," or ";" not in self.wanted or word not in (*TALKING, "emit", "wait", "let", "spawn"):
+        is_known = word in (*TALKING, "emit", "wait", "let", "spawn")
+        if is_inside or mark.text != "," or ";" not in self.wanted or not is_known:
             return
         new = f"{word} {self.tokens[at + 1].text}" if word in TALKING else word
         yield Slip("Syntax", f"write `; {new}` in place of this `,`", (mark.at, mark.end, f"; {new} "))
@@ -202,6 +220,20 @@ class Wordings(Shapes):
                 return found, end
             start = end + 1
 
+    def of_demand(self):
+        """A condition that has to hold, as other languages ask for it: where it does not, a fault undoes all."""
+        word, end = self.token(-1), self.apart(self.index, (";", "}", "|"))
+        opening = self.index + (self.marked.text == "!")
+        stop = min(self.apart(opening + 1, (",", ")")), end)
+        test = translated(joined(self.tokens[opening + 1 : stop])) if self.text_at(opening) == "(" else ""
+        taken = {it.text for it in self.text.tokens}
+        name = "holds" if "holds" not in taken else fresh(self.text, "holds")
+        is_asked = test and word.text in ("require", "assert")
+        new = f"let {name} = if {test} then 0 else 1 / 0" if is_asked else f"let {name} = 1 / 0"
+        edit = (word.at, self.tokens[end - 1].end, new)
+        old = " ".join(self.text.text[edit[0] : edit[1]].split())
+        return Slip("Syntax instruction", f"write `{new}` in place of `{old}`", edit, (), (DEMANDED,))
+
     def of_declaration(self):
         """A declaration that other languages have."""
         mark = self.marked
@@ -223,8 +255,14 @@ class Wordings(Shapes):
             said = f"{before.text}.{behind.text}"
             yield Slip("Syntax", f"write `me` in place of `{said}`", (before.at, behind.end, "me"))
         if before.text in DEMANDS and self.wanted == {"."}:
-            end = self.tokens[self.apart(self.index, (";",)) - 1].end
-            yield Slip("Syntax instruction", "", (before.at, end, "work {0}"), (), (DEMANDED,))
+            yield self.of_demand()
+        is_written = before.text in WRITING and (self.wanted == {"."} or self.token(-3).text in OUTPUTS)
+        if is_written and mark.text == "(" and behind.text != ")":
+            start, end = self.token(-3) if self.token(-2).text == "." else before, self.closing(0, "(", ")")
+            terms = joined([it for it in self.tokens if mark.at < it.at < end.at])
+            old = " ".join(self.text.text[start.at : end.end].split())
+            mend = f"write `emit {terms}` in place of `{old}`"
+            yield Slip("Syntax instruction", mend, (start.at, end.end, f"emit {terms}"))
         if not set(HEADS) <= self.wanted:
             return
         if mark.text in DECLARATIONS:
