@@ -285,11 +285,17 @@ function kindOf(tokens, at) {
   return before === '|' || before === '<' ? 'type' : via;
 }
 
+// How many whole units one amount is more than another: of parts, as 3/2, there are as many to a unit as the / says.
+function unitsOf(most, least) {
+  const [[high, parts = 1n], [low]] = [most, least].map(it => it.split('/').map(BigInt));
+  return (high - low + parts - 1n) / parts;
+}
+
 // A deposit before a line of a script that its account has too little gas for.
 async function depositMend(ask, script, words, contract) {
   const number = Number(words[1]), name = words[6];
   const bound = contract.find(it => it[0] === 'bound' && lineAt(script, Number(words[4])).text.includes(` ${it[1]}(`));
-  const needs = words[5] === 'NoGas' ? BigInt(words[10]) - BigInt(words[8]) : BigInt(bound ? bound[3] : 0);
+  const needs = words[5] === 'NoGas' ? unitsOf(words[10], words[8]) : unitsOf(bound ? bound[3] : '0', '0');
   const at = lineAt(script, number).at, put = `deposit ${name} ${needs}\n`;
   const place = words[1] === words[4] ? 'it' : 'the `begin`';
   const after = await ask(edited(script, [[at, at, put]]));

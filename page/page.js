@@ -1,6 +1,8 @@
 // The page: what is asked, what is shown of an answer, and where a click leads.
 const shown = id => document.getElementById(id);
-const FIRST = 'auction', SHORT = 2000;
+// The example that is shown first, how long a run may have taken for a second one, and of how many lines mends are
+// looked for.
+const FIRST = 'auction', SHORT = 2000, MOST_LINES = 5;
 
 class Page {
   constructor() {
@@ -173,16 +175,24 @@ class Page {
     if (!found.length) return;
     const end = shown('status').textContent, kind = shown('status').className;
     this.say(`${end} Looking for mends ..`, kind);
-    if (found[0].pane === 'contract') {
-      const mender = new Mender(this.program, texts.contract, answer);
-      found[0].mends = await mender.find();
-      if (answer.isCause('NoPotential') && found[0].mends.length) ofAmount(found[0]);
-    } else if (answer.status === 3) {
-      for (const it of found.slice(0, 5)) await this.mendLine(it, answer, texts);
+    try {
+      await this.findMends(found, answer, texts);
+    } catch (error) {
+      if (error instanceof Stopped) throw error;
+      console.warn(`the search for mends ended: ${error.message}`);
     }
     const count = found.reduce((sum, it) => sum + it.mends.length, 0);
     this.say(`${end} ${count ? `${count} ${count === 1 ? 'mend' : 'mends'} found.` : ''}`, kind);
     if (count) this.explain(found, word);
+  }
+
+  async findMends(found, answer, texts) {
+    if (found[0].pane === 'contract') {
+      found[0].mends = await new Mender(this.program, texts.contract, answer).find();
+      if (answer.isCause('NoPotential') && found[0].mends.length) ofAmount(found[0]);
+    } else if (answer.status === 3) {
+      for (const it of found.slice(0, MOST_LINES)) await this.mendLine(it, answer, texts);
+    }
   }
 
   async mendLine(it, answer, texts) {
