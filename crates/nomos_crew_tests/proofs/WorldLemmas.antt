@@ -18,8 +18,8 @@ use Rattle.nomos_run.specs.Carried.{IsWholeRun, RunsScript}
 use Rattle.nomos_run.specs.declared.orders.Orders.{Orders}
 use Rattle.nomos_run.specs.declared.orders.ScriptRun.{ScriptRun}
 use Rattle.nomos_run.specs.declared.orders.WholeRun.{WholeRun}
-use Rattle.nomos_workers.specs.Batch.{MayRun}
-use Rattle.nomos_workers.proofs.BatchLaws.{begun-may_run}
+use Rattle.nomos_ledger.specs.Running.{MayRun}
+use Rattle.nomos_ledger.proofs.RunningLaws.{begun-may_run}
 
 -- the most numbers that a script gives
 abbrev pub most_numbers : ℕ

@@ -14,7 +14,7 @@ use nomos_ledger::world::World;
 use nomos_named::indexed::IndexedState;
 use nomos_workers::batch::BatchEnd;
 use nomos_workers::gate::Gate;
-use nomos_workers::lent::Lent;
+use nomos_ledger::lent::Lent;
 use nomos_workers::shop::Shop;
 use nomos_workers::work::{Worked, work};
 use std::alloc::Global;

@@ -6,8 +6,8 @@ ghost use Rattle.nomos_workers.specs.Crews.{IsCrew};
 use nomos_accept::accepting::accept;
 use nomos_named::indexed::IndexedState;
 use nomos_replay::replay::replay;
+use nomos_run::crew::run_script_by_crew;
 use nomos_run::orders::{Orders, Runner, ScriptRun, WholeRun};
-use nomos_run::running::run_script;
 use nomos_script::parsing::parse_script;
 use nomos_script::script::Script;
 use nomos_types::accepted::Accepted;
@@ -86,7 +86,7 @@ pub(crate) fn ran<G: Gate, R: Threads + Wait + Sync>(
     requires limit { IsLimit runner.now.orders.limit }
     ensures { RunsScript accepted.now script.now runner.now.orders result }
 {
-    run_script(runner, alloc, accepted, script)
+    run_script_by_crew(runner, alloc, accepted, script)
 }
 
 /// What is told of a script on a contract, run by a crew that calls this gate.

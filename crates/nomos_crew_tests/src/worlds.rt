@@ -2,7 +2,7 @@
 ghost use Rattle.std.specs.Prelude.{ℕ, ◌+◌, ◌^◌, ◌≤◌, length};
 ghost use Rattle.nomos_legal.specs.NextNumbers.{HasNumbered};
 ghost use Rattle.nomos_legal.specs.StandsFor.{StandsFor};
-ghost use Rattle.nomos_workers.specs.Batch.{MayRun};
+ghost use Rattle.nomos_ledger.specs.Running.{MayRun};
 
 use crate::telling::{ran, script_of};
 use nomos_ledger::begun::Begun;

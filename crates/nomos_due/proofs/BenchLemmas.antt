@@ -14,7 +14,8 @@ use Rattle.nomos_legal.specs.StandsFor.{StandsFor}
 use Rattle.nomos_legal.specs.declared.journal.Entry.{Entry}
 use Rattle.nomos_legal.specs.declared.journal.Journal.{Journal}
 use Rattle.nomos_report.specs.Reported.{run_status}
-use Rattle.nomos_run.specs.Carried.{IsWholeRun, RunsScript, result_behind, result_where_wanted}
+use Rattle.nomos_walk.specs.Wanted.{result_behind, result_where_wanted}
+use Rattle.nomos_run.specs.Carried.{IsWholeRun, RunsScript}
 use Rattle.nomos_run.specs.declared.orders.Orders.{Orders}
 use Rattle.nomos_run.specs.declared.orders.ScriptRun.{ScriptRun}
 use Rattle.nomos_run.specs.declared.orders.WholeRun.{WholeRun}

@@ -11,7 +11,7 @@ use Rattle.nomos_legal.specs.declared.journal.End.TheVariants as end
 use Rattle.nomos_legal.specs.declared.journal.Entry.{Entry}
 use Rattle.nomos_legal.specs.declared.journal.Journal.{Journal}
 use Rattle.nomos_report.specs.Reported.{run_status}
-use Rattle.nomos_run.specs.Carried.{result_behind}
+use Rattle.nomos_walk.specs.Wanted.{result_behind}
 use Rattle.nomos_run.specs.declared.orders.Orders.{Orders}
 use Rattle.nomos_words.specs.BenchLoad.{auction_text, load_script}
 use Rattle.nomos_words.specs.Summary.{summary_text}

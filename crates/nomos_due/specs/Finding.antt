@@ -9,7 +9,7 @@ use Rattle.nomos_legal.specs.Passage.{Passage}
 use Rattle.nomos_legal.specs.StandsFor.{StandsFor}
 use Rattle.nomos_legal.specs.declared.journal.Journal.{Journal}
 use Rattle.nomos_report.specs.Reported.{report_of, run_status}
-use Rattle.nomos_run.specs.Carried.{journal_text_of, result_behind, where_wanted}
+use Rattle.nomos_walk.specs.Wanted.{journal_text_of, result_behind, where_wanted}
 use Rattle.nomos_run.specs.declared.orders.Orders.{Orders}
 use Rattle.nomos_words.specs.Summary.{summary_text}
 use Rattle.nomos_due.specs.Benches.{figures_of}

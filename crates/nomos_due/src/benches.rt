@@ -1,9 +1,9 @@
 //! What is due where the load of `bench` is run.
 
 ghost use Rattle.std.specs.Prelude.{◌≡◌, ◌≤◌, true, None, IfOk, IfErr};
+ghost use Rattle.nomos_machine.specs.declared.policy.Policy.{Policy};
 ghost use Rattle.nomos_legal.specs.Legal.{IsLimit, firings_made, max_firings};
 ghost use Rattle.nomos_words.specs.Summary.{summary_text};
-ghost use Rattle.nomos_workers.specs.Crews.{IsCrew};
 ghost use Rattle.nomos_due.specs.Benches.{IsBenchDue, IsBenchPart, all_lasting, figures_of, lasting_firings, load_text};
 ghost use Rattle.nomos_due.specs.Finding.{HasRunLoad, HasRunPart};
 ghost use Rattle.nomos_due.specs.Sources.{kept_text};
@@ -13,17 +13,15 @@ use crate::script::script_of;
 use nomos_deeds::machine::Machine;
 use nomos_deeds::undo::Undo;
 use nomos_legal::journal::{End, Entry, Journal};
-use nomos_run::orders::{Runner, ScriptRun, WholeRun};
+use nomos_run::orders::{Orders, ScriptRun, WholeRun};
 use nomos_run::running::run_script;
 use nomos_run::status::run_status;
 use nomos_script::script::Script;
 use nomos_types::accepted::Accepted;
 use nomos_words::load::push_load_script;
 use nomos_words::summary::{Figures, push_summary};
-use nomos_workers::gate::Gate;
+use nomos_workers::batch::Crew;
 use std::alloc::{AllocError, Global};
-use std::sync::Wait;
-use std::thread::Threads;
 
 /// A load: the seed from which its bids are drawn, and its bidders, from 1 to 10,000.
 #[derive(Clone, Copy, PartialEq, Eq, Debug)]
@@ -102,20 +100,20 @@ fn summary<M: Undo + Drop>(
 }
 
 // What is due of a load whose script reads.
-fn ran_load_due<M: Undo + Drop + Send, G: Gate, R: Threads + Wait + Sync>(
-    runner: &Runner<'_, G, R>,
+fn ran_load_due<M: Undo + Drop>(
+    orders: Orders,
     alloc: Global,
     accepted: &Accepted,
     load: Load,
     script: &Script,
 ) -> Result<Due, Journal>
-    requires crew { IsCrew runner.now.orders.crew }
-    requires limit { IsLimit runner.now.orders.limit }
-    requires result { runner.now.orders.result ≡ true }
-    ensures ok { IfOk result (HasRunLoad accepted.now script.now runner.now.orders load) }
-    ensures err { IfErr result (HasRunPart accepted.now script.now runner.now.orders) }
+    requires one { (policy : Policy) × (orders.crew ≡ Crew.One policy) }
+    requires limit { IsLimit orders.limit }
+    requires result { orders.result ≡ true }
+    ensures ok { IfOk result (HasRunLoad accepted.now script.now orders load) }
+    ensures err { IfErr result (HasRunPart accepted.now script.now orders) }
 {
-    let ScriptRun { journal, finished } = run_script::<M, G, R>(runner, alloc, accepted, script);
+    let ScriptRun { journal, finished } = run_script::<M>(orders, alloc, accepted, script);
     let Some(whole) = finished else {
         return Err(journal);
     };
@@ -130,29 +128,29 @@ fn ran_load_due<M: Undo + Drop + Send, G: Gate, R: Threads + Wait + Sync>(
     }
 }
 
-/// What is due where a load is run on the accepted auction, by the runner's orders, which ask for the last result:
-/// the status, and the summary. Want of memory gives the journal of some first items. See
-/// docs/TEXTS.md, "The load of `bench`".
-pub fn bench_due<M: Undo + Drop + Send, G: Gate, R: Threads + Wait + Sync>(
-    runner: &Runner<'_, G, R>,
+/// What is due where a load is run on the accepted auction, by one worker, by orders that ask for the last result: the
+/// status, and the summary. Want of memory gives the journal of some first items. See docs/TEXTS.md, "The load of
+/// `bench`".
+pub fn bench_due<M: Undo + Drop>(
+    orders: Orders,
     alloc: Global,
     accepted: &Accepted,
     load: Load,
 ) -> Result<Due, Journal>
-    requires crew { IsCrew runner.now.orders.crew }
-    requires limit { IsLimit runner.now.orders.limit }
-    requires result { runner.now.orders.result ≡ true }
+    requires one { (policy : Policy) × (orders.crew ≡ Crew.One policy) }
+    requires limit { IsLimit orders.limit }
+    requires result { orders.result ≡ true }
     ensures ok { IfOk result (λ due.
-        IsBenchDue accepted.now runner.now.orders load due.status due.out.items due.journal) }
+        IsBenchDue accepted.now orders load due.status due.out.items due.journal) }
     ensures kept { IfOk result (λ due. kept_text due ≡ None) }
-    ensures err { IfErr result (IsBenchPart accepted.now runner.now.orders load) }
+    ensures err { IfErr result (IsBenchPart accepted.now orders load) }
 {
-    let limit = runner.orders.limit;
+    let limit = orders.limit;
     let Ok(text) = load_text(alloc, load) else {
         return Err(no_entries(alloc, limit));
     };
     match script_of(alloc, &text) {
-        Ok(script) => ran_load_due::<M, G, R>(runner, alloc, accepted, load, &script),
+        Ok(script) => ran_load_due::<M>(orders, alloc, accepted, load, &script),
         Err(_) => Err(no_entries(alloc, limit)),
     }
 }

@@ -13,8 +13,8 @@ use crate::script::{no_script_due, read_script};
 use nomos_base::Source;
 use nomos_deeds::undo::Undo;
 use nomos_legal::journal::Journal;
+use nomos_run::crew::run_script_by_crew;
 use nomos_run::orders::{Runner, ScriptRun, WholeRun};
-use nomos_run::running::run_script;
 use nomos_run::status::run_status;
 use nomos_script::script::Script;
 use nomos_types::accepted::Accepted;
@@ -51,7 +51,7 @@ fn ran_due<M: Undo + Drop + Send, G: Gate, R: Threads + Wait + Sync>(
     ensures ok { IfOk result (HasRunAs accepted.now script.now runner.now.orders) }
     ensures err { IfErr result (HasRunPart accepted.now script.now runner.now.orders) }
 {
-    let ScriptRun { journal, finished } = run_script::<M, G, R>(runner, alloc, accepted, script);
+    let ScriptRun { journal, finished } = run_script_by_crew::<M, G, R>(runner, alloc, accepted, script);
     match finished {
         Some(whole) => Ok(whole_due(journal, whole)),
         None => Err(journal),

@@ -5,18 +5,23 @@ use Rattle.std.specs.Option.{option_map}
 use Rattle.std.proofs.Math.Seq.{take-length}
 use Rattle.nomos_types.specs.Acceptance.{Acceptance}
 use Rattle.nomos_script.specs.declared.item.ScriptItem.{ScriptItem}
-use Rattle.nomos_legal.specs.Legal.{Tells}
+use Rattle.nomos_legal.specs.Ledger.{LedgerState, empty_ledger}
+use Rattle.nomos_legal.specs.Legal.{TellsFrom}
 use Rattle.nomos_journal.specs.JournalText.{IsTextOf}
 use Rattle.nomos_journal.specs.declared.line.Version.TheVariants as version
-use Rattle.nomos_report.specs.Reported.{IsReport}
-use Rattle.nomos_run.proofs.WalkLemmas.{some_same}
-use Rattle.nomos_run.specs.Carried.{IsWholeRun, RunsScript, journal_text_of, where_wanted}
+use Rattle.nomos_report.specs.Reported.{IsReportFrom}
+use Rattle.nomos_walk.specs.Wanted.{journal_text_of, where_wanted}
+use Rattle.nomos_run.specs.Carried.{IsWholeRun, RunsScript, RunsScriptFrom}
 use Rattle.nomos_run.specs.declared.orders.Orders.{Orders}
 use Rattle.nomos_run.specs.declared.orders.ScriptRun.{ScriptRun}
 use Rattle.nomos_run.specs.declared.orders.WholeRun.{WholeRun}
 
-module _ {M : Type 0} {a : Acceptance} {items : List ScriptItem} {orders : Orders} {run : ScriptRun M}
-    (runs : RunsScript a items orders run) (whole : WholeRun M) (given : run.finished ≡ Some whole) where
+-- one value is given
+pub some_same : {X : Type 0} (x y : X) → Some x ≡ Some y → x ≡ y
+some_same x y same = cc
+
+module _ {M : Type 0} {a : Acceptance} {first : LedgerState} {items : List ScriptItem} {orders : Orders}
+    {run : ScriptRun M} (runs : RunsScriptFrom a first items orders run) (whole : WholeRun M) (given : run.finished ≡ Some whole) where
   is-whole : (runs.count ≡ length items) × IsWholeRun a orders runs.passages runs.last whole
   is-whole =
       subst
@@ -24,13 +29,13 @@ module _ {M : Type 0} {a : Acceptance} {items : List ScriptItem} {orders : Order
       IfSome o (λ f. (runs.count ≡ length items) × IsWholeRun a orders runs.passages runs.last f)) given runs.all
 
   -- the journal of a whole run is that of all items
-  pub whole-tells : Tells a items run.journal runs.passages runs.last
+  pub whole-tells : TellsFrom a first items run.journal runs.passages runs.last
   whole-tells =
-      subst (λ (is : List ScriptItem). Tells a is run.journal runs.passages runs.last)
+      subst (λ (is : List ScriptItem). TellsFrom a first is run.journal runs.passages runs.last)
       (ap (λ (n : ℕ). take n items) is-whole.0 ∙ take-length items) runs.tells
 
   -- its report is that of its journal
-  pub whole-report : IsReport a items run.journal whole.report.items
+  pub whole-report : IsReportFrom a first items run.journal whole.report.items
   whole-report = record {
     passages = runs.passages;
     last = runs.last;
@@ -56,11 +61,13 @@ whole-text {a = a} {orders = orders} runs whole given text is = record {
 }
 
 -- the report and the text of what is given, if the run is whole
-pub given-report : {M : Type 0} {a : Acceptance} {items : List ScriptItem} {orders : Orders} (run : ScriptRun M)
-    → RunsScript a items orders run → IfSome run.finished (λ f. IsReport a items run.journal f.report.items)
-given-report {M} {a} {items} run runs = at run.finished refl
+pub given-report : {M : Type 0} {a : Acceptance} {first : LedgerState} {items : List ScriptItem} {orders : Orders}
+    (run : ScriptRun M) → RunsScriptFrom a first items orders run
+    → IfSome run.finished (λ f. IsReportFrom a first items run.journal f.report.items)
+given-report {M} {a} {first} {items} run runs = at run.finished refl
   where
-    at : (o : Option (WholeRun M)) → run.finished ≡ o → IfSome o (λ f. IsReport a items run.journal f.report.items)
+    at : (o : Option (WholeRun M)) → run.finished ≡ o
+        → IfSome o (λ f. IsReportFrom a first items run.journal f.report.items)
     at (Some whole) given = whole-report runs whole given
     at None given = tt
 

@@ -17,7 +17,8 @@ use Rattle.nomos_script.specs.declared.item.ScriptItem.{ScriptItem}
 use Rattle.nomos_script.specs.declared.item.ScriptItem.TheVariants as item
 use Rattle.nomos_script.specs.Size.{IsScriptSize, start_count}
 use Rattle.nomos_legal.proofs.LegalLaws.{entries_of-append, tells-none}
-use Rattle.nomos_legal.proofs.RightLaws.{legal-right}
+use Rattle.nomos_legal.proofs.RightLaws.{empty-standing}
+use Rattle.nomos_legal.specs.Leaving.{left_by, passage_of}
 use Rattle.nomos_legal.proofs.UniqueLaws.{all_start-one, passage-one, refuses-one}
 use Rattle.nomos_legal.proofs.WorldLaws.{fires_at-run, world-typed}
 use Rattle.nomos_legal.specs.Batch.{AllStart, OneRefuses, after_starts}
@@ -38,17 +39,18 @@ use Rattle.nomos_legal.specs.declared.refusal.Refusal.{Refusal}
 use Rattle.nomos_legal.specs.declared.refusal.Refusal.TheVariants as refusal
 use Rattle.nomos_legal.specs.declared.resolved.Resolved.{Resolved}
 use Rattle.nomos_ledger.specs.Calls.{HasFired}
-use Rattle.nomos_workers.proofs.BatchLaws.{left_by, passage_of, ran-passage}
-use Rattle.nomos_run.proofs.CarryLemmas.{tells-next, walk-next}
-use Rattle.nomos_run.proofs.RoomLemmas.{begun-room, walk-made, walk-room}
-use Rattle.nomos_run.proofs.WalkLemmas.{some_same}
-use Rattle.nomos_run.specs.declared.papers.Papers.{Papers}
-use Rattle.nomos_run.specs.declared.papers.WantedTexts.{WantedTexts}
-use Rattle.nomos_run.specs.declared.started.PassedItem.{PassedItem}
-use Rattle.nomos_run.specs.mirror.Papers.{papers_of}
-use Rattle.nomos_run.specs.mirror.Runs.{CanRun, ComesNext, EndsAsKept, HasTold, HaveFired, IsToldBy, journal_of, left_behind}
-use Rattle.nomos_run.specs.mirror.WalkState.{WalkState}
-use Rattle.nomos_run.specs.mirror.Walks.{HasBegunBatch, HasItemRoom, HasRoomFor, IsStill, PassesStill, walk_of, walk_with}
+use Rattle.nomos_ledger.proofs.RunningLaws.{ran-passage}
+use Rattle.nomos_walk.proofs.ComeLaws.{begun-room, come-made, come-room, come-stands}
+use Rattle.nomos_walk.proofs.MoreLaws.{tells-next, walk-next}
+use Rattle.nomos_walk.specs.Coming.{HasCome, journal_of}
+use Rattle.nomos_walk.specs.Papers.{papers_of}
+use Rattle.nomos_walk.specs.WalkState.{WalkState}
+use Rattle.nomos_walk.specs.Walks.{HasBegunBatch, HasItemRoom, HasRoomFor, IsStill, PassesStill, walk_counting, walk_of, walk_with, walk_writing}
+use Rattle.nomos_walk.specs.declared.papers.Papers.{Papers}
+use Rattle.nomos_walk.specs.declared.papers.WantedTexts.{WantedTexts}
+use Rattle.nomos_walk.specs.declared.started.PassedItem.{PassedItem}
+use Rattle.nomos_run.proofs.CarriedLaws.{some_same}
+use Rattle.nomos_run.specs.mirror.Retold.{CanRun, ComesNext, EndsAsKept, HasTold, HaveFired, IsToldBy, left_behind}
 
 -- ---- firings
 
@@ -381,11 +383,14 @@ still-ends {w = w} p passes next =
     in
     (sym passes.after_is ∙ ap (λ (q : Passage). q.after) one, passes.walk ∙ ap (λ (q : Passage). walk_with q w) one)
 
--- two clauses of one answer
-pub ok_both : {T E W : Type 0} {P K : T → Type 0} (r : Result T E) → IfOk r P → OnOk r W
-    → ((x : T) → P x → W → K x) → IfOk r K
-ok_both (Ok x) one other gives = gives x one other
-ok_both (Err e) one other gives = tt
+-- how many have fired
+pub fired-count : {a : Acceptance} {before after : WorldState} {pids : List ℕ} → HaveFired a before pids after
+    → before.firings ≡ [] → length after.firings ≡ length pids
+fired-count {after = after} {pids = pids} fired fresh =
+    let all = ap length fired.firings in
+    let there = length-map after.firings (λ (f : Firing). f.pid) in
+    let none = ap (λ (fs : List Firing). length (pids_of fs ++ pids)) fresh in
+    omega (arith, all, there, none)
 
 -- a batch that was fired has ended as its entry has it
 pub ends-kept : {w v : WalkState} {world there : WorldState} (batch : Batch) (e : Entry) (pids : List ℕ)
@@ -475,21 +480,23 @@ module _ {a : Acceptance} {items : List ScriptItem} {journal : Journal} {wanted 
   pub retold-accepted : w.accepted ≡ a
   retold-accepted = ap (λ (x : WalkState). x.accepted) retold.told.walk
 
+  retold-come : HasCome a empty_ledger journal.limit wanted (take n items) (entries_of retold.told.passages)
+      retold.told.passages l w
+  retold-come = record { tells = retold.told.tells; walk = retold.told.walk }
+
   -- its ledger stands for the program
   pub retold-stands : IsAccepted a → StandsFor w.accepted l
-  retold-stands accepted =
-      subst (λ (b : Acceptance). StandsFor b l) (sym retold-accepted) (legal-right accepted retold.told.tells).1
+  retold-stands accepted = come-stands retold-come accepted (empty-standing a)
 
   -- there is room for the next item
   pub retold-room : IsAccepted a → (i : ScriptItem) → IsScriptSize items → take (n + 1) items ≡ take n items ++ i ∷ []
       → HasRoomFor w l i
   retold-room accepted i size more =
-      subst (λ (x : WalkState). HasRoomFor x l i) (sym retold.told.walk)
-      (walk-room accepted wanted n i size more retold.told.tells)
+      come-room items n retold-come accepted (empty-standing a)
+      (record { objects = omega arith; names = omega arith }) (omega arith) i size more
 
   pub retold-made : w.made ≤ max_firings
-  retold-made =
-      subst (λ (x : WalkState). x.made ≤ max_firings) (sym retold.told.walk) (walk-made retold.told.tells)
+  retold-made = come-made retold-come
 
   module _ (i : ScriptItem) (next_is : drop n items ≡ i ∷ drop (n + 1) items) where
     first : NextOf a journal.limit w.made l retold.last retold.told.others i (drop (n + 1) items)

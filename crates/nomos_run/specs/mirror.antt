@@ -1,5 +1,3 @@
 -- Mirrors of the code, on which no promise stands.
-pub mod Papers
+pub mod Retold
 pub mod Runs
-pub mod WalkState
-pub mod Walks

@@ -1,13 +1,9 @@
-//! What takes a script item by item, and makes journal, report and the journal's text while it goes.
+//! What runs a script, item by item, from any ledger: by one worker, or by a crew.
 #![tactic(auto)]
 
-mod entry_text;
-mod last_result;
+pub mod crew;
 pub mod orders;
-mod papers;
 pub mod retelling;
 pub mod running;
-mod sheet;
-mod started;
 pub mod status;
-mod walk;
+mod way;

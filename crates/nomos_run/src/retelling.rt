@@ -9,12 +9,9 @@ ghost use Rattle.nomos_legal.specs.StandsFor.{StandsFor, WorldStandsFor};
 ghost use Rattle.nomos_journal.specs.JournalText.{IsTextOf};
 ghost use Rattle.nomos_journal.specs.declared.line.Version.TheVariants as version;
 ghost use Rattle.nomos_report.specs.Reported.{IsReport};
-ghost use Rattle.nomos_run.specs.mirror.Runs.{CanRun, ComesNext, EndsAsKept, HaveFired, IsToldBy, left_behind};
-ghost use Rattle.nomos_run.specs.mirror.Walks.{HasRoomFor, walk_with};
+ghost use Rattle.nomos_walk.specs.Walks.{HasRoomFor, walk_with};
+ghost use Rattle.nomos_run.specs.mirror.Retold.{CanRun, ComesNext, EndsAsKept, HaveFired, IsToldBy, left_behind};
 
-use crate::papers::{Papers, WantedTexts};
-use crate::started::{BatchUnderWay, StartedItem};
-use crate::walk::Walk;
 use nomos_deeds::fire::Fire;
 use nomos_deeds::undo::Undo;
 use nomos_ledger::ledger::Ledger;
@@ -23,6 +20,9 @@ use nomos_legal::journal::{Entry, Firing, Journal};
 use nomos_script::item::ScriptItem;
 use nomos_script::script::Script;
 use nomos_types::accepted::Accepted;
+use nomos_walk::papers::{Papers, WantedTexts};
+use nomos_walk::started::{BatchUnderWay, StartedItem};
+use nomos_walk::walk::Walk;
 use std::alloc::{AllocError, Global};
 
 // Fires these processes, one after another.
@@ -69,7 +69,9 @@ fn retell_batch<M: Undo + Drop>(
 {
     let BatchUnderWay { outset, mut world } = under;
     fire_all(alloc, walk.accepted(), &mut world, entry.firings.as_slice())?;
-    walk.finish(BatchUnderWay { outset, world }, &entry.end)
+    let under = BatchUnderWay { outset, world };
+    walk.write(&under, &entry.end)?;
+    Ok(walk.settle(under, &entry.end))
 }
 
 // Carries out an item by the entries of a journal that are left.

@@ -13,7 +13,7 @@ use Rattle.nomos_legal.specs.Passage.{Passage}
 use Rattle.nomos_legal.specs.declared.journal.Journal.{Journal}
 use Rattle.nomos_replay.specs.Answers.{Answers}
 use Rattle.nomos_report.specs.Reported.{report_of, run_status}
-use Rattle.nomos_run.specs.Carried.{journal_text_of}
+use Rattle.nomos_walk.specs.Wanted.{journal_text_of}
 use Rattle.nomos_script.proofs.ReadingLaws.{reads_once}
 use Rattle.nomos_script.specs.ScriptReading.{ReadsAs}
 use Rattle.nomos_script.specs.declared.item.ScriptItem.{ScriptItem}

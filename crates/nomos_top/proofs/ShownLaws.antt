@@ -9,7 +9,7 @@ use Rattle.nomos_legal.specs.Ledger.{LedgerState}
 use Rattle.nomos_legal.specs.Legal.{Tells}
 use Rattle.nomos_legal.specs.Passage.{Passage}
 use Rattle.nomos_report.specs.Block.{accepted_block}
-use Rattle.nomos_run.specs.Carried.{journal_text_of}
+use Rattle.nomos_walk.specs.Wanted.{journal_text_of}
 use Rattle.nomos_script.proofs.ReadingLaws.{reads_once}
 use Rattle.nomos_script.specs.ScriptReading.{ReadsAs}
 use Rattle.nomos_script.specs.declared.item.ScriptItem.{ScriptItem}

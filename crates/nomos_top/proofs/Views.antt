@@ -27,7 +27,7 @@ use Rattle.nomos_replay.specs.Refusal.{refusal_line}
 use Rattle.nomos_replay.specs.declared.error.ReplayError.{ReplayError}
 use Rattle.nomos_report.specs.Block.{accepted_block}
 use Rattle.nomos_report.specs.Reported.{run_status}
-use Rattle.nomos_run.specs.Carried.{journal_text_of, where_wanted}
+use Rattle.nomos_walk.specs.Wanted.{journal_text_of, where_wanted}
 use Rattle.nomos_script.specs.ScriptReading.{ReadsAs}
 use Rattle.nomos_script.specs.declared.item.ScriptItem.{ScriptItem}
 use Rattle.nomos_simplex.specs.declared.solved.Stop.{Stop}

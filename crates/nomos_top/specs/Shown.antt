@@ -11,7 +11,7 @@ use Rattle.nomos_legal.specs.Passage.{Passage}
 use Rattle.nomos_legal.specs.declared.journal.Journal.{Journal}
 use Rattle.nomos_report.specs.Block.{accepted_block}
 use Rattle.nomos_report.specs.Reported.{report_of}
-use Rattle.nomos_run.specs.Carried.{journal_text_of, result_behind}
+use Rattle.nomos_walk.specs.Wanted.{journal_text_of, result_behind}
 use Rattle.nomos_top.specs.Call.{IsDueOf, inputs_of}
 use Rattle.nomos_top.specs.Seen.{Call, Texts, HasWritten, Gives, IsDone}
 use Rattle.nomos_top.specs.Kept.{CarriesOut}

@@ -6,6 +6,7 @@ ghost use Rattle.nomos_due.specs.Outside.{SourceState, source_state};
 ghost use Rattle.nomos_due.specs.Replays.{no_journal};
 ghost use Rattle.nomos_due.specs.Sources.{IsReplayDueFor, IsRunDueFor, IsRunPartFor, kept_text};
 ghost use Rattle.nomos_legal.specs.Legal.{IsLimit};
+ghost use Rattle.nomos_machine.specs.declared.policy.Policy.{Policy};
 ghost use Rattle.nomos_script.specs.ScriptReading.{ReadsAs};
 ghost use Rattle.nomos_script.specs.declared.item.ScriptItem.{ScriptItem};
 ghost use Rattle.nomos_top.specs.TaskRuns.{run_orders, bench_orders};
@@ -152,8 +153,8 @@ fn accepted_replay_due<S: Source>(
 }
 
 /// What is due for the load of `bench`.
-pub(crate) fn bench_due<G: Gate, R: Threads + Wait + Sync>(
-    stage: &Stage<'_, G, R>,
+pub(crate) fn bench_due(
+    alloc: Global,
     load: Load,
 ) -> Result<CallDue, DoneSoFar>
     ensures ok { (contract script journal : SourceState) → IfOk result (IsTaskDueOn
@@ -161,9 +162,9 @@ pub(crate) fn bench_due<G: Gate, R: Threads + Wait + Sync>(
     ensures err { (contract script journal : SourceState) → IfErr result (IsTaskPartOn
         (record { contract = contract; script = script; journal = journal }) (bench load.seed load.bidders)) }
 {
-    match judge_auction(stage.alloc) {
-        Ok(accepted) => accepted_bench_due(stage, load, accepted),
-        Err(unaccepted) => unaccepted_due(stage.alloc, USUAL_LIMIT, unaccepted),
+    match judge_auction(alloc) {
+        Ok(accepted) => accepted_bench_due(alloc, load, accepted),
+        Err(unaccepted) => unaccepted_due(alloc, USUAL_LIMIT, unaccepted),
     }
 }
 
@@ -180,26 +181,26 @@ fn bench_orders() -> Orders
 }
 
 // What is due for the load of `bench`, over the indexed form of a state.
-fn indexed_bench_due<G: Gate, R: Threads + Wait + Sync>(
-    runner: &Runner<'_, G, R>,
+fn indexed_bench_due(
+    orders: Orders,
     alloc: Global,
     accepted: &Accepted,
     load: Load,
 ) -> Result<Due, Journal>
-    requires crew { IsCrew runner.now.orders.crew }
-    requires limit { IsLimit runner.now.orders.limit }
-    requires result { runner.now.orders.result ≡ true }
+    requires one { (policy : Policy) × (orders.crew ≡ Crew.One policy) }
+    requires limit { IsLimit orders.limit }
+    requires result { orders.result ≡ true }
     ensures ok { IfOk result (λ due.
-        IsBenchDue accepted.now runner.now.orders load due.status due.out.items due.journal) }
+        IsBenchDue accepted.now orders load due.status due.out.items due.journal) }
     ensures kept { IfOk result (λ due. kept_text due ≡ None) }
-    ensures err { IfErr result (IsBenchPart accepted.now runner.now.orders load) }
+    ensures err { IfErr result (IsBenchPart accepted.now orders load) }
 {
-    benches::bench_due::<IndexedState, G, R>(runner, alloc, accepted, load)
+    benches::bench_due::<IndexedState>(orders, alloc, accepted, load)
 }
 
 // What is due for the load of `bench` on the accepted auction.
-fn accepted_bench_due<G: Gate, R: Threads + Wait + Sync>(
-    stage: &Stage<'_, G, R>,
+fn accepted_bench_due(
+    alloc: Global,
     load: Load,
     accepted: Accepted,
 ) -> Result<CallDue, DoneSoFar>
@@ -209,11 +210,6 @@ fn accepted_bench_due<G: Gate, R: Threads + Wait + Sync>(
     ensures err { IfErr result (λ part. IsBenchPart accepted bench_orders load part.journal) }
     ensures given { given_of result ≡ Some accepted }
 {
-    let runner = Runner {
-        rt: stage.rt,
-        gate: stage.gate,
-        orders: bench_orders(),
-    };
-    let due = indexed_bench_due(&runner, stage.alloc, &accepted, load);
+    let due = indexed_bench_due(bench_orders(), alloc, &accepted, load);
     due_behind(accepted, due)
 }

@@ -262,7 +262,7 @@ fn job_due<S: Source, G: Gate, R: Threads + Wait + Sync>(
             script: _,
             journal: _,
         } => replay_due(stage.alloc, contract, script, journal_in),
-        Job::Bench { seed, bidders } => bench_due(stage, Load { seed, bidders }),
+        Job::Bench { seed, bidders } => bench_due(stage.alloc, Load { seed, bidders }),
         Job::Least { file: _ } => least_due(stage.alloc, contract),
     }
 }

@@ -2,7 +2,6 @@ pub mod PolicyLaws
 pub mod OneLemmas
 pub mod ShopLemmas
 pub mod WorkLemmas
-pub mod FaultLemmas
 pub mod BatchLaws
 pub mod PassLemmas
 pub mod Sending

@@ -17,7 +17,7 @@ use Rattle.nomos_legal.specs.declared.journal.Firing.{Firing}
 use Rattle.nomos_legal.proofs.WorldLaws.{world-rises}
 use Rattle.nomos_ledger.specs.Calls.{HasFired}
 use Rattle.nomos_watch.proofs.StartLaws.{fresh-start}
-use Rattle.nomos_workers.specs.Batch.{MayRun}
+use Rattle.nomos_ledger.specs.Running.{MayRun}
 use Rattle.nomos_workers.specs.OneWorker.{AbortsBy}
 use Rattle.nomos_workers.specs.mirror.Steps.{AbortsAt, HasMade, firing_of}
 use Rattle.nomos_workers.proofs.PolicyLaws.{follows-push}

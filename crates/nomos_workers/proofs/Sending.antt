@@ -20,7 +20,7 @@ use Rattle.nomos_floor.proofs.crew.Station.TheSendSync as station
 use Rattle.nomos_floor.specs.contracts.crew.Station as Station
 use Rattle.nomos_workers.proofs.batch.BatchEnd.TheSendSync as ends
 use Rattle.nomos_workers.specs.contracts.batch.BatchEnd as BatchEnd
-use Rattle.nomos_workers.specs.declared.lent.Lent as lent
+use Rattle.nomos_ledger.specs.declared.lent.Lent as lent
 use Rattle.nomos_workers.specs.contracts.shop.Shop as Shop
 
 values-send : IsSend (Values.the_field).row

@@ -1,9 +1,8 @@
 -- Crews that may run a batch, whose firings they are, and which process several workers abort it with.
-use Rattle.std.specs.Prelude.{◌≡◌, ℕ, ◌<◌, ◌≤◌, Some, None}
-use Rattle.nomos_ir.specs.declared.fault.Fault.{Fault}
+use Rattle.std.specs.Prelude.{ℕ, ◌≤◌}
 use Rattle.nomos_types.specs.Acceptance.{Acceptance}
 use Rattle.nomos_machine.specs.State.{State}
-use Rattle.nomos_machine.specs.Step.{fault}
+use Rattle.nomos_legal.specs.LowestFault.{IsLowestFault}
 use Rattle.nomos_legal.specs.declared.journal.End.TheVariants as end
 use Rattle.nomos_legal.specs.declared.journal.Firing.{Firing}
 use Rattle.nomos_workers.specs.declared.batch.BatchEnd.{BatchEnd}
@@ -19,15 +18,6 @@ IsCrew (crew.Many workers) = (2 ≤ workers) × (workers ≤ 16)
 -- the firing is that of one of so many workers, whose passes have the numbers from 1 on
 abbrev pub IsOfWorker : ℕ → Firing → Type 0
 IsOfWorker workers f = (1 ≤ f.pass) × (f.pass ≤ workers)
-
--- no process has a fault
-abbrev pub IsFaultless : Acceptance → State → Type 0
-IsFaultless a s = (q : ℕ) → fault a s q ≡ None
-
--- the lowest process that has a fault, and that fault
-pub record IsLowestFault (a : Acceptance) (s : State) (pid : ℕ) (f : Fault) : Type 0 where
-  pub has : fault a s pid ≡ Some f
-  pub lowest : (q : ℕ) → q < pid → fault a s q ≡ None
 
 -- an abort is that of the lowest process that has a fault
 abbrev pub AbortsAtLowest : Acceptance → State → BatchEnd → Type 0

@@ -1,4 +1,3 @@
-pub mod Batch
 pub mod Crews
 pub mod OneWorker
 pub mod Shops

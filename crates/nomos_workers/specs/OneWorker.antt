@@ -7,7 +7,7 @@ use Rattle.nomos_legal.specs.Ending.{IsAllowed}
 use Rattle.nomos_legal.specs.World.{WorldState, pids_of, ledger_begun}
 use Rattle.nomos_legal.specs.declared.journal.End.{End}
 use Rattle.nomos_legal.specs.declared.journal.End.TheVariants as end
-use Rattle.nomos_workers.specs.Batch.{RunsOn}
+use Rattle.nomos_ledger.specs.Running.{RunsOn}
 use Rattle.nomos_workers.specs.declared.batch.BatchEnd.{BatchEnd}
 use Rattle.nomos_workers.specs.declared.batch.BatchEnd.TheVariants as batch_end
 

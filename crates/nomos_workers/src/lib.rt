@@ -3,7 +3,6 @@
 
 pub mod batch;
 pub mod gate;
-pub mod lent;
 pub mod one;
 pub mod run;
 mod several;

@@ -5,7 +5,7 @@ ghost use Rattle.nomos_machine.specs.Run.{IsQuiet};
 ghost use Rattle.nomos_legal.specs.Ending.{EndsAs};
 ghost use Rattle.nomos_legal.specs.StandsFor.{WorldStandsFor};
 ghost use Rattle.nomos_deeds.specs.Acting.{HasNumbers};
-ghost use Rattle.nomos_workers.specs.Batch.{MayRun};
+ghost use Rattle.nomos_ledger.specs.Running.{MayRun};
 ghost use Rattle.nomos_workers.specs.OneWorker.{EndsBy, RunsBy};
 ghost use Rattle.nomos_workers.specs.mirror.Steps.{Steps};
 ghost use Rattle.nomos_watch.specs.Watching.{IsWatched};

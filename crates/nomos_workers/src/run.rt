@@ -1,10 +1,10 @@
 //! Batches run by a crew: one worker by a policy, or several that take turns over a floor.
-ghost use Rattle.std.specs.Prelude.{◌≡◌, ℕ, ◌≤◌, All, IfOk, MatchOption, length};
+ghost use Rattle.std.specs.Prelude.{◌≡◌, ℕ, ◌≤◌, All, length};
 ghost use Rattle.nomos_machine.specs.declared.policy.Policy.{Policy};
 ghost use Rattle.nomos_legal.specs.StandsFor.{WorldStandsFor};
 ghost use Rattle.nomos_watch.specs.Watching.{IsWatched};
-ghost use Rattle.nomos_workers.specs.Batch.{MayRun, RunsOn};
-ghost use Rattle.nomos_workers.specs.Crews.{AbortsAtLowest, IsCrew, IsFaultless, IsLowestFault, IsOfWorker};
+ghost use Rattle.nomos_ledger.specs.Running.{MayRun, RunsOn};
+ghost use Rattle.nomos_workers.specs.Crews.{AbortsAtLowest, IsCrew, IsOfWorker};
 ghost use Rattle.nomos_workers.specs.OneWorker.{EndsBy, RunsBy};
 ghost use Rattle.nomos_workers.specs.Shops.{MayEnd};
 
@@ -14,36 +14,13 @@ use crate::one::run_by;
 use crate::several::run_shop;
 use crate::shop::Shop;
 use nomos_deeds::undo::Undo;
-use nomos_ir::fault::Fault;
 use nomos_ledger::world::World;
 use nomos_legal::journal::End;
 use nomos_types::accepted::Accepted;
 use nomos_watch::watched::Watched;
-use std::alloc::{AllocError, Global};
+use std::alloc::Global;
 use std::sync::Wait;
 use std::thread::Threads;
-
-// The lowest process that has a fault, with it, or none where no process has one.
-fn lowest_fault<M: Undo>(
-    alloc: Global,
-    accepted: &Accepted,
-    world: &World<M>,
-) -> Result<Option<(u32, Fault)>, AllocError>
-    requires { WorldStandsFor accepted.now world.now }
-    ensures { IfOk result (λ found. MatchOption found (IsFaultless accepted.now world.now.state)
-        (λ it. IsLowestFault accepted.now world.now.state it.0 it.1)) }
-{
-    // Where the program is read it is known to be accepted.
-    let _program = accepted.program();
-    let mut after = 0;
-    'processes: while let Some(pid) = world.next_ready(accepted, after) {
-        if let Some(fault) = world.fault(alloc, accepted, pid)? {
-            return Ok(Some((pid, fault)));
-        }
-        after = pid;
-    }
-    Ok(None)
-}
 
 // How a batch ends that several workers have left. Where it goes on, the lowest process that has a fault aborts it;
 // where none has one, a worker stopped for want of memory.
@@ -63,7 +40,7 @@ fn end_of<M: Undo>(
     if let Some(end) = watched.end(accepted, limit) {
         return BatchEnd::Done(end);
     }
-    match lowest_fault(alloc, accepted, &watched.world) {
+    match watched.world.lowest_fault(alloc, accepted) {
         Ok(Some((pid, fault))) => BatchEnd::Done(End::Aborted(pid, fault)),
         Ok(None) | Err(_) => BatchEnd::NoMemory,
     }

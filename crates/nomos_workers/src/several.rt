@@ -7,12 +7,12 @@ ghost use Rattle.nomos_workers.specs.Shops.{history_of, opening};
 
 use crate::batch::BatchEnd;
 use crate::gate::Gate;
-use crate::lent::Lent;
 use crate::shop::Shop;
 use crate::work::{Worked, work};
 use nomos_deeds::undo::Undo;
 use nomos_floor::crew::{Station, join_all, split_all};
 use nomos_floor::floor::{Floor, OpenError};
+use nomos_ledger::lent::Lent;
 use std::alloc::Global;
 use std::sync::Wait;
 use std::thread;

@@ -6,15 +6,15 @@ ghost use Rattle.nomos_legal.specs.Ending.{EndsAs, GoesOn};
 ghost use Rattle.nomos_floor.specs.FloorPass.{AddsAtMostOne};
 ghost use Rattle.nomos_ledger.specs.Calls.{FiresIn};
 ghost use Rattle.nomos_watch.specs.Watching.{IsWatched};
-ghost use Rattle.nomos_workers.specs.Batch.{MayRun};
+ghost use Rattle.nomos_ledger.specs.Running.{MayRun};
 ghost use Rattle.nomos_workers.specs.Shops.{IsShop, history_of, opening};
 ghost use Rattle.nomos_workers.specs.mirror.Turns.{IsKnown, TurnsOut};
 
-use crate::lent::Lent;
 use nomos_deeds::fire::Fire;
 use nomos_deeds::undo::Undo;
 use nomos_eval::wanted::{Outcome, Wanted};
 use nomos_floor::shared::Shared;
+use nomos_ledger::lent::Lent;
 use nomos_ledger::world::World;
 use nomos_legal::journal::{End, Firing};
 use nomos_watch::watched::Watched;

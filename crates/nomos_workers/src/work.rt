@@ -8,11 +8,11 @@ ghost use Rattle.nomos_workers.specs.mirror.Turns.{HasTurned, IsKnown, LeadsTo, 
 
 use crate::batch::BatchEnd;
 use crate::gate::Gate;
-use crate::lent::Lent;
 use crate::shop::{Asked, Known, Seeks, Shop, Turned};
 use nomos_deeds::undo::Undo;
 use nomos_eval::wanted::evaluate;
 use nomos_floor::floor::{Floor, Pass, Turn};
+use nomos_ledger::lent::Lent;
 use std::alloc::{AllocError, Global};
 use std::sync::Wait;
 

@@ -1,108 +1,77 @@
 -- How far a run of a script has come, as the code has it.
-use Rattle.std.specs.Prelude.{◌≡◌, ℕ, List, ◌∷◌, ◌++◌, drop, map, take, Some}
+use Rattle.std.specs.Prelude.{◌≡◌, ℕ, List, length, take, true, Some}
+use Rattle.std.specs.Option.{option_map}
 use Rattle.nomos_types.specs.Acceptance.{Acceptance}
-use Rattle.nomos_machine.specs.Run.{run}
-use Rattle.nomos_machine.specs.State.{State}
+use Rattle.nomos_machine.specs.declared.policy.Policy.{Policy}
 use Rattle.nomos_script.specs.declared.item.Batch.{Batch}
 use Rattle.nomos_script.specs.declared.item.ScriptItem.{ScriptItem}
-use Rattle.nomos_script.specs.declared.item.ScriptItem.TheVariants as item
+use Rattle.nomos_legal.specs.Ending.{IsAllowed}
+use Rattle.nomos_legal.specs.Leaving.{left_by, passage_of}
 use Rattle.nomos_legal.specs.Ledger.{LedgerState}
-use Rattle.nomos_legal.specs.Legal.{Leads, Tells, batch_limit, entries_of}
-use Rattle.nomos_legal.specs.Passage.{IsPassage, Passage}
-use Rattle.nomos_legal.specs.StandsFor.{WorldStandsFor}
-use Rattle.nomos_legal.specs.World.{WorldState, pids_of}
+use Rattle.nomos_legal.specs.Legal.{PassesBy, TellsFrom, batch_limit}
+use Rattle.nomos_legal.specs.Passage.{Passage}
+use Rattle.nomos_legal.specs.World.{WorldState}
+use Rattle.nomos_legal.specs.declared.journal.End.{End}
 use Rattle.nomos_legal.specs.declared.journal.Entry.{Entry}
-use Rattle.nomos_legal.specs.declared.journal.Journal.{Journal}
+use Rattle.nomos_walk.specs.Coming.{HasCome, journal_of}
+use Rattle.nomos_walk.specs.Papers.{kept_result}
+use Rattle.nomos_walk.specs.WalkState.{WalkState}
+use Rattle.nomos_walk.specs.Walks.{PassesAs, batch_entry, walk_with}
+use Rattle.nomos_walk.specs.declared.papers.WantedTexts.{WantedTexts}
+use Rattle.nomos_walk.specs.declared.started.PassedItem.{PassedItem}
+use Rattle.nomos_workers.specs.declared.batch.BatchEnd.{BatchEnd}
+use Rattle.nomos_workers.specs.declared.batch.BatchEnd.TheVariants as batch_end
 use Rattle.nomos_workers.specs.declared.batch.Crew.{Crew}
-use Rattle.nomos_workers.proofs.BatchLaws.{left_by, passage_of}
-use Rattle.nomos_run.specs.Carried.{FollowsCrew, RunsScript}
-use Rattle.nomos_run.specs.declared.orders.WholeRun.{WholeRun}
+use Rattle.nomos_workers.specs.declared.batch.Crew.TheVariants as crews
+use Rattle.nomos_run.specs.Carried.{FollowsCrew}
 use Rattle.nomos_run.specs.declared.orders.Orders.{Orders}
-use Rattle.nomos_run.specs.declared.papers.Papers.{Papers}
-use Rattle.nomos_run.specs.declared.papers.WantedTexts.{WantedTexts}
-use Rattle.nomos_run.specs.mirror.Papers.{papers_of}
-use Rattle.nomos_run.specs.mirror.WalkState.{WalkState}
-use Rattle.nomos_run.specs.mirror.Walks.{walk_of, walk_with}
+use Rattle.nomos_run.specs.declared.orders.WholeRun.{WholeRun}
 
--- a journal of its parts
-abbrev pub journal_of : ℕ → List Entry → Journal
-journal_of limit entries = record { limit = limit; entries = entries }
+-- what is wanted of a run by orders
+abbrev pub wanted_by : Orders → WantedTexts
+wanted_by orders = record { report = true; text = orders.text; result = orders.result }
+
+-- ---- items
+
+-- A batch that was run came to this end, which is allowed, and has passed with it.
+pub record FinishesAs {M : Type 0} (before : WalkState) (line : ℕ) (v : WorldState) (ended : BatchEnd)
+    (passed : PassedItem M) (after : WalkState) : Type 0 where
+  pub answer : End
+  pub ended_is : ended ≡ batch_end.Done answer
+  pub allowed : IsAllowed before.accepted v.state (length v.firings) (batch_limit before.limit before.made) answer
+  pub ledger : passed.ledger ≡ left_by answer v
+  pub entry : passed.entry ≡ Some (batch_entry line v answer)
+  pub walk : (batch : Batch) → batch.line ≡ line → after ≡ walk_with (passage_of before.accepted batch v answer) before
+
+-- An item was carried out: this became of it, and its firings are those of the crew.
+pub record CarriesOut {M : Type 0} (crew : Crew) (before : WalkState) (l : LedgerState) (i : ScriptItem)
+    (passed : PassedItem M) (after : WalkState) : Type 0 where
+  pub passage : Passage
+  pub passes : PassesAs before l i passage passed after
+  pub by : (policy : Policy) → crew ≡ crews.One policy → PassesBy policy before.accepted passage passage.entry
 
 -- ---- runs
 
--- What a run has come to behind these items: the entries that it keeps, the ledger, and the walk.
-pub record HasGone (crew : Crew) (a : Acceptance) (limit : ℕ) (wanted : WantedTexts) (items : List ScriptItem)
+-- What a run by orders has come to behind these items, from the first ledger: the entries that it keeps, the ledger,
+-- and the walk.
+pub record HasGone (a : Acceptance) (first : LedgerState) (orders : Orders) (items : List ScriptItem)
     (entries : List Entry) (l : LedgerState) (w : WalkState) : Type 0 where
   pub passages : List Passage
-  pub tells : Tells a items (journal_of limit entries) passages l
-  pub follows : FollowsCrew crew a passages
-  pub walk : w ≡ walk_of a limit wanted passages
-
--- a run that has carried out all items
-abbrev pub RunsWhole : {M : Type 0} → Acceptance → List ScriptItem → Orders → List Entry → WholeRun M → Type 0
-RunsWhole a items orders entries f =
-    RunsScript a items orders (record { journal = journal_of orders.limit entries; finished = Some f })
+  pub come : HasCome a first orders.limit (wanted_by orders) items entries passages l w
+  pub follows : FollowsCrew orders.crew a passages
 
 -- a run for which memory was wanting behind so many first items
-pub record RunsSoFar (a : Acceptance) (items : List ScriptItem) (orders : Orders) (entries : List Entry) : Type 0 where
+pub record RunsSoFar (a : Acceptance) (first : LedgerState) (items : List ScriptItem) (orders : Orders)
+    (entries : List Entry) : Type 0 where
   pub count : ℕ
   pub passages : List Passage
   pub last : LedgerState
-  pub tells : Tells a (take count items) (journal_of orders.limit entries) passages last
+  pub tells : TellsFrom a first (take count items) (journal_of orders.limit entries) passages last
   pub follows : FollowsCrew orders.crew a passages
 
--- ---- what a journal tells
-
--- these processes can fire, one after another
-abbrev pub CanRun : Acceptance → State → List ℕ → Type 0
-CanRun a s pids = (t : State) × (run a s pids ≡ Some t)
-
--- These processes have fired in a world, one after another.
-pub record HaveFired (a : Acceptance) (before : WorldState) (pids : List ℕ) (after : WorldState) : Type 0 where
-  pub stands : WorldStandsFor a after
-  pub origin : after.origin ≡ before.origin
-  pub starts : after.starts ≡ before.starts
-  pub firings : pids_of after.firings ≡ pids_of before.firings ++ pids
-
--- A batch has been fired as its entry has it, and was finished.
-pub record EndsAsKept (before : WalkState) (batch : Batch) (w : WorldState) (entry : Entry) (last : LedgerState)
-    (after : WalkState) : Type 0 where
-  pub world : WorldState
-  pub fired : HaveFired before.accepted w entry.firings world
-  pub last_is : last ≡ left_by entry.end world
-  pub walk : after ≡ walk_with (passage_of before.accepted batch world entry.end) before
-
--- the entries that are left behind those of an item
-abbrev pub left_behind : ScriptItem → List Entry → List Entry
-left_behind (item.Show line) left = left
-left_behind (item.Deposit line name units) left = drop 1 left
-left_behind (item.Batch batch) left = drop 1 left
-
--- This becomes of an item of a walk by a journal of which these entries are left.
-pub record ComesNext (w : WalkState) (l : LedgerState) (i : ScriptItem) (left : List Entry) (p : Passage) : Type 0 where
-  pub is : IsPassage w.accepted (batch_limit w.limit w.made) p
-  pub item : p.item ≡ i
-  pub before_is : p.before ≡ l
-  pub others : List Passage
-  pub left_is : left ≡ entries_of (p ∷ others)
-
--- The walk has come behind the first items of a journal of which all passages are these: behind the first ones, with
--- these to come, of which these are the entries that are left.
-pub record HasTold (a : Acceptance) (limit : ℕ) (wanted : WantedTexts) (all : List Passage) (last : LedgerState)
-    (first items : List ScriptItem) (l : LedgerState) (left : List Entry) (w : WalkState) : Type 0 where
-  pub passages : List Passage
-  pub others : List Passage
-  pub all_are : all ≡ passages ++ others
-  pub tells : Tells a first (journal_of limit (entries_of passages)) passages l
-  pub leads : Leads a limit w.made l others last
-  pub items_are : map (λ p. p.item) others ≡ items
-  pub left_is : left ≡ entries_of others
-  pub walk : w ≡ walk_of a limit wanted passages
-
--- what a journal tells of a script was written where it was wanted
-pub record IsToldBy (a : Acceptance) (items : List ScriptItem) (journal : Journal) (wanted : WantedTexts)
-    (papers : Papers) : Type 0 where
-  pub passages : List Passage
-  pub last : LedgerState
-  pub tells : Tells a items journal passages last
-  pub papers_are : papers ≡ papers_of a journal.limit wanted passages
+-- what is given of a walk that has come to its end, with the last ledger
+pub record IsWholeOf {M : Type 0} (w : WalkState) (l : LedgerState) (whole : WholeRun M) : Type 0 where
+  pub report : Some whole.report.items ≡ w.papers.report
+  pub text : option_map (λ t. t.items) whole.text ≡ w.papers.text
+  pub result : whole.last_result ≡ kept_result w.papers.result
+  pub ledger : whole.ledger ≡ l

@@ -14,14 +14,14 @@ returns-in_default-clause-err g c = rw c.no_entries.ensures benches.not_run
 pub returns-in-Ok-script_of-clause-ok : goal.returns-in-Ok-script_of-clause-ok
 returns-in-Ok-script_of-clause-ok g c =
     if_ok-map c.ran_load_due.result _ _
-    (λ due run. bench-due c.args.accepted.now c.args.runner.now.orders c.args.load c.in-Ok-script_of.script due
+    (λ due run. bench-due c.args.accepted.now c.args.orders c.args.load c.in-Ok-script_of.script due
     (rw (c.deref.ensures.value, c.in-Ok.ensures) at (c.in-Ok-script_of.ensures no_faults)) run)
     c.ran_load_due.ensures.ok
 
 pub returns-in-Ok-script_of-clause-err : goal.returns-in-Ok-script_of-clause-err
 returns-in-Ok-script_of-clause-err g c =
     if_err-map c.ran_load_due.result _ _
-    (λ journal part. bench-part c.args.accepted.now c.args.runner.now.orders c.args.load c.in-Ok-script_of.script
+    (λ journal part. bench-part c.args.accepted.now c.args.orders c.args.load c.in-Ok-script_of.script
     journal (rw (c.deref.ensures.value, c.in-Ok.ensures) at (c.in-Ok-script_of.ensures no_faults)) part)
     c.ran_load_due.ensures.err
 

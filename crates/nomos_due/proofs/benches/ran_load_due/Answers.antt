@@ -8,6 +8,6 @@ summary-requires g c = tells-within c.run_script-journal.ensures.runs.tells
 
 pub returns-in-Ok-clause-ok : goal.returns-in-Ok-clause-ok
 returns-in-Ok-clause-ok g c =
-    load-run c.args.accepted.now c.args.script.now c.args.runner.now.orders c.args.load c.run_script-journal.result
+    load-run c.args.accepted.now c.args.script.now c.args.orders c.args.load c.run_script-journal.result
     c.in-Some.whole _ c.requires.result c.run_script-journal.ensures.runs c.in-Some.is refl
     (rw c.as_slice.ensures at c.run_status.ensures) c.in-Ok.ensures refl

@@ -4,8 +4,8 @@ use Rattle.nomos_script.specs.declared.item.ScriptItem.{ScriptItem}
 use Rattle.nomos_legal.specs.Ledger.{LedgerState, empty_ledger}
 use Rattle.nomos_legal.specs.declared.journal.Entry.{Entry}
 use Rattle.nomos_run.proofs.RetellLemmas.{HasRetold, retold-all, retold-made, retold-more, retold-next, retold-none, retold-passage, retold-room, retold-stands}
-use Rattle.nomos_run.specs.mirror.WalkState.{WalkState}
-use Rattle.nomos_run.specs.mirror.Walks.{walk_of}
+use Rattle.nomos_walk.specs.WalkState.{WalkState}
+use Rattle.nomos_walk.specs.Walks.{walk_of}
 use Rattle.nomos_run.proofs.retelling.retell.Goals as goal
 
 pub items-init : goal.items-init

@@ -1,8 +1,19 @@
-use Rattle.std.proofs.Common.{subst}
+use Rattle.std.proofs.Common.{◌≡◌, ◌+◌, ◌<◌, ◌^◌, [], ap, arith, length, refl, subst}
 use Rattle.nomos_types.specs.Acceptance.{Acceptance}
-use Rattle.nomos_run.proofs.RetellLemmas.{ends-kept, ok_both}
-use Rattle.nomos_run.specs.mirror.Runs.{HaveFired}
+use Rattle.nomos_script.specs.declared.item.Batch.{Batch}
+use Rattle.nomos_walk.proofs.MoreLaws.{walk-finished}
+use Rattle.nomos_walk.specs.WalkState.{WalkState}
+use Rattle.nomos_run.proofs.RetellLemmas.{ends-kept, fired-count}
+use Rattle.nomos_run.specs.mirror.Retold.{HaveFired}
 use Rattle.nomos_run.proofs.retelling.retell_batch.Goals as goal
+
+pub settle-requires : goal.settle-requires
+settle-requires g c =
+    let batch : Batch = record { line = c.args.under.outset.line; starts = [] } in
+    let made = ap (λ (x : WalkState). x.made) (c.in_ok-write.ensures batch refl) in
+    let count = fired-count c.in_ok-fire_all.ensures c.requires.fresh in
+    let kept = ap length c.as_slice.ensures in
+    omega (arith, made, count, kept, c.requires.few)
 
 pub returns : goal.returns
 returns g c = λ batch at.
@@ -10,6 +21,7 @@ returns g c = λ batch at.
     subst (λ (a : Acceptance). HaveFired a c.args.under.world c.as_slice.result.now c.fire_all.new.world)
     c.accepted.ensures c.in_ok-fire_all.ensures
     in
-    ok_both c.finish.result c.finish.ensures.ledger (c.finish.ensures.walk batch at)
-    (λ last ledger walk.
-    ends-kept batch c.args.entry.now c.as_slice.result.now last fired c.as_slice.ensures ledger walk)
+    ends-kept batch c.args.entry.now c.as_slice.result.now c.settle.result fired c.as_slice.ensures
+    c.settle.ensures.ledger
+    (walk-finished c.args.walk.now c.write.new.self c.settle.new.self batch c.fire_all.new.world c.args.entry.now.end
+    (c.in_ok-write.ensures batch at) c.settle.ensures.walk)

@@ -3,9 +3,9 @@ use Rattle.std.proofs.lemmas.Result.{IfOk-weaker}
 use Rattle.nomos_types.specs.Acceptance.{IsAccepted}
 use Rattle.nomos_legal.specs.Ledger.{LedgerState}
 use Rattle.nomos_run.proofs.RetellLemmas.{kept-ends, kept-fits, still-ends, tells-batch}
-use Rattle.nomos_run.specs.mirror.Runs.{EndsAsKept}
-use Rattle.nomos_run.specs.mirror.WalkState.{WalkState}
-use Rattle.nomos_run.specs.mirror.Walks.{HasBegunBatch, StartsAs, walk_with}
+use Rattle.nomos_run.specs.mirror.Retold.{EndsAsKept}
+use Rattle.nomos_walk.specs.WalkState.{WalkState}
+use Rattle.nomos_walk.specs.Walks.{HasBegunBatch, StartsAs, walk_with}
 use Rattle.nomos_run.proofs.retelling.retell_item.Goals as goal
 
 -- The batch has begun.

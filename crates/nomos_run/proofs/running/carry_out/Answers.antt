@@ -3,22 +3,23 @@ use Rattle.nomos_legal.specs.Legal.{batch_limit}
 use Rattle.nomos_script.specs.Size.{start_count}
 use Rattle.nomos_script.specs.declared.item.ScriptItem.{ScriptItem}
 use Rattle.nomos_script.specs.declared.item.ScriptItem.TheVariants as item
-use Rattle.nomos_workers.specs.Batch.{MayRun}
+use Rattle.nomos_ledger.specs.Running.{MayRun}
 use Rattle.nomos_types.specs.Acceptance.{IsAccepted}
-use Rattle.nomos_run.proofs.RoomLemmas.{begun-room}
-use Rattle.nomos_run.proofs.WalkLemmas.{still-carried}
-use Rattle.nomos_run.specs.mirror.WalkState.{WalkState}
-use Rattle.nomos_run.specs.mirror.Walks.{HasBegunBatch, HasItemRoom, StartsAs}
+use Rattle.nomos_walk.proofs.ComeLaws.{begun-room}
+use Rattle.nomos_walk.specs.WalkState.{WalkState}
+use Rattle.nomos_walk.specs.Walks.{HasBegunBatch, HasItemRoom, StartsAs}
+use Rattle.nomos_workers.specs.declared.batch.Crew.TheVariants as crews
+use Rattle.nomos_run.proofs.CarryLemmas.{still-carried}
 use Rattle.nomos_run.proofs.running.carry_out.Goals as goal
 
 pub returns-in-Passed : goal.returns-in-Passed
 returns-in-Passed g c =
-    still-carried c.args.runner.now.orders.crew
+    still-carried (crews.One c.args.policy)
     (subst (λ s. StartsAs c.args.walk.now c.args.ledger c.args.item.now s c.start.new.self) c.in-Passed.is
     c.in_ok-passed.ensures)
 
 pub fire_batch-requires-clause-may : goal.fire_batch-requires-clause-may
-fire_batch-requires-clause-may g c = λ κs lives.
+fire_batch-requires-clause-may g c =
     let before : WalkState = c.args.walk.now in
     let most : ℕ = batch_limit before.limit before.made in
     let u = c.in-UnderWay.under in

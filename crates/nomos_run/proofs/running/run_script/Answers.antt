@@ -1,36 +1,21 @@
-use Rattle.std.proofs.Common.{◌∙◌}
 use Rattle.nomos_run.proofs.CarriedLaws.{given-report, given-text}
-use Rattle.nomos_run.proofs.CarryLemmas.{script-run}
-use Rattle.nomos_run.specs.mirror.Runs.{journal_of}
+use Rattle.nomos_run.proofs.CarryLemmas.{empty-accounts, empty-numbers, run-empty}
 use Rattle.nomos_run.proofs.running.run_script.Goals as goal
 
+pub run_from-requires-clause-stands : goal.run_from-requires-clause-stands
+run_from-requires-clause-stands g c = c.empty.ensures.stands c.args.accepted.now
+
+pub run_from-requires-clause-numbers : goal.run_from-requires-clause-numbers
+run_from-requires-clause-numbers g c = empty-numbers c.empty.result c.empty.ensures.empty
+
+pub run_from-requires-clause-accounts : goal.run_from-requires-clause-accounts
+run_from-requires-clause-accounts g c = empty-accounts c.empty.result c.empty.ensures.empty
+
 pub returns-clause-runs : goal.returns-clause-runs
-returns-clause-runs g c =
-    script-run c.args.accepted.now c.as_slice-items.result.now c.args.script.now c.args.runner.now.orders
-    c.run_items.new.entries.items c.of_vec.result c.run_items.result c.ok-finished.result
-    (c.as_slice-items.ensures ∙ c.items.ensures.items) c.of_vec.ensures c.ok-finished.ensures.value
-    c.run_items.ensures.ok c.run_items.ensures.err
+returns-clause-runs g c = run-empty c.run_from.result c.empty.ensures.empty c.run_from.ensures.runs
 
 pub returns-clause-report : goal.returns-clause-report
-returns-clause-report g c =
-    given-report
-    (record {
-      journal = journal_of c.args.runner.now.orders.limit c.of_vec.result;
-      finished = c.ok-finished.result;
-    })
-    (script-run c.args.accepted.now c.as_slice-items.result.now c.args.script.now c.args.runner.now.orders
-    c.run_items.new.entries.items c.of_vec.result c.run_items.result c.ok-finished.result
-    (c.as_slice-items.ensures ∙ c.items.ensures.items) c.of_vec.ensures c.ok-finished.ensures.value
-    c.run_items.ensures.ok c.run_items.ensures.err)
+returns-clause-report g c = given-report c.run_from.result (returns-clause-runs g c)
 
 pub returns-clause-text : goal.returns-clause-text
-returns-clause-text g c =
-    given-text
-    (record {
-      journal = journal_of c.args.runner.now.orders.limit c.of_vec.result;
-      finished = c.ok-finished.result;
-    })
-    (script-run c.args.accepted.now c.as_slice-items.result.now c.args.script.now c.args.runner.now.orders
-    c.run_items.new.entries.items c.of_vec.result c.run_items.result c.ok-finished.result
-    (c.as_slice-items.ensures ∙ c.items.ensures.items) c.of_vec.ensures c.ok-finished.ensures.value
-    c.run_items.ensures.ok c.run_items.ensures.err)
+returns-clause-text g c = given-text c.run_from.result (returns-clause-runs g c)

@@ -1,5 +1,10 @@
+use Rattle.std.proofs.Common.{ap}
+use Rattle.nomos_machine.specs.declared.policy.Policy.TheVariants as policy
 use Rattle.nomos_top.proofs.DueLemmas.{behind-err, behind-given, behind-ok}
 use Rattle.nomos_top.proofs.scripts.accepted_bench_due.Goals as goal
+
+pub indexed_bench_due-due-requires-clause-one : goal.indexed_bench_due-due-requires-clause-one
+indexed_bench_due-due-requires-clause-one g c = (policy.First, ap (λ orders. orders.crew) c.bench_orders.ensures)
 
 pub returns-clause-ok : goal.returns-clause-ok
 returns-clause-ok g c = rw c.due_behind.ensures
