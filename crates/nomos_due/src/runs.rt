@@ -51,7 +51,9 @@ fn ran_due<M: Undo + Drop + Send, G: Gate, R: Threads + Wait + Sync>(
     ensures ok { IfOk result (HasRunAs accepted.now script.now runner.now.orders) }
     ensures err { IfErr result (HasRunPart accepted.now script.now runner.now.orders) }
 {
-    let ScriptRun { journal, finished } = run_script_by_crew::<M, G, R>(runner, alloc, accepted, script);
+    let ScriptRun { journal, finished } = run_script_by_crew::<M, G, R>(
+        runner, alloc, accepted, script,
+    );
     match finished {
         Some(whole) => Ok(whole_due(journal, whole)),
         None => Err(journal),

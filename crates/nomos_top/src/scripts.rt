@@ -153,10 +153,7 @@ fn accepted_replay_due<S: Source>(
 }
 
 /// What is due for the load of `bench`.
-pub(crate) fn bench_due(
-    alloc: Global,
-    load: Load,
-) -> Result<CallDue, DoneSoFar>
+pub(crate) fn bench_due(alloc: Global, load: Load) -> Result<CallDue, DoneSoFar>
     ensures ok { (contract script journal : SourceState) → IfOk result (IsTaskDueOn
         (record { contract = contract; script = script; journal = journal }) (bench load.seed load.bidders)) }
     ensures err { (contract script journal : SourceState) → IfErr result (IsTaskPartOn
@@ -199,11 +196,7 @@ fn indexed_bench_due(
 }
 
 // What is due for the load of `bench` on the accepted auction.
-fn accepted_bench_due(
-    alloc: Global,
-    load: Load,
-    accepted: Accepted,
-) -> Result<CallDue, DoneSoFar>
+fn accepted_bench_due(alloc: Global, load: Load, accepted: Accepted) -> Result<CallDue, DoneSoFar>
     ensures ok { IfOk result (λ d.
         IsBenchDue accepted bench_orders load d.due.status d.due.out.items d.due.journal) }
     ensures kept { IfOk result (λ d. kept_text d.due ≡ None) }
