@@ -1,0 +1,9 @@
+pub mod ReadyLaws
+pub mod SilentLaws
+pub mod TalkingLaws
+pub mod WakingLaws
+pub mod AnswerLaws
+pub mod RunningLaws
+pub mod OpenedLaws
+pub mod ChoosingLaws
+pub mod KeepingLaws

@@ -1,0 +1,6 @@
+use Rattle.nomos_monitor.proofs.KeepingLaws.{goes-well}
+use Rattle.nomos_monitor.proofs.outside_talk.OutsideTalk.into_state.Goals as goal
+
+pub returns-clause-goes_on : goal.returns-clause-goes_on
+returns-clause-goes_on g c =
+    rw (← c.self.view_is) (goes-well c.program-program.ensures.accepted c.self.invariant.talk)

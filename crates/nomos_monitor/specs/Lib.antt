@@ -1,0 +1,5 @@
+pub mod Talks
+pub mod Watching
+pub mod Opened
+pub mod Opening
+pub mod Answers

@@ -1,0 +1,18 @@
+-- What is known of the processes that may be ready.
+use Rattle.std.specs.Prelude.{◌≡◌, Option, Some, None}
+use Rattle.nomos_types.specs.Acceptance.{Acceptance}
+use Rattle.nomos_machine.specs.State.{State}
+use Rattle.nomos_wake.specs.Covering.{Covers}
+use Rattle.nomos_wake.specs.declared.awake.Awake.{Awake}
+use Rattle.nomos_monitor.specs.Talks.{IsTalk, TalkState}
+
+-- those that are told as ones that may be ready cover the state, where any are told
+abbrev pub IsWatched : Acceptance → State → Option Awake → Type 0
+IsWatched a s (Some w) = Covers a s w
+IsWatched a s None = Unit {0}
+
+-- it is a talk, its processes are watched, and nothing is marked
+pub record IsWatchedTalk (t : TalkState) (awake : Option Awake) (marked : Option State) : Type 0 where
+  pub talk : IsTalk t.a t.state t.account
+  pub watched : IsWatched t.a t.state awake
+  pub unmarked : marked ≡ None
