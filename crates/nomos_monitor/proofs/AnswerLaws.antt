@@ -1,5 +1,5 @@
 -- A talk is opened, or it is refused for one cause.
-use Rattle.std.proofs.Common.{◌≡◌, ◌<◌, ℕ, List, slice_index, refl, subst, ap, arith}
+use Rattle.std.proofs.Common.{Option, ◌≡◌, ◌<◌, ℕ, List, slice_index, refl, subst, ap, arith}
 use Rattle.nomos_ir.specs.declared.declaration.ProcDecl.{ProcDecl}
 use Rattle.nomos_types.specs.Acceptance.{Acceptance, IsAccepted}
 use Rattle.nomos_types.specs.Amount.{dths}
@@ -7,6 +7,9 @@ use Rattle.nomos_machine.specs.Opening.{IsOpenerNamed}
 use Rattle.nomos_machine.specs.State.{State}
 use Rattle.nomos_machine.proofs.OpeningLaws.{one-opener}
 use Rattle.nomos_sync.specs.Carrying.{CarriesChannel}
+use Rattle.nomos_monitor.specs.Opened.{IsNotRefused, IsRefusedSo, OpensTo}
+use Rattle.nomos_monitor.specs.declared.outside_talk.TalkOpening.{TalkOpening}
+use Rattle.nomos_monitor.specs.declared.outside_talk.TalkOpening.TheVariants as opening
 use Rattle.nomos_monitor.specs.Opening.{IsTalkRefused, OpensNamed, no_account, no_process, carries, no_gas}
 use Rattle.nomos_monitor.specs.declared.refusal.TalkRefusal.{TalkRefusal}
 use Rattle.nomos_monitor.specs.declared.refusal.TalkRefusal.TheVariants as refusal
@@ -53,3 +56,18 @@ module _ {a : Acceptance} (accepted : IsAccepted a) {s : State} {name : List ℕ
       let same = (one-opener accepted name n o.number d o.opens.can.declaration has.opener (its-opener t o)).1 in
       let least = subst (λ (x : ProcDecl). slice_index s.balances account < dths a.annotations x.amount) same less in
       omega (arith, least, o.opens.can.has)
+
+  -- ---- so an answer is told by its cause
+
+  module _ {M : Type 0} (state_of : M → State) (marked_of : M → Option State) where
+    pub refused-so : (result : TalkOpening M) → OpensTo state_of marked_of a s name account result → (why : TalkRefusal)
+        → IsTalkRefused a s name account why → IsRefusedSo why result
+    refused-so (opening.Talk t) opens why is = refused-not_opened why t.state is opens.2
+    refused-so (opening.Refused m other) opens why is = one-refusal other why opens.2 is
+    refused-so (opening.NoMemory m) opens why is = tt
+
+    pub not-refused : (result : TalkOpening M) → OpensTo state_of marked_of a s name account result → (t : State)
+        → OpensNamed a s name account t → IsNotRefused result
+    not-refused (opening.Talk t) opens u is = tt
+    not-refused (opening.Refused m why) opens u is = refused-not_opened why u opens.2 is
+    not-refused (opening.NoMemory m) opens u is = tt

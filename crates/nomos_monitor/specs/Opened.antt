@@ -4,6 +4,7 @@ use Rattle.nomos_types.specs.Acceptance.{Acceptance}
 use Rattle.nomos_machine.specs.State.{State}
 use Rattle.nomos_monitor.specs.Opening.{IsTalkRefused, OpensNamed}
 use Rattle.nomos_monitor.specs.declared.outside_talk.TalkOpening.{TalkOpening}
+use Rattle.nomos_monitor.specs.declared.refusal.TalkRefusal.{TalkRefusal}
 use Rattle.nomos_monitor.specs.declared.outside_talk.TalkOpening.TheVariants as opening
 
 -- A talk of the program and the account, in the state that comes of the opening; or the machine, whose state is as it was
@@ -15,3 +16,15 @@ OpensTo state_of marked_of a s proc account (opening.Talk t) =
 OpensTo state_of marked_of a s proc account (opening.Refused m why) =
     (state_of m ≡ s) × (marked_of m ≡ None) × IsTalkRefused a s proc account why
 OpensTo state_of marked_of a s proc account (opening.NoMemory m) = (state_of m ≡ s) × (marked_of m ≡ None)
+
+-- it is refused so, unless memory was wanting
+abbrev pub IsRefusedSo : {M : Type 0} → TalkRefusal → TalkOpening M → Type 0
+IsRefusedSo why (opening.Talk t) = ⊥
+IsRefusedSo why (opening.Refused m other) = other ≡ why
+IsRefusedSo why (opening.NoMemory m) = Unit {0}
+
+-- it is not refused
+abbrev pub IsNotRefused : {M : Type 0} → TalkOpening M → Type 0
+IsNotRefused (opening.Talk t) = Unit {0}
+IsNotRefused (opening.Refused m why) = ⊥
+IsNotRefused (opening.NoMemory m) = Unit {0}

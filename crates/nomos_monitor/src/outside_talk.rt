@@ -5,9 +5,11 @@ ghost use Rattle.nomos_deeds.specs.Firings.{MayFire};
 ghost use Rattle.nomos_machine.specs.Hearing.{AnswersHearing};
 ghost use Rattle.nomos_machine.specs.Resting.{ComesToRest};
 ghost use Rattle.nomos_machine.specs.Run.{IsQuiet};
+ghost use Rattle.nomos_machine.specs.State.{State};
+ghost use Rattle.nomos_monitor.specs.declared.refusal.TalkRefusal.{TalkRefusal};
 ghost use Rattle.nomos_monitor.specs.Answers.{AnswersSaying};
-ghost use Rattle.nomos_monitor.specs.Opened.{OpensTo};
-ghost use Rattle.nomos_monitor.specs.Opening.{CanOpenBy};
+ghost use Rattle.nomos_monitor.specs.Opened.{IsNotRefused, IsRefusedSo, OpensTo};
+ghost use Rattle.nomos_monitor.specs.Opening.{CanOpenBy, IsTalkRefused, OpensNamed};
 ghost use Rattle.nomos_monitor.specs.Talks.{EndsBy, FiresSome, GoesWell, IsTalk, LooksOnce};
 
 use crate::opener::chosen;
@@ -74,7 +76,11 @@ pub fn open_talk<'a, M: Talking>(
     requires may { MayFire accepted.now (M.state machine) }
     requires nobody { (M.state machine).outside ≡ [] }
     requires unmarked { M.marked machine ≡ None }
-    ensures { OpensTo M.state M.marked accepted.now (M.state machine) proc.now account result }
+    ensures answers { OpensTo M.state M.marked accepted.now (M.state machine) proc.now account result }
+    ensures refused { (why : TalkRefusal) → IsTalkRefused accepted.now (M.state machine) proc.now account why
+        → IsRefusedSo why result }
+    ensures opened { (t : State) → OpensNamed accepted.now (M.state machine) proc.now account t
+        → IsNotRefused result }
 {
     // Where the program is read it is known to be accepted.
     let _program = accepted.program();
