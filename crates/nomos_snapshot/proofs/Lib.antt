@@ -1,4 +1,5 @@
 mod Examples
+mod GatheringLemmas
 mod KindLemmas
 mod LabelLemmas
 pub mod LeadLaws

@@ -52,7 +52,7 @@ all-both P Q R both xs p q = λ k d within. both _ (p k d within) (q k d within)
 
 -- ---- one variable more
 
-over-value : (v : VarId) (x : Value) (w : VarId) (p : Process) → v.0 < w.0 → IsOverVariables w p
+pub over-value : (v : VarId) (x : Value) (w : VarId) (p : Process) → v.0 < w.0 → IsOverVariables w p
     → IsOverVariables w (with_value v x p)
 over-value v x w p below over = record {
   values = All-push (λ e. e.0.0 < w.0) p.values (v, x) over.values below;
@@ -60,7 +60,7 @@ over-value v x w p below over = record {
   channels = over.channels;
 }
 
-over-list : (e : VarId × PotentialList) (w : VarId) (p : Process) → e.0.0 < w.0 → IsOverVariables w p
+pub over-list : (e : VarId × PotentialList) (w : VarId) (p : Process) → e.0.0 < w.0 → IsOverVariables w p
     → IsOverVariables w (with_list e.0 e.1.amount e.1.items p)
 over-list e w p below over = record {
   values = over.values;
@@ -68,7 +68,7 @@ over-list e w p below over = record {
   channels = over.channels;
 }
 
-over-channel : (v : VarId) (name : ℕ) (w : VarId) (p : Process) → v.0 < w.0 → IsOverVariables w p
+pub over-channel : (v : VarId) (name : ℕ) (w : VarId) (p : Process) → v.0 < w.0 → IsOverVariables w p
     → IsOverVariables w (with_channel v name p)
 over-channel v name w p below over = record {
   values = over.values;

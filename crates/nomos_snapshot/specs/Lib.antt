@@ -6,4 +6,5 @@ pub mod Reading
 pub mod Text
 pub mod Leading
 pub mod Orderly
+pub mod Told
 pub mod mirror

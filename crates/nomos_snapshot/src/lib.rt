@@ -1,6 +1,7 @@
 //! Snapshots: a ledger as text, and a text as the ledger that it is the snapshot of.
 #![tactic(auto)]
 
+pub mod gathered;
 mod kind;
 mod labels;
 pub mod line;
@@ -9,6 +10,7 @@ mod message_lines;
 mod plain_lines;
 mod process_lines;
 pub mod reading;
+mod told;
 mod values;
 pub mod words;
 pub mod writing;
