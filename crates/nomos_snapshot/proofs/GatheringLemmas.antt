@@ -38,7 +38,8 @@ last-of P (y ∷ xs) x all = last-of P xs x (All-tail P y (xs ++ x ∷ []) all)
 
 fronts-of : {X : Type 0} (P : X → Type 0) (xs ys : List X) → All P (xs ++ ys) → All P xs
 fronts-of P [] ys all = All-nil P
-fronts-of P (x ∷ xs) ys all = All-cons P x xs (All-head P x (xs ++ ys) all) (fronts-of P xs ys (All-tail P x (xs ++ ys) all))
+fronts-of P (x ∷ xs) ys all = All-cons P x xs (All-head P x (xs ++ ys) all) (fronts-of P xs ys (All-tail P x
+    (xs ++ ys) all))
 
 pub none-long : {X : Type 0} (xs : List X) → ¬ (0 < length xs) → xs ≡ []
 none-long [] none = refl
@@ -83,10 +84,12 @@ channel-kept p q v name kept from same next = λ w. (
       let last : v.0 < w.0 = last-of (λ e. e.0.0 < w.0) (process_told p).channels (v, name) here.channels in
       omega (arith, next, last)),
   (λ low. subst (λ r. IsOverVariables w r) (sym same)
-      (over-channel v name w (process_told p) (omega (arith, next, low)) ((kept w).1 (omega (arith, low, next, from))))),
+      (over-channel v name w (process_told p) (omega (arith, next, low)) ((kept w).1 (omega
+      (arith, low, next, from))))),
 )
 
-pub value-taken : (p : ToldProcess) (values : Vec (VarId × Value) Global) (from : ℕ) (v : VarId) (x : Value) → IsProcessKept p
+pub value-taken : (p : ToldProcess) (values : Vec (VarId × Value) Global) (from : ℕ) (v : VarId) (x : Value)
+    → IsProcessKept p
     → p.from ≤ v.0 → values.items ≡ p.values.items ++ (v, x) ∷ [] → from ≡ v.0 + 1
     → PutsBehind v (with_value v x) p (record p { values = values; from = from }) true
 value-taken p values from v x kept low more next =
@@ -102,7 +105,8 @@ list-taken p lists from v l kept low more next =
     ∙ map-append (λ (e : VarId × ToldList). (e.0, list_told e.1)) p.lists.items ((v, l) ∷ [])) in
     ((kept v).1 low, same, list-kept p (record p { lists = lists; from = from }) v (list_told l) kept low same next)
 
-pub channel-taken : (p : ToldProcess) (channels : Vec (VarId × ℕ) Global) (from : ℕ) (v : VarId) (name : ℕ) → IsProcessKept p
+pub channel-taken : (p : ToldProcess) (channels : Vec (VarId × ℕ) Global) (from : ℕ) (v : VarId) (name : ℕ)
+    → IsProcessKept p
     → p.from ≤ v.0 → channels.items ≡ p.channels.items ++ (v, name) ∷ [] → from ≡ v.0 + 1
     → PutsBehind v (with_channel v name) p (record p { channels = channels; from = from }) true
 channel-taken p channels from v name kept low more next =
@@ -135,14 +139,16 @@ objects-none g kept none =
     let empty : (ledger_of (told g)).state.objects ≡ [] =
     ap (λ (os : List Object). os ++ map object.Process (option_to_list (told g).process)) none.before
     ∙ ap (λ (o : Option Process). map object.Process (option_to_list o)) none.none in
-    (kept.objects 0).0 (subst (λ (os : List Object). All (λ o. object_number o < 0) os) (sym empty) (All-nil (λ (o : Object). object_number o < 0)))
+    (kept.objects 0).0 (subst (λ (os : List Object). All (λ o. object_number o < 0) os) (sym empty) (All-nil (λ
+    (o : Object). object_number o < 0)))
 
 pub no-names : (g : Gathering) → IsKept g → g.names_from ≤ 0 → (told g).ledger.state.types ≡ []
 no-names g kept low = none-below (λ (t : ℕ × TypeId). t.0) (told g).ledger.state.types ((kept.names 0).1 low)
 
 pub names-none : (g : Gathering) → IsKept g → (told g).ledger.state.types ≡ [] → g.names_from ≤ 0
 names-none g kept none =
-    (kept.names 0).0 (subst (λ (ts : List (ℕ × TypeId)). All (λ t. t.0 < 0) ts) (sym none) (All-nil (λ (t : ℕ × TypeId). t.0 < 0)))
+    (kept.names 0).0 (subst (λ (ts : List (ℕ × TypeId)). All (λ t. t.0 < 0) ts) (sym none) (All-nil (λ
+    (t : ℕ × TypeId). t.0 < 0)))
 
 -- when an account, a contract and a name may stand there
 pub record AccountTurn (g : Gathered) (name : List ℕ) : Type 0 where
@@ -232,14 +238,17 @@ pub object-more : (from : ℕ) (os more : List Object) (o : Object)
 object-more from os more o floor low same n = (
   (λ all.
       let last : object_number o < n =
-      last-of (λ p. object_number p < n) os o (subst (λ (ps : List Object). All (λ p. object_number p < n) ps) same all) in
+      last-of (λ p. object_number p < n) os o (subst (λ (ps : List Object). All
+      (λ p. object_number p < n) ps) same all) in
       omega (arith, last)),
   (λ high. subst (λ (ps : List Object). All (λ p. object_number p < n) ps) (sym same)
-      (All-push (λ (p : Object). object_number p < n) os o ((floor n).1 (omega (arith, low, high))) (omega (arith, high)))),
+      (All-push (λ (p : Object). object_number p < n) os o ((floor n).1 (omega (arith, low, high))) (omega
+      (arith, high)))),
 )
 
 -- a name more
-pub name-more : (from name : ℕ) (t : TypeId) (ts more : List (ℕ × TypeId)) → ((n : ℕ) → All (λ e. e.0 < n) ts ↔ (from ≤ n))
+pub name-more : (from name : ℕ) (t : TypeId) (ts more : List (ℕ × TypeId)) → ((n : ℕ) → All (λ e. e.0 < n) ts ↔
+    (from ≤ n))
     → from ≤ name → more ≡ ts ++ (name, t) ∷ [] → (n : ℕ) → All (λ e. e.0 < n) more ↔ (name + 1 ≤ n)
 name-more from name t ts more floor low same n = (
   (λ all.
@@ -247,18 +256,21 @@ name-more from name t ts more floor low same n = (
       last-of (λ e. e.0 < n) ts (name, t) (subst (λ (es : List (ℕ × TypeId)). All (λ e. e.0 < n) es) same all) in
       omega (arith, last)),
   (λ high. subst (λ (es : List (ℕ × TypeId)). All (λ e. e.0 < n) es) (sym same)
-      (All-push (λ (e : ℕ × TypeId). e.0 < n) ts (name, t) ((floor n).1 (omega (arith, low, high))) (omega (arith, high)))),
+      (All-push (λ (e : ℕ × TypeId). e.0 < n) ts (name, t) ((floor n).1 (omega (arith, low, high))) (omega
+      (arith, high)))),
 )
 
 -- ---- a process that is one of the objects
 
-pub settled-objects : (objects after : List ToldObject) (process : Option ToldProcess) (p : ToldProcess) → process ≡ Some p
+pub settled-objects : (objects after : List ToldObject) (process : Option ToldProcess) (p : ToldProcess)
+    → process ≡ Some p
     → after ≡ objects ++ told_object.Process p ∷ []
     → map object_told after
     ≡ map object_told objects ++ map object.Process (option_to_list (option_map process_told process))
 settled-objects objects after process p some same =
     ap (map object_told) same ∙ map-append object_told objects (told_object.Process p ∷ [])
-    ∙ ap (λ (o : Option ToldProcess). map object_told objects ++ map object.Process (option_to_list (option_map process_told o)))
+    ∙ ap (λ (o : Option ToldProcess). map object_told objects ++ map object.Process (option_to_list
+    (option_map process_told o)))
     (sym some)
 
 pub no-process : (objects : List ToldObject) (process : Option ToldProcess) → process ≡ None
@@ -266,7 +278,8 @@ pub no-process : (objects : List ToldObject) (process : Option ToldProcess) → 
     ≡ map object_told objects ++ map object.Process (option_to_list (option_map process_told process))
 no-process objects process none =
     sym (append-nil (map object_told objects))
-    ∙ ap (λ (o : Option ToldProcess). map object_told objects ++ map object.Process (option_to_list (option_map process_told o)))
+    ∙ ap (λ (o : Option ToldProcess). map object_told objects ++ map object.Process (option_to_list
+    (option_map process_told o)))
     (sym none)
 
 -- ---- the first four lines
@@ -342,15 +355,25 @@ settle-none g none = ap (λ (p : Option Process). behind (record { ledger = g.le
 lands : {a : Acceptance} {g : Gathered} {l : SnapshotLine} {ledger : LedgerState} (h : Gathered)
     → Goes a (behind g) l (settled ledger) → h.ledger ≡ ledger → h.process ≡ None → Goes a (behind g) l (behind h)
 lands {a} {g} {l} h goes same none =
-    subst (λ (s : Stand). Goes a (behind g) l s) (ap (λ (k : LedgerState). settled k) (sym same) ∙ settle-none h none) goes
+    subst (λ (s : Stand). Goes a (behind g) l s) (ap (λ (k : LedgerState). settled k) (sym same)
+    ∙ settle-none h none) goes
 
-pub account-taken : (g : Gathering) (accounts : List (List ℕ)) (balances : Vec ℕ Global) (name : List ℕ) (dths : ℕ) → IsKept g
+pub account-taken : (g : Gathering) (accounts : List (List ℕ)) (balances : Vec ℕ Global) (name : List ℕ) (dths : ℕ)
+    → IsKept g
     → AccountTurn (told g) name → accounts ≡ g.accounts ++ name ∷ [] → balances.items ≡ g.balances.items ++ dths ∷ []
     → LeadsOn (line.Account name dths) g (record g { accounts = accounts; balances = balances }) true
 account-taken g accounts balances name dths kept turn more paid = λ a. (
   lands (told (record g { accounts = accounts; balances = balances })) (account-goes a (told g) name dths turn)
-      (ap (λ (ns : List (List ℕ)). record (told g).ledger { accounts = ns; state = record (told g).ledger.state { balances = balances.items } }) more
-      ∙ ap (λ (bs : List ℕ). record (told g).ledger { accounts = g.accounts ++ name ∷ []; state = record (told g).ledger.state { balances = bs } }) paid)
+      (ap (λ (ns : List (List ℕ)). record (told g).ledger {
+        accounts = ns;
+        state = record
+            (told g).ledger.state { balances = balances.items };
+      }) more
+      ∙ ap (λ (bs : List ℕ). record (told g).ledger {
+        accounts = g.accounts ++ name ∷ [];
+        state = record
+            (told g).ledger.state { balances = bs };
+      }) paid)
       turn.none.none,
   record {
     even = ap length more ∙ length-append g.accounts (name ∷ []) ∙ ap (λ n. n + 1) kept.even
@@ -370,7 +393,8 @@ contract-taken g contracts name shared kept turn more = λ a. (
   record { even = kept.even; objects = kept.objects; names = kept.names; variables = kept.variables },
 )
 
-pub name-taken : (g : Gathering) (types : Vec (ℕ × TypeId) Global) (from name : ℕ) (t : TypeId) → IsKept g → NoObjects (told g)
+pub name-taken : (g : Gathering) (types : Vec (ℕ × TypeId) Global) (from name : ℕ) (t : TypeId) → IsKept g → NoObjects
+    (told g)
     → g.names_from ≤ name → types.items ≡ g.types.items ++ (name, t) ∷ [] → from ≡ name + 1
     → LeadsOn (line.Name name t) g (record g { types = types; names_from = from }) true
 name-taken g types from name t kept none low more next = λ a. (
@@ -431,7 +455,8 @@ process-taken g h p seen from kept settle low is fresh over =
       record {
         even = settle.kept.even;
         objects = subst (λ (f : ℕ). (n : ℕ)
-            → All (λ o. object_number o < n) ((told h).ledger.state.objects ++ object.Process (process_told p) ∷ []) ↔ (f ≤ n))
+            → All (λ o. object_number o < n) ((told h).ledger.state.objects ++ object.Process (process_told p) ∷ []) ↔
+            (f ≤ n))
             (sym over)
             (object-more g.objects_from (ledger_of (told g)).state.objects
             ((told h).ledger.state.objects ++ object.Process (process_told p) ∷ []) (object.Process (process_with seen))
@@ -441,7 +466,8 @@ process-taken g h p seen from kept settle low is fresh over =
       },
     )
 
-pub message-taken : (g h : Gathering) (objects : Vec ToldObject Global) (m : Message) (from : ℕ) → IsKept g → IsSettled g h
+pub message-taken : (g h : Gathering) (objects : Vec ToldObject Global) (m : Message) (from : ℕ) → IsKept g
+    → IsSettled g h
     → g.objects_from ≤ m.number → objects.items ≡ h.objects.items ++ told_object.Message m ∷ [] → from ≡ m.number + 1
     → LeadsOn (line.Message m) g (record h { objects = objects; objects_from = from }) true
 message-taken g h objects m from kept settle low more over =
@@ -474,7 +500,8 @@ message-taken g h objects m from kept settle low more over =
 same-number : (n : ℕ) (os : List Object) (o p : Object) → object_number o ≡ object_number p
     → All (λ q. object_number q < n) (os ++ o ∷ []) → All (λ q. object_number q < n) (os ++ p ∷ [])
 same-number n os o p same all =
-    All-push (λ (q : Object). object_number q < n) os p (fronts-of (λ (q : Object). object_number q < n) os (o ∷ []) all)
+    All-push (λ (q : Object). object_number q < n) os p (fronts-of (λ (q : Object). object_number q < n) os
+    (o ∷ []) all)
     (subst (λ k. k < n) same (last-of (λ (q : Object). object_number q < n) os o all))
 
 pub variable-taken : {l : SnapshotLine} (g : Gathering) (p q : ToldProcess) (fits : Bool) (v : VarId)
@@ -486,7 +513,11 @@ pub variable-taken : {l : SnapshotLine} (g : Gathering) (p q : ToldProcess) (fit
 variable-taken {l} g p q false v change kept some puts is pid row = absurd (false≢true is)
 variable-taken {l} g p q true v change kept some puts is pid row =
     let stands : behind (told g) ≡ unfinished (told g).ledger (process_told p) =
-    ap (λ (o : Option ToldProcess). behind (record { ledger = (told g).ledger; process = option_map process_told o })) some in
+    ap (λ (o : Option ToldProcess). behind (record {
+      ledger =
+          (told g).ledger;
+      process = option_map process_told o;
+    })) some in
     let leads : unfinished (told g).ledger (change (process_told p)) ≡ unfinished (told g).ledger (process_told q) =
     ap (λ (r : Process). unfinished (told g).ledger r) (sym puts.1) in
     let number : (process_told p).pid ≡ (process_told q).pid =
@@ -504,7 +535,8 @@ variable-taken {l} g p q true v change kept some puts is pid row =
         objects = λ n. (
           (λ over. (kept.objects n).0
               (subst (λ (os : List Object). All (λ o. object_number o < n) os) (sym all)
-              (same-number n (told g).ledger.state.objects (object.Process (process_told q)) (object.Process (process_told p))
+              (same-number n (told g).ledger.state.objects (object.Process (process_told q)) (object.Process
+              (process_told p))
               (sym number) over))),
           (λ high. same-number n (told g).ledger.state.objects (object.Process (process_told p))
               (object.Process (process_told q)) number
@@ -520,7 +552,8 @@ pub value-row : (v : VarId) (x : Value) (a : Acceptance) (k : LedgerState) (r : 
 value-row v x a k r over = gathering.value k r v x over
 
 pub list-row : (v : VarId) (amount : ℕ) (items : List Value) (a : Acceptance) (k : LedgerState) (r : Process)
-    → IsOverVariables v r → Goes a (unfinished k r) (line.List v amount items) (unfinished k (with_list v amount items r))
+    → IsOverVariables v r → Goes a (unfinished k r) (line.List v amount items) (unfinished k
+    (with_list v amount items r))
 list-row v amount items a k r over = gathering.list k r v amount items over
 
 pub channel-row : (v : VarId) (name : ℕ) (a : Acceptance) (k : LedgerState) (r : Process) → IsOverVariables v r

@@ -11,6 +11,8 @@ pub mod OneReadingLaws
 pub mod OrderlyLaws
 mod ProcessLaws
 mod RowLemmas
+mod StandLemmas
+mod TextReadingLemmas
 mod ValueLemmas
 mod VariableLaws
 mod WordLemmas

@@ -77,7 +77,8 @@ pub record IsKept (g : Gathering) : Type 0 where
 abbrev pub PutsBehind : VarId → (Process → Process) → ToldProcess → ToldProcess → Bool → Type 0
 PutsBehind v change before after fits =
     MatchBool fits
-    (IsOverVariables v (process_told before) × (process_told after ≡ change (process_told before)) × IsProcessKept after)
+    (IsOverVariables v (process_told before) × (process_told after ≡ change
+    (process_told before)) × IsProcessKept after)
     (¬ (IsOverVariables v (process_told before)))
 
 -- ---- steps

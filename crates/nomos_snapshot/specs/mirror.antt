@@ -1,4 +1,5 @@
 -- Mirrors of the code, on which no promise stands.
 pub mod Kinds
+pub mod Stands
 pub mod ValueReading
 pub mod Written
