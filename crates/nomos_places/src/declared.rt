@@ -32,7 +32,7 @@ fn each_place(
 }
 
 /// What typing says at the instructions of a declaration that are wanted, by number: at each to which the rules lead
-/// from its start, under the amounts that were accepted. `docs/LANGUAGE.md`, "Typing of processes", has the rules.
+/// from its start, under the amounts that were accepted. `docs/LANGUAGE.md`, "The typing rules", has them.
 pub fn places_of(
     alloc: Global,
     checker: &Checker,
