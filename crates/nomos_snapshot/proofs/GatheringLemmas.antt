@@ -3,7 +3,7 @@ use Rattle.std.proofs.Common.{◌≡◌, ◌≢◌, ◌↔◌, ℕ, ◌+◌, ◌
 use Rattle.std.specs.Global.{Global}
 use Rattle.std.specs.Option.{option_map, option_to_list}
 use Rattle.std.proofs.lemmas.List.{append-nil, length-append, map-append}
-use Rattle.std.proofs.lemmas.List.Elements.{All-append, All-cons, All-head, All-nil, All-push, All-tail, All-weaker}
+use Rattle.std.proofs.lemmas.List.Elements.{All-cons, All-head, All-nil, All-push, All-tail}
 use Rattle.std.proofs.lemmas.Bool.{false≢true}
 use Rattle.nomos_deeds.specs.declared.sight.SeenProcess.{SeenProcess}
 use Rattle.nomos_ir.specs.Value.{Value}
@@ -273,15 +273,6 @@ settled-objects objects after process p some same =
     (option_map process_told o)))
     (sym some)
 
-pub no-process : (objects : List ToldObject) (process : Option ToldProcess) → process ≡ None
-    → map object_told objects
-    ≡ map object_told objects ++ map object.Process (option_to_list (option_map process_told process))
-no-process objects process none =
-    sym (append-nil (map object_told objects))
-    ∙ ap (λ (o : Option ToldProcess). map object_told objects ++ map object.Process (option_to_list
-    (option_map process_told o)))
-    (sym none)
-
 -- ---- the first four lines
 
 pub head-only : {a : Acceptance} {l : SnapshotLine} {next : Stand} → Goes a at_head l next → l ≡ line.Head
@@ -298,54 +289,6 @@ next-only none (gathering.next n m) = none n m refl
 pub spent-only : {a : Acceptance} {l : SnapshotLine} {next : Stand} {object name : ℕ} → ((n : ℕ) → l ≢ line.Spent n)
     → ¬ (Goes a (at_spent object name) l next)
 spent-only none (gathering.spent object name dths) = none dths refl
-
--- none of them stands behind
-pub data IsFirst : SnapshotLine → Type 0 where
-  head_one : IsFirst line.Head
-  unit_one : (n : ℕ) → IsFirst (line.Unit n)
-  next_ones : (n m : ℕ) → IsFirst (line.Next n m)
-  spent_one : (n : ℕ) → IsFirst (line.Spent n)
-
-pub not-first : {a : Acceptance} {g : Gathered} {l : SnapshotLine} {to : Stand} → Goes a (behind g) l to → ¬ (IsFirst l)
-not-first (gathering.account l name dths before new) first = elim first [ ]
-not-first (gathering.contract l name shared before new) first = elim first [ ]
-not-first (gathering.name l name t before over) first = elim first [ ]
-not-first (gathering.process g p over) first = elim first [ ]
-not-first (gathering.value l p v x over) first = elim first [ ]
-not-first (gathering.list l p v amount items over) first = elim first [ ]
-not-first (gathering.channel l p v name over) first = elim first [ ]
-not-first (gathering.message g m over) first = elim first [ ]
-
--- variables
-some-only : {X : Type 0} {x y : X} → Some x ≡ Some y → x ≡ y
-some-only e = cc
-
-none-some : {X : Type 0} {x : X} → Some x ≡ None → ⊥
-none-some e = absurd (omega (arith, ap (λ o. length (option_to_list o)) e))
-
-pub value-turn : {a : Acceptance} {g : Gathered} {v : VarId} {x : Value} {next : Stand} {p : Process}
-    → Goes a (behind g) (line.Value v x) next → g.process ≡ Some p → IsOverVariables v p
-value-turn (gathering.value l p v x over) same = subst (IsOverVariables v) (some-only same) over
-
-pub list-turn : {a : Acceptance} {g : Gathered} {v : VarId} {amount : ℕ} {items : List Value} {next : Stand} {p : Process}
-    → Goes a (behind g) (line.List v amount items) next → g.process ≡ Some p → IsOverVariables v p
-list-turn (gathering.list l p v amount items over) same = subst (IsOverVariables v) (some-only same) over
-
-pub channel-turn : {a : Acceptance} {g : Gathered} {v : VarId} {name : ℕ} {next : Stand} {p : Process}
-    → Goes a (behind g) (line.Channel v name) next → g.process ≡ Some p → IsOverVariables v p
-channel-turn (gathering.channel l p v name over) same = subst (IsOverVariables v) (some-only same) over
-
-pub value-some : {a : Acceptance} {g : Gathered} {v : VarId} {x : Value} {next : Stand}
-    → Goes a (behind g) (line.Value v x) next → g.process ≢ None
-value-some (gathering.value l p v x over) none = none-some none
-
-pub list-some : {a : Acceptance} {g : Gathered} {v : VarId} {amount : ℕ} {items : List Value} {next : Stand}
-    → Goes a (behind g) (line.List v amount items) next → g.process ≢ None
-list-some (gathering.list l p v amount items over) none = none-some none
-
-pub channel-some : {a : Acceptance} {g : Gathered} {v : VarId} {name : ℕ} {next : Stand}
-    → Goes a (behind g) (line.Channel v name) next → g.process ≢ None
-channel-some (gathering.channel l p v name over) none = none-some none
 
 -- ---- what the code has then
 

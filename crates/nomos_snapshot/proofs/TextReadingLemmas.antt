@@ -1,10 +1,9 @@
 -- A text is read line by line.
-use Rattle.std.proofs.Common.{◌≡◌, ◌≢◌, ℕ, ◌+◌, ◌==◌, Bool, true, inl, inr, List, [], ◌∷◌, ◌++◌, length, Result, Ok, Err, refl, ap, sym, subst, ◌∙◌, arith}
+use Rattle.std.proofs.Common.{◌≡◌, ◌≢◌, ℕ, ◌+◌, ◌==◌, Bool, true, inl, inr, List, [], ◌∷◌, ◌++◌, length, Ok, Err, refl, ap, sym, subst, ◌∙◌, arith}
 use Rattle.std.proofs.lemmas.List.{length-append}
 use Rattle.std.proofs.lemmas.Bool.{false≢true}
 use Rattle.std.proofs.lemmas.Bool.Decides.{eqb_tells}
 use Rattle.nomos_ir.specs.Naming.{NamesAreShort, NamesDiffer}
-use Rattle.nomos_legal.specs.Ledger.{LedgerState}
 use Rattle.nomos_texts.specs.Splitting.{ComesApart, Lacks}
 use Rattle.nomos_texts.proofs.SplittingLaws.{ComesApart-parts, Lacks-apart}
 use Rattle.nomos_types.specs.Acceptance.{Acceptance}

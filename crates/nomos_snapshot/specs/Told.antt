@@ -1,5 +1,5 @@
 -- What the code keeps of what lines told, and what a line more does.
-use Rattle.std.specs.Prelude.{◌≡◌, ◌≢◌, ◌≤◌, ◌↔◌, ℕ, List, [], length, map, Bool, MatchBool, Option, None, IfSome}
+use Rattle.std.specs.Prelude.{◌≡◌, ◌≢◌, ◌≤◌, ◌↔◌, ℕ, List, [], length, map, Bool, MatchBool, None, IfSome}
 use Rattle.std.specs.Option.{option_map}
 use Rattle.nomos_ir.specs.declared.ids.VarId.{VarId}
 use Rattle.nomos_legal.specs.Ledger.{account_of}

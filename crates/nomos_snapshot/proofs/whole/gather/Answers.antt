@@ -1,5 +1,5 @@
 -- A text is read line by line.
-use Rattle.std.proofs.Common.{◌≡◌, ◌∷◌, [], ap, arith, length, rules, subst}
+use Rattle.std.proofs.Common.{◌∷◌, ap, arith, length, rules, subst}
 use Rattle.std.proofs.lemmas.List.{length-append}
 use Rattle.nomos_ir.specs.Naming.{NamesAreShort}
 use Rattle.nomos_ir.specs.declared.lists.ProgramLists.{ProgramLists}

@@ -1,5 +1,5 @@
 -- The process is put behind the objects.
-use Rattle.std.proofs.Common.{sym, ◌∙◌}
+use Rattle.std.proofs.Common.{sym}
 use Rattle.nomos_snapshot.proofs.GatheringLemmas.{process-settled}
 use Rattle.nomos_snapshot.proofs.gathered.Gathering.settle.Goals as goal
 
