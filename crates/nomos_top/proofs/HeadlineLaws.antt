@@ -49,11 +49,11 @@ Answered lists o =
     × (((a : Acceptance) × (o.accepted ≡ Some a) × (a.program ≡ lists)) ⊎ ((o.status ≡ 8) ⊎ (o.status ≡ 5)))
 
 -- the program that is given is the one as which the text reads
-program-given : {i : Inputs} {task : Task} {o : Outcome} → (a : Acceptance) → o.accepted ≡ Some a
+program-given : (i : Inputs) (task : Task) (o : Outcome) (a : Acceptance) → o.accepted ≡ Some a
     → IsGivenFor task (contract_of task i.contract.text) a → (lists : ProgramLists) (x : Annotations)
     → IsTypedAs (contract_of task i.contract.text) lists x
     → (b : Acceptance) × (o.accepted ≡ Some b) × (b.program ≡ lists)
-program-given {i} {task} a gives is lists x typed =
+program-given i task o a gives is lists x typed =
     let text = contract_of task i.contract.text in
     (a, gives, one-program text a.program lists (given-typed task text a is).read typed.read)
 
@@ -65,9 +65,9 @@ due-complete (view.against (view.refused why w n is) idle none) lists x typed = 
 due-complete (view.against (view.unsolved stop w n is) idle none) lists x typed =
     (λ e. omega (arith, e, n), inr (inl n))
 due-complete {i} {task} {o} (view.alone a what alone gives is idle n) lists x typed =
-    (λ e. omega (arith, e, n), inl (program-given {i} {task} {o} a gives is lists x typed))
+    (λ e. omega (arith, e, n), inl (program-given i task o a gives is lists x typed))
 due-complete {i} {task} {o} (view.behind a what further gives is) lists x typed =
-    ((further-status what).0, inl (program-given {i} {task} {o} a gives is lists x typed))
+    ((further-status what).0, inl (program-given i task o a gives is lists x typed))
 
 is-complete : (c : Call) (t : Texts) → EndView c t → (task : Task) (lists : ProgramLists) (x : Annotations)
     → Asks c.words task → IsTypedAs (contract_of task t.contract) lists x

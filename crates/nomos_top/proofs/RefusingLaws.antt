@@ -23,7 +23,7 @@ use Rattle.nomos_top.specs.Tasks.{AskNothing, ReadsJournal, ReadsScript, contrac
 use Rattle.nomos_top.proofs.AcceptedLaws.{task-view}
 use Rattle.nomos_top.proofs.CauseLemmas.{cause-no_stop_for, given-no_cause, given-no_stop, given-one}
 use Rattle.nomos_top.proofs.EndLaws.{IsOrFault, bad-unread, done-not, done-status, journal-script, or-fails, reads-script, script-not_alone, whole-at}
-use Rattle.nomos_top.proofs.Views.{Carried, Further, DueView, WordsView, Whole, end-view}
+use Rattle.nomos_top.proofs.Views.{Carried, Further, DueView, WordsView, Whole, end-view, EndView}
 use Rattle.nomos_top.proofs.Views as view
 use Rattle.nomos_types.specs.Acceptance.{Acceptance, IsAccepted}
 use Rattle.nomos_words.specs.Usage.{usage_line}
