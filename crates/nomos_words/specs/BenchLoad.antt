@@ -1,10 +1,38 @@
 -- The load that `bench` runs: bids that are drawn from a seed, and the script in which they are placed.
 use Rattle.std.specs.Prelude.{◌+◌, ◌*◌, ◌/◌, ◌%◌, ◌^◌, ℕ, suc, zero, List, [], ◌++◌, codes, decimal}
-use Rattle.nomos_words.specs.declared.auction.TheConstants.{AUCTION}
 
--- the text of the auction that is run
+-- The text of the auction that is run: wallets that coins are stored in; an auction that keeps the best coin and gives
+-- each other one back to a wallet; those who place bids and ask for the best.
 unfoldable pub auction_text : List ℕ
-auction_text = AUCTION.now
+auction_text =
+    codes "type R coin = &{ value : int /\\ coin | melt : 1 };\n"
+    ++ codes "type S wallet = up &{ store : coin -o down wallet | total : int /\\ down wallet };\n"
+    ++ codes "type S auction = up <{2}| &{ bid : coin -o wallet -o down auction | high : int /\\ down auction };\n"
+    ++ codes "proc R mint(v: int;) : coin = case self { value => put self v; call mint(v;) | melt => close };\n"
+    ++ codes "proc S keep(sum: int;) : wallet =\n"
+    ++ codes "  accept;\n"
+    ++ codes "  case self {\n"
+    ++ codes "    store => recv self c; c.value; take c v; c.melt; wait c; detach; call keep(sum + v;)\n"
+    ++ codes "  | total => put self sum; detach; call keep(sum;) };\n"
+    ++ codes "proc S open(best: int; top: coin, who: wallet) : auction =\n"
+    ++ codes "  accept; get self {2};\n"
+    ++ codes "  case self {\n"
+    ++ codes "    bid => recv self c; recv self w; c.value; take c v; work {2};\n"
+    ++ codes "      if best < v {\n"
+    ++ codes "        acquire who as x; x.store; send x top; release x as who2;\n"
+    ++ codes "        detach; call open(v; c, w)\n"
+    ++ codes "      } else {\n"
+    ++ codes "        acquire w as y; y.store; send y c; release y as w2;\n"
+    ++ codes "        detach; call open(best; top, who)\n"
+    ++ codes "      }\n"
+    ++ codes "  | high => work {2}; put self best; detach; call open(best; top, who) };\n"
+    ++ codes "proc S start(reserve: int; seller: wallet) : auction =\n"
+    ++ codes "  spawn c = mint(0;); call open(reserve; c, seller);\n"
+    ++ codes "proc T place(v: int; a: auction, w: wallet) {3} =\n"
+    ++ codes "  work {1}; spawn c = mint(v;); acquire a as x; pay x {2}; x.bid;\n"
+    ++ codes "  send x c; send x w; release x as a2; emit v; close;\n"
+    ++ codes "proc T ask(; a: auction) {2} =\n"
+    ++ codes "  acquire a as x; pay x {2}; x.high; take x v; release x as a2; emit v; close;\n"
 
 -- the number that is drawn behind this one
 abbrev pub next_draw : ℕ → ℕ
