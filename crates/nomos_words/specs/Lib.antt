@@ -1,4 +1,5 @@
 pub mod BenchLoad
+pub mod Commands
 pub mod FindsOne
 pub mod Jobs
 pub mod Options

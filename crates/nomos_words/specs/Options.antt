@@ -56,6 +56,10 @@ abbrev pub AreWorkers : Option (List ℕ) → Option (List ℕ) → Workers → 
 AreWorkers count policy_given (One policy) = IsCountOr 1 16 count 1 × IsPolicy policy_given policy
 AreWorkers count policy_given (Many n) = IsCountOr 1 16 count n × (1 < n) × (policy_given ≡ None)
 
+-- the most firings of a batch where nothing else is said
+abbrev pub usual_limit : ℕ
+usual_limit = 1000000
+
 -- the most firings of a batch, of `--steps`
 abbrev pub AreSteps : Option (List ℕ) → ℕ → Type 0
-AreSteps steps_given n = IsCountOr 1000000 10000000 steps_given n
+AreSteps steps_given n = IsCountOr usual_limit 10000000 steps_given n

@@ -1,7 +1,8 @@
 //! What the words of a call ask for.
 
-ghost use Rattle.std.specs.Prelude.{◌∷◌, [], codes, map, string_bytes};
+ghost use Rattle.std.specs.Prelude.{◌≡◌, ◌∷◌, [], codes, map, string_bytes};
 ghost use Rattle.std.specs.Option.{option_map};
+ghost use Rattle.nomos_words.specs.Commands.{file_word, row};
 ghost use Rattle.nomos_words.specs.FindsOne.{FindsOne};
 ghost use Rattle.nomos_words.specs.Jobs.{task};
 ghost use Rattle.nomos_words.specs.Words.{Asks, AsksFile};
@@ -42,6 +43,48 @@ pub enum Job<'a> {
     Least {
         file: &'a str,
     },
+}
+
+/// The words that name files: those of the contract, of the script and of the journal that are read, and the one in which
+/// the journal of a run is kept; each where there is one.
+#[derive(Clone, Copy, Debug)]
+pub struct Files<'a> {
+    pub contract: Option<&'a str>,
+    pub script: Option<&'a str>,
+    pub journal: Option<&'a str>,
+    pub kept: Option<&'a str>,
+}
+
+impl<'a> Job<'a> {
+    /// The files that the job reads and keeps, as the table of commands has them (docs/TEXTS.md, "Words and statuses").
+    pub fn files(self) -> Files<'a>
+        ensures contract { option_map (λ word. word.now) result.contract ≡ file_word (row (task self.entry)).contract }
+        ensures script { option_map (λ word. word.now) result.script ≡ file_word (row (task self.entry)).script }
+        ensures journal { option_map (λ word. word.now) result.journal ≡ file_word (row (task self.entry)).journal }
+        ensures kept { option_map (λ word. word.now) result.kept ≡ (row (task self.entry)).kept }
+    {
+        let (contract, script, journal, kept) = match self {
+            Job::Check { file } | Job::Least { file } => (Some(file), None, None, None),
+            Job::Run {
+                file,
+                script,
+                journal,
+                ..
+            } => (Some(file), Some(script), None, journal),
+            Job::Replay {
+                file,
+                script,
+                journal,
+            } => (Some(file), Some(script), Some(journal), None),
+            Job::Bench { .. } => (None, None, None, None),
+        };
+        Files {
+            contract,
+            script,
+            journal,
+            kept,
+        }
+    }
 }
 
 /// The job that the words ask for, or none where they have no form of the usage line (docs/TEXTS.md, "Words and
