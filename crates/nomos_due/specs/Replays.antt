@@ -7,16 +7,13 @@ use Rattle.nomos_legal.specs.Ledger.{LedgerState}
 use Rattle.nomos_legal.specs.StandsFor.{StandsFor}
 use Rattle.nomos_legal.specs.declared.journal.Journal.{Journal}
 use Rattle.nomos_report.specs.Reported.{run_status}
+use Rattle.nomos_words.specs.Options.{usual_limit}
 use Rattle.nomos_replay.specs.Answers.{Answers}
 use Rattle.nomos_replay.specs.Refusal.{refusal_line}
 use Rattle.nomos_replay.specs.Replayed.{HasReplayed}
 use Rattle.nomos_replay.specs.declared.error.ReplayError.{ReplayError}
 use Rattle.nomos_due.specs.Lines.{IsNoScript, no_entries, read_fault_line}
 use Rattle.nomos_due.specs.Outside.{HaveRisen, Input}
-
--- the most firings of a batch where nothing else is said
-abbrev pub usual_limit : ℕ
-usual_limit = 1000000
 
 -- the journal where none was replayed
 abbrev pub no_journal : Journal

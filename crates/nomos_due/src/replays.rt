@@ -11,7 +11,8 @@ ghost use Rattle.nomos_replay.specs.Written.{AreWritten};
 ghost use Rattle.nomos_report.specs.Reported.{run_status};
 ghost use Rattle.nomos_due.specs.Finding.{IsBare};
 ghost use Rattle.nomos_due.specs.Outside.{FaultCounts, source_state};
-ghost use Rattle.nomos_due.specs.Replays.{GivesJournal, no_journal, usual_limit};
+ghost use Rattle.nomos_due.specs.Replays.{GivesJournal, no_journal};
+ghost use Rattle.nomos_words.specs.Options.{usual_limit};
 ghost use Rattle.nomos_due.specs.Sources.{IsJournalDueFor, IsReplayDueFor};
 
 use crate::due::{Due, bare_due, line_due, no_entries};
