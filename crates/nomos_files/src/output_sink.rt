@@ -2,9 +2,11 @@
 
 ghost use Rattle.std.specs.Prelude.{◌≡◌, ◌<◌, ◌≤◌, length, None, IsSome};
 ghost use Rattle.std.specs.Option.{option_map};
+ghost use Rattle.nomos_base.specs.Faults.{next_count};
 ghost use Rattle.nomos_base.specs.Sink.{Writes};
 ghost use Rattle.nomos_files.specs.FaultCounting.{count_after_write, AddsBy, PutsSome};
 
+use crate::named::Named;
 use nomos_base::{Put, Sink};
 use std::fs::{File, Files};
 use std::io::{Stdout, Write};
@@ -24,12 +26,13 @@ enum Target {
 /// A sink over the standard output, or over the file that a word names, or over none: then every write fails. A file is
 /// made at the first write, so a sink that is never written leaves an earlier file alone; where it cannot be made, the
 /// write fails. A sink does not tell what was written. A contract sees it as the word, which the standard output has
-/// not, and the count of its faults.
+/// not, and the counts of its writes and of those that failed.
 #[derive(Drop)]
 pub struct OutputSink<'a, R: Files<File = File>> {
     files: &'a R,
     word: Option<&'a str>,
     target: Target,
+    calls: u64,
     faults: u64,
 }
 
@@ -39,34 +42,49 @@ impl<'a, R: Files<File = File>> Model for OutputSink<'a, R> {
 
     ghost Value = { NamedFile };
 
-    ghost view = { λ sink. record { word = option_map (λ word. word.now) sink.word; faults = sink.faults } };
+    ghost view = { λ sink. record {
+      word = option_map (λ word. word.now) sink.word;
+      calls = sink.calls;
+      faults = sink.faults;
+    } };
 }
 
 impl<'a, R: Files<File = File>> OutputSink<'a, R> {
-    /// A sink over this stream, which has not failed yet.
+    /// A sink over this stream, which was not written yet.
     pub fn stdout(files: &'a R, stdout: Stdout) -> Self
         ensures word { result.word ≡ None }
+        ensures calls { result.calls ≡ 0 }
         ensures faults { result.faults ≡ 0 }
     {
         OutputSink {
             files,
             word: None,
             target: Target::Stdout(stdout),
+            calls: 0,
             faults: 0,
         }
     }
 
-    /// A sink over the file that this word names, which has not failed yet. Where there is no word, it is over none.
+    /// A sink over the file that this word names, which was not written yet. Where there is no word, it is over none.
     pub fn file(files: &'a R, word: Option<&'a str>) -> Self
         ensures word { result.word ≡ option_map (λ name. name.now) word.entry }
+        ensures calls { result.calls ≡ 0 }
         ensures faults { result.faults ≡ 0 }
     {
         OutputSink {
             files,
             word,
             target: Target::Unmade,
+            calls: 0,
             faults: 0,
         }
+    }
+
+    /// How many writes were made.
+    pub fn calls(&self) -> u64
+        ensures { result ≡ self.now.calls }
+    {
+        self.calls
     }
 
     /// How many writes failed.
@@ -75,6 +93,10 @@ impl<'a, R: Files<File = File>> OutputSink<'a, R> {
     {
         self.faults
     }
+}
+
+impl<'a, R: Files<File = File>> Named for OutputSink<'a, R> {
+    ghost word = { λ sink. sink.word };
 }
 
 impl<'a, R: Files<File = File>> Sink for OutputSink<'a, R> {
@@ -87,8 +109,10 @@ impl<'a, R: Files<File = File>> Sink for OutputSink<'a, R> {
         ensures answer { Writes result from.now None None self.old.faults self.new.faults }
         ensures never_falls { self.old.faults ≤ self.new.faults }
         ensures counted { self.new.faults ≡ count_after_write result self.old.faults }
+        ensures called { self.new.calls ≡ next_count self.old.calls }
         ensures word { self.new.word ≡ self.old.word }
     {
+        self.calls = self.calls.saturating_add(1);
         let put = write_to(self.files, self.word, &mut self.target, from);
         if matches!(&put, Put::Failed) {
             self.faults = self.faults.saturating_add(1);
