@@ -1,32 +1,22 @@
 -- Of a text of which a cause is true nothing is accepted, and neither run stops on it; nor on a text that is accepted,
 -- which is accepted once.
-use Rattle.std.proofs.Common.{◌≡◌, ◌≤◌, ℕ, List, length, Some, None, ap, sym, subst, ◌∙◌, arith}
+use Rattle.std.proofs.Common.{◌≡◌, ℕ, List, ap, sym, subst, ◌∙◌}
 use Rattle.nomos_accept.proofs.AcceptLaws.{one-program}
 use Rattle.nomos_accept.proofs.NeverLaws.{cause-refutes}
 use Rattle.nomos_accept.proofs.RowListLaws.{ends-once}
-use Rattle.nomos_accept.specs.AcceptedText.{IsAcceptedAs, IsOffence, IsCauseOf, PivotRunEndsWith, found_amounts}
+use Rattle.nomos_accept.specs.AcceptedText.{IsAcceptedAs, IsCauseOf, PivotRunEndsWith, found_amounts}
 use Rattle.nomos_accept.specs.TypedText.{IsReadAs}
 use Rattle.nomos_accept.specs.declared.refusal.Why.{Why}
-use Rattle.nomos_accept.specs.declared.refusal.Why.TheVariants as why
-use Rattle.nomos_elaborate.specs.FileClaims.{claims_of}
-use Rattle.nomos_elaborate.specs.NameClaim.{first_broken}
 use Rattle.nomos_forms.specs.declared.found.Found.{Found}
 use Rattle.nomos_forms.specs.declared.verdict.Verdict.{Verdict}
-use Rattle.nomos_grammar.specs.declared.offence.GrammarError.{GrammarError}
-use Rattle.nomos_grammar.specs.declared.offence.GrammarError.TheVariants as grammar
 use Rattle.nomos_ir.specs.declared.lists.ProgramLists.{ProgramLists}
 use Rattle.nomos_least.proofs.OneLeastLaws.{least_ends-once}
 use Rattle.nomos_least.specs.LeastBounds.{IsLeastAs, LeastRunEndsWith}
 use Rattle.nomos_least.specs.declared.least.LeastBounds.{LeastBounds}
-use Rattle.nomos_parse.proofs.ParsingLaws.{refused-none}
-use Rattle.nomos_program.specs.WrittenWork.{written_work}
-use Rattle.nomos_rows.specs.PartFaults.{IsNeverTyped}
 use Rattle.nomos_simplex.specs.LeastRun.{LeastRun, refuted as least_refuted}
 use Rattle.nomos_simplex.specs.declared.solved.Solved.TheVariants as solved
 use Rattle.nomos_simplex.specs.declared.solved.SolvedLeast.TheVariants as least_solved
 use Rattle.nomos_simplex.specs.declared.solved.Stop.{Stop}
-use Rattle.nomos_surface.specs.Tree.{FileTree}
-use Rattle.nomos_ir.specs.Limits.{text_limit}
 use Rattle.nomos_top.specs.TaskRuns.{IsGivenFor, HasStopped, HasLeastStopped, HasStoppedFor}
 use Rattle.nomos_types.specs.Acceptance.{Acceptance, acceptance}
 use Rattle.nomos_types.specs.Amount.{Annotations}
@@ -176,8 +166,10 @@ accepted-one text a b h k =
     k.run in
     amounts-one a b programs cc
 
-least-one : (text : List ℕ) (b c : LeastBounds) → IsLeastAs text b → IsLeastAs text c → b.accepted ≡ c.accepted
-least-one text b c h k =
+-- least bounds are one, with the weights that show them
+pub least-same : (text : List ℕ) (b c : LeastBounds) → IsLeastAs text b → IsLeastAs text c
+    → (b.accepted ≡ c.accepted) × (b.proof ≡ c.proof)
+least-same text b c h k =
     let x = b.accepted in
     let y = c.accepted in
     let programs = one-program text x.program y.program h.typed.read k.typed.read in
@@ -188,7 +180,7 @@ least-one text b c h k =
     ≡ least_solved.Found (found_amounts y.annotations) c.proof =
     least_ends-once y.program (least_solved.Found (found_amounts x.annotations) b.proof)
     (least_solved.Found (found_amounts y.annotations) c.proof) ends (bounds-end text c k) in
-    amounts-one x y programs cc
+    (amounts-one x y programs cc, cc)
 
 pub given-one : (task : Task) (text : List ℕ) (a b : Acceptance) → IsGivenFor task text a → IsGivenFor task text b
     → a ≡ b
@@ -196,4 +188,4 @@ given-one (check file) text a b h k = accepted-one text a b h k
 given-one (run file script by steps journal) text a b h k = accepted-one text a b h k
 given-one (replay file script journal) text a b h k = accepted-one text a b h k
 given-one (bench seed bidders) text a b h k = accepted-one text a b h k
-given-one (least file) text a b h k = sym h.1 ∙ least-one text h.0 k.0 h.2 k.2 ∙ k.1
+given-one (least file) text a b h k = sym h.1 ∙ (least-same text h.0 k.0 h.2 k.2).0 ∙ k.1

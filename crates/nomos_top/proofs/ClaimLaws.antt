@@ -3,6 +3,7 @@ use Rattle.nomos_top.proofs.AcceptedLaws.{accepted-is_typed, typed-is_accepted}
 use Rattle.nomos_top.proofs.HeadlineLaws.{accepts-typed, keeps-runs}
 use Rattle.nomos_top.proofs.KeptLaws.{kept-goes_right, kept-is_legal, one-worker_follows}
 use Rattle.nomos_top.proofs.RefusingLaws.{refuses-truly}
+use Rattle.nomos_top.proofs.RepeatLaws.{call-repeats}
 use Rattle.nomos_top.proofs.ReplayingLaws.{kept-replays}
 use Rattle.nomos_top.proofs.ShownLaws.{fails-truly, writes-what_is_due}
 use Rattle.nomos_top.specs.Call.{HasEnded}
@@ -24,4 +25,5 @@ ended-claims c (texts, ends) = record {
   writes_what_is_due = writes-what_is_due c texts ends;
   fails_truly = fails-truly c texts ends;
   kept_replays = kept-replays c texts ends;
+  repeats = call-repeats c texts ends;
 }

@@ -8,6 +8,7 @@ pub mod AcceptedLaws
 pub mod KeptLaws
 pub mod OneAnswerLaws
 pub mod RefusingLaws
+pub mod RepeatLaws
 pub mod ReplayingLaws
 pub mod ShownLaws
 pub mod HeadlineLaws

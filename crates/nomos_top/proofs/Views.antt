@@ -42,6 +42,7 @@ use Rattle.nomos_top.specs.Shown.{told_of}
 use Rattle.nomos_top.specs.TaskRuns.{HasStoppedFor, IsByOne, IsGivenFor, bench_orders, crew_of, limit_of, run_orders}
 use Rattle.nomos_top.specs.Tasks.{AskNothing, IsAlone, KeepsJournal, ReadsContract, ReadsJournal, ReadsScript, RunsScript, contract_of, script_of}
 use Rattle.nomos_types.specs.Acceptance.{Acceptance}
+use Rattle.nomos_words.specs.Options.{usual_limit}
 use Rattle.nomos_words.specs.Usage.{usage_line}
 use Rattle.nomos_words.specs.Words.{Task, check, run, replay, bench, least, Asks}
 use Rattle.nomos_words.specs.declared.workers.Workers.{Workers}
@@ -51,9 +52,10 @@ use Rattle.nomos_workers.specs.declared.batch.Crew.TheVariants as crews
 -- ---- what was due
 
 -- nothing was run, and no journal's text is to be written
-pub record Idle (o : Outcome) : Type 0 where
+pub record Idle (o : Outcome) (most : ℕ) : Type 0 where
   pub kept : o.kept ≡ None
   pub entries : o.journal.entries ≡ []
+  pub limit : o.journal.limit ≡ most
 
 -- why a contract is not accepted
 pub data Against (i : Inputs) (task : Task) (o : Outcome) : Type 0 where
@@ -87,21 +89,21 @@ pub record Carried (i : Inputs) (task : Task) (o : Outcome) (a : Acceptance) : T
 
 -- what comes behind acceptance
 pub data Further (i : Inputs) (task : Task) (o : Outcome) (a : Acceptance) : Type 0 where
-  script_fault : ReadsScript task → HaveRisen i.script.counts → Idle o → o.status ≡ 5
+  script_fault : ReadsScript task → HaveRisen i.script.counts → Idle o (limit_of task) → o.status ≡ 5
       → o.out ≡ read_fault_line (codes "script") → Further i task o a
-  bad_script : ReadsScript task → (line : List ℕ) → IsNoScript i.script 2 line → Idle o → o.status ≡ 2 → o.out ≡ line
+  bad_script : ReadsScript task → (line : List ℕ) → IsNoScript i.script 2 line → Idle o (limit_of task) → o.status ≡ 2 → o.out ≡ line
       → Further i task o a
-  journal_fault : ReadsJournal task → HaveRisen i.journal.counts → Idle o → o.status ≡ 5
+  journal_fault : ReadsJournal task → HaveRisen i.journal.counts → Idle o (limit_of task) → o.status ≡ 5
       → o.out ≡ read_fault_line (codes "journal") → Further i task o a
   bad_journal : ReadsJournal task → (items : List ScriptItem) → ReadsAs i.script.text items → (why : ReplayError)
-      → Answers a items i.journal.text (Err why) → Idle o → o.status ≡ 9
+      → Answers a items i.journal.text (Err why) → Idle o (limit_of task) → o.status ≡ 9
       → o.out ≡ refusal_line a.annotations.unit why → Further i task o a
   carried : Carried i task o a → Further i task o a
 
 pub data DueView (i : Inputs) (task : Task) (o : Outcome) : Type 0 where
-  against : Against i task o → Idle o → o.accepted ≡ None → DueView i task o
+  against : Against i task o → Idle o (limit_of task) → o.accepted ≡ None → DueView i task o
   alone : (a : Acceptance) → Alone i task o a → IsAlone task → o.accepted ≡ Some a
-      → IsGivenFor task (contract_of task i.contract.text) a → Idle o → o.status ≡ 0 → DueView i task o
+      → IsGivenFor task (contract_of task i.contract.text) a → Idle o (limit_of task) → o.status ≡ 0 → DueView i task o
   behind : (a : Acceptance) → Further i task o a → ¬ (IsAlone task) → o.accepted ≡ Some a
       → IsGivenFor task (contract_of task i.contract.text) a → DueView i task o
 
@@ -110,23 +112,23 @@ pub data DueView (i : Inputs) (task : Task) (o : Outcome) : Type 0 where
 against-view : (i : Inputs) (task : Task) (status : ℕ) (out : List ℕ) → IsUnaccepted task i.contract status out
     → DueView i task (bare status out (limit_of task))
 against-view i task status out (outcome.fault reads rose) =
-    against (fault reads rose refl refl) (record { kept = refl; entries = refl }) refl
+    against (fault reads rose refl refl) (record { kept = refl; entries = refl; limit = refl }) refl
 against-view i task status out (outcome.refused why is) =
-    against (refused why is refl refl) (record { kept = refl; entries = refl }) refl
+    against (refused why is refl refl) (record { kept = refl; entries = refl; limit = refl }) refl
 against-view i task status out (outcome.unsolved stop is) =
-    against (unsolved stop is refl refl) (record { kept = refl; entries = refl }) refl
+    against (unsolved stop is refl refl) (record { kept = refl; entries = refl; limit = refl }) refl
 
 -- ---- of scripts that are not read
 
 no_script-view : (i : Inputs) (task : Task) (a : Acceptance) (status : ℕ) (out : List ℕ) (journal : Journal)
-    → ReadsScript task → journal.entries ≡ [] → IsNoScript i.script status out
+    → ReadsScript task → journal.entries ≡ [] → journal.limit ≡ limit_of task → IsNoScript i.script status out
     → Further i task (given status out None a journal) a
-no_script-view i task a status out journal reads none (lines.fault rose) =
-    script_fault reads rose (record { kept = refl; entries = none }) refl refl
-no_script-view i task a status out journal reads none (lines.too_long over) =
-    bad_script reads out (lines.too_long over) (record { kept = refl; entries = none }) refl refl
-no_script-view i task a status out journal reads none (lines.syntax k bad) =
-    bad_script reads out (lines.syntax k bad) (record { kept = refl; entries = none }) refl refl
+no_script-view i task a status out journal reads none within (lines.fault rose) =
+    script_fault reads rose (record { kept = refl; entries = none; limit = within }) refl refl
+no_script-view i task a status out journal reads none within (lines.too_long over) =
+    bad_script reads out (lines.too_long over) (record { kept = refl; entries = none; limit = within }) refl refl
+no_script-view i task a status out journal reads none within (lines.syntax k bad) =
+    bad_script reads out (lines.syntax k bad) (record { kept = refl; entries = none; limit = within }) refl refl
 
 -- ---- of runs
 
@@ -150,7 +152,7 @@ run-view : (i : Inputs) (file script : List ℕ) (by : Workers) (steps : ℕ) (j
     → IsRunDue a (run_orders by steps journal) i.script status out kept made
     → Further i (run file script by steps journal) (given status out kept a made) a
 run-view i file script by steps journal a status out kept made (runs.no_script s o is) =
-    no_script-view i (run file script by steps journal) a status out made tt refl is
+    no_script-view i (run file script by steps journal) a status out made tt refl refl is
 run-view i file script by steps journal a status out kept made (runs.ran items j ps last reads is stands) =
     carried (record {
       scripted = λ no. no;
@@ -194,9 +196,9 @@ journal-view : (i : Inputs) (file script journal : List ℕ) (a : Acceptance) (i
     (out : List ℕ) (read : Journal) → ReadsAs i.script.text items → IsJournalDue a items i.journal status out read
     → Further i (replay file script journal) (given status out None a read) a
 journal-view i file script journal a items status out read reads (replays.fault rose) =
-    journal_fault tt rose (record { kept = refl; entries = refl }) refl refl
+    journal_fault tt rose (record { kept = refl; entries = refl; limit = refl }) refl refl
 journal-view i file script journal a items status out read reads (replays.refused why answers) =
-    bad_journal tt items reads why answers (record { kept = refl; entries = refl }) refl refl
+    bad_journal tt items reads why answers (record { kept = refl; entries = refl; limit = refl }) refl refl
 journal-view i file script journal a items status out read reads (replays.replayed kept last report has stands) =
     carried (record {
       scripted = λ no. no;
@@ -220,7 +222,7 @@ replay-view : (i : Inputs) (file script journal : List ℕ) (a : Acceptance) (st
     → IsReplayDue a i.script i.journal status out read
     → Further i (replay file script journal) (given status out None a read) a
 replay-view i file script journal a status out read (replays.no_script s o is) =
-    no_script-view i (replay file script journal) a status out read tt refl is
+    no_script-view i (replay file script journal) a status out read tt refl refl is
 replay-view i file script journal a status out read (replays.answered items s o k reads is) =
     journal-view i file script journal a items status out read reads is
 
@@ -229,10 +231,10 @@ replay-view i file script journal a status out read (replays.answered items s o 
 pub due-view : (i : Inputs) (task : Task) (o : Outcome) → IsTaskDue i task o → DueView i task o
 due-view i task o (outcome.unaccepted t status out is) = against-view i task status out is
 due-view i task o (outcome.checked file a is) =
-    alone a (checked file refl refl) tt refl is (record { kept = refl; entries = refl }) refl
+    alone a (checked file refl refl) tt refl is (record { kept = refl; entries = refl; limit = refl }) refl
 due-view i task o (outcome.bounded file b is) =
     alone b.accepted (bounded file b refl refl is refl) tt refl (b, refl, is)
-    (record { kept = refl; entries = refl }) refl
+    (record { kept = refl; entries = refl; limit = refl }) refl
 due-view i task o (outcome.ran file script by steps journal a status out kept made is due) =
     behind a (run-view i file script by steps journal a status out kept made due) (λ no. no) refl is
 due-view i task o (outcome.replayed file script journal a status out read is due) =
@@ -242,13 +244,13 @@ due-view i task o (outcome.benched seed bidders a status out made is due) =
 
 -- what is due of words
 pub data WordsView (words : List (List ℕ)) (i : Inputs) (o : Outcome) : Type 0 where
-  nothing_asked : AskNothing words → Idle o → o.accepted ≡ None → o.status ≡ 4 → o.out ≡ usage_line
+  nothing_asked : AskNothing words → Idle o usual_limit → o.accepted ≡ None → o.status ≡ 4 → o.out ≡ usage_line
       → WordsView words i o
   task_asked : (task : Task) → Asks words task → DueView i task o → WordsView words i o
 
 pub words-view : (words : List (List ℕ)) (i : Inputs) (o : Outcome) → IsDue words i o → WordsView words i o
 words-view words i o (outcome.usage none) =
-    nothing_asked none (record { kept = refl; entries = refl }) refl refl refl
+    nothing_asked none (record { kept = refl; entries = refl; limit = refl }) refl refl refl
 words-view words i o (outcome.asked task o2 asks due) = task_asked task asks (due-view i task o due)
 
 -- ---- what was written

@@ -7,6 +7,7 @@ use Rattle.nomos_top.specs.Complete.{TypedIsAccepted}
 use Rattle.nomos_top.specs.Headline.{AcceptsTyped, KeepsRuns}
 use Rattle.nomos_top.specs.Kept.{KeptIsLegal, KeptGoesRight, OneWorkerFollows}
 use Rattle.nomos_top.specs.Refusing.{RefusesTruly}
+use Rattle.nomos_top.specs.Repeating.{Repeats}
 use Rattle.nomos_top.specs.Replaying.{KeptReplays}
 use Rattle.nomos_top.specs.Shown.{WritesWhatIsDue, FailsTruly}
 
@@ -24,3 +25,4 @@ pub record Claims (c : Call) : Type 0 where
   pub writes_what_is_due : WritesWhatIsDue c texts
   pub fails_truly : FailsTruly c texts
   pub kept_replays : KeptReplays c texts
+  pub repeats : Repeats c texts

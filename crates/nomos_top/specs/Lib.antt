@@ -12,6 +12,7 @@ pub mod Headline
 pub mod Kept
 pub mod Shown
 pub mod Turns
+pub mod Repeating
 pub mod Replaying
 pub mod Claims
 pub mod mirror

@@ -1,7 +1,6 @@
 -- How the script of a task is run, what is accepted for it, and what may stop its solver.
 use Rattle.std.specs.Prelude.{◌≡◌, ℕ, List, true, false, Option, is_some}
 use Rattle.nomos_accept.specs.AcceptedText.{IsAcceptedAs, IsProgramWith, IsUnsolved}
-use Rattle.nomos_due.specs.Replays.{usual_limit}
 use Rattle.nomos_least.specs.LeastBounds.{IsLeastAs, IsLeastUnsolved}
 use Rattle.nomos_least.specs.declared.least.LeastBounds.{LeastBounds}
 use Rattle.nomos_machine.specs.declared.policy.Policy.{Policy}
@@ -9,7 +8,9 @@ use Rattle.nomos_machine.specs.declared.policy.Policy.TheVariants.{First}
 use Rattle.nomos_run.specs.declared.orders.Orders.{Orders}
 use Rattle.nomos_simplex.specs.declared.solved.Stop.{Stop}
 use Rattle.nomos_types.specs.Acceptance.{Acceptance}
-use Rattle.nomos_words.specs.Words.{Task, check, run, replay, bench, least}
+use Rattle.nomos_words.specs.Commands.{RunsByOne, row}
+use Rattle.nomos_words.specs.Options.{usual_limit}
+use Rattle.nomos_words.specs.Words.{Task, least}
 use Rattle.nomos_words.specs.declared.workers.Workers.{Workers}
 use Rattle.nomos_words.specs.declared.workers.Workers.TheVariants as workers
 use Rattle.nomos_workers.specs.declared.batch.Crew.{Crew}
@@ -17,8 +18,7 @@ use Rattle.nomos_workers.specs.declared.batch.Crew.TheVariants as crew
 
 -- the most firings of a batch, which the words of a run say
 abbrev pub limit_of : Task → ℕ
-limit_of (run file script by steps journal) = steps
-limit_of _ = usual_limit
+limit_of task = (row task).limit
 
 abbrev pub crew_of : Workers → Crew
 crew_of (workers.One policy) = crew.One policy
@@ -35,9 +35,7 @@ bench_orders = record { crew = crew.One First; limit = usual_limit; text = false
 
 -- one worker fires, by this policy
 abbrev pub IsByOne : Task → Policy → Type 0
-IsByOne (run file script (workers.One chosen) steps journal) policy = policy ≡ chosen
-IsByOne (bench seed bidders) policy = policy ≡ First
-IsByOne _ policy = ⊥
+IsByOne task policy = RunsByOne (row task).runs policy
 
 -- ---- acceptance
 

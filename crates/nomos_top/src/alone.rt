@@ -2,7 +2,8 @@
 
 ghost use Rattle.std.specs.Prelude.{◌≡◌, ℕ, List, None, IfOk, IfErr};
 ghost use Rattle.nomos_due.specs.Outside.{SourceState, source_state};
-ghost use Rattle.nomos_due.specs.Replays.{no_journal, usual_limit};
+ghost use Rattle.nomos_due.specs.Replays.{no_journal};
+ghost use Rattle.nomos_words.specs.Options.{usual_limit};
 ghost use Rattle.nomos_report.specs.Block.{accepted_block};
 ghost use Rattle.nomos_top.specs.LeastBlock.{least_block};
 ghost use Rattle.nomos_top.specs.Outcome.{given};

@@ -2,6 +2,7 @@
 #![tactic(auto)]
 
 mod alone;
+mod crew;
 mod due;
 mod judging;
 mod least_block;
@@ -11,4 +12,4 @@ mod stage;
 mod top;
 mod unaccepted;
 
-pub use top::{Ended, nomos};
+pub use top::{Ended, may_wait, nomos, nomos_by_one};

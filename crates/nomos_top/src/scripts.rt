@@ -1,4 +1,4 @@
-//! What is due where a script is run, or a journal is replayed.
+//! What is due where one worker runs a script, or a journal is replayed. No thread is made.
 
 ghost use Rattle.std.specs.Prelude.{◌≡◌, ℕ, List, Option, Some, None, IfOk, IfErr, true};
 ghost use Rattle.nomos_due.specs.Benches.{IsBenchDue, IsBenchPart};
@@ -13,11 +13,9 @@ ghost use Rattle.nomos_top.specs.TaskRuns.{run_orders, bench_orders};
 ghost use Rattle.nomos_top.specs.mirror.Judging.{IsTaskDueOn, IsTaskPartOn, given_of};
 ghost use Rattle.nomos_words.specs.Words.{run, replay, bench};
 ghost use Rattle.nomos_words.specs.declared.workers.Workers.{Workers};
-ghost use Rattle.nomos_workers.specs.Crews.{IsCrew};
 
 use crate::due::{CallDue, DoneSoFar, due_behind};
 use crate::judging::{judge, judge_auction};
-use crate::stage::Stage;
 use crate::unaccepted::unaccepted_due;
 use nomos_base::Source;
 use nomos_due::benches::{self, Load};
@@ -27,22 +25,19 @@ use nomos_ir::limits::USUAL_LIMIT;
 use nomos_legal::journal::Journal;
 use nomos_machine::policy::Policy;
 use nomos_named::indexed::IndexedState;
-use nomos_run::orders::{Orders, Runner};
+use nomos_run::orders::Orders;
 use nomos_types::accepted::Accepted;
 use nomos_workers::batch::Crew;
-use nomos_workers::gate::Gate;
 use std::alloc::Global;
-use std::sync::Wait;
-use std::thread::Threads;
 
-/// What is due for a run by these orders.
-pub(crate) fn run_due<S: Source, G: Gate, R: Threads + Wait + Sync>(
-    stage: &Stage<'_, G, R>,
+/// What is due for a run by these orders, by one worker.
+pub(crate) fn run_due<S: Source>(
+    alloc: Global,
     orders: Orders,
     contract: &mut S,
     script: &mut S,
 ) -> Result<CallDue, DoneSoFar>
-    requires crew { IsCrew orders.crew }
+    requires one { (policy : Policy) × (orders.crew ≡ Crew.One policy) }
     requires limit { IsLimit orders.limit }
     ensures ok { (file words : List ℕ) (by : Workers) (steps : ℕ) (kept : Option (List ℕ)) (journal : SourceState)
         → orders ≡ run_orders by steps kept → IfOk result (IsTaskDueOn (record {
@@ -58,37 +53,20 @@ pub(crate) fn run_due<S: Source, G: Gate, R: Threads + Wait + Sync>(
         }) (run file words by steps kept)) }
     ensures unread { given_of result ≡ None → script.new ≡ script.old }
 {
-    match judge(stage.alloc, contract) {
-        Ok(accepted) => accepted_run_due(stage, orders, accepted, script),
-        Err(unaccepted) => unaccepted_due(stage.alloc, orders.limit, unaccepted),
+    match judge(alloc, contract) {
+        Ok(accepted) => accepted_run_due(alloc, orders, accepted, script),
+        Err(unaccepted) => unaccepted_due(alloc, orders.limit, unaccepted),
     }
 }
 
-// What is due for a run, over the indexed form of a state.
-fn indexed_run_due<S: Source, G: Gate, R: Threads + Wait + Sync>(
-    runner: &Runner<'_, G, R>,
-    alloc: Global,
-    accepted: &Accepted,
-    script: &mut S,
-) -> Result<Due, Journal>
-    requires crew { IsCrew runner.now.orders.crew }
-    requires limit { IsLimit runner.now.orders.limit }
-    ensures ok { IfOk result (IsRunDueFor accepted.now runner.now.orders
-        (source_state (S.left script.old) (S.faults script.old) (S.faults script.new))) }
-    ensures err { IfErr result (IsRunPartFor accepted.now runner.now.orders
-        (source_state (S.left script.old) (S.faults script.old) (S.faults script.new))) }
-{
-    runs::run_due::<IndexedState, S, G, R>(runner, alloc, accepted, script)
-}
-
 // What is due for a run on an accepted contract.
-fn accepted_run_due<S: Source, G: Gate, R: Threads + Wait + Sync>(
-    stage: &Stage<'_, G, R>,
+fn accepted_run_due<S: Source>(
+    alloc: Global,
     orders: Orders,
     accepted: Accepted,
     script: &mut S,
 ) -> Result<CallDue, DoneSoFar>
-    requires crew { IsCrew orders.crew }
+    requires one { (policy : Policy) × (orders.crew ≡ Crew.One policy) }
     requires limit { IsLimit orders.limit }
     ensures ok { IfOk result (λ d. IsRunDueFor accepted orders
         (source_state (S.left script.old) (S.faults script.old) (S.faults script.new)) d.due) }
@@ -96,12 +74,7 @@ fn accepted_run_due<S: Source, G: Gate, R: Threads + Wait + Sync>(
         (source_state (S.left script.old) (S.faults script.old) (S.faults script.new)) part.journal) }
     ensures given { given_of result ≡ Some accepted }
 {
-    let runner = Runner {
-        rt: stage.rt,
-        gate: stage.gate,
-        orders,
-    };
-    let due = indexed_run_due(&runner, stage.alloc, &accepted, script);
+    let due = runs::run_due::<IndexedState, S>(orders, alloc, &accepted, script);
     due_behind(accepted, due)
 }
 

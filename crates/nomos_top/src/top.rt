@@ -1,6 +1,6 @@
-//! The top call.
+//! The top call, and the same for all jobs but a run by several workers, proved to return.
 
-ghost use Rattle.std.specs.Prelude.{◌≡◌, ◌⊎◌, ℕ, List, Some, None, IfOk, IfErr, map, string_bytes};
+ghost use Rattle.std.specs.Prelude.{◌≡◌, ◌⊎◌, ◌↔◌, ℕ, List, Some, None, IfOk, IfErr, IsTrue, map, string_bytes};
 ghost use Rattle.std.specs.Option.{option_map};
 ghost use Rattle.nomos_due.specs.Outside.{SourceState, sink_state, source_state};
 ghost use Rattle.nomos_due.specs.Sources.{kept_text};
@@ -10,14 +10,15 @@ ghost use Rattle.nomos_script.specs.declared.item.ScriptItem.{ScriptItem};
 ghost use Rattle.nomos_top.specs.Claims.{Claims};
 ghost use Rattle.nomos_top.specs.Refusing.{HasOneAnswer, HasOneReading};
 ghost use Rattle.nomos_top.specs.TaskRuns.{run_orders};
-ghost use Rattle.nomos_top.specs.Tasks.{ReadsContract, ReadsJournal, ReadsScript};
-ghost use Rattle.nomos_top.specs.Turns.{WantsContract, WantsJournal, WantsScript, MayKeep};
+ghost use Rattle.nomos_top.specs.Tasks.{IsByCrew, ReadsContract, ReadsJournal, ReadsScript};
+ghost use Rattle.nomos_top.specs.Turns.{MayWait, Untouched, WantsContract, WantsJournal, WantsScript};
 ghost use Rattle.nomos_top.specs.mirror.Judging.{EndsDue, EndsPart, IsDueOn, IsPartOn, IsTaskDueOn, IsTaskPartOn, given_of};
 ghost use Rattle.nomos_types.specs.Acceptance.{Acceptance, IsAccepted};
 ghost use Rattle.nomos_words.specs.Jobs.{task};
 ghost use Rattle.nomos_words.specs.Words.{Asks};
 
 use crate::alone::{check_due, least_due};
+use crate::crew::run_due_by_crew;
 use crate::due::{CallDue, DoneSoFar, line_due};
 use crate::scripts::{bench_due, replay_due, run_due};
 use crate::stage::Stage;
@@ -51,10 +52,35 @@ pub struct Ended {
     pub journal: Journal,
 }
 
+/// Whether the words ask for a run by several workers. That is the one job whose call may wait: for the turn of another
+/// worker. It takes no memory.
+pub fn may_wait(words: &[String]) -> bool
+    ensures { IsTrue result ↔ MayWait (map string_bytes words.now) }
+{
+    match job::words(words) {
+        Some(job) => is_by_crew(&job),
+        None => false,
+    }
+}
+
+// Whether several workers do it.
+fn is_by_crew(job: &Job) -> bool
+    ensures { IsTrue result ↔ IsByCrew (task job.now) }
+{
+    matches!(
+        job,
+        Job::Run {
+            workers: Workers::Many(_),
+            ..
+        }
+    )
+}
+
 /// Does all that the program does: reads the words (those after the program's own name), reads the contract and judges
 /// it, reads the script, reads the journal and replays it or runs the script, and writes what is due: the output, and
 /// behind it the text of the journal where that is wanted. Each source is read only where it is its turn. Nothing is
 /// written before the last memory is taken. Status 7, want of memory, is the one answer for which no reason is given.
+/// Where the words ask for a run by several workers it may wait for them; for all else it does what `nomos_by_one` does.
 pub fn nomos<S: Source, K: Sink, G: Gate, R: Threads + Wait + Sync>(
     rt: &R,
     alloc: Global,
@@ -85,19 +111,85 @@ pub fn nomos<S: Source, K: Sink, G: Gate, R: Threads + Wait + Sync>(
     ensures one_answer { (text : List ℕ) → HasOneAnswer text }
     ensures one_reading { (text : List ℕ) → HasOneReading text }
 
-    // What is not due stays as it was: a source before its turn, the output where memory ran out, and the journal's
-    // sink where nothing is kept.
-    ensures contract_unread { ¬ WantsContract (map string_bytes words.now) → contract.new ≡ contract.old }
-    ensures script_unread { ¬ WantsScript (map string_bytes words.now) result.accepted → script.new ≡ script.old }
-    ensures journal_unread { ¬ WantsJournal (map string_bytes words.now) result.accepted
-        → journal_in.new ≡ journal_in.old }
-    ensures journal_after_script { (text : List ℕ) → S.left script.old ≡ Some text
-        → ((items : List ScriptItem) → ¬ ReadsAs text items) → journal_in.new ≡ journal_in.old }
-    ensures nothing_out { result.status ≡ 7 → out.new ≡ out.old }
-    ensures nothing_kept { ¬ MayKeep (map string_bytes words.now) result.status → journal_out.new ≡ journal_out.old }
+    // What is not due stays as it was: a source before its turn, the output where memory ran out, and the journal's sink
+    // where nothing is kept.
+    ensures untouched { Untouched (map string_bytes words.now) (S.left script.old) result.status result.accepted
+        (record {
+          contract = contract.old;
+          script = script.old;
+          journal_in = journal_in.old;
+          out = out.old;
+          journal_out = journal_out.old;
+        })
+        (record {
+          contract = contract.new;
+          script = script.new;
+          journal_in = journal_in.new;
+          out = out.new;
+          journal_out = journal_out.new;
+        }) }
 {
+    if !may_wait(words) {
+        return nomos_by_one(alloc, words, contract, script, journal_in, out, journal_out);
+    }
     let stage = Stage { rt, gate, alloc };
-    let due = words_due(&stage, words, contract, script, journal_in);
+    let due = crew_due(&stage, words, contract, script);
+    let ended = end_call(due, out, journal_out);
+    know_accepted(&ended.accepted);
+    ended
+}
+
+/// Does all that the program does, as `nomos`, where the words do not ask for a run by several workers. It makes no
+/// thread and waits for nobody, so it is proved to return, whatever its sources have.
+pub fn nomos_by_one<S: Source, K: Sink>(
+    alloc: Global,
+    words: &[String],
+    contract: &mut S,
+    script: &mut S,
+    journal_in: &mut S,
+    out: &mut K,
+    journal_out: &mut K,
+) -> Ended
+    requires { ¬ MayWait (map string_bytes words.now) }
+
+    // All that is claimed of this call, on the texts of its sources: first that what is accepted is typed, and what is
+    // typed is accepted, and that what is kept is a run in which nothing goes wrong; then how it ends, and the rest.
+    ensures claims { Claims (record {
+      words = map string_bytes words.now;
+      contract = source_state (S.left contract.old) (S.faults contract.old) (S.faults contract.new);
+      script = source_state (S.left script.old) (S.faults script.old) (S.faults script.new);
+      journal_in = source_state (S.left journal_in.old) (S.faults journal_in.old) (S.faults journal_in.new);
+      out = sink_state (K.written out.old) (K.written out.new) (K.faults out.old) (K.faults out.new);
+      journal_out = sink_state (K.written journal_out.old) (K.written journal_out.new)
+          (K.faults journal_out.old) (K.faults journal_out.new);
+      status = result.status;
+      accepted = result.accepted;
+      journal = result.journal;
+    }) }
+
+    // What holds of every text: of a contract, and of a script or a journal.
+    ensures one_answer { (text : List ℕ) → HasOneAnswer text }
+    ensures one_reading { (text : List ℕ) → HasOneReading text }
+
+    // What is not due stays as it was: a source before its turn, the output where memory ran out, and the journal's sink
+    // where nothing is kept.
+    ensures untouched { Untouched (map string_bytes words.now) (S.left script.old) result.status result.accepted
+        (record {
+          contract = contract.old;
+          script = script.old;
+          journal_in = journal_in.old;
+          out = out.old;
+          journal_out = journal_out.old;
+        })
+        (record {
+          contract = contract.new;
+          script = script.new;
+          journal_in = journal_in.new;
+          out = out.new;
+          journal_out = journal_out.new;
+        }) }
+{
+    let due = words_due(alloc, words, contract, script, journal_in);
     let ended = end_call(due, out, journal_out);
     know_accepted(&ended.accepted);
     ended
@@ -175,14 +267,15 @@ fn write_call<K: Sink>(due: CallDue, out: &mut K, journal_out: &mut K) -> Ended
     }
 }
 
-// What is due for the words.
-fn words_due<S: Source, G: Gate, R: Threads + Wait + Sync>(
-    stage: &Stage<'_, G, R>,
+// What is due for words that ask for no run by several workers.
+fn words_due<S: Source>(
+    alloc: Global,
     words: &[String],
     contract: &mut S,
     script: &mut S,
     journal_in: &mut S,
 ) -> Result<CallDue, DoneSoFar>
+    requires { ¬ MayWait (map string_bytes words.now) }
     ensures ok { IfOk result (IsDueOn (record {
       contract = source_state (S.left contract.old) (S.faults contract.old) (S.faults contract.new);
       script = source_state (S.left script.old) (S.faults script.old) (S.faults script.new);
@@ -201,8 +294,8 @@ fn words_due<S: Source, G: Gate, R: Threads + Wait + Sync>(
         → ((items : List ScriptItem) → ¬ ReadsAs text items) → journal_in.new ≡ journal_in.old }
 {
     match job::words(words) {
-        None => line_due(stage.alloc, USUAL_LIMIT, 4, usage_line()),
-        Some(job) => job_due(stage, job, contract, script, journal_in),
+        None => line_due(alloc, USUAL_LIMIT, 4, usage_line()),
+        Some(job) => job_due(alloc, job, contract, script, journal_in),
     }
 }
 
@@ -222,15 +315,16 @@ fn run_orders(workers: Workers, steps: u32, journal: Option<&str>) -> Orders
     }
 }
 
-// What is due for a job that words ask for.
-fn job_due<S: Source, G: Gate, R: Threads + Wait + Sync>(
-    stage: &Stage<'_, G, R>,
+// What is due for a job that words ask for, and that is no run by several workers.
+fn job_due<S: Source>(
+    alloc: Global,
     job: Job,
     contract: &mut S,
     script: &mut S,
     journal_in: &mut S,
 ) -> Result<CallDue, DoneSoFar>
     requires asked { (words : List (List ℕ)) × Asks words (task job) }
+    requires alone { ¬ IsByCrew (task job) }
     ensures ok { IfOk result (IsTaskDueOn (record {
       contract = source_state (S.left contract.old) (S.faults contract.old) (S.faults contract.new);
       script = source_state (S.left script.old) (S.faults script.old) (S.faults script.new);
@@ -249,20 +343,55 @@ fn job_due<S: Source, G: Gate, R: Threads + Wait + Sync>(
         → ((items : List ScriptItem) → ¬ ReadsAs text items) → journal_in.new ≡ journal_in.old }
 {
     match job {
-        Job::Check { file: _ } => check_due(stage.alloc, contract),
+        Job::Check { file: _ } => check_due(alloc, contract),
         Job::Run {
             file: _,
             script: _,
             workers,
             steps,
             journal,
-        } => run_due(stage, run_orders(workers, steps, journal), contract, script),
+        } => run_due(alloc, run_orders(workers, steps, journal), contract, script),
         Job::Replay {
             file: _,
             script: _,
             journal: _,
-        } => replay_due(stage.alloc, contract, script, journal_in),
-        Job::Bench { seed, bidders } => bench_due(stage.alloc, Load { seed, bidders }),
-        Job::Least { file: _ } => least_due(stage.alloc, contract),
+        } => replay_due(alloc, contract, script, journal_in),
+        Job::Bench { seed, bidders } => bench_due(alloc, Load { seed, bidders }),
+        Job::Least { file: _ } => least_due(alloc, contract),
+    }
+}
+
+// What is due for words that ask for a run by several workers.
+fn crew_due<S: Source, G: Gate, R: Threads + Wait + Sync>(
+    stage: &Stage<'_, G, R>,
+    words: &[String],
+    contract: &mut S,
+    script: &mut S,
+) -> Result<CallDue, DoneSoFar>
+    requires { MayWait (map string_bytes words.now) }
+    ensures ok { (journal : SourceState) → IfOk result (IsDueOn (record {
+      contract = source_state (S.left contract.old) (S.faults contract.old) (S.faults contract.new);
+      script = source_state (S.left script.old) (S.faults script.old) (S.faults script.new);
+      journal = journal;
+    }) (map string_bytes words.now)) }
+    ensures err { (journal : SourceState) → IfErr result (IsPartOn (record {
+      contract = source_state (S.left contract.old) (S.faults contract.old) (S.faults contract.new);
+      script = source_state (S.left script.old) (S.faults script.old) (S.faults script.new);
+      journal = journal;
+    }) (map string_bytes words.now)) }
+    ensures contract_unread { ¬ WantsContract (map string_bytes words.now) → contract.new ≡ contract.old }
+    ensures script_unread { ¬ WantsScript (map string_bytes words.now) (given_of result) → script.new ≡ script.old }
+{
+    match job::words(words) {
+        Some(
+            Job::Run {
+                file: _,
+                script: _,
+                workers,
+                steps,
+                journal,
+            },
+        ) => run_due_by_crew(stage, run_orders(workers, steps, journal), contract, script),
+        _ => unreachable!(),
     }
 }

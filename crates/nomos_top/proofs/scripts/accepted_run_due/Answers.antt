@@ -3,11 +3,11 @@ use Rattle.nomos_top.proofs.scripts.accepted_run_due.Goals as goal
 
 pub returns-clause-ok : goal.returns-clause-ok
 returns-clause-ok g c =
-    rw c.due_behind.ensures (behind-ok c.args.accepted c.indexed_run_due-due.result _ c.indexed_run_due-due.ensures.ok)
+    rw c.due_behind.ensures (behind-ok c.args.accepted c.run_due-due.result _ c.run_due-due.ensures.ok)
 
 pub returns-clause-err : goal.returns-clause-err
 returns-clause-err g c =
-    rw c.due_behind.ensures (behind-err c.args.accepted c.indexed_run_due-due.result _ c.indexed_run_due-due.ensures.err)
+    rw c.due_behind.ensures (behind-err c.args.accepted c.run_due-due.result _ c.run_due-due.ensures.err)
 
 pub returns-clause-given : goal.returns-clause-given
-returns-clause-given g c = rw c.due_behind.ensures (behind-given c.args.accepted c.indexed_run_due-due.result)
+returns-clause-given g c = rw c.due_behind.ensures (behind-given c.args.accepted c.run_due-due.result)

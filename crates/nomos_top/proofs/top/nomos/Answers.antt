@@ -9,8 +9,8 @@ use Rattle.nomos_top.proofs.top.nomos.Goals as goal
 pub returns-clause-claims : goal.returns-clause-claims
 returns-clause-claims g c =
     ended-claims _
-    (call-ends _ c.words_due-due.result _ refl refl refl c.know_accepted.ensures c.words_due-due.ensures.ok
-    c.words_due-due.ensures.err (c.end_call-ended.ensures.ok _ _ _ _) (c.end_call-ended.ensures.err _ _ _ _))
+    (call-ends _ c.crew_due-due.result _ refl refl refl c.know_accepted.ensures (c.crew_due-due.ensures.ok _)
+    (c.crew_due-due.ensures.err _) (c.end_call-ended.ensures.ok _ _ _ _) (c.end_call-ended.ensures.err _ _ _ _))
 
 pub returns-clause-one_answer : goal.returns-clause-one_answer
 returns-clause-one_answer g c = one-answer
@@ -18,26 +18,24 @@ returns-clause-one_answer g c = one-answer
 pub returns-clause-one_reading : goal.returns-clause-one_reading
 returns-clause-one_reading g c = one-reading
 
-pub returns-clause-script_unread : goal.returns-clause-script_unread
-returns-clause-script_unread g c = λ none.
-    c.words_due-due.ensures.script_unread (rw c.end_call-ended.ensures.given at none)
-
-pub returns-clause-journal_unread : goal.returns-clause-journal_unread
-returns-clause-journal_unread g c = λ none.
-    c.words_due-due.ensures.journal_unread (rw c.end_call-ended.ensures.given at none)
-
 -- how the call ended, whatever its sources are
 untold : SourceState
 untold = source_state None 0 0
 
-pub returns-clause-nothing_out : goal.returns-clause-nothing_out
-returns-clause-nothing_out g c = λ seven.
-    seven-wanting _ c.words_due-due.result _ _ c.words_due-due.ensures.ok
-    (c.end_call-ended.ensures.ok (map string_bytes c.args.words.now) untold untold untold)
-    c.end_call-ended.ensures.nothing_out seven
-
-pub returns-clause-nothing_kept : goal.returns-clause-nothing_kept
-returns-clause-nothing_kept g c = λ never.
-    nothing-may_keep _ c.words_due-due.result _ _ c.words_due-due.ensures.ok
-    (c.end_call-ended.ensures.ok (map string_bytes c.args.words.now) untold untold untold)
-    c.end_call-ended.ensures.none_kept c.end_call-ended.ensures.nothing_kept never
+pub returns-clause-untouched : goal.returns-clause-untouched
+returns-clause-untouched g c =
+    let words = map string_bytes c.args.words.now in
+    record {
+      contract = c.crew_due-due.ensures.contract_unread;
+      script = λ none. c.crew_due-due.ensures.script_unread (rw c.end_call-ended.ensures.given at none);
+      journal = λ none. refl;
+      behind_script = λ text told none. refl;
+      out = λ seven.
+          seven-wanting _ c.crew_due-due.result _ _ (c.crew_due-due.ensures.ok untold)
+          (c.end_call-ended.ensures.ok words untold untold untold)
+          c.end_call-ended.ensures.nothing_out seven;
+      journal_out = λ never.
+          nothing-may_keep _ c.crew_due-due.result _ _ (c.crew_due-due.ensures.ok untold)
+          (c.end_call-ended.ensures.ok words untold untold untold)
+          c.end_call-ended.ensures.none_kept c.end_call-ended.ensures.nothing_kept never;
+    }

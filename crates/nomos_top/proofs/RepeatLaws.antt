@@ -1,0 +1,387 @@
+-- Two calls of the same words on the same texts end alike, where nobody is waited for.
+use Rattle.std.proofs.Common.{◌≡◌, ◌∙◌, ◌⊎◌, inl, inr, ℕ, List, ◌++◌, length, Option, Some, None, Err, refl, sym, ap, subst, arith}
+use Rattle.std.specs.Prelude.{codes, decimal}
+use Rattle.nomos_accept.proofs.RowListLaws.{ends-once}
+use Rattle.nomos_due.proofs.ReplayLaws.{legal-not_refused, legal-one}
+use Rattle.nomos_due.specs.Lines as lines
+use Rattle.nomos_due.specs.Lines.{IsNoScript, script_refusal}
+use Rattle.nomos_due.specs.Outside.{Input}
+use Rattle.nomos_least.proofs.OneLeastLaws.{least_ends-once}
+use Rattle.nomos_least.specs.LeastBounds.{IsLeastAs}
+use Rattle.nomos_least.specs.declared.least.LeastBounds.{LeastBounds}
+use Rattle.nomos_legal.proofs.OneJournalLaws.{follows-one_journal}
+use Rattle.nomos_legal.proofs.UniqueLaws.{tells-one}
+use Rattle.nomos_legal.specs.Ledger.{LedgerState}
+use Rattle.nomos_legal.specs.Legal.{Tells}
+use Rattle.nomos_legal.specs.Passage.{Passage}
+use Rattle.nomos_legal.specs.declared.journal.Journal.{Journal}
+use Rattle.nomos_machine.specs.declared.policy.Policy.TheVariants.{First}
+use Rattle.nomos_replay.proofs.OneAnswerLaws.{answers-one}
+use Rattle.nomos_replay.specs.Answers.{Answers}
+use Rattle.nomos_replay.specs.Refusal.{refusal_line}
+use Rattle.nomos_replay.specs.declared.error.ReplayError.{ReplayError}
+use Rattle.nomos_report.specs.Block.{accepted_block}
+use Rattle.nomos_report.specs.Reported.{run_status}
+use Rattle.nomos_script.proofs.ReadingLaws.{reads_once, syntax_once}
+use Rattle.nomos_script.specs.ScriptReading.{IsSyntaxAt, ReadsAs}
+use Rattle.nomos_script.specs.declared.item.ScriptItem.{ScriptItem}
+use Rattle.nomos_simplex.specs.declared.solved.Proof.{Proof}
+use Rattle.nomos_simplex.specs.declared.solved.Solved.TheVariants as solved
+use Rattle.nomos_simplex.specs.declared.solved.SolvedLeast.TheVariants as least_solved
+use Rattle.nomos_simplex.specs.declared.solved.Stop.{Stop}
+use Rattle.nomos_top.proofs.CauseLemmas.{cause-no_stop_for, given-no_cause, given-no_stop, given-one, least-same, least-stops, stops}
+use Rattle.nomos_top.proofs.EndLaws.{bad-unread, journal-script, keeps-or_not, reads-script}
+use Rattle.nomos_top.proofs.RefusalLaws.{one-refusal}
+use Rattle.nomos_top.proofs.Views as view
+use Rattle.nomos_top.proofs.Views.{Against, Alone, Carried, DueView, EndView, Further, Idle, Whole, WordsView, end-view}
+use Rattle.nomos_top.specs.Call.{EndsOn, inputs_of, outcome_with}
+use Rattle.nomos_top.specs.Kept.{IsOwn}
+use Rattle.nomos_top.specs.LeastBlock.{least_block, least_line, proof_lines}
+use Rattle.nomos_top.specs.Outcome.{Outcome}
+use Rattle.nomos_top.specs.Refusal.{unsolved_line}
+use Rattle.nomos_top.specs.Repeating.{HasGot, KeepTheSame, Repeats}
+use Rattle.nomos_top.specs.Replaying.{DoesTheSame}
+use Rattle.nomos_top.specs.Seen.{Call, Texts, Fails, HasWritten}
+use Rattle.nomos_top.specs.Shown.{told_of}
+use Rattle.nomos_top.specs.TaskRuns.{HasLeastStopped, HasStopped, HasStoppedFor, IsGivenFor, limit_of}
+use Rattle.nomos_top.specs.Tasks.{IsByCrew, KeepsJournal, ReadsJournal, contract_of, script_of}
+use Rattle.nomos_top.specs.Turns.{MayWait}
+use Rattle.nomos_types.specs.Acceptance.{Acceptance, IsAccepted}
+use Rattle.nomos_walk.specs.Wanted.{journal_text_of}
+use Rattle.nomos_words.proofs.WordLaws.{one_task}
+use Rattle.nomos_words.specs.Words.{Task, check, run, replay, bench, least}
+use Rattle.nomos_words.specs.declared.workers.Workers.TheVariants as workers
+
+-- ---- what is due, twice
+
+-- it is the same, or one of both tells that a source failed
+abbrev Alike : Outcome → Outcome → Type 0
+Alike o p = (o ≡ p) ⊎ ((o.status ≡ 5) ⊎ (p.status ≡ 5))
+
+same-outcome : (o p : Outcome) → o.status ≡ p.status → o.out ≡ p.out → o.kept ≡ p.kept → o.accepted ≡ p.accepted
+    → o.journal ≡ p.journal → o ≡ p
+same-outcome o p statuses outs texts programs journals =
+    λ i. record {
+      status = statuses i;
+      out = outs i;
+      kept = texts i;
+      accepted = programs i;
+      journal = journals i;
+    }
+
+idle-journal : {o p : Outcome} {n : ℕ} → Idle o n → Idle p n → o.journal ≡ p.journal
+idle-journal idle other =
+    let limits = idle.limit ∙ sym other.limit in
+    let entries = idle.entries ∙ sym other.entries in
+    λ i. record { limit = limits i; entries = entries i }
+
+idle-alike : (o p : Outcome) {n : ℕ} → Idle o n → Idle p n → o.status ≡ p.status → o.out ≡ p.out
+    → o.accepted ≡ p.accepted → Alike o p
+idle-alike o p idle other statuses outs programs =
+    inl (same-outcome o p statuses outs (idle.kept ∙ sym other.kept) programs (idle-journal idle other))
+
+-- ---- stops and blocks
+
+stop-one : (text : List ℕ) (s u : Stop) → HasStopped text s → HasStopped text u → s ≡ u
+stop-one text s u one two =
+    let same : solved.Unsolved s ≡ solved.Unsolved u =
+    ends-once one.0 (solved.Unsolved s) (solved.Unsolved u) one.2.ends (stops text one.0 u one.1 two) in
+    cc
+
+least_stop-one : (text : List ℕ) (s u : Stop) → HasLeastStopped text s → HasLeastStopped text u → s ≡ u
+least_stop-one text s u one two =
+    let same : least_solved.Unsolved s ≡ least_solved.Unsolved u =
+    least_ends-once one.0 (least_solved.Unsolved s) (least_solved.Unsolved u) one.2.ends
+    (least-stops text one.0 u one.1 two) in
+    cc
+
+stop_for-one : (task : Task) (text : List ℕ) (s u : Stop) → HasStoppedFor task text s → HasStoppedFor task text u
+    → s ≡ u
+stop_for-one (check file) text s u one two = stop-one text s u one two
+stop_for-one (run file script by steps journal) text s u one two = stop-one text s u one two
+stop_for-one (replay file script journal) text s u one two = stop-one text s u one two
+stop_for-one (bench seed bidders) text s u one two = stop-one text s u one two
+stop_for-one (least file) text s u one two = least_stop-one text s u one two
+
+-- what is printed of least bounds, of the two parts that they are printed of
+abbrev block_of : Acceptance → Proof → List ℕ
+block_of a proof = accepted_block a ++ least_line proof.total a.annotations.unit ++ proof_lines proof
+
+least_block-one : (text : List ℕ) (b k : LeastBounds) → IsLeastAs text b → IsLeastAs text k
+    → least_block b ≡ least_block k
+least_block-one text b k one two =
+    let (programs, proofs) = least-same text b k one two in
+    ap (λ (a : Acceptance). block_of a b.proof) programs ∙ ap (λ (p : Proof). block_of k.accepted p) proofs
+
+-- ---- scripts that do not read
+
+bad_line-one : (script other : Input) → script.text ≡ other.text → (line also : List ℕ) → IsNoScript script 2 line
+    → IsNoScript other 2 also → line ≡ also
+bad_line-one script other same line also (lines.too_long over) (lines.too_long over2) = refl
+bad_line-one script other same line also (lines.too_long over) (lines.syntax k (inl bad)) =
+    absurd (omega (arith, over, bad.here.limit, ap (λ t. length t) same))
+bad_line-one script other same line also (lines.too_long over) (lines.syntax k (inr bad)) =
+    absurd (omega (arith, over, bad.here.limit, ap (λ t. length t) same))
+bad_line-one script other same line also (lines.syntax k (inl bad)) (lines.too_long over) =
+    absurd (omega (arith, over, bad.here.limit, ap (λ t. length t) same))
+bad_line-one script other same line also (lines.syntax k (inr bad)) (lines.too_long over) =
+    absurd (omega (arith, over, bad.here.limit, ap (λ t. length t) same))
+bad_line-one script other same line also (lines.syntax k bad) (lines.syntax m worse) =
+    let here = subst (λ (t : List ℕ). IsSyntaxAt t m) (sym same) worse in
+    ap (λ (n : ℕ). script_refusal (codes "Syntax " ++ decimal n)) (syntax_once script.text k m bad here)
+
+-- ---- journals
+
+-- the text of a legal journal is not refused
+journal-not_refused : (task : Task) (a : Acceptance) → IsAccepted a → ReadsJournal task → (script : List ℕ)
+    (items : List ScriptItem) → ReadsAs script items → (text : List ℕ) (journal : Journal)
+    → IsOwn task a items text journal → (why : ReplayError) → ¬ (Answers a items text (Err why))
+journal-not_refused (check file) a accepted reads script items is text journal own why refused = absurd reads
+journal-not_refused (run file words by steps kept) a accepted reads script items is text journal own why refused =
+    absurd reads
+journal-not_refused (replay file words kept) a accepted reads script items is text journal own why refused =
+    legal-not_refused accepted script is own.1 refused
+journal-not_refused (bench seed bidders) a accepted reads script items is text journal own why refused = absurd reads
+journal-not_refused (least file) a accepted reads script items is text journal own why refused = absurd reads
+
+-- what became of a script: one journal, one row of passages and one last ledger
+abbrev OneCourse : Journal → Journal → List Passage → List Passage → LedgerState → LedgerState → Type 0
+OneCourse journal other ps qs last m = (journal ≡ other) × (ps ≡ qs) × (last ≡ m)
+
+told-course : {a : Acceptance} {items : List ScriptItem} {journal other : Journal} {ps qs : List Passage}
+    {last m : LedgerState} → Tells a items journal ps last → Tells a items other qs m → journal ≡ other
+    → OneCourse journal other ps qs last m
+told-course {a} {items} {journal} {other} {ps} {qs} {last} {m} one two same =
+    let both = tells-one one (subst (λ (j : Journal). Tells a items j qs m) (sym same) two) in
+    (same, both.0, both.1)
+
+-- ---- two calls of the same words on the same texts
+
+module _ (c d : Call) (t : Texts) where
+  against-alike : (task : Task) (o p : Outcome) → Against (inputs_of c t) task o → Idle o (limit_of task)
+      → o.accepted ≡ None → Against (inputs_of d t) task p → Idle p (limit_of task) → p.accepted ≡ None → Alike o p
+  against-alike task o p (view.fault reads rose five is) idle none other idle2 none2 = inr (inl five)
+  against-alike task o p (view.refused why h one is) idle none (view.fault reads rose five is2) idle2 none2 =
+      inr (inr five)
+  against-alike task o p (view.refused why h one is) idle none (view.refused why2 h2 one2 is2) idle2 none2 =
+      let lines = one-refusal (contract_of task t.contract) why why2 h.cause h2.cause in
+      idle-alike o p idle idle2 (one ∙ sym one2) (is ∙ lines ∙ sym is2) (none ∙ sym none2)
+  against-alike task o p (view.refused why h one is) idle none (view.unsolved stop stopped eight is2) idle2 none2 =
+      absurd (cause-no_stop_for task (contract_of task t.contract) why stop h.cause stopped)
+  against-alike task o p (view.unsolved stop stopped eight is) idle none (view.fault reads rose five is2) idle2 none2 =
+      inr (inr five)
+  against-alike task o p (view.unsolved stop stopped eight is) idle none (view.refused why h one is2) idle2 none2 =
+      absurd (cause-no_stop_for task (contract_of task t.contract) why stop h.cause stopped)
+  against-alike task o p (view.unsolved stop stopped eight is) idle none (view.unsolved stop2 stopped2 eight2 is2) idle2
+      none2 =
+      let same = stop_for-one task (contract_of task t.contract) stop stop2 stopped stopped2 in
+      idle-alike o p idle idle2 (eight ∙ sym eight2) (is ∙ ap (λ (s : Stop). unsolved_line s) same ∙ sym is2)
+      (none ∙ sym none2)
+
+  -- where a program is given, the contract alone can have failed
+  given-against : (task : Task) (k : Call) (o : Outcome) (a : Acceptance)
+      → IsGivenFor task (contract_of task t.contract) a → Against (inputs_of k t) task o → o.status ≡ 5
+  given-against task k o a given (view.fault reads rose five is) = five
+  given-against task k o a given (view.refused why h one is) =
+      absurd (given-no_cause task (contract_of task t.contract) a why given h.cause)
+  given-against task k o a given (view.unsolved stop stopped eight is) =
+      absurd (given-no_stop task (contract_of task t.contract) a stop given stopped)
+
+  alone-out : (task : Task) (o p : Outcome) (a b : Acceptance) → Alone (inputs_of c t) task o a
+      → Alone (inputs_of d t) task p b → a ≡ b → o.out ≡ p.out
+  alone-out task o p a b (view.checked file is out) (view.checked file2 is2 out2) same =
+      out ∙ ap (λ (x : Acceptance). accepted_block x) same ∙ sym out2
+  alone-out task o p a b (view.checked file is out) (view.bounded file2 e is2 gives h out2) same =
+      absurd (let tasks : check file ≡ least file2 = sym is ∙ is2 in cc)
+  alone-out task o p a b (view.bounded file e is gives h out) (view.checked file2 is2 out2) same =
+      absurd (let tasks : check file2 ≡ least file = sym is2 ∙ is in cc)
+  alone-out task o p a b (view.bounded file e is gives h out) (view.bounded file2 e2 is2 gives2 h2 out2) same =
+      out ∙ least_block-one t.contract e e2 h h2 ∙ sym out2
+
+  -- what became of a script is one: for a replay it is what its text tells, and otherwise one worker fires
+  course-one : (task : Task) → ¬ (IsByCrew task) → (a : Acceptance) → IsAccepted a → (o p : Outcome)
+      → (r : Carried (inputs_of c t) task o a) → (q : Carried (inputs_of d t) task p a)
+      → Tells a r.items p.journal q.passages q.last → IsOwn task a r.items t.journal p.journal
+      → OneCourse o.journal p.journal r.passages q.passages r.last q.last
+  course-one (check file) one a accepted o p r q tells own = absurd (r.scripted tt)
+  course-one (run file script (workers.One policy) steps kept) one a accepted o p r q tells own =
+      follows-one_journal policy r.tells tells (r.own ∙ sym own) (r.follows policy refl) (q.follows policy refl)
+  course-one (run file script (workers.Many count) steps kept) one a accepted o p r q tells own = absurd (one tt)
+  course-one (replay file script kept) one a accepted o p r q tells own =
+      told-course r.tells tells (legal-one accepted t.script r.reads r.own.1 own.1).0
+  course-one (bench seed bidders) one a accepted o p r q tells own =
+      follows-one_journal First r.tells tells (r.own ∙ sym own) (r.follows First refl) (q.follows First refl)
+  course-one (least file) one a accepted o p r q tells own = absurd (r.scripted tt)
+
+  kept-one : (task : Task) (a : Acceptance) (o p : Outcome) (r : Carried (inputs_of c t) task o a)
+      (q : Carried (inputs_of d t) task p a)
+      → OneCourse o.journal p.journal r.passages q.passages r.last q.last
+      → KeepsJournal task ⊎ ¬ (KeepsJournal task) → o.kept ≡ p.kept
+  kept-one task a o p r q (journals, passages, lasts) (inl keeps) =
+      r.keeps keeps ∙ ap (λ (j : Journal). Some (journal_text_of a j.limit r.passages)) journals
+      ∙ ap (λ (ps : List Passage). Some (journal_text_of a p.journal.limit ps)) passages ∙ sym (q.keeps keeps)
+  kept-one task a o p r q course (inr drops) = r.drops drops ∙ sym (q.drops drops)
+
+  carried-alike : (task : Task) → ¬ (IsByCrew task) → (a : Acceptance) → IsAccepted a → (o p : Outcome)
+      → o.accepted ≡ p.accepted → Carried (inputs_of c t) task o a → Carried (inputs_of d t) task p a → Alike o p
+  carried-alike task one a accepted o p programs r q =
+      let items : q.items ≡ r.items = reads_once (script_of task t.script) q.items r.items q.reads r.reads in
+      let tells : Tells a r.items p.journal q.passages q.last =
+      subst (λ (is : List ScriptItem). Tells a is p.journal q.passages q.last) items q.tells in
+      let own : IsOwn task a r.items t.journal p.journal =
+      subst (λ (is : List ScriptItem). IsOwn task a is t.journal p.journal) items q.own in
+      let course = course-one task one a accepted o p r q tells own in
+      let statuses = r.status ∙ ap (λ (j : Journal). run_status j.entries) course.0 ∙ sym q.status in
+      let outs =
+      r.out ∙ ap (λ (j : Journal). told_of task a j r.passages r.last) course.0
+      ∙ ap (λ (ps : List Passage). told_of task a p.journal ps r.last) course.1
+      ∙ ap (λ (l : LedgerState). told_of task a p.journal q.passages l) course.2 ∙ sym q.out
+      in
+      inl (same-outcome o p statuses outs (kept-one task a o p r q course (keeps-or_not task)) programs course.0)
+
+  -- a journal that is carried out is not refused
+  spoiled : (task : Task) (k : Call) (a : Acceptance) → IsAccepted a → (o : Outcome)
+      → Carried (inputs_of k t) task o a → ReadsJournal task → (items : List ScriptItem) → ReadsAs t.script items
+      → (why : ReplayError) → ¬ (Answers a items t.journal (Err why))
+  spoiled task k a accepted o q reads items read why answers =
+      let here = reads-script task t.script (journal-script task reads) in
+      let script : ReadsAs t.script q.items = subst (λ (s : List ℕ). ReadsAs s q.items) here q.reads in
+      let same : items ≡ q.items = reads_once t.script items q.items read script in
+      let refused = subst (λ (is : List ScriptItem). Answers a is t.journal (Err why)) same answers in
+      journal-not_refused task a accepted reads t.script q.items script t.journal o.journal q.own why refused
+
+  further-alike : (task : Task) → ¬ (IsByCrew task) → (a : Acceptance) → IsAccepted a → (o p : Outcome)
+      → o.accepted ≡ p.accepted → Further (inputs_of c t) task o a → Further (inputs_of d t) task p a → Alike o p
+  further-alike task one a accepted o p programs (view.script_fault reads rose idle five is) other = inr (inl five)
+  further-alike task one a accepted o p programs (view.journal_fault reads rose idle five is) other = inr (inl five)
+  further-alike task one a accepted o p programs (view.bad_script reads line bad idle two is)
+      (view.script_fault reads2 rose idle2 five is2) =
+      inr (inr five)
+  further-alike task one a accepted o p programs (view.bad_script reads line bad idle two is)
+      (view.journal_fault reads2 rose idle2 five is2) =
+      inr (inr five)
+  further-alike task one a accepted o p programs (view.bad_script reads line bad idle two is)
+      (view.bad_script reads2 line2 bad2 idle2 two2 is2) =
+      let lines = bad_line-one (inputs_of c t).script (inputs_of d t).script refl line line2 bad bad2 in
+      idle-alike o p idle idle2 (two ∙ sym two2) (is ∙ lines ∙ sym is2) programs
+  further-alike task one a accepted o p programs (view.bad_script reads line bad idle two is)
+      (view.bad_journal reads2 items read why answers idle2 nine is2) =
+      absurd (bad-unread (inputs_of c t).script items line bad read)
+  further-alike task one a accepted o p programs (view.bad_script reads line bad idle two is) (view.carried q) =
+      let read = subst (λ (s : List ℕ). ReadsAs s q.items) (reads-script task t.script reads) q.reads in
+      absurd (bad-unread (inputs_of c t).script q.items line bad read)
+  further-alike task one a accepted o p programs (view.bad_journal reads items read why answers idle nine is)
+      (view.script_fault reads2 rose idle2 five is2) =
+      inr (inr five)
+  further-alike task one a accepted o p programs (view.bad_journal reads items read why answers idle nine is)
+      (view.journal_fault reads2 rose idle2 five is2) =
+      inr (inr five)
+  further-alike task one a accepted o p programs (view.bad_journal reads items read why answers idle nine is)
+      (view.bad_script reads2 line bad idle2 two is2) =
+      absurd (bad-unread (inputs_of d t).script items line bad read)
+  further-alike task one a accepted o p programs (view.bad_journal reads items read why answers idle nine is)
+      (view.bad_journal reads2 items2 read2 why2 answers2 idle2 nine2 is2) =
+      let same : items2 ≡ items = reads_once t.script items2 items read2 read in
+      let also = subst (λ (is : List ScriptItem). Answers a is t.journal (Err why2)) same answers2 in
+      let told : Err why ≡ Err why2 = answers-one accepted answers also in
+      let whys : why ≡ why2 = cc in
+      let outs = is ∙ ap (λ (w : ReplayError). refusal_line a.annotations.unit w) whys ∙ sym is2 in
+      idle-alike o p idle idle2 (nine ∙ sym nine2) outs programs
+  further-alike task one a accepted o p programs (view.bad_journal reads items read why answers idle nine is)
+      (view.carried q) =
+      absurd (spoiled task d a accepted p q reads items read why answers)
+  further-alike task one a accepted o p programs (view.carried r) (view.script_fault reads2 rose idle2 five is2) =
+      inr (inr five)
+  further-alike task one a accepted o p programs (view.carried r) (view.journal_fault reads2 rose idle2 five is2) =
+      inr (inr five)
+  further-alike task one a accepted o p programs (view.carried r) (view.bad_script reads line bad idle2 two is2) =
+      let read = subst (λ (s : List ℕ). ReadsAs s r.items) (reads-script task t.script reads) r.reads in
+      absurd (bad-unread (inputs_of d t).script r.items line bad read)
+  further-alike task one a accepted o p programs (view.carried r)
+      (view.bad_journal reads items read why answers idle2 nine is2) =
+      absurd (spoiled task c a accepted o r reads items read why answers)
+  further-alike task one a accepted o p programs (view.carried r) (view.carried q) =
+      carried-alike task one a accepted o p programs r q
+
+  due-alike : (task : Task) → ¬ (IsByCrew task) → (o p : Outcome)
+      → ((a : Acceptance) → o.accepted ≡ Some a → IsAccepted a) → DueView (inputs_of c t) task o
+      → DueView (inputs_of d t) task p → Alike o p
+  due-alike task one o p fits (view.against w idle none) (view.against v idle2 none2) =
+      against-alike task o p w idle none v idle2 none2
+  due-alike task one o p fits (view.against w idle none) (view.alone b y is gives given idle2 zero) =
+      inr (inl (given-against task c o b given w))
+  due-alike task one o p fits (view.against w idle none) (view.behind b y scripted gives given) =
+      inr (inl (given-against task c o b given w))
+  due-alike task one o p fits (view.alone a x is gives given idle zero) (view.against v idle2 none) =
+      inr (inr (given-against task d p a given v))
+  due-alike task one o p fits (view.alone a x is gives given idle zero)
+      (view.alone b y is2 gives2 given2 idle2 zero2) =
+      let same = given-one task (contract_of task t.contract) a b given given2 in
+      idle-alike o p idle idle2 (zero ∙ sym zero2) (alone-out task o p a b x y same)
+      (gives ∙ ap (λ (e : Acceptance). Some e) same ∙ sym gives2)
+  due-alike task one o p fits (view.alone a x is gives given idle zero) (view.behind b y scripted gives2 given2) =
+      absurd (scripted is)
+  due-alike task one o p fits (view.behind a x scripted gives given) (view.against v idle none) =
+      inr (inr (given-against task d p a given v))
+  due-alike task one o p fits (view.behind a x scripted gives given) (view.alone b y is gives2 given2 idle zero) =
+      absurd (scripted is)
+  due-alike task one o p fits (view.behind a x scripted gives given) (view.behind b y scripted2 gives2 given2) =
+      let same = given-one task (contract_of task t.contract) a b given given2 in
+      let further = subst (λ (e : Acceptance). Further (inputs_of d t) task p e) (sym same) y in
+      further-alike task one a (fits a gives) o p (gives ∙ ap (λ (e : Acceptance). Some e) same ∙ sym gives2) x further
+
+  words-alike : (words : List (List ℕ)) → ¬ (MayWait words) → (o p : Outcome)
+      → ((a : Acceptance) → o.accepted ≡ Some a → IsAccepted a) → WordsView words (inputs_of c t) o
+      → WordsView words (inputs_of d t) p → Alike o p
+  words-alike words alone o p fits (view.nothing_asked none idle never four is)
+      (view.nothing_asked none2 idle2 never2 four2 is2) =
+      idle-alike o p idle idle2 (four ∙ sym four2) (is ∙ sym is2) (never ∙ sym never2)
+  words-alike words alone o p fits (view.nothing_asked none idle never four is) (view.task_asked task asks due) =
+      absurd (none task asks)
+  words-alike words alone o p fits (view.task_asked task asks due) (view.nothing_asked none idle never four is) =
+      absurd (none task asks)
+  words-alike words alone o p fits (view.task_asked task asks due) (view.task_asked task2 asks2 due2) =
+      let same : task2 ≡ task = one_task words task2 task asks2 asks in
+      let other = subst (λ (x : Task). DueView (inputs_of d t) x p) same due2 in
+      due-alike task (λ crew. alone (task, asks, crew)) o p fits due other
+
+  -- what two calls that wrote all tell of one another
+  told-alike : (w : Whole c t) (v : Whole d t)
+      → Alike (outcome_with c c.status w.out w.kept) (outcome_with d d.status v.out v.kept)
+      → (DoesTheSame c d × KeepTheSame c d) ⊎ (Fails c ⊎ Fails d)
+  told-alike w v (inl same) =
+      let outs : v.out ≡ w.out = sym (ap (λ (o : Outcome). o.out) same) in
+      let texts : v.kept ≡ w.kept = sym (ap (λ (o : Outcome). o.kept) same) in
+      inl (
+        record {
+          accepted = sym (ap (λ (o : Outcome). o.accepted) same);
+          journal = sym (ap (λ (o : Outcome). o.journal) same);
+          status = sym (ap (λ (o : Outcome). o.status) same);
+          report = w.out;
+          wrote = w.wrote;
+          writes = subst (λ (bytes : List ℕ). HasWritten d bytes) outs v.wrote;
+        },
+        (w.kept, w.keeps, subst (λ (text : Option (List ℕ)). HasGot d text) texts v.keeps),
+      )
+  told-alike w v (inr (inl five)) = inr (inl (inl five))
+  told-alike w v (inr (inr five)) = inr (inr (inl five))
+
+  ends-alike : d.words ≡ c.words → ¬ (MayWait c.words)
+      → ((a : Acceptance) → c.accepted ≡ Some a → IsAccepted a) → EndView c t → EndView d t
+      → (DoesTheSame c d × KeepTheSame c d) ⊎ (Fails c ⊎ Fails d)
+  ends-alike same alone fits (view.all w) (view.all v) =
+      let there =
+      subst (λ (ws : List (List ℕ)). WordsView ws (inputs_of d t) (outcome_with d d.status v.out v.kept)) same v.view
+      in
+      told-alike w v
+      (words-alike c.words alone (outcome_with c c.status w.out w.kept) (outcome_with d d.status v.out v.kept) fits
+      w.view there)
+  ends-alike same alone fits (view.failed f) other = inr (inl (inr (inl f.is)))
+  ends-alike same alone fits (view.wanting m) other = inr (inl (inr (inr m.is)))
+  ends-alike same alone fits (view.all w) (view.failed f) = inr (inr (inr (inl f.is)))
+  ends-alike same alone fits (view.all w) (view.wanting m) = inr (inr (inr (inr m.is)))
+
+pub call-repeats : (c : Call) (t : Texts) → EndsOn c t → Repeats c t
+call-repeats c t ends = record {
+  repeats = λ d other same alone. ends-alike c d t same alone ends.fits (end-view c t ends) (end-view d t other);
+}
