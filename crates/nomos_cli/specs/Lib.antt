@@ -1,2 +1,1 @@
 pub mod FileWords
-pub mod Call

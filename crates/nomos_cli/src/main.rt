@@ -4,16 +4,18 @@
 mod words;
 
 ghost use Rattle.std.specs.Prelude.{map, string_bytes};
-ghost use Rattle.nomos_cli.specs.Call.{EndsSilently};
 ghost use Rattle.nomos_cli.specs.FileWords.{Names, contract_file, journal_file, kept_file, script_file};
+ghost use Rattle.nomos_due.specs.Outside.{sink_state, source_state};
+ghost use Rattle.nomos_top.specs.Claims.{Claims};
+ghost use Rattle.nomos_top.specs.Turns.{Untouched};
 
-use crate::words::{contract_word, journal_word, kept_word, script_word};
-use nomos_files::{FileSource, OutputSink};
-use nomos_top::nomos;
+use crate::words::file_words;
+use nomos_base::{Sink, Source};
+use nomos_files::{FileSource, Named, OutputSink};
+use nomos_top::{Ended, may_wait, nomos, nomos_by_one};
 use nomos_workers::gate::OpenGate;
 use std::alloc::{AllocError, AllocGlobal};
 use std::env::Env;
-use std::fs::{File, Files};
 use std::io::ErrorKind;
 use std::process::ExitCode;
 use std::sync::Wait;
@@ -22,27 +24,28 @@ use std::thread::Threads;
 // What is outside: the files of the contract, of the script and of the journal that is read; the standard output, and
 // the file of the journal that is kept.
 #[derive(Drop)]
-struct Outside<'a, F: Files<File = File>> {
-    contract: FileSource<'a>,
-    script: FileSource<'a>,
-    journal_in: FileSource<'a>,
-    out: OutputSink<'a, F>,
-    journal_out: OutputSink<'a, F>,
+struct Outside<S: Drop, K: Drop> {
+    contract: S,
+    script: S,
+    journal_in: S,
+    out: K,
+    journal_out: K,
 }
 
 fn main(rt: HostRuntime) -> ExitCode {
     let Ok(words) = own_words(&rt) else {
         return ExitCode::from(7);
     };
+    let files = file_words(&words);
     let mut outside = Outside {
-        contract: FileSource::open(&rt, contract_word(&words)),
-        script: FileSource::open(&rt, script_word(&words)),
-        journal_in: FileSource::open(&rt, journal_word(&words)),
+        contract: FileSource::open(&rt, files.contract),
+        script: FileSource::open(&rt, files.script),
+        journal_in: FileSource::open(&rt, files.journal),
         out: OutputSink::stdout(&rt, rt.stdout()),
-        journal_out: OutputSink::file(&rt, kept_word(&words)),
+        journal_out: OutputSink::file(&rt, files.kept),
     };
-    let status = status_of(&rt, &words, &mut outside);
-    ExitCode::from(status)
+    let ended = call(&rt, &words, &mut outside);
+    ExitCode::from(ended.status)
 }
 
 // The words after the program's own name. Where one of them is no text, they have no form, and so has
@@ -55,34 +58,70 @@ fn own_words<R: Env + AllocGlobal>(rt: &R) -> Result<Vec<String>, AllocError> {
     }
 }
 
-// Does what the words say, over the files that they name, and gives the status that the program ends with.
-fn status_of<'a, R: AllocGlobal + Threads + Wait + Sync, F: Files<File = File>>(
+// Does what the words say, over the files that they name, by a call that is proved to return wherever the words ask for no
+// run by several workers. All is claimed of it that is claimed of the top call, and each file of which it is not the turn
+// is neither read nor written.
+fn call<S: Source + Named + Drop, K: Sink + Named + Drop, R: AllocGlobal + Threads + Wait + Sync>(
     rt: &R,
     words: &[String],
-    outside: &mut Outside<'a, F>,
-) -> u8
-    requires contract { Names contract_file (map string_bytes words.now) outside.old.contract.word }
-    requires script { Names script_file (map string_bytes words.now) outside.old.script.word }
-    requires journal_in { Names journal_file (map string_bytes words.now) outside.old.journal_in.word }
-    requires journal_out { Names kept_file (map string_bytes words.now) outside.old.journal_out.word }
-    ensures { EndsSilently (map string_bytes words.now) (record {
-      contract = record { before = outside.old.contract.faults; after = outside.new.contract.faults };
-      script = record { before = outside.old.script.faults; after = outside.new.script.faults };
-      journal_in = record { before = outside.old.journal_in.faults; after = outside.new.journal_in.faults };
-      out = record { before = outside.old.out.faults; after = outside.new.out.faults };
-      journal_out = record { before = outside.old.journal_out.faults; after = outside.new.journal_out.faults };
-    }) result }
+    outside: &mut Outside<S, K>,
+) -> Ended
+    requires contract { Names contract_file (map string_bytes words.now) (S.word outside.old.contract) }
+    requires script { Names script_file (map string_bytes words.now) (S.word outside.old.script) }
+    requires journal_in { Names journal_file (map string_bytes words.now) (S.word outside.old.journal_in) }
+    requires journal_out { Names kept_file (map string_bytes words.now) (K.word outside.old.journal_out) }
+    ensures claims { Claims (record {
+      words = map string_bytes words.now;
+      contract = source_state (S.left outside.old.contract)
+          (S.faults outside.old.contract) (S.faults outside.new.contract);
+      script = source_state (S.left outside.old.script) (S.faults outside.old.script) (S.faults outside.new.script);
+      journal_in = source_state (S.left outside.old.journal_in)
+          (S.faults outside.old.journal_in) (S.faults outside.new.journal_in);
+      out = sink_state (K.written outside.old.out) (K.written outside.new.out)
+          (K.faults outside.old.out) (K.faults outside.new.out);
+      journal_out = sink_state (K.written outside.old.journal_out) (K.written outside.new.journal_out)
+          (K.faults outside.old.journal_out) (K.faults outside.new.journal_out);
+      status = result.status;
+      accepted = result.accepted;
+      journal = result.journal;
+    }) }
+    ensures untouched { Untouched (map string_bytes words.now) (S.left outside.old.script) result.status result.accepted
+        (record {
+          contract = outside.old.contract;
+          script = outside.old.script;
+          journal_in = outside.old.journal_in;
+          out = outside.old.out;
+          journal_out = outside.old.journal_out;
+        })
+        (record {
+          contract = outside.new.contract;
+          script = outside.new.script;
+          journal_in = outside.new.journal_in;
+          out = outside.new.out;
+          journal_out = outside.new.journal_out;
+        }) }
 {
-    nomos(
-        rt,
-        rt.alloc(),
-        words,
-        &mut outside.contract,
-        &mut outside.script,
-        &mut outside.journal_in,
-        &mut outside.out,
-        &mut outside.journal_out,
-        &OpenGate,
-    )
-    .status
+    if may_wait(words) {
+        nomos(
+            rt,
+            rt.alloc(),
+            words,
+            &mut outside.contract,
+            &mut outside.script,
+            &mut outside.journal_in,
+            &mut outside.out,
+            &mut outside.journal_out,
+            &OpenGate,
+        )
+    } else {
+        nomos_by_one(
+            rt.alloc(),
+            words,
+            &mut outside.contract,
+            &mut outside.script,
+            &mut outside.journal_in,
+            &mut outside.out,
+            &mut outside.journal_out,
+        )
+    }
 }
