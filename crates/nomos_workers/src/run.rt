@@ -1,5 +1,7 @@
 //! Batches run by a crew: one worker by a policy, or several that take turns over a floor.
 ghost use Rattle.std.specs.Prelude.{◌≡◌, ℕ, ◌≤◌, All, length};
+ghost use Rattle.nomos_ir.specs.CostAll.{IsUnderCostAll};
+ghost use Rattle.nomos_machine.specs.Costs.{PaysFor};
 ghost use Rattle.nomos_machine.specs.declared.policy.Policy.{Policy};
 ghost use Rattle.nomos_legal.specs.StandsFor.{WorldStandsFor};
 ghost use Rattle.nomos_watch.specs.Watching.{IsWatched};
@@ -49,7 +51,8 @@ fn end_of<M: Undo>(
 /// Runs a batch to its end, which may make so many firings (docs/MACHINE.md, "Workers"). One worker fires as its policy
 /// says, and calls no gate; several take turns over a floor, each in a thread of its own, and nothing says when they get
 /// their turns. Where the batch is at its end already no thread is made. The world comes back whatever the end, and also
-/// where memory was wanting.
+/// where memory was wanting. Under `cost all` the firings, a unit for each, come to at most twice the gas spent since the
+/// ledger before the batch, and a unit for each process of that ledger.
 pub fn run_batch<M: Undo + Drop + Send, G: Gate, R: Threads + Wait + Sync>(
     rt: &R,
     alloc: Global,
@@ -68,7 +71,11 @@ pub fn run_batch<M: Undo + Drop + Send, G: Gate, R: Threads + Wait + Sync>(
     ensures passes { (workers : ℕ) → crew ≡ Crew.Many workers → All (IsOfWorker workers) result.world.firings }
     ensures aborts { (workers : ℕ) → crew ≡ Crew.Many workers
         → AbortsAtLowest accepted.now result.world.state result.end }
+    ensures pays { IsUnderCostAll accepted.now.program
+        → PaysFor accepted.now (length result.world.firings) result.world.origin.state result.world.state }
 {
+    // Where the program is read it is known to be accepted.
+    let _program = accepted.program();
     let workers = match crew {
         Crew::One(policy) => return run_by(alloc, accepted, world, limit, policy),
         Crew::Many(workers) => workers,

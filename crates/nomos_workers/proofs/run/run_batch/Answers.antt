@@ -1,5 +1,7 @@
 use Rattle.std.proofs.Common.{length}
 use Rattle.nomos_machine.specs.declared.policy.Policy.TheVariants as policy
+use Rattle.nomos_legal.specs.StandsFor.{WorldStandsFor}
+use Rattle.nomos_legal.proofs.WorldCostLaws.{world-pays}
 use Rattle.nomos_workers.proofs.OneLemmas.{ends-no_abort}
 use Rattle.nomos_workers.proofs.ShopLemmas.{shop-runs}
 use Rattle.nomos_workers.proofs.run.run_batch.Goals as goal
@@ -23,3 +25,19 @@ returns-clause-runs g c =
     in
     rw (c.into_world-2.ensures, c.end_of-end.ensures.world, c.into_watched-watched.ensures.world)
     (rw (c.over-shop.ensures, c.end.ensures.world, c.watch.ensures.world, c.of-watched.ensures.world) at runs)
+
+pub returns-in-One-clause-pays : goal.returns-in-One-clause-pays
+returns-in-One-clause-pays g c under =
+    world-pays under c.program-program.ensures.accepted c.run_by.ensures.runs.runs.stands
+
+pub returns-in-Some-clause-pays : goal.returns-in-Some-clause-pays
+returns-in-Some-clause-pays g c under =
+    let stands : WorldStandsFor c.args.accepted.now c.into_world.result =
+    rw (c.into_world.ensures, c.end.ensures.world, c.watch.ensures.world, c.of-watched.ensures.world)
+    c.requires.may.stands
+    in
+    world-pays under c.program-program.ensures.accepted stands
+
+pub returns-clause-pays : goal.returns-clause-pays
+returns-clause-pays g c under =
+    world-pays under c.program-program.ensures.accepted (returns-clause-runs g c).stands
