@@ -11,7 +11,7 @@ ghost use Rattle.nomos_top.specs.Turns.{Untouched};
 
 use crate::words::file_words;
 use nomos_base::{Sink, Source};
-use nomos_files::{FileSource, Named, OutputSink};
+use nomos_files::{FileSource, OutputSink, OverFile};
 use nomos_top::{Ended, may_wait, nomos, nomos_by_one};
 use nomos_workers::gate::OpenGate;
 use std::alloc::{AllocError, AllocGlobal};
@@ -61,11 +61,11 @@ fn own_words<R: Env + AllocGlobal>(rt: &R) -> Result<Vec<String>, AllocError> {
 // Does what the words say, over the files that they name, by a call that is proved to return wherever the words ask for no
 // run by several workers. All is claimed of it that is claimed of the top call, and each file of which it is not the turn
 // is neither read nor written.
-fn call<S: Source + Named + Drop, K: Sink + Named + Drop, R: AllocGlobal + Threads + Wait + Sync>(
-    rt: &R,
-    words: &[String],
-    outside: &mut Outside<S, K>,
-) -> Ended
+fn call<
+    S: Source + OverFile + Drop,
+    K: Sink + OverFile + Drop,
+    R: AllocGlobal + Threads + Wait + Sync,
+>(rt: &R, words: &[String], outside: &mut Outside<S, K>) -> Ended
     requires contract { Names contract_file (map string_bytes words.now) (S.word outside.old.contract) }
     requires script { Names script_file (map string_bytes words.now) (S.word outside.old.script) }
     requires journal_in { Names journal_file (map string_bytes words.now) (S.word outside.old.journal_in) }

@@ -6,7 +6,7 @@ ghost use Rattle.nomos_base.specs.Faults.{next_count};
 ghost use Rattle.nomos_base.specs.Source.{Reads};
 ghost use Rattle.nomos_files.specs.FaultCounting.{count_after_read, GetsSome, TakesBy};
 
-use crate::named::Named;
+use crate::over_file::OverFile;
 use nomos_base::{Got, Source};
 use std::fs::{File, Files};
 use std::io::Read;
@@ -66,7 +66,7 @@ impl<'a> FileSource<'a> {
     }
 }
 
-impl<'a> Named for FileSource<'a> {
+impl<'a> OverFile for FileSource<'a> {
     ghost word = { λ source. source.word };
 }
 

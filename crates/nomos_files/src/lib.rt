@@ -2,9 +2,9 @@
 #![tactic(auto)]
 
 mod file_source;
-mod named;
 mod output_sink;
+mod over_file;
 
 pub use file_source::FileSource;
-pub use named::Named;
 pub use output_sink::OutputSink;
+pub use over_file::OverFile;

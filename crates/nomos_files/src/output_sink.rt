@@ -6,7 +6,7 @@ ghost use Rattle.nomos_base.specs.Faults.{next_count};
 ghost use Rattle.nomos_base.specs.Sink.{Writes};
 ghost use Rattle.nomos_files.specs.FaultCounting.{count_after_write, AddsBy, PutsSome};
 
-use crate::named::Named;
+use crate::over_file::OverFile;
 use nomos_base::{Put, Sink};
 use std::fs::{File, Files};
 use std::io::{Stdout, Write};
@@ -95,7 +95,7 @@ impl<'a, R: Files<File = File>> OutputSink<'a, R> {
     }
 }
 
-impl<'a, R: Files<File = File>> Named for OutputSink<'a, R> {
+impl<'a, R: Files<File = File>> OverFile for OutputSink<'a, R> {
     ghost word = { λ sink. sink.word };
 }
 

@@ -3,7 +3,7 @@
 ghost use Rattle.std.specs.Prelude.{ℕ, List, Option};
 
 /// A source or a sink over the file that a word names.
-pub trait Named {
+pub trait OverFile {
     /// The word, or none where no word names a file.
     ghost word: { Self → Option (List ℕ) };
 }
