@@ -1,5 +1,7 @@
 pub mod AlikeLemmas
 pub mod BringsLemmas
+pub mod CountLemmas
 pub mod HeadLemmas
 pub mod NameLemmas
 pub mod TellLemmas
+pub mod TieLemmas

@@ -1,3 +1,4 @@
 pub mod Telling
 pub mod Messages
+pub mod Owning
 pub mod mirror

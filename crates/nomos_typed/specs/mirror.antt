@@ -1,3 +1,4 @@
 -- What private calls answer; no promise stands on these.
 pub mod Told
 pub mod Heads
+pub mod Ties
