@@ -1,4 +1,5 @@
 pub mod Telling
+pub mod Founded
 pub mod Messages
 pub mod Owning
 pub mod mirror

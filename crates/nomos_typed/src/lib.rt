@@ -3,6 +3,7 @@
 
 mod both;
 mod comparing;
+pub mod founded;
 mod heads;
 mod kinds;
 pub mod messages;

@@ -1,0 +1,22 @@
+use Rattle.std.proofs.Common.{◌<◌, ◌↔◌, IsTrue, List, true, take, All, refl, subst, arith}
+use Rattle.std.proofs.lemmas.List.{take_all}
+use Rattle.nomos_machine.specs.Objects.{object_number}
+use Rattle.nomos_machine.specs.declared.object.Object.{Object}
+use Rattle.nomos_typed.proofs.TellLemmas.{all-more}
+use Rattle.nomos_typed.proofs.founded.are_numbered.Goals as goal
+
+pub loop-object-preserved : goal.loop-object-preserved
+loop-object-preserved c =
+    let P : Object → Type 0 = λ o. 0 < object_number o in
+    (all-more P c.args.objects.now c.loop-object.object-index c.object-item.result (omega arith) c.object-item.is).0
+    (c.loop-object.invariant, c.is_numbered.ensures.0 c.if-not-is_numbered.false)
+
+pub returns : goal.returns
+returns c =
+    let P : Object → Type 0 = λ o. 0 < object_number o in
+    let objects = c.args.objects.now in (
+      λ is.
+          subst (λ (l : List Object). All P l) (take_all c.loop-object.object-index objects (omega arith))
+          c.loop-object.invariant,
+      λ all. refl,
+    )
