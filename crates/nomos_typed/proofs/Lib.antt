@@ -3,6 +3,9 @@ pub mod BringsLemmas
 pub mod CountLemmas
 pub mod FoundedLemmas
 pub mod HeadLemmas
+pub mod LeadingLemmas
 pub mod NameLemmas
+pub mod SectionLemmas
+pub mod TalkLemmas
 pub mod TellLemmas
 pub mod TieLemmas

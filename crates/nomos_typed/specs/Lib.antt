@@ -2,4 +2,5 @@ pub mod Telling
 pub mod Founded
 pub mod Messages
 pub mod Owning
+pub mod Sections
 pub mod mirror

@@ -1,4 +1,6 @@
 -- What private calls answer; no promise stands on these.
 pub mod Told
 pub mod Heads
+pub mod Leading
+pub mod Talks
 pub mod Ties

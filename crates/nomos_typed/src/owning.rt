@@ -117,7 +117,7 @@ fn names_in(alloc: Global, types: &[(u32, TypeId)]) -> Result<Vec<u32>, AllocErr
 }
 
 /// Whether the numbers, of which each counts once, are the others, which ascend.
-fn are_numbers(found: Vec<u32>, numbers: &[u32]) -> bool
+pub(crate) fn are_numbers(found: Vec<u32>, numbers: &[u32]) -> bool
     requires { IsStrictlySortedBy nat_cmp numbers.now }
     ensures { IsTrue result ↔ ((n : ℕ) → (1 ≤ count_of n found.items) ↔ (1 ≤ count_of n numbers.now)) }
 {
