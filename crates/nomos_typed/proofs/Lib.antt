@@ -5,6 +5,7 @@ pub mod FoundedLemmas
 pub mod HeadLemmas
 pub mod LeadingLemmas
 pub mod NameLemmas
+pub mod PartLemmas
 pub mod SectionLemmas
 pub mod TalkLemmas
 pub mod TellLemmas

@@ -14,4 +14,5 @@ pub mod owning;
 pub mod sections;
 mod tie;
 mod told;
+pub mod typed;
 mod worth;
