@@ -7,7 +7,8 @@ use Rattle.nomos_machine.specs.Opening.{IsOpenerNamed}
 use Rattle.nomos_machine.specs.State.{State}
 use Rattle.nomos_machine.proofs.OpeningLaws.{one-opener}
 use Rattle.nomos_sync.specs.Carrying.{CarriesChannel}
-use Rattle.nomos_monitor.specs.Opened.{IsNotRefused, IsRefusedSo, OpensTo}
+use Rattle.nomos_monitor.proofs.OnceLaws.{opens-once}
+use Rattle.nomos_monitor.specs.Opened.{IsOpenedSo, IsRefusedSo, OpensTo}
 use Rattle.nomos_monitor.specs.declared.outside_talk.TalkOpening.{TalkOpening}
 use Rattle.nomos_monitor.specs.declared.outside_talk.TalkOpening.TheVariants as opening
 use Rattle.nomos_monitor.specs.Opening.{IsTalkRefused, OpensNamed, no_account, no_process, carries, no_gas}
@@ -66,8 +67,8 @@ module _ {a : Acceptance} (accepted : IsAccepted a) {s : State} {name : List ℕ
     refused-so (opening.Refused m other) opens why is = one-refusal other why opens.2 is
     refused-so (opening.NoMemory m) opens why is = tt
 
-    pub not-refused : (result : TalkOpening M) → OpensTo state_of marked_of a s name account result → (t : State)
-        → OpensNamed a s name account t → IsNotRefused result
-    not-refused (opening.Talk t) opens u is = tt
-    not-refused (opening.Refused m why) opens u is = refused-not_opened why u opens.2 is
-    not-refused (opening.NoMemory m) opens u is = tt
+    pub opened-so : (result : TalkOpening M) → OpensTo state_of marked_of a s name account result → (t : State)
+        → OpensNamed a s name account t → IsOpenedSo t result
+    opened-so (opening.Talk t) opens u is = opens-once accepted opens.2 is
+    opened-so (opening.Refused m why) opens u is = refused-not_opened why u opens.2 is
+    opened-so (opening.NoMemory m) opens u is = tt

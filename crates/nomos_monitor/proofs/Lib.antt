@@ -7,3 +7,5 @@ pub mod RunningLaws
 pub mod OpenedLaws
 pub mod ChoosingLaws
 pub mod KeepingLaws
+pub mod OnceLaws
+pub mod TalkCourseLaws

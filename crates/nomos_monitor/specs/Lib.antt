@@ -3,3 +3,4 @@ pub mod Watching
 pub mod Opened
 pub mod Opening
 pub mod Answers
+pub mod TalkCourse

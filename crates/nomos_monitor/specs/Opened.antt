@@ -23,8 +23,8 @@ IsRefusedSo why (opening.Talk t) = ⊥
 IsRefusedSo why (opening.Refused m other) = other ≡ why
 IsRefusedSo why (opening.NoMemory m) = Unit {0}
 
--- it is not refused
-abbrev pub IsNotRefused : {M : Type 0} → TalkOpening M → Type 0
-IsNotRefused (opening.Talk t) = Unit {0}
-IsNotRefused (opening.Refused m why) = ⊥
-IsNotRefused (opening.NoMemory m) = Unit {0}
+-- it is opened, and this is the state, unless memory was wanting
+abbrev pub IsOpenedSo : {M : Type 0} → State → TalkOpening M → Type 0
+IsOpenedSo u (opening.Talk t) = t.state ≡ u
+IsOpenedSo u (opening.Refused m why) = ⊥
+IsOpenedSo u (opening.NoMemory m) = Unit {0}

@@ -1,14 +1,17 @@
 //! Talks of an outside party on one channel.
-ghost use Rattle.std.specs.Prelude.{◌≡◌, ◌+◌, ◌<◌, ◌^◌, ℕ, List, [], None, IfOk, OnErr, IsTrue, ◌↔◌};
+ghost use Rattle.std.specs.Prelude.{◌≡◌, ◌+◌, ◌<◌, ◌^◌, ℕ, List, [], None, Option, Result, IfOk, OnErr, IsTrue, ◌↔◌};
 ghost use Rattle.nomos_deeds.specs.Acting.{HasNumbers};
 ghost use Rattle.nomos_deeds.specs.Firings.{MayFire};
 ghost use Rattle.nomos_machine.specs.Hearing.{AnswersHearing};
 ghost use Rattle.nomos_machine.specs.Resting.{ComesToRest};
 ghost use Rattle.nomos_machine.specs.Run.{IsQuiet};
 ghost use Rattle.nomos_machine.specs.State.{State};
+ghost use Rattle.nomos_machine.specs.declared.object.Heard.{Heard as WasHeard};
+ghost use Rattle.nomos_machine.specs.declared.rest.Rest.{Rest as CameToRest};
+ghost use Rattle.nomos_monitor.specs.declared.refusal.SayError.{SayError as WhyUnsaid};
 ghost use Rattle.nomos_monitor.specs.declared.refusal.TalkRefusal.{TalkRefusal};
-ghost use Rattle.nomos_monitor.specs.Answers.{AnswersSaying};
-ghost use Rattle.nomos_monitor.specs.Opened.{IsNotRefused, IsRefusedSo, OpensTo};
+ghost use Rattle.nomos_monitor.specs.Answers.{AnswersSaying, IsSameSaying};
+ghost use Rattle.nomos_monitor.specs.Opened.{IsOpenedSo, IsRefusedSo, OpensTo};
 ghost use Rattle.nomos_monitor.specs.Opening.{CanOpenBy, IsTalkRefused, OpensNamed};
 ghost use Rattle.nomos_monitor.specs.Talks.{EndsBy, FiresSome, GoesWell, IsTalk, LooksOnce};
 
@@ -80,7 +83,7 @@ pub fn open_talk<'a, M: Talking>(
     ensures refused { (why : TalkRefusal) → IsTalkRefused accepted.now (M.state machine) proc.now account why
         → IsRefusedSo why result }
     ensures opened { (t : State) → OpensNamed accepted.now (M.state machine) proc.now account t
-        → IsNotRefused result }
+        → IsOpenedSo t result }
 {
     // Where the program is read it is known to be accepted.
     let _program = accepted.program();
@@ -122,8 +125,21 @@ fn opened<'a, M: Talking>(
 }
 
 impl<'a, M: Talking> OutsideTalk<'a, M> {
-    /// Says something, and the account pays what goes with it. Where it is not said nothing changes.
+    /// Says something, and the account pays what goes with it. Where it is not said nothing changes. No other answer is
+    /// right, but for want of memory.
     pub fn say(&mut self, alloc: Global, said: &Said) -> Result<(), SayError>
+        requires numbers { HasNumbers self.old.state }
+        ensures answers { AnswersSaying self.old.a self.old.state self.old.account said.now result self.new.state }
+        ensures only { (other : Result Unit WhyUnsaid) (t : State)
+            → AnswersSaying self.old.a self.old.state self.old.account said.now other t
+            → IsSameSaying other t result self.new.state }
+        ensures same { (self.new.a ≡ self.old.a) × (self.new.account ≡ self.old.account) }
+    {
+        self.speak(alloc, said)
+    }
+
+    // Says something, and the account pays what goes with it.
+    fn speak(&mut self, alloc: Global, said: &Said) -> Result<(), SayError>
         requires numbers { HasNumbers self.old.state }
         ensures answers { AnswersSaying self.old.a self.old.state self.old.account said.now result self.new.state }
         ensures same { (self.new.a ≡ self.old.a) × (self.new.account ≡ self.old.account) }
@@ -149,6 +165,8 @@ impl<'a, M: Talking> OutsideTalk<'a, M> {
     pub fn hear(&mut self, alloc: Global) -> Result<Option<Heard>, AllocError>
         ensures ok { IfOk result (λ heard. AnswersHearing self.old.state self.old.account heard self.new.state) }
         ensures err { OnErr result (self.new.state ≡ self.old.state) }
+        ensures only { (other : Option WasHeard) (t : State) → AnswersHearing self.old.state self.old.account other t
+            → IfOk result (λ heard. (other ≡ heard) × (t ≡ self.new.state)) }
         ensures ends { IfOk result (λ heard. EndsBy heard self.old.state self.new.state) }
         ensures same { (self.new.a ≡ self.old.a) × (self.new.account ≡ self.old.account) }
     {
@@ -185,8 +203,21 @@ impl<'a, M: Talking> OutsideTalk<'a, M> {
     }
 
     /// Fires the lowest ready process, again and again, at most `limit` times, and tells how often and how it came to
-    /// rest. Where memory was wanting, some firings were made, each of them whole.
+    /// rest: in one way alone. Where memory was wanting, some firings were made, each of them whole.
     pub fn run(&mut self, alloc: Global, limit: u32) -> Result<Rested, AllocError>
+        requires objects { self.old.state.next_object + limit < 2 ^ 32 }
+        requires names { self.old.state.next_name + limit < 2 ^ 32 }
+        ensures ok { IfOk result (λ r. ComesToRest self.old.a limit self.old.state r.made r.how self.new.state) }
+        ensures only { (made : ℕ) (how : CameToRest) (t : State) → ComesToRest self.old.a limit self.old.state made how t
+            → IfOk result (λ r. (made ≡ r.made) × (how ≡ r.how) × (t ≡ self.new.state)) }
+        ensures err { OnErr result (FiresSome self.old.a limit self.old.state self.new.state) }
+        ensures same { (self.new.a ≡ self.old.a) × (self.new.account ≡ self.old.account) }
+    {
+        self.fire_to_rest(alloc, limit)
+    }
+
+    // Fires the lowest ready process, again and again, at most `limit` times.
+    fn fire_to_rest(&mut self, alloc: Global, limit: u32) -> Result<Rested, AllocError>
         requires objects { self.old.state.next_object + limit < 2 ^ 32 }
         requires names { self.old.state.next_name + limit < 2 ^ 32 }
         ensures ok { IfOk result (λ r. ComesToRest self.old.a limit self.old.state r.made r.how self.new.state) }

@@ -1,4 +1,4 @@
-use Rattle.nomos_monitor.proofs.AnswerLaws.{not-refused, one-refusal, refused-not_opened, refused-so}
+use Rattle.nomos_monitor.proofs.AnswerLaws.{one-refusal, opened-so, refused-not_opened, refused-so}
 use Rattle.nomos_monitor.proofs.outside_talk.open_talk.Goals as goal
 
 pub returns-in-Ok-Err-clause-refused : goal.returns-in-Ok-Err-clause-refused
@@ -20,5 +20,5 @@ returns-in-Ok-Ok-clause-refused g c why is =
 pub returns-in-Ok-Ok-clause-opened : goal.returns-in-Ok-Ok-clause-opened
 returns-in-Ok-Ok-clause-opened g c t opens =
     let by = rw c.in-Ok-Ok.field-0-is at c.in-Ok-Ok.ensures in
-    not-refused c.program-program.ensures.accepted g.M.Sight.state g.M.Acting.marked c.opened.result
+    opened-so c.program-program.ensures.accepted g.M.Sight.state g.M.Acting.marked c.opened.result
     (c.opened.ensures c.args.proc.now by) t opens

@@ -1,4 +1,5 @@
 use Rattle.nomos_monitor.proofs.KeepingLaws.{answer-ends, answer-talk}
+use Rattle.nomos_monitor.proofs.OnceLaws.{hearing-only}
 use Rattle.nomos_monitor.proofs.TalkingLaws.{message-hearable}
 use Rattle.nomos_monitor.proofs.outside_talk.OutsideTalk.hear.Goals as goal
 
@@ -22,3 +23,8 @@ returns-clause-ends g c =
     rw (← c.self.view_is)
     (answer-ends c.program-program.ensures.accepted (g.M.Sight.state c.self.inside.running.machine) (g.M.Sight.state c.hear.new.self.machine)
     c.self.inside.account c.hear.result c.hear.ensures.ok c.self.invariant.talk)
+
+pub returns-clause-only : goal.returns-clause-only
+returns-clause-only g c other t answers =
+    hearing-only (g.M.Sight.state c.self.inside.running.machine) (g.M.Sight.state c.hear.new.self.machine)
+    c.self.inside.account other t (rw (← c.self.view_is) at answers) c.hear.result c.hear.ensures.ok

@@ -1,7 +1,7 @@
 -- So many firings were made of the talk.
 use Rattle.std.proofs.Common.{◌≡◌}
 use Rattle.nomos_monitor.proofs.RunningLaws.{HasFired}
-use Rattle.nomos_monitor.proofs.outside_talk.OutsideTalk.run.Given as goal
+use Rattle.nomos_monitor.proofs.outside_talk.OutsideTalk.fire_to_rest.Given as goal
 
 abbrev pub invariant-loop-made : goal.invariant-loop-made
 invariant-loop-made g l = record {
