@@ -230,7 +230,21 @@ def unpaid(text, program, charged):
         yield prices.get(it.at, it.at + head - before * len(PRICE)), it.value
 
 
-def explained(text, program, charged, brought=lambda at: []):
+def written_work(text, answer, program):
+    """Gives a line for a `work` that is written where the cost model puts one before every instruction."""
+    at = text.index_at(answer.offset)
+    end = next((it for it in range(at, len(text.tokens) - 1) if text.tokens[it].text == ";"), None)
+    if end is None:
+        return []
+    said = text.text[answer.offset : text.tokens[end].end]
+    edit = (answer.offset, text.tokens[end + 1].at, "")
+    after = program.check(text.edited(edit))
+    is_gone = not after.is_cause("Cost") or after.offset >= answer.offset
+    words = f"take `{said}` out, since each instruction costs 1 under `cost all`"
+    return [mend(words, edit)] if is_gone else []
+
+
+def explained(text, program, charged, brought=lambda at, value: []):
     """Gives the row that fits a text whose amounts do not do, and places with lines on what to write there. The
     offsets of the instructions that the cost model charges are given, and which lines there are on how what is spent at
     one of them is brought there."""
@@ -247,4 +261,4 @@ def explained(text, program, charged, brought=lambda at: []):
         return "NoPotential amount", [(it.at, mend(said(it, values[it]), *edits)) for it in places]
     works = list(unpaid(text, program, charged))
     see = "see: {} spent here, and nothing brings it"
-    return "NoPotential none", [(at, *brought(at), see.format(value)) for at, value in works]
+    return "NoPotential none", [(at, *brought(at, value), see.format(value)) for at, value in works]

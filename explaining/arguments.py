@@ -1,6 +1,6 @@
 """Which argument of a line of a script does not fit the parameter of the process that the line starts."""
 from .amounts import closing
-from .mends import mend
+from .mends import Mend, mend
 from .syntax import distance, nearest
 from .texts import listed, tokens_of
 
@@ -20,6 +20,18 @@ def kind_of(value):
     if isinstance(value, list):
         return "a list"
     return "a truth value" if isinstance(value, bool) else "a number"
+
+
+def flattened(value):
+    """Gives what a list has that is no list, in the lists in it too."""
+    return [it for part in value for it in (flattened(part) if isinstance(part, list) else [part])]
+
+
+def words_of(kind, value):
+    """Gives a number or a truth value as one of a kind, where it is one that others write so."""
+    if kind == "bool":
+        return str(value).lower() if isinstance(value, bool) else ("false", "true")[value] if value in (0, 1) else None
+    return str(int(value))
 
 
 def counted(count, what):
@@ -98,12 +110,57 @@ class Arguments:
     def of_count(self):
         pairs = ((self.values, self.wanted_values, "value"), (self.names, self.wanted_names, "contract"))
         lines = []
+        if len(self.values) > len(self.wanted_values):
+            lines += self.enlisted() or self.fewer()
         for given, wanted, what in pairs:
             if len(given) != len(wanted):
                 lines.append(f"see: {taken(wanted, len(given), what)}")
         if not lines:
             return None
-        return self.line.process.at, "BadArguments count", [*self.completed(), f"see: {self.declared()}", *lines]
+        lines = [*self.completed(), f"see: {self.declared()}", *lines]
+        lines.sort(key=lambda it: not isinstance(it, Mend))
+        return self.line.process.at, "BadArguments count", lines
+
+    def fewer(self):
+        """Gives a line for the values that are more than the process takes, the last ones."""
+        count = len(self.wanted_values)
+        out, kept = self.values[count:], self.values[:count]
+        start = kept[-1].tokens[-1].end if kept else out[0].tokens[0].at
+        edit = (start, out[-1].tokens[-1].end, "")
+        said = ", ".join(it.text for it in out)
+        return [mend(f"take `{said}` out", edit)] if self.refused.goes_on(edit) else []
+
+    def making(self):
+        """Gives lines on what makes a contract of a type of which none is made so far."""
+        if len(self.names) >= len(self.wanted_names):
+            return []
+        lacking = [it for it in self.wanted_names if not self.suiting(it)]
+        return [mend(f"write `{it}` on a line before, and `{wanted.name}` behind the `;` here")
+                for wanted in lacking[:1] for it in self.makers(wanted) if wanted.name not in self.known]
+
+    def makers(self, wanted):
+        """Gives lines of a script that make a contract for a parameter, three at most."""
+        found = []
+        for it in self.run.codes.processes.values():
+            shared = [one for one in it.of_kind("channel") if self.is_shared(one.type)]
+            is_free = len(it.of_kind("value")) + len(shared) == len(it.parameters)
+            names = [self.suiting(one)[:1] for one in shared]
+            if (it.mode, it.offers) == ("S", wanted.type) and is_free and all(names):
+                values = ".." if it.of_kind("value") else ""
+                behind = f"{' ' if names else ''}{', '.join(name for row in names for name in row)}"
+                found.append(f"let {wanted.name} = new {self.line.sender.text} {it.name}({values};{behind})")
+        return found[:3]
+
+    def enlisted(self):
+        """Gives a line for the values that are those of the one list that is wanted."""
+        at = [at for at, it in enumerate(self.wanted_values) if it.type.startswith("list")]
+        if len(at) != 1:
+            return []
+        end = at[0] + len(self.values) - len(self.wanted_values)
+        rows = self.values[at[0] : end + 1]
+        old = ", ".join(it.text for it in rows)
+        edit = (rows[0].tokens[0].at, rows[-1].tokens[-1].end, f"[{old}]")
+        return [mend(f"write `[{old}]` in place of `{old}`", edit)] if self.refused.goes_on(edit) else []
 
     def completed(self):
         """Gives a line on the contracts that are left out, where one alone has the type of each that who pays here has
@@ -115,7 +172,7 @@ class Arguments:
             others = [] if is_next else [one for one in self.suiting(it) if self.known[one].sender.text == payer]
             others = [name for name in others if name not in names] or others
             if not is_next and len(others) != 1:
-                return []
+                return self.making()
             names.append(given.pop(0) if is_next else others[0])
         if given and set(given) <= set(names) and len(self.values) == len(self.wanted_values):
             last = self.line.tokens[-1]
@@ -126,7 +183,7 @@ class Arguments:
         if not given and len(self.values) < len(self.wanted_values):
             return self.valued(names)
         if given or len(self.values) != len(self.wanted_values) or len(names) == len(self.names):
-            return []
+            return self.making()
         tokens = self.line.tokens
         sign = next(it for it in tokens if it.text == ";")
         edit = (sign.at, tokens[-1].end, f"; {', '.join(names)})")
@@ -139,7 +196,7 @@ class Arguments:
                 see = f"see: {self.declared()}, and `{wanted.name}` is of the kind `{wanted.type}`"
                 is_near = wanted.type.startswith("list") and isinstance(it.value, list)
                 what = "a list of other elements" if is_near else kind_of(it.value)
-                lines = [*self.turned(it, wanted.type.split()), f"{see}; `{it.text}` is {what}"]
+                lines = [*(self.sorted() or self.turned(it, wanted.type.split())), f"{see}; `{it.text}` is {what}"]
                 return it.tokens[0].at, "BadArguments kind", lines
         return None
 
@@ -156,16 +213,36 @@ class Arguments:
         words = f"write `{said}`, with {counted(len(left), 'value')} for {kinds}"
         return [mend(words, edit)] if self.refused.goes_on(edit) else []
 
+    def sorted(self):
+        """Gives a line for the same values in the order of the parameters, where their kinds tell it."""
+        left, found = list(self.values), []
+        for wanted in self.wanted_values:
+            it = next((it for it in left if fits(wanted.type.split(), it.value)), None)
+            if it is None:
+                return []
+            left.remove(it)
+            found.append(it.text)
+        edit = (self.values[0].tokens[0].at, self.values[-1].tokens[-1].end, ", ".join(found))
+        old = ", ".join(it.text for it in self.values)
+        return [mend(f"write `{edit[2]}` in place of `{old}`", edit)] if self.refused.goes_on(edit) else []
+
     def turned(self, argument, kind):
         """Gives a line on the same value as one of another kind: a list of it alone, what a list has alone, or the
         truth value that other languages write as 0 or 1."""
         value, new = argument.value, ""
-        if kind[0] == "list" and fits(kind[1:], value):
+        is_list = isinstance(value, list) and kind in (["list", "int"], ["list", "bool"])
+        flat = flattened(value) if is_list else []
+        turned = [words_of(kind[1], it) for it in flat]
+        if turned and None not in turned:
+            new = f"[{', '.join(turned)}]"
+        elif kind[0] == "list" and fits(kind[1:], value):
             new = f"[{argument.text}]"
         elif isinstance(value, list) and len(value) == 1 and fits(kind, value[0]):
             new = argument.text[1:-1]
         elif kind[0] == "bool" and value in (0, 1):
             new = ("false", "true")[value]
+        elif kind[0] == "int" and isinstance(value, bool):
+            new = str(int(value))
         edit = (argument.tokens[0].at, argument.tokens[-1].end, new)
         does = new and self.refused.goes_on(edit)
         return [mend(f"write `{new}` in place of `{argument.text}`", edit)] if does else []
@@ -175,9 +252,12 @@ class Arguments:
             if it.text not in self.known:
                 suits = self.suiting(wanted)
                 see = self.made(suits) if suits else f"see: no contract of the type `{wanted.type}` is made so far"
+                is_named = it.text.isidentifier() and not suits
+                makes = self.makers(wanted._replace(name=it.text)) if is_named and not self.of_account(it.text) else []
+                makes = [mend(f"write `{line}` on a line before") for line in makes]
                 meant = self.refused.meant(it.tokens[0], nearest(it.text, suits)) or self.of_one(it.tokens[0], suits)
                 others = meant or self.of_type_name(it, wanted, suits)
-                lines = self.made_elsewhere(it.text) or others or [*self.of_account(it.text), see]
+                lines = self.made_elsewhere(it.text) or others or [*makes, *self.of_account(it.text), see]
                 return it.tokens[0].at, "BadArguments name", lines
         for it, wanted in zip(self.names, self.wanted_names):
             if self.suits(it.text, wanted.type) is False:
@@ -190,9 +270,20 @@ class Arguments:
             if row.word == "let" and row.contract.text == name:
                 place = self.run.script.place(row.contract.at)
                 if row.number > self.line.number:
-                    return [f"see: `{name}` is made at {place}, behind this line"]
+                    return [*self.moved_behind(row), f"see: `{name}` is made at {place}, behind this line"]
                 return [f"see: `{name}` was to be made at {place}, and that was not carried out"]
         return []
+
+    def moved_behind(self, row):
+        """Gives a line for this line behind the one that makes the contract, where neither stands in a batch."""
+        script, line = self.run.script, self.line
+        inside = [it.word for it in script.rows[: row.number - 1] if it.word in ("begin", "end")][-1:] == ["begin"]
+        if line.number != self.refused.number or inside or script.row(line.number).word == "begin":
+            return []
+        edits = (line.at, line.end + 1, ""), (row.end, row.end, f"\n{line.text}")
+        answer = self.run.asked(row.number, *edits)
+        is_made = answer is not None and answer.status in (0, 3) and answer.entries[-1][0][2:3] != ["refused"]
+        return [mend(f"write this line behind line {row.number}", *edits)] if is_made else []
 
     def of_one(self, token, suits):
         """Gives a line for the one contract that has the type, where its name is one letter away."""
@@ -206,10 +297,27 @@ class Arguments:
         token, processes = argument.tokens[0], self.run.codes.processes
         is_type = token.text == wanted.type or token.text in processes and processes[token.text].offers == wanted.type
         edit = (token.at, token.end, suits[0] if suits else "")
-        if not is_type or len(suits) != 1 or not self.refused.goes_on(edit):
+        if not is_type or len(suits) != 1:
             return []
+        if not self.refused.goes_on(edit):
+            return self.of_type_names()
         what = "type" if token.text == wanted.type else "process"
         return [mend(f"write `{suits[0]}`, which is of this {what}, in place of `{token.text}`", edit)]
+
+    def of_type_names(self):
+        """Gives a line where several names are those of types, of each of which there is one contract."""
+        edits, new = [], []
+        for it, wanted in zip(self.names, self.wanted_names):
+            suits = self.suiting(wanted)
+            is_known = it.text in self.known
+            if not is_known and (len(suits) != 1 or it.text != wanted.type):
+                return []
+            new.append(it.text if is_known else suits[0])
+            edits += [] if is_known else [(it.tokens[0].at, it.tokens[-1].end, suits[0])]
+        if not edits or not self.refused.goes_on(*edits):
+            return []
+        said, old = ", ".join(new), ", ".join(it.text for it in self.names)
+        return [mend(f"write `{said}`, which are of these types, in place of `{old}`", *edits)]
 
     def of_account(self, name):
         accounts = [it.tokens[1].text for it in self.run.before(self.refused.number, "deposit")]
@@ -230,6 +338,9 @@ class Arguments:
         does = [name for name in others[:3] if self.refused.goes_on((token.at, token.end, name))]
         where = f"in place of `{argument.text}`"
         mends = [mend(f"write `{name}` {where}", (token.at, token.end, name)) for name in does] or self.changed(token)
+        if not mends and not others and wanted.name not in self.known:
+            mends = [mend(f"write `{it}` on a line before, and `{wanted.name}` in place of `{argument.text}`")
+                     for it in self.makers(wanted)]
         return token.at, "BadArguments type", [*mends, see, *([self.made(others)] if others and not mends else [])]
 
     def changed(self, token):

@@ -20,20 +20,22 @@ class Bringing:
             self.types.behind(held, step, label)
         return process, held
 
-    def lines(self, at):
-        """Gives a line by which the client pays what is spent at the amount of a `work`: with it, nothing is missing
-        there, and who is the client has to pay."""
-        index = self.text.index_at(at) - 2
-        if self.types is None or [it.text for it in self.types.tokens[index : index + 2]] != ["work", "{"]:
+    def lines(self, at, spent):
+        """Gives a line by which the client pays what is spent at the amount of a `work`, or at an instruction that the
+        cost model charges: with it, nothing is missing there, and who is the client has to pay."""
+        index = self.text.index_at(at)
+        if self.types is None:
             return []
+        index -= 2 if [it.text for it in self.types.tokens[index - 2 : index]] == ["work", "{"] else 0
         process, held = self.held(index)
-        own, work = held.get("self"), self.types.tokens[index]
+        own, first = held.get("self"), self.types.tokens[index]
         if process.mode == "T" or own is None or own.type == own.first or self.types.is_shared(own.type):
             return []
-        spent, start = self.types.tokens[index + 2].text, self.types.tokens[own.type.at]
-        edits = (start.at, start.at, f"<{{{spent}}}| "), (work.at, work.at, f"get self {{{spent}}}; ")
+        start = self.types.tokens[own.type.at]
+        edits = (start.at, start.at, f"<{{{spent}}}| "), (first.at, first.at, f"get self {{{spent}}}; ")
         words = f"write `<{{{spent}}}|` before `{start.text}` at {self.text.place(start.at)}, in the type, and "
-        words += f"`get self {{{spent}}};` before `work`, so that the client brings it"
+        where = f"`{first.text}`" if first.at != at else "it"
+        words += f"`get self {{{spent}}};` before {where}, so that the client brings it"
         after = self.program.check(self.text.edited(*edits))
         does = after.is_accepted or after.is_cause("ProcType") or after.is_cause("NoPotential")
         return [mend(words, *edits)] if does else []

@@ -1,6 +1,7 @@
 """Slips in a line of a script that has all it needs, in another form: as other languages would have it."""
 from typing import NamedTuple
 
+from .mends import mend
 from .numbers import PARTED, in_digits
 from .syntax import distance
 from .texts import joined, listed
@@ -25,7 +26,17 @@ INSTEAD = {
                     " `//! result 7`, and nomos-test compares it"),
     **dict.fromkeys(("import", "include", "use", "source"), "the contract is named in the words of the call"),
     **dict.fromkeys(("sleep", "wait", "advance"), "there is no time; a line is run behind the one before"),
+    **dict.fromkeys(("if", "else", "for", "while", "repeat", "match", "case"), "each line is run once, and what is done"
+                    " only sometimes, or often, is what a transaction of the contract does"),
+    **dict.fromkeys(("type", "fn", "proc", "def", "func", "function"), "declarations stand in the contract"),
 }
+STARTS = ("begin", "end", "exec", "let", "show", "deposit")
+RESERVED = ("deposit", "let", "new", "exec", "begin", "end", "show", "true", "false")
+# Words that others put before an account.
+SMALL = ("as", "by", "from", "for", "with", "account", "contract", "on", "to")
+# The brackets that others have around a list, and how many numbers are written out.
+BRACKETS = {"{": "}", "(": ")", "<": ">", "[": "]"}
+MOST_ROW, MOST_TIMES = 50, 20
 ADDED = {"+": int.__add__, "-": int.__sub__, "*": int.__mul__}
 
 
@@ -40,26 +51,46 @@ class Forms:
     """What is found of the tokens around the marked one, by the class that is made of this one."""
 
     def of_forms(self):
-        ways = (self.of_accounts, self.of_several, self.of_rows, self.of_left_out, self.of_dots, self.of_first_words)
+        ways = (self.of_case, self.of_accounts, self.of_several, self.of_rows, self.of_left_out, self.of_dots)
+        ways = (self.of_deposits, self.of_amounts, self.of_names, self.of_inner, self.of_first_words, *ways)
         ways = (*ways, self.of_words, self.of_makes, self.of_payers, self.of_calls, self.of_brackets)
-        for way in (*ways, self.of_lists, self.of_numbers, self.of_terms):
+        for way in (*ways, self.of_tails, self.of_lists, self.of_numbers, self.of_terms):
             yield from way()
+
+    def of_case(self):
+        """Words of the language in great letters."""
+        great = [it for it in self.tokens if it.text != it.text.lower() and it.text.lower() in RESERVED]
+        if len(great) > 1 and great[0] is self.marked:
+            new = self.row_text()
+            for it in great[::-1]:
+                new = new[: it.at - self.row.at] + it.text.lower() + new[it.end - self.row.at :]
+            said = " and ".join(f"`{it.text.lower()}` in place of `{it.text}`" for it in great)
+            yield Slip((self.row.at, self.row.end, new), f"write {said}")
 
     def of_rows(self):
         """A line that goes on in the next one, and two lines in one."""
         mark, row = self.marked, self.row
-        if self.count and not mark.kind:
+        if self.count and (not mark.kind or mark.text == "\\"):
             tokens = list(row.tokens)
             for further in self.script.rows[row.number : row.number + MOST_ROWS]:
-                tokens += further.tokens
+                tokens = [it for it in (*tokens, *further.tokens) if it.text != "\\"]
                 mend = f"write what stands up to line {further.number} on this one line"
                 yield Slip((row.at, row.end, joined(tokens)), mend)
+        texts = [it.text for it in self.tokens]
+        ends = (*STARTS, ")", "}", ";")
+        starts = [at for at, it in enumerate(texts) if it in STARTS and (not at or texts[at - 1] in ends)]
+        if len(starts) > 2 and starts[0] == 0:
+            rows = [joined(self.tokens[at:end]).rstrip(";") for at, end in zip(starts, [*starts[1:], len(texts)])]
+            said = ", ".join(f"`{it}`" for it in rows)
+            yield Slip((row.at, row.end, "\n".join(rows)), f"write {said}, each on a line of its own")
         if self.count and self.may_end and mark.text in self.words:
             yield Slip((mark.at, mark.at, "\n"), f"write this `{mark.text}` and what stands behind it on another line")
 
     def instead(self):
         """Gives a line on what stands in for a line that there is none of."""
         word = self.marked.text.lower()
+        if self.of_due():
+            return self.of_due()
         return [f"see: there is no `{word}`: {INSTEAD[word]}"] if not self.count and word in INSTEAD else []
 
     def of_dots(self):
@@ -88,11 +119,21 @@ class Forms:
             number = str(known.index(mark.text))
             mend = f"write `{number}` in place of `{mark.text}`, which is the number of this account"
             yield Slip((mark.at, mark.end, number), mend)
+        if mark.text in ("\"", "'") and self.at(1).text in known and self.at(2).text == mark.text:
+            number = str(known.index(self.at(1).text))
+            said = f"`{self.script.text[mark.at : self.at(2).end]}`, since there are no texts"
+            mend = f"write `{number}`, which is the number of the account `{self.at(1).text}`, in place of {said}"
+            yield Slip((mark.at, self.at(2).end, number), mend)
         payer = self.payer()
         if "NUMBER" in self.wanted and mark.text == "me" and payer in known and "me" not in self.made():
             number = str(known.index(payer))
             mend = f"write `{number}` in place of `me`, which is the number of the account `{payer}` that pays here"
             yield Slip((mark.at, mark.end, number), mend)
+
+    def one_account(self):
+        """Gives the account of the script, where there is one alone."""
+        known = self.script.accounts(len(self.script.rows) + 1)
+        return known[0] if len(known) == 1 else ""
 
     def payer(self):
         """Gives the name of the account that pays for the line, where it stands at its place."""
@@ -107,16 +148,83 @@ class Forms:
     def of_first_words(self):
         """Slips at the first word of a line, and in what a `deposit` and a bound result have."""
         mark, texts = self.marked, [it.text for it in self.tokens]
+        if texts[:1] == ["deposit"] and self.wanted == {"N"} and mark.kind == "word" and len(texts) == 3:
+            yield Slip((mark.at, mark.end, "0"), f"write a number of units in place of `{mark.text}`")
         if texts[:1] == ["deposit"] and self.wanted == {"N"} and not mark.kind:
             mend = f"write `{joined(self.tokens)} ..`, with the number of units"
             yield Slip((self.row.end, self.row.end, " 0"), mend)
+        is_before = not self.count and texts[1:2] and texts[1] in self.words and mark.text not in self.accounts()
+        if is_before and (mark.kind == "number" or texts[1] != "exec"):
+            yield Slip((mark.at, self.tokens[1].at, ""), f"take `{mark.text}` out")
         other = WORDS.get(mark.text.lower()) if not self.count else None
+        if other in self.words and texts[1:2] in (["exec"], ["let"], ["begin"]):
+            yield Slip((mark.at, self.tokens[1].at, ""), f"take `{mark.text}` out")
         if other in self.words:
             yield Slip((mark.at, mark.end, other), f"write `{other}` in place of `{mark.text}`")
             yield Slip((mark.at, self.row.end, other), f"write `{other}` alone on this line")
         if not self.count and texts[1:2] == ["="] and texts[2:3] == ["exec"]:
             said = joined(self.tokens[:2])
             yield Slip((mark.at, self.tokens[2].at, ""), f"take `{said}` out, since results stand in the report alone")
+
+    def of_names(self):
+        """A name with a hyphen in it, or with a number before it."""
+        mark, before, behind = self.marked, self.at(-1), self.at(1)
+        is_tight = before.end == mark.at and mark.end == behind.at and before.kind == "word"
+        if mark.text == "-" and is_tight and behind.kind in ("word", "number"):
+            new, old = f"{before.text}_{behind.text}", f"{before.text}-{behind.text}"
+            yield Slip((before.at, behind.end, new), f"write `{new}` in place of `{old}`, here and wherever it stands")
+        if mark.kind == "number" and self.wanted == {"NAME"} and behind.kind == "word" and mark.end == behind.at:
+            new, old = f"{behind.text}{mark.text}", f"{mark.text}{behind.text}"
+            yield Slip((mark.at, behind.end, new), f"write `{new}` in place of `{old}`, here and wherever it stands")
+
+    def of_deposits(self):
+        """Several deposits in one line."""
+        texts = [it.text for it in self.tokens]
+        pairs = [it for it in texts[1:] if it not in (",", ";", "and", "deposit", "&", "to", ":", "=")]
+        is_row = texts[:1] == ["deposit"] and len(pairs) > 3 and len(pairs) % 2 == 0
+        if is_row and all(it.isidentifier() and other.isdecimal() for it, other in zip(pairs[::2], pairs[1::2])):
+            rows = [f"deposit {it} {other}" for it, other in zip(pairs[::2], pairs[1::2])]
+            said = " and ".join(f"`{it}`" for it in rows)
+            yield Slip((self.row.at, self.row.end, "\n".join(rows)), f"write {said}, each on a line of its own")
+
+    def of_amounts(self):
+        """What stands around the units of a `deposit`, and a deposit that is written like a value."""
+        mark, before, texts = self.marked, self.at(-1), [it.text for it in self.tokens]
+        if texts[:1] == ["let"] and texts[2:4] == ["=", "deposit"] and texts[4:5] and texts[4].isdecimal():
+            new = f"deposit {texts[1]} {texts[4]}"
+            yield Slip((self.row.at, self.row.end, new), f"write `{new}`")
+        if texts[:1] != ["deposit"] or self.count not in (2, 3):
+            return
+        numbers = [it for it in self.tokens[2:] if it.kind == "number"]
+        if self.count == 2 and len(numbers) == 1 and numbers[0].at > mark.at:
+            said = joined([it for it in self.tokens if mark.at <= it.at])
+            new = numbers[0].text
+            if "-" not in said and "." not in said:
+                yield Slip((mark.at, self.row.end, new), f"write `{new}` in place of `{said}`")
+        if self.count == 3 and mark.kind == "number" and mark.at > before.end:
+            yield Slip((before.end, self.row.end, ""), f"take `{joined(self.tokens[3:])}` out")
+
+    def of_inner(self):
+        """A contract that is made among the arguments."""
+        mark, before = self.marked, self.at(-1)
+        processes = self.codes.processes if self.codes else {}
+        if mark.text == "(" and before.text in processes and processes[before.text].mode == "S" and self.count > 3:
+            end = self.tokens[self.closing(self.count)]
+            made = self.script.text[before.at : end.end]
+            words = f"write `let .. = new .. {made}` on a line before, with the account that pays behind `new`"
+            yield Slip((before.at, end.end, "x"), f"{words} and a name for the contract, and this name here")
+
+    def of_due(self):
+        """What is asked of a result, which stands in a comment behind the line that emits it."""
+        mark, last = self.marked, self.tokens[-1]
+        rows = [it for it in self.script.rows[: self.row.number - 1] if it.word == "exec"]
+        is_value = last.kind == "number" or last.text in ("true", "false")
+        if self.count or mark.text.lower() not in ("assert", "expect", "check", "require") or not rows or not is_value:
+            return []
+        row = rows[-1]
+        said = f"//! result {'-' if len(self.tokens) > 1 and self.tokens[-2].text == '-' else ''}{last.text}"
+        edits = (row.end, row.end, f" {said}"), (self.row.at, min(self.row.end + 1, self.script.size), "")
+        return [mend(f"write `{said}` behind line {row.number} in place of this line, for nomos-test", *edits)]
 
     def of_words(self):
         """Slips at the first words of a line, and with what a line is for."""
@@ -144,8 +252,7 @@ class Forms:
         if mark.text == "(" and self.wanted == {"NAME"} and texts[-2:-1] in (["by"], ["as"], ["from"]):
             end, account = self.tokens[-3], self.tokens[-1].text
             new = f"{account} {self.script.text[before.at : end.end]}"
-            mend = f"write the account first, as in `{self.tokens[0].text} {account} {before.text}(..)`"
-            yield Slip((before.at, self.row.end, new), mend)
+            yield Slip((before.at, self.row.end, new), f"write `{self.tokens[0].text} {new}`, the account first")
         if before.text == "new" and mark.kind == "word" and "(" in texts[: self.count]:
             end = self.closing(self.count)
             made = joined(self.tokens[self.count - 1 : end + 1])
@@ -168,10 +275,26 @@ class Forms:
         if texts[:1] == ["let"] and self.marked.text == "," and "=" in texts:
             equal = texts.index("=")
             names = [it.text for it in self.tokens[1:equal] if it.kind == "word"]
-            rest = joined(self.tokens[equal:])
-            rows = [f"let {it} {rest}" for it in names]
+            rows = [f"let {it} = {part}" for it, part in zip(names, self.parted_by(equal + 1, len(names)))]
             said = " and ".join(f"`{it}`" for it in rows)
             yield Slip((self.row.at, self.row.end, "\n".join(rows)), f"write {said}, each on a line of its own")
+
+    def paying(self):
+        """Gives `new` with the account that pays, and what is said of that where there is more than one."""
+        one = self.one_account()
+        return (f"new {one}", "") if one else ("new ..", ", with the account that pays")
+
+    def parted_by(self, start, count):
+        """Gives the parts of the line from a token on that have a comma between them, or so often all of it."""
+        parts, depth = [[]], 0
+        for it in self.tokens[start:]:
+            depth += (it.text in ("(", "[")) - (it.text in (")", "]"))
+            if it.text == "," and depth == 0:
+                parts.append([])
+            else:
+                parts[-1].append(it)
+        said = [joined(it) for it in parts]
+        return said if len(said) == count else [joined(self.tokens[start:])] * count
 
     def of_makes(self):
         """A contract that is made by other words than `let .. = new ..`, or has its type before its name."""
@@ -184,17 +307,42 @@ class Forms:
             yield Slip((mark.at, mark.at, "new "), f"write `new` before `{mark.text}`")
         if self.wanted == {"new"} and mark.text != "exec" and behind.kind == "word" and texts[5:6]:
             is_paid = texts[5] != "("
-            said, why = ("new", "") if is_paid else ("new ..", ", with the account that pays")
+            said, why = ("new", "") if is_paid else self.paying()
             yield Slip((mark.at, mark.end, said.replace("..", "x")), f"write `{said}` in place of `{mark.text}`{why}")
         if self.wanted == {"="} and before.kind == mark.kind == "word" and behind.text == "=":
             yield Slip((before.at, mark.at, ""), f"take `{before.text}` out, since a contract gets a name alone")
         if not self.count and texts[2:3] == ["="] and "(" in texts[4:]:
             rest = [it for it in self.tokens[3:] if it.text != "new"]
             has_account = len(rest) > 2 and rest[1].kind == "word"
-            said = f"let {texts[1]} = new{'' if has_account else ' ..'} {rest[0].text}"
+            new, why = ("new", "") if has_account else self.paying()
+            said = f"let {texts[1]} = {new} {rest[0].text}"
             mend = f"write `{said}` in place of `{joined(self.tokens[: self.tokens.index(rest[0]) + 1])}`"
             edit = (mark.at, rest[0].end, said.replace("..", "x"))
-            yield Slip(edit, mend if has_account else f"{mend}, with the account that pays")
+            yield Slip(edit, f"{mend}{why}")
+
+    def of_tails(self):
+        """What stands behind a whole line: another thing to run, how often it is run, and a name for its result."""
+        mark, before, row = self.marked, self.at(-1), self.row
+        if not self.may_end or before.text != ")" or self.tokens[0].text not in ("exec", "let"):
+            return
+        rest = [it for it in self.tokens if it.at >= mark.at]
+        further = next((at for at, it in enumerate(rest) if it.text in ("exec", "let")), 0)
+        if 0 < further < 4 and rest[-1].text == ")":
+            new = f"{joined(self.tokens[: self.count])}\n{joined(rest[further:])}"
+            yield Slip((row.at, row.end, new), f"write `{joined(rest[further:])}` on a line of its own")
+        texts, line = [it.text for it in rest], joined(self.tokens[: self.count])
+        is_more = texts[1:] and texts[0] in (",", "&", "and", "then", "+") and texts[-1] == ")"
+        if self.tokens[0].text == "exec" and is_more:
+            payer = joined(self.tokens[:2])
+            new = "\n".join([line, f"{payer} {joined(rest[1:])}"])
+            yield Slip((row.at, row.end, new), f"write `{payer} {joined(rest[1:])}` on a line of its own")
+        number = next((it for it in texts if it.isdecimal()), "")
+        is_times = len(texts) < 4 and texts[0] in ("*", "x", "times", "for", "repeat")
+        if self.tokens[0].text == "exec" and is_times and number and 0 < int(number) <= MOST_TIMES:
+            yield Slip((row.at, row.end, "\n".join([line] * int(number))), f"write this line {number} times")
+        if texts[0] in ("-", "=", ">", ":", "into", "as", "to") and len(texts) < 5:
+            said = self.script.text[mark.at : rest[-1].end]
+            yield Slip((before.end, row.end, ""), f"take `{said}` out, since results stand in the report alone")
 
     def of_payers(self):
         """Several accounts before what is run, and a contract between the account and what is run."""
@@ -207,6 +355,9 @@ class Forms:
             said = " and ".join(f"`{it}`" for it in rows)
             yield Slip((self.row.at, self.row.end, "\n".join(rows)), f"write {said}, each on a line of its own")
         processes = self.codes.processes if self.codes else {}
+        small = self.at(-2)
+        if self.wanted == {"("} and small.text in SMALL and mark.kind == "word" and before.text not in processes:
+            yield Slip((small.at, before.at, ""), f"take `{small.text}` out")
         is_other = mark.text in processes and before.text not in processes and before.text not in self.made()
         if self.wanted == {"("} and is_other and behind.text == "(":
             yield Slip((before.at, mark.at, ""), f"take `{before.text}` out")
@@ -248,13 +399,22 @@ class Forms:
         texts = [it.text for it in self.tokens]
         signs = {"{": "}", "[": "]", "<": ">"}
         if self.wanted == {"("} and signs.get(mark.text) == texts[-1]:
-            new = f"({joined(self.tokens[self.count + 1 : -1])})"
+            rows = [(it, texts[at + 1]) for at, it in enumerate(self.tokens[:-1]) if at > self.count]
+            inside = joined([it for it, behind in rows if not {it.text, behind} & {":", "="}])
+            new = f"({inside}{'' if ';' in inside else ';'})"
             mend = f"write `(` and `)` in place of `{mark.text}` and `{texts[-1]}`"
             yield Slip((mark.at, self.row.end, new), mend)
         is_ended = mark.text == ";" and mark is self.tokens[-1]
         if self.wanted == {"("} and (not mark.kind or is_ended):
             slip = self.of_no_arguments()
             yield slip._replace(edit=(slip.edit[0], self.row.end, slip.edit[2]))
+        is_pair = before.kind == mark.kind == "word" and ";" in texts[: self.count] and mark.text in self.made()
+        if is_pair and before.text not in self.made() and self.at(1).text in (",", ")"):
+            yield Slip((before.at, mark.at, ""), f"take `{before.text}` out")
+        if mark.text in ("[", "(", "{") and ";" in texts[: self.count] and BRACKETS[mark.text] in texts[self.count :]:
+            end = next(it for it in self.tokens[self.count :] if it.text == BRACKETS[mark.text])
+            inside = self.script.text[mark.end : end.at].strip()
+            yield Slip((mark.at, end.end, inside), f"write `{inside}` in place of `{self.script.text[mark.at : end.end]}`")
         if mark.text in (",", ";", ")") and before.text in (",", ";") and mark.text + before.text != ");":
             it = before if mark.text == ")" else mark
             yield Slip((it.at, it.end, ""), f"take this `{it.text}` out")
@@ -264,6 +424,8 @@ class Forms:
         if mark.text == "(" and "(" in texts[: self.count] and "NUMBER" in self.wanted:
             end = self.tokens[self.closing(self.count)]
             old = self.script.text[mark.at : end.end]
+            if self.kind() in ("int", "bool") and "," not in old:
+                yield Slip((mark.at, end.end, old[1:-1]), f"write `{old[1:-1]}` in place of `{old}`")
             yield Slip((mark.at, end.end, f"[{old[1:-1]}]"), f"write `[{old[1:-1]}]` in place of `{old}`")
         opening = next((at for at in range(self.count - 1, 0, -1) if texts[at] in ("[", "]")), 0)
         closing = next((at for at in range(self.count, len(texts)) if texts[at] in ("[", "]")), 0)
@@ -287,8 +449,29 @@ class Forms:
         listed = ", ".join(f"`{it.name}: {it.type}`" for it in parameters)
         return Slip((name.end, name.end, new), f"write `{said}` behind `{name.text}`, where {listed} stand")
 
+    def of_other_lists(self):
+        """A list in the brackets of other languages, and one that is told by its ends."""
+        mark, before, texts = self.marked, self.at(-1), [it.text for it in self.tokens]
+        if "NUMBER" in self.wanted and (mark.text in BRACKETS or mark.kind == "word"):
+            opening = next((at for at in range(self.count, len(texts)) if texts[at] in (*BRACKETS, ",", ";")), 0)
+            sign = BRACKETS.get(texts[opening])
+            end = next((at for at in range(opening, len(texts)) if texts[at] == sign), 0)
+            inside = joined(self.tokens[opening + 1 : end]).replace(";", ",").strip(", ")
+            if sign and end and opening - self.count < 4:
+                old = joined(self.tokens[self.count : end + 1])
+                if self.kind() in ("int", "bool") and inside and "," not in inside:
+                    yield Slip((mark.at, self.tokens[end].end, inside), f"write `{inside}` in place of `{old}`")
+                yield Slip((mark.at, self.tokens[end].end, f"[{inside}]"), f"write `[{inside}]` in place of `{old}`")
+        ends = [it for it in self.tokens[self.count :] if it.kind == "number"][:1]
+        is_row = before.kind == "number" and ends and mark.text in (".", ":", "-") and self.at(-2).text == "["
+        if is_row and int(before.text) <= int(ends[0].text) < int(before.text) + MOST_ROW:
+            new = ", ".join(str(it) for it in range(int(before.text), int(ends[0].text) + 1))
+            old = self.script.text[before.at : ends[0].end]
+            yield Slip((before.at, ends[0].end, new), f"write `{new}` in place of `{old}`")
+
     def of_lists(self):
         """A list that is written as in a contract, with `::` and `nil`."""
+        yield from self.of_other_lists()
         texts = [it.text for it in self.tokens]
         if "nil" not in texts[self.count :] or "(" not in texts[: self.count]:
             return

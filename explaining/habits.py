@@ -1,13 +1,32 @@
 """Slips of those who write other languages, or who have not met yet how a thing is written in this one."""
+from .comparisons import translated
 from .numbers import WRITTEN, in_digits
 from .renamed import fresh, is_known, renaming
 from .shapes import ELSEWHERE, HEADS, KINDS, Slip
 from .texts import joined
 from .wordings import Wordings
 
+AGAIN = ("loop", "repeat", "again", "continue", "restart", "recurse", "goto", "next", "self_call")
 LOOPS = ("while", "for", "loop", "repeat", "foreach")
 # The instructions that are written with a channel behind them.
 WORDS = ("send", "recv", "put", "take", "wait", "pay", "get", "fwd", "acquire", "release")
+# What others write before a name, which says nothing here.
+MODIFIERS = ("mut", "ref", "const", "final", "var", "memory", "calldata", "storage", "immutable", "own", "public",
+             "private", "pub", "static", "inout", "in", "out", "val", "linear", "resource", "payable", "external")
+# The instructions by the words that others have for them.
+INSTRUCTIONS = {
+    **dict.fromkeys(("burn", "spend", "consume", "charge", "gas", "tick"), "work"),
+    **dict.fromkeys(("stop", "end", "exit", "finish", "done", "terminate", "halt"), "close"),
+    **dict.fromkeys(("lock", "open", "borrow", "claim"), "acquire"),
+    **dict.fromkeys(("unlock", "free", "giveback"), "release"),
+    **dict.fromkeys(("receive", "receives", "get_channel", "input"), "recv"),
+    **dict.fromkeys(("read", "fetch", "pull"), "take"),
+    **dict.fromkeys(("give", "pass", "transfer", "move"), "send"),
+    **dict.fromkeys(("create", "new", "start", "fork", "run"), "spawn"),
+    **dict.fromkeys(("var", "val", "set", "def", "const"), "let"),
+    **dict.fromkeys(("forward", "redirect", "become"), "fwd"),
+    **dict.fromkeys(("drop", "delete", "destroy", "await", "join"), "wait"),
+}
 # the instructions that bind a name, and what stands before it
 COMING = {"recv": "", "take": "", "acquire": "as ", "release": "as "}
 
@@ -17,7 +36,9 @@ class Habits(Wordings):
 
     def of_habits(self):
         ways = (self.of_order, self.of_returns, self.of_terms, self.of_cases, self.of_kinds, self.of_calls)
-        for way in (self.of_wordings, self.of_shapes, *ways, self.of_loops, self.of_braces):
+        ways = (*ways, self.of_loops, self.of_braces, self.of_heard, self.of_tried, self.of_other_words,
+                self.of_bare, self.of_arrows, self.of_steps)
+        for way in (self.of_wordings, self.of_shapes, *ways):
             yield from way()
 
     def of_order(self):
@@ -32,6 +53,9 @@ class Habits(Wordings):
             yield Slip("Syntax", f"write `{new}` in place of `{mark.text} {behind.text}`", (mark.at, behind.end, new))
         if before.text == "mut" and self.token(-2).text == "let":
             yield Slip("Syntax", "take `mut` out, since a name never changes its value", (before.at, mark.at, ""))
+        is_modified = before.text in MODIFIERS and mark.kind == "word" and "NAME" not in self.wanted
+        if is_modified and self.tokens[0].text in HEADS:
+            yield Slip("Syntax", f"take `{before.text}` out", (before.at, mark.at, ""))
         is_value = mark.kind == "number" or mark.text in ("true", "false")
         if is_value and before.text in (";", ",") and self.wanted <= {"NAME", ")"}:
             yield from self.of_sides()
@@ -56,13 +80,134 @@ class Habits(Wordings):
             yield Slip("Syntax", "take `return` out, since a term gives its value by itself", (before.at, mark.at, ""))
 
     def of_loops(self):
-        """Slips with a loop, which is taken out with all that stands in its braces."""
-        before = self.token(-1)
+        """Slips with a loop, which is taken out with what stands in its braces, and with a word for another turn."""
+        mark, before = self.marked, self.token(-1)
+        is_turn = before.text in AGAIN and mark.text in ("|", "}", ";") and self.tokens[0].text == "proc"
+        if self.wanted == {"."} and is_turn:
+            new = self.last_one()
+            mend = f"write `{new}` in place of `{before.text}`"
+            yield Slip("Syntax loop", mend, (before.at, before.end, new))
         if self.wanted == {"."} and before.text in LOOPS:
             opening = next((at for at, it in enumerate(self.tokens) if at >= self.index and it.text == "{"), self.index)
             last = self.closing(opening - self.index, "{", "}")
             behind = next((it for it in self.tokens if it.at >= last.end), last)
-            yield Slip("Syntax loop", "", (before.at, behind.end if behind.text == ";" else last.end, ""))
+            yield self.of_loop(before, opening, behind.end if behind.text == ";" else last.end)
+
+    def of_loop(self, word, opening, end):
+        """A loop of instructions, which is a process that calls itself."""
+        test = translated(joined(self.tokens[self.index : opening])).strip("()") if word.text == "while" else ".."
+        call = self.last_one() if self.tokens[0].text == "proc" and self.tokens[1].text == "S" else "call ..(..)"
+        new = f"if {test or '..'} {{ ..; {call} }} else {{ .. }}"
+        mend = f"write `{new}` in place of this loop, in which each turn is a call"
+        return Slip("Syntax loop", mend, (word.at, end, ""))
+
+    def of_heard(self):
+        """What comes with a label, between the label of a branch and its `=>`."""
+        mark, label = self.marked, self.token(-1)
+        inside = [mark] if mark.kind == "word" else []
+        end = self.closing(0, "(", ")") if mark.text == "(" else mark
+        if mark.text == "(":
+            inside = [it for it in self.tokens[self.index + 1 :] if it.at < end.at and it.text != ","]
+        sign = next((it for it in self.tokens if it.at >= end.end), mark)
+        at = next((at for at in range(self.index, 1, -1) if self.tokens[at - 2].text == "case"), 0)
+        if self.wanted != {"=>"} or sign.text != "=>" or not at or not inside or not self.is_label(label.text):
+            return
+        via = self.tokens[at - 1].text
+        tokens = [it.text for it in self.text.tokens]
+        places = [place for place in range(len(tokens) - 2) if tokens[place : place + 2] == [label.text, ":"]]
+        word = "take" if places and tokens[places[0] + 2] in KINDS else "recv"
+        code = " ".join(f"{word} {via} {it.text};" for it in inside)
+        old = self.text.text[label.at : sign.end]
+        new = f"{label.text} => {code}"
+        yield Slip("Syntax label", f"write `{new}` in place of `{old}`", (label.at, sign.end, new))
+
+    def of_bare(self):
+        """An instruction without what it sends, with a `self` that it has not, or on `self` where it is on others."""
+        mark, before, word = self.marked, self.token(-1), self.token(-2)
+        is_end = mark.text in (";", "}", "|")
+        if is_end and word.text == "put" and self.wants("term"):
+            words = f"write `{word.text} {before.text} ..`, with what is sent"
+            yield Slip("Syntax", words, (before.end, before.end, " 0"))
+        if mark.text in (";", "}", "|") and before.text == "emit" and self.wants("term"):
+            yield Slip("Syntax", "write `emit ..`, with a value", (before.end, before.end, " 0"))
+        if mark.text == "self" and before.text in ("accept", "detach", "fwd"):
+            words = f"take `self` out, since `{before.text}` is on nothing else"
+            yield Slip("Syntax", words, (mark.at, mark.end, ""))
+        if before.text == "work" and self.token(1).text == "{" and mark.kind == "word":
+            yield Slip("Syntax", f"take `{mark.text}` out, since `work` is on no channel", (mark.at, mark.end, ""))
+        if mark.text == "self" and before.text in ("acquire", "release", "wait") and self.wanted == {"NAME"}:
+            end = self.tokens[self.apart(self.index, (";", "}", "|"))]
+            said = self.text.text[before.at : end.at].strip()
+            words = f"take `{said}` out, since nobody does that with what it offers itself"
+            yield Slip("Syntax word", words, (before.at, end.end if end.text == ";" else end.at, ""))
+
+    def of_arrows(self):
+        """A value or a channel that is sent or received by signs."""
+        mark, before, behind = self.marked, self.token(-1), self.token(1)
+        signs = mark.text + (behind.text if behind.at == mark.end and behind.text in ("-", "=", ">") else "")
+        at = self.index + len(signs)
+        if before.kind != "word" or self.wanted not in ({"."}, {".", "="}) or signs not in ("<-", "!", "?", "->", "<="):
+            return
+        end = self.apart(at, (";", "}", "|"))
+        what = joined(self.tokens[at:end])
+        via, sent = (what, before.text) if signs == "->" else (before.text, what)
+        word = "send" if self.is_channel(sent) else "put"
+        if signs == "?":
+            word = "take"
+        new, old = f"{word} {via} {sent}", self.text.text[before.at : self.tokens[end - 1].end]
+        if what:
+            edit = (before.at, self.tokens[end - 1].end, new)
+            yield Slip("Syntax instruction", f"write `{new}` in place of `{old}`", edit)
+
+    def of_steps(self):
+        """A function with `let` in it, which is one term: what is bound is put where it is used."""
+        if self.tokens[0].text != "fn" or self.marked.text not in ("let", "var", "const") or self.token(-1).text != "=":
+            return
+        at, known = self.index, {}
+        while self.text_at(at) in ("let", "var", "const", "int", "bool") and self.text_at(at + 2) == "=":
+            end = self.apart(at + 3, (";",))
+            known[self.text_at(at + 1)] = f"({self.with_known(at + 3, end, known)})"
+            at = end + 1
+        at += self.text_at(at) == "return"
+        end = self.apart(at, (";",))
+        new = self.with_known(at, end, known)
+        if known and at < end < len(self.tokens):
+            edit = (self.marked.at, self.tokens[end - 1].end, new)
+            yield Slip("Syntax", f"write `{new}` in place of this body, since a function is one term", edit)
+
+    def with_known(self, start, end, known):
+        """Gives the tokens of a term in one line, with what stands for some names."""
+        rows = [it._replace(text=known.get(it.text, it.text)) for it in self.tokens[start:end]]
+        return " ".join(it.text for it in rows).replace("( ", "(").replace(" )", ")").replace(" ,", ",")
+
+    def of_tried(self):
+        """What others try, and do where it fails."""
+        before, mark = self.token(-1), self.marked
+        if before.text not in ("try", "catch", "finally", "do", "begin") or mark.text != "{" or self.wanted != {"."}:
+            return
+        last = self.closing(0, "{", "}")
+        inside = self.text.text[mark.end : last.at].strip().rstrip(";")
+        at = self.text.index_at(last.at) - self.text.index_at(mark.at) + self.index + 1
+        while self.text_at(at) in ("catch", "finally", "except"):
+            opening = next((it for it in range(at, len(self.tokens)) if self.tokens[it].text == "{"), at)
+            last = self.closing(opening - self.index, "{", "}")
+            at = self.text.index_at(last.at) - self.text.index_at(mark.at) + self.index + 1
+        sign = "" if self.text_at(at) in (";", "}", "|", "") else ";"
+        words = f"take `{before.text}`, its braces and what is done on a fault out, since a fault undoes the batch"
+        yield Slip("Syntax instruction", words, (before.at, last.end, f"{inside}{sign}"))
+
+    def of_other_words(self):
+        """An instruction by the word of another language."""
+        before, mark = self.token(-1), self.marked
+        if self.wanted == {"."} and before.text == "unless" and self.tokens[0].text == "proc":
+            end = self.tokens[self.apart(self.index, ("{", "then", ";"))]
+            test = self.text.text[mark.at : end.at].strip()
+            new = f"if not ({test})"
+            yield Slip("Syntax instruction", f"write `{new}` in place of `unless {test}`", (before.at, end.at, f"{new} "))
+        other = INSTRUCTIONS.get(before.text)
+        if self.wanted == {"."} and other and self.tokens[0].text == "proc":
+            words = f"write `{other}` in place of `{before.text}`"
+            yield Slip("Syntax instruction", words, (before.at, before.end, other))
 
     def of_cases(self):
         """Slips between `case`, which is on a channel, and `match`, which is on a list."""
@@ -113,11 +258,15 @@ class Habits(Wordings):
             yield from self.of_list()
         if mark.text in ("\"", "'"):
             end = self.text.text.find(mark.text, mark.end) + 1
-            yield Slip("Syntax text", "", (mark.at, end if end else mark.end, "0"))
+            old = self.text.text[mark.at : end] if end else mark.text
+            words = f"write a number, or a truth value, in place of `{old[:40]}`"
+            yield Slip("Syntax text", words, (mark.at, end if end else mark.end, "0"))
         if before.kind == "number" and before.end == mark.at and (mark.text == "." or mark.kind == "word"):
             end = behind.end if behind.kind == "number" and behind.at == mark.end else mark.end
             new = in_digits(before.text + mark.text)
             mend = f"write `{new}` in place of `{before.text}{mark.text}`" if new else ""
+            if mark.text == "." and behind.kind == "number":
+                mend = f"count in a smaller unit, of which `{before.text}.{behind.text}` is a whole number"
             yield Slip("Syntax number", mend, (before.at, end, new or "0"), (), (WRITTEN,))
         if self.wants("vtype") and before.text in ("nil", "list"):
             mend = f"write `int`, or another kind of values, behind `{before.text}`"
@@ -157,10 +306,17 @@ class Habits(Wordings):
         if mark.text == "=" and ":" in self.wanted and before.text in (")", "}"):
             is_term = self.tokens[0].text == "fn"
             what = "`: int`, or another kind of values," if is_term else "`:` and the type that is offered"
-            yield Slip("Syntax", f"write {what} before this `=`", (mark.at, mark.at, ": int " if is_term else ": 1 "))
+            one = "" if is_term else self.one_offered()
+            words, new = (f"`: {one}`", f": {one} ") if one else (what, ": int " if is_term else ": 1 ")
+            yield Slip("Syntax", f"write {words} before this `=`", (mark.at, mark.at, new))
         is_kind = behind.text in (*KINDS, *ELSEWHERE) or self.is_declared(behind.text, "type")
         if mark.kind == "word" and ":" in self.wanted and before.text in (")", "}") and is_kind:
             yield Slip("Syntax", f"write `:` in place of `{mark.text}`", (mark.at, mark.end, ":"))
+        is_paired = before.text == ")" and (behind.text, self.token(3).text) == ("(", ")")
+        if mark.kind == "word" and ":" in self.wanted and is_paired:
+            kind = ELSEWHERE.get(self.token(2).text, self.token(2).text)
+            said = self.text.text[mark.at : self.token(3).end]
+            yield Slip("Syntax", f"write `: {kind}` in place of `{said}`", (mark.at, self.token(3).end, f": {kind}"))
         if self.wants("vtype") and mark.text in ELSEWHERE:
             mend = f"write `{ELSEWHERE[mark.text]}` in place of `{mark.text}`"
             yield Slip("Syntax spelling", mend, (mark.at, mark.end, ELSEWHERE[mark.text]))
@@ -172,6 +328,7 @@ class Habits(Wordings):
             mend = f"write `{kind}`, or {what}, behind `{before.text}`"
             yield Slip("Syntax", mend, (before.end, before.end, kind))
         if mark.text == ";" and self.token(-2).text in ("put", "take", "send", "recv") and before.text != "self":
+            yield from self.of_unnamed()
             word = self.token(-2).text
             mend = f"write the channel between `{word}` and `{before.text}`, as in `{word} self {before.text}`"
             yield Slip("Syntax", mend, (before.at, before.at, "self "))
@@ -181,6 +338,26 @@ class Habits(Wordings):
         if mark.text in ("|", "}") and self.wanted == {":"} and before.kind == "word":
             mend = f"write `: 1`, or how else the talk goes on, behind `{before.text}`"
             yield Slip("Syntax label", mend, (before.end, before.end, " : 1"))
+
+    def one_offered(self):
+        """Gives the one definition of the mode of this process, if there is one alone."""
+        tokens = self.text.tokens
+        rows = zip(tokens, tokens[1:], tokens[2:])
+        found = [name.text for one, mode, name in rows if (one.text, mode.text) == ("type", self.tokens[1].text)]
+        return found[0] if len(found) == 1 else ""
+
+    def of_unnamed(self):
+        """An instruction on a channel without the name that it binds: one that is used behind it and bound nowhere."""
+        word, via = self.token(-2), self.token(-1)
+        if word.text not in ("take", "recv") or via.text != "self" and not self.is_channel(via.text):
+            return
+        known = {it.text for it in self.tokens[: self.index]} | self.grammar.reserved
+        behind = self.text.tokens[self.text.index_at(self.marked.at) : self.text.index_at(self.end_of_declaration())]
+        used = [it.text for before, it in zip(behind, behind[1:]) if it.kind == "word" and it.text not in known
+                and before.text not in (".", "as", "let", "spawn") and not self.is_known(it.text)]
+        new = used[0] if used else fresh(self.text, "v")
+        said = f"`{word.text} {via.text} {new}`" if used else f"`{word.text} {via.text} ..`, with a new name,"
+        yield Slip("Syntax", f"write {said} in place of `{word.text} {via.text}`", (via.end, via.end, f" {new}"))
 
     def of_parameters(self):
         """Channels among the parameters that stand before the `;`."""
@@ -206,8 +383,36 @@ class Habits(Wordings):
             yield Slip("Syntax", f"take `{said}` out, since `close` stands alone", (mark.at, last.end, ""))
         if before.text == "." and mark.text in WORDS:
             yield self.of_dotted()
+        yield from self.of_channels_alone()
         if mark.kind == "word" and self.wanted == {"("} and self.is_declared(mark.text, "proc"):
             yield Slip("Syntax", f"take `{before.text}` out", (before.at, mark.at, ""))
+
+    def of_channels_alone(self):
+        """Arguments without a `;`, of which some are channels, which stand behind it."""
+        opening = self.opened()
+        if opening is None or not self.is_declared(self.token(opening - 1 - self.index).text, "proc"):
+            return
+        end = self.closing(opening - self.index, "(", ")")
+        sides = self.text.text[self.tokens[opening].end : end.at].split(";")
+        parts = [it.strip() for side in sides for it in side.split(",") if it.strip()]
+        names = [it for it in parts if self.is_channel(it)]
+        values = [it for it in parts if it not in names]
+        if names and "(" not in "".join(parts) and self.tokens[0].text == "proc":
+            new = f"({', '.join(values)}; {', '.join(names)})"
+            old = self.text.text[self.tokens[opening].at : end.end]
+            yield Slip("Syntax", f"write `{new}` in place of `{old}`", (self.tokens[opening].at, end.end, new))
+
+    def opened(self):
+        """Gives the number of the ( that is open at the offence, or that it closes, if there is one."""
+        depth = 1
+        for at in range(self.index - 1, -1, -1):
+            text = self.tokens[at].text
+            depth += (text == ")") - (text == "(")
+            if depth == 0:
+                return at
+            if text in ("{", "}", "=>", "="):
+                return None
+        return None
 
     def of_sent(self, end):
         """A label with what is sent behind it between parentheses, up to the one that closes them."""
@@ -267,6 +472,12 @@ class Habits(Wordings):
         """Gives the slip where what stands in the braces that open so many tokens behind the offence has none."""
         start, end = self.token(step), self.closing(step, "{", "}")
         inside = self.text.text[start.end : end.at].rstrip(" ;\t\r\n")
+        words = inside.split(None, 1)
+        if self.tokens[0].text == "fn" and words[:1] == ["return"] and words[1:]:
+            mend, inside = f"{mend}, and the `return` too", words[1]
+        behind = next((it.text for it in self.text.tokens if it.at >= end.end), "")
+        if behind in (*HEADS, "") and end.kind:
+            mend, inside = f"{mend}, and write `;` there", f"{inside};"
         return Slip("Syntax braces", mend, (start.at, end.end, f"{sign}{inside}"))
 
     def is_code(self, step):
@@ -309,6 +520,15 @@ class Habits(Wordings):
                 new = f"{word} {talk.text} {COMING[word]}{before.text}"
                 old = self.text.text[before.at : talk.end]
                 yield Slip(row, f"write `{new}` in place of `{old}`", (before.at, talk.end, new))
+            if mark.text == ":" and behind.text == "=" and behind.at == mark.end:
+                word = self.binder(2)
+                edit, old = (before.at, behind.end, f"{word} {before.text} ="), f"{before.text} :="
+                yield Slip(row, f"write `{edit[2]}` in place of `{old}`", edit)
+            if mark.text == "=" and self.token(2).text == "." and self.token(3).text in COMING:
+                word, end = self.token(3).text, self.token(5 if self.token(4).text == "(" else 3)
+                new = f"{word} {behind.text} {COMING[word]}{before.text}"
+                old = self.text.text[before.at : end.end]
+                yield Slip(row, f"write `{new}` in place of `{old}`", (before.at, end.end, new))
             if mark.text == "=":
                 yield self.of_written(self.binder(1))
             if mark.kind == "word" and self.is_label(before.text):
@@ -367,7 +587,7 @@ class Habits(Wordings):
         return "spawn" if self.is_declared(self.token(step).text, "proc") else "let"
 
     def of_else(self):
-        mark = self.marked
+        mark, before = self.marked, self.token(-1)
         if not self.wanted == {"else"}:
             yield Slip("Syntax else", "", (mark.at, mark.at, " else 0 "))
         elif mark.text in ("elif", "elsif", "elseif") or mark.text == "if":
@@ -379,7 +599,8 @@ class Habits(Wordings):
             mend = f"write `else {{` before `{mark.text}`, and `}}` behind the last instruction"
             yield Slip("Syntax else", mend, (mark.at, last.at, f"else {{ {inside} }}"))
         elif mark.text in (";", "}", "|"):
-            yield Slip("Syntax else", "", (mark.at, mark.at, " else { close } "))
+            words = f"write `else {{ .. }}` behind `{before.text}` at {self.text.place(before.at)}"
+            yield Slip("Syntax else", words, (before.end, before.end, f" else {{ {self.last_one()} }}"))
 
     def of_else_if(self):
         """A choice of several, in which what comes behind an `else` is an `if` without braces of its own."""

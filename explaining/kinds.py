@@ -10,6 +10,8 @@ from .texts import LONGEST, joined
 OTHERS = (("0", "a number"), ("true", "a truth value"), ("nil int", "a list"))
 KINDS = ("int", "bool", "list int", "list bool")
 MOST_PARTS = 20
+# The rules of what stands before a term in its instruction.
+HEADING = ("step", "last", "code", "chan", "bound", "branch")
 MOST_FUNCTIONS = 4
 # What stands before a truth value that is compared with one of these.
 TRUTHS = {"1": "", "true": "", "0": "not ", "false": "not "}
@@ -40,6 +42,7 @@ def truths(names, start, end):
 def operands(names, start, end):
     """Gives the tokens of each part that an `and` or an `or` joins between two tokens, outside of parentheses."""
     rows, depth = [[]], 0
+    start = next((at for at in range(start, end) if names.leaves[at].rule not in HEADING), end)
     for it in names.tokens[start:end]:
         depth += (it.text == "(") - (it.text == ")")
         if depth == 0 and it.text in ("and", "or"):
@@ -114,10 +117,34 @@ def miscounted(names, start, end):
             new = f"{old[:-1].rstrip()}{', ' if given else ''}{', '.join(missing)})"
             edit = (names.tokens[at].at, names.tokens[close].end, new)
             lines.append(mend(f"write `{new}` in place of `{old}`", edit))
+        elif missing:
+            lines.append(completed(names, at, [it.type for it in wanted[given:]], missing))
+        if len(wanted) < given:
+            lines += shortened(names, at, len(wanted))
         if len(wanted) != given:
             where = f"`{names.tokens[at].text}` is called at {names.text.place(names.tokens[at].at)}"
             lines.append(f"see: {where}, and {taken(wanted, given, 'value')}")
     return lines
+
+
+def completed(names, at, kinds, missing):
+    """Gives a line for the values that a function is not given."""
+    close = closing(names.tokens, at + 1)
+    old = names.text.text[names.tokens[at].at : names.tokens[close].end]
+    start = f"{old[:-1].rstrip()}{'' if old[:-1].rstrip().endswith('(') else ', '}"
+    tried = ", ".join({"int": "0", "bool": "true"}.get(it, it.replace("list", "nil", 1)) for it in kinds)
+    said = ", ".join(f"`{name}: {it}`" for name, it in zip(missing, kinds))
+    edit = (names.tokens[at].at, names.tokens[close].end, f"{start}{tried})")
+    return mend(f"write `{start}..)` in place of `{old}`, with {said}", edit)
+
+
+def shortened(names, at, count):
+    """Gives a line where a function is given more values than it takes."""
+    rows = inside(names, at + 1)
+    first, last = names.tokens[rows[count][0]], names.tokens[rows[-1][-1]]
+    start = names.tokens[rows[count - 1][-1]].end if count else first.at
+    said = names.text.text[first.at : last.end]
+    return [mend(f"take `{said}` out", (start, last.end, ""))]
 
 
 def declared_kind(names, index):

@@ -72,6 +72,17 @@ class Keeping:
             if given is not None:
                 yield f"call {it.name}({', '.join(given[0])};{' ' if given[1] else ''}{', '.join(given[1])})"
 
+    def open_calls(self, process):
+        """Gives such calls of which the writer alone knows values: how each is said, and what is tried."""
+        for it in self.types.processes.values():
+            channels = self.fitting(it) if it.mode == process.mode and it.name != process.name else None
+            values = it.of_kind("value")
+            if channels is not None and values and len(values) + len(it.of_kind("channel")) == len(it.parameters):
+                tries = [{"int": "0", "bool": "true"}.get(one.type, one.type.replace("list", "nil", 1)) for one in values]
+                behind = f";{' ' if channels else ''}{', '.join(channels)})"
+                said = ", ".join(".." for _ in values)
+                yield f"call {it.name}({said}{behind}", f"call {it.name}({', '.join(tries)}{behind}"
+
     def forwards(self, process):
         """Gives the `fwd` by which the one channel that is left takes over, where it has the type that is offered."""
         own, left = self.held.get("self"), self.left
@@ -81,6 +92,15 @@ class Keeping:
     def given(self, process):
         """Gives the values and the channels that a process may be given: the values that the call here gives, where it
         takes such, or else those of the same names; nothing where they do not fit."""
+        channels = self.fitting(process)
+        if channels is None:
+            return None
+        values = [it for it in process.parameters if it.kind == "value"]
+        known = self.called([it.type for it in values]) or [it.name for it in values if it.name in self.values]
+        return (known, channels) if len(known) == len(values) else None
+
+    def fitting(self, process):
+        """Gives the channels that a process may be given, all that are left among them, where they fit."""
         left, channels = list(self.held), []
         for it in process.of_kind("channel"):
             fits = [name for name in left if name != "self" and self.said(self.held[name].type) == it.type]
@@ -89,11 +109,7 @@ class Keeping:
             channels.append(it.name if it.name in fits else fits[0])
             if not self.types.is_shared(self.held[channels[-1]].type):
                 left.remove(channels[-1])
-        values = [it for it in process.parameters if it.kind == "value"]
-        known = self.called([it.type for it in values]) or [it.name for it in values if it.name in self.values]
-        if len(known) < len(values) or set(self.left) & set(left):
-            return None
-        return known, channels
+        return None if set(self.left) & set(left) else channels
 
     def called(self, kinds):
         """Gives the values of a call that is stuck, where its process takes values of these kinds."""
@@ -172,25 +188,29 @@ class Keeping:
     def relabelled(self, process):
         """Gives in words, and as edits, another label in place of the last one that `self` sent, whose talk sends what
         is held, with the instructions for that before the stuck one."""
-        said = None
+        said = end = None
         for step, held in self.way(process):
             words = [it.text for it in self.types.tokens[step.at : step.at + 3]]
             if step.form == "label" and words[0] == "self":
-                said = step, self.types.unfolded(held["self"].type), words[2]
+                said, end = (step, self.types.unfolded(held["self"].type), words[2]), None
+            elif step.form == "detach":
+                end = step
             elif step.at != self.step.at and words[1:2] == ["self"]:
                 said = None
         if said is None:
             return
         step, whole, label = said
-        token, at = self.types.tokens[step.at + 2], self.types.tokens[self.step.at].at
+        end = end or self.step
+        token, last = self.types.tokens[step.at + 2], self.types.tokens[end.at]
         for other, it in whole.parts if whole.sign == "+" else ():
             code = self.ending(it, DEEP) if other != label else None
             if code:
                 place = self.types.text.place(token.at)
                 gets = ", ".join(f"`{asset}`" for asset in self.assets if f" {asset};" in code)
-                words = f"write `{other}` in place of `{label}` at {place}, and `{code}` before it"
+                where = "it" if end is self.step else f"`detach` at {self.types.text.place(last.at)}"
+                words = f"write `{other}` in place of `{label}` at {place}, and `{code}` before {where}"
                 words = f"{words}; the client gets {gets}"
-                yield words, ((token.at, token.end, other), (at, at, f"{code} "))
+                yield words, ((token.at, token.end, other), (last.at, last.at, f"{code} "))
 
     def ending(self, it, deep):
         """Gives the instructions by which a talk of `self` at a type sends what is held and comes to its end, with

@@ -9,7 +9,8 @@ with open(f"{os.path.dirname(os.path.realpath(__file__))}/mends.json", encoding=
 # What stands in the words of a mend that leaves something to the writer.
 OPEN = (
     "..", ", or ", "where the provider", "another name", "new name", "write a number", "write a truth", "write a list",
-    "write ``",
+    "write ``", "write the account that pays",
+    "in a smaller unit",
 )
 
 

@@ -1,8 +1,11 @@
 """What is wrong with a name that breaks a rule of "Names" in docs/LANGUAGE.md."""
+import contextlib
+
 from .amounts import closing
 from .mends import mend, says
 from .renamed import fresh, renaming
-from .syntax import nearest
+from .syntax import distance, nearest
+from .wordings import NOTHINGS
 from .texts import joined, listed
 
 # What a leaf NAME of the grammar is, by its rule and by which NAME of that rule it is.
@@ -26,7 +29,9 @@ SPACES = ("definition", "function", "process")
 SHOWN = {"list": "a list that carries potential"}
 MOST_TOKENS = 20_000
 # How many channels are tried for one of another name.
-MOST_BOUND = 6
+MOST_BOUND = 12
+# How many instructions are tried by which something is received.
+MOST_TRIED = 40
 
 
 def said(kind):
@@ -150,6 +155,8 @@ def others(names, at, other):
     if other == "channel" and (around[:1], around[2:]) == (["("], [";", ")"]):
         new = f"(; {token.text})"
         yield (tokens[at - 1].at, tokens[at + 2].end, new), f"write `{new}` in place of `({token.text};)`"
+    if other == "channel" and names.used(at) == "value":
+        yield from moved(names, at)
     if other == "list" and words[2:3] == ["::"] and words[4:5] == [";"]:
         start = next(before for before in range(at, 0, -1) if tokens[before].text == "=") + 1
         term = joined(tokens[start : at - 1])
@@ -167,6 +174,24 @@ def others(names, at, other):
     if other == "function" and names.used(at) == "value":
         yield (token.at, token.end, f"{token.text}()"), f"write `{token.text}()` in place of `{token.text}`"
     yield from sent(names, at, other)
+
+
+def moved(names, at):
+    """Gives an edit where a channel stands among the values of a `call` or a `spawn`: it stands behind the `;`."""
+    tokens = names.tokens
+    opening = next((it for it in range(at - 1, 0, -1) if tokens[it].text in ("(", ";", "{", "=>")), 0)
+    if tokens[opening].text != "(" or names.used(opening - 1) != "process":
+        return
+    end = closing(tokens, opening)
+    sides = names.text.text[tokens[opening].end : tokens[end].at].split(";")
+    parts = [it.strip() for it in sides[0].split(",") if it.strip()]
+    found = [it for it in parts if it == tokens[at].text]
+    values = [it for it in parts if it != tokens[at].text]
+    channels = [it.strip() for it in sides[-1].split(",") if it.strip()] if len(sides) == 2 else []
+    if found and "(" not in sides[0]:
+        new = f"({', '.join(values)}; {', '.join([*found, *channels])})"
+        old = names.text.text[tokens[opening].at : tokens[end].end]
+        yield (tokens[opening].at, tokens[end].end, new), f"write `{new}` in place of `{old}`"
 
 
 def called(names, at):
@@ -215,7 +240,7 @@ def mended(names, at, other, program):
         if after.is_accepted or after.is_cause("NoPotential") or is_behind:
             found.append(mend(words, edit))
     sure = [it for it in found if not it.startswith("mend: write `self` in place of ")]
-    return (sure or found)[:3]
+    return list(dict.fromkeys(sure or found))[:3]
 
 
 def another(names, at):
@@ -227,6 +252,60 @@ def another(names, at):
     edits, where = renaming(text, at, new)
     words = f"write `{new}` in place of `{token.text}`{f', here and at {where}' if edits else ''}"
     return mend(words, (token.at, token.end, new), *edits)
+
+
+def bound_later(names, at, program):
+    """Gives a line for the instruction behind this one that binds the name, on the same way: it stands before it."""
+    tokens, name, wanted = names.tokens, names.tokens[at].text, names.used(at)
+    later = [place for place in range(at + 1, len(tokens))
+             if tokens[place].text == name and names.declared(place) == wanted and names.leads(at, place)]
+    start = next((place for place in range(at, 0, -1) if tokens[place - 1].text in (";", "{", "=>", "=")), 0)
+    if not later or wanted not in ("value", "channel"):
+        return []
+    first = next(place for place in range(later[0], at, -1) if tokens[place - 1].text == ";")
+    end = next((place for place in range(later[0], len(tokens)) if tokens[place].text == ";"), None)
+    if end is None:
+        return []
+    code = joined(tokens[first:end])
+    edits = (tokens[start].at, tokens[start].at, f"{code}; "), (tokens[first].at, tokens[end].end, "")
+    after = program.check(names.text.edited(*edits))
+    is_past = (after.is_cause("Name") or after.is_cause("ProcType")) and after.offset > tokens[end].end
+    if after.is_accepted or after.is_cause("NoPotential") or is_past:
+        said = joined(tokens[start : start + 2])
+        where = f"before `{said}` at {names.text.place(tokens[start].at)}, and not behind it"
+        return [mend(f"write `{code};` {where}", *edits)]
+    return []
+
+
+def declared_ones(names, at, wanted, program):
+    """Gives a line for what is declared that is wanted here, where one alone goes on past the whole declaration."""
+    token, tokens = names.tokens[at], names.tokens
+    known = [it.text for place, it in enumerate(tokens) if names.declared(place) == wanted]
+    found = []
+    for name in list(dict.fromkeys(known))[: 2 * MOST_BOUND]:
+        after = program.check(names.text.edited((token.at, token.end, name)))
+        is_past = after.is_cause("ProcType") and after.offset > token.at + len(name)
+        if after.is_accepted or after.is_cause("NoPotential") or is_past:
+            found.append((name, after.is_accepted or after.is_cause("NoPotential")))
+    sure = [name for name, is_sure in found if is_sure] or [name for name, _ in found]
+    lines = [mend(f"write `{name}` in place of `{token.text}`", (token.at, token.end, name)) for name in sure[:3]]
+    return lines if len(sure) <= 3 else [f"see: declared are {listed(known)}"]
+
+
+def applied(names, at, program):
+    """Gives lines for a function that is given the value which stands in its place."""
+    token, tokens = names.tokens[at], names.tokens
+    end = closing(tokens, at + 1)
+    inside = joined(tokens[at + 2 : end])
+    known = [it.text for place, it in enumerate(tokens) if names.declared(place) == "function"]
+    lines = []
+    for name in list(dict.fromkeys(known))[:MOST_BOUND]:
+        new = f"{name}({token.text}{', ' if inside else ''}{inside})"
+        edit = (token.at, tokens[end].end, new)
+        after = program.check(names.text.edited(edit))
+        if after.is_accepted or after.is_cause("NoPotential"):
+            lines.append(mend(f"write `{new}` in place of `{joined(tokens[at : end + 1])}`", edit))
+    return lines[:3]
 
 
 def acquired(names, at, program):
@@ -248,9 +327,9 @@ def acquired(names, at, program):
     return does[:3]
 
 
-def bound_here(names, at, program):
-    """Gives a line on the one channel that is bound on the way here with which the check goes on past this name, here
-    and where it stands behind that."""
+def bound_here(names, at, program, is_sure=False):
+    """Gives lines on the channels that are bound on the way here with which the check goes on past this name, here and
+    where it stands behind that; where it has to be sure, on those alone with which all is accepted."""
     text, token = names.text, names.tokens[at]
     if names.used(at) != "channel":
         return []
@@ -264,8 +343,151 @@ def bound_here(names, at, program):
         is_past = (after.is_cause("Name") or after.is_cause("ProcType")) and after.offset > token.at + len(name)
         if after.is_accepted or after.is_cause("NoPotential") or is_past:
             words = f"write `{name}` in place of `{token.text}`{f', here and at {where}' if more else ''}"
-            does.append(mend(words, *edits))
-    return does if len(does) == 1 else acquired(names, at, program)
+            does.append((after.is_accepted or after.is_cause("NoPotential"), mend(words, *edits), name))
+    does.sort(key=lambda it: distance(it[2], token.text))
+    if is_sure:
+        return [it for is_accepted, it, _ in does if is_accepted][:3]
+    sure = [it for is_sure, it, _ in does if is_sure]
+    if len(does) == 1 or 0 < len(sure) < 4:
+        return sure or [does[0][1]]
+    return acquired(names, at, program)
+
+
+def payer(text, at, program, grammar):
+    """Gives a line for `me` outside of transactions: a number that the client put, where there is one alone, or how the
+    client may put its own."""
+    names, token = Names(text, grammar), text.tokens[at]
+    head = next(place for place in range(at, -1, -1) if text.tokens[place].text in ("fn", "proc"))
+    if text.tokens[head].text == "fn" or names.leaves is None:
+        return ["see: a function gets the number of the account as a parameter, and who calls it gives `me`"]
+    taken = [place for place in range(head, at) if names.key(place) == ("step", 3) and names.leads(place, at)]
+    own = [names.tokens[place].text for place in taken if names.tokens[place - 1].text == "self"]
+    found = same_kind(names, at, own, program)
+    lines = [mend(f"write `{name}`, which the client put, in place of `me`", edit) for name, edit in found]
+    asked = "see: a contract does not know who pays: the type has `int -> ..`, the contract `take self ..`, and the "
+    return lines if len(lines) == 1 else [f"{asked}transaction `put x me`"]
+
+
+def same_kind(names, at, known, program):
+    """Gives the values among these, each with its edit, with which the check goes on past a name."""
+    token, found = names.tokens[at], []
+    for name in list(dict.fromkeys(known))[:MOST_BOUND]:
+        edit = (token.at, token.end, name)
+        after = program.check(names.text.edited(edit))
+        is_past = (after.is_cause("Name") or after.is_cause("ProcType")) and after.offset > token.at + len(name)
+        if after.is_accepted or after.is_cause("NoPotential") or is_past:
+            found.append((name, edit))
+    return found
+
+
+def coming(names, at, program, grammar):
+    """Gives a line for what receives this name, on a channel at whose type it comes next, or behind a label that the
+    talk comes back from, before an instruction on the way here, the last one that does: with it the check goes on past
+    the name."""
+    signs = {"value": ("->", "/\\", "take"), "channel": ("-o", "*", "recv")}.get(names.used(at))
+    types, steps = way(names, at, grammar) if signs else (None, [])
+    asked = 0
+    for step, held in steps[::-1]:
+        start = names.tokens[step.at].at
+        for new in received(types, held, names.tokens[at].text, signs):
+            asked += 1
+            if asked > MOST_TRIED:
+                return []
+            edit = (start, start, f"{new} ")
+            after = program.check(names.text.edited(edit))
+            is_past = after.is_cause("Name") and after.offset > names.tokens[at].at + len(edit[2])
+            is_past = is_past or after.is_cause("ProcType") and not start <= after.offset < start + len(new)
+            if after.is_accepted or after.is_cause("NoPotential") or is_past:
+                said = f"`{names.tokens[step.at].text}` at {names.text.place(start)}"
+                return [mend(f"write `{new}` before {said}", edit)]
+    return []
+
+
+def received(types, held, name, signs):
+    """Gives the instructions by which something of this name is received on what is held."""
+    for via, it in held.items():
+        whole = types.unfolded(it.type)
+        if whole.sign == signs[0 if via == "self" else 1]:
+            yield f"{signs[2]} {via} {name};"
+        for label, behind in whole.parts if whole.sign == "&" and via != "self" else ():
+            further = types.unfolded(behind)
+            if further.sign == signs[1] and types.said(*further.parts[-1][:2]) == types.said(*it.type[:2]):
+                yield f"{via}.{label}; {signs[2]} {via} {name};"
+
+
+def made(names, at, program, grammar):
+    """Gives lines for a process that is started before something is sent which is no channel yet, and is of the type
+    that is wanted there: with the value that stands there, or with values that the writer knows."""
+    tokens, token = names.tokens, names.tokens[at]
+    if tokens[at - 2].text != "send" or names.used(at) != "channel":
+        return []
+    types, step, held = stand(names, at, grammar)
+    via = tokens[at - 1].text
+    whole = types.unfolded(held[via].type) if step is not None and via in held else None
+    if whole is None or whole.sign != ("*" if via == "self" else "-o"):
+        return []
+    wanted, lines, start = types.said(*whole.parts[0][:2]), [], tokens[step.at].at
+    for it in types.processes.values():
+        kinds = [one.type for one in it.parameters]
+        if it.offers != wanted or it.mode != "R" or it.of_kind("channel"):
+            continue
+        is_value = names.known_otherwise(at) is not None and names.known_otherwise(at)[1] == "value"
+        tries = [{"int": "0", "bool": "true"}.get(kind, kind.replace("list", "nil", 1)) for kind in kinds]
+        name = fresh(names.text, token.text) if is_value else token.text
+        given = [token.text] if is_value and len(kinds) == 1 else tries
+        said = token.text if given != tries else ".." if tries else ""
+        code = f"spawn {name} = {it.name}({', '.join(given)};); "
+        edits = (start, start, code), *(((token.at, token.end, name),) if is_value else ())
+        after = program.check(names.text.edited(*edits))
+        is_past = after.is_cause("ProcType") or after.is_cause("Name")
+        if after.is_accepted or after.is_cause("NoPotential") or is_past and after.offset > token.at + len(code):
+            instead = f", and `{name}` in place of `{token.text}`" if is_value else ""
+            words = f"write `spawn {name} = {it.name}({said};);` before `send {via}`{instead}"
+            lines.append(mend(words, *edits))
+    return lines[:3]
+
+
+def stand(names, at, grammar):
+    """Gives the types, the instruction that a token is in, and what is held there; no instruction where that is not
+    found."""
+    types, steps = way(names, at, grammar)
+    return types, *(steps[-1] if steps else (None, {}))
+
+
+def way(names, at, grammar):
+    """Gives the types, and the instructions up to the one that a token is in, each with what is held there; none where
+    they are not found."""
+    from .held import Types
+
+    types, steps = Types(names.text, grammar), []
+    process = [it for it in types.processes.values() if it.at < at]
+    if not process:
+        return types, []
+    held, step = types.start(process[-1]), process[-1].first
+    try:
+        while not step.at <= at < step.end:
+            steps.append((step, dict(held)))
+            label, further = next(it for it in step.behind[::-1] if it[1].at <= at)
+            with contextlib.suppress(KeyError):
+                types.behind(held, step, label)
+            step = further
+    except (StopIteration, IndexError):
+        return types, []
+    return types, [*steps, (step, held)]
+
+
+def valued(names, at, program):
+    """Gives a line for the one value that was received or computed on the way here and is used nowhere, in place of
+    what stands where a value is wanted."""
+    if names.used(at) != "value":
+        return []
+    known = [it.text for place, it in enumerate(names.tokens[:at])
+             if names.key(place) in (("step", 3), ("step", 11)) and names.leads(place, at)
+             and not any(it.text == other.text and names.used(further) for further, other in enumerate(names.tokens)
+                         if further > place and names.leads(place, further))]
+    found = same_kind(names, at, known[::-1], program) if len(set(known)) <= MOST_BOUND else []
+    lines = [mend(f"write `{name}` in place of `{names.tokens[at].text}`", edit) for name, edit in found]
+    return lines if len(lines) == 1 else []
 
 
 def explained(text, answer, program, grammar):
@@ -273,7 +495,7 @@ def explained(text, answer, program, grammar):
     at = text.index_at(answer.offset)
     token = text.tokens[at]
     if token.text == "me":
-        return "Name me", []
+        return "Name me", payer(text, at, program, grammar)
 
     def moves_on(name):
         after = program.check(text.edited((token.at, token.end, name)))
@@ -290,20 +512,37 @@ def explained(text, answer, program, grammar):
     wanted, other = names.used(at), names.known_otherwise(at)
     if wanted is None:
         return "Name", []
+    early = bound_later(names, at, program)
+    if not early and not bound_here(names, at, program, is_sure=True) and not any(map(moves_on, names.near(at))):
+        early = coming(names, at, program, grammar)
+    if early and not (other and other[1] not in (wanted, None) and names.leads(other[0], at)):
+        return "Name scope", early
     mends = mended(names, at, other and other[1], program)
     if mends:
         return ("Name other" if other else "Name unknown"), mends
     if other:
         place, kind = text.place(text.tokens[other[0]].at), other[1]
         if kind == wanted:
-            return "Name scope", [*bound_here(names, at, program), f"see: `{token.text}` is bound at {place}"]
+            found = [*bound_here(names, at, program), *valued(names, at, program)]
+            return "Name scope", [*found, f"see: `{token.text}` is bound at {place}"]
         see = f"see: `{token.text}` is {said(kind)}, by {place}, and {said(wanted)} is wanted here"
-        return "Name other", [*bound_here(names, at, program), see]
+        found = declared_ones(names, at, wanted, program) if wanted == "function" else []
+        found = found or (applied(names, at, program) if wanted == "function" else [])
+        mends = found or made(names, at, program, grammar) or bound_here(names, at, program)
+        mends = mends or valued(names, at, program)
+        return "Name other", [*mends, see]
+    does = valued(names, at, program)
     for name in names.near(at):
-        if moves_on(name):
+        if moves_on(name) and not (does and distance(name, token.text) > 1):
             return "Name near", [mend(says("near", name=name), (token.at, token.end, name))]
     lines = [f"see: {said(wanted)} is wanted here, and none has the name `{token.text}`"]
+    if wanted == "value" and token.text in NOTHINGS:
+        words = f"write a number that says that there is nothing, as `0 - 1`, in place of `{token.text}`"
+        lines = [mend(words, (token.at, token.end, "(0 - 1)")), *lines]
+    if wanted in SPACES:
+        lines = [*declared_ones(names, at, wanted, program), *lines]
     known = [it.text for place, it in enumerate(names.tokens[:at])
              if names.declared(place) == wanted == "value" and names.leads(place, at)]
     lines += [f"see: the values that are known here are {listed(known)}"] if known else []
-    return "Name unknown", [*bound_here(names, at, program), *lines]
+    does = made(names, at, program, grammar) or bound_here(names, at, program) or does
+    return "Name unknown", [*does, *lines]

@@ -1,5 +1,8 @@
 """Which argument of a `spawn` or a `call` does not fit the parameter of the process."""
 from .arguments import taken
+from .counted import completed, of_two, shortened
+from .kinds import KINDS
+from .mends import mend
 from .names import unused
 
 
@@ -33,6 +36,7 @@ class Passed:
 
     def of_count(self):
         sides = ((self.values, self.wanted_values, "value"), (self.names, self.wanted_names, "channel"))
+        yield from (*completed(self), *shortened(self))
         for given, wanted, what in sides:
             if len(given) != len(wanted):
                 yield f"see: {taken(wanted, len(given), what)}"
@@ -57,7 +61,23 @@ class Passed:
             value = {"int": "0", "bool": "true"}.get(words[0], f"nil {' '.join(words[1:])}")
             edit = (tokens[start].at, tokens[end - 1].end, value)
             if wanted.kind == "value" and self.goes_past(self.types.text.edited(edit)):
+                yield from of_two(self, start, end, wanted)
+                yield from self.of_head(wanted)
                 yield f"see: `{wanted.name}` is of the kind `{wanted.type}`, and `{self.types.said(start, end)}` is not"
+
+    def of_head(self, wanted):
+        """Lines for another kind of a parameter in the head of the process, with which the check goes on."""
+        types, tokens = self.types, self.types.tokens
+        at = next(at for at in range(self.process.at, len(tokens)) if tokens[at].text == wanted.name)
+        end = next(it for it in range(at, len(tokens)) if tokens[it].text in (",", ";"))
+        for kind in (it for it in KINDS if it != wanted.type):
+            edit = (tokens[at + 2].at, tokens[end - 1].end, kind)
+            after = self.program.check(types.text.edited(edit))
+            moved = (len(kind) - len(wanted.type)) * (edit[0] < tokens[self.step.at].at)
+            is_behind = (after.is_cause("ProcType") or after.is_cause("TermType")) and \
+                after.offset > tokens[self.step.at].at + moved
+            if after.is_accepted or after.is_cause("NoPotential") or is_behind:
+                yield mend(f"write `{kind}` in place of `{wanted.type}` at {types.text.place(edit[0])}", edit)
 
     def of_twice(self):
         """Lines on assets that are passed more than once."""

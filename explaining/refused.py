@@ -1,18 +1,20 @@
 """What is wrong in a text that is no script: the line, what may stand there, and an edit with which it has a form."""
 import re
 
+from . import scripts
 from .forms import Forms, Slip
 from .found import Found
 from .marks import MARK, TAKE_OUT
 from .mends import mend
 from .numbers import PARTED, WRITTEN, in_digits
 from .syntax import nearest
-from .texts import Token, joined
+from .texts import Token, joined, listed
 
 INSIDE, OUTSIDE = ("let", "exec", "end"), ("deposit", "let", "exec", "show", "begin")
 MOST_UNITS, MOST_NUMBER, MOST_BYTES, MOST_DEEP = 10**18, 2**63, 64, 64
 # Words between the parts of a line that say nothing by themselves.
-FILLING = ("by", "as", "from", "with", "for", "on", "to", "new", "let", "exec", "contract", "account")
+FILLING = ("by", "as", "from", "with", "for", "on", "to", "new", "let", "exec", "contract", "account", "call", "run",
+           "do", "invoke", "create", "make", "deploy", "var", "const")
 PUT_IN = {"NAME": "x", "NUMBER": "0", "N": "0"}
 
 
@@ -56,8 +58,8 @@ class Line(Forms):
         """Whether the program takes the line by itself with an edit. A text without a line is a contract too."""
         start, end, new = edit
         line = self.script.text[self.row.at : start] + new + self.script.text[end : self.row.end]
-        first = line.split()[:1]
-        is_open = first != ["end"] if self.is_inside else first == ["begin"]
+        words = [it.split()[:1] for it in line.split("\n")]
+        is_open = self.is_inside + words.count(["begin"]) > words.count(["end"])
         text = ("begin\n" if self.is_inside else "") + line + ("\nend" if is_open else "")
         answer = self.program.run(b"", text.encode("latin-1"), seconds=5)
         return answer is not None and answer.words[:3] != ["script", "refused", "Syntax"]
@@ -72,11 +74,11 @@ class Line(Forms):
             yield Slip((self.row.at, self.row.end, new), "take the quotes out")
         if mark.text == "#":
             yield Slip((mark.at, mark.at + 1, "//"), "begin a comment with `//` in place of `#`")
+        if before.text == "-" and mark.kind != "number" and "NUMBER" in self.wanted:
+            yield Slip((before.end, before.end, "1"), f"write a number behind `-`")
         yield from self.of_forms()
         yield from self.of_starts()
-        if mark.kind == "word" and not self.wanted & {"NAME", "N"}:
-            for it in nearest(mark.text, {word for word in self.wanted if word[0].isalpha()} - PUT_IN.keys()):
-                yield Slip((mark.at, mark.end, it), f"write `{it}` in place of `{mark.text}`")
+        yield from self.of_spelling()
         if self.count and not self.is_part():
             yield from self.of_sides()
             yield from self.of_signs()
@@ -93,11 +95,36 @@ class Line(Forms):
         """Slips at the start of a line: what is left out there, or stands in another order."""
         mark, before, behind = self.marked, self.at(-1), self.at(1)
         is_whole = not (behind.at == mark.end and in_digits(mark.text + behind.text))
+        one = self.senders()
+        if before.text == "deposit" and mark.kind == "number" and len(one) == 1 and behind.text not in one and is_whole:
+            new = f"{one[0]} {mark.text}"
+            old = joined(self.tokens[self.count :])
+            if behind.kind == "word":
+                yield Slip((mark.at, self.row.end, new), f"write `{new}` in place of `{old}`")
         if before.text == "deposit" and mark.kind == "number" and behind.kind == "word" and is_whole:
             edit = (mark.at, behind.end, f"{behind.text} {mark.text}")
             yield Slip(edit, f"write `{behind.text} {mark.text}` in place of `{mark.text} {behind.text}`")
+        last = self.tokens[-1] if self.tokens else mark
+        is_filled = before.kind == "number" and self.count == 3 and self.tokens[0].text == "deposit" and mark is last
+        if is_filled and mark.text in self.senders()[1:] and self.tokens[1].text not in self.senders()[1:]:
+            new = f"deposit {mark.text} {before.text}"
+            yield Slip((self.row.at, self.row.end, new), f"write `{new}`")
         if self.wanted == {"NAME"} and mark.text == ".":
             yield Slip((mark.at, mark.end, " "), "write a blank in place of `.`")
+        if before.text == "deposit" and mark.kind == "number" and not behind.kind and self.senders():
+            known = self.senders()
+            one = known[0] if len(known) == 1 else ".."
+            words = f"write `deposit {one} {mark.text}`{'' if one != '..' else ', with the account'}"
+            yield Slip((mark.at, mark.at, f"{known[0]} "), words)
+        if before.text == "deposit" and mark.kind == behind.kind == "number" and mark.end < behind.at:
+            known = dict(enumerate(self.senders()))
+            name = known.get(int(mark.text[:9]))
+            if name:
+                words = f"write `{name}` in place of `{mark.text}`, since an account is named, and its number found"
+                yield Slip((mark.at, mark.end, name), words)
+        if self.count == 2 and self.tokens[0].text == "deposit" and mark.text == "-" and behind.kind == "number":
+            words = "take this line out, since a deposit adds gas, and only what a transaction spends leaves an account"
+            yield Slip((self.row.at, self.row.end, ""), words)
         if before.text == "deposit" and mark.kind == "number" and self.tokens[-1].kind == "word":
             new = f"{self.tokens[-1].text} {mark.text if is_whole else in_digits(mark.text + behind.text)}"
             yield Slip((mark.at, self.row.end, new), f"write `deposit {new}`")
@@ -111,19 +138,22 @@ class Line(Forms):
         if not self.count and mark.text == "new":
             yield Slip((mark.at, mark.at, "let x = "), "write `let .. =` before `new`, with a name for the contract")
         if self.wanted == {"new"} and behind.text == "(":
-            yield Slip((mark.at, mark.at, "new x "), f"write `new ..` before `{mark.text}`, with the account that pays")
+            new, why = self.paying()
+            edit = (mark.at, mark.at, f"{new.replace('..', 'x')} ")
+            yield Slip(edit, f"write `{new}` before `{mark.text}`{why}")
 
     def of_parts(self):
         """A line with all its parts, in another order: the account, the process with its arguments, and for a contract
         its name, before a `=`."""
         tokens, processes = self.tokens, self.codes.processes if self.codes else {}
-        found = [at for at, it in enumerate(tokens) if it.text in processes and self.text_of(at + 1) == "("]
+        found = [at for at, it in enumerate(tokens) if it.text in processes and self.opening(at)]
         accounts = [it.text for it in tokens if it.text in self.accounts()]
+        accounts = accounts or [it for it in [self.one_account()] if it]
         if len(found) != 1 or not accounts:
             return
         at, end = found[0], self.closing(found[0])
-        parts = re.split(r"[,;](?![^\[]*\])", joined(tokens[at + 2 : end]))
-        parts = [it.strip() for it in parts if it.strip()]
+        parts = re.split(r"[,;](?![^\[]*\])", joined(tokens[self.opening(at) + 1 : end]))
+        parts = [it.strip() for it in parts if it.strip() and it.strip() not in self.accounts()]
         named = [it for it in parts if it[0].isalpha() and it not in ("true", "false")]
         values = ", ".join(it for it in parts if it not in named)
         call = f"{tokens[at].text}({values}; {', '.join(named)})".replace("; )", ";)")
@@ -137,12 +167,26 @@ class Line(Forms):
         if new and mode in "ST" and is_whole:
             yield Slip((self.row.at, self.row.end, new), f"write `{new}`")
 
+    def opening(self, at):
+        """Gives the number of the parenthesis behind the name of a process, with a word of making between them or
+        without, or 0."""
+        words = [it.text for it in self.tokens[at + 1 : at + 4]]
+        is_made = words[:1] == ["."] and words[1:2] and words[1] in FILLING and words[2:] == ["("]
+        return at + 1 if words[:1] == ["("] else at + 3 if is_made else 0
+
     def text_of(self, at):
         return self.tokens[at].text if at < len(self.tokens) else ""
 
     def makes(self, name):
         """Whether a process of this name makes a contract."""
         return self.codes is not None and name in self.codes.processes and self.codes.processes[name].mode == "S"
+
+    def senders(self):
+        """Gives the names that stand in the lines of the script as those of accounts."""
+        known = list(self.accounts())
+        known += [it.tokens[1].text for it in self.script.rows if it.word == "exec" and len(it.tokens) > 1]
+        known += [it.tokens[4].text for it in self.script.rows if it.word == "let" and len(it.tokens) > 4]
+        return [it for it in dict.fromkeys(known) if it[:1].isalpha()]
 
     def accounts(self):
         """Gives the names that the lines of the script deposit to."""
@@ -162,7 +206,9 @@ class Line(Forms):
         edit = (before.at, behind.end, before.text)
         is_whole = mark.text == "." and not behind.text.strip("0") and self.has_form(edit)
         said = f"write `{before.text}` in place of `{before.text}.{behind.text}`"
-        return [*([mend(said, edit)] if is_whole else []), "see: numbers are whole"]
+        number = f"{before.text}{mark.text}{behind.text}"
+        smaller = mend(f"count in a smaller unit, of which `{number}` is a whole number", edit)
+        return [mend(said, edit) if is_whole else smaller, "see: numbers are whole"]
 
     def number_end(self):
         """Gives where the tokens end that stand behind the marked one without a blank."""
@@ -188,7 +234,12 @@ class Line(Forms):
         """Slips in which values and names have changed their sides, and one in which the account is missing."""
         mark, before = self.marked, self.at(-1)
         if self.wanted == {"NAME"} and mark.text == "(":
-            yield Slip((before.at, before.at, "x "), f"write the account that pays before `{before.text}`")
+            known = self.script.accounts(self.row.number)
+            said = f"write `{known[0]}`, the account, before `{before.text}`"
+            if len(known) != 1:
+                one = f", one of {listed(known)}" if known else ""
+                said = f"write the account that pays before `{before.text}`{one}"
+            yield Slip((before.at, before.at, f"{known[0] if known else 'x'} "), said)
         if self.wanted == {"("} and mark.kind:
             yield self.of_parentheses()
         labels = [it for it, sign in zip(self.tokens, self.tokens[1:]) if it.kind == "word" and sign.text in "=:"]
@@ -221,7 +272,7 @@ class Line(Forms):
         for it in sorted(self.wanted - PUT_IN.keys() - {"true", "false", "-", "["}, key=lambda it: (it != ";", it)):
             edit = (before.end, before.end, f" {it} " if it[0].isalpha() else it)
             yield Slip(edit, f"write `{it}` behind `{before.text}`")
-            if mark.text and mark.text in ",;:()[]{}=" and not it[0].isalpha():
+            if mark.text and mark.text in ",;:()[]{}=|/&" and not it[0].isalpha():
                 yield Slip((mark.at, mark.end, it), f"write `{it}` in place of `{mark.text}`")
 
     def mends(self):
@@ -229,8 +280,31 @@ class Line(Forms):
             return self.of_part()
         if self.is_number():
             return self.of_digits()
-        found = next((it for it in self.slips() if self.has_form(it.edit)), None)
+        found = next((it for it in self.slips() if self.has_form(it.edit)), None) or self.first_of_several()
         return [mend(found.mend, found.edit)] if found else self.instead()
+
+    def first_of_several(self):
+        """Gives the first slip of a line that has more: with its edit at least two tokens more are read."""
+        sure = (self.of_forms, self.of_starts, self.of_spelling)
+        for it in (slip for way in sure for slip in way()):
+            start, end, new = it.edit
+            line = self.script.text[self.row.at : start] + new + self.script.text[end : self.row.end]
+            if "\n" in new or not line.strip():
+                continue
+            tokens = scripts.Line(self.row.number, 0, line).tokens
+            if not tokens or tokens[0].text not in self.words:
+                continue
+            count, _ = self.grammar.read(tokens, "line")
+            if len(tokens) - count + 1 < len(self.tokens) - self.count:
+                return it
+        return None
+
+    def of_spelling(self):
+        """Words of the language that are spelt in another way."""
+        mark = self.marked
+        if mark.kind == "word" and not self.wanted & {"NAME", "N"}:
+            for it in nearest(mark.text, {word for word in self.wanted if word[0].isalpha()} - PUT_IN.keys()):
+                yield Slip((mark.at, mark.end, it), f"write `{it}` in place of `{mark.text}`")
 
     def said(self):
         """Gives a line on the tokens that may stand at the marked one."""
@@ -267,6 +341,8 @@ class Line(Forms):
         if row.word == "show" and end:
             said = f"write this line behind the `end` in line {end.number}"
             tries.append(((out, (end.end, end.end, f"\n{line}")), said))
+        if row.word in ("show", "deposit") and self.is_inside and not end:
+            tries.append((((row.at, row.at, "end\n"),), "write `end` on a line before it"))
         if row.word == "begin" and self.is_inside:
             tries.append((((row.at, row.at, "end\n"),), "write `end` on a line before it"))
         if row.word == "end":

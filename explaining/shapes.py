@@ -1,6 +1,9 @@
 """Slips in the shape of a type, of an instruction or of a branch: it has what it needs, and in another form."""
 from typing import NamedTuple
 
+from .lists import Lists
+from .order import HEADS, Order
+from .parting import Parting
 from .texts import joined
 
 KINDS = ("int", "bool", "list")
@@ -9,7 +12,6 @@ WHOLE = "integer Integer Int number nat uint usize long short byte address accou
 SIZED = "u8 u16 u32 u64 u128 i8 i16 i32 i64 i128 uint8 uint32 uint64 uint128 uint256 int8 int32 int64 int256"
 ELSEWHERE = dict.fromkeys(f"{WHOLE} {SIZED}".split(), "int")
 ELSEWHERE.update(dict.fromkeys(("boolean", "Boolean", "Bool"), "bool"))
-HEADS = ("type", "fn", "proc")
 LASTS = ("close", "fwd", "call", "if", "case", "match")
 # What stands for a channel where a sign for values is written, and the signs for values by what holds the label.
 OF_CHANNELS = {"/\\": "*", "->": "-o"}
@@ -27,13 +29,20 @@ class Slip(NamedTuple):
     see: tuple = ()
 
 
-class Shapes:
+class Shapes(Order, Lists, Parting):
     """What is found of the tokens around an offence, by the class that is made of this one."""
 
     def of_shapes(self):
-        ways = (self.of_signs, self.of_payloads, self.of_sides_of_head, self.of_bound, self.of_small)
+        first = (self.of_moved, self.of_all_lists, self.of_parting)
+        ways = (*first, self.of_signs, self.of_payloads, self.of_sides_of_head, self.of_bound, self.of_small)
         for way in (*ways, self.of_branches):
             yield from way()
+
+    def elsewhere(self):
+        return ELSEWHERE
+
+    def slip(self, words, edit, row="Syntax"):
+        return Slip(row, words, edit)
 
     def of_signs(self):
         """Slips in the sign between what is sent and how the talk goes on, and in what a list is of."""
@@ -146,6 +155,9 @@ class Shapes:
             new = f"{{{mark.text}}}"
             yield Slip("Syntax", f"write `{new}` in place of `{mark.text}`", (mark.at, mark.end, new))
         is_one = before.end == mark.at and mark.end == behind.at and before.kind == behind.kind == "word"
+        is_reserved = mark.text in self.grammar.reserved and "NAME" in self.wanted and behind.text == "-"
+        if is_reserved and mark.end == behind.at and self.token(2).kind == "word" and behind.end == self.token(2).at:
+            yield self.of_hyphen(mark, self.token(2))
         if mark.text == "-" and is_one:
             new = f"{before.text}_{behind.text}"
             mend = f"write `{new}` in place of `{before.text}-{behind.text}`, here and wherever this name stands"
@@ -160,6 +172,16 @@ class Shapes:
         is_value = mark.kind == "number" or mark.text in ("true", "false")
         if is_value and before.text == "{" and self.token(-3).text == "case":
             yield Slip("Syntax match", "", (mark.at, mark.end, "x"))
+
+    def of_hyphen(self, first, last):
+        """A name with a hyphen in it, of which the first part is a reserved word, here and wherever it stands."""
+        old, new = f"{first.text}-{last.text}", f"{first.text}_{last.text}"
+        tokens = self.text.tokens
+        rows = [(one.at, two.end, new) for one, two in zip(tokens, tokens[2:])
+                if (one.text, two.text) == (first.text, last.text) and self.text.text[one.at : two.end] == old]
+        words = f"write `{new}` in place of `{old}`, here and wherever this name stands"
+        others = tuple(it for it in rows if it[0] != first.at)
+        return Slip("Syntax", words, (first.at, last.end, new), others)
 
     def of_branches(self):
         """Branches without a last instruction, where what they have in common stands behind them."""

@@ -2,12 +2,14 @@
 from .arguments import Arguments
 from .mends import mend, says
 from .names import unused
+from .renamed import fresh
 from .syntax import nearest
 from .texts import listed
 
 MOST_UNITS = 2**64 - 1
 # How many processes that offer one type are tried.
-MOST_OFFERING = 3
+MOST_OFFERING, MOST_TRIED = 3, 8
+WHAT = {"S": "contracts that can be made", "T": "transactions"}
 
 
 def units(gas):
@@ -50,7 +52,8 @@ class Refused:
         if token.text in self.run.contracts(self.number, self.line.number):
             lines = self.paying(token, known)
         else:
-            lines = self.changed(known) or self.meant(token, known) + self.deposit(token.text, needs)
+            lines = self.changed(known) or self.exchanged(known)
+            lines = lines or self.meant(token, known) + self.deposit(token.text, needs)
         see = f"see: the accounts so far are {listed(known)}" if known else "see: nothing was deposited so far"
         return token.at, "NoAccount", [*lines, see]
 
@@ -68,6 +71,22 @@ class Refused:
             return []
         return [mend(f"write `{new}` in place of `{first.text} {second.text}`", (first.at, second.end, new))]
 
+    def exchanged(self, known):
+        """Gives a line where the name of the contract and the account that pays have changed places."""
+        first, second = self.line.contract, self.line.sender
+        edits = (first.at, first.end, second.text), (second.at, second.end, first.text)
+        if self.line.word != "let" or first.text not in known or not self.goes_on(*edits):
+            return []
+        return [mend(f"let `{first.text}` and `{second.text}` change places", *edits)]
+
+    def one_that_does(self, known):
+        """Gives a line for the one process with which the line is carried out."""
+        token = self.line.process
+        ends = [(it, self.run.end(self.number, (token.at, token.end, it))) for it in known[:MOST_TRIED]]
+        does = [it for it, end in ends if end[0] == "committed"]
+        edit = (token.at, token.end, does[0] if does else "")
+        return [mend(f"write `{edit[2]}` in place of `{token.text}`", edit)] if len(does) == 1 else []
+
     def no_process(self):
         token, codes = self.line.process, self.run.codes
         if codes is None:
@@ -77,12 +96,32 @@ class Refused:
         if other:
             place = self.run.text.place(codes.tokens[other.at].at)
             see = f"see: `{token.text}` is declared at {place}, with the mode {other.mode}"
-            return token.at, "NoProcess mode", [*self.other_word(other), see]
+            known = [it.name for it in codes.processes.values() if it.mode == mode]
+            lines = self.other_word(other) or self.made_inside(other)
+            lines = lines or ([f"see: the {WHAT[mode]} are {listed(known)}"] if known else [])
+            return token.at, "NoProcess mode", [*lines, see]
         known = [it.name for it in codes.processes.values() if it.mode == mode]
         lines = self.meant(token, known)
-        what = "contracts that can be made" if mode == "S" else "transactions"
-        see = f"see: the {what} are {listed(known)}" if known else f"see: the text declares no process of mode {mode}"
-        return token.at, "NoProcess", lines or self.offering(token.text, known) or [see]
+        see = f"see: the text declares no process of mode {mode}"
+        see = f"see: the {WHAT[mode]} are {listed(known)}" if known else see
+        lines = lines or self.offering(token.text, known) or [*self.one_that_does(known), see]
+        return token.at, "NoProcess", lines
+
+    def made_inside(self, process):
+        """Gives a line without this one, where a transaction makes by itself what is no contract."""
+        tokens, codes = self.run.codes.tokens, self.run.codes
+        heads = [at for at, it in enumerate(tokens) if it.text in ("type", "fn", "proc")] + [len(tokens)]
+        found = []
+        for start, end in zip(heads, heads[1:]):
+            words = [it.text for it in tokens[start:end]]
+            rows = zip(words, words[2:], words[3:])
+            if words[:2] == ["proc", "T"] and ("spawn", "=", process.name) in rows:
+                found.append(words[2])
+        line, text = self.line, self.run.script
+        if process.mode != "R" or not found or self.run.script.row(self.number).word == "begin":
+            return []
+        edit = (line.at, min(line.end + 1, text.size), "")
+        return [mend(f"take this line out, since {listed(found[:3])} makes by itself what `{process.name}` is", edit)]
 
     def offering(self, name, known):
         """Gives lines on the processes that offer a definition, where this is the name of one: of those with which the
@@ -99,7 +138,7 @@ class Refused:
         """Gives lines for the other word that a line begins with, where that starts the process."""
         first, sender = self.line.tokens[0], self.line.sender
         if self.line.word == "let" and process.mode == "T":
-            new, said = "exec ", "`exec` in place of `let .. = new`"
+            new, said = "exec ", f"`exec` in place of `let {self.line.contract.text} = new`"
         elif self.line.word == "exec" and process.mode == "S":
             new, said = f"let {unused(self.run.script)} = new ", "`let .. = new` in place of `exec`"
         else:
@@ -110,8 +149,9 @@ class Refused:
     def name_taken(self):
         token = self.line.contract
         other = self.run.contracts(self.number, self.line.number).get(token.text)
-        edit = (token.at, token.end, unused(self.run.script))
-        lines = [mend(f"take another name than `{token.text}`", edit)] if self.goes_on(edit) else []
+        new = fresh(self.run.script, token.text)
+        edit = (token.at, token.end, new)
+        lines = [mend(f"write `{new}` in place of `{token.text}`", edit)] if self.goes_on(edit) else []
         see = [f"see: `{token.text}` is made at {self.run.script.place(other.contract.at)}"] if other else []
         return token.at, "NameTaken", [*lines, *see]
 

@@ -6,11 +6,12 @@ from .amounts import closing
 from .held import PROVIDED, now, reached
 from .kinds import miscounted, other_parts
 from .losing import Keeping, values_of, warned
-from .mends import DATA, filled, mend, says
+from .mends import DATA, Mend, filled, mend, says
 from .names import Names, unused
 from .passing import passed
 from .retyped import retyped
 from .shapes import LASTS
+from .swapped import ended_otherwise, made_here, other_channel, other_spawned, put_instead
 from .syntax import distance
 from .texts import LONGEST, joined
 
@@ -154,14 +155,16 @@ class Stuck:
             if it.text == ";" and depth == 0:
                 return it.at
             depth += (it.text in "({") - (it.text in ")}")
+            if depth < 0:
+                return None
         return None
 
     def behind(self):
         """Gives the number of the token behind the stuck instruction."""
         if self.form == "call":
             return closing(self.tokens, self.index + 2) + 1
-        if self.form == "fwd":
-            return self.index + 2
+        if self.form in ("fwd", "close"):
+            return self.index + (2 if self.form == "fwd" else 1)
         if self.form == "if":
             rest = range(self.index, len(self.tokens))
             return next(at for at in rest if self.tokens[at].text == "{" and self.names.leaves[at].rule == "last")
@@ -172,6 +175,10 @@ class Stuck:
         token = self.tokens[self.index]
         yield from self.elsewhere()
         yield from self.swapped()
+        ways = [put_instead(self)] if self.form in ("detach", "call", "close") else []
+        ways += [other_channel(self), ended_otherwise(self)] if self.form in TALKING else []
+        for edit, words in (it for way in (*ways, other_spawned(self)) for it in way):
+            yield Try(edit, words)
         if self.form == "label":
             label = self.tokens[self.index + 2]
             for it in self.labels():
@@ -288,8 +295,11 @@ class Stuck:
         """Gives the text without the stuck instruction, where the one behind it is not stuck then."""
         end, name = self.end(), self.channel_at(self.index)
         words = "take it out"
+        held = self.reached[2]
+        at = {"send": 2, "release": 1}.get(self.form, 0)
+        is_spent = at and self.tokens[self.index + at].text not in held
         for _ in range(DEEP):
-            if self.form not in TAKEN_OUT or end is None:
+            if self.form not in TAKEN_OUT and not is_spent or end is None:
                 return
             it = Try((self.at, end + 1, ""), words)
             reached, behind = self.reach(it), self.text.index_at(end) + 1
@@ -324,6 +334,16 @@ class Stuck:
         words = [it.text for it in self.tokens[self.head : self.index]]
         return words[1] == "S" and "accept" not in words
 
+    def accepting(self):
+        """Gives a line for the `accept` that comes behind this instruction, on the same way: it stands before it."""
+        later = [at for at in range(self.index, len(self.tokens)) if self.tokens[at].text == "accept"]
+        if not later or not self.names.leads(self.index, later[0]):
+            return []
+        it = self.tokens[later[0]]
+        tried = Try((self.at, self.at, "accept; "), "", ((it.at, self.tokens[later[0] + 1].end, ""),))
+        words = f"write `accept;` before it, and not at {self.text.place(it.at)}"
+        return [mend(words, *tried.edits)] if (self.reach(tried) or 0) > self.at else []
+
     def accepts_first(self, name):
         """Whether the process of a name begins with an `accept`."""
         found = [at for at, kind in self.names.places(name) if kind == "process"]
@@ -336,16 +356,19 @@ class Stuck:
         if self.form not in ("close", "call", "fwd", "detach"):
             return
         it = Keeping(types, step, held, values_of(self.names, self.head, self.index))
-        if not it.assets:
+        if not it.assets and self.form != "call":
             return
         process = next(other for other in types.processes.values() if other.at == self.head + 2)
         if self.form == "detach":
             return
         token, end = self.tokens[self.index], self.tokens[self.behind() - 1].end
         old = self.text.text[token.at : end]
-        for new in (*it.forwards(process), *it.calls(process)):
-            if new != old:
-                yield Try((token.at, end, new), says("instead", new=new, old=old))
+        found = [new for new in (*it.forwards(process), *it.calls(process)) if new != old]
+        for new in found:
+            yield Try((token.at, end, new), says("instead", new=new, old=old))
+        if self.form == "call" and not found:
+            for said, new in it.open_calls(process):
+                yield Try((token.at, end, new), says("instead", new=said, old=old))
         for asset, new in it.sends():
             said = says("gets", code=new, place="it", channel=asset)
             yield Try((token.at, token.at, f"{new} "), said)
@@ -365,11 +388,14 @@ class Stuck:
         lines.sort(key=lambda it: "nobody gets it" in it)
         moved = [it for it in lines if it.startswith("mend: let it ")]
         lines = [it for it in lines if it not in moved[1:]]
-        return list(dict.fromkeys(lines))[:3] or self.by_label(types, step, held) or self.parts()
+        if all("nobody gets it" in it for it in lines):
+            lines = [*self.by_label(types, step, held), *lines]
+        lines = lines or [mend(it.mend, *it.edits) for _, it in self.made()]
+        return list(dict.fromkeys(lines))[:3] or self.parts()
 
     def by_label(self, types, step, held):
         """Gives lines on another label for the last one, by which what is held is sent, where nothing else does."""
-        if self.form not in ("close", "detach"):
+        if self.form not in ("close", "detach", "call"):
             return []
         it = Keeping(types, step, held, values_of(self.names, self.head, self.index))
         process = next(other for other in types.processes.values() if other.at == self.head + 2)
@@ -413,6 +439,14 @@ class Stuck:
         furthest = max((reached for reached, _ in found), default=0)
         self.is_whole = furthest > self.text.size
         return [it for reached, it in found if reached == furthest]
+
+    def made(self):
+        """Gives what is made here where it is wanted, and nothing of its type is held."""
+        if self.form in ("detach", "close", "send", "release", "recv", "case", "take"):
+            for edit, words in made_here(self, self.new):
+                reached = self.reach(Try(edit, words))
+                if reached is not None and reached > self.at:
+                    yield reached, Try(edit, words)
 
     def parts(self):
         """Gives the parts of the terms of the stuck instruction of which another kind lets the check go on past it."""
@@ -473,11 +507,13 @@ def explained(text, answer, program, grammar):
         lines = [*retyped(types, step, held, lambda edit: stuck.reach(Try(edit, "")) or 0), *lines][:3]
     declared = stuck.declaration() if stuck.form in ("spawn", "call") else []
     if declared and not lines:
-        declared += passed(types, step, held, program)
+        found = passed(types, step, held, program)
+        lines = [it for it in found if isinstance(it, Mend)]
+        declared += [it for it in found if not isinstance(it, Mend)]
     if not lines and stuck.form in TERMS:
         declared += miscounted(names, stuck.index, stuck.behind())
     if stuck.form == "acquire" and stuck.is_before_accept():
-        lines = lines or [BEFORE_ACCEPT]
+        lines = lines or [*stuck.accepting(), BEFORE_ACCEPT]
     if all("nobody gets it" in it for it in lines) and stuck.form in ("close", "call", "fwd"):
         lines = [*lines, *Keeping(types, step, held, []).takers()]
     return [*(lines or stuck.given_away()), *declared, *now(types, step, held, bool(lines))]

@@ -4,6 +4,7 @@ import re
 from .comparisons import written
 from .habits import Habits
 from .mends import mend, says
+from .renamed import fresh
 from .shapes import HEADS, KINDS, Slip
 from .texts import Token, tokens_of
 
@@ -106,6 +107,7 @@ class Slips(Habits):
 
     def of_symbols(self):
         """Slips of which the symbols say what was meant."""
+        yield from self.of_nothing()
         mark, before, behind = self.marked, self.token(-1), self.token(1)
         pair = before.text + mark.text if before.end == mark.at else ""
         ahead = mark.text + behind.text if mark.end == behind.at else ""
@@ -116,8 +118,8 @@ class Slips(Habits):
             if signs in ("==", "&&", "||"):
                 row = "Syntax equality" if signs == "==" else "Syntax logic"
                 yield Slip(row, f"write `{PARTED[signs].strip()}` in place of `{signs}`", (at, at + 2, PARTED[signs]))
-            if signs in ("!=", "<=", ">="):
-                yield from self.of_comparison(signs, at)
+            if signs in ("!=", "<=", ">=", "<>", "=<"):
+                yield from self.of_comparison({"<>": "!=", "=<": "<="}.get(signs, signs), at)
             if signs in ("/*", "--") and not self.is_counted(at):
                 yield from self.of_comment(signs, at)
         if mark.text == ">":
@@ -177,8 +179,29 @@ class Slips(Habits):
                 yield Slip(row, mend, (token.at, token.end, word))
         mark = self.marked
         if mark.text in self.grammar.reserved and "NAME" in self.wanted and not self.wants("term"):
-            name = "x" * len(mark.text)
-            yield Slip("Syntax word", f"take another name than `{mark.text}`", (mark.at, mark.end, name))
+            yield self.of_reserved()
+
+    def of_reserved(self):
+        """A reserved word in the place of a name: another name, of a label wherever it is one."""
+        mark, tokens = self.marked, self.text.tokens
+        new = fresh(self.text, mark.text)
+        at = self.text.index_at(mark.at)
+        is_label = self.token(-1).text == "." or self.token(1).text in (":", "=>") and self.token(-1).text in ("{", "|")
+        rows = [it.at for place, it in enumerate(tokens[:-1]) if it.text == mark.text and place and place != at
+                and (tokens[place - 1].text == "." or tokens[place - 1].text in ("{", "|")
+                     and tokens[place + 1].text in (":", "=>"))]
+        if mark.text in AT_THE_HEAD and not is_label:
+            behind = range(at + 1, self.text.index_at(self.end_of_declaration()))
+            rows, is_label = [tokens[place].at for place in behind if tokens[place].text == mark.text], True
+        edits = tuple((it, it + len(mark.text), new) for it in rows) if is_label else ()
+        where = f", here and at {', '.join(self.text.place(it) for it in rows[:8])}" if edits else ""
+        words = f"take another name than `{mark.text}`"
+        words = f"write `{new}` in place of `{mark.text}`{where}" if is_label else words
+        return Slip("Syntax word", words, (mark.at, mark.end, new), edits)
+
+    def end_of_declaration(self):
+        heads = [it.at for it in self.text.tokens if it.at > self.marked.at and it.text in HEADS]
+        return heads[0] if heads else self.text.size
 
     def of_places(self):
         """Slips of which the place says what was meant."""
@@ -211,11 +234,11 @@ class Slips(Habits):
             mend = f"write `(;)` behind `{before.text}`, where its parameters go, values before the `;`"
             yield Slip("Syntax", mend, (before.end, before.end, "(;)"))
         if before.text in ("proc", "type") and mark.kind == "word":
-            modes = ", ".join(f"`{it}`" for it in sorted(self.wanted))
-            yield Slip("Syntax", f"write a mode before `{mark.text}`, one of {modes}", (mark.at, mark.at, "R "))
+            mode = self.mode_by_head()
+            yield Slip("Syntax", f"write `{mode}` before `{mark.text}`", (mark.at, mark.at, f"{mode} "))
         equal = next((it for it in self.tokens[self.index :] if it.text == "="), None)
         in_head = {"=", "{"} & self.wanted and before.text in (")", "}")
-        if mark.text == ":" and equal and in_head and self.tokens[1].text == "T":
+        if mark.text in (":", "->", "returns") and equal and in_head and self.tokens[1].text == "T":
             offered = self.text.text[mark.at : equal.at].strip()
             mode = self.mode_of(self.token(1).text) if self.token(2) is equal else ""
             if mode:
@@ -239,6 +262,19 @@ class Slips(Habits):
         if self.wanted == {"as"}:
             mend = f"write `as ..` behind `{before.text}`, with a new name"
             yield Slip("Syntax", mend, (before.end, before.end, " as x"))
+
+    def mode_by_head(self):
+        """Gives the mode of a declaration that has none: of a definition by how its type begins, and whether it comes
+        to `down`, and of a process by what it offers."""
+        texts = [it.text for it in self.text.tokens[self.text.index_at(self.marked.at) :]]
+        equal = texts.index("=") if "=" in texts else len(texts) - 1
+        behind, head = texts[equal + 1 : equal + 2], texts[:equal]
+        if self.token(-1).text == "type":
+            end = texts.index(";") if ";" in texts else len(texts)
+            return "S" if behind == ["up"] else "L" if "down" in texts[equal:end] else "R"
+        closing = len(head) - 1 - head[::-1].index(")") if ")" in head else len(head)
+        offered = [it for it in head[closing:] if it not in (")", "{", "}", "*") and not it.isdecimal()]
+        return (self.mode_of(offered[1]) or ("S" if offered[1] == "up" else "R")) if len(offered) > 1 else "T"
 
     def mode_of(self, name):
         """Gives the mode of the definition of a name, where there is one."""
@@ -284,6 +320,12 @@ class Slips(Habits):
             yield Slip(row, f"take `{mark.text}` out", (mark.at, mark.end, ""))
 
 
+# Reserved words that stand at the head of a text alone.
+AT_THE_HEAD = ("all", "ticks", "sends", "cost")
+# The rows of slips whose edits have so much that something else may be wrong in it.
+WIDE = ("Syntax braces",)
+
+
 def explained(text, answer, program, grammar):
     """Gives the row that fits a text that is no text of the grammar, and lines on what to do."""
     at, row, lines = answer.offset, "Syntax end" if answer.offset == text.size else "Syntax", []
@@ -295,6 +337,7 @@ def explained(text, answer, program, grammar):
         after = program.check(edited)
         reached = at + len(new) - (end - start) if slip.mend and end <= at else start + len(new)
         is_whole = end > at and after.offset == len(edited)
+        reached = start + 1 if slip.row in WIDE else reached
         if after.is_cause("Syntax") and after.offset <= reached and not is_whole:
             slip = None
     if slip is None and at < text.size:

@@ -35,14 +35,16 @@ DEMANDED = f"{IN_AN_IF}; a fault, as of `1 / 0`, undoes the whole batch"
 # The signs that a difference stands behind in parentheses.
 TIGHT = ("-", "*", "/", "%")
 TRUTHS = ("true", "false")
+NOTHINGS = ("null", "None", "undefined", "nullptr", "NULL", "nothing", "empty", "void")
 
 
 class Wordings(Shapes):
     """What is found of the tokens around an offence, by the class that is made of this one."""
 
     def of_wordings(self):
-        ways = (self.of_minus, self.of_asked, self.of_spawned, self.of_commas, self.of_between, self.of_acquired)
-        for way in (*ways, self.of_chains, self.of_lists, self.of_choices, self.of_foreign):
+        ways = (self.of_one_more, self.of_applied, self.of_minus, self.of_asked, self.of_spawned, self.of_commas)
+        ways = (*ways, self.of_between, self.of_acquired, self.of_chains, self.of_lists)
+        for way in (*ways, self.of_choices, self.of_foreign):
             yield from way()
 
     def instruction(self):
@@ -96,6 +98,49 @@ class Wordings(Shapes):
         is_way = found and not {"|", "}"} & set(words[found[-1] :])
         return words[found[-1] + 6] if is_way else ""
 
+    def of_one_more(self):
+        """A variable in a term with two signs behind it, or before it."""
+        mark, before, behind = self.marked, self.token(-1), self.token(1)
+        third = self.token(-2)
+        if before.text in ("+", "-") and third.kind == "word" and third.end == before.at and before.end == mark.at:
+            if mark.text == before.text and behind.text in (";", ")", ",", "}", "|", "::"):
+                new = f"{third.text} {mark.text} 1"
+                old = f"{third.text}{mark.text}{mark.text}"
+                yield Slip("Syntax", f"write `{new}` in place of `{old}`", (third.at, mark.end, new))
+
+    def of_applied(self):
+        """A function with its value behind it, without parentheses."""
+        mark, before = self.marked, self.token(-1)
+        is_value = mark.kind in ("word", "number") and {"and", "("} <= self.wanted
+        if is_value and self.is_declared(before.text, "fn") and mark.text not in self.grammar.reserved:
+            end = self.apart(self.index, (";", ")", ",", "}", "|", "then", "else", "{"))
+            inside = self.text.text[mark.at : self.tokens[end - 1].end]
+            new = f"{before.text}({inside})"
+            yield Slip("Syntax", f"write `{new}` in place of `{before.text} {inside}`",
+                       (before.at, self.tokens[end - 1].end, new))
+
+    def of_nothing(self):
+        """A test whether a channel is there, which one that is held always is."""
+        mark, at = self.marked, self.instruction()
+        end = self.apart_brace(at)
+        words = [it.text for it in self.tokens[at:end]] if end else []
+        if words[:1] != ["if"] or not set(words) & set(NOTHINGS) or self.index > end:
+            return
+        last = self.closing(end - self.index, "{", "}")
+        behind = next((it for it in self.tokens if it.at >= last.end), last)
+        inside = self.text.text[self.tokens[end].end : last.at].strip().rstrip(";")
+        sign = "" if behind.text in (";", "}", "|") else ";"
+        new = f"{inside}{sign}" if "!" in words or "not" in words else ""
+        if behind.text != "else":
+            words = "take this `if` out, since a channel that is held is there, and keep what stands in its braces"
+            if not new:
+                words = "take this `if` and what stands in its braces out, since a channel that is held is there"
+            yield Slip("Syntax", words, (self.tokens[at].at, last.end, new))
+
+    def apart_brace(self, start):
+        """Gives the number of the next { behind a token, if there is one."""
+        return next((at for at in range(start, len(self.tokens)) if self.tokens[at].text == "{"), None)
+
     def of_spawned(self):
         """A process that is started by `let`, or by a word of other languages."""
         mark, word, before = self.marked, self.token(-1), self.token(-2)
@@ -118,8 +163,9 @@ class Wordings(Shapes):
         word = self.tokens[at].text if at < len(self.tokens) else ""
         before, behind = self.token(-1), self.token(1)
         is_inside = before.kind == behind.kind == "number" and before.end == mark.at and mark.end == behind.at
-        is_known = word in (*TALKING, "emit", "wait", "let", "spawn")
-        if is_inside or mark.text != "," or ";" not in self.wanted or not is_known:
+        is_known = word in (*TALKING, "emit", "wait", "let", "spawn", "acquire", "release")
+        is_other = is_inside or not is_known or self.begins(self.index + 1)
+        if is_other or mark.text != "," or ";" not in self.wanted:
             return
         new = f"{word} {self.tokens[at + 1].text}" if word in TALKING else word
         yield Slip("Syntax", f"write `; {new}` in place of this `,`", (mark.at, mark.end, f"; {new} "))
@@ -149,6 +195,7 @@ class Wordings(Shapes):
         rest = [it for it in self.tokens[self.index :] if it.at >= end.end][:2]
         if mark.text == "(" and self.token(-2).text == "spawn" and [it.text for it in rest[:1]] == ["as"] and rest[1:]:
             start, call = self.token(-2), self.text.text[before.at : end.end]
+            call = call if ";" in call else f"{call[:-1]};)"
             new = f"spawn {rest[1].text} = {call}"
             mend = f"write `{new}` in place of `spawn {call} as {rest[1].text}`"
             yield Slip("Syntax", mend, (start.at, rest[1].end, new))
@@ -168,8 +215,6 @@ class Wordings(Shapes):
             end = self.closing(0, mark.text, signs[mark.text])
             inside, said = self.text.text[mark.end : end.at].strip(), self.text.text[before.at : end.end]
             yield Slip("Syntax", f"write `list {inside}` in place of `{said}`", (mark.at, end.end, f" {inside}"))
-        if mark.text == "[" and {"and", "+"} <= self.wanted and before.kind == "word":
-            yield Slip("Syntax index", "", (mark.at, self.closing(0, "[", "]").end, ""))
 
     def of_choices(self):
         """A `case` on a value, which is an `if`."""
@@ -177,6 +222,9 @@ class Wordings(Shapes):
         is_value = mark.kind == "number" or mark.text in TRUTHS
         if is_value and self.token(-1).text == "{" and self.token(-3).text == "case":
             at, opening = self.index - 3, self.index - 1
+        elif self.wanted == {"nil"} and self.token(-1).text == "{" and self.tokens[0].text == "fn":
+            yield from self.of_truth()
+            return
         elif self.wanted == {"{"} and self.tokens[at : at + 1] and self.tokens[at].text == "case":
             opening = next((it for it in range(self.index, len(self.tokens)) if self.tokens[it].text == "{"), None)
         else:
@@ -192,6 +240,18 @@ class Wordings(Shapes):
                 new = f"{{ if {test} {{ {code} }} else {new} }}"
             edit = (self.tokens[at].at, self.tokens[closing].end, new[2:-2])
             yield Slip("Syntax match", f"write `{said[2:-2]}` in place of the `case`", edit)
+
+    def of_truth(self):
+        """A `match` on a truth value or a number in a term, which is an `if`."""
+        at = next((at for at in range(self.index, 0, -1) if self.tokens[at].text in ("match", "switch")), 0)
+        rows, closing = self.rows(self.index - 1)
+        if not at or len(rows) < 2 or any(it.kind != "number" and it.text not in TRUTHS for it, _ in rows[:-1]):
+            return
+        subject = joined(self.tokens[at + 1 : self.index - 1])
+        tests = [self.test(subject, label.text) for label, _ in rows[:-1]]
+        new = "".join(f"if {test} then {code} else " for test, (_, code) in zip(tests, rows)) + rows[-1][1]
+        edit = (self.tokens[at].at, self.tokens[closing].end, new)
+        yield Slip("Syntax match", f"write `{new}` in place of the `match`", edit)
 
     def is_term(self, subject, end):
         """Whether a text is more than a name, or one that is bound as a value before a token."""

@@ -1,0 +1,90 @@
+"""What may stand in the place of something near a stuck instruction: another channel, another process that is spawned,
+or what a value is sent by."""
+from .texts import joined
+
+MOST_TRIED = 6
+
+
+def held_names(stuck):
+    """Gives the linear channels that are held at a stuck instruction, the last ones first."""
+    types, _, held = stuck.reached
+    return [name for name, it in reversed(held.items()) if name != "self" and not types.is_shared(it.type)]
+
+
+def other_channel(stuck):
+    """Gives edits for another channel that is held, where the one of the instruction is not."""
+    types, step, held = stuck.reached
+    at = stuck.index if stuck.form == "label" else stuck.index + 1
+    it = stuck.tokens[at]
+    if it.text in held or it.text == "self":
+        return
+    for name in held_names(stuck)[:MOST_TRIED]:
+        yield (it.at, it.end, name), f"write `{name}` in place of `{it.text}`"
+
+
+def other_spawned(stuck):
+    """Gives edits for another process in a `spawn`, of what is sent at another type than is wanted."""
+    types, step, held = stuck.reached
+    if stuck.form != "send":
+        return
+    via, sent = stuck.tokens[stuck.index + 1].text, stuck.tokens[stuck.index + 2].text
+    if via not in held or sent not in held:
+        return
+    whole, bound = types.unfolded(held[via].type), held[sent].bound
+    if not whole.parts or whole.sign not in ("*", "-o") or types.tokens[bound - 1].text != "spawn":
+        return
+    wanted, old = types.said(*whole.parts[0][:2]), types.processes[types.tokens[bound + 2].text]
+    for it in types.processes.values():
+        kinds = [[(one.kind, one.type) for one in process.parameters] for process in (it, old)]
+        if it.offers == wanted and it.mode in ("R", old.mode) and kinds[0] == kinds[1]:
+            token = types.tokens[bound + 2]
+            words = f"write `{it.name}` in place of `{old.name}` at {types.text.place(token.at)}"
+            yield (token.at, token.end, it.name), words
+
+
+def made_here(stuck, new):
+    """Gives edits that make a channel of the type that is wanted, where none is held, and send it: how it is said and
+    what is tried. The values are left to the writer."""
+    types, step, held = stuck.reached
+    for name in ("self", *held_names(stuck)):
+        if name not in held:
+            continue
+        whole = types.unfolded(held[name].type)
+        if whole.sign != ("*" if name == "self" else "-o"):
+            continue
+        wanted = types.said(*whole.parts[0][:2])
+        if any(types.said(*held[other].type[:2]) == wanted for other in held_names(stuck)):
+            continue
+        for it in types.processes.values():
+            if it.offers == wanted and it.mode == "R" and all(one.kind == "value" for one in it.parameters):
+                kinds = [{"int": "0", "bool": "true"}.get(one.type, one.type.replace("list", "nil", 1))
+                         for one in it.parameters]
+                code = f"spawn {new} = {it.name}({', '.join(kinds)};); send {name} {new}; "
+                said = f"spawn .. = {it.name}({'..' if kinds else ''};); send {name} ..;"
+                yield (stuck.at, stuck.at, code), f"write `{said}` before it, with a new name"
+
+
+def ended_otherwise(stuck):
+    """Gives edits for the other way to part from a channel, by its type: a contract is released, and no end of it is
+    waited for."""
+    types, step, held = stuck.reached
+    via = stuck.tokens[stuck.index + 1].text if stuck.form in ("wait", "release") else ""
+    if via not in held or via == "self":
+        return
+    sign, end = types.unfolded(held[via].type).sign, stuck.end()
+    if (stuck.form, sign) == ("wait", "down"):
+        yield (stuck.at, end, f"release {via} as {stuck.new}"), f"write `release {via} as {stuck.new}` in place of it"
+    if (stuck.form, sign) == ("release", "1"):
+        yield (stuck.at, end, f"wait {via}"), f"write `wait {via}` in place of it"
+
+
+def put_instead(stuck):
+    """Gives edits for a value that is emitted just before, where the client wants one."""
+    types, step, held = stuck.reached
+    starts = [at for at in range(stuck.index - 1) if stuck.tokens[at].text in (";", "{", "=>", "=")]
+    before = max(starts, default=0) + 1
+    own = held.get("self")
+    if stuck.tokens[before].text == "emit" and own and types.unfolded(own.type).sign == "/\\":
+        it = stuck.tokens[before]
+        said = joined(stuck.tokens[before + 1 : stuck.index - 1])
+        yield (it.at, it.end, "put self"), f"write `put self {said}` in place of `emit {said}`"
