@@ -1,4 +1,5 @@
-//! Gates of tests: one that counts its calls, and one at which workers wait for each other.
+//! Gates of tests: one that counts its calls, one that notes whom it was told of, and one at which workers wait for each
+//! other.
 
 use nomos_workers::gate::Gate;
 use std::sync::atomic::{AtomicU64, Ordering};
@@ -30,39 +31,72 @@ impl Gate for CountingGate {
     }
 }
 
-// So often a worker looks for another one at most.
+// A worker or a process as a bit of a word.
+fn bit_of(number: u32) -> u64 {
+    1 << (number % 64)
+}
+
+/// A gate that notes the processes whose terms are evaluated.
+#[derive(Drop)]
+pub(crate) struct NotingGate {
+    pids: AtomicU64,
+}
+
+impl NotingGate {
+    /// A gate that nobody has called.
+    pub(crate) fn new() -> NotingGate {
+        NotingGate {
+            pids: AtomicU64::new(0),
+        }
+    }
+
+    /// Whether it was called, and of these two processes alone.
+    pub(crate) fn noted_none_but(&self, first: u32, second: u32) -> bool {
+        let noted = self.pids.load(Ordering::SeqCst);
+        noted != 0 && noted & !(bit_of(first) | bit_of(second)) == 0
+    }
+}
+
+impl Gate for NotingGate {
+    fn before_eval(&self, _worker: u32, pid: u32) {
+        self.pids.fetch_or(bit_of(pid), Ordering::SeqCst);
+    }
+}
+
+// So often a worker looks for the others at most.
 const LOOKS: u32 = 100_000_000;
 
-/// A gate that holds the first call of each worker until another worker has called.
+/// A gate that holds the first call of each worker until all workers have called.
 #[derive(Drop)]
 pub(crate) struct MeetingGate {
+    all: u64,
     came: AtomicU64,
     met: AtomicU64,
 }
 
-// A worker as a bit of a word.
-fn bit_of(worker: u32) -> u64 {
-    1 << (worker % 64)
-}
-
 impl MeetingGate {
-    /// A gate that nobody has called.
-    pub(crate) fn new() -> MeetingGate {
+    /// A gate for so many workers, which nobody has called.
+    pub(crate) fn of(workers: u32) -> MeetingGate {
+        let mut all = 0;
+        for worker in 0..workers {
+            all |= bit_of(worker) << 1;
+        }
         MeetingGate {
+            all,
             came: AtomicU64::new(0),
             met: AtomicU64::new(0),
         }
     }
 
-    /// Whether these two workers, and no others, have found another one while they were held.
-    pub(crate) fn have_met(&self, first: u32, second: u32) -> bool {
-        self.met.load(Ordering::SeqCst) == bit_of(first) | bit_of(second)
+    /// Whether the workers, whose numbers begin at 1, and no others, have found all others while they were held.
+    pub(crate) fn have_met(&self) -> bool {
+        self.met.load(Ordering::SeqCst) == self.all
     }
 
-    // Looks until a worker has come that is not this one.
-    fn finds_another(&self, own: u64) -> bool {
+    // Looks until all workers have come.
+    fn finds_all(&self) -> bool {
         for _ in 0..LOOKS {
-            if self.came.load(Ordering::SeqCst) & !own != 0 {
+            if self.came.load(Ordering::SeqCst) == self.all {
                 return true;
             }
             thread::yield_now();
@@ -75,7 +109,7 @@ impl Gate for MeetingGate {
     fn before_eval(&self, worker: u32, _pid: u32) {
         let own = bit_of(worker);
         let before = self.came.fetch_or(own, Ordering::SeqCst);
-        if before & own == 0 && self.finds_another(own) {
+        if before & own == 0 && self.finds_all() {
             self.met.fetch_or(own, Ordering::SeqCst);
         }
     }

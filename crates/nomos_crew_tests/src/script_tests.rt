@@ -1,7 +1,7 @@
 //! Tests: scripts that several workers run.
 ghost use Rattle.nomos_workers.specs.Crews.{IsCrew};
 
-use crate::gates::{CountingGate, MeetingGate};
+use crate::gates::{CountingGate, MeetingGate, NotingGate};
 use crate::telling::{SAY, TWO_SAY, Told, expect_again, tell};
 use nomos_machine::policy::Policy;
 use nomos_workers::batch::Crew;
@@ -60,10 +60,75 @@ fn workers_share_a_batch(rt: HostRuntime) -> Result<(), Fail> {
 // Terms are evaluated outside the turns: while a worker is held there, another one comes.
 #[test]
 fn workers_meet_outside_their_turns(rt: HostRuntime) -> Result<(), Fail> {
-    let gate = MeetingGate::new();
+    let gate = MeetingGate::of(2);
     say(&rt, Crew::Many(2), &gate)?;
-    assert!(rt; gate.have_met(1, 2));
+    assert!(rt; gate.have_met());
     Ok(())
+}
+
+const SIXTEEN_SAY: &str = "deposit u 0
+begin
+exec u say(1;)
+exec u say(1;)
+exec u say(1;)
+exec u say(1;)
+exec u say(1;)
+exec u say(1;)
+exec u say(1;)
+exec u say(1;)
+exec u say(1;)
+exec u say(1;)
+exec u say(1;)
+exec u say(1;)
+exec u say(1;)
+exec u say(1;)
+exec u say(1;)
+exec u say(1;)
+end
+";
+
+// Fails unless so many workers meet outside their turns, all at once.
+fn expect_meeting<R: Abort + AllocGlobal + Threads + Wait + Sync>(
+    rt: &R,
+    workers: u32,
+) -> Result<(), Fail>
+    requires { IsCrew (Crew.Many workers) }
+{
+    let gate = MeetingGate::of(workers);
+    let texts = (SAY, SIXTEEN_SAY);
+    let told = tell(rt, texts, Crew::Many(workers), &gate);
+    assert!(rt; gate.have_met());
+    expect_again(rt, texts, &told)
+}
+
+// As many workers fire as were asked for.
+#[test]
+fn all_workers_meet(rt: HostRuntime) -> Result<(), Fail> {
+    expect_meeting(&rt, 4)?;
+    expect_meeting(&rt, 16)
+}
+
+// One transaction emits what it is given, another one has no terms.
+const SAY_OR_NOT: &str = "proc T say(n: int;) = emit n; close;
+proc T mute(;) = close;
+";
+
+const ONE_OF_THREE_MUTE: &str = "deposit u 0
+begin
+exec u say(1;)
+exec u mute(;)
+exec u say(2;)
+end
+";
+
+// The gate is told of processes that stand at terms, and of no others: the first and the third one.
+#[test]
+fn gates_are_told_who_has_terms(rt: HostRuntime) -> Result<(), Fail> {
+    let gate = NotingGate::new();
+    let texts = (SAY_OR_NOT, ONE_OF_THREE_MUTE);
+    let told = tell(&rt, texts, Crew::Many(2), &gate);
+    assert!(rt; gate.noted_none_but(1, 3));
+    expect_again(&rt, texts, &told)
 }
 
 // One worker calls no gate; several call theirs.

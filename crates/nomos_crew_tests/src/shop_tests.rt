@@ -12,6 +12,7 @@ use nomos_floor::crew::{Station, join_all, split_all};
 use nomos_floor::floor::Floor;
 use nomos_ledger::lent::Lent;
 use nomos_ledger::world::World;
+use nomos_legal::journal::End;
 use nomos_named::indexed::IndexedState;
 use nomos_workers::batch::BatchEnd;
 use nomos_workers::gate::Gate;
@@ -66,7 +67,7 @@ fn stations_behind<A: Lent, M: Undo + Drop + Send, G: Gate, R: Threads + Wait + 
     stations
 }
 
-// The shop that two workers leave, which take turns with passes that were split off.
+// The shop that two workers leave, which take turns with passes that were split off. Each finds that the batch stays.
 fn shop_behind<A: Lent, M: Undo + Drop + Send, G: Gate, R: Abort + Threads + Wait + Sync>(
     rt: &R,
     alloc: Global,
@@ -82,6 +83,9 @@ fn shop_behind<A: Lent, M: Undo + Drop + Send, G: Gate, R: Abort + Threads + Wai
         panic!(rt; "memory was wanting")
     };
     let stations = stations_behind(rt, alloc, &floor, stations, gate);
+    for station in stations.as_slice() {
+        assert!(rt; matches!(station.answer, Some(BatchEnd::Done(End::Committed))));
+    }
     join_all(&floor, &mut opening, stations);
     floor.close(opening)
 }
@@ -100,9 +104,9 @@ fn say_twice<G: Gate, R: Abort + AllocGlobal + Threads + Wait + Sync>(
 // Two passes of a floor that the caller has run the batch together, and each meets the other outside its turns.
 #[test]
 fn callers_may_have_their_own_floor(rt: HostRuntime) {
-    let gate = MeetingGate::new();
+    let gate = MeetingGate::of(2);
     let world = say_twice(&rt, &gate);
-    assert!(rt; gate.have_met(1, 2));
+    assert!(rt; gate.have_met());
     assert_eq!(rt; world.firings().len(), 4);
     for firing in world.firings() {
         assert!(rt; firing.pass == 1 || firing.pass == 2);
