@@ -9,7 +9,7 @@ use Rattle.nomos_legal.specs.declared.journal.Journal.{Journal}
 use Rattle.nomos_journal.specs.JournalText.{IsTextOf}
 use Rattle.nomos_journal.specs.declared.line.Version.{Version}
 use Rattle.nomos_replay.specs.Answers.{Answers}
-use Rattle.nomos_replay.specs.Told.{Told, journal_of}
+use Rattle.nomos_replay.specs.Told.{Told, journal_told}
 use Rattle.nomos_replay.specs.declared.error.ReplayError.{ReplayError}
 use Rattle.nomos_replay.proofs.FormLaws.{journal-form}
 use Rattle.nomos_replay.proofs.LengthLaws.{journal-within}
@@ -48,7 +48,7 @@ module _ {a : Acceptance} (accepted : IsAccepted a) (script : List ℕ) {items :
       answers-one accepted (legal-answered is) (legal-answered also) in
       let told : told_by is ≡ told_by also = cc in (
         ap (λ (es : List Entry). record { limit = journal.limit; entries = es }) (sym is.tells.entries_are)
-            ∙ ap journal_of told
+            ∙ ap journal_told told
             ∙ ap (λ (es : List Entry). record { limit = other.limit; entries = es }) also.tells.entries_are,
         ap (λ (t : Told). t.passages) told,
       )

@@ -1,5 +1,5 @@
 -- Batches under way: firing by firing, up to their end.
-use Rattle.std.proofs.Common.{◌≡◌, ◌≢◌, ◌∙◌, ◌+◌, ◌≤◌, ℕ, List, [], ◌∷◌, ◌++◌, length, length-append, Result, Ok, Err, IfOk, MatchResult, refl, sym, subst, ap, arith}
+use Rattle.std.proofs.Common.{◌≡◌, ◌≢◌, ◌∙◌, ◌+◌, ◌<◌, ◌≤◌, ℕ, List, [], ◌∷◌, ◌++◌, length, length-append, Result, Ok, Err, IfOk, MatchResult, refl, sym, subst, ap, arith}
 use Rattle.std.proofs.lemmas.List.{length-map, map-append}
 use Rattle.nomos_types.specs.Acceptance.{Acceptance, IsAccepted}
 use Rattle.nomos_deeds.specs.Acting.{HasNumbers}
@@ -17,6 +17,8 @@ use Rattle.nomos_journal.specs.declared.line.JournalLine.{JournalLine}
 use Rattle.nomos_journal.specs.declared.line.JournalLine.TheVariants as line
 use Rattle.nomos_journal.specs.declared.line.Version.{Version}
 use Rattle.nomos_ledger.specs.Calls.{HasFired}
+use Rattle.nomos_ledger.specs.Running.{RunsOn}
+use Rattle.nomos_walk.specs.Walks.{HasItemRoom}
 use Rattle.nomos_replay.specs.Answers.{Reads}
 use Rattle.nomos_replay.specs.Spoiled.{Spoils}
 use Rattle.nomos_replay.specs.Spoiled as spoiled
@@ -28,7 +30,7 @@ use Rattle.nomos_replay.specs.declared.error.ReplayError.{ReplayError}
 use Rattle.nomos_replay.specs.declared.error.ReplayError.TheVariants as error
 use Rattle.nomos_replay.specs.declared.source.Source.{Source}
 use Rattle.nomos_replay.specs.mirror.Reading.{Carries, HasRead, Stops}
-use Rattle.nomos_replay.specs.mirror.Running.{Asks, CarriesFirings, EndStops, FireStops, FiresBy, HasNumbersFor, RanOn, firing_by, under_way}
+use Rattle.nomos_replay.specs.mirror.Running.{Asks, CarriesFirings, EndStops, FireStops, FiresBy, firing_by, under_way}
 use Rattle.nomos_replay.proofs.ReadingLemmas.{carries-line, carries-on, stops-later, stops-no_form, stops-spoiled}
 
 -- ---- worlds
@@ -39,12 +41,12 @@ count-same w = length-map w.firings (λ (f : Firing). f.pid)
 
 -- a world is one that ran on by no firing
 pub ran-none : {a : Acceptance} (most : ℕ) (w : WorldState) → WorldStandsFor a w → length w.firings ≤ most
-    → RanOn a most w w
+    → RunsOn a most w w
 ran-none most w stands within = record { stands = stands; origin = refl; starts = refl; within = within }
 
 -- a firing more
 pub ran-more : {a : Acceptance} {v : Version} {most : ℕ} {l : JournalLine} {first old after : WorldState}
-    → RanOn a most first old → FiresBy a v most l old after → WorldStandsFor a after → RanOn a most first after
+    → RunsOn a most first old → FiresBy a v most l old after → WorldStandsFor a after → RunsOn a most first after
 ran-more {most = most} {old = old} {after = after} ran by stands =
     let is = by.fired.is in
     let more : length after.firings ≡ length (old.firings ++ firing_by by.pid ∷ []) =
@@ -56,16 +58,17 @@ ran-more {most = most} {old = old} {after = after} ran by stands =
       within = omega (arith, more, length-append old.firings (firing_by by.pid ∷ []), by.left);
     }
 
--- the next numbers of a world that ran on are small
-pub ran-numbers : {a : Acceptance} → IsAccepted a → {most : ℕ} {first w : WorldState} → HasNumbersFor most first
-    → RanOn a most first w → HasNumbers w.state
-ran-numbers {a} accepted {most} {first} {w} numbers ran =
-    let there = subst (λ (l : LedgerState). HasNumbered numbers.given l.state) (sym ran.origin) numbers.numbered in
-    let at = world-numbers accepted ran.stands numbers.given there in
+-- the next numbers of a world that ran on are far from the greatest, where a firing is left
+pub ran-numbers : {a : Acceptance} → IsAccepted a → {most : ℕ} {first w : WorldState}
+    → HasItemRoom first.origin (length first.starts) most → RunsOn a most first w → length w.firings < most
+    → HasNumbers w.state
+ran-numbers {a} accepted {most} {first} {w} room ran left =
+    let there = subst (λ (l : LedgerState). HasNumbered room.given l.state) (sym ran.origin) room.numbered in
+    let at = world-numbers accepted ran.stands room.given there in
     let starts = ap length ran.starts in
     record {
-      object = omega (arith, at.objects, numbers.few, ran.within, starts);
-      name = omega (arith, at.names, numbers.few, ran.within, starts);
+      object = omega (arith, at.objects, room.few, left, starts);
+      name = omega (arith, at.names, room.few, left, starts);
     }
 
 -- ---- lines
@@ -93,57 +96,59 @@ module _ (a : Acceptance) (v : Version) (most : ℕ) where
       (λ i. record { batch = batch; starts = starts i; firings = firings i; state = u.state })
 
   -- a firing leads on
-  pub carries-fired : (begun w u : WorldState) {first source after : Source} {l : JournalLine}
-      → CarriesFirings a v most first begun source w → HasRead a.annotations.unit source l after
-      → FiresBy a v most l w u → CarriesFirings a v most first begun after u
-  carries-fired begun w u {first} {source} {after} {l} carries read by all items batch told same =
+  pub carries-fired : (begun w u : WorldState) {start source after : Source} {l : JournalLine}
+      → CarriesFirings a v most start begun source w → HasRead a.annotations.unit source l after
+      → FiresBy a v most l w u → CarriesFirings a v most start begun after u
+  carries-fired begun w u {start} {source} {after} {l} carries read by first all items batch told same =
       let asks : Asks v most l w by.pid = record { says = by.says; left = by.left } in
-      let goes : Goes a all (fires v told (under_way batch w) items) l
+      let goes : Goes a first all (fires v told (under_way batch w) items) l
       (fires v told (record (under_way batch w) { firings = pids_of w.firings ++ by.pid ∷ []; state = u.state }) items) =
       stand.firing v told (under_way batch w) items l by.pid u.state (asks-says told same batch asks) by.fired.steps
       by.line
       in
-      let there = subst (λ (x : UnderWay). Goes a all (fires v told (under_way batch w) items) l (fires v told x items))
+      let there = subst (λ (x : UnderWay). Goes a first all (fires v told (under_way batch w) items) l (fires v told x items))
       (fired-under_way batch by.pid w u by.fired) goes in
-      carries-on a all (carries all items batch told same) (carries-line a all read there)
+      carries-on a first all (carries first all items batch told same) (carries-line a first all read there)
 
   -- a line that is no firing and no end stops
   pub stops-firing : IsAccepted a → (w : WorldState) {source after : Source} {l : JournalLine}
       → HasRead a.annotations.unit source l after → ((e : End) → l ≢ line.End e) → (e : ReplayError)
-      → FireStops a v most after.at l w e → (all items : List ScriptItem) (batch : Batch) (told : Told)
-      → next_limit told ≡ most → Stops a all source (fires v told (under_way batch w) items) e
-  stops-firing accepted w read no_end error.NoMemory stops all items batch told same = tt
-  stops-firing accepted w {source} {after} {l} read no_end (error.BadLine n) stops all items batch told same =
-      subst (λ (k : ℕ). Reads a all (source.at + 1) (fires v told (under_way batch w) items) source.lines (Err (error.BadLine k)))
+      → FireStops a v most after.at l w e → (first : LedgerState) (all items : List ScriptItem) (batch : Batch)
+      (told : Told) → next_limit told ≡ most → Stops a first all source (fires v told (under_way batch w) items) e
+  stops-firing accepted w read no_end error.NoMemory stops first all items batch told same = tt
+  stops-firing accepted w {source} {after} {l} read no_end (error.BadLine n) stops first all items batch told same =
+      subst (λ (k : ℕ). Reads a first all (source.at + 1) (fires v told (under_way batch w) items) source.lines
+      (Err (error.BadLine k)))
       (sym stops.0)
-      (stops-no_form a all accepted read tt (no-form l no_end stops.1))
+      (stops-no_form a first all accepted read tt (no-form l no_end stops.1))
     where
       no-form : (m : JournalLine) → ((e : End) → m ≢ line.End e) → ((pid : ℕ) → ¬ Asks v most m w pid)
           → ¬ MayStand (fires v told (under_way batch w) items) m
       no-form m never none (stand.firing v2 told2 run items2 m2 pid says) = none pid (says-asks told same batch says)
       no-form m never none (stand.batch_end v2 told2 run items2 kept) = never kept refl
-  stops-firing accepted w {source} {after} {l} read no_end (error.NotEnabled n pid) stops all items batch told same =
-      subst (λ (k : ℕ). Reads a all (source.at + 1) (fires v told (under_way batch w) items) source.lines
+  stops-firing accepted w {source} {after} {l} read no_end (error.NotEnabled n pid) stops first all items batch told same =
+      subst (λ (k : ℕ). Reads a first all (source.at + 1) (fires v told (under_way batch w) items) source.lines
       (Err (error.NotEnabled k pid))) (sym stops.0)
-      (stops-spoiled a all read
+      (stops-spoiled a first all read
       (spoiled.not_enabled v told (under_way batch w) items l pid (asks-says told same batch stops.1) stops.2))
-  stops-firing accepted w {source} {after} {l} read no_end (error.WrongFiring n pid) stops all items batch told same =
+  stops-firing accepted w {source} {after} {l} read no_end (error.WrongFiring n pid) stops first all items batch told
+      same =
       let (s, steps, differs) = stops.2 in
-      subst (λ (k : ℕ). Reads a all (source.at + 1) (fires v told (under_way batch w) items) source.lines
+      subst (λ (k : ℕ). Reads a first all (source.at + 1) (fires v told (under_way batch w) items) source.lines
       (Err (error.WrongFiring k pid))) (sym stops.0)
-      (stops-spoiled a all read
+      (stops-spoiled a first all read
       (spoiled.wrong_firing v told (under_way batch w) items l pid s (asks-says told same batch stops.1) steps differs))
-  stops-firing accepted w read no_end error.TooLong stops all items batch told same = absurd stops
-  stops-firing accepted w read no_end (error.WrongEnd n kept found) stops all items batch told same = absurd stops
+  stops-firing accepted w read no_end error.TooLong stops first all items batch told same = absurd stops
+  stops-firing accepted w read no_end (error.WrongEnd n kept found) stops first all items batch told same = absurd stops
 
   -- an end that is allowed leads on
   pub carries-end : (w : WorldState) {source after : Source} (e : End)
       → HasRead a.annotations.unit source (line.End e) after → IsAllowed a w.state (length w.firings) most e
-      → (all items : List ScriptItem) (batch : Batch) (told : Told) → next_limit told ≡ most
-      → Carries a all source (fires v told (under_way batch w) items) after
+      → (first : LedgerState) (all items : List ScriptItem) (batch : Batch) (told : Told) → next_limit told ≡ most
+      → Carries a first all source (fires v told (under_way batch w) items) after
       (before v (told_run a told (under_way batch w) e) items)
-  carries-end w {source} {after} e read allowed all items batch told same =
-      carries-line a all read
+  carries-end w {source} {after} e read allowed first all items batch told same =
+      carries-line a first all read
       (stand.batch_end v told (under_way batch w) items e
       (subst (λ (n : ℕ). IsAllowed a w.state n (next_limit told) e) (sym (count-same w))
       (subst (λ (n : ℕ). IsAllowed a w.state (length w.firings) n e) (sym same) allowed)))
@@ -151,10 +156,10 @@ module _ (a : Acceptance) (v : Version) (most : ℕ) where
   -- one that is not stops
   pub stops-end : (w : WorldState) {source after : Source} (kept : Kept)
       → HasRead a.annotations.unit source (line.End kept.end) after → kept.at ≡ after.at → (e : ReplayError)
-      → EndStops a w.state (length w.firings) most kept e → (all items : List ScriptItem) (batch : Batch) (told : Told)
-      → next_limit told ≡ most → Stops a all source (fires v told (under_way batch w) items) e
-  stops-end w kept read at error.NoMemory stops all items batch told same = tt
-  stops-end w {source} {after} kept read at (error.WrongEnd n e found) stops all items batch told same =
+      → EndStops a w.state (length w.firings) most kept e → (first : LedgerState) (all items : List ScriptItem)
+      (batch : Batch) (told : Told) → next_limit told ≡ most → Stops a first all source (fires v told (under_way batch w) items) e
+  stops-end w kept read at error.NoMemory stops first all items batch told same = tt
+  stops-end w {source} {after} kept read at (error.WrongEnd n e found) stops first all items batch told same =
       let count : ℕ → Type 0 = λ n. IsAllowed a w.state n (next_limit told) kept.end in
       let never : ¬ IsAllowed a w.state (length (pids_of w.firings)) (next_limit told) kept.end =
       λ allowed. stops.2
@@ -164,32 +169,34 @@ module _ (a : Acceptance) (v : Version) (most : ℕ) where
       let finds = subst (λ (m : ℕ). spoiled.Finds a w.state m (next_limit told) found) (sym (count-same w))
       (subst (λ (m : ℕ). spoiled.Finds a w.state (length w.firings) m found) (sym same) stops.3) in
       rw (stops.0, stops.1, at)
-      (stops-spoiled a all read (spoiled.not_allowed v told (under_way batch w) items kept.end found never finds))
-  stops-end w kept read at error.TooLong stops all items batch told same = absurd stops
-  stops-end w kept read at (error.BadLine n) stops all items batch told same = absurd stops
-  stops-end w kept read at (error.NotEnabled n pid) stops all items batch told same = absurd stops
-  stops-end w kept read at (error.WrongFiring n pid) stops all items batch told same = absurd stops
+      (stops-spoiled a first all read (spoiled.not_allowed v told (under_way batch w) items kept.end found never finds))
+  stops-end w kept read at error.TooLong stops first all items batch told same = absurd stops
+  stops-end w kept read at (error.BadLine n) stops first all items batch told same = absurd stops
+  stops-end w kept read at (error.NotEnabled n pid) stops first all items batch told same = absurd stops
+  stops-end w kept read at (error.WrongFiring n pid) stops first all items batch told same = absurd stops
 
   -- what is answered of an end is answered where the batch began
-  pub judged : (begun w : WorldState) {first source after : Source} (kept : Kept)
-      → CarriesFirings a v most first begun source w → HasRead a.annotations.unit source (line.End kept.end) after
+  pub judged : (begun w : WorldState) {start source after : Source} (kept : Kept)
+      → CarriesFirings a v most start begun source w → HasRead a.annotations.unit source (line.End kept.end) after
       → kept.at ≡ after.at → (r : Result End ReplayError)
       → MatchResult r (λ e. (e ≡ kept.end) × IsAllowed a w.state (length w.firings) most e)
       (EndStops a w.state (length w.firings) most kept)
-      → (all items : List ScriptItem) (batch : Batch) (told : Told) → next_limit told ≡ most
+      → (first : LedgerState) (all items : List ScriptItem) (batch : Batch) (told : Told) → next_limit told ≡ most
       → MatchResult r
-      (λ e. Carries a all first (fires v told (under_way batch begun) items) after
+      (λ e. Carries a first all start (fires v told (under_way batch begun) items) after
       (before v (told_run a told (under_way batch w) e) items))
-      (Stops a all first (fires v told (under_way batch begun) items))
-  judged begun w {source = source} {after = after} kept carries read at (Ok e) is all items batch told same =
+      (Stops a first all start (fires v told (under_way batch begun) items))
+  judged begun w {source = source} {after = after} kept carries read at (Ok e) is first all items batch told same =
       let here = subst (λ (x : End). HasRead a.annotations.unit source (line.End x) after) (sym is.0) read in
-      carries-on a all (carries all items batch told same) (carries-end w e here is.1 all items batch told same)
-  judged begun w kept carries read at (Err e) is all items batch told same =
-      stops-later a all (carries all items batch told same) e (stops-end w kept read at e is all items batch told same)
+      carries-on a first all (carries first all items batch told same)
+      (carries-end w e here is.1 first all items batch told same)
+  judged begun w kept carries read at (Err e) is first all items batch told same =
+      stops-later a first all (carries first all items batch told same) e
+      (stops-end w kept read at e is first all items batch told same)
 
 -- a world that ran on did so whatever is answered
-pub always-ok : (a : Acceptance) (most : ℕ) (first w : WorldState) (r : Result End ReplayError) → RanOn a most first w
-    → IfOk r (λ e. RanOn a most first w)
+pub always-ok : (a : Acceptance) (most : ℕ) (first w : WorldState) (r : Result End ReplayError) → RunsOn a most first w
+    → IfOk r (λ e. RunsOn a most first w)
 always-ok a most first w (Ok e) ran = ran
 always-ok a most first w (Err e) ran = tt
 

@@ -4,7 +4,6 @@ use Rattle.std.proofs.lemmas.Bool.{cases_lt}
 use Rattle.nomos_ledger.proofs.RestLemmas.{none-zero}
 use Rattle.nomos_types.specs.Acceptance.{Acceptance, IsAccepted}
 use Rattle.nomos_machine.specs.Deeds.{Deed}
-use Rattle.nomos_machine.specs.Deeds as deeds
 use Rattle.nomos_machine.specs.Optional.{◌>>=◌}
 use Rattle.nomos_machine.specs.Run.{IsNextReady}
 use Rattle.nomos_machine.specs.State.{State, process_at}

@@ -63,14 +63,14 @@ module _ (a : Acceptance) where
   nine = record { some = omega arith; few = omega arith }
 
   -- two lines are the journal of no items
-  no-items : Answers a [] (head_bytes ++ steps_bytes) (Ok (nothing_told 9))
+  no-items : Answers a [] (head_bytes ++ steps_bytes) (Ok (nothing_told empty_ledger 9))
   no-items =
-      answers.reads (Ok (nothing_told 9)) (omega arith)
+      answers.reads (Ok (nothing_told empty_ledger 9)) (omega arith)
       (answers.goes 1 stand.at_head (stand.at_steps version.Two) (head_bytes ++ steps_bytes) steps_bytes
-      (line.Head version.Two) (Ok (nothing_told 9)) (record { is = tt; joined = refl }) (stand.head version.Two)
-      (answers.goes 2 (stand.at_steps version.Two) (stand.before version.Two (nothing_told 9) []) steps_bytes []
-      (line.Steps 9) (Ok (nothing_told 9)) (record { is = omega arith; joined = steps-joined a.annotations.unit [] }) (stand.steps version.Two 9 nine)
-      (answers.ends 3 version.Two (nothing_told 9))))
+      (line.Head version.Two) (Ok (nothing_told empty_ledger 9)) (record { is = tt; joined = refl }) (stand.head version.Two)
+      (answers.goes 2 (stand.at_steps version.Two) (stand.before version.Two (nothing_told empty_ledger 9) []) steps_bytes []
+      (line.Steps 9) (Ok (nothing_told empty_ledger 9)) (record { is = omega arith; joined = steps-joined a.annotations.unit [] }) (stand.steps version.Two 9 nine)
+      (answers.ends 3 version.Two (nothing_told empty_ledger 9))))
 
   abbrev one_item : ScriptItem
   one_item = item.Deposit 1 (codes "u") 2
@@ -82,48 +82,48 @@ module _ (a : Acceptance) where
   deposits = record { made = λ fits. (refl, refl); refused = λ never. absurd (never (omega arith)) }
 
   abbrev owes_deposit : stand.Stand
-  owes_deposit = stand.owes version.Two (nothing_told 9) one_item 1 end.Deposited after_deposit []
+  owes_deposit = stand.owes version.Two (nothing_told empty_ledger 9) one_item 1 end.Deposited after_deposit []
 
   -- what is answered behind the third line is answered of the text
-  third-line : (rest : List ℕ) (answer : Result Told ReplayError) → answers.Reads a (one_item ∷ []) 4 owes_deposit rest answer
-      → answers.Reads a (one_item ∷ []) 1 stand.at_head (head_bytes ++ steps_bytes ++ line_bytes ++ rest) answer
+  third-line : (rest : List ℕ) (answer : Result Told ReplayError) → answers.Reads a empty_ledger (one_item ∷ []) 4 owes_deposit rest answer
+      → answers.Reads a empty_ledger (one_item ∷ []) 1 stand.at_head (head_bytes ++ steps_bytes ++ line_bytes ++ rest) answer
   third-line rest answer reads =
       answers.goes 1 stand.at_head (stand.at_steps version.Two) (head_bytes ++ steps_bytes ++ line_bytes ++ rest)
       (steps_bytes ++ line_bytes ++ rest) (line.Head version.Two) answer (record { is = tt; joined = refl })
       (stand.head version.Two)
-      (answers.goes 2 (stand.at_steps version.Two) (stand.before version.Two (nothing_told 9) (one_item ∷ []))
+      (answers.goes 2 (stand.at_steps version.Two) (stand.before version.Two (nothing_told empty_ledger 9) (one_item ∷ []))
       (steps_bytes ++ line_bytes ++ rest) (line_bytes ++ rest) (line.Steps 9) answer
       (record { is = omega arith; joined = steps-joined a.annotations.unit (line_bytes ++ rest) }) (stand.steps version.Two 9 nine)
-      (answers.goes 3 (stand.before version.Two (nothing_told 9) (one_item ∷ [])) owes_deposit (line_bytes ++ rest) rest
+      (answers.goes 3 (stand.before version.Two (nothing_told empty_ledger 9) (one_item ∷ [])) owes_deposit (line_bytes ++ rest) rest
       (line.Line 1) answer (record { is = omega arith; joined = line-joined a.annotations.unit rest })
-      (stand.item_line version.Two (nothing_told 9) one_item [] 1 owes_deposit refl
+      (stand.item_line version.Two (nothing_told empty_ledger 9) one_item [] 1 owes_deposit refl
       (stand.deposit 1 (codes "u") 2 end.Deposited after_deposit deposits))
       reads))
 
   -- a deposit ends as deposited
-  one-deposit : answers.Reads a (one_item ∷ []) 1 stand.at_head
+  one-deposit : answers.Reads a empty_ledger (one_item ∷ []) 1 stand.at_head
       (head_bytes ++ steps_bytes ++ line_bytes ++ (codes "end deposited" ++ 10 ∷ []))
-      (Ok (told_with (nothing_told 9) (still one_item (bare 1 end.Deposited) empty_ledger after_deposit)))
+      (Ok (told_with (nothing_told empty_ledger 9) (still one_item (bare 1 end.Deposited) empty_ledger after_deposit)))
   one-deposit =
       third-line (codes "end deposited" ++ 10 ∷ [])
-      (Ok (told_with (nothing_told 9) (still one_item (bare 1 end.Deposited) empty_ledger after_deposit)))
+      (Ok (told_with (nothing_told empty_ledger 9) (still one_item (bare 1 end.Deposited) empty_ledger after_deposit)))
       (answers.goes 4 owes_deposit
       (stand.before version.Two
-      (told_with (nothing_told 9) (still one_item (bare 1 end.Deposited) empty_ledger after_deposit)) [])
+      (told_with (nothing_told empty_ledger 9) (still one_item (bare 1 end.Deposited) empty_ledger after_deposit)) [])
       (codes "end deposited" ++ 10 ∷ []) [] (line.End end.Deposited) _ (record { is = tt; joined = refl })
-      (stand.own_end version.Two (nothing_told 9) one_item 1 end.Deposited after_deposit [] end.Deposited refl)
+      (stand.own_end version.Two (nothing_told empty_ledger 9) one_item 1 end.Deposited after_deposit [] end.Deposited refl)
       (answers.ends 5 version.Two
-      (told_with (nothing_told 9) (still one_item (bare 1 end.Deposited) empty_ledger after_deposit))))
+      (told_with (nothing_told empty_ledger 9) (still one_item (bare 1 end.Deposited) empty_ledger after_deposit))))
 
   -- and not as committed
-  wrong-end : answers.Reads a (one_item ∷ []) 1 stand.at_head
+  wrong-end : answers.Reads a empty_ledger (one_item ∷ []) 1 stand.at_head
       (head_bytes ++ steps_bytes ++ line_bytes ++ (codes "end committed" ++ 10 ∷ []))
       (Err (error.WrongEnd 4 end.Committed (Some end.Deposited)))
   wrong-end =
       third-line (codes "end committed" ++ 10 ∷ []) (Err (error.WrongEnd 4 end.Committed (Some end.Deposited)))
       (answers.spoils 4 owes_deposit (codes "end committed" ++ 10 ∷ []) [] (line.End end.Committed)
       (error.WrongEnd 4 end.Committed (Some end.Deposited)) (record { is = tt; joined = refl })
-      (spoiled.not_own_end version.Two (nothing_told 9) one_item 1 end.Deposited after_deposit [] end.Committed
+      (spoiled.not_own_end version.Two (nothing_told empty_ledger 9) one_item 1 end.Deposited after_deposit [] end.Committed
       (λ same. cc)))
 
   -- a batch without lines under way, after these firings
@@ -131,18 +131,18 @@ module _ (a : Acceptance) where
   way_after pids = record { batch = record { line = 1; starts = [] }; starts = []; firings = pids; state = empty }
 
   -- a process that is not there has no step
-  nobody-fires : spoiled.Spoils a 4 (stand.fires version.Two (nothing_told 9) (way_after []) [])
+  nobody-fires : spoiled.Spoils a 4 (stand.fires version.Two (nothing_told empty_ledger 9) (way_after []) [])
       (line.Fired 1 form.Close) (error.NotEnabled 4 1)
   nobody-fires =
-      spoiled.not_enabled version.Two (nothing_told 9) (way_after []) [] (line.Fired 1 form.Close) 1
+      spoiled.not_enabled version.Two (nothing_told empty_ledger 9) (way_after []) [] (line.Fired 1 form.Close) 1
       (record { process = refl; left = omega arith }) refl
 
   -- under version 2 the number of a process alone is no firing
-  number-alone : stand.MayStand (stand.fires version.Two (nothing_told 9) (way_after []) []) (line.Pid 1) → ⊥
+  number-alone : stand.MayStand (stand.fires version.Two (nothing_told empty_ledger 9) (way_after []) []) (line.Pid 1) → ⊥
   number-alone (stand.firing v told run items l pid says) = none-some pid says.process
 
   -- and nothing fires past the limit
   past-limit : stand.MayStand
-      (stand.fires version.Two (nothing_told 2) (way_after (1 ∷ 1 ∷ [])) []) (line.Fired 1 form.Close)
+      (stand.fires version.Two (nothing_told empty_ledger 2) (way_after (1 ∷ 1 ∷ [])) []) (line.Fired 1 form.Close)
       → ⊥
   past-limit (stand.firing v told run items l pid says) = omega (arith, says.left)

@@ -37,7 +37,7 @@ use Rattle.nomos_legal.specs.Batch.{AllStart, OneRefuses, after_starts, state_or
 use Rattle.nomos_legal.specs.Batch as batch
 use Rattle.nomos_legal.specs.Ending.{IsAllowed}
 use Rattle.nomos_legal.specs.Ledger.{LedgerState}
-use Rattle.nomos_legal.specs.Legal.{Leads, Tells}
+use Rattle.nomos_legal.specs.Legal.{Leads, Tells, TellsFrom}
 use Rattle.nomos_legal.specs.Legal as legal
 use Rattle.nomos_legal.specs.NextNumbers.{HasNumbered, PassageNumbers}
 use Rattle.nomos_legal.specs.Passage.{IsPassage, Passage, RunsTo}
@@ -50,7 +50,7 @@ use Rattle.nomos_legal.specs.declared.journal.Journal.{Journal}
 use Rattle.nomos_legal.specs.declared.refusal.Refusal.{Refusal}
 use Rattle.nomos_legal.specs.declared.refusal.Refusal.TheVariants as refusal
 use Rattle.nomos_legal.specs.declared.resolved.Resolved.{Resolved}
-use Rattle.nomos_legal.proofs.NextNumberLaws.{script-numbers}
+use Rattle.nomos_legal.proofs.NextNumberLaws.{given-few, legal-numbers-from}
 use Rattle.nomos_legal.proofs.RightLaws.{Standing, batch-started, empty-standing, passage-standing}
 use Rattle.nomos_texts.specs.Cause.{IsCause}
 use Rattle.nomos_texts.specs.End.{IsEnd}
@@ -295,14 +295,24 @@ module _ {a : Acceptance} (accepted : IsAccepted a) where
       (leads-form v rest few small (passage-standing accepted is standing) (All-tail (PassageNumbers a n) p ps numbers)
       (All-tail IsWritten p.item (map item_of ps) written))
 
-  -- Each line of the text of a legal journal is a line, where the items are as a script has them.
+  -- Each line of the text of a legal journal is a line, where the items are as a script has them, from any ledger that
+  -- is not too far on.
+  pub journal-form-from : {first : LedgerState} → Standing a first → HasNumbered (2 ^ 31) first.state
+      → {items : List ScriptItem} {journal : Journal} {ps : List Passage} {last : LedgerState} (v : Version)
+      → IsScriptSize items → AreWritten items → TellsFrom a first items journal ps last
+      → All IsLine (journal_lines v a journal.limit ps)
+  journal-form-from standing numbers {items} {journal} {ps} v size written tells =
+      let rest : List JournalLine = flat_map (passage_lines v a) ps in
+      let items_written = subst (All IsWritten) (sym tells.items_are) written in
+      let few = given-few accepted tells size in
+      All-cons IsLine (line.Head v) (line.Steps journal.limit ∷ rest) tt
+      (All-cons IsLine (line.Steps journal.limit) rest (omega (arith, tells.limit.few))
+      (leads-form v tells.leads (omega (arith, few)) (omega (arith, tells.limit.few)) standing
+      (legal-numbers-from accepted tells (2 ^ 31) standing numbers) items_written))
+
+  -- so it is from the empty one
   pub journal-form : {items : List ScriptItem} {journal : Journal} {ps : List Passage} {last : LedgerState} (v : Version)
       → IsScriptSize items → AreWritten items → Tells a items journal ps last
       → All IsLine (journal_lines v a journal.limit ps)
-  journal-form {items} {journal} {ps} v size written tells =
-      let rest : List JournalLine = flat_map (passage_lines v a) ps in
-      let items_written = subst (All IsWritten) (sym tells.items_are) written in
-      All-cons IsLine (line.Head v) (line.Steps journal.limit ∷ rest) tt
-      (All-cons IsLine (line.Steps journal.limit) rest (omega (arith, tells.limit.few))
-      (leads-form v tells.leads (omega arith) (omega (arith, tells.limit.few)) (empty-standing a)
-      (script-numbers accepted tells size) items_written))
+  journal-form v size written tells =
+      journal-form-from (empty-standing a) (record { objects = omega arith; names = omega arith }) v size written tells

@@ -13,14 +13,14 @@ use Rattle.nomos_script.specs.declared.item.ScriptItem.{ScriptItem}
 use Rattle.nomos_script.specs.declared.item.ScriptItem.TheVariants as item
 use Rattle.nomos_legal.specs.Batch.{AllStart, after_starts, state_or}
 use Rattle.nomos_legal.specs.Ledger.{LedgerState}
-use Rattle.nomos_legal.specs.Legal.{IsLimit, Tells, entries_of}
+use Rattle.nomos_legal.specs.Legal.{IsLimit, TellsFrom, entries_of}
 use Rattle.nomos_legal.specs.Passage.{IsPassage, Passage, RunsTo, Undoes, bare, still}
 use Rattle.nomos_legal.specs.Passage as passage
 use Rattle.nomos_legal.specs.declared.journal.End.{End}
 use Rattle.nomos_legal.specs.declared.journal.End.TheVariants as end
 use Rattle.nomos_legal.specs.declared.journal.Entry.{Entry}
 use Rattle.nomos_legal.specs.declared.journal.Journal.{Journal}
-use Rattle.nomos_legal.proofs.LegalLaws.{deposit-passage, entries_of-append, journal_with, tells-more, tells-none}
+use Rattle.nomos_legal.proofs.LegalLaws.{deposit-passage, entries_of-append, journal_with, tells-more, tells-none-from}
 use Rattle.nomos_journal.specs.JournalText.{firing_line, firing_lines, journal_lines, passage_lines}
 use Rattle.nomos_journal.specs.Line.{line_text}
 use Rattle.nomos_journal.specs.Text.{lines_text}
@@ -28,11 +28,11 @@ use Rattle.nomos_journal.specs.declared.line.JournalLine.{JournalLine}
 use Rattle.nomos_journal.specs.declared.line.JournalLine.TheVariants as line
 use Rattle.nomos_journal.specs.declared.line.Version.{Version}
 use Rattle.nomos_journal.proofs.LineLaws.{first_line}
-use Rattle.nomos_replay.specs.Answers.{Answers, Reads, told_show}
+use Rattle.nomos_replay.specs.Answers.{AnswersFrom, Reads, told_show}
 use Rattle.nomos_replay.specs.Answers as answers
 use Rattle.nomos_replay.specs.Stand.{Goes, Opens, Stand, UnderWay, entry_at, ledger_after, told_run}
 use Rattle.nomos_replay.specs.Stand as stand
-use Rattle.nomos_replay.specs.Told.{Told, journal_of, next_limit, nothing_told, told_with}
+use Rattle.nomos_replay.specs.Told.{Told, journal_told, next_limit, nothing_told, told_with}
 
 -- ---- lines of firings
 
@@ -64,21 +64,22 @@ firing_lines-push v a s t (p ∷ pids) pid l reached is =
 -- ---- what was told
 
 -- the passages are what became of the first items, and the others follow
-record ToldSo (a : Acceptance) (all : List ScriptItem) (told : Told) (items : List ScriptItem) : Type 0 where
+record ToldSo (a : Acceptance) (first : LedgerState) (all : List ScriptItem) (told : Told) (items : List ScriptItem)
+    : Type 0 where
   done : List ScriptItem
-  tells : Tells a done (journal_of told) told.passages told.ledger
+  tells : TellsFrom a first done (journal_told told) told.passages told.ledger
   parts : done ++ items ≡ all
 
 -- one passage more
-module _ (a : Acceptance) (all : List ScriptItem) where
-  so-none : (limit : ℕ) → IsLimit limit → ToldSo a all (nothing_told limit) all
-  so-none limit is = record { done = []; tells = tells-none a limit is; parts = refl }
+module _ (a : Acceptance) (first : LedgerState) (all : List ScriptItem) where
+  so-none : (limit : ℕ) → IsLimit limit → ToldSo a first all (nothing_told first limit) all
+  so-none limit is = record { done = []; tells = tells-none-from a first limit is; parts = refl }
 
-  so-more : (told : Told) (p : Passage) (items : List ScriptItem) → ToldSo a all told (p.item ∷ items)
-      → p.before ≡ told.ledger → IsPassage a (next_limit told) p → ToldSo a all (told_with told p) items
+  so-more : (told : Told) (p : Passage) (items : List ScriptItem) → ToldSo a first all told (p.item ∷ items)
+      → p.before ≡ told.ledger → IsPassage a (next_limit told) p → ToldSo a first all (told_with told p) items
   so-more told p items so before is =
       let tells = tells-more so.tells p before is in
-      let same : journal_with (journal_of told) p.entry ≡ journal_of (told_with told p) =
+      let same : journal_with (journal_told told) p.entry ≡ journal_told (told_with told p) =
       (λ i. record {
         limit = told.limit;
         entries =
@@ -88,7 +89,7 @@ module _ (a : Acceptance) (all : List ScriptItem) where
       in
       record {
         done = so.done ++ p.item ∷ [];
-        tells = subst (λ (j : Journal). Tells a (so.done ++ p.item ∷ []) j (told.passages ++ p ∷ []) p.after) same tells;
+        tells = subst (λ (j : Journal). TellsFrom a first (so.done ++ p.item ∷ []) j (told.passages ++ p ∷ []) p.after) same tells;
         parts = append_assoc so.done (p.item ∷ []) items ∙ so.parts;
       }
 
@@ -100,22 +101,22 @@ opened_lines v a told run =
     line.Line run.batch.line ∷ firing_lines v a (after_starts a told.ledger run.starts).state run.firings
 
 -- These lines lead there, and all is as it was told.
-data Led (a : Acceptance) (all : List ScriptItem) : List JournalLine → Stand → Type 0 where
-  at_head : Led a all [] stand.at_head
-  at_steps : (v : Version) → Led a all (line.Head v ∷ []) (stand.at_steps v)
-  before : (v : Version) (told : Told) (items : List ScriptItem) (lines : List JournalLine) → ToldSo a all told items
-      → lines ≡ journal_lines v a told.limit told.passages → Led a all lines (stand.before v told items)
+data Led (a : Acceptance) (first : LedgerState) (all : List ScriptItem) : List JournalLine → Stand → Type 0 where
+  at_head : Led a first all [] stand.at_head
+  at_steps : (v : Version) → Led a first all (line.Head v ∷ []) (stand.at_steps v)
+  before : (v : Version) (told : Told) (items : List ScriptItem) (lines : List JournalLine) → ToldSo a first all told items
+      → lines ≡ journal_lines v a told.limit told.passages → Led a first all lines (stand.before v told items)
   owes : (v : Version) (told : Told) (i : ScriptItem) (at : ℕ) (own : End) (after : LedgerState) (items : List ScriptItem)
-      (lines : List JournalLine) → ToldSo a all told (i ∷ items)
+      (lines : List JournalLine) → ToldSo a first all told (i ∷ items)
       → IsPassage a (next_limit told) (still i (bare at own) told.ledger after)
       → lines ≡ journal_lines v a told.limit told.passages ++ line.Line at ∷ []
-      → Led a all lines (stand.owes v told i at own after items)
+      → Led a first all lines (stand.owes v told i at own after items)
   fires : (v : Version) (told : Told) (way : UnderWay) (items : List ScriptItem) (lines : List JournalLine)
-      → ToldSo a all told (item.Batch way.batch ∷ items) → AllStart a told.ledger way.batch.starts way.starts
+      → ToldSo a first all told (item.Batch way.batch ∷ items) → AllStart a told.ledger way.batch.starts way.starts
       → run a (after_starts a told.ledger way.starts).state way.firings ≡ Some way.state
       → length way.firings ≤ next_limit told
       → lines ≡ journal_lines v a told.limit told.passages ++ opened_lines v a told way
-      → Led a all lines (stand.fires v told way items)
+      → Led a first all lines (stand.fires v told way items)
 
 -- the lines of one passage more
 lines-more : (v : Version) (a : Acceptance) (told : Told) (p : Passage) (lines own : List JournalLine)
@@ -144,12 +145,12 @@ run-passage told run end.Deposited begun reaches =
 run-passage told run (end.Refused n cause) begun reaches =
     passage.undone told.ledger run.batch run.starts run.firings run.state (end.Refused n cause) begun reaches tt
 
-module _ {a : Acceptance} {all : List ScriptItem} where
+module _ {a : Acceptance} {first : LedgerState} {all : List ScriptItem} where
   -- what stands behind the `line` of an item
   led-opened : {v : Version} {told : Told} {items : List ScriptItem} {i : ScriptItem} {next : Stand} {at : ℕ}
       (lines : List JournalLine)
-      → Opens a v told items i next → entry_at i ≡ Some at → ToldSo a all told (i ∷ items)
-      → lines ≡ journal_lines v a told.limit told.passages → Led a all (lines ++ line.Line at ∷ []) next
+      → Opens a v told items i next → entry_at i ≡ Some at → ToldSo a first all told (i ∷ items)
+      → lines ≡ journal_lines v a told.limit told.passages → Led a first all (lines ++ line.Line at ∷ []) next
   led-opened {v} {told} {items} {at = at} lines (stand.deposit n name units own after deposits) is so are =
       let same : at ≡ n = same_Some at n (sym is) in
       owes v told (item.Deposit n name units) n own after items (lines ++ line.Line at ∷ []) so (deposit-passage deposits)
@@ -170,11 +171,11 @@ module _ {a : Acceptance} {all : List ScriptItem} where
       items (lines ++ line.Line at ∷ []) so begun refl (omega arith) (λ i. are i ++ line.Line (same i) ∷ [])
 
   -- a line that is right leads on
-  led-goes : {s t : Stand} {l : JournalLine} {lines : List JournalLine} → Led a all lines s → Goes a all s l t
-      → Led a all (lines ++ l ∷ []) t
+  led-goes : {s t : Stand} {l : JournalLine} {lines : List JournalLine} → Led a first all lines s → Goes a first all s l t
+      → Led a first all (lines ++ l ∷ []) t
   led-goes at_head (stand.head v) = at_steps v
   led-goes (at_steps v) (stand.steps w limit is) =
-      before v (nothing_told limit) all (line.Head v ∷ line.Steps limit ∷ []) (so-none a all limit is) refl
+      before v (nothing_told first limit) all (line.Head v ∷ line.Steps limit ∷ []) (so-none a first all limit is) refl
   led-goes (before v told items lines so are) (stand.item_line w told2 i others at next is opens) =
       led-opened lines opens is so are
   led-goes (owes v told i at own after items lines so is are) (stand.own_end w told2 i2 at2 own2 after2 items2 kept same) =
@@ -182,7 +183,7 @@ module _ {a : Acceptance} {all : List ScriptItem} where
       let more = append_assoc (journal_lines v a told.limit told.passages) (line.Line at ∷ []) (line.End own ∷ []) in
       let kept_same : lines ++ line.End kept ∷ [] ≡ lines ++ line.End own ∷ [] =
       ap (λ (e : End). lines ++ line.End e ∷ []) same in
-      before v (told_with told p) items (lines ++ line.End kept ∷ []) (so-more a all told p items so refl is)
+      before v (told_with told p) items (lines ++ line.End kept ∷ []) (so-more a first all told p items so refl is)
       (lines-more v a told p (lines ++ line.End kept ∷ []) (line.Line at ∷ line.End own ∷ [])
       (kept_same ∙ ap (λ (ls : List JournalLine). ls ++ line.End own ∷ []) are ∙ more) refl)
   led-goes (fires v told run items lines so begun reached within are)
@@ -205,30 +206,30 @@ module _ {a : Acceptance} {all : List ScriptItem} where
       let own : List JournalLine =
       line.Line run.batch.line ∷ (firing_lines v a start.state run.firings ++ line.End kept ∷ []) in
       let more = append_assoc (journal_lines v a told.limit told.passages) (opened_lines v a told run) (line.End kept ∷ []) in
-      before v (told_with told p) items (lines ++ line.End kept ∷ []) (so-more a all told p items so refl is)
+      before v (told_with told p) items (lines ++ line.End kept ∷ []) (so-more a first all told p items so refl is)
       (lines-more v a told p (lines ++ line.End kept ∷ []) own
       (ap (λ (ls : List JournalLine). ls ++ line.End kept ∷ []) are ∙ more) (append-nil own))
 
   -- so does a `show`
   led-show : (v : Version) (told : Told) (n : ℕ) (items : List ScriptItem) (lines : List JournalLine)
-      → Led a all lines (stand.before v told (item.Show n ∷ items)) → Led a all lines (stand.before v (told_show told n) items)
+      → Led a first all lines (stand.before v told (item.Show n ∷ items)) → Led a first all lines (stand.before v (told_show told n) items)
   led-show v told n items lines (before w told2 items2 lines2 so are) =
       let p : Passage = still (item.Show n) None told.ledger told.ledger in
-      before v (told_with told p) items lines (so-more a all told p items so refl (passage.shown told.ledger n))
+      before v (told_with told p) items lines (so-more a first all told p items so refl (passage.shown told.ledger n))
       (lines-more v a told p lines [] (are ∙ sym (append-nil (journal_lines v a told.limit told.passages))) refl)
 
 -- The lines that are read up to the end of the text are those of what is told.
-record ReadTo (a : Acceptance) (all : List ScriptItem) (told : Told) (lines : List JournalLine) (text : List ℕ) : Type 0
-  where
-    version : Version
-    so : ToldSo a all told []
-    rest : List JournalLine
-    text_is : text ≡ lines_text a.annotations.unit rest
-    lines_are : lines ++ rest ≡ journal_lines version a told.limit told.passages
+record ReadTo (a : Acceptance) (first : LedgerState) (all : List ScriptItem) (told : Told) (lines : List JournalLine)
+    (text : List ℕ) : Type 0 where
+  version : Version
+  so : ToldSo a first all told []
+  rest : List JournalLine
+  text_is : text ≡ lines_text a.annotations.unit rest
+  lines_are : lines ++ rest ≡ journal_lines version a told.limit told.passages
 
-module _ (a : Acceptance) (all : List ScriptItem) where
-  read-to : {at : ℕ} {s : Stand} {text : List ℕ} {told : Told} (lines : List JournalLine) → Led a all lines s
-      → Reads a all at s text (Ok told) → ReadTo a all told lines text
+module _ (a : Acceptance) (first : LedgerState) (all : List ScriptItem) where
+  read-to : {at : ℕ} {s : Stand} {text : List ℕ} {told : Told} (lines : List JournalLine) → Led a first all lines s
+      → Reads a first all at s text (Ok told) → ReadTo a first all told lines text
   read-to lines (before w told2 items lines2 so are) (answers.ends at v told) = record {
     version = v;
     so = so;
@@ -252,19 +253,20 @@ module _ (a : Acceptance) (all : List ScriptItem) where
       }
 
 -- Where a text is read to its end, it is that of the legal journal that it tells.
-pub record IsToldBy (a : Acceptance) (items : List ScriptItem) (text : List ℕ) (told : Told) : Type 0 where
+pub record IsToldBy (a : Acceptance) (first : LedgerState) (items : List ScriptItem) (text : List ℕ) (told : Told)
+    : Type 0 where
   pub version : Version
-  pub tells : Tells a items (journal_of told) told.passages told.ledger
+  pub tells : TellsFrom a first items (journal_told told) told.passages told.ledger
   pub lines : text ≡ lines_text a.annotations.unit (journal_lines version a told.limit told.passages)
 
-pub answer-legal : {a : Acceptance} {items : List ScriptItem} {text : List ℕ} {told : Told}
-    → Answers a items text (Ok told) → IsToldBy a items text told
-answer-legal {a} {items} {text} {told} (answers.reads answer within reads) =
-    let read = read-to a items [] at_head reads in
+pub answer-legal : {a : Acceptance} {first : LedgerState} {items : List ScriptItem} {text : List ℕ} {told : Told}
+    → AnswersFrom a first items text (Ok told) → IsToldBy a first items text told
+answer-legal {a} {first} {items} {text} {told} (answers.reads answer within reads) =
+    let read = read-to a first items [] at_head reads in
     record {
       version = read.version;
       tells =
-          subst (λ (is : List ScriptItem). Tells a is (journal_of told) told.passages told.ledger)
+          subst (λ (is : List ScriptItem). TellsFrom a first is (journal_told told) told.passages told.ledger)
           (sym (append-nil read.so.done) ∙ read.so.parts) read.so.tells;
       lines = read.text_is ∙ ap (lines_text a.annotations.unit) read.lines_are;
     }

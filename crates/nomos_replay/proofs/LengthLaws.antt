@@ -21,7 +21,7 @@ use Rattle.nomos_script.specs.declared.item.ScriptItem.TheVariants as item
 use Rattle.nomos_legal.specs.Batch.{after_starts, state_or}
 use Rattle.nomos_legal.specs.Ending.{IsAllowed}
 use Rattle.nomos_legal.specs.Ledger.{LedgerState}
-use Rattle.nomos_legal.specs.Legal.{Leads, Tells, entries_of, firings_in, firings_made}
+use Rattle.nomos_legal.specs.Legal.{Leads, TellsFrom, entries_of, firings_in, firings_made}
 use Rattle.nomos_legal.specs.Legal as legal
 use Rattle.nomos_legal.specs.Passage.{IsPassage, Passage}
 use Rattle.nomos_legal.specs.Passage as passage
@@ -207,11 +207,11 @@ module _ {a : Acceptance} (accepted : IsAccepted a) (v : Version) where
       )
 
   -- The text of a legal journal is short enough to be read, where the items are as a script has them.
-  pub journal-within : {items : List ScriptItem} {journal : Journal} {ps : List Passage} {last : LedgerState}
-      → IsScriptSize items → AreWritten items → Tells a items journal ps last
+  pub journal-within : {first : LedgerState} {items : List ScriptItem} {journal : Journal} {ps : List Passage}
+      {last : LedgerState} → IsScriptSize items → AreWritten items → TellsFrom a first items journal ps last
       → All IsLine (journal_lines v a journal.limit ps)
       → length (lines_text a.annotations.unit (journal_lines v a journal.limit ps)) ≤ max_bytes
-  journal-within {items} {journal} {ps} size written tells are =
+  journal-within {first} {items} {journal} {ps} size written tells are =
       let unit : ℕ = a.annotations.unit in
       let rest : List JournalLine = flat_map (passage_lines v a) ps in
       let items_written = subst (All IsWritten) (sym tells.items_are) written in

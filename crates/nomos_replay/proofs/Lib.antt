@@ -3,12 +3,10 @@ mod EndLemmas
 mod Examples
 mod FiringLemmas
 mod FormLemmas
-mod ItemLemmas
 mod LineLemmas
 mod OnwardLemmas
 mod ReadingLemmas
 mod RefusalLemmas
-mod ScriptLemmas
 mod WalkLemmas
 pub mod FormLaws
 pub mod LegalTextLaws

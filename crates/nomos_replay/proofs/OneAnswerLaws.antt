@@ -19,7 +19,7 @@ use Rattle.nomos_journal.specs.JournalText.{firing_line}
 use Rattle.nomos_journal.specs.declared.line.JournalLine.{JournalLine}
 use Rattle.nomos_journal.specs.declared.line.JournalLine.TheVariants as line
 use Rattle.nomos_journal.specs.declared.line.Version.{Version}
-use Rattle.nomos_replay.specs.Answers.{Answers, BeginsWith, HasNoForm, Reads, WantsLine, max_bytes}
+use Rattle.nomos_replay.specs.Answers.{AnswersFrom, BeginsWith, HasNoForm, Reads, WantsLine, max_bytes}
 use Rattle.nomos_replay.specs.Answers as answers
 use Rattle.nomos_replay.specs.Spoiled.{Finds, Spoils}
 use Rattle.nomos_replay.specs.Spoiled as spoiled
@@ -81,9 +81,9 @@ says-one {pid = pid} {other = other} one two = same_Some pid other (sym one.proc
 says-no_end : {v : Version} {told : Told} {run : UnderWay} {e : End} {pid : ℕ} → SaysFiring v told run (line.End e) pid → ⊥
 says-no_end {v} {e = e} {pid = pid} says = end-fires_none v e pid says.process
 
-module _ {a : Acceptance} {all : List ScriptItem} where
+module _ {a : Acceptance} {first : LedgerState} {all : List ScriptItem} where
   -- a line that is right leads on to one place
-  goes-one : {s t u : Stand} {l : JournalLine} → Goes a all s l t → Goes a all s l u → t ≡ u
+  goes-one : {s t u : Stand} {l : JournalLine} → Goes a first all s l t → Goes a first all s l u → t ≡ u
   goes-one (stand.head v) (stand.head w) = refl
   goes-one (stand.steps v limit is) (stand.steps w limit2 is_other) = refl
   goes-one (stand.item_line v told i items at next is opens)
@@ -102,7 +102,7 @@ module _ {a : Acceptance} {all : List ScriptItem} where
   goes-one (stand.batch_end v told run items kept allowed) (stand.batch_end w told2 run2 items2 kept2 allowed_other) = refl
 
   -- and has a form
-  pub goes-form : {s t : Stand} {l : JournalLine} → Goes a all s l t → MayStand s l
+  pub goes-form : {s t : Stand} {l : JournalLine} → Goes a first all s l t → MayStand s l
   goes-form (stand.head v) = stand.head v
   goes-form (stand.steps v limit is) = stand.steps v limit is
   goes-form (stand.item_line v told i items at next is opens) = stand.item_line v told i items at is
@@ -199,8 +199,8 @@ spoils-one {at = at} (spoiled.not_allowed v told run items kept found not_so fin
     ap (λ (e : Option End). error.WrongEnd at kept e) (finds-one finds finds_other)
 
 -- a line that is right spoils nothing
-goes-or_spoils : {a : Acceptance} {all : List ScriptItem} {at : ℕ} {s t : Stand} {l : JournalLine} {e : ReplayError}
-    → Goes a all s l t → Spoils a at s l e → ⊥
+goes-or_spoils : {a : Acceptance} {first : LedgerState} {all : List ScriptItem} {at : ℕ} {s t : Stand} {l : JournalLine} {e : ReplayError}
+    → Goes a first all s l t → Spoils a at s l e → ⊥
 goes-or_spoils (stand.head v) spoils = elim spoils [ ]
 goes-or_spoils (stand.steps v limit is) spoils = elim spoils [ ]
 goes-or_spoils (stand.item_line v told i items at next is opens) spoils = elim spoils [ ]
@@ -224,13 +224,13 @@ goes-or_spoils (stand.batch_end v told run items kept allowed)
 -- ---- texts
 
 -- no line is right at a `show`
-show-none : {a : Acceptance} {all : List ScriptItem} {v : Version} {told : Told} {n : ℕ} {items : List ScriptItem}
-    {l : JournalLine} {next : Stand} → Goes a all (stand.before v told (item.Show n ∷ items)) l next → ⊥
+show-none : {a : Acceptance} {first : LedgerState} {all : List ScriptItem} {v : Version} {told : Told} {n : ℕ} {items : List ScriptItem}
+    {l : JournalLine} {next : Stand} → Goes a first all (stand.before v told (item.Show n ∷ items)) l next → ⊥
 show-none (stand.item_line v told i items at next is opens) = none-some at is
 
-module _ {a : Acceptance} (small : a.annotations.unit < 2 ^ 32) {all : List ScriptItem} where
-  reads-one : {at : ℕ} {s : Stand} {text : List ℕ} {x y : Result Told ReplayError} → Reads a all at s text x
-      → Reads a all at s text y → x ≡ y
+module _ {a : Acceptance} (small : a.annotations.unit < 2 ^ 32) {first : LedgerState} {all : List ScriptItem} where
+  reads-one : {at : ℕ} {s : Stand} {text : List ℕ} {x y : Result Told ReplayError} → Reads a first all at s text x
+      → Reads a first all at s text y → x ≡ y
   reads-one (answers.ends at v told) (answers.ends at2 w told2) = refl
   reads-one (answers.ends at v told) (answers.goes at2 s next text left l answer begins goes rest) =
       absurd (some-line a.annotations.unit [] l left begins refl)
@@ -251,10 +251,10 @@ module _ {a : Acceptance} (small : a.annotations.unit < 2 ^ 32) {all : List Scri
   reads-one (answers.goes at s next text left l answer begins goes rest)
       (answers.goes at2 s2 next2 text2 left2 m other begins_other goes_other rest_other) =
       let (same, back) = one-line a.annotations.unit small text m l left2 left begins_other begins in
-      let place : next2 ≡ next = goes-one (subst (λ (x : JournalLine). Goes a all s x next2) same goes_other) goes in
+      let place : next2 ≡ next = goes-one (subst (λ (x : JournalLine). Goes a first all s x next2) same goes_other) goes in
       reads-one rest
-      (subst (λ (t : List ℕ). Reads a all (at + 1) next t other) back
-      (subst (λ (x : Stand). Reads a all (at + 1) x left2 other) place rest_other))
+      (subst (λ (t : List ℕ). Reads a first all (at + 1) next t other) back
+      (subst (λ (x : Stand). Reads a first all (at + 1) x left2 other) place rest_other))
   reads-one (answers.goes at s next text left l answer begins goes rest)
       (answers.spoils at2 s2 text2 left2 m cause begins_other spoils) =
       let (same, back) = one-line a.annotations.unit small text m l left2 left begins_other begins in
@@ -268,7 +268,7 @@ module _ {a : Acceptance} (small : a.annotations.unit < 2 ^ 32) {all : List Scri
   reads-one (answers.spoils at s text left l cause begins spoils)
       (answers.goes at2 s2 next2 text2 left2 m other begins_other goes_other rest_other) =
       let (same, back) = one-line a.annotations.unit small text m l left2 left begins_other begins in
-      absurd (goes-or_spoils (subst (λ (x : JournalLine). Goes a all s x next2) same goes_other) spoils)
+      absurd (goes-or_spoils (subst (λ (x : JournalLine). Goes a first all s x next2) same goes_other) spoils)
   reads-one (answers.spoils at s text left l cause begins spoils)
       (answers.spoils at2 s2 text2 left2 m cause2 begins_other spoils_other) =
       let (same, back) = one-line a.annotations.unit small text m l left2 left begins_other begins in
@@ -285,8 +285,8 @@ module _ {a : Acceptance} (small : a.annotations.unit < 2 ^ 32) {all : List Scri
   reads-one (answers.bad at s text wants none) (answers.bad at2 s2 text2 wants_other none_other) = refl
 
 -- A text has one answer.
-pub answers-one : {a : Acceptance} → IsAccepted a → {items : List ScriptItem} {text : List ℕ}
-    {x y : Result Told ReplayError} → Answers a items text x → Answers a items text y → x ≡ y
+pub answers-one : {a : Acceptance} → IsAccepted a → {first : LedgerState} {items : List ScriptItem} {text : List ℕ}
+    {x y : Result Told ReplayError} → AnswersFrom a first items text x → AnswersFrom a first items text y → x ≡ y
 answers-one accepted (answers.too_long over) (answers.too_long over_other) = refl
 answers-one accepted (answers.too_long over) (answers.reads answer within reads) = absurd (omega (arith, over, within))
 answers-one accepted (answers.reads answer within reads) (answers.too_long over) = absurd (omega (arith, over, within))

@@ -2,6 +2,7 @@
 use Rattle.std.proofs.Common.{◌+◌, ◌<◌, ◌^◌, ℕ, List, Err, sym, subst, arith}
 use Rattle.nomos_types.specs.Acceptance.{Acceptance, IsAccepted}
 use Rattle.nomos_script.specs.declared.item.ScriptItem.{ScriptItem}
+use Rattle.nomos_legal.specs.Ledger.{LedgerState}
 use Rattle.nomos_journal.specs.declared.line.JournalLine.{JournalLine}
 use Rattle.nomos_replay.specs.Answers.{BeginsWith, HasNoForm, Reads, WantsLine}
 use Rattle.nomos_replay.specs.Answers as answers
@@ -16,13 +17,13 @@ use Rattle.nomos_replay.proofs.LineLemmas.{one-line}
 pub small-unit : {a : Acceptance} → IsAccepted a → a.annotations.unit < 2 ^ 32
 small-unit accepted = omega (arith, accepted.small_unit)
 
-module _ (a : Acceptance) (all : List ScriptItem) where
+module _ (a : Acceptance) (first : LedgerState) (all : List ScriptItem) where
   -- where no line is read the text is refused, wherever one is looked for
   pub stops-no_line : (before : Source) (s : Stand) → WantsLine s before.lines → (e : ReplayError)
-      → IsNoLine a.annotations.unit before e → Stops a all before s e
+      → IsNoLine a.annotations.unit before e → Stops a first all before s e
   stops-no_line before s wants error.NoMemory is = tt
   stops-no_line before s wants (error.BadLine at) is =
-      subst (λ (n : ℕ). Reads a all (before.at + 1) s before.lines (Err (error.BadLine n))) (sym is.0)
+      subst (λ (n : ℕ). Reads a first all (before.at + 1) s before.lines (Err (error.BadLine n))) (sym is.0)
       (answers.bad (before.at + 1) s before.lines wants (λ l left begins form. is.1 l left begins))
   stops-no_line before s wants error.TooLong is = absurd is
   stops-no_line before s wants (error.NotEnabled at pid) is = absurd is
@@ -32,9 +33,9 @@ module _ (a : Acceptance) (all : List ScriptItem) where
   -- a line that was read is bad where it has no form
   pub stops-no_form : IsAccepted a → {before after : Source} {s : Stand} {l : JournalLine}
       → HasRead a.annotations.unit before l after → WantsLine s before.lines → ¬ MayStand s l
-      → Reads a all (before.at + 1) s before.lines (Err (error.BadLine after.at))
+      → Reads a first all (before.at + 1) s before.lines (Err (error.BadLine after.at))
   stops-no_form accepted {before} {after} {s} {l} read wants none =
-      subst (λ (n : ℕ). Reads a all (before.at + 1) s before.lines (Err (error.BadLine n))) (sym read.at)
+      subst (λ (n : ℕ). Reads a first all (before.at + 1) s before.lines (Err (error.BadLine n))) (sym read.at)
       (answers.bad (before.at + 1) s before.lines wants
       (λ m left begins form.
       let same = one-line a.annotations.unit (small-unit accepted) before.lines m l left after.lines begins read.begins in
@@ -43,32 +44,32 @@ module _ (a : Acceptance) (all : List ScriptItem) where
   -- a line that spoils the text
   pub stops-spoiled : {before after : Source} {s : Stand} {l : JournalLine} {e : ReplayError}
       → HasRead a.annotations.unit before l after → Spoils a after.at s l e
-      → Reads a all (before.at + 1) s before.lines (Err e)
+      → Reads a first all (before.at + 1) s before.lines (Err e)
   stops-spoiled {before} {after} {s} {l} {e} read spoils =
       answers.spoils (before.at + 1) s before.lines after.lines l e read.begins
       (subst (λ (n : ℕ). Spoils a n s l e) read.at spoils)
 
   -- a line that is right leads on
   pub carries-line : {before after : Source} {s t : Stand} {l : JournalLine}
-      → HasRead a.annotations.unit before l after → Goes a all s l t → Carries a all before s after t
+      → HasRead a.annotations.unit before l after → Goes a first all s l t → Carries a first all before s after t
   carries-line {before} {after} {s} {t} {l} read goes = record {
     answers = λ answer rest.
         answers.goes (before.at + 1) s t before.lines after.lines l answer read.begins goes
-        (subst (λ (n : ℕ). Reads a all (n + 1) t after.lines answer) read.at rest);
+        (subst (λ (n : ℕ). Reads a first all (n + 1) t after.lines answer) read.at rest);
   }
 
   -- what leads on leads on further
-  pub carries-on : {before middle after : Source} {r s t : Stand} → Carries a all before r middle s
-      → Carries a all middle s after t → Carries a all before r after t
+  pub carries-on : {before middle after : Source} {r s t : Stand} → Carries a first all before r middle s
+      → Carries a first all middle s after t → Carries a first all before r after t
   carries-on one other = record { answers = λ answer rest. one.answers answer (other.answers answer rest) }
 
   -- and so it does without a line
-  pub carries-same : (source : Source) (s : Stand) → Carries a all source s source s
+  pub carries-same : (source : Source) (s : Stand) → Carries a first all source s source s
   carries-same source s = record { answers = λ answer rest. rest }
 
   -- where the text is refused later it is refused
-  pub stops-later : {before after : Source} {s t : Stand} → Carries a all before s after t → (e : ReplayError)
-      → Stops a all after t e → Stops a all before s e
+  pub stops-later : {before after : Source} {s t : Stand} → Carries a first all before s after t → (e : ReplayError)
+      → Stops a first all after t e → Stops a first all before s e
   stops-later carries error.NoMemory stops = tt
   stops-later carries error.TooLong stops = carries.answers (Err error.TooLong) stops
   stops-later carries (error.BadLine at) stops = carries.answers (Err (error.BadLine at)) stops

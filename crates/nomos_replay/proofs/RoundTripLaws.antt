@@ -22,7 +22,7 @@ use Rattle.nomos_script.specs.declared.item.ScriptItem.TheVariants as item
 use Rattle.nomos_legal.specs.Batch.{AllStart, after_starts, state_or}
 use Rattle.nomos_legal.specs.Ending.{IsAllowed}
 use Rattle.nomos_legal.specs.Ledger.{LedgerState, deposited}
-use Rattle.nomos_legal.specs.Legal.{Leads, Tells, batch_limit, entries_of, firings_in, firings_made}
+use Rattle.nomos_legal.specs.Legal.{Leads, TellsFrom, batch_limit, entries_of, firings_in, firings_made}
 use Rattle.nomos_legal.specs.Legal as legal
 use Rattle.nomos_legal.specs.Passage.{IsPassage, Passage, RunsTo, Undoes, bare, runs, still}
 use Rattle.nomos_legal.specs.Passage as passage
@@ -40,7 +40,7 @@ use Rattle.nomos_journal.specs.declared.line.JournalLine.TheVariants as line
 use Rattle.nomos_journal.specs.declared.line.Version.{Version}
 use Rattle.nomos_journal.specs.declared.line.Version.TheVariants as version
 use Rattle.nomos_journal.proofs.LineLaws.{first_line}
-use Rattle.nomos_replay.specs.Answers.{Answers, Reads, max_bytes}
+use Rattle.nomos_replay.specs.Answers.{AnswersFrom, Reads, max_bytes}
 use Rattle.nomos_replay.specs.Answers as answers
 use Rattle.nomos_replay.specs.Stand.{Goes, Stand, before, fires, says_fired}
 use Rattle.nomos_replay.specs.Stand as stand
@@ -88,10 +88,10 @@ step-line version.Two a s t pid steps = at (process_at s pid) refl steps
 
 -- ---- lines that are read
 
-module _ (a : Acceptance) (all : List ScriptItem) (v : Version) where
+module _ (a : Acceptance) (first : LedgerState) (all : List ScriptItem) (v : Version) where
   -- what is read from there on, whatever the number of the line
   abbrev ReadsOn : Stand → List ℕ → Result Told ReplayError → Type 0
-  ReadsOn s text answer = (at : ℕ) → Reads a all at s text answer
+  ReadsOn s text answer = (at : ℕ) → Reads a first all at s text answer
 
   lines_front : (l : JournalLine) (ls : List JournalLine) (text : List ℕ)
       → lines_text a.annotations.unit (l ∷ ls) ++ text
@@ -102,7 +102,7 @@ module _ (a : Acceptance) (all : List ScriptItem) (v : Version) where
 
   -- one line
   reads-line : {s next : Stand} (l : JournalLine) (ls : List JournalLine) (text : List ℕ)
-      (answer : Result Told ReplayError) → IsLine l → Goes a all s l next
+      (answer : Result Told ReplayError) → IsLine l → Goes a first all s l next
       → ReadsOn next (lines_text a.annotations.unit ls ++ text) answer
       → ReadsOn s (lines_text a.annotations.unit (l ∷ ls) ++ text) answer
   reads-line {s} {next} l ls text answer is goes rest at =
@@ -178,7 +178,7 @@ module _ (a : Acceptance) (all : List ScriptItem) (v : Version) where
           ≡ has.line ∷ (firing_lines v a u pids ++ line.End e ∷ []) =
           (λ i. (option_to_list (has.is i) ++ firing_lines v a (state_or s (steps i)) pids) ++ line.End e ∷ []) in
           let lines_are = subst (All IsLine) lines are in
-          let goes : Goes a all (fires v told (record { batch = batch; starts = starts; firings = fired; state = s }) items)
+          let goes : Goes a first all (fires v told (record { batch = batch; starts = starts; firings = fired; state = s }) items)
           has.line
           (fires v told (record { batch = batch; starts = starts; firings = fired ++ pid ∷ []; state = u }) items) =
           stand.firing v told (record { batch = batch; starts = starts; firings = fired; state = s }) items has.line pid u
@@ -266,7 +266,7 @@ module _ (a : Acceptance) (all : List ScriptItem) (v : Version) where
       (reads-run (up_to limit qs l) batch starts pids last e items text answer begun reaches
       (subst (All IsLine) (append-nil lines) are)
       (λ at. subst
-      (λ (after : LedgerState). Reads a all at
+      (λ (after : LedgerState). Reads a first all at
       (before v
       (told_with (up_to limit qs l) (runs batch pids e l (after_starts a l starts) last after)) items) text answer)
       (undone-same e undoes) (rest at)))
@@ -288,7 +288,7 @@ module _ (a : Acceptance) (all : List ScriptItem) (v : Version) where
       → ReadsOn (before v (up_to limit qs l) (map (λ p. p.item) ps))
       (lines_text a.annotations.unit (flat_map (passage_lines v a) ps)) (Ok (up_to limit (qs ++ ps) last))
   reads-leads limit (legal.done made l) qs count are at =
-      subst (λ (ps : List Passage). Reads a all at (before v (up_to limit qs l) []) [] (Ok (up_to limit ps l)))
+      subst (λ (ps : List Passage). Reads a first all at (before v (up_to limit qs l) []) [] (Ok (up_to limit ps l)))
       (sym (append-nil qs)) (answers.ends at v (up_to limit qs l))
   reads-leads limit (legal.passes made p ps last is leads) qs count are at =
       let here = subst (λ (n : ℕ). IsPassage a (batch_limit limit n) p) count is in
@@ -308,7 +308,7 @@ module _ (a : Acceptance) (all : List ScriptItem) (v : Version) where
       (lines_text a.annotations.unit others) (Ok (up_to limit rs last)))
       (append_assoc qs (p ∷ []) ps) rest in
       subst
-      (λ (text : List ℕ). Reads a all at
+      (λ (text : List ℕ). Reads a first all at
       (before v (up_to limit qs p.before) (map (λ (x : Passage). x.item) (p ∷ ps))) text
       (Ok (up_to limit (qs ++ p ∷ ps) last)))
       (sym (flat_map-append (λ (l : JournalLine). line_text a.annotations.unit l ++ 10 ∷ []) lines others))
@@ -316,26 +316,26 @@ module _ (a : Acceptance) (all : List ScriptItem) (v : Version) where
       (Ok (up_to limit (qs ++ p ∷ ps) last)) here (all-first IsLine lines others are) told at)
 
 -- The text of a legal journal, in either version, tells that journal, where its lines are lines and it is not too long.
-pub legal-answer : {a : Acceptance} {items : List ScriptItem} {journal : Journal} {ps : List Passage}
-    {last : LedgerState} (v : Version) → Tells a items journal ps last
+pub legal-answer : {a : Acceptance} {first : LedgerState} {items : List ScriptItem} {journal : Journal}
+    {ps : List Passage} {last : LedgerState} (v : Version) → TellsFrom a first items journal ps last
     → All IsLine (journal_lines v a journal.limit ps) → (text : List ℕ)
     → text ≡ lines_text a.annotations.unit (journal_lines v a journal.limit ps) → length text ≤ max_bytes
-    → Answers a items text (Ok (record { limit = journal.limit; passages = ps; ledger = last }))
-legal-answer {a} {items} {journal} {ps} {last} v tells are text is within =
+    → AnswersFrom a first items text (Ok (record { limit = journal.limit; passages = ps; ledger = last }))
+legal-answer {a} {first} {items} {journal} {ps} {last} v tells are text is within =
     let lines : List JournalLine = flat_map (passage_lines v a) ps in
     let told : Told = record { limit = journal.limit; passages = ps; ledger = last } in
     let tail = All-tail IsLine (line.Head v) (line.Steps journal.limit ∷ lines) are in
-    let reads = reads-leads a items v journal.limit tells.leads [] refl (All-tail IsLine (line.Steps journal.limit) lines tail) in
+    let reads = reads-leads a first items v journal.limit tells.leads [] refl (All-tail IsLine (line.Steps journal.limit) lines tail) in
     let from_items = subst
-    (λ (is : List ScriptItem). (at : ℕ) → Reads a items at (before v (nothing_told journal.limit) is)
+    (λ (is : List ScriptItem). (at : ℕ) → Reads a first items at (before v (nothing_told first journal.limit) is)
     (lines_text a.annotations.unit lines) (Ok told)) tells.items_are reads in
     answers.reads (Ok told) within
-    (subst (λ (t : List ℕ). Reads a items 1 stand.at_head t (Ok told))
+    (subst (λ (t : List ℕ). Reads a first items 1 stand.at_head t (Ok told))
     (append-nil (lines_text a.annotations.unit (line.Head v ∷ line.Steps journal.limit ∷ lines)) ∙ sym is)
-    (reads-line a items v (line.Head v) (line.Steps journal.limit ∷ lines) [] (Ok told)
+    (reads-line a first items v (line.Head v) (line.Steps journal.limit ∷ lines) [] (Ok told)
     (All-head IsLine (line.Head v) (line.Steps journal.limit ∷ lines) are) (stand.head v)
-    (reads-line a items v (line.Steps journal.limit) lines [] (Ok told)
+    (reads-line a first items v (line.Steps journal.limit) lines [] (Ok told)
     (All-head IsLine (line.Steps journal.limit) lines tail) (stand.steps v journal.limit tells.limit)
     (λ at. subst
-    (λ (t : List ℕ). Reads a items at (before v (nothing_told journal.limit) items) t (Ok told))
+    (λ (t : List ℕ). Reads a first items at (before v (nothing_told first journal.limit) items) t (Ok told))
     (sym (append-nil (lines_text a.annotations.unit lines))) (from_items at))) 1))

@@ -3,6 +3,7 @@ use Rattle.std.specs.Prelude.{◌≡◌, ◌≢◌, ◌<◌, ◌≤◌, ℕ, ◌
 use Rattle.nomos_types.specs.Acceptance.{Acceptance}
 use Rattle.nomos_script.specs.declared.item.ScriptItem.{ScriptItem}
 use Rattle.nomos_script.specs.declared.item.ScriptItem.TheVariants as item
+use Rattle.nomos_legal.specs.Ledger.{LedgerState, empty_ledger}
 use Rattle.nomos_legal.specs.Passage.{still}
 use Rattle.nomos_journal.specs.Line.{line_text, IsLine}
 use Rattle.nomos_journal.specs.declared.line.JournalLine.{JournalLine}
@@ -37,28 +38,34 @@ HasNoForm unit stand text =
 abbrev pub told_show : Told → ℕ → Told
 told_show told at = told_with told (still (item.Show at) None told.ledger told.ledger)
 
--- What is answered of what is left of a text, whose first line has this number, where the text stands so, and all items
--- are these.
-pub data Reads (a : Acceptance) (all : List ScriptItem) : ℕ → Stand → List ℕ → Result Told ReplayError → Type 0 where
+-- What is answered of what is left of a text, whose first line has this number, where the text stands so, the ledger
+-- before it is this first one, and all items are these.
+pub data Reads (a : Acceptance) (first : LedgerState) (all : List ScriptItem)
+    : ℕ → Stand → List ℕ → Result Told ReplayError → Type 0 where
   -- all is told
-  ends : (at : ℕ) (v : Version) (told : Told) → Reads a all at (before v told []) [] (Ok told)
+  ends : (at : ℕ) (v : Version) (told : Told) → Reads a first all at (before v told []) [] (Ok told)
   -- a `show` has no lines
   shows : (at : ℕ) (v : Version) (told : Told) (n : ℕ) (items : List ScriptItem) (text : List ℕ)
-      (answer : Result Told ReplayError) → Reads a all at (before v (told_show told n) items) text answer
-      → Reads a all at (before v told (item.Show n ∷ items)) text answer
+      (answer : Result Told ReplayError) → Reads a first all at (before v (told_show told n) items) text answer
+      → Reads a first all at (before v told (item.Show n ∷ items)) text answer
   -- the first line is right, and the others answer
   goes : (at : ℕ) (stand next : Stand) (text left : List ℕ) (l : JournalLine) (answer : Result Told ReplayError)
-      → BeginsWith a.annotations.unit text l left → Goes a all stand l next
-      → Reads a all (at + 1) next left answer → Reads a all at stand text answer
+      → BeginsWith a.annotations.unit text l left → Goes a first all stand l next
+      → Reads a first all (at + 1) next left answer → Reads a first all at stand text answer
   -- the first line has a form, and spoils the text
   spoils : (at : ℕ) (stand : Stand) (text left : List ℕ) (l : JournalLine) (cause : ReplayError)
-      → BeginsWith a.annotations.unit text l left → Spoils a at stand l cause → Reads a all at stand text (Err cause)
+      → BeginsWith a.annotations.unit text l left → Spoils a at stand l cause → Reads a first all at stand text (Err cause)
   -- the first line has no form that may stand there, or is missing, or one line is too many
   bad : (at : ℕ) (stand : Stand) (text : List ℕ) → WantsLine stand text → HasNoForm a.annotations.unit stand text
-      → Reads a all at stand text (Err (error.BadLine at))
+      → Reads a first all at stand text (Err (error.BadLine at))
 
--- What is answered of the text of a journal of these items.
-pub data Answers (a : Acceptance) (items : List ScriptItem) (text : List ℕ) : Result Told ReplayError → Type 0 where
-  too_long : max_bytes < length text → Answers a items text (Err error.TooLong)
-  reads : (answer : Result Told ReplayError) → length text ≤ max_bytes → Reads a items 1 at_head text answer
-      → Answers a items text answer
+-- What is answered of the text of a journal of these items, from this first ledger.
+pub data AnswersFrom (a : Acceptance) (first : LedgerState) (items : List ScriptItem) (text : List ℕ)
+    : Result Told ReplayError → Type 0 where
+  too_long : max_bytes < length text → AnswersFrom a first items text (Err error.TooLong)
+  reads : (answer : Result Told ReplayError) → length text ≤ max_bytes → Reads a first items 1 at_head text answer
+      → AnswersFrom a first items text answer
+
+-- from the empty ledger
+abbrev pub Answers : Acceptance → List ScriptItem → List ℕ → Result Told ReplayError → Type 0
+Answers a items text answer = AnswersFrom a empty_ledger items text answer

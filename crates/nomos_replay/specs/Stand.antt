@@ -115,22 +115,23 @@ told_run a told run e =
     told_with told
     (runs run.batch run.firings e told.ledger start run.state (ledger_after told.ledger start run.state e))
 
--- The line is right where the text stands, among all these items, and leads on.
-pub data Goes (a : Acceptance) (all : List ScriptItem) : Stand → JournalLine → Stand → Type 0 where
-  head : (v : Version) → Goes a all at_head (line.Head v) (at_steps v)
-  steps : (v : Version) (limit : ℕ) → IsLimit limit
-      → Goes a all (at_steps v) (line.Steps limit) (before v (nothing_told limit) all)
-  item_line : (v : Version) (told : Told) (i : ScriptItem) (items : List ScriptItem) (at : ℕ) (next : Stand)
-      → entry_at i ≡ Some at → Opens a v told items i next
-      → Goes a all (before v told (i ∷ items)) (line.Line at) next
-  own_end : (v : Version) (told : Told) (i : ScriptItem) (at : ℕ) (own : End) (after : LedgerState)
-      (items : List ScriptItem) (kept : End) → kept ≡ own
-      → Goes a all (owes v told i at own after items) (line.End kept)
-      (before v (told_with told (still i (bare at own) told.ledger after)) items)
-  firing : (v : Version) (told : Told) (run : UnderWay) (items : List ScriptItem) (l : JournalLine) (pid : ℕ)
-      (s : State) → SaysFiring v told run l pid → step a run.state pid ≡ Some s → firing_line v a run.state pid ≡ Some l
-      → Goes a all (fires v told run items) l
-      (fires v told (record run { firings = run.firings ++ pid ∷ []; state = s }) items)
-  batch_end : (v : Version) (told : Told) (run : UnderWay) (items : List ScriptItem) (kept : End)
-      → IsAllowed a run.state (length run.firings) (next_limit told) kept
-      → Goes a all (fires v told run items) (line.End kept) (before v (told_run a told run kept) items)
+-- The line is right where the text stands, from this first ledger and among all these items, and leads on.
+pub data Goes (a : Acceptance) (first : LedgerState) (all : List ScriptItem) : Stand → JournalLine → Stand → Type 0
+  where
+    head : (v : Version) → Goes a first all at_head (line.Head v) (at_steps v)
+    steps : (v : Version) (limit : ℕ) → IsLimit limit
+        → Goes a first all (at_steps v) (line.Steps limit) (before v (nothing_told first limit) all)
+    item_line : (v : Version) (told : Told) (i : ScriptItem) (items : List ScriptItem) (at : ℕ) (next : Stand)
+        → entry_at i ≡ Some at → Opens a v told items i next
+        → Goes a first all (before v told (i ∷ items)) (line.Line at) next
+    own_end : (v : Version) (told : Told) (i : ScriptItem) (at : ℕ) (own : End) (after : LedgerState)
+        (items : List ScriptItem) (kept : End) → kept ≡ own
+        → Goes a first all (owes v told i at own after items) (line.End kept)
+        (before v (told_with told (still i (bare at own) told.ledger after)) items)
+    firing : (v : Version) (told : Told) (run : UnderWay) (items : List ScriptItem) (l : JournalLine) (pid : ℕ)
+        (s : State) → SaysFiring v told run l pid → step a run.state pid ≡ Some s → firing_line v a run.state pid ≡ Some l
+        → Goes a first all (fires v told run items) l
+        (fires v told (record run { firings = run.firings ++ pid ∷ []; state = s }) items)
+    batch_end : (v : Version) (told : Told) (run : UnderWay) (items : List ScriptItem) (kept : End)
+        → IsAllowed a run.state (length run.firings) (next_limit told) kept
+        → Goes a first all (fires v told run items) (line.End kept) (before v (told_run a told run kept) items)

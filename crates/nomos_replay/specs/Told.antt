@@ -1,6 +1,6 @@
 -- What the lines of a journal's text tell.
 use Rattle.std.specs.Prelude.{ℕ, List, [], ◌∷◌, ◌++◌}
-use Rattle.nomos_legal.specs.Ledger.{LedgerState, empty_ledger}
+use Rattle.nomos_legal.specs.Ledger.{LedgerState}
 use Rattle.nomos_legal.specs.Legal.{batch_limit, entries_of, firings_made}
 use Rattle.nomos_legal.specs.Passage.{Passage}
 use Rattle.nomos_legal.specs.declared.journal.Journal.{Journal}
@@ -13,17 +13,17 @@ pub record Told : Type 0 where
   -- the ledger after them
   pub ledger : LedgerState
 
--- nothing became of no items
-abbrev pub nothing_told : ℕ → Told
-nothing_told limit = record { limit = limit; passages = []; ledger = empty_ledger }
+-- nothing became of no items, from this ledger
+abbrev pub nothing_told : LedgerState → ℕ → Told
+nothing_told first limit = record { limit = limit; passages = []; ledger = first }
 
 -- what became of one item more
 abbrev pub told_with : Told → Passage → Told
 told_with told p = record told { passages = told.passages ++ p ∷ []; ledger = p.after }
 
 -- the journal that is told
-abbrev pub journal_of : Told → Journal
-journal_of told = record { limit = told.limit; entries = entries_of told.passages }
+abbrev pub journal_told : Told → Journal
+journal_told told = record { limit = told.limit; entries = entries_of told.passages }
 
 -- the most firings of the next batch
 abbrev pub next_limit : Told → ℕ

@@ -4,12 +4,15 @@ ghost use Rattle.std.specs.Prelude.{◌≡◌, ◌≤◌, ◌+◌, ◌^◌, ℕ,
 ghost use Rattle.nomos_script.specs.declared.item.Batch.{Batch};
 ghost use Rattle.nomos_script.specs.declared.item.ScriptItem.{ScriptItem};
 ghost use Rattle.nomos_legal.specs.Ending.{IsAllowed};
+ghost use Rattle.nomos_legal.specs.Ledger.{LedgerState};
 ghost use Rattle.nomos_legal.specs.StandsFor.{WorldStandsFor};
+ghost use Rattle.nomos_ledger.specs.Running.{RunsOn};
+ghost use Rattle.nomos_walk.specs.Walks.{HasItemRoom};
 ghost use Rattle.nomos_watch.specs.Watching.{IsWatched};
 ghost use Rattle.nomos_replay.specs.Stand.{before, fires, told_run};
 ghost use Rattle.nomos_replay.specs.Told.{Told, next_limit};
 ghost use Rattle.nomos_replay.specs.mirror.Reading.{Carries, IsCounted, Stops};
-ghost use Rattle.nomos_replay.specs.mirror.Running.{HasNumbersFor, RanOn, under_way};
+ghost use Rattle.nomos_replay.specs.mirror.Running.{under_way};
 
 use crate::ends::{Kept, judge_end};
 use crate::error::ReplayError;
@@ -32,19 +35,20 @@ pub(crate) fn replay_firings<M: Undo>(
     requires stands { WorldStandsFor trial.now.accepted.now watched.old.world }
     requires watched { IsWatched trial.now.accepted.now watched.old.world.state watched.old.awake }
     requires within { length watched.old.world.firings ≤ most }
-    requires numbers { HasNumbersFor most watched.old.world }
-    ensures read { (all items : List ScriptItem) (batch : Batch) (told : Told) → next_limit told ≡ most
+    requires room { HasItemRoom watched.old.world.origin (length watched.old.world.starts) most }
+    ensures read { (first : LedgerState) (all items : List ScriptItem) (batch : Batch) (told : Told)
+        → next_limit told ≡ most
         → MatchResult result
-        (λ e. Carries trial.now.accepted.now all source.old
+        (λ e. Carries trial.now.accepted.now first all source.old
         (fires trial.now.version told (under_way batch watched.old.world) items)
         source.new
         (before trial.now.version (told_run trial.now.accepted.now told (under_way batch watched.new.world) e) items))
-        (Stops trial.now.accepted.now all source.old
+        (Stops trial.now.accepted.now first all source.old
         (fires trial.now.version told (under_way batch watched.old.world) items)) }
     ensures allowed { IfOk result
         (IsAllowed trial.now.accepted.now watched.new.world.state (length watched.new.world.firings) most) }
     ensures counted { IsCounted source.new }
-    ensures ran { IfOk result (λ _. RanOn trial.now.accepted.now most watched.old.world watched.new.world) }
+    ensures ran { IfOk result (λ _. RunsOn trial.now.accepted.now most watched.old.world watched.new.world) }
 {
     // Where the program is read it is known to be accepted.
     let _program = trial.accepted.program();

@@ -8,7 +8,7 @@ ghost use Rattle.nomos_legal.specs.Ending.{EndsAs, GoesOn, IsAllowed};
 ghost use Rattle.nomos_legal.specs.StandsFor.{WorldStandsFor};
 ghost use Rattle.nomos_watch.specs.Watching.{IsWatched};
 ghost use Rattle.nomos_replay.specs.Spoiled.{Finds};
-ghost use Rattle.nomos_replay.specs.mirror.Running.{EndStops, IsLowestFault};
+ghost use Rattle.nomos_replay.specs.mirror.Running.{EndStops};
 
 use crate::error::ReplayError;
 use crate::same::is_same_end;
@@ -78,29 +78,6 @@ fn may_end<M: Undo>(
     Ok(gives(given, end))
 }
 
-// The lowest process that has a fault, with its fault.
-fn lowest_fault<M: Undo>(
-    alloc: Global,
-    accepted: &Accepted,
-    world: &World<M>,
-) -> Result<Option<(u32, Fault)>, AllocError>
-    requires { WorldStandsFor accepted.now world.now }
-    ensures { IfOk result (λ found. MatchOption found
-        ((pid : ℕ) → fault accepted.now world.now.state pid ≡ None)
-        (λ f. IsLowestFault accepted.now world.now.state f.0 f.1)) }
-{
-    // Where the program is read it is known to be accepted.
-    let _program = accepted.program();
-    let mut after = 0;
-    while let Some(pid) = world.next_ready(accepted, after) {
-        if let Some(fault) = world.fault(alloc, accepted, pid)? {
-            return Ok(Some((pid, fault)));
-        }
-        after = pid;
-    }
-    Ok(None)
-}
-
 // The end that is found of a batch, of which it is known how it ends here, faults apart.
 fn found_end<M: Undo>(
     alloc: Global,
@@ -115,7 +92,7 @@ fn found_end<M: Undo>(
 {
     match given {
         Some(end) => Ok(Some(end)),
-        None => match lowest_fault(alloc, accepted, world)? {
+        None => match world.lowest_fault(alloc, accepted)? {
             Some((pid, fault)) => Ok(Some(End::Aborted(pid, fault))),
             None => Ok(None),
         },

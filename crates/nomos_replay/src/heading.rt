@@ -2,6 +2,7 @@
 
 ghost use Rattle.std.specs.Prelude.{List, MatchResult};
 ghost use Rattle.nomos_script.specs.declared.item.ScriptItem.{ScriptItem};
+ghost use Rattle.nomos_legal.specs.Ledger.{LedgerState};
 ghost use Rattle.nomos_legal.specs.Legal.{IsLimit};
 ghost use Rattle.nomos_journal.specs.declared.line.Version.{Version};
 ghost use Rattle.nomos_replay.specs.Stand.{at_head, at_steps, before};
@@ -22,9 +23,9 @@ pub(crate) fn read_version(
     source: &mut Source<'_>,
 ) -> Result<Version, ReplayError>
     requires { IsCounted source.old }
-    ensures read { (all : List ScriptItem) → MatchResult result
-        (λ v. Carries accepted.now all source.old at_head source.new (at_steps v))
-        (Stops accepted.now all source.old at_head) }
+    ensures read { (first : LedgerState) (all : List ScriptItem) → MatchResult result
+        (λ v. Carries accepted.now first all source.old at_head source.new (at_steps v))
+        (Stops accepted.now first all source.old at_head) }
     ensures counted { IsCounted source.new }
 {
     // Where the program is read it is known to be accepted.
@@ -43,10 +44,10 @@ pub(crate) fn read_limit(
     source: &mut Source<'_>,
 ) -> Result<u32, ReplayError>
     requires { IsCounted source.old }
-    ensures read { (all : List ScriptItem) (v : Version) → MatchResult result
+    ensures read { (first : LedgerState) (all : List ScriptItem) (v : Version) → MatchResult result
         (λ limit. IsLimit limit
-        × Carries accepted.now all source.old (at_steps v) source.new (before v (nothing_told limit) all))
-        (Stops accepted.now all source.old (at_steps v)) }
+        × Carries accepted.now first all source.old (at_steps v) source.new (before v (nothing_told first limit) all))
+        (Stops accepted.now first all source.old (at_steps v)) }
     ensures counted { IsCounted source.new }
 {
     // Where the program is read it is known to be accepted.

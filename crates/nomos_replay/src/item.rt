@@ -1,59 +1,48 @@
-//! Items of a script that a text tells, one by one.
+//! Items of a script that a text tells, one by one, along the walk.
 
-ghost use Rattle.std.specs.Prelude.{◌≡◌, ◌≤◌, ◌+◌, ◌<◌, ◌-◌, ◌^◌, ◌++◌, [], ◌∷◌, ℕ, List, Some, IfOk, IfErr, OnOk, OnErr, MatchResult, length};
+ghost use Rattle.std.specs.Prelude.{◌≡◌, ◌≤◌, ◌∷◌, [], ℕ, List, IfOk, IfErr, OnOk, MatchResult, length};
 ghost use Rattle.nomos_script.specs.declared.item.ScriptItem.{ScriptItem};
-ghost use Rattle.nomos_script.specs.Size.{entry_count, start_count};
-ghost use Rattle.nomos_script.specs.declared.item.Batch.{Batch};
-ghost use Rattle.nomos_types.specs.Acceptance.{Acceptance, IsAccepted};
-ghost use Rattle.nomos_legal.specs.Ending.{IsAllowed};
 ghost use Rattle.nomos_legal.specs.Ledger.{LedgerState};
-ghost use Rattle.nomos_legal.specs.Legal.{max_firings};
+ghost use Rattle.nomos_legal.specs.Legal.{batch_limit, max_firings};
 ghost use Rattle.nomos_legal.specs.StandsFor.{StandsFor, WorldStandsFor};
-ghost use Rattle.nomos_legal.specs.World.{pids_of};
-ghost use Rattle.nomos_journal.specs.declared.line.Version.{Version};
-ghost use Rattle.nomos_report.specs.Reported.{HasNoFirings, shown_lines};
-ghost use Rattle.nomos_replay.specs.Stand.{before, entry_at, fires, owes, told_run};
-ghost use Rattle.nomos_replay.specs.Told.{Told};
-ghost use Rattle.nomos_replay.specs.mirror.Items.{HasRoom, Keeps, Onward, Rises, left_by};
-ghost use Rattle.nomos_replay.specs.mirror.Reading.{HasRead, IsCounted, Stops};
-ghost use Rattle.nomos_replay.specs.mirror.Running.{HasNumbersFor, under_way};
+ghost use Rattle.nomos_walk.specs.Walks.{HasBegunBatch, HasItemRoom, HasRoomFor};
+ghost use Rattle.nomos_replay.specs.Stand.{before, entry_at, fires};
+ghost use Rattle.nomos_replay.specs.Told.{Told, next_limit};
+ghost use Rattle.nomos_replay.specs.mirror.Items.{PassesOn};
+ghost use Rattle.nomos_replay.specs.mirror.Reading.{HasRead, HasReadEnd, HasReadLine, IsCounted, Stops, StopsAtEnd, StopsAtOwn};
+ghost use Rattle.nomos_replay.specs.mirror.Running.{under_way};
 
 use crate::batch::replay_firings;
 use crate::error::ReplayError;
 use crate::kinds::{end_in, names_line};
-use crate::notes::Notes;
 use crate::same::is_same_end;
 use crate::source::Source;
 use crate::trial::Trial;
-use nomos_deeds::machine::Machine;
 use nomos_deeds::undo::Undo;
-use nomos_ir::items::Items;
 use nomos_journal::line::JournalLine;
-use nomos_ledger::arguments::Arguments;
-use nomos_ledger::begun::Begun;
 use nomos_ledger::ledger::Ledger;
-use nomos_ledger::world::World;
-use nomos_legal::journal::{End, Entry, Firing, Pids};
-use nomos_report::course::{Outset, push_batch_end, push_still_end};
-use nomos_report::show::push_show;
-use nomos_script::item::{Batch, ScriptItem};
-use nomos_script::name::ScriptName;
+use nomos_legal::journal::{End, Entry};
+use nomos_script::item::ScriptItem;
+use nomos_walk::started::{BatchUnderWay, PassedItem, StartedItem};
+use nomos_walk::walk::Walk;
 use nomos_watch::watched::Watched;
-use std::alloc::{AllocError, Global};
 
-/// A text that is read, and what was told so far.
+/// A text that is read, and the entries of what was told so far.
 #[derive(Drop)]
 pub(crate) struct Reading<'a> {
     pub(crate) source: Source<'a>,
-    pub(crate) notes: Notes,
+    pub(crate) entries: Vec<Entry>,
 }
 
-// A deposit of the script.
-#[derive(Clone, Copy)]
-struct Deposit<'a> {
-    line: u32,
-    name: &'a ScriptName,
-    units: u64,
+// The line of the script at which an item stands; a `show` has no entry.
+fn entry_line(item: &ScriptItem) -> Option<u32>
+    ensures { result ≡ entry_at item.now }
+{
+    match item {
+        ScriptItem::Deposit { line, .. } => Some(*line),
+        ScriptItem::Batch(batch) => Some(batch.line),
+        ScriptItem::Show { .. } => None,
+    }
 }
 
 // Reads the line that names a line of the script.
@@ -61,8 +50,9 @@ fn read_item_line(trial: &Trial<'_>, source: &mut Source<'_>, at: u32) -> Result
     requires { IsCounted source.old }
     ensures ok { OnOk result
         (HasRead trial.now.accepted.now.annotations.unit source.old (JournalLine.Line at) source.new) }
-    ensures err { IfErr result (λ e. (told : Told) (i : ScriptItem) (all items : List ScriptItem) → entry_at i ≡ Some at
-        → Stops trial.now.accepted.now all source.old (before trial.now.version told (i ∷ items)) e) }
+    ensures err { IfErr result (λ e. (told : Told) (i : ScriptItem) (first : LedgerState) (all items : List ScriptItem)
+        → entry_at i ≡ Some at
+        → Stops trial.now.accepted.now first all source.old (before trial.now.version told (i ∷ items)) e) }
     ensures counted { IsCounted source.new }
 {
     // Where the program is read it is known to be accepted.
@@ -76,13 +66,31 @@ fn read_item_line(trial: &Trial<'_>, source: &mut Source<'_>, at: u32) -> Result
     }
 }
 
+// Reads the line that names an item, where it has an entry.
+fn read_line_of(
+    trial: &Trial<'_>,
+    source: &mut Source<'_>,
+    item: &ScriptItem,
+) -> Result<(), ReplayError>
+    requires { IsCounted source.old }
+    ensures ok { OnOk result
+        (HasReadLine trial.now.accepted.now.annotations.unit (entry_at item.now) source.old source.new) }
+    ensures err { IfErr result (λ e. (told : Told) (first : LedgerState) (all items : List ScriptItem)
+        → Stops trial.now.accepted.now first all source.old (before trial.now.version told (item.now ∷ items)) e) }
+    ensures counted { IsCounted source.new }
+{
+    match entry_line(item) {
+        Some(at) => read_item_line(trial, source, at),
+        None => Ok(()),
+    }
+}
+
 // Reads the end of an item without firings, which has to be its own.
 fn read_own_end(trial: &Trial<'_>, source: &mut Source<'_>, own: End) -> Result<End, ReplayError>
     requires { IsCounted source.old }
     ensures ok { IfOk result (λ e. (e ≡ own)
         × HasRead trial.now.accepted.now.annotations.unit source.old (JournalLine.End own) source.new) }
-    ensures err { IfErr result (λ e. (told : Told) (i : ScriptItem) (at : ℕ) (after : LedgerState)
-        (all items : List ScriptItem) → Stops trial.now.accepted.now all source.old (owes trial.now.version told i at own after items) e) }
+    ensures err { IfErr result (StopsAtOwn trial.now.accepted.now trial.now.version source.old own) }
     ensures counted { IsCounted source.new }
 {
     // Where the program is read it is known to be accepted.
@@ -104,241 +112,120 @@ fn read_own_end(trial: &Trial<'_>, source: &mut Source<'_>, own: End) -> Result<
     }
 }
 
-// Reads and notes the end of an item without firings at a line of the script.
-fn note_still(
+// Reads the end of an entry, which has to be its own.
+fn read_entry_end(
     trial: &Trial<'_>,
-    reading: &mut Reading<'_>,
-    at: u32,
-    own: End,
-) -> Result<(), ReplayError>
-    requires counted { IsCounted reading.old.source }
-    requires none { HasNoFirings own }
-    requires few { reading.old.notes.made ≤ max_firings }
-    ensures tells { (told : Told) (i : ScriptItem) (after : LedgerState)
-        → shown_lines trial.now.accepted.now told.ledger i ≡ [] → Keeps trial.now.accepted.now reading.old.notes told
-        → MatchResult result
-        (λ _. Onward trial.now.accepted.now (owes trial.now.version told i at own after) trial.now.version
-        reading.old.source reading.new.source reading.new.notes after)
-        (λ e. (all items : List ScriptItem)
-        → Stops trial.now.accepted.now all reading.old.source (owes trial.now.version told i at own after items) e) }
-    ensures counted { IsCounted reading.new.source }
-    ensures made { OnOk result (reading.new.notes.made ≡ reading.old.notes.made) }
+    source: &mut Source<'_>,
+    entry: Entry,
+) -> Result<Entry, ReplayError>
+    requires { IsCounted source.old }
+    ensures ok { IfOk result (λ kept. (kept ≡ entry)
+        × HasRead trial.now.accepted.now.annotations.unit source.old (JournalLine.End entry.end) source.new) }
+    ensures err { IfErr result (StopsAtOwn trial.now.accepted.now trial.now.version source.old entry.end) }
+    ensures counted { IsCounted source.new }
 {
-    let own = read_own_end(trial, &mut reading.source, own)?;
-    push_still_end(&mut reading.notes.report, trial.accepted, at, &own)?;
-    let firings = Items::of_vec(Vec::new(trial.alloc));
-    reading.notes.note(Entry {
-        line: at,
-        firings,
-        end: own,
-    })?;
-    Ok(())
+    let Entry { line, firings, end } = entry;
+    let end = read_own_end(trial, source, end)?;
+    Ok(Entry { line, firings, end })
 }
 
-// A deposit.
-fn replay_deposit<M: Undo + Drop>(
+// Reads the end of an entry, if there is one, which has to be its own.
+fn read_end_of(
     trial: &Trial<'_>,
-    reading: &mut Reading<'_>,
-    mut ledger: Ledger<M>,
-    deposit: Deposit<'_>,
-) -> Result<Ledger<M>, ReplayError>
-    requires counted { IsCounted reading.old.source }
-    requires stands { StandsFor trial.now.accepted.now ledger }
-    requires accounts { length ledger.accounts < 2 ^ 32 - 1 }
-    requires few { reading.old.notes.made ≤ max_firings }
-    ensures tells { (told : Told) → told.ledger ≡ ledger → Keeps trial.now.accepted.now reading.old.notes told
-        → MatchResult result
-        (Onward trial.now.accepted.now
-        (λ items. before trial.now.version told
-        (ScriptItem.Deposit deposit.entry.line deposit.entry.name.now deposit.entry.units ∷ items)) trial.now.version
-        reading.old.source reading.new.source reading.new.notes)
-        (λ e. (all items : List ScriptItem) → Stops trial.now.accepted.now all reading.old.source
-        (before trial.now.version told
-        (ScriptItem.Deposit deposit.entry.line deposit.entry.name.now deposit.entry.units ∷ items)) e) }
-    ensures counted { IsCounted reading.new.source }
-    ensures stands { IfOk result (StandsFor trial.now.accepted.now) }
-    ensures rises { IfOk result (Rises 0 1 reading.old.notes.made ledger reading.new.notes.made) }
+    source: &mut Source<'_>,
+    entry: Option<Entry>,
+) -> Result<Option<Entry>, ReplayError>
+    requires { IsCounted source.old }
+    ensures ok { IfOk result (λ kept. (kept ≡ entry)
+        × HasReadEnd trial.now.accepted.now.annotations.unit entry source.old source.new) }
+    ensures err { IfErr result (StopsAtEnd trial.now.accepted.now trial.now.version source.old entry) }
+    ensures counted { IsCounted source.new }
 {
-    read_item_line(trial, &mut reading.source, deposit.line)?;
-    let own = ledger.deposit(
-        trial.alloc,
-        trial.accepted,
-        deposit.line,
-        deposit.name,
-        deposit.units,
-    )?;
-    note_still(trial, reading, deposit.line, own)?;
-    Ok(ledger)
-}
-
-// What a batch leaves that ended so.
-fn leave<M: Undo + Drop>(world: World<M>, end: &End) -> Ledger<M>
-    ensures left { result ≡ left_by world end.now }
-    ensures stands { (a : Acceptance) (limit : ℕ) → IsAccepted a → WorldStandsFor a world
-        → IsAllowed a world.state (length world.firings) limit end.now → StandsFor a result }
-{
-    match end {
-        End::Committed => world.commit(),
-        _ => world.undo(),
+    match entry {
+        Some(entry) => {
+            let kept = read_entry_end(trial, source, entry)?;
+            Ok(Some(kept))
+        }
+        None => Ok(None),
     }
 }
 
-// The numbers of the processes that fired.
-fn pids(alloc: Global, firings: &[Firing]) -> Result<Pids, AllocError>
-    ensures { IfOk result (λ made. made ≡ pids_of firings.now) }
-{
-    let pids = firings.iter().map(|firing| firing.pid).collect(alloc)?;
-    Ok(Items::of_vec(pids))
-}
-
-// Notes how a batch ended, and gives what it leaves.
-fn note_batch<M: Undo + Drop>(
-    trial: &Trial<'_>,
-    notes: &mut Notes,
-    world: World<M>,
-    outset: Outset,
-    end: End,
-) -> Result<Ledger<M>, AllocError>
-    requires stands { WorldStandsFor trial.now.accepted.now world }
-    requires spent { outset.spent ≡ world.origin.state.spent }
-    requires few { notes.old.made + length world.firings ≤ max_firings }
-    ensures keeps { (told : Told) (batch : Batch) → told.ledger ≡ world.origin → batch.line ≡ outset.line
-        → Keeps trial.now.accepted.now notes.old told → IfOk result (λ k.
-        Keeps trial.now.accepted.now notes.new
-        (told_run trial.now.accepted.now told (under_way batch world) end)) }
-    ensures left { IfOk result (λ k. k ≡ left_by world end) }
-    ensures stands { (limit : ℕ) → IsAllowed trial.now.accepted.now world.state (length world.firings) limit end
-        → IfOk result (StandsFor trial.now.accepted.now) }
-    ensures made { OnOk result (notes.new.made ≡ notes.old.made + length world.firings) }
-{
-    // Where the program is read it is known to be accepted.
-    let _program = trial.accepted.program();
-    push_batch_end(&mut notes.report, trial.accepted, &world, outset, &end)?;
-    let firings = pids(trial.alloc, world.firings())?;
-    let ledger = leave(world, &end);
-    notes.note(Entry {
-        line: outset.line,
-        firings,
-        end,
-    })?;
-    Ok(ledger)
-}
-
-// A batch whose lines started.
-fn run_batch<M: Undo + Drop>(
-    trial: &Trial<'_>,
-    reading: &mut Reading<'_>,
-    world: World<M>,
-    outset: Outset,
-) -> Result<Ledger<M>, ReplayError>
-    requires counted { IsCounted reading.old.source }
-    requires stands { WorldStandsFor trial.now.accepted.now world }
-    requires fresh { world.firings ≡ [] }
-    requires spent { outset.spent ≡ world.origin.state.spent }
-    requires few { reading.old.notes.made ≤ max_firings }
-    requires numbers { HasNumbersFor (max_firings - reading.old.notes.made) world }
-    ensures tells { (told : Told) (batch : Batch) → told.ledger ≡ world.origin → batch.line ≡ outset.line
-        → Keeps trial.now.accepted.now reading.old.notes told → MatchResult result
-        (Onward trial.now.accepted.now (fires trial.now.version told (under_way batch world)) trial.now.version
-        reading.old.source reading.new.source reading.new.notes)
-        (λ e. (all items : List ScriptItem) → Stops trial.now.accepted.now all reading.old.source
-        (fires trial.now.version told (under_way batch world) items) e) }
-    ensures counted { IsCounted reading.new.source }
-    ensures stands { IfOk result (StandsFor trial.now.accepted.now) }
-    ensures rises { IfOk result
-        (Rises (length world.starts) 0 reading.old.notes.made world.origin reading.new.notes.made) }
-{
-    // Where the program is read it is known to be accepted.
-    let _program = trial.accepted.program();
-    let most = reading.notes.next_limit();
-    let mut watched = Watched::of(world);
-    watched.watch(trial.alloc, trial.accepted);
-    let end = replay_firings(trial, &mut reading.source, &mut watched, most)?;
-    let world = watched.into_world();
-    let ledger = note_batch(trial, &mut reading.notes, world, outset, end)?;
-    Ok(ledger)
-}
-
-// A batch.
+// Reads and makes the firings of a batch whose lines started, up to the end that the text keeps, and finishes it with
+// that end.
 fn replay_batch<M: Undo + Drop>(
     trial: &Trial<'_>,
-    arguments: &mut Arguments<'_>,
-    reading: &mut Reading<'_>,
-    ledger: Ledger<M>,
-    batch: &Batch,
-) -> Result<Ledger<M>, ReplayError>
-    requires judges { arguments.old ≡ trial.now.accepted.now }
-    requires counted { IsCounted reading.old.source }
-    requires stands { StandsFor trial.now.accepted.now ledger }
-    requires few { reading.old.notes.made ≤ max_firings }
-    requires numbers { HasRoom (length batch.now.starts) reading.old.notes.made ledger }
-    ensures tells { (told : Told) → told.ledger ≡ ledger → Keeps trial.now.accepted.now reading.old.notes told
-        → MatchResult result
-        (Onward trial.now.accepted.now
-        (λ items. before trial.now.version told (ScriptItem.Batch batch.now ∷ items)) trial.now.version
-        reading.old.source reading.new.source reading.new.notes)
-        (λ e. (all items : List ScriptItem) → Stops trial.now.accepted.now all reading.old.source
-        (before trial.now.version told (ScriptItem.Batch batch.now ∷ items)) e) }
-    ensures judges { arguments.new ≡ arguments.old }
-    ensures counted { IsCounted reading.new.source }
-    ensures stands { IfOk result (StandsFor trial.now.accepted.now) }
-    ensures rises { IfOk result
-        (Rises (length batch.now.starts) 0 reading.old.notes.made ledger reading.new.notes.made) }
+    walk: &mut Walk<'_>,
+    source: &mut Source<'_>,
+    under: BatchUnderWay<M>,
+) -> Result<PassedItem<M>, ReplayError>
+    requires program { walk.old.accepted ≡ trial.now.accepted.now }
+    requires counted { IsCounted source.old }
+    requires stands { WorldStandsFor trial.now.accepted.now under.world }
+    requires fresh { under.world.firings ≡ [] }
+    requires spent { under.outset.spent ≡ under.world.origin.state.spent }
+    requires made { walk.old.made ≤ max_firings }
+    requires room { HasItemRoom under.world.origin (length under.world.starts)
+        (batch_limit walk.old.limit walk.old.made) }
+    ensures tells { (told : Told) (i : ScriptItem)
+        (begun : HasBegunBatch walk.old told.ledger i under.outset.line under.outset.spent under.world walk.old)
+        → next_limit told ≡ batch_limit walk.old.limit walk.old.made → MatchResult result
+        (λ passed. PassesOn trial.now.accepted.now trial.now.version told walk.old
+        (fires trial.now.version told (under_way begun.batch under.world)) source.old i passed source.new walk.new)
+        (λ e. (first : LedgerState) (all items : List ScriptItem) → Stops trial.now.accepted.now first all source.old
+        (fires trial.now.version told (under_way begun.batch under.world) items) e) }
+    ensures counted { IsCounted source.new }
 {
-    read_item_line(trial, &mut reading.source, batch.line)?;
-    let outset = Outset {
-        line: batch.line,
-        spent: ledger.state().spent(),
-    };
-    match ledger.begin_with(trial.alloc, arguments, batch) {
-        Begun::NoMemory(_) => Err(ReplayError::NoMemory),
-        Begun::Refused(ledger, line, cause) => {
-            note_still(trial, reading, batch.line, End::Refused(line, cause))?;
-            Ok(ledger)
-        }
-        Begun::World(world) => run_batch(trial, reading, world, outset),
-    }
+    let limit = walk.next_limit();
+    let BatchUnderWay { outset, world } = under;
+    let mut watched = Watched::of(world);
+    watched.watch(trial.alloc, trial.accepted);
+    let end = replay_firings(trial, source, &mut watched, limit)?;
+    let world = watched.into_world();
+    let passed = walk.finish(trial.alloc, BatchUnderWay { outset, world }, end)?;
+    Ok(passed)
 }
 
-/// Reads and carries out an item of the script, and gives the ledger after it.
+// Reads the end of an item that has passed without firings.
+fn replay_still<M: Undo + Drop>(
+    trial: &Trial<'_>,
+    source: &mut Source<'_>,
+    passed: PassedItem<M>,
+) -> Result<PassedItem<M>, ReplayError>
+    requires { IsCounted source.old }
+    ensures ok { IfOk result (λ kept. (kept.ledger ≡ passed.ledger) × (kept.entry ≡ passed.entry)
+        × HasReadEnd trial.now.accepted.now.annotations.unit passed.entry source.old source.new) }
+    ensures err { IfErr result (StopsAtEnd trial.now.accepted.now trial.now.version source.old passed.entry) }
+    ensures counted { IsCounted source.new }
+{
+    let PassedItem { ledger, entry } = passed;
+    let entry = read_end_of(trial, source, entry)?;
+    Ok(PassedItem { ledger, entry })
+}
+
+/// Reads and carries out an item of the script.
 pub(crate) fn replay_item<M: Undo + Drop>(
     trial: &Trial<'_>,
-    arguments: &mut Arguments<'_>,
-    reading: &mut Reading<'_>,
+    walk: &mut Walk<'_>,
+    source: &mut Source<'_>,
     ledger: Ledger<M>,
     item: &ScriptItem,
-) -> Result<Ledger<M>, ReplayError>
-    requires judges { arguments.old ≡ trial.now.accepted.now }
-    requires counted { IsCounted reading.old.source }
+) -> Result<PassedItem<M>, ReplayError>
+    requires program { walk.old.accepted ≡ trial.now.accepted.now }
+    requires counted { IsCounted source.old }
     requires stands { StandsFor trial.now.accepted.now ledger }
-    requires accounts { length ledger.accounts < 2 ^ 32 - 1 }
-    requires few { reading.old.notes.made ≤ max_firings }
-    requires numbers { HasRoom (start_count (item.now ∷ [])) reading.old.notes.made ledger }
-    ensures tells { (told : Told) → told.ledger ≡ ledger → Keeps trial.now.accepted.now reading.old.notes told
+    requires room { HasRoomFor walk.old ledger item.now }
+    requires made { walk.old.made ≤ max_firings }
+    ensures tells { (told : Told) → told.ledger ≡ ledger → next_limit told ≡ batch_limit walk.old.limit walk.old.made
         → MatchResult result
-        (Onward trial.now.accepted.now (λ items. before trial.now.version told (item.now ∷ items)) trial.now.version
-        reading.old.source reading.new.source reading.new.notes)
-        (λ e. (all items : List ScriptItem) → Stops trial.now.accepted.now all reading.old.source
+        (λ passed. PassesOn trial.now.accepted.now trial.now.version told walk.old
+        (λ items. before trial.now.version told (item.now ∷ items)) source.old item.now passed source.new walk.new)
+        (λ e. (first : LedgerState) (all items : List ScriptItem) → Stops trial.now.accepted.now first all source.old
         (before trial.now.version told (item.now ∷ items)) e) }
-    ensures judges { arguments.new ≡ arguments.old }
-    ensures counted { IsCounted reading.new.source }
-    ensures stands { IfOk result (StandsFor trial.now.accepted.now) }
-    ensures rises { IfOk result (Rises (start_count (item.now ∷ [])) (entry_count (item.now ∷ []))
-        reading.old.notes.made ledger reading.new.notes.made) }
+    ensures counted { IsCounted source.new }
 {
-    match item {
-        ScriptItem::Deposit { line, name, units } => {
-            let deposit = Deposit {
-                line: *line,
-                name,
-                units: *units,
-            };
-            replay_deposit(trial, reading, ledger, deposit)
-        }
-        ScriptItem::Batch(batch) => replay_batch(trial, arguments, reading, ledger, batch),
-        ScriptItem::Show { line } => {
-            push_show(&mut reading.notes.report, trial.accepted, &ledger, *line)?;
-            Ok(ledger)
-        }
+    read_line_of(trial, source, item)?;
+    match walk.start(trial.alloc, ledger, item)? {
+        StartedItem::Passed(passed) => replay_still(trial, source, passed),
+        StartedItem::UnderWay(under) => replay_batch(trial, walk, source, under),
     }
 }

@@ -8,7 +8,6 @@ mod firing;
 mod heading;
 mod item;
 mod kinds;
-mod notes;
 pub mod refused;
 pub mod replay;
 mod same;

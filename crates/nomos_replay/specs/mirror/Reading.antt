@@ -1,10 +1,15 @@
 -- A mirror: what the code knows where it has read a line, and where it stops.
-use Rattle.std.specs.Prelude.{◌≡◌, ◌+◌, ◌<◌, ◌^◌, ℕ, List, Result, Err, length}
+use Rattle.std.specs.Prelude.{◌≡◌, ◌+◌, ◌<◌, ◌^◌, ℕ, List, Option, Some, None, Result, Err, length}
 use Rattle.nomos_types.specs.Acceptance.{Acceptance}
 use Rattle.nomos_script.specs.declared.item.ScriptItem.{ScriptItem}
+use Rattle.nomos_legal.specs.Ledger.{LedgerState}
+use Rattle.nomos_legal.specs.declared.journal.End.{End}
+use Rattle.nomos_legal.specs.declared.journal.Entry.{Entry}
 use Rattle.nomos_journal.specs.declared.line.JournalLine.{JournalLine}
+use Rattle.nomos_journal.specs.declared.line.JournalLine.TheVariants as line
+use Rattle.nomos_journal.specs.declared.line.Version.{Version}
 use Rattle.nomos_replay.specs.Answers.{BeginsWith, Reads}
-use Rattle.nomos_replay.specs.Stand.{Stand}
+use Rattle.nomos_replay.specs.Stand.{Stand, owes}
 use Rattle.nomos_replay.specs.Told.{Told}
 use Rattle.nomos_replay.specs.declared.error.ReplayError.{ReplayError}
 use Rattle.nomos_replay.specs.declared.error.ReplayError.TheVariants as error
@@ -27,12 +32,35 @@ IsNoLine unit before (error.BadLine at) =
 IsNoLine unit before _ = ⊥
 
 -- what is answered where the text stands later is answered where it stood before
-pub record Carries (a : Acceptance) (all : List ScriptItem) (before : Source) (from : Stand) (after : Source)
-    (to : Stand) : Type 0 where
-  pub answers : (answer : Result Told ReplayError) → Reads a all (after.at + 1) to after.lines answer
-      → Reads a all (before.at + 1) from before.lines answer
+pub record Carries (a : Acceptance) (first : LedgerState) (all : List ScriptItem) (before : Source) (from : Stand)
+    (after : Source) (to : Stand) : Type 0 where
+  pub answers : (answer : Result Told ReplayError) → Reads a first all (after.at + 1) to after.lines answer
+      → Reads a first all (before.at + 1) from before.lines answer
 
 -- the text is refused so where it stands, or memory is wanting
-abbrev pub Stops : Acceptance → List ScriptItem → Source → Stand → ReplayError → Type 0
-Stops a all source s error.NoMemory = Unit {0}
-Stops a all source s e = Reads a all (source.at + 1) s source.lines (Err e)
+abbrev pub Stops : Acceptance → LedgerState → List ScriptItem → Source → Stand → ReplayError → Type 0
+Stops a first all source s error.NoMemory = Unit {0}
+Stops a first all source s e = Reads a first all (source.at + 1) s source.lines (Err e)
+
+-- ---- items
+
+-- the line was read that names this line of the script, if one is to be named
+abbrev pub HasReadLine : ℕ → Option ℕ → Source → Source → Type 0
+HasReadLine unit None before after = after ≡ before
+HasReadLine unit (Some at) before after = HasRead unit before (line.Line at) after
+
+-- the end of an entry was read, if there is one
+abbrev pub HasReadEnd : ℕ → Option Entry → Source → Source → Type 0
+HasReadEnd unit None before after = after ≡ before
+HasReadEnd unit (Some entry) before after = HasRead unit before (line.End entry.end) after
+
+-- the text is refused so where an item owes this end, whatever the item and what was told before it
+abbrev pub StopsAtOwn : Acceptance → Version → Source → End → ReplayError → Type 0
+StopsAtOwn a v source own e =
+    (told : Told) (i : ScriptItem) (at : ℕ) (after first : LedgerState) (all items : List ScriptItem)
+    → Stops a first all source (owes v told i at own after items) e
+
+-- where that of an entry is owed, if there is one
+abbrev pub StopsAtEnd : Acceptance → Version → Source → Option Entry → ReplayError → Type 0
+StopsAtEnd a v source None e = ⊥
+StopsAtEnd a v source (Some entry) e = StopsAtOwn a v source entry.end e

@@ -1,14 +1,13 @@
 -- A mirror: what the code knows of a batch under way.
-use Rattle.std.specs.Prelude.{◌≡◌, ◌≢◌, ◌<◌, ◌≤◌, ◌+◌, ◌^◌, ℕ, Bool, true, false, List, Some, None, length}
-use Rattle.nomos_ir.specs.declared.fault.Fault.{Fault}
+use Rattle.std.specs.Prelude.{◌≡◌, ◌≢◌, ◌<◌, ℕ, Bool, true, false, List, Some, None, length}
 use Rattle.nomos_types.specs.Acceptance.{Acceptance}
 use Rattle.nomos_machine.specs.State.{State}
-use Rattle.nomos_machine.specs.Step.{fault, step}
+use Rattle.nomos_machine.specs.Step.{step}
 use Rattle.nomos_deeds.specs.Acting.{HasNumbers}
 use Rattle.nomos_script.specs.declared.item.Batch.{Batch}
 use Rattle.nomos_script.specs.declared.item.ScriptItem.{ScriptItem}
 use Rattle.nomos_legal.specs.Ending.{IsAllowed}
-use Rattle.nomos_legal.specs.NextNumbers.{HasNumbered}
+use Rattle.nomos_legal.specs.Ledger.{LedgerState}
 use Rattle.nomos_legal.specs.StandsFor.{WorldStandsFor}
 use Rattle.nomos_legal.specs.World.{WorldState, pids_of}
 use Rattle.nomos_legal.specs.declared.journal.Firing.{Firing}
@@ -26,11 +25,6 @@ use Rattle.nomos_replay.specs.declared.source.Source.{Source}
 use Rattle.nomos_replay.specs.mirror.Reading.{Carries}
 
 -- ---- ends
-
--- the process of this number has this fault, and no lower one has any
-pub record IsLowestFault (a : Acceptance) (s : State) (pid : ℕ) (f : Fault) : Type 0 where
-  pub has : fault a s pid ≡ Some f
-  pub lowest : (other : ℕ) → other < pid → fault a s other ≡ None
 
 -- why a kept end is not given back
 abbrev pub EndStops : Acceptance → State → ℕ → ℕ → Kept → ReplayError → Type 0
@@ -84,22 +78,9 @@ FireStops a v most at l before _ = ⊥
 abbrev pub under_way : Batch → WorldState → UnderWay
 under_way batch w = record { batch = batch; starts = w.starts; firings = pids_of w.firings; state = w.state }
 
--- The next numbers stay small, whatever the world fires of at most so many firings.
-pub record HasNumbersFor (most : ℕ) (w : WorldState) : Type 0 where
-  pub given : ℕ
-  pub numbered : HasNumbered given w.origin.state
-  pub few : given + length w.starts + most ≤ 2 ^ 31
-
--- The second world is the first one after more firings, at most so many in all.
-pub record RanOn (a : Acceptance) (most : ℕ) (before after : WorldState) : Type 0 where
-  pub stands : WorldStandsFor a after
-  pub origin : after.origin ≡ before.origin
-  pub starts : after.starts ≡ before.starts
-  pub within : length after.firings ≤ most
-
 -- What is answered where the second world is under way is answered where the first one is.
 abbrev pub CarriesFirings : Acceptance → Version → ℕ → Source → WorldState → Source → WorldState → Type 0
 CarriesFirings a v most source before later after =
-    (all items : List ScriptItem) (batch : Batch) (told : Told) → next_limit told ≡ most
-    → Carries a all source (fires v told (under_way batch before) items) later
+    (first : LedgerState) (all items : List ScriptItem) (batch : Batch) (told : Told) → next_limit told ≡ most
+    → Carries a first all source (fires v told (under_way batch before) items) later
     (fires v told (under_way batch after) items)

@@ -11,16 +11,16 @@ lines-init g c = record {
   counted = c.requires.counted;
   watched = c.requires.watched;
   ran = ran-none c.args.most c.args.watched.now.world c.requires.stands c.requires.within;
-  carries = λ all items batch told same. carries-same c.args.trial.now.accepted.now all c.args.source.now _;
+  carries = λ first all items batch told same. carries-same c.args.trial.now.accepted.now first all c.args.source.now _;
 }
 
 pub returns-in_err-line-clause-read : goal.returns-in_err-line-clause-read
-returns-in_err-line-clause-read g c = λ all items batch told same.
+returns-in_err-line-clause-read g c = λ first all items batch told same.
     let a = c.args.trial.now.accepted.now in
     let p = err_from_is_err_and c.from_residual.result c.from_residual.ensures.1 in
     rw (p.1, p.2)
-    (stops-later a all (c.lines.invariant.carries all items batch told same) _
-    (stops-no_line a all c.lines.source
+    (stops-later a first all (c.lines.invariant.carries first all items batch told same) _
+    (stops-no_line a first all c.lines.source
     (fires c.args.trial.now.version told (under_way batch c.lines.watched.world) items) tt _ c.in_err-line.ensures.err))
 
 pub returns-in-Ok-clause-read : goal.returns-in-Ok-clause-read
@@ -37,18 +37,18 @@ returns-in-Ok-clause-ran g c =
     c.judge_end.result c.lines.invariant.ran)
 
 pub fire_line-requires-clause-numbers : goal.fire_line-requires-clause-numbers
-fire_line-requires-clause-numbers g c = λ _.
-    ran-numbers c.program-program.ensures.accepted c.requires.numbers c.lines.invariant.ran
+fire_line-requires-clause-numbers g c = λ left.
+    ran-numbers c.program-program.ensures.accepted c.requires.room c.lines.invariant.ran left
 
 pub returns-in_err-fire_line-in-Err-clause-read : goal.returns-in_err-fire_line-in-Err-clause-read
-returns-in_err-fire_line-in-Err-clause-read g c = λ all items batch told same.
+returns-in_err-fire_line-in-Err-clause-read g c = λ first all items batch told same.
     let a = c.args.trial.now.accepted.now in
     let p = err_from_is_err_and c.from_residual-in_err-fire_line-in-Err.result c.from_residual-in_err-fire_line-in-Err.ensures.1 in
     let stops = rw c.in-Err.ensures.0 at c.in_err-fire_line-in-Err.ensures.fires in
     rw (p.1, p.2)
-    (stops-later a all (c.lines.invariant.carries all items batch told same) _
+    (stops-later a first all (c.lines.invariant.carries first all items batch told same) _
     (stops-firing a c.args.trial.now.version c.args.most c.program-program.ensures.accepted c.lines.watched.world
-    c.in_ok-line.ensures.ok c.in-Err.ensures.1 _ stops all items batch told same))
+    c.in_ok-line.ensures.ok c.in-Err.ensures.1 _ stops first all items batch told same))
 
 pub lines-preserved : goal.lines-preserved
 lines-preserved g c =

@@ -1,7 +1,8 @@
 use Rattle.std.proofs.Common.{length}
+use Rattle.nomos_ledger.specs.Running.{RunsOn}
 use Rattle.nomos_watch.specs.Watching.{IsWatched}
 use Rattle.nomos_replay.specs.mirror.Reading.{IsCounted}
-use Rattle.nomos_replay.specs.mirror.Running.{CarriesFirings, RanOn}
+use Rattle.nomos_replay.specs.mirror.Running.{CarriesFirings}
 use Rattle.nomos_replay.proofs.batch.replay_firings.Given as goal
 
 -- the lines so far were those of the firings that were made, and the processes that may be ready cover the state
@@ -9,7 +10,7 @@ abbrev pub invariant-lines : goal.invariant-lines
 invariant-lines g l = record {
   counted : IsCounted l.source;
   watched : IsWatched l.trial.accepted.now l.watched.world.state l.watched.awake;
-  ran : RanOn l.trial.accepted.now l.most l.fn.watched.world l.watched.world;
+  ran : RunsOn l.trial.accepted.now l.most l.fn.watched.world l.watched.world;
   carries :
       CarriesFirings l.trial.accepted.now l.trial.version l.most l.fn.source l.fn.watched.world l.source
       l.watched.world;

@@ -5,18 +5,18 @@ use Rattle.nomos_replay.proofs.ReadingLemmas.{carries-line, stops-no_form, stops
 use Rattle.nomos_replay.proofs.heading.read_limit.Goals as goal
 
 pub returns-in_err-line-clause-read : goal.returns-in_err-line-clause-read
-returns-in_err-line-clause-read c = λ all v.
+returns-in_err-line-clause-read c = λ first all v.
     let p = err_from_is_err_and c.from_residual.result c.from_residual.ensures.1 in
     rw (p.1, p.2)
-    (stops-no_line c.args.accepted.now all c.args.source.now (stand.at_steps v) tt _ c.in_err-line.ensures.err)
+    (stops-no_line c.args.accepted.now first all c.args.source.now (stand.at_steps v) tt _ c.in_err-line.ensures.err)
 
 pub returns-in-Some-clause-read : goal.returns-in-Some-clause-read
-returns-in-Some-clause-read c = λ all v.
+returns-in-Some-clause-read c = λ first all v.
     let (is, same) = c.in-Some.ensures in
     let read = rw same at c.in_ok-line.ensures.ok in
-    (is, carries-line c.args.accepted.now all read (stand.steps v c.in-Some.limit is))
+    (is, carries-line c.args.accepted.now first all read (stand.steps v c.in-Some.limit is))
 
 pub returns-in-None-clause-read : goal.returns-in-None-clause-read
-returns-in-None-clause-read c = λ all v.
-    stops-no_form c.args.accepted.now all c.program-program.ensures.accepted c.in_ok-line.ensures.ok tt
+returns-in-None-clause-read c = λ first all v.
+    stops-no_form c.args.accepted.now first all c.program-program.ensures.accepted c.in_ok-line.ensures.ok tt
     (steps-form v _ c.in-None.ensures)
