@@ -238,12 +238,12 @@ goes-adds even (gathering.channel l p v name over) =
 -- ---- all lines
 
 -- behind what was gathered stands what is gathered
-record Onward (a : Acceptance) (g : Gathered) (l : SnapshotLine) (next : Stand) : Type 0 where
-  after : Gathered
-  is : next ≡ behind after
-  goes : Goes a (behind g) l (behind after)
+pub record Onward (a : Acceptance) (g : Gathered) (l : SnapshotLine) (next : Stand) : Type 0 where
+  pub after : Gathered
+  pub is : next ≡ behind after
+  pub goes : Goes a (behind g) l (behind after)
 
-onward : {a : Acceptance} {g : Gathered} {l : SnapshotLine} {next : Stand} → Goes a (behind g) l next
+pub onward : {a : Acceptance} {g : Gathered} {l : SnapshotLine} {next : Stand} → Goes a (behind g) l next
     → Onward a g l next
 onward (gathering.account l name dths before new) =
     record { after = _; is = refl; goes = gathering.account l name dths before new }
@@ -289,7 +289,7 @@ lead-adds {a} {stand} g is even (leading.line {next = next} l is_line goes rest)
     adds-both adds (lead-adds o.after o.is adds.even rest)
 
 -- the first four lines, and what stands behind them
-head-lines : {a : Acceptance} {lines : List SnapshotLine} {ledger : LedgerState} → LeadTo a at_head lines ledger
+pub head-lines : {a : Acceptance} {lines : List SnapshotLine} {ledger : LedgerState} → LeadTo a at_head lines ledger
     → (next_object : ℕ) × (next_name : ℕ) × (spent : ℕ) × (ls : List SnapshotLine)
     × (lines ≡ line.Head ∷ line.Unit a.annotations.unit ∷ line.Next next_object next_name ∷ line.Spent spent ∷ ls)
     × LeadTo a (settled (gathering.no_ledger next_object next_name spent)) ls ledger

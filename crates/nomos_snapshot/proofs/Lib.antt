@@ -4,6 +4,7 @@ mod KindLemmas
 mod LabelLemmas
 pub mod LeadLaws
 pub mod LineLaws
+pub mod LoadingLaws
 pub mod OneLineLaws
 mod LowestLaws
 mod MessageLemmas

@@ -5,6 +5,8 @@ pub mod Gathering
 pub mod Reading
 pub mod Text
 pub mod Leading
+pub mod Loading
+pub mod Saving
 pub mod Orderly
 pub mod Told
 pub mod mirror

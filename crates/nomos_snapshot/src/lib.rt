@@ -1,6 +1,7 @@
 //! Snapshots: a ledger as text, and a text as the ledger that it is the snapshot of.
 #![tactic(auto)]
 
+pub mod error;
 pub mod gathered;
 mod kind;
 mod labels;
