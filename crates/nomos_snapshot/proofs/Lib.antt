@@ -11,7 +11,9 @@ mod MessageLemmas
 pub mod OneReadingLaws
 pub mod OrderlyLaws
 mod ProcessLaws
+mod RemainingLemmas
 mod RowLemmas
+mod SavingLemmas
 mod StandLemmas
 mod TextReadingLemmas
 mod ValueLemmas

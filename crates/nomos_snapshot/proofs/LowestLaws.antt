@@ -13,6 +13,7 @@ use Rattle.nomos_ir.specs.Value.{Value}
 use Rattle.nomos_ir.specs.declared.ids.VarId.{VarId}
 use Rattle.nomos_machine.specs.declared.object.PotentialList.{PotentialList}
 use Rattle.nomos_snapshot.specs.declared.line.SnapshotLine.{SnapshotLine}
+use Rattle.nomos_snapshot.specs.mirror.Remaining.{AreApart, AreLeft}
 use Rattle.nomos_snapshot.proofs.VariableLaws.{channel_pair, list_pair, value_pair}
 
 module _ {X : Type 0} where
@@ -123,21 +124,17 @@ each-above e [] all = All-nil (λ p. e.0.0 < p.0.0)
 each-above e (p ∷ b) all =
     All-cons (λ q. e.0.0 < q.0.0) p b (ranked e.0.0 p.0.0 Less (sym all.0)) (each-above e b all.1)
 
-above-others : {X : Type 0} (e : VarId × X) (b : List (VarId × X)) → IsAscending (e ∷ b) → AreAbove e.0.0 b
+pub above-others : {X : Type 0} (e : VarId × X) (b : List (VarId × X)) → IsAscending (e ∷ b) → AreAbove e.0.0 b
 above-others e b ascending = each-above e b (sorted_head by_number e.0 (keys_of b) ascending)
 
 above-lower : {X : Type 0} (m n : ℕ) (b : List (VarId × X)) → m < n → AreAbove n b → AreAbove m b
 above-lower m n b below above =
     All-weaker (λ p. n < p.0.0) (λ p. m < p.0.0) (λ p h. omega (arith, h, below)) b above
 
-above-all : {X : Type 0} (n : ℕ) (e : VarId × X) (b : List (VarId × X)) → n < e.0.0 → IsAscending (e ∷ b)
+pub above-all : {X : Type 0} (n : ℕ) (e : VarId × X) (b : List (VarId × X)) → n < e.0.0 → IsAscending (e ∷ b)
     → AreAbove n (e ∷ b)
 above-all n e b below ascending =
     All-cons (λ p. n < p.0.0) e b below (above-lower n e.0.0 b below (above-others e b ascending))
-
--- no variable stands in both
-abbrev pub AreApart : {X Y : Type 0} → List (VarId × X) → List (VarId × Y) → Type 0
-AreApart xs ys = All (λ e. All (λ f. e.0.0 ≢ f.0.0) ys) xs
 
 first-apart : {X Y : Type 0} (e : VarId × X) (f : VarId × Y) (xs : List (VarId × X)) (ys : List (VarId × Y))
     → AreApart (e ∷ xs) (f ∷ ys) → e.0.0 ≢ f.0.0
@@ -164,16 +161,6 @@ lower (e ∷ xs) (f ∷ ys) a b apart = elim (cases_lt e.0.0 f.0.0) [
       let below : f.0.0 < e.0.0 = omega (arith, from, other) in
       that f (e ∷ xs) ys (above-all f.0.0 e xs below a) (above-others f ys b)
 ]
-
--- values, lists and channels that are left: each in order, and no variable in two of them
-pub record AreLeft (values : List (VarId × Value)) (lists : List (VarId × PotentialList)) (channels : List (VarId × ℕ))
-    : Type 0 where
-  pub values_ascend : IsAscending values
-  pub lists_ascend : IsAscending lists
-  pub channels_ascend : IsAscending channels
-  pub lists_apart : AreApart values lists
-  pub channels_apart : AreApart values channels
-  pub both_apart : AreApart lists channels
 
 -- the lowest variable that is left
 pub data Lowest : List (VarId × Value) → List (VarId × PotentialList) → List (VarId × ℕ) → Type 0 where

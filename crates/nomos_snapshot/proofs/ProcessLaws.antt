@@ -24,7 +24,8 @@ use Rattle.nomos_snapshot.specs.Line.{IsLine}
 use Rattle.nomos_snapshot.specs.Text.{variable_lines}
 use Rattle.nomos_snapshot.specs.declared.line.SnapshotLine.{SnapshotLine}
 use Rattle.nomos_snapshot.specs.declared.line.SnapshotLine.TheVariants as line
-use Rattle.nomos_snapshot.proofs.LowestLaws.{AreAbove, AreApart, AreLeft, Lowest, channel-first, left_pairs, list-first, lowest, lowest_channel, lowest_list, lowest_value, nothing, value-first}
+use Rattle.nomos_snapshot.specs.mirror.Remaining.{AreApart, AreLeft}
+use Rattle.nomos_snapshot.proofs.LowestLaws.{AreAbove, Lowest, channel-first, left_pairs, list-first, lowest, lowest_channel, lowest_list, lowest_value, nothing, value-first}
 
 -- ---- what is left
 
@@ -92,7 +93,7 @@ still-over p q n values lists channels keeps a b c over = record {
 
 -- ---- what is left behind one that is taken
 
-without-value : (e : VarId × Value) (values : List (VarId × Value)) (lists : List (VarId × PotentialList))
+pub without-value : (e : VarId × Value) (values : List (VarId × Value)) (lists : List (VarId × PotentialList))
     (channels : List (VarId × ℕ)) → AreLeft (e ∷ values) lists channels → AreLeft values lists channels
 without-value e values lists channels left = record {
   values_ascend = sorted_tail by_number e.0 (keys_of values) left.values_ascend;
@@ -103,7 +104,7 @@ without-value e values lists channels left = record {
   both_apart = left.both_apart;
 }
 
-without-list : (e : VarId × PotentialList) (values : List (VarId × Value)) (lists : List (VarId × PotentialList))
+pub without-list : (e : VarId × PotentialList) (values : List (VarId × Value)) (lists : List (VarId × PotentialList))
     (channels : List (VarId × ℕ)) → AreLeft values (e ∷ lists) channels → AreLeft values lists channels
 without-list e values lists channels left = record {
   values_ascend = left.values_ascend;
@@ -115,7 +116,7 @@ without-list e values lists channels left = record {
   both_apart = All-tail (λ p. All (λ f. p.0.0 ≢ f.0.0) channels) e lists left.both_apart;
 }
 
-without-channel : (e : VarId × ℕ) (values : List (VarId × Value)) (lists : List (VarId × PotentialList))
+pub without-channel : (e : VarId × ℕ) (values : List (VarId × Value)) (lists : List (VarId × PotentialList))
     (channels : List (VarId × ℕ)) → AreLeft values lists (e ∷ channels) → AreLeft values lists channels
 without-channel e values lists channels left = record {
   values_ascend = left.values_ascend;
@@ -255,7 +256,7 @@ apart-from xs ys most = λ k d within j f inside same.
       most (get_or xs k d).0.0,
     ))
 
-left-of : (p : Process) → VariablesDiffer p → AreLeft p.values p.lists p.channels
+pub left-of : (p : Process) → VariablesDiffer p → AreLeft p.values p.lists p.channels
 left-of p differ = record {
   values_ascend = differ.values;
   lists_ascend = differ.lists;

@@ -1,6 +1,7 @@
 //! Snapshots: a ledger as text, and a text as the ledger that it is the snapshot of.
 #![tactic(auto)]
 
+mod bounds;
 pub mod error;
 pub mod gathered;
 mod kind;
@@ -11,6 +12,8 @@ mod message_lines;
 mod plain_lines;
 mod process_lines;
 pub mod reading;
+mod remaining;
+pub mod saving;
 mod stand;
 mod told;
 mod values;

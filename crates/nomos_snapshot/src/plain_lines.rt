@@ -16,10 +16,10 @@ use nomos_texts::splitting::is_word;
 use std::alloc::{AllocError, Global};
 
 /// More than any number of gas that a snapshot may have.
-const GAS_LIMIT: u128 = 39_614_081_257_132_168_796_771_975_168;
+pub(crate) const GAS_LIMIT: u128 = 39_614_081_257_132_168_796_771_975_168;
 
 /// The most that a next number may be.
-const NEXT_LIMIT: u32 = 2_147_483_648;
+pub(crate) const NEXT_LIMIT: u32 = 2_147_483_648;
 
 /// The number of gas that a word is.
 pub(crate) fn read_gas(word: &[u8]) -> Option<u128>

@@ -15,7 +15,7 @@ use nomos_texts::splitting::{behind, is_word};
 use std::alloc::{AllocError, Global};
 
 /// The most lists of a value that stand in one another.
-const MAX_NESTING: u32 = 256;
+pub(crate) const MAX_NESTING: u32 = 256;
 
 // The number below zero of this size.
 fn negative(size: u64) -> Option<i64>

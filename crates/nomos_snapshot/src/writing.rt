@@ -91,8 +91,36 @@ fn push_words(text: &mut Vec<u8>, first: &[u8], others: &[Word<'_>]) -> Result<(
     Ok(())
 }
 
-// Appends the line of the next numbers.
-fn push_next(text: &mut Vec<u8>, next_object: u32, next_name: u32) -> Result<(), AllocError>
+/// Appends the first line.
+pub(crate) fn push_head(text: &mut Vec<u8>) -> Result<(), AllocError>
+    ensures { (lists : ProgramLists) → OnOk result (text.new.items
+        ≡ text.old.items ++ (line_text lists SnapshotLine.Head ++ 10 ∷ [])) }
+{
+    push_words(text, b"nomos-ledger", &[Word::Text(b"1")])
+}
+
+/// Appends the line of the unit.
+pub(crate) fn push_unit(text: &mut Vec<u8>, unit: u32) -> Result<(), AllocError>
+    ensures { (lists : ProgramLists) → OnOk result (text.new.items
+        ≡ text.old.items ++ (line_text lists (SnapshotLine.Unit unit) ++ 10 ∷ [])) }
+{
+    push_words(text, b"unit", &[Word::Number(unit)])
+}
+
+/// Appends the line of the gas spent.
+pub(crate) fn push_spent(text: &mut Vec<u8>, dths: u128) -> Result<(), AllocError>
+    ensures { (lists : ProgramLists) → OnOk result (text.new.items
+        ≡ text.old.items ++ (line_text lists (SnapshotLine.Spent dths) ++ 10 ∷ [])) }
+{
+    push_words(text, b"spent", &[Word::Gas(dths)])
+}
+
+/// Appends the line of the next numbers.
+pub(crate) fn push_next(
+    text: &mut Vec<u8>,
+    next_object: u32,
+    next_name: u32,
+) -> Result<(), AllocError>
     ensures { (lists : ProgramLists) → OnOk result (text.new.items
         ≡ text.old.items ++ (line_text lists (SnapshotLine.Next next_object next_name) ++ 10 ∷ [])) }
 {
@@ -103,24 +131,24 @@ fn push_next(text: &mut Vec<u8>, next_object: u32, next_name: u32) -> Result<(),
     )
 }
 
-// Appends the line of an account.
-fn push_account(text: &mut Vec<u8>, name: &[u8], dths: u128) -> Result<(), AllocError>
+/// Appends the line of an account.
+pub(crate) fn push_account(text: &mut Vec<u8>, name: &[u8], dths: u128) -> Result<(), AllocError>
     ensures { (lists : ProgramLists) → OnOk result (text.new.items
         ≡ text.old.items ++ (line_text lists (SnapshotLine.Account name.now dths) ++ 10 ∷ [])) }
 {
     push_words(text, b"account", &[Word::Text(name), Word::Gas(dths)])
 }
 
-// Appends the line of a contract.
-fn push_contract(text: &mut Vec<u8>, name: &[u8], shared: u32) -> Result<(), AllocError>
+/// Appends the line of a contract.
+pub(crate) fn push_contract(text: &mut Vec<u8>, name: &[u8], shared: u32) -> Result<(), AllocError>
     ensures { (lists : ProgramLists) → OnOk result (text.new.items
         ≡ text.old.items ++ (line_text lists (SnapshotLine.Contract name.now shared) ++ 10 ∷ [])) }
 {
     push_words(text, b"contract", &[Word::Text(name), Word::Number(shared)])
 }
 
-// Appends the line of a name.
-fn push_typed_name(text: &mut Vec<u8>, name: u32, t: TypeId) -> Result<(), AllocError>
+/// Appends the line of a name.
+pub(crate) fn push_typed_name(text: &mut Vec<u8>, name: u32, t: TypeId) -> Result<(), AllocError>
     ensures { (lists : ProgramLists) → OnOk result (text.new.items
         ≡ text.old.items ++ (line_text lists (SnapshotLine.Name name t) ++ 10 ∷ [])) }
 {
@@ -139,8 +167,8 @@ fn mode_text(mode: Mode) -> &'static [u8]
     }
 }
 
-// Appends the line of a process.
-fn push_process(text: &mut Vec<u8>, p: &SeenProcess) -> Result<(), AllocError>
+/// Appends the line of a process.
+pub(crate) fn push_process(text: &mut Vec<u8>, p: &SeenProcess) -> Result<(), AllocError>
     ensures { (lists : ProgramLists) → OnOk result (text.new.items
         ≡ text.old.items ++ (line_text lists (SnapshotLine.Process p.now) ++ 10 ∷ [])) }
 {
@@ -160,16 +188,16 @@ fn push_process(text: &mut Vec<u8>, p: &SeenProcess) -> Result<(), AllocError>
     push_words(text, b"process", &words)
 }
 
-// Appends the line of a variable with its value.
-fn push_value_line(text: &mut Vec<u8>, v: VarId, value: &Value) -> Result<(), AllocError>
+/// Appends the line of a variable with its value.
+pub(crate) fn push_value_line(text: &mut Vec<u8>, v: VarId, value: &Value) -> Result<(), AllocError>
     ensures { (lists : ProgramLists) → OnOk result (text.new.items
         ≡ text.old.items ++ (line_text lists (SnapshotLine.Value v value.now) ++ 10 ∷ [])) }
 {
     push_words(text, b"value", &[Word::Number(v.0), Word::Value(value)])
 }
 
-// Appends the line of a variable with its list.
-fn push_list_line(
+/// Appends the line of a variable with its list.
+pub(crate) fn push_list_line(
     text: &mut Vec<u8>,
     v: VarId,
     amount: u128,
@@ -182,8 +210,8 @@ fn push_list_line(
     push_words(text, b"list", &words)
 }
 
-// Appends the line of a variable with its channel.
-fn push_channel_line(text: &mut Vec<u8>, v: VarId, name: u32) -> Result<(), AllocError>
+/// Appends the line of a variable with its channel.
+pub(crate) fn push_channel_line(text: &mut Vec<u8>, v: VarId, name: u32) -> Result<(), AllocError>
     ensures { (lists : ProgramLists) → OnOk result (text.new.items
         ≡ text.old.items ++ (line_text lists (SnapshotLine.Channel v name) ++ 10 ∷ [])) }
 {
@@ -249,8 +277,12 @@ fn push_plain(text: &mut Vec<u8>, message: &Message, kind: &[u8]) -> Result<(), 
     push_words(text, b"message", &words)
 }
 
-// Appends the line of a message.
-fn push_message(text: &mut Vec<u8>, program: &Program, message: &Message) -> Result<(), AllocError>
+/// Appends the line of a message.
+pub(crate) fn push_message(
+    text: &mut Vec<u8>,
+    program: &Program,
+    message: &Message,
+) -> Result<(), AllocError>
     ensures { OnOk result (text.new.items
         ≡ text.old.items ++ (line_text program.now (SnapshotLine.Message message.now) ++ 10 ∷ [])) }
 {
@@ -274,10 +306,10 @@ pub fn push_line(
     ensures { OnOk result (text.new.items ≡ text.old.items ++ (line_text program.now line.now ++ 10 ∷ [])) }
 {
     match line {
-        SnapshotLine::Head => push_words(text, b"nomos-ledger", &[Word::Text(b"1")]),
-        SnapshotLine::Unit(unit) => push_words(text, b"unit", &[Word::Number(*unit)]),
+        SnapshotLine::Head => push_head(text),
+        SnapshotLine::Unit(unit) => push_unit(text, *unit),
         SnapshotLine::Next(object, name) => push_next(text, *object, *name),
-        SnapshotLine::Spent(dths) => push_words(text, b"spent", &[Word::Gas(*dths)]),
+        SnapshotLine::Spent(dths) => push_spent(text, *dths),
         SnapshotLine::Account(name, dths) => push_account(text, name.as_bytes(), *dths),
         SnapshotLine::Contract(name, shared) => push_contract(text, name.as_bytes(), *shared),
         SnapshotLine::Name(name, t) => push_typed_name(text, *name, *t),

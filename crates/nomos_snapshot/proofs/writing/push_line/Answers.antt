@@ -1,6 +1,15 @@
 -- Each line is written by its kind.
 use Rattle.nomos_snapshot.proofs.writing.push_line.Goals as goal
 
+pub returns-in-Head : goal.returns-in-Head
+returns-in-Head c = rw c.in-Head.is (c.push_head.ensures c.args.program.now)
+
+pub returns-in-Unit : goal.returns-in-Unit
+returns-in-Unit c = rw c.in-Unit.is (c.push_unit.ensures c.args.program.now)
+
+pub returns-in-Spent : goal.returns-in-Spent
+returns-in-Spent c = rw c.in-Spent.is (c.push_spent.ensures c.args.program.now)
+
 pub returns-in-Next : goal.returns-in-Next
 returns-in-Next c = rw c.in-Next.is (c.push_next.ensures c.args.program.now)
 
