@@ -7,6 +7,7 @@ pub mod gathered;
 mod kind;
 mod labels;
 pub mod line;
+pub mod loading;
 mod marked;
 mod message_lines;
 mod plain_lines;
