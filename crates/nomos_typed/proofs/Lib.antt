@@ -9,4 +9,5 @@ pub mod PartLemmas
 pub mod SectionLemmas
 pub mod TalkLemmas
 pub mod TellLemmas
+pub mod WalkLemmas
 pub mod TieLemmas

@@ -3,6 +3,7 @@
 
 mod both;
 mod comparing;
+pub mod fitting;
 pub mod founded;
 mod heads;
 mod kinds;

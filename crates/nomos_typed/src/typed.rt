@@ -16,7 +16,11 @@ use std::alloc::{AllocError, Global};
 /// Whether the state is typed, where its processes have what the typing rules say at their instructions: whether names
 /// have types, providers and users, processes bases and payers, messages what they have to bring, and sections ends that
 /// go back. Sections are asked last, since names with one provider each lead to no more bases than there are names.
-pub fn is_typed_if_placed(alloc: Global, accepted: &Accepted, state: &StateData) -> Result<bool, AllocError>
+pub fn is_typed_if_placed(
+    alloc: Global,
+    accepted: &Accepted,
+    state: &StateData,
+) -> Result<bool, AllocError>
     requires ordered { IsOrdered state.now }
     ensures parts { IfOk result (λ yes. IsTrue yes ↔ ArePartsTyped accepted.now state.now) }
     ensures typed { IfOk result (λ yes. AreProcessesPlaced accepted.now state.now

@@ -7,9 +7,14 @@ use Rattle.nomos_typed.proofs.typed.is_typed_if_placed.Goals as goal
 pub returns-then-not-both-clause-parts : goal.returns-then-not-both-clause-parts
 returns-then-not-both-clause-parts c = (
   λ yes. absurd cc,
-  λ are. absurd (not-true c.both.result c.if-not-both.true c.both.ensures
-      (c.all_three-names.ensures.1 (c.in_ok-mentioned.ensures.1 are.mentioned, c.in_ok-owned.ensures.1 are.owned,
-      c.in_ok-founded.ensures.1 are.founded), c.in_ok-messages.ensures.1 are.messages)),
+  λ are. absurd (not-true c.both.result c.if-not-both.true c.both.ensures (
+    c.all_three-names.ensures.1 (
+      c.in_ok-mentioned.ensures.1 are.mentioned,
+      c.in_ok-owned.ensures.1 are.owned,
+      c.in_ok-founded.ensures.1 are.founded,
+    ),
+    c.in_ok-messages.ensures.1 are.messages,
+  )),
 )
 
 pub returns-then-not-both-clause-typed : goal.returns-then-not-both-clause-typed
@@ -19,9 +24,14 @@ returns-then-not-both-clause-typed c = λ placed.
       λ yes. absurd cc,
       λ typed.
           let are = exact.1 typed in
-          absurd (not-true c.both.result c.if-not-both.true c.both.ensures
-          (c.all_three-names.ensures.1 (c.in_ok-mentioned.ensures.1 are.mentioned, c.in_ok-owned.ensures.1 are.owned,
-          c.in_ok-founded.ensures.1 are.founded), c.in_ok-messages.ensures.1 are.messages)),
+          absurd (not-true c.both.result c.if-not-both.true c.both.ensures (
+            c.all_three-names.ensures.1 (
+              c.in_ok-mentioned.ensures.1 are.mentioned,
+              c.in_ok-owned.ensures.1 are.owned,
+              c.in_ok-founded.ensures.1 are.founded,
+            ),
+            c.in_ok-messages.ensures.1 are.messages,
+          )),
     )
 
 pub returns-clause-parts : goal.returns-clause-parts
