@@ -1,12 +1,12 @@
 -- Two ascending maps are paired exactly where they are so pair by pair, in order.
-use Rattle.std.proofs.Common.{◌≡◌, ◌≢◌, ◌≤◌, ◌<◌, ◌+◌, ◌∙◌, inl, inr, ℕ, zero, suc, ◌==◌, Bool, cond, List, [], ◌∷◌, length, get_or, Option, Some, None, Less, refl, ap, subst, sym, arith, eq-eqb, ne_eqb}
+use Rattle.std.proofs.Common.{◌≡◌, ◌≢◌, ◌≤◌, ◌<◌, ◌+◌, ◌↔◌, ◌∙◌, inl, inr, ℕ, zero, suc, ◌==◌, Bool, cond, List, [], ◌∷◌, length, get_or, Option, Some, None, Less, refl, ap, subst, sym, arith, eq-eqb, ne_eqb}
 use Rattle.std.proofs.lemmas.Bool.{cases_eq, cases_lt}
 use Rattle.std.proofs.lemmas.Cmp.{ranked}
 use Rattle.std.proofs.lemmas.List.{get_or_default}
 use Rattle.std.proofs.lemmas.Map.Keys.{sorted_head, sorted_tail}
 use Rattle.std.specs.List.{AllByRecursion}
 use Rattle.std.specs.Map.{keys_of}
-use Rattle.nomos_ir.proofs.PairedLaws.{none-left, paired-as, paired-left, paired-right}
+use Rattle.nomos_ir.proofs.PairedLaws.{none-left, paired-as, paired-in_order, paired-left, paired-right}
 use Rattle.nomos_ir.specs.Bindings.{IsAscending, bound_to, by_number}
 use Rattle.nomos_ir.specs.Paired.{ArePaired, Paired, PairedInOrder, neither, none, pair}
 use Rattle.nomos_ir.specs.declared.ids.VarId.{VarId}
@@ -147,3 +147,23 @@ module _ {X Y : Type 0} (R : X → Y → Type 0) where
     beside-there b_up c_up pairs =
         subst (λ (y : VarId × X). Beside y (get_or c n f)) (sym is)
         (order-side b c (paired-walk b c b_up c_up pairs) n x f inside)
+
+  -- ---- up to a place, and to the end
+
+  pub side-next : (b : List (VarId × X)) (c : List (VarId × Y)) (n : ℕ) (x : VarId × X) (f : VarId × Y) → n < length b
+      → n < length c
+      → (SideBySide b c n × (((get_or b n x).0 ≡ (get_or c n f).0) × R (get_or b n x).1 (get_or c n f).1))
+      ↔ SideBySide b c (n + 1)
+  side-next b c n x f inside within = (
+    λ both.
+        side-more b c n both.0
+        (beside-any b c n (get_or b n x) f inside (get_or_default b n x (get_or b n x) inside) within both.1),
+    λ side. (λ k d e low. side k d e (omega (arith, low)), side n x f (omega arith)),
+  )
+
+  pub side-paired : (b : List (VarId × X)) (c : List (VarId × Y)) (n : ℕ) → n ≡ length b → length b ≡ length c
+      → IsAscending b → IsAscending c → SideBySide b c n ↔ ArePaired R b c
+  side-paired b c n whole long b_up c_up = (
+    λ side. paired-in_order (side-order b c long (subst (SideBySide b c) whole side)),
+    λ pairs. subst (SideBySide b c) (sym whole) (order-side b c (paired-walk b c b_up c_up pairs)),
+  )

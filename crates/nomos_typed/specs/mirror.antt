@@ -2,5 +2,6 @@
 pub mod Told
 pub mod Heads
 pub mod Leading
+pub mod Purses
 pub mod Talks
 pub mod Ties
