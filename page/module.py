@@ -27,6 +27,9 @@ FROM_PROGRAM = (
     "-Wno-override-module", "-mllvm", "-expand-div-rem-bits=64", "-mllvm", "-expand-fp-convert-bits=64",
     "-ffunction-sections", "-fdata-sections", "-fno-vectorize", "-fno-slp-vectorize", "-O1", "-c", "-x", "ir",
 )
+# A hint of the kit's processor to itself where it waits in a loop: WebAssembly has none, and the program means the same
+# without it.
+PAUSE = b"@llvm.x86.sse2.pause()"
 FROM_C = ("-ffreestanding", "-fno-builtin", "-O2", "-c")
 LINKED = ("-mwasm64", "--no-entry", "--export=main", "--export-memory", "--stack-first", "--gc-sections")
 
@@ -162,11 +165,23 @@ def called(*words):
         raise NotBuilt(f"{os.path.basename(words[0])}: {done.stdout.decode('latin-1')}")
 
 
+def without_pauses(clang, folder, bitcode):
+    """Gives what the kit's compiler was given as text, without the hints that its processor alone has."""
+    text = f"{folder}/module.ll"
+    called(clang, "-S", "-emit-llvm", "-Wno-override-module", "-x", "ir", bitcode, "-o", text)
+    with open(text, "rb") as file:
+        lines = [line for line in file if PAUSE not in line]
+    with open(text, "wb") as file:
+        file.writelines(lines)
+    return text
+
+
 def compiled(folder, bitcode):
     """Compiles what the kit's compiler was given for a memory of 64 bits, and links it with the shim."""
     tools = f"{kit()}/toolchain/bin"
     os.symlink(f"{tools}/ld.lld", f"{folder}/wasm-ld")
-    called(f"{tools}/clang", *TARGET, *FROM_PROGRAM, bitcode, "-o", f"{folder}/module.o")
+    text = without_pauses(f"{tools}/clang", folder, bitcode)
+    called(f"{tools}/clang", *TARGET, *FROM_PROGRAM, text, "-o", f"{folder}/module.o")
     called(f"{tools}/clang", *TARGET, *FROM_C, f"{HERE}/shim.c", "-o", f"{folder}/shim.o")
     sizes = ("-z", f"stack-size={STACK}", f"--max-memory={MEMORY}")
     objects = (f"{folder}/module.o", f"{folder}/shim.o")
