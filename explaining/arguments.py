@@ -110,16 +110,30 @@ class Arguments:
     def of_count(self):
         pairs = ((self.values, self.wanted_values, "value"), (self.names, self.wanted_names, "contract"))
         lines = []
+        if len(self.values) < len(self.wanted_values):
+            lines += self.unlisted()
         if len(self.values) > len(self.wanted_values):
             lines += self.enlisted() or self.fewer()
+        if len(self.names) > len(self.wanted_names):
+            lines += self.fewer_names()
         for given, wanted, what in pairs:
             if len(given) != len(wanted):
                 lines.append(f"see: {taken(wanted, len(given), what)}")
         if not lines:
             return None
-        lines = [*self.completed(), f"see: {self.declared()}", *lines]
+        completed = [] if any(isinstance(it, Mend) for it in lines) else self.completed()
+        lines = [*completed, f"see: {self.declared()}", *lines]
         lines.sort(key=lambda it: not isinstance(it, Mend))
         return self.line.process.at, "BadArguments count", lines
+
+    def unlisted(self):
+        """Gives a line for values that stand in one list, and are wanted one by one."""
+        it = self.values[0] if len(self.values) == 1 else None
+        if it is None or not isinstance(it.value, list) or len(it.value) != len(self.wanted_values):
+            return []
+        edit = (it.tokens[0].at, it.tokens[-1].end, it.text[1:-1].replace(",", ", "))
+        words = f"write `{edit[2]}` in place of `{it.text}`"
+        return [mend(words, edit)] if self.refused.goes_on(edit) else []
 
     def fewer(self):
         """Gives a line for the values that are more than the process takes, the last ones."""
@@ -129,6 +143,16 @@ class Arguments:
         edit = (start, out[-1].tokens[-1].end, "")
         said = ", ".join(it.text for it in out)
         return [mend(f"take `{said}` out", edit)] if self.refused.goes_on(edit) else []
+
+    def fewer_names(self):
+        """Gives a line for the contracts that are more than the process takes, the last ones."""
+        count = len(self.wanted_names)
+        out, kept = self.names[count:], self.names[:count]
+        start = kept[-1].tokens[-1].end if kept else out[0].tokens[0].at
+        edit = (start, out[-1].tokens[-1].end, "")
+        said = ", ".join(it.text for it in out)
+        twice = {it.text for it in out} <= {it.text for it in kept}
+        return [mend(f"take `{said}` out", edit)] if self.refused.goes_on(edit) and not twice else []
 
     def making(self):
         """Gives lines on what makes a contract of a type of which none is made so far."""
@@ -278,9 +302,13 @@ class Arguments:
         """Gives a line for this line behind the one that makes the contract, where neither stands in a batch."""
         script, line = self.run.script, self.line
         inside = [it.word for it in script.rows[: row.number - 1] if it.word in ("begin", "end")][-1:] == ["begin"]
-        if line.number != self.refused.number or inside or script.row(line.number).word == "begin":
-            return []
         edits = (line.at, line.end + 1, ""), (row.end, row.end, f"\n{line.text}")
+        number = self.refused.number
+        if number != line.number and row.number <= script.batch(number)[1]:
+            does = self.run.end(number, *edits)[0] == "committed"
+            return [mend(f"write this line behind line {row.number}", *edits)] if does else []
+        if line.number != number or inside or script.row(line.number).word == "begin":
+            return []
         answer = self.run.asked(row.number, *edits)
         is_made = answer is not None and answer.status in (0, 3) and answer.entries[-1][0][2:3] != ["refused"]
         return [mend(f"write this line behind line {row.number}", *edits)] if is_made else []

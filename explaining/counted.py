@@ -28,7 +28,12 @@ def completed(it):
     missing, lacking = it.wanted_values[len(values) :], it.wanted_names[len(names) :]
     if len(values) > len(it.wanted_values) or len(names) > len(it.wanted_names) or not missing and not lacking:
         return []
-    known, held = known_here(it, "value"), [name for name in it.held if name not in ("self", *names)]
+    known = known_here(it, "value")
+    place = left_out(it, values, known) if len(missing) == 1 and not lacking else None
+    if place is not None:
+        values.insert(place, it.wanted_values[place].name)
+        missing = []
+    held = [name for name in it.held if name not in ("self", *names)]
     more = [one.name if one.name in known else ".." for one in missing]
     for wanted in lacking:
         fits = [name for name in held if it.types.said(*it.held[name].type[:2]) == wanted.type]
@@ -44,6 +49,17 @@ def completed(it):
         if it.goes_past(it.types.text.edited(edit)):
             return [mend(f"write `{said}`{f', with {kinds}' if kinds else ''}", edit)]
     return []
+
+
+def left_out(it, values, known):
+    """Gives which one value is left out, where one of the parameters' names is known here and was not used so far."""
+    tokens, head = it.types.tokens, it.types.tokens.index(it.name)
+    start = next(at for at in range(head, -1, -1) if tokens[at].text == "proc")
+    body = next(at for at in range(start, head) if tokens[at].text == "=")
+    used = [tokens[at].text for at in range(body, head) if it.types.used(at) == "value" and it.types.leads(at, head)]
+    found = [at for at, one in enumerate(it.wanted_values)
+             if one.name in known and one.name not in used and one.name not in values]
+    return found[0] if len(found) == 1 else None
 
 
 def shortened(it):

@@ -75,7 +75,7 @@ class Forms:
             for further in self.script.rows[row.number : row.number + MOST_ROWS]:
                 tokens = [it for it in (*tokens, *further.tokens) if it.text != "\\"]
                 mend = f"write what stands up to line {further.number} on this one line"
-                yield Slip((row.at, row.end, joined(tokens)), mend)
+                yield Slip((row.at, further.end, joined(tokens)), mend)
         texts = [it.text for it in self.tokens]
         ends = (*STARTS, ")", "}", ";")
         starts = [at for at, it in enumerate(texts) if it in STARTS and (not at or texts[at - 1] in ends)]
@@ -173,6 +173,18 @@ class Forms:
         if mark.text == "-" and is_tight and behind.kind in ("word", "number"):
             new, old = f"{before.text}_{behind.text}", f"{before.text}-{behind.text}"
             yield Slip((before.at, behind.end, new), f"write `{new}` in place of `{old}`, here and wherever it stands")
+        texts, known = [it.text for it in self.tokens], self.script.accounts(self.row.number)
+        if texts[:2] == ["let", "="] and self.count == 1:
+            yield Slip((mark.at, mark.at, "x "), "write `let .. =`, with a name for the contract")
+        is_payer = texts[: self.count] in (["exec"], [*texts[:2], "=", "new"]) and self.wanted == {"NAME"}
+        if is_payer and mark.kind == "number" and int(mark.text[:9]) < len(known):
+            new = known[int(mark.text[:9])]
+            yield Slip((mark.at, mark.end, new), f"write `{new}` in place of `{mark.text}`, which is its number")
+        is_all = ";" in texts and "[" in texts[: self.count] and texts[-2:] == ["]", ")"]
+        if is_all and texts[texts.index("[") - 1] == "(":
+            opening = self.tokens[texts.index("[")]
+            inside = self.script.text[opening.end : self.tokens[-2].at]
+            yield Slip((opening.at, self.tokens[-2].end, inside), "take the `[` and the `]` out")
         if mark.kind == "number" and self.wanted == {"NAME"} and behind.kind == "word" and mark.end == behind.at:
             new, old = f"{behind.text}{mark.text}", f"{mark.text}{behind.text}"
             yield Slip((mark.at, behind.end, new), f"write `{new}` in place of `{old}`, here and wherever it stands")
@@ -182,6 +194,11 @@ class Forms:
         texts = [it.text for it in self.tokens]
         pairs = [it for it in texts[1:] if it not in (",", ";", "and", "deposit", "&", "to", ":", "=")]
         is_row = texts[:1] == ["deposit"] and len(pairs) > 3 and len(pairs) % 2 == 0
+        if texts[:1] == ["deposit"] and len(texts) == 4 and texts[1] in SMALL and texts[3].isdecimal():
+            yield Slip((self.tokens[1].at, self.tokens[2].at, ""), f"take `{texts[1]}` out")
+        if texts[:1] == ["deposit"] and len(pairs) > 2 and pairs[-1].isdecimal() and set(texts) & {"and", ",", "&"}:
+            if all(it.isidentifier() for it in pairs[:-1]):
+                pairs, is_row = [it for name in pairs[:-1] for it in (name, pairs[-1])], True
         if is_row and all(it.isidentifier() and other.isdecimal() for it, other in zip(pairs[::2], pairs[1::2])):
             rows = [f"deposit {it} {other}" for it, other in zip(pairs[::2], pairs[1::2])]
             said = " and ".join(f"`{it}`" for it in rows)
@@ -190,6 +207,10 @@ class Forms:
     def of_amounts(self):
         """What stands around the units of a `deposit`, and a deposit that is written like a value."""
         mark, before, texts = self.marked, self.at(-1), [it.text for it in self.tokens]
+        if not self.count and mark.kind == "word" and texts[1:2] == ["="] and texts[3:] == [] and texts[2:3] and \
+                texts[2].isdecimal():
+            new = f"deposit {mark.text} {texts[2]}"
+            yield Slip((self.row.at, self.row.end, new), f"write `{new}`")
         if texts[:1] == ["let"] and texts[2:4] == ["=", "deposit"] and texts[4:5] and texts[4].isdecimal():
             new = f"deposit {texts[1]} {texts[4]}"
             yield Slip((self.row.at, self.row.end, new), f"write `{new}`")
@@ -401,7 +422,10 @@ class Forms:
         if self.wanted == {"("} and signs.get(mark.text) == texts[-1]:
             rows = [(it, texts[at + 1]) for at, it in enumerate(self.tokens[:-1]) if at > self.count]
             inside = joined([it for it, behind in rows if not {it.text, behind} & {":", "="}])
-            new = f"({inside}{'' if ';' in inside else ';'})"
+            parts = [it.strip() for it in inside.split(",") if it.strip()]
+            names = [it for it in parts if it.isidentifier() and it not in ("true", "false")]
+            values = [it for it in parts if it not in names]
+            new = f"({inside})" if ";" in inside else f"({', '.join(values)}; {', '.join(names)})".replace("; )", ";)")
             mend = f"write `(` and `)` in place of `{mark.text}` and `{texts[-1]}`"
             yield Slip((mark.at, self.row.end, new), mend)
         is_ended = mark.text == ";" and mark is self.tokens[-1]
@@ -411,10 +435,20 @@ class Forms:
         is_pair = before.kind == mark.kind == "word" and ";" in texts[: self.count] and mark.text in self.made()
         if is_pair and before.text not in self.made() and self.at(1).text in (",", ")"):
             yield Slip((before.at, mark.at, ""), f"take `{before.text}` out")
+        is_name = self.wanted <= {"NAME", ")"} and ";" in texts[: self.count]
+        process = self.codes.processes.get(texts[texts.index("(") - 1]) if self.codes and "(" in texts else None
+        is_name = is_name and process is not None and process.of_kind("channel")
+        if mark.kind == "number" and is_name and len(self.made()) == 1:
+            one = next(iter(self.made()))
+            yield Slip((mark.at, mark.end, one), f"write `{one}`, the name of the contract, in place of `{mark.text}`")
+        if mark.text == ":" and before.text in self.made() and self.at(1).kind == "word":
+            said = joined(self.tokens[self.count : self.count + 2])
+            yield Slip((mark.at, self.at(1).end, ""), f"take `{said}` out")
         if mark.text in ("[", "(", "{") and ";" in texts[: self.count] and BRACKETS[mark.text] in texts[self.count :]:
             end = next(it for it in self.tokens[self.count :] if it.text == BRACKETS[mark.text])
             inside = self.script.text[mark.end : end.at].strip()
-            yield Slip((mark.at, end.end, inside), f"write `{inside}` in place of `{self.script.text[mark.at : end.end]}`")
+            old = self.script.text[mark.at : end.end]
+            yield Slip((mark.at, end.end, inside), f"write `{inside}` in place of `{old}`")
         if mark.text in (",", ";", ")") and before.text in (",", ";") and mark.text + before.text != ");":
             it = before if mark.text == ")" else mark
             yield Slip((it.at, it.end, ""), f"take this `{it.text}` out")

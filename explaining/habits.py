@@ -4,7 +4,7 @@ from .numbers import WRITTEN, in_digits
 from .renamed import fresh, is_known, renaming
 from .shapes import ELSEWHERE, HEADS, KINDS, Slip
 from .texts import joined
-from .wordings import Wordings
+from .wordings import WRITING, Wordings
 
 AGAIN = ("loop", "repeat", "again", "continue", "restart", "recurse", "goto", "next", "self_call")
 LOOPS = ("while", "for", "loop", "repeat", "foreach")
@@ -26,6 +26,7 @@ INSTRUCTIONS = {
     **dict.fromkeys(("var", "val", "set", "def", "const"), "let"),
     **dict.fromkeys(("forward", "redirect", "become"), "fwd"),
     **dict.fromkeys(("drop", "delete", "destroy", "await", "join"), "wait"),
+    **dict.fromkeys(WRITING, "emit"),
 }
 # the instructions that bind a name, and what stands before it
 COMING = {"recv": "", "take": "", "acquire": "as ", "release": "as "}
@@ -203,7 +204,8 @@ class Habits(Wordings):
             end = self.tokens[self.apart(self.index, ("{", "then", ";"))]
             test = self.text.text[mark.at : end.at].strip()
             new = f"if not ({test})"
-            yield Slip("Syntax instruction", f"write `{new}` in place of `unless {test}`", (before.at, end.at, f"{new} "))
+            words = f"write `{new}` in place of `unless {test}`"
+            yield Slip("Syntax instruction", words, (before.at, end.at, f"{new} "))
         other = INSTRUCTIONS.get(before.text)
         if self.wanted == {"."} and other and self.tokens[0].text == "proc":
             words = f"write `{other}` in place of `{before.text}`"
@@ -344,7 +346,8 @@ class Habits(Wordings):
         tokens = self.text.tokens
         rows = zip(tokens, tokens[1:], tokens[2:])
         found = [name.text for one, mode, name in rows if (one.text, mode.text) == ("type", self.tokens[1].text)]
-        return found[0] if len(found) == 1 else ""
+        is_shared = self.tokens[1].text != "S" or any(it.text == "accept" for it in self.tokens[self.index :])
+        return found[0] if len(found) == 1 and is_shared else ""
 
     def of_unnamed(self):
         """An instruction on a channel without the name that it binds: one that is used behind it and bound nowhere."""

@@ -58,6 +58,12 @@ class Lists:
     def of_operators(self):
         """An operator that is a word in other languages."""
         mark = self.marked
+        before, behind = self.token(-1), self.token(1)
+        if mark.text == "not" and {"and", "+"} <= self.wanted and before.kind == "word" and behind.kind != "symbol":
+            new = f"not {before.text} = {behind.text}"
+            old = self.text.text[before.at : behind.end]
+            edit = (before.at, behind.end, new)
+            yield self.slip(f"write `{new}` in place of `{old}`", edit, "Syntax comparison")
         sign = OPERATORS.get(mark.text)
         if sign and {"and", "+"} <= self.wanted:
             yield self.slip(f"write `{sign}` in place of `{mark.text}`", (mark.at, mark.end, sign))

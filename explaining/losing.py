@@ -78,7 +78,8 @@ class Keeping:
             channels = self.fitting(it) if it.mode == process.mode and it.name != process.name else None
             values = it.of_kind("value")
             if channels is not None and values and len(values) + len(it.of_kind("channel")) == len(it.parameters):
-                tries = [{"int": "0", "bool": "true"}.get(one.type, one.type.replace("list", "nil", 1)) for one in values]
+                kinds = [one.type for one in values]
+                tries = [{"int": "0", "bool": "true"}.get(kind, kind.replace("list", "nil", 1)) for kind in kinds]
                 behind = f";{' ' if channels else ''}{', '.join(channels)})"
                 said = ", ".join(".." for _ in values)
                 yield f"call {it.name}({said}{behind}", f"call {it.name}({', '.join(tries)}{behind}"
@@ -135,7 +136,7 @@ class Keeping:
 
     def takers(self):
         """Gives lines on the contracts that are held and take an asset, and then say what becomes of it."""
-        known = {self.said(it.type): (name, it) for name, it in reversed(self.held.items())}
+        known = {self.said(it.type): (name, it) for name, it in reversed(self.held.items()) if name != "self"}
         for asset in self.assets:
             for name, it in reversed(known.values()):
                 body = self.types.unfolded(it.type)
@@ -215,7 +216,9 @@ class Keeping:
     def ending(self, it, deep):
         """Gives the instructions by which a talk of `self` at a type sends what is held and comes to its end, with
         something sent at least; nothing where that is not all it wants."""
-        whole, left, codes = self.types.unfolded(it), list(self.assets), []
+        tokens, codes = self.types.tokens, []
+        passed = [tokens[at].text for at in range(self.step.at, self.step.end)] if self.step.form == "call" else []
+        whole, left = self.types.unfolded(it), [asset for asset in self.assets if asset not in passed]
         while whole.sign == "*" and deep:
             wanted = self.said(whole.parts[0])
             fits = [asset for asset in left if self.said(self.held[asset].type) == wanted]

@@ -274,6 +274,21 @@ def bound_later(names, at, program):
         said = joined(tokens[start : start + 2])
         where = f"before `{said}` at {names.text.place(tokens[start].at)}, and not behind it"
         return [mend(f"write `{code};` {where}", *edits)]
+    return used_later(names, at, start, end, program)
+
+
+def used_later(names, at, start, end, program):
+    """Gives a line for the instruction that uses a name, behind the one that binds it."""
+    tokens = names.tokens
+    last = next((place for place in range(at, end) if tokens[place].text == ";"), None)
+    if last is None:
+        return []
+    code = joined(tokens[start:last])
+    edits = (tokens[start].at, tokens[last + 1].at, ""), (tokens[end].end, tokens[end].end, f" {code};")
+    after = program.check(names.text.edited(*edits))
+    is_past = (after.is_cause("Name") or after.is_cause("ProcType")) and after.offset > tokens[end].end
+    if after.is_accepted or after.is_cause("NoPotential") or is_past:
+        return [mend(f"write `{code};` behind the `;` at {names.text.place(tokens[end].at)}, and not here", *edits)]
     return []
 
 
@@ -486,8 +501,16 @@ def valued(names, at, program):
              and not any(it.text == other.text and names.used(further) for further, other in enumerate(names.tokens)
                          if further > place and names.leads(place, further))]
     found = same_kind(names, at, known[::-1], program) if len(set(known)) <= MOST_BOUND else []
-    lines = [mend(f"write `{name}` in place of `{names.tokens[at].text}`", edit) for name, edit in found]
-    return lines if len(lines) == 1 else []
+    if len(found) != 1:
+        return []
+    name, edit = found[0]
+    more, where = renaming(names.text, at, name)
+    end = next((it for it in range(at, len(names.tokens)) if names.tokens[it].text in (";", "{", "}")), at)
+    same = [it for it in range(at + 1, end) if names.tokens[it].text == names.tokens[at].text and names.used(it)]
+    more = (*((names.tokens[it].at, names.tokens[it].end, name) for it in same), *more)
+    where = ", ".join([*(names.text.place(names.tokens[it].at) for it in same), *([where] if where else [])])
+    words = f"write `{name}` in place of `{names.tokens[at].text}`{f', here and at {where}' if more else ''}"
+    return [mend(words, edit, *more)]
 
 
 def explained(text, answer, program, grammar):
@@ -513,7 +536,8 @@ def explained(text, answer, program, grammar):
     if wanted is None:
         return "Name", []
     early = bound_later(names, at, program)
-    if not early and not bound_here(names, at, program, is_sure=True) and not any(map(moves_on, names.near(at))):
+    is_known = any(map(moves_on, names.near(at))) or bound_here(names, at, program, is_sure=True)
+    if not early and not is_known and not valued(names, at, program):
         early = coming(names, at, program, grammar)
     if early and not (other and other[1] not in (wanted, None) and names.leads(other[0], at)):
         return "Name scope", early

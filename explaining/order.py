@@ -8,7 +8,8 @@ class Order:
     """What is found of the tokens around an offence, by the class that is made of this one."""
 
     def of_moved(self):
-        for way in (self.of_early, self.of_inside, self.of_lambda, self.of_behind, self.of_kind_of_list, self.of_head_alone):
+        ways = (self.of_early, self.of_inside, self.of_lambda, self.of_behind, self.of_kind_of_list)
+        for way in (*ways, self.of_head_alone, self.of_gas):
             yield from way()
 
     def of_early(self):
@@ -23,6 +24,14 @@ class Order:
         part, parameters = joined(self.tokens[self.index : opening]), self.text.text[self.tokens[opening].at : end.end]
         part = part.replace("->", ":", 1) if mark.text == "->" else f" {part}" if mark.text == "{" else part
         yield self.slip(f"write `{part.strip()}` behind the parameters", (mark.at, end.end, f"{parameters}{part}"))
+
+    def of_gas(self):
+        """A potential in words, behind the parameters."""
+        mark, behind = self.marked, self.token(1)
+        if mark.kind == "word" and behind.kind == "number" and {"{", "="} <= self.wanted and self.token(-1).text == ")":
+            said = self.text.text[mark.at : behind.end]
+            new = f"{{{behind.text}}}"
+            yield self.slip(f"write `{new}` in place of `{said}`", (mark.at, behind.end, new))
 
     def of_inside(self):
         """A potential among the parameters, which stands behind them."""
@@ -85,8 +94,10 @@ class Order:
             yield self.slip(f"write `;` before this `)`", (mark.at, mark.at, ";"))
 
     def of_kind_of_list(self):
-        """The kind of what a list has, before the word `list`."""
+        """The kind of what a list has, before the word `list`, and a mode before the name of a function."""
         mark, before = self.marked, self.token(-1)
+        if before.text == "fn" and mark.text in ("R", "S", "L", "T") and self.token(1).kind == "word":
+            yield self.slip(f"take `{mark.text}` out, since a function has no mode", (mark.at, self.token(1).at, ""))
         if mark.text in ("list", "array", "vector") and before.text in ("int", "bool"):
             new = f"list {before.text}"
             yield self.slip(f"write `{new}` in place of `{before.text} {mark.text}`", (before.at, mark.end, new))

@@ -162,6 +162,9 @@ class Line(Forms):
         names = [tokens[1].text] if tokens[0].text == "let" and tokens[1].kind == "word" else names
         new = f"let {names[0]} = new {accounts[0]} {call}" if names else ""
         new = f"exec {accounts[0]} {call}" if mode == "T" else new
+        if mode == "S" and not names and len(tokens) == end - at + 1:
+            words = f"write `let .. = new {accounts[0]} {call}`, with a name for the contract"
+            yield Slip((self.row.at, self.row.end, f"let x = new {accounts[0]} {call}"), words)
         said = {it.text for it in tokens if it.kind in ("word", "number")}
         is_whole = said <= {*FILLING, *re.findall(r"\w+", new), *(it.offers for it in processes.values())}
         if new and mode in "ST" and is_whole:
@@ -226,6 +229,7 @@ class Line(Forms):
         """Gives lines on such a number: the same in digits, where it is one and may stand here."""
         mark, before = self.marked, self.at(-1)
         new = in_digits(before.text + mark.text)
+        new = new or (before.text if mark.text.isalpha() and len(mark.text) > 2 else "")
         edit = (before.at, mark.end, new)
         does = new and self.has_form(edit)
         return [*([mend(f"write `{new}` in place of `{before.text}{mark.text}`", edit)] if does else []), WRITTEN]

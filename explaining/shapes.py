@@ -10,7 +10,7 @@ KINDS = ("int", "bool", "list")
 # The kinds of values by the names that other languages have for them.
 WHOLE = "integer Integer Int number nat uint usize long short byte address account Address"
 SIZED = "u8 u16 u32 u64 u128 i8 i16 i32 i64 i128 uint8 uint32 uint64 uint128 uint256 int8 int32 int64 int256"
-ELSEWHERE = dict.fromkeys(f"{WHOLE} {SIZED}".split(), "int")
+ELSEWHERE = dict.fromkeys(f"{WHOLE} {SIZED} float double decimal real f32 f64".split(), "int")
 ELSEWHERE.update(dict.fromkeys(("boolean", "Boolean", "Bool"), "bool"))
 LASTS = ("close", "fwd", "call", "if", "case", "match")
 # What stands for a channel where a sign for values is written, and the signs for values by what holds the label.

@@ -11,7 +11,7 @@ from .names import Names, unused
 from .passing import passed
 from .retyped import retyped
 from .shapes import LASTS
-from .swapped import ended_otherwise, made_here, other_channel, other_spawned, put_instead
+from .swapped import acquired_later, acquired_of, ended_otherwise, made_here, other_channel, other_spawned, put_instead
 from .syntax import distance
 from .texts import LONGEST, joined
 
@@ -176,9 +176,11 @@ class Stuck:
         yield from self.elsewhere()
         yield from self.swapped()
         ways = [put_instead(self)] if self.form in ("detach", "call", "close") else []
-        ways += [other_channel(self), ended_otherwise(self)] if self.form in TALKING else []
+        ways += [other_channel(self), ended_otherwise(self), acquired_of(self)] if self.form in TALKING else []
         for edit, words in (it for way in (*ways, other_spawned(self)) for it in way):
             yield Try(edit, words)
+        for edit, words, more in acquired_later(self) if self.form in DUAL else ():
+            yield Try(edit, words, (more,))
         if self.form == "label":
             label = self.tokens[self.index + 2]
             for it in self.labels():
@@ -297,7 +299,10 @@ class Stuck:
         words = "take it out"
         held = self.reached[2]
         at = {"send": 2, "release": 1}.get(self.form, 0)
-        is_spent = at and self.tokens[self.index + at].text not in held
+        word = self.tokens[self.index + at].text
+        via = self.tokens[self.index + 1].text
+        is_spent = at and (word not in held or via not in held)
+        is_spent = is_spent or self.form == "release" and self.reached[0].is_shared(held[via].type)
         for _ in range(DEEP):
             if self.form not in TAKEN_OUT and not is_spent or end is None:
                 return
@@ -356,7 +361,8 @@ class Stuck:
         if self.form not in ("close", "call", "fwd", "detach"):
             return
         it = Keeping(types, step, held, values_of(self.names, self.head, self.index))
-        if not it.assets and self.form != "call":
+        given = [self.tokens[at].text for at in range(self.index, self.behind()) if self.names.used(at) == "channel"]
+        if not it.assets and (self.form != "call" or set(given) <= held.keys()):
             return
         process = next(other for other in types.processes.values() if other.at == self.head + 2)
         if self.form == "detach":
@@ -379,6 +385,11 @@ class Stuck:
         """Gives what lets the check go on past the stuck instruction: first what keeps all that is held, then the
         furthest ones, three at most. Behind each stands what is lost by it."""
         types, step, held = self.reached
+        if self.is_of_kind(types, held):
+            found = [it for it in self.swapped() if (self.reach(it) or 0) > self.at]
+            lines = [] if found else self.parts()
+            if lines:
+                return lines
         kept = [it for it in self.keeping(types, step, held) if (self.reach(it) or 0) > self.at]
         lines = [mend(it.mend, *it.edits) for it in kept]
         edits = [it.edit for it in kept]
@@ -392,6 +403,13 @@ class Stuck:
             lines = [*self.by_label(types, step, held), *lines]
         lines = lines or [mend(it.mend, *it.edits) for _, it in self.made()]
         return list(dict.fromkeys(lines))[:3] or self.parts()
+
+    def is_of_kind(self, types, held):
+        """Whether a value is wanted where one is put, so that it is of another kind."""
+        via = self.tokens[self.index + 1].text
+        if self.form != "put" or via not in held:
+            return False
+        return types.unfolded(held[via].type).sign == ("/\\" if via == "self" else "->")
 
     def by_label(self, types, step, held):
         """Gives lines on another label for the last one, by which what is held is sent, where nothing else does."""

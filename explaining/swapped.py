@@ -2,7 +2,7 @@
 or what a value is sent by."""
 from .texts import joined
 
-MOST_TRIED = 6
+MOST_TRIED, MOST_BEHIND = 6, 3
 
 
 def held_names(stuck):
@@ -20,6 +20,45 @@ def other_channel(stuck):
         return
     for name in held_names(stuck)[:MOST_TRIED]:
         yield (it.at, it.end, name), f"write `{name}` in place of `{it.text}`"
+
+
+def acquired_of(stuck):
+    """Gives edits for another contract that is acquired under the name of the channel."""
+    types, step, held = stuck.reached
+    at = stuck.index if stuck.form == "label" else stuck.index + 1
+    name = stuck.tokens[at].text
+    bound = held[name].bound if name in held else 0
+    if stuck.tokens[bound - 1].text != "as" or stuck.tokens[bound - 3].text != "acquire":
+        return
+    token = stuck.tokens[bound - 2]
+    for other, it in held.items():
+        if types.is_shared(it.type) and other not in (token.text, "self"):
+            words = f"write `{other}` in place of `{token.text}` at {types.text.place(token.at)}"
+            yield (token.at, token.end, other), words
+
+
+def acquired_later(stuck):
+    """Gives edits for an instruction on a contract that is acquired behind it: under that name, and behind that."""
+    types, step, held = stuck.reached
+    at, end = stuck.index + 1, stuck.end()
+    it = stuck.tokens[at]
+    if it.text not in held or not types.is_shared(held[it.text].type) or end is None or stuck.form == "acquire":
+        return
+    rows = [place for place in range(at, len(stuck.tokens) - 3) if stuck.tokens[place].text == "acquire"
+            and stuck.tokens[place + 1].text == it.text and stuck.names.leads(at, place)]
+    if not rows:
+        return
+    name, place = stuck.tokens[rows[0] + 3].text, rows[0]
+    code = f"{stuck.form} {name} {stuck.text.text[it.end : end].strip()};"
+    for _ in range(MOST_BEHIND):
+        rest = range(place + 1, len(stuck.tokens))
+        place = next((further for further in rest if stuck.tokens[further].text == ";"), None)
+        if place is None:
+            return
+        after = stuck.tokens[place]
+        words = f"write `{code}` behind the `;` at {stuck.text.place(after.at)}, and not here"
+        behind = stuck.text.tokens[stuck.text.index_at(end) + 1].at
+        yield (stuck.at, behind, ""), words, (after.end, after.end, f" {code}")
 
 
 def other_spawned(stuck):

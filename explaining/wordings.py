@@ -23,6 +23,13 @@ DECLARATIONS = {
     "modifier": "what is asked for before stands in an `if`, in each place",
     "contract": "a contract is a process of mode S, by `proc S`, and its type by `type S`",
     "interface": "what is asked of a contract is its type, by `type S`",
+    "class": "a contract is a process of mode S, by `proc S`, and its type by `type S`",
+    "module": "declarations stand in no other one; a contract is a process of mode S, by `proc S`",
+    "library": "functions stand by themselves, by `fn`",
+    "trait": "what is asked of a contract is its type, by `type S`",
+    "impl": "what a contract does with a client is the `case` behind its `accept`",
+    "pragma": "a text begins with its declarations, or with a `cost` before them",
+    "package": "a contract is one text; copy what it needs into it",
     "constructor": "a contract begins as its process of mode S, by `let .. = new` in a script",
 }
 # The words with which they write something, and what these are parts of.
