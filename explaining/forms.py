@@ -415,7 +415,7 @@ class Forms:
             yield Slip((mark.at, self.tokens[1].end, new), f"write `{new}` in place of `{mark.text} exec`")
 
     def of_brackets(self):
-        """Arguments in other brackets, or in none, lists without commas, and signs that stand twice or at an end."""
+        """Arguments in other brackets, or in none."""
         mark, before = self.marked, self.at(-1)
         texts = [it.text for it in self.tokens]
         signs = {"{": "}", "[": "]", "<": ">"}
@@ -432,6 +432,13 @@ class Forms:
         if self.wanted == {"("} and (not mark.kind or is_ended):
             slip = self.of_no_arguments()
             yield slip._replace(edit=(slip.edit[0], self.row.end, slip.edit[2]))
+        yield from self.of_names_given()
+        yield from self.of_signs_twice()
+
+    def of_names_given(self):
+        """The names of contracts with something around them, or a number in the place of one."""
+        mark, before = self.marked, self.at(-1)
+        texts = [it.text for it in self.tokens]
         is_pair = before.kind == mark.kind == "word" and ";" in texts[: self.count] and mark.text in self.made()
         if is_pair and before.text not in self.made() and self.at(1).text in (",", ")"):
             yield Slip((before.at, mark.at, ""), f"take `{before.text}` out")
@@ -449,6 +456,11 @@ class Forms:
             inside = self.script.text[mark.end : end.at].strip()
             old = self.script.text[mark.at : end.end]
             yield Slip((mark.at, end.end, inside), f"write `{inside}` in place of `{old}`")
+
+    def of_signs_twice(self):
+        """Signs that stand twice, or at an end, and lists in other brackets or without commas."""
+        mark, before = self.marked, self.at(-1)
+        texts = [it.text for it in self.tokens]
         if mark.text in (",", ";", ")") and before.text in (",", ";") and mark.text + before.text != ");":
             it = before if mark.text == ")" else mark
             yield Slip((it.at, it.end, ""), f"take this `{it.text}` out")

@@ -319,6 +319,11 @@ class Habits(Wordings):
             kind = ELSEWHERE.get(self.token(2).text, self.token(2).text)
             said = self.text.text[mark.at : self.token(3).end]
             yield Slip("Syntax", f"write `: {kind}` in place of `{said}`", (mark.at, self.token(3).end, f": {kind}"))
+        yield from self.of_left_out()
+
+    def of_left_out(self):
+        """Slips where a kind, a type, a channel or a body is left out, or a type stands for a kind."""
+        mark, before = self.marked, self.token(-1)
         if self.wants("vtype") and mark.text in ELSEWHERE:
             mend = f"write `{ELSEWHERE[mark.text]}` in place of `{mark.text}`"
             yield Slip("Syntax spelling", mend, (mark.at, mark.end, ELSEWHERE[mark.text]))
@@ -534,22 +539,28 @@ class Habits(Wordings):
                 yield Slip(row, f"write `{new}` in place of `{old}`", (before.at, end.end, new))
             if mark.text == "=":
                 yield self.of_written(self.binder(1))
-            if mark.kind == "word" and self.is_label(before.text):
-                new = f"{mark.text}.{before.text}"
-                yield Slip(row, f"write `{new}` in place of `{before.text} {mark.text}`", (before.at, mark.end, new))
-            if mark.text in ("+", "-") and behind.text == mark.text:
-                yield self.of_counted(mark.text)
-            if mark.text in ("+", "-", "*", "/") and behind.text == "=":
-                yield self.of_written("let", f"{before.text} {mark.text} ")
-            if mark.kind == "word" and behind.text == "=":
-                word = self.binder(2)
-                yield Slip(row, f"write `{word}` in place of `{before.text}`", (before.at, before.end, word))
-            if mark.text in (";", "}", "|") and self.is_label(before.text):
-                mend = f"write the channel that it is sent on, and a `.`, before `{before.text}`"
-                yield Slip(row, mend, (before.at, before.at, "x."))
+            yield from self.of_labels_sent()
         if mark.text in KINDS and behind.kind == "word" and self.token(2).text == "=":
             word = self.binder(3)
             yield Slip("Syntax instruction", f"write `{word}` in place of `{mark.text}`", (mark.at, mark.end, word))
+
+    def of_labels_sent(self):
+        """Slips at a label, at a name that is counted, and at a word that binds nothing."""
+        mark, before, behind = self.marked, self.token(-1), self.token(1)
+        row = "Syntax instruction"
+        if mark.kind == "word" and self.is_label(before.text):
+            new = f"{mark.text}.{before.text}"
+            yield Slip(row, f"write `{new}` in place of `{before.text} {mark.text}`", (before.at, mark.end, new))
+        if mark.text in ("+", "-") and behind.text == mark.text:
+            yield self.of_counted(mark.text)
+        if mark.text in ("+", "-", "*", "/") and behind.text == "=":
+            yield self.of_written("let", f"{before.text} {mark.text} ")
+        if mark.kind == "word" and behind.text == "=":
+            word = self.binder(2)
+            yield Slip(row, f"write `{word}` in place of `{before.text}`", (before.at, before.end, word))
+        if mark.text in (";", "}", "|") and self.is_label(before.text):
+            mend = f"write the channel that it is sent on, and a `.`, before `{before.text}`"
+            yield Slip(row, mend, (before.at, before.at, "x."))
 
     def of_written(self, word, part=""):
         """A name that is written anew, as if it could change its value. What is computed of it stands first."""

@@ -545,20 +545,32 @@ def explained(text, answer, program, grammar):
     if mends:
         return ("Name other" if other else "Name unknown"), mends
     if other:
-        place, kind = text.place(text.tokens[other[0]].at), other[1]
-        if kind == wanted:
-            found = [*bound_here(names, at, program), *valued(names, at, program)]
-            return "Name scope", [*found, f"see: `{token.text}` is bound at {place}"]
-        see = f"see: `{token.text}` is {said(kind)}, by {place}, and {said(wanted)} is wanted here"
-        found = declared_ones(names, at, wanted, program) if wanted == "function" else []
-        found = found or (applied(names, at, program) if wanted == "function" else [])
-        mends = found or made(names, at, program, grammar) or bound_here(names, at, program)
-        mends = mends or valued(names, at, program)
-        return "Name other", [*mends, see]
+        return otherwise(names, at, other, program, grammar)
     does = valued(names, at, program)
-    for name in names.near(at):
-        if moves_on(name) and not (does and distance(name, token.text) > 1):
-            return "Name near", [mend(says("near", name=name), (token.at, token.end, name))]
+    near = next((it for it in names.near(at) if moves_on(it)), None)
+    if near and not (does and distance(near, token.text) > 1):
+        return "Name near", [mend(says("near", name=near), (token.at, token.end, near))]
+    return unknown(names, at, does, program, grammar)
+
+
+def otherwise(names, at, other, program, grammar):
+    """Gives the row and the lines for a name that is known as something else, or elsewhere."""
+    text, token, wanted = names.text, names.tokens[at], names.used(at)
+    place, kind = text.place(text.tokens[other[0]].at), other[1]
+    if kind == wanted:
+        found = [*bound_here(names, at, program), *valued(names, at, program)]
+        return "Name scope", [*found, f"see: `{token.text}` is bound at {place}"]
+    see = f"see: `{token.text}` is {said(kind)}, by {place}, and {said(wanted)} is wanted here"
+    found = declared_ones(names, at, wanted, program) if wanted == "function" else []
+    found = found or (applied(names, at, program) if wanted == "function" else [])
+    mends = found or made(names, at, program, grammar) or bound_here(names, at, program)
+    mends = mends or valued(names, at, program)
+    return "Name other", [*mends, see]
+
+
+def unknown(names, at, does, program, grammar):
+    """Gives the row and the lines for a name that is known nowhere; with a value that may be meant, if one may."""
+    token, wanted = names.tokens[at], names.used(at)
     lines = [f"see: {said(wanted)} is wanted here, and none has the name `{token.text}`"]
     if wanted == "value" and token.text in NOTHINGS:
         words = f"write a number that says that there is nothing, as `0 - 1`, in place of `{token.text}`"

@@ -91,8 +91,8 @@ class Line(Forms):
             yield Slip((mark.at, self.row.end, ""), f"take what stands behind `{before.text}` out")
         yield from self.of_parts()
 
-    def of_starts(self):
-        """Slips at the start of a line: what is left out there, or stands in another order."""
+    def of_deposit(self):
+        """Slips in a deposit: what is left out, or stands in another order."""
         mark, before, behind = self.marked, self.at(-1), self.at(1)
         is_whole = not (behind.at == mark.end and in_digits(mark.text + behind.text))
         one = self.senders()
@@ -109,8 +109,6 @@ class Line(Forms):
         if is_filled and mark.text in self.senders()[1:] and self.tokens[1].text not in self.senders()[1:]:
             new = f"deposit {mark.text} {before.text}"
             yield Slip((self.row.at, self.row.end, new), f"write `{new}`")
-        if self.wanted == {"NAME"} and mark.text == ".":
-            yield Slip((mark.at, mark.end, " "), "write a blank in place of `.`")
         if before.text == "deposit" and mark.kind == "number" and not behind.kind and self.senders():
             known = self.senders()
             one = known[0] if len(known) == 1 else ".."
@@ -128,6 +126,13 @@ class Line(Forms):
         if before.text == "deposit" and mark.kind == "number" and self.tokens[-1].kind == "word":
             new = f"{self.tokens[-1].text} {mark.text if is_whole else in_digits(mark.text + behind.text)}"
             yield Slip((mark.at, self.row.end, new), f"write `deposit {new}`")
+
+    def of_starts(self):
+        """Slips at the start of a line: what is left out there, or stands in another order."""
+        mark, behind = self.marked, self.at(1)
+        yield from self.of_deposit()
+        if self.wanted == {"NAME"} and mark.text == ".":
+            yield Slip((mark.at, mark.end, " "), "write a blank in place of `.`")
         if self.wanted == {"new"} and mark.text == "exec":
             said = self.script.text[self.row.at : mark.at].strip()
             if self.makes(self.at(2).text):
