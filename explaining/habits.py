@@ -445,7 +445,7 @@ class Habits(Wordings):
         words = [it.text for it in self.tokens[: self.index]]
         body = words.index("=") if "=" in words else len(words)
         for at in (at for at, it in enumerate(words) if it == name and at > 2):
-            is_parameter = at < body and words[at + 1] == ":" and ";" in words[:at]
+            is_parameter = at < body and words[at + 1 : at + 2] == [":"] and ";" in words[:at]
             if is_parameter or words[at - 1] in ("spawn", "as") or words[at - 2] == "recv":
                 return True
         return False
