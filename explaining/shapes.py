@@ -210,7 +210,7 @@ class Shapes(Order, Lists, Parting):
         yield Slip("Syntax branch", mend, (before.end, mark.at, f" {new.replace('..', ';')} "))
 
     def text_at(self, at):
-        return self.tokens[at].text if at < len(self.tokens) else ""
+        return self.tokens[at].text if 0 <= at < len(self.tokens) else ""
 
     def parting(self, end):
         """Gives what parts the last instruction before a token from one that is put behind it."""
