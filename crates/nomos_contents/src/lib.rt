@@ -1,4 +1,5 @@
-//! What a state of the machine consists of, as plain data.
+//! What a state of the machine consists of, as plain data, and machines that give it.
 #![tactic(auto)]
 
+pub mod contents;
 pub mod data;

@@ -11,7 +11,7 @@ use Rattle.nomos_slots.specs.Shelving.{Shelving}
 use Rattle.nomos_slots.specs.declared.numbered.Slot.{Slot}
 use Rattle.nomos_index.specs.Indexed.{HasRoom, IsHolding, IsIndexed, held_marked, held_now, state_of}
 use Rattle.nomos_index.specs.Together.{MarksTheSame}
-use Rattle.nomos_index.specs.declared.inside.Contents.{Contents}
+use Rattle.nomos_index.specs.declared.inside.Columns.{Columns}
 use Rattle.nomos_index.specs.declared.inside.Inside.TheInside.{Inside}
 use Rattle.nomos_index.specs.declared.inside.Numbers.{Numbers}
 use Rattle.nomos_index.specs.declared.kept.Kept.{Kept}
@@ -21,7 +21,7 @@ module _ (s : Inside) (objects : Marking (Slot Kept)) (values : Shelving (VarId 
     (its_lists : Shelving (VarId × PotentialList)) (channels : Marking Cell) (numbers : Numbers)
     (o : objects.marked ≡ s.contents.objects.marked) (v : values.marked ≡ s.contents.values.marked)
     (l : its_lists.marked ≡ s.contents.lists.marked) (c : HaveSameNames s.contents.channels.marked channels.marked) where
-  abbrev pub contents_again : Contents
+  abbrev pub contents_again : Columns
   contents_again = record s.contents {
     objects = objects;
     values = values;
@@ -66,7 +66,7 @@ on_any_err (Err e) holds = holds
 module _ (s : Inside) (channels : Marking Cell)
     (names : (p v : ℕ) → name_in channels.now p v ≡ name_in s.contents.channels.now p v)
     (c : HaveSameNames s.contents.channels.marked channels.marked) where
-  abbrev pub moved : Contents
+  abbrev pub moved : Columns
   moved = record s.contents { channels = channels }
 
   pub moved-state : state_of (held_now moved) ≡ state_of (held_now s.contents)

@@ -18,7 +18,7 @@ use Rattle.nomos_index.specs.Coming.{ObjectComes, name_with}
 use Rattle.nomos_index.specs.Indexed.{HasRoom, IsIndexed, held_marked, held_now, state_of}
 use Rattle.nomos_index.specs.Objects.{channels_of, kept_of, process_held}
 use Rattle.nomos_index.specs.Spanning.{HasVariable}
-use Rattle.nomos_index.specs.declared.inside.Contents.{Contents}
+use Rattle.nomos_index.specs.declared.inside.Columns.{Columns}
 use Rattle.nomos_index.specs.declared.inside.Inside.TheInside.{Inside}
 use Rattle.nomos_index.specs.declared.kept.Kept.{Kept}
 use Rattle.nomos_index.specs.declared.kept.Kept.TheVariants as kept
@@ -47,7 +47,7 @@ module _ (s : Inside) (is : IsIndexed s) (born : Newborn) (k : KeptProcess) (spa
   pub its_marks : HaveSameNames s.contents.channels.marked after.marked
   its_marks = subst (HaveSameNames s.contents.channels.marked) (sym again) marked
 
-  abbrev born_after : Contents
+  abbrev born_after : Columns
   born_after =
       coming_after s is born.fields.pid (kept.Process k) born.values.items born.lists.items objects values its_lists after o v l
       its_marks

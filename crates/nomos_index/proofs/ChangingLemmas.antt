@@ -19,7 +19,7 @@ use Rattle.nomos_index.specs.Looked.{ProcessIsAt, lists_at, values_at}
 use Rattle.nomos_index.specs.Objects.{ListRow, ValueRow, channels_of, process_held}
 use Rattle.nomos_index.specs.Placing.{ProcessComes}
 use Rattle.nomos_index.specs.Spanning.{HasVariable}
-use Rattle.nomos_index.specs.declared.inside.Contents.{Contents}
+use Rattle.nomos_index.specs.declared.inside.Columns.{Columns}
 use Rattle.nomos_index.specs.declared.inside.Inside.TheInside.{Inside}
 use Rattle.nomos_index.specs.declared.kept.Kept.{Kept}
 use Rattle.nomos_index.specs.declared.kept.Kept.TheVariants as kept
@@ -59,7 +59,7 @@ module _ (s : Inside) (is : IsIndexed s) (pid place : ℕ) (k : KeptProcess)
   module _ (objects : Marking (Slot Kept)) (next : KeptProcess)
       (now : objects.now ≡ put_at s.contents.objects.now place (Some (kept.Process next))) (span : next.span ≡ k.span)
       (marked : objects.marked ≡ s.contents.objects.marked) (room : s.contents.objects.room ≤ objects.room) where
-    abbrev pub with_objects : Contents
+    abbrev pub with_objects : Columns
     with_objects = record s.contents { objects = objects }
 
     fields-come : ProcessComes (held_now s.contents) (held_now with_objects) pid place next values_row lists_row
@@ -109,7 +109,7 @@ module _ (s : Inside) (is : IsIndexed s) (pid place : ℕ) (k : KeptProcess)
       (spans : (w : ℕ) → IsSome (name_in channels.now pid w) → HasVariable span w)
       (marked : HaveSameNames s.contents.channels.marked channels.marked) (less : room ≤ s.room)
       (has : room ≤ channels.room) where
-    abbrev pub with_cells : Contents
+    abbrev pub with_cells : Columns
     with_cells = record s.contents { objects = objects; channels = channels }
 
     abbrev spanning : KeptProcess
@@ -178,7 +178,7 @@ module _ (s : Inside) (is : IsIndexed s) (pid place : ℕ) (k : KeptProcess)
 
   module _ (values : Shelving (VarId × Value)) (row : ValueRow) (now : values.now ≡ slice_set s.contents.values.now place row)
       (marked : values.marked ≡ s.contents.values.marked) (less : s.contents.values.room ≤ values.room + 1) where
-    abbrev pub with_value_rows : Contents
+    abbrev pub with_value_rows : Columns
     with_value_rows = record s.contents { values = values }
 
     values-come : ProcessComes (held_now s.contents) (held_now with_value_rows) pid place k row lists_row
@@ -221,7 +221,7 @@ module _ (s : Inside) (is : IsIndexed s) (pid place : ℕ) (k : KeptProcess)
   module _ (its_lists : Shelving (VarId × PotentialList)) (row : ListRow)
       (now : its_lists.now ≡ slice_set s.contents.lists.now place row)
       (marked : its_lists.marked ≡ s.contents.lists.marked) (less : s.contents.lists.room ≤ its_lists.room + 1) where
-    abbrev pub with_list_rows : Contents
+    abbrev pub with_list_rows : Columns
     with_list_rows = record s.contents { lists = its_lists }
 
     lists-come : ProcessComes (held_now s.contents) (held_now with_list_rows) pid place k values_row row

@@ -24,7 +24,7 @@ use Rattle.nomos_index.specs.Coming.{ObjectComes}
 use Rattle.nomos_index.specs.Indexed.{Holding, HasRoom, IsHolding, IsIndexed, held_now, state_of}
 use Rattle.nomos_index.specs.Objects.{AreBrought, AreHeld, BringsIt, ListRow, ValueRow, message_held, object_of, objects_of}
 use Rattle.nomos_index.specs.Spanning.{Spans}
-use Rattle.nomos_index.specs.declared.inside.Contents.{Contents}
+use Rattle.nomos_index.specs.declared.inside.Columns.{Columns}
 use Rattle.nomos_index.specs.declared.inside.Inside.TheInside.{Inside}
 use Rattle.nomos_index.specs.declared.inside.Numbers.{Numbers}
 use Rattle.nomos_index.specs.declared.kept.Kept.{Kept}
@@ -189,7 +189,7 @@ module _ (s : Inside) (is : IsIndexed s) (n : ℕ) (k : Kept) (row : ValueRow) (
   abbrev pub drawn_next : Numbers
   drawn_next = record s.contents.numbers { next_object = s.contents.numbers.next_object + 1 }
 
-  abbrev pub coming_after : Contents
+  abbrev pub coming_after : Columns
   coming_after = contents_again s objects values its_lists channels drawn_next o v l c
 
   pub come-indexed : ObjectComes (held_now s.contents) (held_now coming_after) n k row list_row
@@ -208,7 +208,7 @@ module _ (s : Inside) (is : IsIndexed s) (n : ℕ) (k : KeptMessage) (row : Valu
     (slots : objects.now ≡ s.contents.objects.now ++ (record { number = n; item = Some (kept.Message k) }) ∷ [])
     (rows : values.now ≡ s.contents.values.now ++ row ∷ []) (list_rows : its_lists.now ≡ s.contents.lists.now ++ [] ∷ [])
   where
-    abbrev message_after : Contents
+    abbrev message_after : Columns
     message_after =
         coming_after s is n (kept.Message k) row [] objects values its_lists s.contents.channels o v l
         (same-names s.contents.channels.marked s.contents.channels.marked refl)

@@ -20,7 +20,7 @@ use Rattle.nomos_slots.specs.declared.numbered.Slot.{Slot}
 use Rattle.nomos_index.specs.Indexed.{Holding, HasRoom, IsIndexed, held_now, state_of}
 use Rattle.nomos_index.specs.Looked.{ObjectIsAt}
 use Rattle.nomos_index.specs.Placing.{CanPlace, PlaceComes}
-use Rattle.nomos_index.specs.declared.inside.Contents.{Contents}
+use Rattle.nomos_index.specs.declared.inside.Columns.{Columns}
 use Rattle.nomos_index.specs.declared.inside.Inside.TheInside.{Inside}
 use Rattle.nomos_index.specs.declared.kept.Kept.{Kept}
 use Rattle.nomos_index.proofs.AgainLemmas.{contents_again, indexed-again}
@@ -53,7 +53,7 @@ module _ (s : Inside) (is : IsIndexed s) (number place : ℕ) (k : Kept)
     (rows : values.now ≡ slice_set s.contents.values.now place [])
     (list_rows : its_lists.now ≡ slice_set s.contents.lists.now place [])
     (names : (p w : ℕ) → name_in channels.now p w ≡ cond (eqb number p) None (name_in s.contents.channels.now p w)) where
-  abbrev after : Contents
+  abbrev after : Columns
   after = contents_again s objects values its_lists channels s.contents.numbers o v l c
 
   others : (p w : ℕ) → p ≢ number → name_in channels.now p w ≡ name_in s.contents.channels.now p w

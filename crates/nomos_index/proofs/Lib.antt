@@ -4,6 +4,8 @@ pub mod ChangingLemmas
 pub mod ChannelLemmas
 pub mod CloseLemmas
 pub mod ComingLemmas
+pub mod CopyLemmas
+pub mod DrawLemmas
 pub mod FoundLemmas
 pub mod LeavingLemmas
 pub mod LookLemmas

@@ -21,7 +21,6 @@ use Rattle.nomos_index.specs.Objects.{BringsIt, ListRow, ValueRow, object_of, ob
 use Rattle.nomos_index.specs.Placing.{CanPlace, PlaceComes, with_place}
 use Rattle.nomos_index.specs.Spanning.{Spans}
 use Rattle.nomos_index.specs.declared.kept.Kept.{Kept}
-use Rattle.nomos_index.specs.declared.kept.Kept.TheVariants as kept
 use Rattle.nomos_index.proofs.ChannelLemmas.{object-same}
 use Rattle.nomos_index.proofs.LookLemmas.{AllOver, over-other, slots-head, slots-tail, number-own}
 

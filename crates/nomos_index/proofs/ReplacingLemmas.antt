@@ -14,7 +14,7 @@ use Rattle.nomos_index.specs.Indexed.{IsIndexed, held_marked, held_now, state_of
 use Rattle.nomos_index.specs.Looked.{ProcessIsAt}
 use Rattle.nomos_index.specs.Objects.{channels_of}
 use Rattle.nomos_index.specs.Spanning.{HasVariable}
-use Rattle.nomos_index.specs.declared.inside.Contents.{Contents}
+use Rattle.nomos_index.specs.declared.inside.Columns.{Columns}
 use Rattle.nomos_index.specs.declared.inside.Inside.TheInside.{Inside}
 use Rattle.nomos_index.specs.declared.kept.Kept.{Kept}
 use Rattle.nomos_index.specs.declared.kept.Kept.TheVariants as kept
@@ -53,7 +53,7 @@ module _ (s : Inside) (pid : ℕ) (pairs : List (VarId × ℕ)) (reserved droppe
   marks = subst (HaveSameNames s.contents.channels.marked) (sym (again ∙ also)) marked
 
   module _ (objects : Marking (Slot Kept)) (same : objects.marked ≡ s.contents.objects.marked) where
-    abbrev replaced : Contents
+    abbrev replaced : Columns
     replaced = record s.contents { objects = objects; channels = after }
 
     pub replaced-marks : option_map state_of (held_marked replaced s.marked)

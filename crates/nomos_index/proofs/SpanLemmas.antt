@@ -19,7 +19,7 @@ no-other : (a b : Bool) → b ≡ false → (a && b) ≡ false
 no-other true b not = not
 no-other false b not = refl
 
-none_of : (o : Option ℕ) → (IsSome o → ⊥) → o ≡ None
+pub none_of : (o : Option ℕ) → (IsSome o → ⊥) → o ≡ None
 none_of None not = refl
 none_of (Some n) not = absurd (not refl)
 

@@ -11,7 +11,7 @@ use Rattle.nomos_slots.specs.declared.numbered.Slot.{Slot}
 use Rattle.nomos_index.specs.Indexed.{AreMarkedTogether, Holding, IsHolding, held_marked, state_of}
 use Rattle.nomos_index.specs.Objects.{AreBrought, AreHeld, ListRow, ValueRow}
 use Rattle.nomos_index.specs.Together.{HoldsTheSame, MarksTheSame}
-use Rattle.nomos_index.specs.declared.inside.Contents.{Contents}
+use Rattle.nomos_index.specs.declared.inside.Columns.{Columns}
 use Rattle.nomos_index.specs.declared.inside.Numbers.{Numbers}
 use Rattle.nomos_index.specs.declared.kept.Kept.{Kept}
 use Rattle.nomos_index.proofs.ChannelLemmas.{objects-same}
@@ -114,7 +114,7 @@ gather-same (Some d) (Some s) (Some v) (Some l) (Some x) (Some y) (Some n) (Some
   drawn = refl;
 }
 
-module _ (before after : Contents) (m : Option Numbers) (same : MarksTheSame before after) where
+module _ (before after : Columns) (m : Option Numbers) (same : MarksTheSame before after) where
   -- what is marked is the same, but for where names are kept
   hold-same : HoldTheSame (held_marked before m) (held_marked after m)
   hold-same =

@@ -11,7 +11,7 @@ use Rattle.nomos_slots.specs.Marking.{Marking}
 use Rattle.nomos_slots.specs.Numbers.{IsAscending, numbers}
 use Rattle.nomos_slots.specs.declared.numbered.Slot.{Slot}
 use Rattle.nomos_index.specs.Objects.{AreBrought, AreHeld, ListRow, ValueRow, kept_at, object_of, objects_of, types_of}
-use Rattle.nomos_index.specs.declared.inside.Contents.{Contents}
+use Rattle.nomos_index.specs.declared.inside.Columns.{Columns}
 use Rattle.nomos_index.specs.declared.inside.Inside.TheInside.{Inside}
 use Rattle.nomos_index.specs.declared.inside.Numbers.{Numbers}
 use Rattle.nomos_index.specs.declared.kept.Kept.{Kept}
@@ -28,9 +28,9 @@ pub record Holding : Type 0 where
   pub results : List (ℕ × Value)
   pub drawn : Numbers
 
--- nothing is kept, and both next numbers are 1
-abbrev pub nothing_held : Holding
-nothing_held = record {
+-- nothing is kept, and these numbers are drawn next
+abbrev pub nothing_held : Numbers → Holding
+nothing_held drawn = record {
   slots = [];
   value_rows = [];
   list_rows = [];
@@ -39,7 +39,7 @@ nothing_held = record {
   balances = [];
   outside = [];
   results = [];
-  drawn = record { next_object = 1; next_name = 1; spent = 0 };
+  drawn = drawn;
 }
 
 -- the state for which it stands
@@ -72,7 +72,7 @@ pub record IsHolding (h : Holding) : Type 0 where
   pub held : AreHeld h.slots h.cells
 
 -- what is kept now
-abbrev pub held_now : Contents → Holding
+abbrev pub held_now : Columns → Holding
 held_now c = record {
   slots = c.objects.now;
   value_rows = c.values.now;
@@ -86,7 +86,7 @@ held_now c = record {
 }
 
 -- what is marked, where all is marked, with the numbers that were drawn there
-abbrev pub held_marked : Contents → Option Numbers → Option Holding
+abbrev pub held_marked : Columns → Option Numbers → Option Holding
 held_marked c marked = do
   drawn ← marked
   slots ← c.objects.marked
@@ -110,7 +110,7 @@ held_marked c marked = do
   })
 
 -- all is marked, or nothing is
-pub record AreMarkedTogether (c : Contents) (marked : Option Numbers) : Type 0 where
+pub record AreMarkedTogether (c : Columns) (marked : Option Numbers) : Type 0 where
   pub objects : is_some c.objects.marked ≡ is_some marked
   pub values : is_some c.values.marked ≡ is_some marked
   pub its_lists : is_some c.lists.marked ≡ is_some marked
@@ -121,7 +121,7 @@ pub record AreMarkedTogether (c : Contents) (marked : Option Numbers) : Type 0 w
   pub results : is_some c.results.marked ≡ is_some marked
 
 -- there is room for so many small changes
-pub record HasRoom (c : Contents) (room : ℕ) : Type 0 where
+pub record HasRoom (c : Columns) (room : ℕ) : Type 0 where
   pub objects : room ≤ c.objects.room
   pub values : room ≤ c.values.room
   pub its_lists : room ≤ c.lists.room
@@ -134,7 +134,7 @@ pub record HasSeatForEach (column : Marking ℕ) : Type 0 where
   pub marked : IfSome column.marked (λ records. length records ≤ column.seats)
 
 -- balances, and names outside, can be changed without any room
-pub record HasSeats (c : Contents) : Type 0 where
+pub record HasSeats (c : Columns) : Type 0 where
   pub balances : HasSeatForEach c.balances
   pub outside : HasSeatForEach c.outside
 

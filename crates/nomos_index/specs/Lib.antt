@@ -15,3 +15,4 @@ pub mod Redirected
 pub mod Tidying
 pub mod Telling
 pub mod Mentions
+pub mod Copying

@@ -3,7 +3,7 @@ use Rattle.std.specs.Prelude.{◌≡◌, ◌≤◌, ℕ, IsSome, Some, None}
 use Rattle.nomos_slots.specs.Cells.{name_in}
 use Rattle.nomos_slots.specs.Tables.{HaveSameNames}
 use Rattle.nomos_index.specs.Indexed.{Holding}
-use Rattle.nomos_index.specs.declared.inside.Contents.{Contents}
+use Rattle.nomos_index.specs.declared.inside.Columns.{Columns}
 
 -- the same is held, but for where the names of channels are kept
 pub record HoldsTheSame (before after : Holding) : Type 0 where
@@ -18,7 +18,7 @@ pub record HoldsTheSame (before after : Holding) : Type 0 where
   pub drawn : after.drawn ≡ before.drawn
 
 -- the same is marked, but for where the names of channels are kept
-pub record MarksTheSame (before after : Contents) : Type 0 where
+pub record MarksTheSame (before after : Columns) : Type 0 where
   pub objects : after.objects.marked ≡ before.objects.marked
   pub values : after.values.marked ≡ before.values.marked
   pub its_lists : after.lists.marked ≡ before.lists.marked
@@ -29,7 +29,7 @@ pub record MarksTheSame (before after : Contents) : Type 0 where
   pub results : after.results.marked ≡ before.results.marked
 
 -- nothing is marked
-pub record NothingIsMarked (c : Contents) : Type 0 where
+pub record NothingIsMarked (c : Columns) : Type 0 where
   pub objects : c.objects.marked ≡ None
   pub values : c.values.marked ≡ None
   pub its_lists : c.lists.marked ≡ None
@@ -40,7 +40,7 @@ pub record NothingIsMarked (c : Contents) : Type 0 where
   pub results : c.results.marked ≡ None
 
 -- each part is marked
-pub record EachIsMarked (c : Contents) : Type 0 where
+pub record EachIsMarked (c : Columns) : Type 0 where
   pub objects : IsSome c.objects.marked
   pub values : IsSome c.values.marked
   pub its_lists : IsSome c.lists.marked
@@ -51,7 +51,7 @@ pub record EachIsMarked (c : Contents) : Type 0 where
   pub results : IsSome c.results.marked
 
 -- each part is marked, with what the other contents hold
-pub record MarksWhatIsHeld (before after : Contents) : Type 0 where
+pub record MarksWhatIsHeld (before after : Columns) : Type 0 where
   pub objects : after.objects.marked ≡ Some before.objects.now
   pub values : after.values.marked ≡ Some before.values.now
   pub its_lists : after.lists.marked ≡ Some before.lists.now
@@ -62,7 +62,7 @@ pub record MarksWhatIsHeld (before after : Contents) : Type 0 where
   pub results : after.results.marked ≡ Some before.results.now
 
 -- no part has less room, or fewer seats
-pub record KeepsRoom (before after : Contents) : Type 0 where
+pub record KeepsRoom (before after : Columns) : Type 0 where
   pub objects : before.objects.room ≤ after.objects.room
   pub values : before.values.room ≤ after.values.room
   pub its_lists : before.lists.room ≤ after.lists.room

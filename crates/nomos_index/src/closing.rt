@@ -4,12 +4,12 @@ ghost use Rattle.nomos_index.specs.Closing.{AreBeside};
 ghost use Rattle.nomos_index.specs.Indexed.{IsHolding, held_now, state_of};
 ghost use Rattle.nomos_index.specs.Together.{KeepsRoom, MarksTheSame};
 
-use crate::inside::{Contents, Inside};
+use crate::inside::{Columns, Inside};
 use nomos_slots::beside::close_rows;
 use std::alloc::Global;
 
 // The gaps of objects that came since the mark are closed, with the rows beside them.
-fn close_objects(contents: &mut Contents, alloc: Global)
+fn close_objects(contents: &mut Columns, alloc: Global)
     requires holding { IsHolding (held_now contents.old) }
     requires values { AreBeside contents.old.objects.marked contents.old.values.marked }
     requires its_lists { AreBeside contents.old.objects.marked contents.old.lists.marked }
@@ -30,7 +30,7 @@ fn close_objects(contents: &mut Contents, alloc: Global)
 }
 
 // The gaps of names that came since the mark are closed.
-fn close_names(contents: &mut Contents)
+fn close_names(contents: &mut Columns)
     requires holding { IsHolding (held_now contents.old) }
     ensures holding { IsHolding (held_now contents.new) }
     ensures state { state_of (held_now contents.new) ≡ state_of (held_now contents.old) }

@@ -4,7 +4,7 @@ ghost use Rattle.nomos_machine.specs.State.{empty};
 ghost use Rattle.nomos_index.specs.Indexed.{HasSeats, held_now, nothing_held};
 ghost use Rattle.nomos_index.specs.Together.{NothingIsMarked};
 
-use crate::inside::{Contents, Inside, Numbers};
+use crate::inside::{Columns, Inside, Numbers};
 use nomos_ir::ids::VarId;
 use nomos_ir::value::Value;
 use nomos_machine::object::PotentialList;
@@ -104,12 +104,12 @@ fn copy_column<T: Copy>(alloc: Global, column: &Column<T>) -> Result<Column<T>, 
 }
 
 // The same contents once more, with nothing marked.
-fn copy_contents(alloc: Global, contents: &Contents) -> Result<Contents, AllocError>
+fn copy_contents(alloc: Global, contents: &Columns) -> Result<Columns, AllocError>
     ensures now { IfOk result (λ made. held_now made ≡ held_now contents.now) }
     ensures marked { IfOk result NothingIsMarked }
     ensures seats { IfOk result HasSeats }
 {
-    Ok(Contents {
+    Ok(Columns {
         objects: contents.objects.copy(alloc)?,
         values: copy_value_rows(alloc, &contents.values)?,
         lists: copy_list_rows(alloc, &contents.lists)?,
@@ -122,12 +122,12 @@ fn copy_contents(alloc: Global, contents: &Contents) -> Result<Contents, AllocEr
     })
 }
 
-// Contents with nothing in them.
-fn no_contents(alloc: Global) -> Contents
-    ensures now { held_now result ≡ nothing_held }
+// Columns with nothing in them.
+fn no_contents(alloc: Global, numbers: Numbers) -> Columns
+    ensures now { held_now result ≡ nothing_held numbers }
     ensures marked { NothingIsMarked result }
 {
-    Contents {
+    Columns {
         objects: Numbered::new(alloc),
         values: Shelf::new(alloc),
         lists: Shelf::new(alloc),
@@ -136,27 +136,37 @@ fn no_contents(alloc: Global) -> Contents
         balances: Column::new(alloc),
         outside: Column::new(alloc),
         results: Tail::new(alloc),
-        numbers: Numbers {
-            next_object: 1,
-            next_name: 1,
-            spent: 0,
-        },
+        numbers,
     }
 }
 
 impl Inside {
+    /// The state with nothing in it, in which these numbers are drawn next. It takes no memory.
+    pub fn empty_at(alloc: Global, next_object: u32, next_name: u32) -> Self
+        ensures state { result.state ≡ record empty { next_object = next_object; next_name = next_name } }
+        ensures marked { result.marked ≡ None }
+        ensures room { result.room ≡ 0 }
+    {
+        let numbers = Numbers {
+            next_object,
+            next_name,
+            spent: 0,
+        };
+        Inside {
+            alloc,
+            contents: no_contents(alloc, numbers),
+            marked: None,
+            room: 0,
+        }
+    }
+
     /// The state with nothing in it, in which both next numbers are 1. It takes no memory.
     pub fn empty(alloc: Global) -> Self
         ensures state { result.state ≡ empty }
         ensures marked { result.marked ≡ None }
         ensures room { result.room ≡ 0 }
     {
-        Inside {
-            alloc,
-            contents: no_contents(alloc),
-            marked: None,
-            room: 0,
-        }
+        Inside::empty_at(alloc, 1, 1)
     }
 
     /// The same state once more, with nothing marked and no room ahead.

@@ -20,9 +20,9 @@ pub(crate) struct Numbers {
     pub(crate) spent: u128,
 }
 
-/// What an indexed state keeps of its state: objects and channels, and the names and accounts beside them.
+/// The columns of an indexed state: objects and channels, and the names and accounts beside them.
 #[derive(Drop, Debug)]
-pub(crate) struct Contents {
+pub(crate) struct Columns {
     pub(crate) objects: Numbered<Kept>,
     /// Of the process at each place its values; of a message that brings a value that one, under any variable.
     pub(crate) values: Shelf<(VarId, Value)>,
@@ -41,7 +41,7 @@ pub(crate) struct Contents {
 #[derive(Drop, Debug)]
 pub struct Inside {
     pub(crate) alloc: Global,
-    pub(crate) contents: Contents,
+    pub(crate) contents: Columns,
     pub(crate) marked: Option<Numbers>,
     /// For how many small changes there is room in each part of the contents.
     pub(crate) room: usize,

@@ -8,6 +8,7 @@ mod changing;
 mod closing;
 mod coming;
 mod copying;
+mod data;
 pub mod inside;
 mod kept;
 mod leaving;

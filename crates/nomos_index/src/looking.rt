@@ -4,11 +4,11 @@ ghost use Rattle.nomos_index.specs.Indexed.{IsHolding, held_now};
 ghost use Rattle.nomos_index.specs.Looked.{IsObjectAt, IsProcessAt, IsMessageAt};
 ghost use Rattle.nomos_index.specs.Objects.{kept_at};
 
-use crate::inside::Contents;
+use crate::inside::Columns;
 use crate::kept::{Kept, KeptMessage, KeptProcess};
 
 /// What is kept at a place, with its number.
-pub(crate) fn kept_at(contents: &Contents, place: usize) -> Option<(u32, Kept)>
+pub(crate) fn kept_at(contents: &Columns, place: usize) -> Option<(u32, Kept)>
     ensures { result ≡ kept_at contents.now.objects.now place }
 {
     let slot = contents.objects.slot(place)?;
@@ -17,7 +17,7 @@ pub(crate) fn kept_at(contents: &Contents, place: usize) -> Option<(u32, Kept)>
 }
 
 /// Where the object of this number stands, and what is kept there.
-pub(crate) fn object_at(contents: &Contents, number: u32) -> Option<(usize, Kept)>
+pub(crate) fn object_at(contents: &Columns, number: u32) -> Option<(usize, Kept)>
     requires { IsHolding (held_now contents.now) }
     ensures { IsObjectAt (held_now contents.now) number result }
 {
@@ -27,7 +27,7 @@ pub(crate) fn object_at(contents: &Contents, number: u32) -> Option<(usize, Kept
 }
 
 /// Where the process of this number stands, and what is kept there.
-pub(crate) fn process_at(contents: &Contents, pid: u32) -> Option<(usize, KeptProcess)>
+pub(crate) fn process_at(contents: &Columns, pid: u32) -> Option<(usize, KeptProcess)>
     requires { IsHolding (held_now contents.now) }
     ensures { IsProcessAt (held_now contents.now) pid result }
 {
@@ -38,7 +38,7 @@ pub(crate) fn process_at(contents: &Contents, pid: u32) -> Option<(usize, KeptPr
 }
 
 /// Where the message of this number stands, and what is kept there.
-pub(crate) fn message_at(contents: &Contents, number: u32) -> Option<(usize, KeptMessage)>
+pub(crate) fn message_at(contents: &Columns, number: u32) -> Option<(usize, KeptMessage)>
     requires { IsHolding (held_now contents.now) }
     ensures { IsMessageAt (held_now contents.now) number result }
 {

@@ -3,12 +3,12 @@ ghost use Rattle.std.specs.Prelude.{◌≡◌, ◌≤◌, ◌↔◌, IsOk, IsSom
 ghost use Rattle.nomos_index.specs.Indexed.{HasRoom, held_now};
 ghost use Rattle.nomos_index.specs.Together.{EachIsMarked, HoldsTheSame, KeepsRoom, MarksTheSame, MarksWhatIsHeld, NothingIsMarked};
 
-use crate::inside::{Contents, Inside, Numbers};
+use crate::inside::{Columns, Inside, Numbers};
 use std::alloc::{AllocError, Global};
 
 /// Makes room for so many small changes in each part. Want of memory leaves what is held and what is marked as it was.
 pub(crate) fn reserve_all(
-    contents: &mut Contents,
+    contents: &mut Columns,
     alloc: Global,
     changes: usize,
 ) -> Result<(), AllocError>
@@ -25,7 +25,7 @@ pub(crate) fn reserve_all(
 }
 
 /// Marks all that is held. It takes no memory.
-pub(crate) fn mark_all(contents: &mut Contents)
+pub(crate) fn mark_all(contents: &mut Columns)
     requires { NothingIsMarked contents.old }
     ensures now { held_now contents.new ≡ held_now contents.old }
     ensures marked { MarksWhatIsHeld contents.old contents.new }
@@ -42,7 +42,7 @@ pub(crate) fn mark_all(contents: &mut Contents)
 }
 
 /// Puts back all that is marked, and these numbers; nothing is marked any longer. It takes no memory.
-pub(crate) fn back_all(contents: &mut Contents, numbers: Numbers)
+pub(crate) fn back_all(contents: &mut Columns, numbers: Numbers)
     requires { EachIsMarked contents.old }
     ensures now { MarksWhatIsHeld contents.new contents.old }
     ensures numbers { contents.new.numbers ≡ numbers }
@@ -61,7 +61,7 @@ pub(crate) fn back_all(contents: &mut Contents, numbers: Numbers)
 }
 
 /// Nothing is marked any longer, and what is held stays. It takes no memory.
-pub(crate) fn forget_all(contents: &mut Contents)
+pub(crate) fn forget_all(contents: &mut Columns)
     ensures now { held_now contents.new ≡ held_now contents.old }
     ensures marked { NothingIsMarked contents.new }
     ensures room { KeepsRoom contents.old contents.new }

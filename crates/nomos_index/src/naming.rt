@@ -6,12 +6,12 @@ ghost use Rattle.nomos_index.specs.Indexed.{IsHolding, held_now, state_of};
 ghost use Rattle.nomos_index.specs.Objects.{types_of};
 ghost use Rattle.nomos_index.specs.Tidying.{tidied_at, tidied_of, tidied_slot, without_type};
 
-use crate::inside::{Contents, Inside};
+use crate::inside::{Columns, Inside};
 use crate::seeking::is_mentioned;
 use nomos_ir::ids::TypeId;
 
 // The name at a place has no type any more, where no object mentions it.
-fn tidy_at(contents: &mut Contents, place: usize)
+fn tidy_at(contents: &mut Columns, place: usize)
     requires holding { IsHolding (held_now contents.old) }
     requires within { place < length contents.old.names.now }
     ensures holding { IsHolding (held_now contents.new) }
@@ -30,7 +30,7 @@ fn tidy_at(contents: &mut Contents, place: usize)
 }
 
 // Names that no object mentions have no type any more.
-fn tidy_all(contents: &mut Contents)
+fn tidy_all(contents: &mut Columns)
     requires { IsHolding (held_now contents.old) }
     ensures holding { IsHolding (held_now contents.new) }
     ensures others { contents.new ≡ record contents.old { names = contents.new.names } }
@@ -45,7 +45,7 @@ fn tidy_all(contents: &mut Contents)
 }
 
 // A name has no type any more.
-fn drop_in(contents: &mut Contents, name: u32)
+fn drop_in(contents: &mut Columns, name: u32)
     requires holding { IsHolding (held_now contents.old) }
     ensures holding { IsHolding (held_now contents.new) }
     ensures others { contents.new ≡ record contents.old { names = contents.new.names } }
@@ -87,6 +87,19 @@ impl Inside {
         self.contents.names.push(name, t);
         self.contents.numbers.next_name = name + 1;
         self.room -= 1;
+    }
+
+    /// Numbers are drawn up to these ones, which no object and no name has. It takes no memory and no room.
+    pub fn draw_up_to(&mut self, next_object: u32, next_name: u32)
+        requires object { self.old.state.next_object ≤ next_object }
+        requires name { self.old.state.next_name ≤ next_name }
+        ensures state { self.new.state ≡ record self.old.state
+            { next_object = next_object; next_name = next_name } }
+        ensures room { self.new.room ≡ self.old.room }
+        ensures marked { self.new.marked ≡ self.old.marked }
+    {
+        self.contents.numbers.next_object = next_object;
+        self.contents.numbers.next_name = next_name;
     }
 
     /// A name has no type any more. It takes no room, and costs a look-up.

@@ -13,7 +13,7 @@ ghost use Rattle.nomos_parts.specs.SmallChanges.{value_brought};
 ghost use Rattle.nomos_index.specs.Indexed.{IsHolding, held_now, state_of};
 ghost use Rattle.nomos_index.specs.Objects.{ListRow, ValueRow, channels_of, first_value, process_held};
 
-use crate::inside::Contents;
+use crate::inside::Columns;
 use crate::kept::KeptProcess;
 use crate::looking::{message_at, process_at};
 use crate::seeking;
@@ -29,7 +29,7 @@ use nomos_types::accepted::Accepted;
 use std::alloc::{AllocError, Global};
 
 /// The lists of a process that carry potential.
-pub(crate) fn lists(contents: &Contents, pid: u32) -> &[(VarId, PotentialList)]
+pub(crate) fn lists(contents: &Columns, pid: u32) -> &[(VarId, PotentialList)]
     requires { IsHolding (held_now contents.now) }
     ensures { (p : Process) → process_at (state_of (held_now contents.now)) pid ≡ Some p → result.now ≡ p.lists }
 {
@@ -40,7 +40,7 @@ pub(crate) fn lists(contents: &Contents, pid: u32) -> &[(VarId, PotentialList)]
 }
 
 /// The message of this number, if there is one.
-pub(crate) fn message(contents: &Contents, number: u32) -> Option<SeenMessage>
+pub(crate) fn message(contents: &Columns, number: u32) -> Option<SeenMessage>
     requires { IsHolding (held_now contents.now) }
     ensures { result ≡ option_map seen_message (message_at (state_of (held_now contents.now)).objects number) }
 {
@@ -49,7 +49,7 @@ pub(crate) fn message(contents: &Contents, number: u32) -> Option<SeenMessage>
 }
 
 /// What the message of this number carries, in Dths.
-pub(crate) fn message_purse(contents: &Contents, number: u32) -> u128
+pub(crate) fn message_purse(contents: &Columns, number: u32) -> u128
     requires { IsHolding (held_now contents.now) }
     ensures { (m : Sent) → message_at (state_of (held_now contents.now)).objects number ≡ Some m → result ≡ m.purse }
 {
@@ -72,7 +72,7 @@ fn copy_first(alloc: Global, row: &[(VarId, Value)]) -> Result<Option<Value>, Al
 /// The value that the message of this number brings, if it brings one, once more.
 pub(crate) fn message_value(
     alloc: Global,
-    contents: &Contents,
+    contents: &Columns,
     number: u32,
 ) -> Result<Option<Value>, AllocError>
     requires { IsHolding (held_now contents.now) }
@@ -88,7 +88,7 @@ pub(crate) fn message_value(
 }
 
 /// What is shown of the process of this number; nothing, exactly where no process has it.
-pub(crate) fn view(contents: &Contents, pid: u32) -> Option<View>
+pub(crate) fn view(contents: &Columns, pid: u32) -> Option<View>
     requires { IsHolding (held_now contents.now) }
     ensures { result ≡ option_map view_of (process_at (state_of (held_now contents.now)) pid) }
 {
@@ -103,7 +103,7 @@ pub(crate) fn view(contents: &Contents, pid: u32) -> Option<View>
 }
 
 // The present name of a process's channel.
-fn channel(contents: &Contents, pid: u32, v: VarId) -> Option<u32>
+fn channel(contents: &Columns, pid: u32, v: VarId) -> Option<u32>
     ensures { result ≡ bound_to v.0 (channels_of contents.now.channels.now pid) }
 {
     contents.channels.get(pid, v.0)
@@ -112,7 +112,7 @@ fn channel(contents: &Contents, pid: u32, v: VarId) -> Option<u32>
 /// The shared name for which a process waits, where it stands at `acquire`.
 pub(crate) fn acquires(
     accepted: &Accepted,
-    contents: &Contents,
+    contents: &Columns,
     pid: u32,
     p: &KeptProcess,
 ) -> Option<u32>
@@ -126,7 +126,7 @@ pub(crate) fn acquires(
 }
 
 /// The shared name for which the process of this number waits, where it stands at `acquire`.
-pub(crate) fn waits(accepted: &Accepted, contents: &Contents, pid: u32) -> Option<u32>
+pub(crate) fn waits(accepted: &Accepted, contents: &Columns, pid: u32) -> Option<u32>
     requires { IsHolding (held_now contents.now) }
     ensures { result ≡ waits accepted.now (state_of (held_now contents.now)).objects pid }
 {
@@ -135,7 +135,7 @@ pub(crate) fn waits(accepted: &Accepted, contents: &Contents, pid: u32) -> Optio
 }
 
 /// The number of the object that uses a name whose type has mode R or L; nothing at any other name.
-pub(crate) fn owner(accepted: &Accepted, contents: &Contents, name: u32) -> Option<u32>
+pub(crate) fn owner(accepted: &Accepted, contents: &Columns, name: u32) -> Option<u32>
     requires { IsHolding (held_now contents.now) }
     ensures linear { IsLinearName accepted.now.program (state_of (held_now contents.now)).types name
         → result ≡ owner (state_of (held_now contents.now)) name }
@@ -151,7 +151,7 @@ pub(crate) fn owner(accepted: &Accepted, contents: &Contents, name: u32) -> Opti
 }
 
 /// The type of a name, if it has one.
-pub(crate) fn type_of(contents: &Contents, name: u32) -> Option<TypeId>
+pub(crate) fn type_of(contents: &Columns, name: u32) -> Option<TypeId>
     requires { IsHolding (held_now contents.now) }
     ensures { result ≡ type_of (state_of (held_now contents.now)).types name }
 {

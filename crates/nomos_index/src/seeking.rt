@@ -14,7 +14,7 @@ ghost use Rattle.nomos_index.specs.Indexed.{IsHolding, held_now, standing_at, st
 ghost use Rattle.nomos_index.specs.Objects.{HasValue, ListRow, ValueRow, message_held, payload_of, process_held};
 ghost use Rattle.nomos_index.specs.Sought.{IsFirstPlace, StandsNotBefore, is_sought, lower_of, passes_at};
 
-use crate::inside::Contents;
+use crate::inside::Columns;
 use crate::kept::{Kept, KeptMessage, KeptProcess};
 use crate::looking::kept_at;
 use crate::starting::start_over;
@@ -116,7 +116,7 @@ pub(crate) fn is_message_sought(m: &KeptMessage, sought: Sought) -> bool
 }
 
 // Whether the object at a place is what is looked for.
-fn is_sought_at(contents: &Contents, place: usize, sought: Sought) -> bool
+fn is_sought_at(contents: &Columns, place: usize, sought: Sought) -> bool
     ensures { result ≡ passes_at (is_sought sought) (held_now contents.now) place }
 {
     match kept_at(contents, place) {
@@ -127,7 +127,7 @@ fn is_sought_at(contents: &Contents, place: usize, sought: Sought) -> bool
 }
 
 // The first place at which what is looked for stands, where it stands at none before this one.
-fn first_from(contents: &Contents, sought: Sought, start: usize) -> Option<usize>
+fn first_from(contents: &Columns, sought: Sought, start: usize) -> Option<usize>
     requires { StandsNotBefore (is_sought sought) (held_now contents.now) start }
     ensures { IsFirstPlace (is_sought sought) (held_now contents.now) result }
 {
@@ -140,7 +140,7 @@ fn first_from(contents: &Contents, sought: Sought, start: usize) -> Option<usize
 }
 
 /// The first place at which what is looked for stands.
-pub(crate) fn first(contents: &Contents, sought: Sought) -> Option<usize>
+pub(crate) fn first(contents: &Columns, sought: Sought) -> Option<usize>
     ensures { IsFirstPlace (is_sought sought) (held_now contents.now) result }
 {
     first_from(contents, sought, 0)
@@ -175,7 +175,7 @@ pub(crate) fn seen_process(pid: u32, p: &KeptProcess) -> SeenProcess
 }
 
 // What is seen of the message at a place, if one stands there.
-fn message_in(contents: &Contents, place: Option<usize>) -> Option<SeenMessage>
+fn message_in(contents: &Columns, place: Option<usize>) -> Option<SeenMessage>
     requires { IsHolding (held_now contents.now) }
     ensures { result ≡ option_map seen_message
         (option_and_then message_of (option_and_then (standing_at (held_now contents.now)) place)) }
@@ -187,7 +187,7 @@ fn message_in(contents: &Contents, place: Option<usize>) -> Option<SeenMessage>
 }
 
 // What is seen of the process at a place, if one stands there.
-fn process_in(contents: &Contents, place: Option<usize>) -> Option<SeenProcess>
+fn process_in(contents: &Columns, place: Option<usize>) -> Option<SeenProcess>
     ensures { result ≡ option_map seen_process
         (option_and_then process_of (option_and_then (standing_at (held_now contents.now)) place)) }
 {
@@ -198,7 +198,7 @@ fn process_in(contents: &Contents, place: Option<usize>) -> Option<SeenProcess>
 }
 
 /// The first message that is read on this name and goes this way.
-pub(crate) fn message_on(contents: &Contents, to_client: bool, name: u32) -> Option<SeenMessage>
+pub(crate) fn message_on(contents: &Columns, to_client: bool, name: u32) -> Option<SeenMessage>
     requires { IsHolding (held_now contents.now) }
     ensures { result ≡ option_map seen_message (message_on (state_of (held_now contents.now)).objects to_client name) }
 {
@@ -209,7 +209,7 @@ pub(crate) fn message_on(contents: &Contents, to_client: bool, name: u32) -> Opt
 }
 
 /// The first process that offers this name.
-pub(crate) fn offering(contents: &Contents, name: u32) -> Option<SeenProcess>
+pub(crate) fn offering(contents: &Columns, name: u32) -> Option<SeenProcess>
     requires { IsHolding (held_now contents.now) }
     ensures { result ≡ option_map seen_process (offering (state_of (held_now contents.now)).objects name) }
 {
@@ -225,7 +225,7 @@ fn pid_of(process: Option<SeenProcess>) -> Option<u32>
 }
 
 /// The number of the process that stands for a shared name.
-pub(crate) fn keeper(contents: &Contents, shared: u32) -> Option<u32>
+pub(crate) fn keeper(contents: &Columns, shared: u32) -> Option<u32>
     requires { IsHolding (held_now contents.now) }
     ensures { result ≡ keeper (state_of (held_now contents.now)).objects shared }
 {
@@ -233,7 +233,7 @@ pub(crate) fn keeper(contents: &Contents, shared: u32) -> Option<u32>
 }
 
 /// The lowest process over a number that has mode T.
-pub(crate) fn next_transaction(contents: &Contents, after: u32) -> Option<u32>
+pub(crate) fn next_transaction(contents: &Columns, after: u32) -> Option<u32>
     requires { IsHolding (held_now contents.now) }
     ensures { FindsNext (IsTransaction (state_of (held_now contents.now)).objects) after result }
 {
@@ -245,7 +245,7 @@ pub(crate) fn next_transaction(contents: &Contents, after: u32) -> Option<u32>
 }
 
 /// The number of the object at a place, if one stands there.
-pub(crate) fn number_in(contents: &Contents, place: Option<usize>) -> Option<u32>
+pub(crate) fn number_in(contents: &Columns, place: Option<usize>) -> Option<u32>
     ensures { result ≡ option_map object_number (option_and_then (standing_at (held_now contents.now)) place) }
 {
     let (number, _) = kept_at(contents, place?)?;
@@ -264,7 +264,7 @@ fn lower_of(one: Option<u32>, other: Option<u32>) -> Option<u32>
 }
 
 /// The number of the first object that uses this name.
-pub(crate) fn user(contents: &Contents, name: u32) -> Option<u32>
+pub(crate) fn user(contents: &Columns, name: u32) -> Option<u32>
     requires { IsHolding (held_now contents.now) }
     ensures { result ≡ owner (state_of (held_now contents.now)) name }
 {
@@ -275,7 +275,7 @@ pub(crate) fn user(contents: &Contents, name: u32) -> Option<u32>
 }
 
 /// Whether an object mentions this name.
-pub(crate) fn is_mentioned(contents: &Contents, name: u32) -> bool
+pub(crate) fn is_mentioned(contents: &Columns, name: u32) -> bool
     requires { IsHolding (held_now contents.now) }
     ensures { result ≡ is_mentioned (state_of (held_now contents.now)).objects name }
 {

@@ -10,7 +10,7 @@ ghost use Rattle.nomos_index.specs.Indexed.{IsHolding, held_now, standing_at, st
 ghost use Rattle.nomos_index.specs.Sought.{IsFirstName, IsFirstPlace, passes_at, some_passes, typed_at};
 ghost use Rattle.nomos_index.specs.Walks.{is_acquiring, is_over, is_owned_over, is_ready_in, purse_in};
 
-use crate::inside::Contents;
+use crate::inside::Columns;
 use crate::kept::Kept;
 use crate::looking::kept_at;
 use crate::reading::acquires;
@@ -23,7 +23,7 @@ use nomos_ir::ids::TypeId;
 use nomos_types::accepted::Accepted;
 
 // Whether a process over a number waits at a place for a shared name.
-fn is_acquiring_at(accepted: &Accepted, contents: &Contents, place: usize, after: u32) -> bool
+fn is_acquiring_at(accepted: &Accepted, contents: &Columns, place: usize, after: u32) -> bool
     ensures { result ≡ passes_at (is_over after (is_acquiring accepted.now)) (held_now contents.now) place }
 {
     match kept_at(contents, place) {
@@ -35,7 +35,7 @@ fn is_acquiring_at(accepted: &Accepted, contents: &Contents, place: usize, after
 }
 
 // The first place at which one does.
-fn first_acquiring(accepted: &Accepted, contents: &Contents, after: u32) -> Option<usize>
+fn first_acquiring(accepted: &Accepted, contents: &Columns, after: u32) -> Option<usize>
     requires { IsHolding (held_now contents.now) }
     ensures { IsFirstPlace (is_over after (is_acquiring accepted.now)) (held_now contents.now) result }
 {
@@ -49,7 +49,7 @@ fn first_acquiring(accepted: &Accepted, contents: &Contents, after: u32) -> Opti
 }
 
 /// The lowest process over a number that stands at `acquire`.
-pub(crate) fn next_waiting(accepted: &Accepted, contents: &Contents, after: u32) -> Option<u32>
+pub(crate) fn next_waiting(accepted: &Accepted, contents: &Columns, after: u32) -> Option<u32>
     requires { IsHolding (held_now contents.now) }
     ensures { FindsNext (IsWaiting accepted.now (state_of (held_now contents.now)).objects) after result }
 {
@@ -60,7 +60,7 @@ pub(crate) fn next_waiting(accepted: &Accepted, contents: &Contents, after: u32)
 fn is_ready_at<S: Sight>(
     sight: &S,
     accepted: &Accepted,
-    contents: &Contents,
+    contents: &Columns,
     place: usize,
     after: u32,
 ) -> bool
@@ -76,7 +76,7 @@ fn is_ready_at<S: Sight>(
 fn first_ready<S: Sight>(
     sight: &S,
     accepted: &Accepted,
-    contents: &Contents,
+    contents: &Columns,
     after: u32,
 ) -> Option<usize>
     requires { IsHolding (held_now contents.now) }
@@ -95,7 +95,7 @@ fn first_ready<S: Sight>(
 pub(crate) fn next_ready<S: Sight>(
     sight: &S,
     accepted: &Accepted,
-    contents: &Contents,
+    contents: &Columns,
     after: u32,
 ) -> Option<u32>
     requires holding { IsHolding (held_now contents.now) }
@@ -110,7 +110,7 @@ pub(crate) fn next_ready<S: Sight>(
 }
 
 // What the object at a place carries, in Dths; nothing, where none stands.
-fn purse_at(contents: &Contents, place: usize) -> u128
+fn purse_at(contents: &Columns, place: usize) -> u128
     ensures { result ≡ purse_in (standing_at (held_now contents.now) place) }
 {
     match kept_at(contents, place) {
@@ -121,7 +121,7 @@ fn purse_at(contents: &Contents, place: usize) -> u128
 }
 
 /// What all objects carry, in Dths.
-pub(crate) fn stored(contents: &Contents) -> u128
+pub(crate) fn stored(contents: &Columns) -> u128
     requires holding { IsHolding (held_now contents.now) }
     requires fits { sum_by purse_of (state_of (held_now contents.now)).objects < 2 ^ 96 }
     ensures { result ≡ sum_by purse_of (state_of (held_now contents.now)).objects }
@@ -133,8 +133,8 @@ pub(crate) fn stored(contents: &Contents) -> u128
     sum
 }
 
-// The name at a place with its type, where it has one.
-fn typed_at(contents: &Contents, place: usize) -> Option<(u32, TypeId)>
+/// The name at a place with its type, where it has one.
+pub(crate) fn typed_at(contents: &Columns, place: usize) -> Option<(u32, TypeId)>
     ensures { result ≡ typed_at contents.now.names.now place }
 {
     let slot = contents.names.slot(place)?;
@@ -143,7 +143,7 @@ fn typed_at(contents: &Contents, place: usize) -> Option<(u32, TypeId)>
 }
 
 // Whether the name at a place is over a number and used exactly once.
-fn is_owned_at(accepted: &Accepted, contents: &Contents, place: usize, after: u32) -> bool
+fn is_owned_at(accepted: &Accepted, contents: &Columns, place: usize, after: u32) -> bool
     ensures { result ≡ some_passes (is_owned_over accepted.now.program after) (typed_at contents.now.names.now place) }
 {
     match typed_at(contents, place) {
@@ -153,7 +153,7 @@ fn is_owned_at(accepted: &Accepted, contents: &Contents, place: usize, after: u3
 }
 
 // The first place of such a name.
-fn first_owned(accepted: &Accepted, contents: &Contents, after: u32) -> Option<usize>
+fn first_owned(accepted: &Accepted, contents: &Columns, after: u32) -> Option<usize>
     requires { IsHolding (held_now contents.now) }
     ensures { IsFirstName (is_owned_over accepted.now.program after) contents.now.names.now result }
 {
@@ -167,7 +167,7 @@ fn first_owned(accepted: &Accepted, contents: &Contents, after: u32) -> Option<u
 }
 
 // The name at a place, where it has a type.
-fn name_in(contents: &Contents, place: Option<usize>) -> Option<u32>
+fn name_in(contents: &Columns, place: Option<usize>) -> Option<u32>
     ensures { result ≡ option_map (λ t. t.0) (option_and_then (typed_at contents.now.names.now) place) }
 {
     let (name, _) = typed_at(contents, place?)?;
@@ -175,7 +175,7 @@ fn name_in(contents: &Contents, place: Option<usize>) -> Option<u32>
 }
 
 /// The lowest name over a number whose type has mode R or L.
-pub(crate) fn next_owned(accepted: &Accepted, contents: &Contents, after: u32) -> Option<u32>
+pub(crate) fn next_owned(accepted: &Accepted, contents: &Columns, after: u32) -> Option<u32>
     requires { IsHolding (held_now contents.now) }
     ensures { FindsNext (IsLinearName accepted.now.program (state_of (held_now contents.now)).types) after result }
 {

@@ -1,5 +1,5 @@
 -- Tallies of a state in which objects come, leave and become others.
-use Rattle.std.proofs.Common.{◌≡◌, ◌≢◌, ◌∙◌, inl, inr, ◌<◌, ◌+◌, ◌==◌, ℕ, Bool, Contains, find, eqb-true, IsSome, OnErr, OnOk, true, false, cond, map, List, [], ◌∷◌, ◌++◌, arith, All, Option, Some, None, Result, Ok, Err, refl, sym, ap, subst, option_and_then}
+use Rattle.std.proofs.Common.{◌≡◌, ◌≢◌, ◌∙◌, inl, inr, ◌≤◌, ◌<◌, ◌+◌, ◌==◌, ℕ, Bool, Contains, find, eqb-true, IsSome, OnErr, OnOk, true, false, cond, map, List, [], ◌∷◌, ◌++◌, arith, All, Option, Some, None, Result, Ok, Err, refl, sym, ap, subst, option_and_then}
 use Rattle.std.specs.Option.{option_map, option_to_list}
 use Rattle.std.proofs.lemmas.Bool.{cases_eq}
 use Rattle.std.proofs.lemmas.List.Elements.{All-weaker}
@@ -25,7 +25,7 @@ use Rattle.nomos_ir.specs.declared.ids.TypeId.{TypeId}
 use Rattle.nomos_ir.specs.declared.ids.VarId.{VarId}
 use Rattle.nomos_index.specs.Mentions.{channel_in, names_in}
 use Rattle.nomos_tally.specs.Moving.{Moves}
-use Rattle.nomos_tally.specs.Suspecting.{KeepsSuspects}
+use Rattle.nomos_tally.specs.Suspecting.{IsSuspectIfIdle, KeepsSuspects}
 use Rattle.nomos_tally.specs.Tallying.{AreRight, Shifts, channels_used, names_of, nothing, only, tallied}
 use Rattle.nomos_tally.specs.declared.tallies.Tallies.{Tallies}
 use Rattle.nomos_tally.specs.declared.tally.Doing.TheVariants as doing
@@ -187,6 +187,21 @@ pub aside-tallied : (t : Tallies) (s u : State) → AreTalliesOf t s → u.objec
 aside-tallied t s u of objects types next =
     moved-tallied t t s u nothing nothing of next types (moves-still t nothing nothing (λ d name. refl))
     (λ right shifts. subst (AreRight t.names.now) (sym objects) right)
+
+-- so may the numbers that are drawn next
+pub drawn-tallied : (t : Tallies) (s u : State) → AreTalliesOf t s → u.objects ≡ s.objects → u.types ≡ s.types
+    → s.next_name ≤ u.next_name → AreTalliesOf t u
+drawn-tallied t s u of objects types next = record {
+  order = of.order;
+  below =
+      All-weaker (λ n. n < s.next_name + 1) (λ n. n < u.next_name + 1) (λ n under. omega (arith, under, next))
+      (numbers t.names.now) of.below;
+  right = λ yes. subst (AreRight t.names.now) (sym objects) (of.right yes);
+  suspected = λ yes known.
+      subst
+      (λ (table : NameTypes). (name : ℕ) → IsSome (type_of table name) → IsSuspectIfIdle t.names.now t.suspects name)
+      (sym types) (of.suspected yes known);
+}
 
 -- so may what a process carries
 pub carries-tallied : (t : Tallies) (s u : State) (pid : ℕ) (p : Process) (f : Process → Process) → AreTalliesOf t s

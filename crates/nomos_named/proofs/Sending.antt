@@ -13,7 +13,7 @@ use Rattle.nomos_slots.proofs.shelf.Shelf.TheSendSync as shelf
 use Rattle.nomos_slots.proofs.tail.Tail.TheSendSync as tail
 use Rattle.nomos_index.proofs.inside.Numbers.TheSendSync as numbers
 use Rattle.nomos_index.proofs.kept.Kept.TheSendSync as kept
-use Rattle.nomos_index.specs.contracts.inside.Contents as Contents
+use Rattle.nomos_index.specs.contracts.inside.Columns as Columns
 use Rattle.nomos_index.specs.contracts.inside.Inside as Inside
 use Rattle.nomos_tally.proofs.tallies.Tallies.TheSendSync as tallies
 use Rattle.nomos_named.specs.contracts.tallied.Tallied as Tallied
@@ -28,7 +28,7 @@ values-send = search (nodes.crosses, crossing.crosses, sendable) depth 60
 list-send : IsSend (PotentialList.the_field).row
 list-send = search (values-send, crossing.crosses, sendable) depth 60
 
-contents-send : IsSend (Contents.the_field).row
+contents-send : IsSend (Columns.the_field).row
 contents-send =
     search (
       value-send,

@@ -25,6 +25,18 @@ impl Tallied {
         self.tallies.come(name);
     }
 
+    /// Numbers are drawn up to these ones, which no object and no name has. It takes no memory and no room.
+    pub(crate) fn draw_up_to(&mut self, next_object: u32, next_name: u32)
+        requires object { self.old.state.next_object ≤ next_object }
+        requires name { self.old.state.next_name ≤ next_name }
+        ensures state { self.new.state ≡ record self.old.state
+            { next_object = next_object; next_name = next_name } }
+        ensures room { self.new.room ≡ self.old.room }
+        ensures marked { self.new.marked ≡ self.old.marked }
+    {
+        self.inside.draw_up_to(next_object, next_name);
+    }
+
     // The name that is drawn next may be mentioned already: an object comes before the name that it is made with.
     fn expect_name(&mut self)
         ensures state { self.new.state ≡ self.old.state }

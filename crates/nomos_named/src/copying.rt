@@ -8,18 +8,27 @@ use nomos_tally::tallies::Tallies;
 use std::alloc::{AllocError, Global};
 
 impl Tallied {
+    /// The state with nothing in it, in which these numbers are drawn next. It takes no memory.
+    pub(crate) fn empty_at(alloc: Global, next_object: u32, next_name: u32) -> Self
+        ensures state { result.state ≡ record empty { next_object = next_object; next_name = next_name } }
+        ensures marked { result.marked ≡ None }
+        ensures room { result.room ≡ 0 }
+    {
+        Tallied {
+            inside: Inside::empty_at(alloc, next_object, next_name),
+            tallies: Tallies::new(alloc),
+            was_exact: true,
+            was_lost: true,
+        }
+    }
+
     /// The state with nothing in it, in which both next numbers are 1. It takes no memory.
     pub(crate) fn empty(alloc: Global) -> Self
         ensures state { result.state ≡ empty }
         ensures marked { result.marked ≡ None }
         ensures room { result.room ≡ 0 }
     {
-        Tallied {
-            inside: Inside::empty(alloc),
-            tallies: Tallies::new(alloc),
-            was_exact: true,
-            was_lost: true,
-        }
+        Tallied::empty_at(alloc, 1, 1)
     }
 
     /// The same state once more, with nothing marked and no room ahead.

@@ -23,8 +23,8 @@ use std::marker::Model;
 /// ahead there is room.
 #[derive(Drop, Debug)]
 pub struct IndexedState {
-    tallied: Tallied,
-    spare: usize,
+    pub(crate) tallied: Tallied,
+    pub(crate) spare: usize,
 }
 
 impl Model for IndexedState {

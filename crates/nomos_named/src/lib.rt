@@ -6,6 +6,7 @@ mod carrying;
 mod changes;
 mod changing;
 mod coming;
+mod contents;
 mod copying;
 mod counting;
 pub mod finding;

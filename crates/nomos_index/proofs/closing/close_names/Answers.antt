@@ -1,10 +1,9 @@
-use Rattle.std.proofs.Common.{◌≡◌, ◌∙◌, List, refl, sym, ap, subst, arith}
+use Rattle.std.proofs.Common.{◌∙◌, List, refl, sym, ap, subst}
 use Rattle.nomos_ir.specs.declared.ids.TypeId.{TypeId}
 use Rattle.nomos_machine.specs.State.{NameTypes, State}
 use Rattle.nomos_slots.specs.declared.numbered.Slot.{Slot}
-use Rattle.nomos_index.specs.Indexed.{Holding, IsHolding, held_now, state_of}
+use Rattle.nomos_index.specs.Indexed.{IsHolding, held_now, state_of}
 use Rattle.nomos_index.specs.Objects.{types_of}
-use Rattle.nomos_index.specs.Together.{KeepsRoom, MarksTheSame}
 use Rattle.nomos_index.proofs.CloseLemmas.{holding-names_closed, types-closed}
 use Rattle.nomos_index.proofs.TogetherLemmas.{same-names}
 use Rattle.nomos_index.proofs.closing.close_names.Goals as goal

@@ -1,6 +1,5 @@
-use Rattle.std.proofs.Common.{◌≡◌, ◌∙◌, refl, sym, ap, subst, arith}
-use Rattle.nomos_index.specs.Indexed.{Holding, IsHolding, held_now, state_of}
-use Rattle.nomos_index.specs.Together.{KeepsRoom, MarksTheSame}
+use Rattle.std.proofs.Common.{◌∙◌, refl, sym, ap, subst}
+use Rattle.nomos_index.specs.Indexed.{IsHolding, held_now, state_of}
 use Rattle.nomos_index.proofs.CloseLemmas.{beside-late, holding-objects_closed, objects_closed-is, state-objects_closed}
 use Rattle.nomos_index.proofs.TogetherLemmas.{same-names}
 use Rattle.nomos_index.proofs.closing.close_objects.Goals as goal

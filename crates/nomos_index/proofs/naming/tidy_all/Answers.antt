@@ -2,7 +2,7 @@ use Rattle.std.proofs.Common.{◌<◌, ◌≡◌, ◌∙◌, List, length, rules
 use Rattle.nomos_machine.specs.declared.object.Object.{Object}
 use Rattle.nomos_index.specs.Indexed.{held_now, state_of}
 use Rattle.nomos_index.specs.Tidying.{tidied_at}
-use Rattle.nomos_index.specs.declared.inside.Contents.{Contents}
+use Rattle.nomos_index.specs.declared.inside.Columns.{Columns}
 use Rattle.nomos_index.proofs.TidyLemmas.{tidied-next}
 use Rattle.nomos_index.proofs.naming.tidy_all.Goals as goal
 
@@ -13,14 +13,14 @@ loop-place-preserved c =
     let is = c.loop-place.invariant in
     let objects = (state_of (held_now old)).objects in
     let same : (state_of (held_now before)).objects ≡ objects =
-    ap (λ (x : Contents). (state_of (held_now x)).objects) is.others
+    ap (λ (x : Columns). (state_of (held_now x)).objects) is.others
     in
     let within : c.loop-place.place < length old.names.now = search rules in
     record {
       holding = c.tidy_at.ensures.holding;
       others =
           c.tidy_at.ensures.others
-          ∙ ap (λ (x : Contents). let y : Contents = record x { names = c.tidy_at.new.contents.names } in y) is.others;
+          ∙ ap (λ (x : Columns). let y : Columns = record x { names = c.tidy_at.new.contents.names } in y) is.others;
       names =
           c.tidy_at.ensures.names
           ∙ ap (λ (os : List Object). tidied_at os c.loop-place.place before.names.now) same

@@ -6,7 +6,7 @@ use Rattle.nomos_slots.specs.declared.numbered.Slot.{Slot}
 use Rattle.nomos_index.specs.Indexed.{Holding, Indexed, IsHolding, held_now, state_of}
 use Rattle.nomos_index.specs.Objects.{types_of}
 use Rattle.nomos_index.specs.Together.{MarksTheSame}
-use Rattle.nomos_index.specs.declared.inside.Contents.{Contents}
+use Rattle.nomos_index.specs.declared.inside.Columns.{Columns}
 use Rattle.nomos_index.proofs.TidyLemmas.{holding-come, types-push}
 use Rattle.nomos_index.proofs.TogetherLemmas.{marked-holding, same-names, together-same}
 use Rattle.nomos_index.proofs.inside.Inside.come_name.Goals as goal
@@ -16,7 +16,7 @@ invariant_of-self c =
     let old = c.self.inside.contents in
     let h = held_now old in
     let is = c.self.invariant in
-    let new : Contents = record old {
+    let new : Columns = record old {
       names = c.push.new.self;
       numbers = record old.numbers { next_name = old.numbers.next_name + 1 };
     } in

@@ -3,7 +3,7 @@ use Rattle.nomos_machine.specs.Change.{tidied}
 use Rattle.nomos_machine.specs.State.{NameTypes, State}
 use Rattle.nomos_index.specs.Indexed.{Indexed, held_now, state_of}
 use Rattle.nomos_index.specs.Objects.{types_of}
-use Rattle.nomos_index.specs.declared.inside.Contents.{Contents}
+use Rattle.nomos_index.specs.declared.inside.Columns.{Columns}
 use Rattle.nomos_index.proofs.TidyLemmas.{types-tidied}
 use Rattle.nomos_index.proofs.inside.Inside.tidy.Goals as goal
 
@@ -12,6 +12,6 @@ returns-clause-state c =
     let h = held_now c.self.inside.contents in
     let s = state_of h in
     let With : NameTypes → State = λ types. record s { types = types } in
-    ap (λ (x : Contents). state_of (held_now x)) c.tidy_all.ensures.others
+    ap (λ (x : Columns). state_of (held_now x)) c.tidy_all.ensures.others
     ∙ ap With (ap types_of c.tidy_all.ensures.names ∙ types-tidied s.objects h.names)
     ∙ ap (λ (x : Indexed). tidied x.state) c.self.view_is
