@@ -1,0 +1,3 @@
+pub mod BuiltLemmas
+pub mod MentionLemmas
+pub mod NumberingLemmas
