@@ -1,11 +1,11 @@
 -- A state whose processes stand at their places is typed exactly where its other parts are.
-use Rattle.std.proofs.Common.{◌≡◌, ◌<◌, ◌↔◌, ℕ, List, length, All, Contains, Some, subst, sym, arith}
+use Rattle.std.proofs.Common.{◌≡◌, ◌<◌, ◌↔◌, ℕ, List, length, Contains, Some, subst, arith}
 use Rattle.std.proofs.lemmas.List.Elements.{All-contains, All-weaker}
 use Rattle.nomos_contents.specs.Data.{IsOrdered, state_of}
 use Rattle.nomos_contents.specs.declared.data.StateData.{StateData}
 use Rattle.nomos_ir.specs.declared.ids.TypeId.{TypeId}
 use Rattle.nomos_machine.specs.Matching.{ProcessTyped}
-use Rattle.nomos_machine.specs.State.{NameTypes, type_of}
+use Rattle.nomos_machine.specs.State.{NameTypes}
 use Rattle.nomos_machine.specs.TypedState.{InSection, IsTyped, LeadsToBase, ObjectTyped, at_base, further}
 use Rattle.nomos_machine.specs.declared.object.Object.{Object}
 use Rattle.nomos_machine.specs.declared.object.Object.TheVariants as object

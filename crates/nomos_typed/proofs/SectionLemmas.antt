@@ -1,5 +1,5 @@
 -- Talks are in sections exactly where their names are among those whose talks go back.
-use Rattle.std.proofs.Common.{◌≡◌, ◌<◌, ◌≤◌, ◌+◌, ◌↔◌, ◌∙◌, inl, inr, ℕ, Bool, true, false, IsTrue, List, [], ◌∷◌, ◌++◌, filter, flat_map, map, cond, length, All, Contains, Option, Some, None, refl, ap, subst, sym, arith}
+use Rattle.std.proofs.Common.{◌≡◌, ◌≤◌, ◌↔◌, ◌∙◌, inl, inr, ℕ, Bool, true, false, IsTrue, List, [], ◌∷◌, filter, flat_map, map, cond, Contains, Option, Some, None, refl, ap, subst, sym, arith}
 use Rattle.std.proofs.lemmas.List.Elements.{Contains-append_cases, Contains-append_left, Contains-append_right}
 use Rattle.std.specs.Option.{option_to_list}
 use Rattle.nomos_contents.specs.declared.data.StateData.{StateData}
@@ -21,7 +21,7 @@ use Rattle.nomos_types.proofs.OccurrenceLaws.{contained, contains-map, contains-
 use Rattle.nomos_types.specs.Modes.{HasMode}
 use Rattle.nomos_types.specs.Synchronizing.{IsSynchronizingAt}
 use Rattle.nomos_typed.proofs.CountLemmas.{count-gone, count-kept}
-use Rattle.nomos_typed.proofs.TieLemmas.{key-none, key-once, mode-typed, typed-mode}
+use Rattle.nomos_typed.proofs.TieLemmas.{key-once, mode-typed, typed-mode}
 use Rattle.nomos_typed.specs.Sections.{AreInSections, IsSectionIn}
 use Rattle.nomos_typed.specs.declared.leading.Led.{Led}
 use Rattle.nomos_typed.specs.declared.leading.Onward.{Onward}

@@ -1,5 +1,5 @@
 -- Names have the providers and users that their modes ask for exactly where sorted numbers are the same.
-use Rattle.std.proofs.Common.{◌≡◌, ◌≢◌, ◌≤◌, ◌<◌, ◌+◌, ◌↔◌, ◌∙◌, inl, inr, ℕ, Bool, true, false, List, [], ◌∷◌, map, filter, length, All, Option, Some, None, IsSome, option_and_then, slice_get, refl, ap, subst, sym, arith}
+use Rattle.std.proofs.Common.{◌≡◌, ◌≤◌, ◌<◌, ◌+◌, ◌↔◌, ◌∙◌, inl, inr, ℕ, true, false, List, [], ◌∷◌, map, filter, length, All, Option, Some, None, IsSome, option_and_then, slice_get, refl, ap, subst, sym, arith}
 use Rattle.std.proofs.lemmas.Bool.{cases_eq}
 use Rattle.std.proofs.lemmas.Map.Keys.{sorted_head, sorted_tail}
 use Rattle.std.proofs.lemmas.List.Elements.{All-weaker}

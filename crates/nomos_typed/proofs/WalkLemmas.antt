@@ -1,5 +1,5 @@
 -- Two ascending maps are paired exactly where they are so pair by pair, in order.
-use Rattle.std.proofs.Common.{◌≡◌, ◌≢◌, ◌≤◌, ◌<◌, ◌+◌, ◌↔◌, ◌∙◌, inl, inr, ℕ, zero, suc, ◌==◌, Bool, cond, List, [], ◌∷◌, length, get_or, Option, Some, None, Less, refl, ap, subst, sym, arith, eq-eqb, ne_eqb}
+use Rattle.std.proofs.Common.{◌≡◌, ◌≢◌, ◌≤◌, ◌<◌, ◌+◌, ◌↔◌, ◌∙◌, inl, inr, ℕ, zero, suc, Bool, cond, List, [], ◌∷◌, length, get_or, Some, None, Less, refl, ap, subst, sym, arith, eq-eqb, ne_eqb}
 use Rattle.std.proofs.lemmas.Bool.{cases_eq, cases_lt}
 use Rattle.std.proofs.lemmas.Cmp.{ranked}
 use Rattle.std.proofs.lemmas.List.{get_or_default}
@@ -8,7 +8,7 @@ use Rattle.std.specs.List.{AllByRecursion}
 use Rattle.std.specs.Map.{keys_of}
 use Rattle.nomos_ir.proofs.PairedLaws.{none-left, paired-as, paired-in_order, paired-left, paired-right}
 use Rattle.nomos_ir.specs.Bindings.{IsAscending, bound_to, by_number}
-use Rattle.nomos_ir.specs.Paired.{ArePaired, Paired, PairedInOrder, neither, none, pair}
+use Rattle.nomos_ir.specs.Paired.{ArePaired, PairedInOrder, neither, none, pair}
 use Rattle.nomos_ir.specs.declared.ids.VarId.{VarId}
 
 -- ---- what a map binds

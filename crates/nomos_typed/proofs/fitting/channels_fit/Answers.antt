@@ -1,6 +1,4 @@
-use Rattle.std.proofs.Common.{◌≡◌, ◌<◌, ℕ, Bool, List, false, true, length, get_or, refl, subst, arith}
-use Rattle.std.proofs.lemmas.List.{get_or_default}
-use Rattle.nomos_ir.specs.Paired.{ArePaired}
+use Rattle.std.proofs.Common.{◌≡◌, ◌<◌, ℕ, Bool, true, length, get_or, refl, subst, arith}
 use Rattle.nomos_ir.specs.declared.ids.TypeId.{TypeId}
 use Rattle.nomos_ir.specs.declared.ids.VarId.{VarId}
 use Rattle.nomos_typed.specs.Telling.{Tells}

@@ -1,4 +1,4 @@
-use Rattle.std.proofs.Common.{◌≡◌, ◌∙◌, List, IfOk, flat_map, subst, sym}
+use Rattle.std.proofs.Common.{List, IfOk, flat_map, subst, sym}
 use Rattle.std.proofs.lemmas.Result.{IfOk-weaker}
 use Rattle.std.specs.List.Sorted.{IsPermutation}
 use Rattle.nomos_typed.specs.declared.leading.Led.{Led}

@@ -1,5 +1,5 @@
 -- Sorted numbers are the first ones exactly where each stands as often.
-use Rattle.std.proofs.Common.{◌≡◌, ℕ, List, IsTrue, ap, subst, sym, ◌∙◌}
+use Rattle.std.proofs.Common.{◌≡◌, ℕ, List, ap, sym, ◌∙◌}
 use Rattle.std.proofs.lemmas.List.Sorted.{IsNonDecreasingBy-from_sort}
 use Rattle.std.proofs.lemmas.Slice.Eq.{bytes_eq-Decides}
 use Rattle.nomos_ir.specs.Order.{count_of}

@@ -1,4 +1,4 @@
-use Rattle.std.proofs.Common.{◌≡◌, ◌∙◌, map, ℕ, List, ap}
+use Rattle.std.proofs.Common.{◌∙◌, map, ℕ, List, ap}
 use Rattle.nomos_ir.specs.declared.ids.TypeId.{TypeId}
 use Rattle.nomos_typed.specs.declared.tie.Tie.TheVariants as tie
 use Rattle.nomos_typed.specs.mirror.Ties.{all_tied}

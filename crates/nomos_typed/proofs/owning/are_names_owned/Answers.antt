@@ -1,8 +1,7 @@
-use Rattle.std.proofs.Common.{◌≡◌, ◌∙◌, ◌↔◌, Bool, IsTrue, List, sym, subst}
+use Rattle.std.proofs.Common.{◌↔◌, IsTrue, List, sym, subst}
 use Rattle.nomos_ir.specs.declared.lists.ProgramLists.{ProgramLists}
 use Rattle.nomos_ir.specs.declared.mode.Mode.{Mode}
 use Rattle.nomos_machine.specs.declared.object.Object.{Object}
-use Rattle.nomos_machine.specs.State.{NameTypes}
 use Rattle.nomos_types.specs.ModeTable.{AreModesOf}
 use Rattle.nomos_typed.specs.declared.tie.Tie.{Tie}
 use Rattle.nomos_typed.specs.declared.tie.Tie.TheVariants as tie

@@ -1,10 +1,10 @@
-use Rattle.std.proofs.Common.{◌≡◌, ◌∙◌, map, filter, ℕ, List, ap, sym, subst}
+use Rattle.std.proofs.Common.{◌∙◌, map, filter, ℕ, List, ap, sym, subst}
 use Rattle.std.proofs.lemmas.List.Kept.{IsStrictlySortedBy-filter}
 use Rattle.std.specs.List.Sorted.{IsStrictlySortedBy}
 use Rattle.std.specs.Ordering.{nat_cmp}
 use Rattle.nomos_ir.specs.Order.{count_of}
 use Rattle.nomos_ir.specs.declared.ids.TypeId.{TypeId}
-use Rattle.nomos_typed.specs.mirror.Ties.{all_tied, limited, once}
+use Rattle.nomos_typed.specs.mirror.Ties.{limited, once}
 use Rattle.nomos_typed.proofs.owning.are_tied.Goals as goal
 
 pub stand_once-requires : goal.stand_once-requires

@@ -1,4 +1,4 @@
-use Rattle.std.proofs.Common.{◌≡◌, ◌<◌, ◌∙◌, ℕ, List, All, Contains, filter, flat_map, length, map, sym, subst}
+use Rattle.std.proofs.Common.{◌<◌, ◌∙◌, ℕ, List, Contains, flat_map, length, map, sym, subst}
 use Rattle.std.proofs.lemmas.List.Elements.{All-contains_itself, All-weaker}
 use Rattle.std.proofs.lemmas.List.Kept.{IsStrictlySortedBy-filter}
 use Rattle.std.proofs.lemmas.List.Sorted.{Contains-permutation, IsPermutation-sym}
@@ -13,7 +13,7 @@ use Rattle.nomos_typed.specs.declared.leading.Led.{Led}
 use Rattle.nomos_typed.specs.declared.sections.Talk.{Talk}
 use Rattle.nomos_typed.specs.declared.told.Told.{Told}
 use Rattle.nomos_typed.specs.mirror.Leading.{AreLed, led_of, onward_of}
-use Rattle.nomos_typed.specs.mirror.Talks.{AreTalks, talks_at_l}
+use Rattle.nomos_typed.specs.mirror.Talks.{talks_at_l}
 use Rattle.nomos_typed.specs.mirror.Told.{AreInOrder, IsTold}
 use Rattle.nomos_typed.proofs.SectionLemmas.{sections-exact}
 use Rattle.nomos_typed.proofs.sections.are_in_sections.Goals as goal

@@ -1,8 +1,8 @@
-use Rattle.std.proofs.Common.{◌≡◌, ◌<◌, ◌↔◌, ℕ, List, Contains, length, get_or, ap, sym, subst, arith}
+use Rattle.std.proofs.Common.{◌≡◌, ◌<◌, ◌↔◌, ℕ, List, Contains, length, get_or, subst, arith}
 use Rattle.std.proofs.lemmas.List.{get_or_default, take_all}
 use Rattle.nomos_typed.specs.declared.sections.Decided.{Decided}
 use Rattle.nomos_typed.specs.declared.sections.Talk.{Talk}
-use Rattle.nomos_typed.specs.mirror.Talks.{HasBack, IsBack}
+use Rattle.nomos_typed.specs.mirror.Talks.{HasBack}
 use Rattle.nomos_typed.proofs.TalkLemmas.{back-none, decided-here, names-more}
 use Rattle.nomos_typed.proofs.sections.names_back.Goals as goal
 

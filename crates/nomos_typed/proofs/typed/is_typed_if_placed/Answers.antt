@@ -1,5 +1,3 @@
-use Rattle.std.proofs.Common.{◌↔◌, false, true, IsTrue}
-use Rattle.nomos_typed.specs.Typed.{ArePartsTyped}
 use Rattle.nomos_typed.proofs.LeadingLemmas.{not-true}
 use Rattle.nomos_typed.proofs.PartLemmas.{parts-exact}
 use Rattle.nomos_typed.proofs.typed.is_typed_if_placed.Goals as goal
