@@ -8,8 +8,8 @@ use nomos_monitor::outside_talk::{TalkOpening, open_talk};
 use nomos_types::accepted::Accepted;
 use std::process::Abort;
 
-/// With whom a talk is opened: how many Dths the one account has, whose number is 0; the declaration; and the account of
-/// the party.
+/// With whom a talk is opened: how many Dths the one account has, whose number is 0; the declaration; and the number of
+/// the party's account.
 #[derive(Clone, Copy)]
 pub(crate) struct Party<'a> {
     pub(crate) dths: u64,

@@ -5,8 +5,8 @@ use crate::holding::tell;
 use crate::opening::Party;
 use std::test::Fail;
 
-// A contract, the Dths of account 0, the declaration, the number of the party's account, and what is told of a talk that is
-// opened so.
+// A contract, the Dths of account 0, the declaration, the number of the party's account, and what is told of a talk
+// that is opened so.
 const OPENINGS: [(&str, u64, &str, u32, &str); 10] = [
     (COINS, 0, "five", 1, "refused NoAccount"),
     (COINS, 0, "nobody", 1, "refused NoAccount"),
