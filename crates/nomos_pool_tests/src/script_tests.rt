@@ -130,7 +130,7 @@ fn pooled<R: Abort + AllocGlobal + Threads + Wait + Sync>(
     }
 }
 
-// Of each of eleven accounts a thousand lines keep their order.
+// A thousand lines of eleven accounts: of each account they keep their order.
 #[test]
 fn accounts_keep_their_order(rt: HostRuntime) {
     let Ok(items) = pooled(&rt, lines_of(&rt, 1000)) else {
