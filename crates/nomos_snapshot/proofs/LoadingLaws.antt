@@ -110,8 +110,8 @@ record IsPlainLedger (l : LedgerState) : Type 0 where
   results : l.state.results ≡ []
   outside : l.state.outside ≡ []
 
-goes-bare : {a : Acceptance} {g h : Gathered} {l : SnapshotLine} → IsPlainLedger g.ledger → Goes a (behind g) l (behind h)
-    → IsPlainLedger h.ledger
+goes-bare : {a : Acceptance} {g h : Gathered} {l : SnapshotLine} → IsPlainLedger g.ledger
+    → Goes a (behind g) l (behind h) → IsPlainLedger h.ledger
 goes-bare bare (gathering.account l name dths before new) = record { results = bare.results; outside = bare.outside }
 goes-bare bare (gathering.contract l name shared before new) = record { results = bare.results; outside = bare.outside }
 goes-bare bare (gathering.name l name t before over) = record { results = bare.results; outside = bare.outside }
@@ -246,7 +246,8 @@ stands-orderly stands is = record {
   variables = stands.settled.typed.numbered.variables;
 }
 
-kept-same : (l : LedgerState) → l.state.results ≡ [] → l.state.outside ≡ [] → l ≡ record (kept l) { deposits = l.deposits }
+kept-same : (l : LedgerState) → l.state.results ≡ [] → l.state.outside ≡ []
+    → l ≡ record (kept l) { deposits = l.deposits }
 kept-same l results outside = λ i. record l { state = record l.state { results = results i; outside = outside i } }
 
 sound-stands : {a : Acceptance} {l : LedgerState} → StandsFor a l → IsSoundLedger a (kept l)

@@ -61,7 +61,8 @@ value-taken e values others lists channels left is below_lists below_channels =
 list-first_of : (f : VarId × PotentialList) (values : List (VarId × Value)) (others : List (VarId × PotentialList))
     (channels : List (VarId × ℕ)) → Lowest values (f ∷ others) channels → NoValueFirst values (f ∷ others) channels
     → IsBelowFirst f.0 channels
-    → lines_of_left values (f ∷ others) channels ≡ line.List f.0 f.1.amount f.1.items ∷ lines_of_left values others channels
+    → lines_of_left values (f ∷ others) channels
+    ≡ line.List f.0 f.1.amount f.1.items ∷ lines_of_left values others channels
 list-first_of f (e ∷ values) others channels (lowest_value e2 v2 l2 c2 a b c) no_value below =
     absurd (no_value (above-first e.0 (f ∷ others) b, above-first e.0 channels c))
 list-first_of f values others channels (lowest_list f2 v2 l2 c2 a b c) no_value below =
@@ -70,8 +71,9 @@ list-first_of f values others (g ∷ channels) (lowest_channel g2 v2 l2 c2 a b c
     let above = All-head (λ p. g.0.0 < p.0.0) f others b in
     absurd (omega (arith, above, below))
 
-pub list-taken : (f : VarId × PotentialList) (values : List (VarId × Value)) (lists others : List (VarId × PotentialList))
-    (channels : List (VarId × ℕ)) → AreLeft values lists channels → lists ≡ f ∷ others → NoValueFirst values lists channels
+pub list-taken : (f : VarId × PotentialList) (values : List (VarId × Value))
+    (lists others : List (VarId × PotentialList)) (channels : List (VarId × ℕ)) → AreLeft values lists channels
+    → lists ≡ f ∷ others → NoValueFirst values lists channels
     → IsBelowFirst f.0 channels
     → ComesOff values lists channels (line.List f.0 f.1.amount f.1.items) values others channels
 list-taken f values lists others channels left is no_value below =

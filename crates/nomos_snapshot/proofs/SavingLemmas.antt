@@ -40,12 +40,14 @@ writes-one {lists} {before} l form is = record {
 
 -- lines behind lines
 pub writes-both : {lists : ProgramLists} {before between after : List ℕ} (first others : List SnapshotLine)
-    → WritesLines lists before between first → WritesLines lists between after others → WritesLines lists before after (first ++ others)
+    → WritesLines lists before between first → WritesLines lists between after others
+    → WritesLines lists before after (first ++ others)
 writes-both {lists} {before} first others one two = record {
   written =
       two.written ∙ ap (λ (t : List ℕ). t ++ lines_text lists others) one.written
       ∙ append_assoc before (lines_text lists first) (lines_text lists others)
-      ∙ ap (λ (t : List ℕ). before ++ t) (sym (flat_map-append (λ (l : SnapshotLine). line_text lists l ++ 10 ∷ []) first others));
+      ∙ ap (λ (t : List ℕ). before ++ t)
+      (sym (flat_map-append (λ (l : SnapshotLine). line_text lists l ++ 10 ∷ []) first others));
   form = All-append (IsLine lists) first others one.form two.form;
 }
 
@@ -74,7 +76,8 @@ heads-written unit next_object next_name dths small objects names gas is_one is_
 pub process-written : {lists : ProgramLists} {before between after : List ℕ} (p : Process) (seen : SeenProcess)
     → seen ≡ seen_process p → IsProcessLine lists seen
     → between ≡ before ++ (line_text lists (line.Process seen) ++ 10 ∷ [])
-    → WritesLines lists between after (variable_lines p) → WritesLines lists before after (object_lines (object.Process p))
+    → WritesLines lists between after (variable_lines p)
+    → WritesLines lists before after (object_lines (object.Process p))
 process-written {lists} {before} {between} {after} p seen same form is others =
     subst (λ (q : SeenProcess). WritesLines lists before after (line.Process q ∷ variable_lines p)) same
     (writes-both (line.Process seen ∷ []) (variable_lines p) (writes-one (line.Process seen) form is) others)
@@ -149,7 +152,8 @@ pub ledger-written : {lists : ProgramLists} {before one two three four after : L
     → WritesLines lists four after (flat_map object_lines d.objects)
     → WritesLines lists before after (ledger_lines unit l)
 ledger-written {lists} {before} {after = after} unit l d same heads accounts contracts names objects =
-    let account_lines : List SnapshotLine = map (λ (e : List ℕ × ℕ). line.Account e.0 e.1) (zip l.accounts d.balances) in
+    let account_lines : List SnapshotLine =
+    map (λ (e : List ℕ × ℕ). line.Account e.0 e.1) (zip l.accounts d.balances) in
     let contract_lines : List SnapshotLine = map (λ (c : List ℕ × ℕ). line.Contract c.0 c.1) l.contracts in
     let name_lines : List SnapshotLine = map (λ (t : ℕ × TypeId). line.Name t.0 t.1) d.types in
     let lines : List SnapshotLine = flat_map object_lines d.objects in

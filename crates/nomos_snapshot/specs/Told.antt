@@ -2,7 +2,8 @@
 use Rattle.std.specs.Prelude.{◌≡◌, ◌≢◌, ◌≤◌, ◌↔◌, ℕ, List, [], length, map, Bool, MatchBool, None, IfSome}
 use Rattle.std.specs.Option.{option_map}
 use Rattle.nomos_ir.specs.declared.ids.VarId.{VarId}
-use Rattle.nomos_legal.specs.Ledger.{account_of}
+use Rattle.nomos_contents.specs.Data.{state_of}
+use Rattle.nomos_legal.specs.Ledger.{LedgerState, account_of}
 use Rattle.nomos_machine.specs.declared.object.Object.{Object}
 use Rattle.nomos_machine.specs.declared.object.Object.TheVariants as object
 use Rattle.nomos_machine.specs.declared.object.PotentialList.{PotentialList}
@@ -10,6 +11,7 @@ use Rattle.nomos_machine.specs.declared.object.Process.{Process}
 use Rattle.nomos_types.specs.Acceptance.{Acceptance}
 use Rattle.nomos_snapshot.specs.Gathering.{Gathered, Goes, IsOverNames, IsOverObjects, IsOverVariables, Stand, behind, ledger_of}
 use Rattle.nomos_snapshot.specs.declared.line.SnapshotLine.{SnapshotLine}
+use Rattle.nomos_snapshot.specs.declared.parts.LedgerParts.{LedgerParts}
 use Rattle.nomos_snapshot.specs.declared.told.ToldList.{ToldList}
 use Rattle.nomos_snapshot.specs.declared.told.ToldObject.{ToldObject}
 use Rattle.nomos_snapshot.specs.declared.told.ToldObject.TheVariants as told_object
@@ -58,6 +60,15 @@ told g = record {
     };
   };
   process = option_map process_told g.process;
+}
+
+-- the ledger of these parts, without deposits
+abbrev pub parts_ledger : LedgerParts → LedgerState
+parts_ledger p = record {
+  accounts = p.accounts;
+  contracts = p.contracts;
+  deposits = 0;
+  state = state_of p.contents;
 }
 
 -- ---- the least numbers that may follow

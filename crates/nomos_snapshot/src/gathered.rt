@@ -119,8 +119,8 @@ impl Gathering {
         Ok(true)
     }
 
-    // The process is one of the objects.
-    fn settle(&mut self) -> Result<(), AllocError>
+    /// The process is one of the objects.
+    pub(crate) fn settle(&mut self) -> Result<(), AllocError>
         requires { IsKept self.old }
         ensures { OnOk result (IsSettled self.old self.new) }
     {

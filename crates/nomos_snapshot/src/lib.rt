@@ -10,6 +10,7 @@ pub mod line;
 pub mod loading;
 mod marked;
 mod message_lines;
+pub mod parts;
 mod plain_lines;
 mod process_lines;
 pub mod reading;

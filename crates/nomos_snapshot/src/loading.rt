@@ -128,7 +128,7 @@ fn units_of(gas: u128, unit: u32) -> Result<u64, u128>
     }
 }
 
-/// How many deposited units all gas is worth; none where it is no whole number of units, or over 2^64 - 1: then its Dths.
+/// How many deposited units all gas is worth; or all gas, where it is no whole number of units, or over 2^64 - 1.
 pub fn deposits_of(
     accepted: &Accepted,
     contents: &StateData,

@@ -38,7 +38,7 @@ use std::alloc::{AllocError, Global};
 /// The most bytes of a snapshot.
 pub const MAX_SNAPSHOT: usize = 1_073_741_824;
 
-// In all that follows a line that has not the form is want of memory: no ledger that stands for a program has one.
+// In all that follows a line that has not the form is want of memory (docs/PROMISES.md).
 
 // What is seen of a process.
 fn seen_of(process: &Process) -> SeenProcess

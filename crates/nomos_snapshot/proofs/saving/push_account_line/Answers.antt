@@ -9,4 +9,5 @@ pub returns : goal.returns
 returns c = λ lists.
     let pushed = rw c.as_bytes.ensures.value at (c.push_account.ensures lists) in
     on_ok_weaker c.push_account.result
-    (writes-one {lists = lists} (line.Account c.args.name.now c.args.dths) (c.requires, c.if-not-is_gas.ensures.0 refl)) pushed
+    (writes-one {lists = lists} (line.Account c.args.name.now c.args.dths)
+    (c.requires, c.if-not-is_gas.ensures.0 refl)) pushed

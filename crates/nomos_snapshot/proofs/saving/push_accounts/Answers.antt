@@ -24,7 +24,8 @@ loop-dths-preserved g c =
     (sym c.in-Some.ensures.account) c.loop-dths-test.true in (
       λ lists.
           let pushed = rw c.in_ok-push_account_line.was at (c.push_account_line.ensures lists) in
-          ahead-more (line.Account c.in-Some.name.now (get_or xs i 0) ∷ []) (lines (drop (i + 1) names) (drop (i + 1) xs))
+          ahead-more (line.Account c.in-Some.name.now (get_or xs i 0) ∷ [])
+          (lines (drop (i + 1) names) (drop (i + 1) xs))
           (lines (drop i names) (drop i xs)) more (c.loop-dths.invariant.0 lists) pushed,
       omega (arith, c.loop-dths.invariant.1),
     )

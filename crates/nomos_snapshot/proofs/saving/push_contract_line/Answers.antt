@@ -8,4 +8,5 @@ pub returns : goal.returns
 returns c = λ lists.
     let pushed = rw c.as_bytes.ensures.value at (c.push_contract.ensures lists) in
     on_ok_weaker c.push_contract.result
-    (writes-one {lists = lists} (line.Contract c.args.name.now c.args.shared) (c.requires, c.know_number.ensures)) pushed
+    (writes-one {lists = lists} (line.Contract c.args.name.now c.args.shared)
+    (c.requires, c.know_number.ensures)) pushed

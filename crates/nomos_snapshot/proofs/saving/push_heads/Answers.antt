@@ -12,6 +12,6 @@ returns c = λ lists.
     let small : c.args.unit < 2 ^ 32 = omega arith in
     let d = c.args.contents.now in
     on_ok_weaker c.push_spent.result
-    (heads-written {lists = lists} c.args.unit d.next_object d.next_name d.spent small c.requires.objects c.requires.names
-    (c.if-not-is_gas.ensures.0 refl) head unit next)
+    (heads-written {lists = lists} c.args.unit d.next_object d.next_name d.spent small c.requires.objects
+    c.requires.names (c.if-not-is_gas.ensures.0 refl) head unit next)
     (c.push_spent.ensures lists)

@@ -13,7 +13,8 @@ loop-object-init c =
 
 pub push_object-requires : goal.push_object-requires
 push_object-requires c =
-    subst HasVariables (sym c.object-item.is) (c.requires c.loop-object.object-index c.object-item.result c.loop-object-test.true)
+    subst HasVariables (sym c.object-item.is)
+    (c.requires c.loop-object.object-index c.object-item.result c.loop-object-test.true)
 
 pub loop-object-preserved : goal.loop-object-preserved
 loop-object-preserved c =

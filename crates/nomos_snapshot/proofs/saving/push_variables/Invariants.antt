@@ -8,7 +8,8 @@ use Rattle.nomos_snapshot.proofs.saving.push_variables.Given as goal
 
 abbrev pub invariant-loop-variable : goal.invariant-loop-variable
 invariant-loop-variable l =
-    ((lists : ProgramLists) → IsAhead lists l.fn.text.items l.text.items (variable_lines l.process) (remaining_lines l.left))
+    ((lists : ProgramLists) → IsAhead lists l.fn.text.items l.text.items (variable_lines l.process)
+    (remaining_lines l.left))
     × IsRemaining l.left
 
 abbrev pub decreases-loop-variable : goal.decreases-loop-variable

@@ -20,7 +20,8 @@ returns-then-contents-gt-NEXT_LIMIT-clause-err g c = λ other.
 pub returns-then-len-gt-MAX_SNAPSHOT-clause-err : goal.returns-then-len-gt-MAX_SNAPSHOT-clause-err
 returns-then-len-gt-MAX_SNAPSHOT-clause-err g c = λ other.
     let d = c.args.contents.now in
-    let low = low-numbers d (omega (arith, c.if-contents-gt-NEXT_LIMIT.false)) (omega (arith, c.if-contents-gt-NEXT_LIMIT-2.false)) in
+    let low = low-numbers d (omega (arith, c.if-contents-gt-NEXT_LIMIT.false))
+    (omega (arith, c.if-contents-gt-NEXT_LIMIT-2.false)) in
     let writes = rw c.new-text.ensures.items at c.in_ok-push_ledger.ensures in
     saves-long d c.requires.state low writes
     (omega (arith, c.if-len-gt-MAX_SNAPSHOT.true, c.len.ensures, c.push_ledger.new.text.ok.0))
@@ -28,7 +29,8 @@ returns-then-len-gt-MAX_SNAPSHOT-clause-err g c = λ other.
 pub returns-clause-ok : goal.returns-clause-ok
 returns-clause-ok g c =
     let d = c.args.contents.now in
-    let low = low-numbers d (omega (arith, c.if-contents-gt-NEXT_LIMIT.false)) (omega (arith, c.if-contents-gt-NEXT_LIMIT-2.false)) in
+    let low = low-numbers d (omega (arith, c.if-contents-gt-NEXT_LIMIT.false))
+    (omega (arith, c.if-contents-gt-NEXT_LIMIT-2.false)) in
     let writes = rw c.new-text.ensures.items at c.in_ok-push_ledger.ensures in
     saves-text d c.requires.state low writes
     (omega (arith, c.if-len-gt-MAX_SNAPSHOT.false, c.len.ensures, c.push_ledger.new.text.ok.0))
