@@ -9,9 +9,11 @@ use Rattle.nomos_top.proofs.ShownLaws.{fails-truly, writes-what_is_due}
 use Rattle.nomos_top.specs.Call.{HasEnded}
 use Rattle.nomos_top.specs.Claims.{Claims}
 use Rattle.nomos_top.specs.Seen.{Call}
+use Rattle.nomos_words.proofs.WordLaws.{one_task}
 
 pub ended-claims : (c : Call) → HasEnded c → Claims c
 ended-claims c (texts, ends) = record {
+  one_task = one_task c.words;
   texts = texts;
   accepts_typed = accepts-typed c texts ends;
   keeps_runs = keeps-runs c texts ends;

@@ -1,5 +1,6 @@
 -- All that is claimed of a call, of one and the same texts of its sources: first what a reader has to believe, then how it
 -- ends, and what follows from that.
+use Rattle.std.specs.Prelude.{◌≡◌}
 use Rattle.nomos_top.specs.Accepted.{AcceptedIsTyped}
 use Rattle.nomos_top.specs.Call.{EndsOn}
 use Rattle.nomos_top.specs.Seen.{Call, Texts}
@@ -10,8 +11,11 @@ use Rattle.nomos_top.specs.Refusing.{RefusesTruly}
 use Rattle.nomos_top.specs.Repeating.{Repeats}
 use Rattle.nomos_top.specs.Replaying.{KeptReplays}
 use Rattle.nomos_top.specs.Shown.{WritesWhatIsDue, FailsTruly}
+use Rattle.nomos_words.specs.Words.{Task, Asks}
 
 pub record Claims (c : Call) : Type 0 where
+  -- its words ask for one task at most, so that each task below is the same
+  pub one_task : (t u : Task) → Asks c.words t → Asks c.words u → t ≡ u
   pub texts : Texts
   pub accepts_typed : AcceptsTyped c texts
   pub keeps_runs : KeepsRuns c texts
