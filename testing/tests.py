@@ -52,11 +52,11 @@ def about(text, offset):
 
 class Tests:
     """What was compared, what differs, and the contract of each script, if it has one. Each thing that differs is
-    handed to `say` as it is found."""
+    handed to `say` as it is found. Where a contract is named as `on`, each script is run on this one."""
 
     def __init__(self, program, meaning, say, is_written=False, count=0):
         self.program, self.meaning, self.say, self.is_written, self.count = program, meaning, say, is_written, count
-        self.ran = {}
+        self.ran, self.on = {}, None
         self.contracts, self.scripts, self.lines, self.differ, self.mended, self.written = 0, 0, 0, 0, 0, 0
 
     def differs(self, *parts, **others):
@@ -103,7 +103,8 @@ class Tests:
         self.scripts += 1
         self.wrong(script, due)
         named_contract = [it.words[3:].encode("latin-1") for it in due.of("contract")]
-        contract = self.ran[file] = contract_of(file, os.fsdecode(named_contract[0]) if named_contract else None)
+        beside = contract_of(file, os.fsdecode(named_contract[0]) if named_contract else None)
+        contract = self.ran[file] = self.on or beside
         if contract is None:
             says = "there is no contract of its name beside it; write `//! on FILE.nomos` above all lines"
             self.differs(script.name, 1, 1, "", "", "", [], wrong=says)

@@ -42,6 +42,11 @@ class Told:
         self.script = Script(named(script), read(script, LIMIT + 1))
         self.files = program.kept("contract.nomos", self.text.data), program.kept("lines.script", self.script.data)
 
+    def edit(self, edited):
+        """Has another script be run, which was made of this one."""
+        self.script = edited(self.script)
+        self.files = self.files[0], self.program.kept("lines.script", self.script.data)
+
     def steps(self):
         return ["--steps", self.options["--steps"]] if "--steps" in self.options else []
 
