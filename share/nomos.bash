@@ -1,4 +1,4 @@
-# Completion for bash of the words of nomos, nomos-explain and nomos-test.
+# Completion for bash of the words of nomos, nomos-explain, nomos-test, nomos-trace, nomos-orders and nomos-gas.
 
 # _nomos_explain: offers the options of nomos-explain and of a run, and else says which files are wanted
 _nomos_explain() {
@@ -23,8 +23,25 @@ _nomos_explain() {
 _nomos_test() {
     wanted='*.@(nomos|script)'
     [ "$before" != --orders ] || return 0
+    if [ "$before" = --on ]; then
+        wanted='*.nomos'
+        return 1
+    fi
     [[ $word == -* ]] || return 1
-    local offered='--write --watch --orders --json --help --version'
+    local offered='--write --watch --orders --on --json --help --version'
+    mapfile -t COMPREPLY < <(compgen -W "$offered" -- "$word")
+}
+
+# _nomos_run OPTION..: offers these options and those of each word behind them, and else says which files are wanted
+_nomos_run() {
+    local offered=$*
+    case $before in
+    --policy) offered='first round' ;;
+    --workers | --steps | --seed | --seeds) return 0 ;;
+    --journal) wanted='*' && return 1 ;;
+    *.nomos) wanted='*.script' ;;
+    esac
+    [[ $word == -* || $before == --policy ]] || return 1
     mapfile -t COMPREPLY < <(compgen -W "$offered" -- "$word")
 }
 
@@ -50,10 +67,17 @@ _nomos() {
             ;;
         *) return ;;
         esac
-    elif [ "${COMP_WORDS[0]##*/}" = nomos-test ]; then
-        _nomos_test && return
     else
-        _nomos_explain && return
+        case ${COMP_WORDS[0]##*/} in
+        nomos-test) _nomos_test && return ;;
+        nomos-trace)
+            _nomos_run --lanes --mermaid --report --json --types --policy --workers --seed --journal --steps --help \
+                --version && return
+            ;;
+        nomos-orders) _nomos_run --seeds --steps --json --help --version && return ;;
+        nomos-gas) _nomos_run --json --policy --workers --seed --steps --help --version && return ;;
+        *) _nomos_explain && return ;;
+        esac
     fi
     compopt -o filenames 2>/dev/null
     mapfile -t COMPREPLY < <(
@@ -63,4 +87,4 @@ _nomos() {
     )
 }
 
-complete -F _nomos nomos nomos-explain nomos-test
+complete -F _nomos nomos nomos-explain nomos-test nomos-trace nomos-orders nomos-gas
