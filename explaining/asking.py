@@ -127,10 +127,10 @@ class Program:
         return self.call("run", *files, *(others or self.options), seconds=seconds)
 
     def journal(self, data, script, *others, seconds=None):
-        """Gives the answer of a run with the lines of its journal, or nothing where the program keeps none."""
-        file = self.kept("journal", b"")
-        answer = self.run(data, script, *(others or self.options), "--journal", file, seconds=seconds)
+        """Gives the answer of a run with the files of the contract, the script and the journal that it kept, or nothing
+        where the program keeps none."""
+        kept = self.kept("journal", b"")
+        answer = self.run(data, script, *(others or self.options), "--journal", kept, seconds=seconds)
         if answer is None or answer.status not in (0, 3):
             return None
-        with open(file, encoding="latin-1") as lines:
-            return answer, [it.split() for it in lines]
+        return answer, [os.path.join(self.folder.name, it) for it in ("contract.nomos", "lines.script", "journal")]

@@ -150,11 +150,14 @@ class Codes(Names):
             return step.form in ("label", "send", "put", "close")
         return self.model == "all" and step.form != "work"
 
-    def charged(self):
-        """Gives the offset of each instruction that the cost model puts a `work` before."""
+    def steps(self):
+        """Gives each instruction."""
         waiting = [it.first for it in self.processes.values()]
         while waiting:
             step = waiting.pop()
             waiting += [further for _, further in step.behind]
-            if self.is_charged(step):
-                yield self.tokens[step.at].at
+            yield step
+
+    def charged(self):
+        """Gives the offset of each instruction that the cost model puts a `work` before."""
+        return (self.tokens[it.at].at for it in self.steps() if self.is_charged(it))

@@ -3,8 +3,8 @@ import collections
 
 from . import faults
 from .mends import mend
+from .standing import course
 from .texts import listed
-from .tracks import track
 
 # A batch that does not end is looked at for so many firings.
 FIRINGS = 20_000
@@ -21,12 +21,16 @@ class Waiting:
         self.run, self.number = run, int(entry[0][1])
         self.left = [int(it[1]) for it in entry if it[0] == "left"]
         self.waits = {int(it[1]): int(it[5]) for it in entry if it[0] == "waits"}
-        self.track = found[1] if found and found[0].entries[-1] == entry else None
-        self.names = {pid: name for name, pid in self.track.contracts.items()} if self.track else {}
+        self.course = found[1] if found and found[0].entries[-1] == entry else None
+        self.names = {pid: name for name, pid in self.course.contracts.items()} if self.course else {}
+
+    def standing(self, pid):
+        """Gives a process, where it is told of."""
+        return self.course.processes.get(pid) if self.course else None
 
     def who(self, pid):
         """Gives in words which process this is."""
-        standing = self.track.processes.get(pid) if self.track else None
+        standing = self.standing(pid)
         if pid in self.names:
             return f"the contract `{self.names[pid]}`"
         if standing and standing.line:
@@ -34,22 +38,14 @@ class Waiting:
         return f"process {pid}" + (f", a `{standing.process.name}`" if standing else "")
 
     def where(self, pid, forms):
-        """Gives the place in the contract at which a process stands, where that is sure, and who is turned to there."""
-        standing = self.track.processes.get(pid) if self.track else None
-        places = standing.at(forms) if standing else []
-        if len({it.step.at for it in places}) != 1:
-            return None, None
-        codes = self.run.codes
-        return codes.tokens[places[0].step.at].at, places[0]
+        """Gives the place in the contract at which a process stands, and the instruction there."""
+        standing = self.standing(pid)
+        step = self.course.at(standing, forms) if standing else None
+        return (None, None) if step is None else (self.run.codes.tokens[step.at].at, step)
 
     def holder(self, contract):
-        """Gives the process that has acquired a contract, where that is sure."""
-        found = [
-            pid
-            for pid, it in self.track.processes.items()
-            if it.places and all(contract in place.held() for place in it.places)
-        ] if self.track else []
-        return found[0] if len(found) == 1 else None
+        """Gives the process that has acquired a contract, if one has."""
+        return self.course.lent.get(contract) if self.course else None
 
     def wait(self, pid):
         """Gives a line on what a process waits for at an `acquire`, and the process that it waits for."""
@@ -68,12 +64,13 @@ class Waiting:
 
     def other(self, pid):
         """Gives a line on a transaction that waits for what a contract does, and the process that it waits for."""
-        at, place = self.where(pid, ("case", "recv", "take", "get", "wait", "release"))
+        at, step = self.where(pid, ("case", "recv", "take", "get", "wait", "release"))
         if at is None:
             return f"see: {self.who(pid)} is left", None
-        names = self.track.names(place.step)
-        contract = place.contract(names[1])
-        whom = f" for {self.who(contract)}" if contract else f" for `{names[1]}`"
+        name = self.course.names(step)[1]
+        other = self.standing(pid).offering.get(name)
+        contract = other if other in self.names else None
+        whom = f" for {self.who(contract)}" if contract else f" for `{name}`"
         return f"see: {self.who(pid)} waits at {self.run.text.place(at)}{whom}", contract
 
     def lines(self):
@@ -127,7 +124,7 @@ class Waiting:
 
 def of_blocked(run, entry):
     number = int(entry[0][1])
-    waiting = Waiting(run, entry, track(run, run.script.batch(number)[1]))
+    waiting = Waiting(run, entry, course(run, run.script.batch(number)[1]))
     return run.script.row(number).tokens[0].at, "blocked", "blocked", waiting.lines()
 
 
@@ -136,7 +133,7 @@ def of_steps(run, entry):
     number = int(entry[0][1])
     end, lines = run.script.batch(number)[1], []
     options = run.program.options
-    found = track(run, end, *without(options, "--steps"), "--steps", str(firings_of(options)))
+    found = course(run, end, *without(options, "--steps"), "--steps", str(firings_of(options)))
     if found and [it[0][:3] for it in found[0].entries] == [it[:3] for it in firsts(run, number)]:
         fired = [standing.process.name for standing, _ in found[1].fired]
         most = [name for name, count in collections.Counter(fired).most_common(3) if count * 4 >= len(fired)]

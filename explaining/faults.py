@@ -1,6 +1,6 @@
 """Which term of which instruction had a fault, and with which values."""
+from .standing import course
 from .telling import Telling
-from .tracks import track
 
 FORMS = ("put", "spawn", "let", "add", "emit", "if", "call")
 # The signs that can have a fault; any can come out of a function too.
@@ -8,23 +8,21 @@ SIGNS = {"Overflow": "+-*/", "DivideByZero": "/%", "ListLength": ("::",), "TermS
 
 
 class Fault:
-    """A batch that ended with a fault, the process that had it, and the instruction at which that is sure to stand."""
+    """A batch that ended with a fault, the process that had it, and the instruction at which that stands."""
 
     def __init__(self, run, entry, found):
         words = entry[0]
         self.run, self.number, self.pid, self.fault = run, int(words[1]), int(words[3]), words[4]
-        self.track = found[1] if found and found[0].entries[-1] == entry else None
-        self.standing = self.track.processes.get(self.pid) if self.track else None
-        places = self.standing.at(FORMS) if self.standing else []
-        is_one = len({it.step.at for it in places}) == 1
-        self.step = places[0].step if is_one else None
+        self.course = found[1] if found and found[0].entries[-1] == entry else None
+        self.standing = self.course.processes.get(self.pid) if self.course else None
+        self.step = self.course.at(self.standing, FORMS) if self.standing else None
 
     def who(self):
         """Gives in words which process it is."""
         line = self.standing.line if self.standing else None
         if line and line.word == "exec":
             return f"line {line.number}"
-        names = [name for name, pid in self.track.contracts.items() if pid == self.pid] if self.track else []
+        names = [name for name, pid in self.course.contracts.items() if pid == self.pid] if self.course else []
         if names:
             return f"the contract `{names[0]}`"
         return f"process {self.pid}" + (f", a `{self.standing.process.name}`" if self.standing else "")
@@ -87,7 +85,7 @@ class Fault:
 def explained(run, entry):
     """Gives the place in the script, the cause, the row of docs/CAUSES.md, and lines on where the fault is."""
     number = int(entry[0][1])
-    fault = Fault(run, entry, track(run, run.script.batch(number)[1]))
+    fault = Fault(run, entry, course(run, run.script.batch(number)[1]))
     cause = f"aborted {fault.fault}"
     line = fault.standing.line if fault.standing else None
     row = line if line and line.number in [it.number for it in run.script.batch(number)[0]] else run.script.row(number)

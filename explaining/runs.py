@@ -7,7 +7,8 @@ from .codes import Codes
 from .found import Found
 from .held import Types
 from .names import MOST_TOKENS
-from .tracks import track
+from .standing import course
+from .teller import Teller, journal_of
 
 # How many lines are explained, and for how many seconds in all the program is asked about other scripts: where the run
 # itself took long, for several times as long, but not for more than so many.
@@ -44,9 +45,15 @@ class Run:
         part = self.script.part(last, *edits)
         return self.program.run(contract or self.text.data, part, seconds=self.seconds())
 
-    def journal(self, last, *options):
-        """Gives the answer to the script up to a line and the lines of its journal, or nothing."""
-        return self.program.journal(self.text.data, self.script.part(last), *options, seconds=self.seconds())
+    def tale(self, last, *options):
+        """Gives the answer to the script up to a line and the tale of its journal, or nothing."""
+        found = self.program.journal(self.text.data, self.script.part(last), *options, seconds=self.seconds())
+        if found is None:
+            return None
+        answer, (contract, script, journal) = found
+        tale = Teller().tale(contract, script, "--journal", journal, seconds=self.seconds())
+        with open(journal, "rb") as kept:
+            return (answer, tale) if journal_of(tale) == kept.read() else None
 
     def end(self, number, *edits):
         """Gives what becomes of the line or the batch at a line, with other texts in place of some pieces, or none."""
@@ -103,15 +110,14 @@ def named(run):
     entries = [it for it in run.answer.entries if any(words[0] == "result" for words in it)]
     if run.codes is None or not entries or PAYER not in {it.text for it in run.text.tokens}:
         return []
-    found = track(run, len(run.script.rows))
+    found = course(run, len(run.script.rows))
     lines, first = [], None
     for entry in entries if found else ():
         number = int(entry[0][1])
         results, known = [it[2] for it in entry if it[0] == "result"], run.script.accounts(number)
-        for value, steps in zip(results, found[1].results.get(number, ())):
+        for value, step in zip(results, found[1].results.get(number, ())):
             is_number = value.isdecimal() and int(value) < len(known)
-            is_one = is_number and all(run.accounts().is_emitted(it) for it in steps)
-            if is_one and len(lines) < MOST_LINES:
+            if is_number and run.accounts().is_emitted(step) and len(lines) < MOST_LINES:
                 first = first or entry
                 lines.append(f"see: the result {value} of line {number} is the account `{known[int(value)]}`")
     if not lines:

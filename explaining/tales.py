@@ -14,8 +14,8 @@ class Start(NamedTuple):
 
 
 class Firing(NamedTuple):
-    """A firing: the number of the process, the form of the instruction, the gas that a `work` spent, and what is told of
-    it, by the word that it stands behind."""
+    """A firing: the number of the process, the form of the instruction, the gas that a `work` spent, and what else is
+    told of it, by the word that it stands behind."""
 
     pid: int
     form: str

@@ -38,9 +38,13 @@ class Telling:
 
     def __init__(self, fault):
         self.run, self.step, self.standing, self.pid = fault.run, fault.step, fault.standing, fault.pid
-        self.number, self.fired, self.seen = fault.number, fault.track.fired, fault.track.seen
+        self.number, self.fired, self.seen = fault.number, fault.course.fired, fault.course.seen
         self.names = fault.values()
         self.codes = self.run.codes
+
+    def at(self):
+        """Gives the offset of the instruction."""
+        return self.codes.tokens[self.step.at].at
 
     def terms(self):
         """Gives from which token to which the terms of the instruction stand, each with what may stand for it."""
@@ -65,8 +69,7 @@ class Telling:
 
     def asked(self, choice, values=None):
         """Gives the values that are told where something stands for the terms: everywhere, or at these values alone."""
-        codes, edits = self.codes, []
-        at = codes.tokens[self.step.at].at
+        codes, edits, at = self.codes, [], self.at()
         edits.append((at, at, "".join(f"emit {it}; " for it in self.names)))
         there = [is_told(name, it) for name, it in zip(self.names, values or ())]
         if "" in there:
@@ -85,13 +88,13 @@ class Telling:
         """Gives the values that the process told last before the instruction had the fault."""
         results = [it[2] for it in entry if it[0] == "result" and it[1] == str(self.pid)]
         emitted = sum(form == "emit" for standing, form in self.fired if standing is self.standing)
-        first = emitted + self.standing.passed.get(id(self.step), 0) * len(self.names)
+        first = emitted + self.standing.passed.get(self.at(), 0) * len(self.names)
         found = results[first : first + len(self.names)]
         return found if len(found) == len(self.names) else None
 
     def find(self):
         """Gives the values, or nothing where they are not sure."""
-        if not self.names or not self.standing.is_sure(self.step):
+        if not self.names:
             return None
         for choice in range(2 if self.terms() else 0):
             values = self.asked(choice)
@@ -101,4 +104,4 @@ class Telling:
 
     def is_first(self):
         """Whether no process came to the instruction before, so that nothing was left out but at the fault."""
-        return id(self.step) not in self.seen
+        return self.at() not in self.seen

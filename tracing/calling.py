@@ -57,7 +57,7 @@ def said_of(error, program):
     if isinstance(error, Untold):
         return UNREAD if isinstance(error, NoTeller) else DIFFERS, str(error)
     if isinstance(error, Refused):
-        return DIFFERS, str(error)
+        return DIFFERS, os.fsencode(str(error)).decode("utf-8", "replace")
     if isinstance(error, (FileNotFoundError, PermissionError)) and error.filename:
         why = "there is no program of this name" if isinstance(error, FileNotFoundError) else error.strerror
         return NO_PROGRAM, f"{error.filename or program}: {why}"

@@ -121,14 +121,14 @@ class Chart:
         return row
 
 
-def lanes(run, scenes):
+def lanes(run, story, scenes):
     """Gives these scenes of a run as charts, line by line; a batch in which nothing was started has none."""
     script = run.script
     for scene in scenes:
         if not scene.steps:
             continue
         line, count = scene.batch.line, len(scene.batch.firings)
-        accounts = script.accounts(line)
+        accounts = story.accounts(script, line)
         payers = {it.pid: accounts[it.number("payer")] for it in scene.batch.starts}
         yield f"line {line}  {script.row(line).text}   {ended(scene)}, {count} firing{'' if count == 1 else 's'}"
         yield ""

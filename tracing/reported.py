@@ -20,7 +20,7 @@ class Reported:
     """A report, with the scenes of the batches in it."""
 
     def __init__(self, answer, story, script):
-        self.answer, self.script, self.text = answer, script, story.text
+        self.answer, self.script, self.story, self.text = answer, script, story, story.text
         self.scenes = {it.batch.line: it for it in story.scenes}
         self.cast = story.cast
         self.is_account = is_account(self.text)
@@ -55,7 +55,7 @@ class Reported:
         """Gives the line of a result, with the line of the script whose process emitted it."""
         pid, value = int(words[1]), words[2]
         line = f"result {cast.name(pid)} {value} line {cast.lines.get(pid, number)}"
-        known = self.script.accounts(number)
+        known = self.story.accounts(self.script, number)
         is_known = value.isdecimal() and int(value) < len(known)
         return f"{line} account {known[int(value)]}" if is_known and self.is_account(at) else line
 

@@ -87,12 +87,12 @@ class Drawing:
 def states(text, names):
     """Gives the lines of a graph of the types of these names, or of all."""
     if len(text.tokens) > MOST_TOKENS:
-        raise Refused(f"{text.name}: this contract has more tokens than are drawn, {MOST_TOKENS}")
+        raise Refused(f"this contract has more tokens than are drawn, {MOST_TOKENS}")
     with open(f"{TOP}/docs/LANGUAGE.md", encoding="latin-1") as page:
         drawing = Drawing(Types(text, Grammar(page.read())))
     for it in names:
         if it not in drawing.types.bodies:
-            raise Refused(f"{text.name}: this contract has no type of the name {it}")
+            raise Refused(f"this contract has no type of the name {it}")
     for name, body in drawing.types.bodies.items():
         if (not names or name in names) and body.sign != "name":
             drawing.cluster(name)

@@ -56,6 +56,11 @@ class Story:
             self.cast, self.lent = before, lent
         return scene
 
+    def accounts(self, script, line):
+        """Gives the names of the accounts before a line, in the order of their numbers."""
+        lines = [it.batch.line for it in self.scenes if it.batch.end == ["deposited"]]
+        return list(dict.fromkeys(script.row(it).tokens[1].text for it in lines if it < line))
+
     def say(self, *step):
         self.steps.append(Step(*step))
 

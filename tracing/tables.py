@@ -56,8 +56,9 @@ def by_places(spending, places, text):
     unit = spending.unit
     rows = [[amount(Fraction(it.parts, unit), unit), str(it.runs), "  ".join(where(text, it.at))] for it in places]
     whole = amount(Fraction(sum(it.parts for it in places), unit), unit)
-    widths = [max(len(it) for it in column) for column in zip(["spent", "runs"], *(row[:2] for row in rows), [whole, ""])]
-    for spent, runs, said in [["spent", "runs", "where"], *rows, [whole, "", "in all"]]:
+    rows = [["spent", "runs", "where"], *rows, [whole, "", "in all"]]
+    widths = [max(len(row[at]) for row in rows) for at in range(2)]
+    for spent, runs, said in rows:
         yield f"{spent.rjust(widths[0])}  {runs.rjust(widths[1])}  {said}"
 
 

@@ -38,6 +38,7 @@ class Told:
 
     def __init__(self, program, contract, script, options):
         self.program, self.teller, self.options, self.answer = program, Teller(), options, None
+        self.names = contract, script
         self.text = Text(named(contract), read(contract, LIMIT + 1))
         self.script = Script(named(script), read(script, LIMIT + 1))
         self.files = program.kept("contract.nomos", self.text.data), program.kept("lines.script", self.script.data)
@@ -62,7 +63,7 @@ class Told:
         if answer.status == USAGE:
             raise OtherWords
         if answer.status not in RAN:
-            raise Refused(why_not(answer, self.text.name, self.script.name))
+            raise Refused(why_not(answer, *self.names))
         return answer
 
     def replayed(self, journal):
