@@ -1,4 +1,4 @@
-"""The teller, asked for the tale of a run: a journal of which each firing says what it did, as docs/TOOLS.md has it."""
+"""The teller, asked for the tale of a run: a journal of which each firing says what it did, as docs/TEXTS.md has it."""
 import os
 import re
 import subprocess
@@ -41,7 +41,7 @@ class Teller:
     def tale(self, contract, script, *options, seconds=None):
         """Gives the tale of the script of a file on the contract of another one, in the order that options say."""
         if self.name is None:
-            raise NoTeller("there is no teller, nomos-tell, beside the program")
+            raise NoTeller("there is no teller, nomos-tell, beside the program; in a checkout ./nomos-tell builds it")
         words = [self.name, contract, script, *options]
         try:
             ended = subprocess.run(words, stdin=subprocess.DEVNULL, capture_output=True, check=False, timeout=seconds)

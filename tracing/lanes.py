@@ -14,8 +14,8 @@ def put(row, at, text):
 class Chart:
     """The chart of a scene."""
 
-    def __init__(self, scene, payers):
-        self.scene, self.cast, self.payers = scene, scene.cast, payers
+    def __init__(self, scene):
+        self.scene, self.cast = scene, scene.cast
         steps = scene.steps
         self.order = list(dict.fromkeys(it for step in steps for it in (step.who, step.whom) if it is not None))
         self.columns = self.placed()
@@ -93,7 +93,7 @@ class Chart:
         if step.what.split()[1].split("/")[0] == "0":
             return []
         row = self.row()
-        put(row, self.columns[step.who] + 2, f"{step.what}, account {self.payers[step.who]}")
+        put(row, self.columns[step.who] + 2, f"{step.what}, account {self.scene.payers[step.who]}")
         return row
 
     def arrow(self, step):
@@ -121,17 +121,15 @@ class Chart:
         return row
 
 
-def lanes(run, story, scenes):
+def lanes(run, scenes):
     """Gives these scenes of a run as charts, line by line; a batch in which nothing was started has none."""
     script = run.script
     for scene in scenes:
         if not scene.steps:
             continue
         line, count = scene.batch.line, len(scene.batch.firings)
-        accounts = story.accounts(script, line)
-        payers = {it.pid: accounts[it.number("payer")] for it in scene.batch.starts}
         yield f"line {line}  {script.row(line).text}   {ended(scene)}, {count} firing{'' if count == 1 else 's'}"
         yield ""
-        yield from Chart(scene, payers).lines()
+        yield from Chart(scene).lines()
         yield from waits(scene, run.answer)
         yield ""

@@ -90,6 +90,7 @@ class Orders:
         if entry[0][2] != "blocked":
             return []
         batches = batches_of(self.run.teller.tale(*self.run.files, "--journal", kept))
-        story = Story(batches, self.run.text, unit_of(self.run.program.check(self.run.text.data)))
+        unit = unit_of(self.run.program.check(self.run.text.data))
+        story = Story(batches, self.run.text, self.run.script, unit)
         scene = next(it for it in story.scenes if it.batch.line == int(entry[0][1]))
         return waits_of(entry, scene)

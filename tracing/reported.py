@@ -17,30 +17,23 @@ def is_account(text):
 
 
 class Reported:
-    """A report, with the scenes of the batches in it."""
+    """A report, with what happens in the batches in it."""
 
-    def __init__(self, answer, story, script):
-        self.answer, self.script, self.story, self.text = answer, script, story, story.text
-        self.scenes = {it.batch.line: it for it in story.scenes}
-        self.cast = story.cast
-        self.is_account = is_account(self.text)
+    def __init__(self, answer, story):
+        self.answer, self.story, self.is_account = answer, story, is_account(story.text)
 
     def lines(self):
         for it in self.answer.lines:
             if it[:1] == ["line"]:
                 break
             yield " ".join(it)
+        scenes = self.story.play()
         for entry in self.answer.entries:
-            yield from self.entry(entry)
+            yield from self.entry(entry, None if entry[0][2] == "show" else next(scenes))
 
-    def entry(self, entry):
-        """Gives the lines of an entry. A `show` has the names of the batches before it."""
-        number = int(entry[0][1])
-        scene = self.scenes.get(number)
-        if scene:
-            self.cast = scene.cast if scene.batch.is_kept else self.cast
-        cast = scene.cast if scene else self.cast
-        words = list(entry[0])
+    def entry(self, entry, scene):
+        """Gives the lines of an entry, which is that of a scene, or a `show`."""
+        words, number, cast = list(entry[0]), int(entry[0][1]), scene.cast if scene else self.story.cast
         if words[2] == "aborted":
             words[3] = cast.name(int(words[3]))
         yield " ".join(words)
@@ -55,7 +48,7 @@ class Reported:
         """Gives the line of a result, with the line of the script whose process emitted it."""
         pid, value = int(words[1]), words[2]
         line = f"result {cast.name(pid)} {value} line {cast.lines.get(pid, number)}"
-        known = self.story.accounts(self.script, number)
+        known = self.story.accounts
         is_known = value.isdecimal() and int(value) < len(known)
         return f"{line} account {known[int(value)]}" if is_known and self.is_account(at) else line
 

@@ -35,6 +35,8 @@ def ended(scene):
 
 def waits(scene, answer):
     """Gives lines on who waits for whom at the end of a batch."""
+    if scene.batch.end[0] != "blocked":
+        return []
     entry = next(it for it in answer.entries if int(it[0][1]) == scene.batch.line)
     return waits_of(entry, scene)
 

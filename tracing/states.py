@@ -18,6 +18,16 @@ def quoted(text):
     return '"' + text.replace("\\", "\\\\").replace('"', '\\"') + '"'
 
 
+def bare(text):
+    """Gives a type without parentheses around all of it."""
+    depth = 0
+    for at, it in enumerate(text):
+        depth += (it == "(") - (it == ")")
+        if not depth:
+            break
+    return bare(text[1:-1].strip()) if text.startswith("(") and at == len(text) - 1 else text
+
+
 class Drawing:
     """The nodes and arrows of the types of a text."""
 
@@ -49,8 +59,7 @@ class Drawing:
         """Gives the node of a type, and draws it where that is new."""
         if it.sign == "name":
             return self.first(it)
-        said = self.types.said(it.at, it.end)
-        said = said[1:-1] if said.startswith("(") and said.endswith(")") else said
+        said = bare(self.types.said(it.at, it.end))
         if said in self.nodes:
             return self.nodes[said]
         number = len(self.nodes)

@@ -20,46 +20,59 @@ class Step(NamedTuple):
 
 
 class Scene(NamedTuple):
-    """What happens in a batch: what is told of it, its steps, the processes and names as they are at its end, before it
-    is undone, and those to whom contracts are lent then."""
+    """What happens in a batch: what is told of it, its steps, the names of the processes, those to whom contracts are
+    lent at its end, and the account of each process that it starts."""
 
     batch: object
     steps: list
     cast: Cast
     lent: dict
+    payers: dict
 
 
 class Story:
-    """The scenes of a run, one for each deposit and each batch. Gas comes in parts of a unit, so many to one."""
+    """What happens in a run, by what is told of its batches. Gas comes in parts of a unit, so many to one."""
 
-    def __init__(self, batches, text, unit=1):
-        self.text, self.unit = text, unit
+    def __init__(self, batches, text, script, unit=1):
+        self.batches, self.text, self.script, self.unit = batches, text, script, unit
         self.cast, self.steps, self.lent, self.conditions = Cast(), [], {}, {}
-        self.scenes = [self.scene(it) for it in batches]
+        self.accounts, self.known = [], None
+
+    @property
+    def scenes(self):
+        """The scenes of the run, one for each deposit and each batch."""
+        if self.known is None:
+            self.known = list(self.play())
+        return self.known
+
+    def play(self):
+        """Gives one scene after another, which is as long in the cast and among the accounts as the next is not asked
+        for. Of a batch that is undone the scene has a cast of its own."""
+        for it in self.batches:
+            yield self.scene(it)
 
     def gas(self, parts):
         return str(parts) if self.unit == 1 else f"{parts}/{self.unit}"
 
     def scene(self, batch):
-        before, lent = self.cast.copy(), dict(self.lent)
+        before, lent = (None, None) if batch.is_kept else (self.cast.copy(), dict(self.lent))
         self.steps = []
         names = []
         for it in batch.starts:
             names.append(self.cast.start(it, names))
             self.say("starts", it.pid, None, f"gas {self.gas(it.number('gas'))}", None)
+        if batch.end == ["deposited"]:
+            name = self.script.row(batch.line).tokens[1].text
+            self.accounts += [name] if name not in self.accounts else []
         for it in batch.firings:
             self.fire(it)
-        if not batch.is_kept:
-            self.unheard(before)
-        scene = Scene(batch, self.steps, self.cast.copy(), dict(self.lent))
-        if not batch.is_kept:
-            self.cast, self.lent = before, lent
+        payers = {it.pid: self.accounts[it.number("payer")] for it in batch.starts}
+        if batch.is_kept:
+            return Scene(batch, self.steps, self.cast, {}, payers)
+        self.unheard(before)
+        scene = Scene(batch, self.steps, self.cast, self.lent, payers)
+        self.cast, self.lent = before, lent
         return scene
-
-    def accounts(self, script, line):
-        """Gives the names of the accounts before a line, in the order of their numbers."""
-        lines = [it.batch.line for it in self.scenes if it.batch.end == ["deposited"]]
-        return list(dict.fromkeys(script.row(it).tokens[1].text for it in lines if it < line))
 
     def say(self, *step):
         self.steps.append(Step(*step))
@@ -100,6 +113,7 @@ class Story:
 
     def hear(self, it):
         sender, at, what, _ = self.cast.sent.pop(it.number("read"), (None, it.at, "", None))
+        self.cast.offers.pop(it.number("on"), None)
         self.say("says", sender, it.pid, self.message(it) or what, at)
 
     def lend(self, it):

@@ -101,4 +101,4 @@ class Told:
     def story(self):
         """Runs the script, keeps the answer, and gives what happens."""
         self.answer, tale = self.ran()
-        return Story(batches_of(tale), self.text, unit_of(self.answer))
+        return Story(batches_of(tale), self.text, self.script, unit_of(self.answer))
