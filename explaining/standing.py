@@ -50,7 +50,9 @@ class Course:
 
     def fire(self, it):
         """Takes in a firing. A `work` of the cost model stands at the instruction that it is paid for."""
-        standing, step = self.processes[it.pid], self.steps[it.at]
+        standing, step = self.processes.get(it.pid), self.steps.get(it.at)
+        if standing is None or step is None:
+            raise Untold("the teller tells of a process, or of an instruction, that is none")
         self.fired.append((standing, it.form))
         self.seen.add(it.at)
         standing.last = it
@@ -131,6 +133,6 @@ def course(run, last, *options):
         return None
     try:
         found = run.tale(last, *options)
+        return found and (found[0], Course(run.codes, run.script, batches_of(found[1])))
     except Untold:
         return None
-    return found and (found[0], Course(run.codes, run.script, batches_of(found[1])))

@@ -61,7 +61,7 @@ class Spending:
 
     def __init__(self, script, answer, scenes, unit):
         self.script, self.unit = script, unit
-        self.starts = {it.batch.line: it.batch.starts for it in scenes}
+        self.scenes = {it.batch.line: it for it in scenes}
         self.batches, self.accounts, self.last = [], collections.defaultdict(Account), Shown([])
         for entry, behind in zip(answer.entries, [*answer.entries[1:], None]):
             self.take(entry, behind)
@@ -73,21 +73,21 @@ class Spending:
             tokens = self.script.row(number).tokens
             self.accounts[tokens[1].text].deposits += int(tokens[2].text)
         elif words[2] == "committed":
-            self.batch(self.starts[number], Fraction(words[6]), Shown(behind))
+            self.batch(self.scenes[number], Fraction(words[6]), Shown(behind))
         elif words[2] == "show":
             self.last = Shown(entry)
 
-    def batch(self, starts, spends, now):
+    def batch(self, scene, spends, now):
         """Takes in a batch that was committed: who was started, what was spent, and what accounts have behind it."""
-        names, declares = list(now.accounts), Fraction(0)
-        for it in starts:
+        declares = Fraction(0)
+        for it in scene.batch.starts:
             gas = Fraction(it.number("gas"), self.unit)
-            self.accounts[names[it.number("payer")]].declares += gas
+            self.accounts[scene.payers[it.pid]].declares += gas
             declares += gas
-        back = {name: now.accounts[name] - self.accounts[name].left for name in names}
+        back = {name: has - self.accounts[name].left for name, has in now.accounts.items()}
         for name, gas in back.items():
             self.accounts[name].back += gas
-        process = tuple(it.process for it in starts)
+        process = tuple(it.process for it in scene.batch.starts)
         self.batches.append(Spent(process, declares, spends, sum(back.values(), Fraction(0))))
 
     def by_names(self):

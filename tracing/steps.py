@@ -1,6 +1,7 @@
 """What happens in a run, step by step: who says what to whom, by the tale of it."""
 from typing import NamedTuple
 
+from explaining.teller import Untold
 from explaining.texts import joined
 
 from .cast import Cast
@@ -66,13 +67,20 @@ class Story:
             self.accounts += [name] if name not in self.accounts else []
         for it in batch.firings:
             self.fire(it)
-        payers = {it.pid: self.accounts[it.number("payer")] for it in batch.starts}
+        payers = {it.pid: self.payer(it) for it in batch.starts}
         if batch.is_kept:
             return Scene(batch, self.steps, self.cast, {}, payers)
         self.unheard(before)
         scene = Scene(batch, self.steps, self.cast, self.lent, payers)
         self.cast, self.lent = before, lent
         return scene
+
+    def payer(self, start):
+        """Gives the name of the account that pays for a process."""
+        number = start.number("payer")
+        if number >= len(self.accounts):
+            raise Untold("the teller tells of an account that is none")
+        return self.accounts[number]
 
     def say(self, *step):
         self.steps.append(Step(*step))
