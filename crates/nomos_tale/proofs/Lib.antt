@@ -1,0 +1,2 @@
+mod FiringLemmas
+mod TaleLemmas

@@ -1,0 +1,3 @@
+-- Mirrors of the code, on which no promise stands.
+pub mod Choices
+pub mod Tales
