@@ -64,7 +64,7 @@ def missing(is_proved):
     """Says what is missing for a build, if something is."""
     if kit() is None:
         return "the kit's rt is not found"
-    below = [it for it in crates().listed(TOP) if it != PROGRAM]
+    below = [it for it in crates().listed(TOP, PROGRAM) if it != PROGRAM]
     unproved = [it for it in below if not os.path.isfile(f"{TOP}/crates/{it}/out/rlib/stamp")]
     if is_proved and unproved:
         count = f"{len(unproved)} of {len(below)} libraries"
@@ -75,7 +75,7 @@ def missing(is_proved):
 def sources():
     """Gives the files that the module is built from, the shim and this one among them."""
     found = [f"{TOP}/crates.txt", f"{HERE}/shim.c", f"{HERE}/module.py"]
-    for crate in crates().listed(TOP):
+    for crate in crates().listed(TOP, PROGRAM):
         for part in PARTS:
             for at, _, names in os.walk(f"{TOP}/crates/{crate}/{part}"):
                 found += [f"{at}/{name}" for name in names]
@@ -120,7 +120,7 @@ def room(folder):
         for part in PARTS:
             if os.path.isdir(f"{TOP}/crates/{crate}/{part}"):
                 shutil.copytree(f"{TOP}/crates/{crate}/{part}", f"{folder}/crates/{crate}/{part}")
-    for crate in known.listed(TOP):
+    for crate in known.listed(TOP, PROGRAM):
         if crate != PROGRAM:
             known.take_library(crate, TOP, folder)
     return f"{folder}/crates/{PROGRAM}"
