@@ -25,10 +25,11 @@ pub data Evaluation : Type 0 where
 abbrev pub Counted : Type 0
 Counted = ℕ → Evaluation
 
--- how many nodes one evaluation may enter, and how many calls may be open in it
+-- how many nodes one evaluation may enter
 abbrev pub max_nodes : ℕ
 max_nodes = 100000
 
+-- how many calls of functions may be open in it at once
 abbrev pub max_calls : ℕ
 max_calls = 1000
 

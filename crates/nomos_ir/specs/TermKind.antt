@@ -11,13 +11,15 @@ use Rattle.nomos_ir.specs.declared.term_node.TermNode.{TermNode}
 use Rattle.nomos_ir.specs.declared.term_node.TermNode.TheVariants as node
 use Rattle.nomos_ir.specs.Bindings.{bound_to}
 
--- numbers, truth values, and lists of values of a kind
+-- the kind of numbers
 abbrev pub int_kind : Kind
 int_kind = record { lists = 0; base = base.Int }
 
+-- the kind of truth values
 abbrev pub bool_kind : Kind
 bool_kind = record { lists = 0; base = base.Bool }
 
+-- the kind of lists whose elements have this kind
 abbrev pub list_kind : Kind → Kind
 list_kind kind = record { lists = kind.lists + 1; base = kind.base }
 

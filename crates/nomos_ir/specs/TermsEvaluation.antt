@@ -11,6 +11,7 @@ use Rattle.nomos_ir.specs.declared.lists.ProgramLists.{ProgramLists}
 abbrev pub TermsResult : Type 0
 TermsResult = Result (List Value) Fault
 
+-- one value in front of those of the terms behind it; its fault comes before all of theirs
 abbrev pub before_others : Evaluation → TermsResult → TermsResult
 before_others (ends v n) (Ok vs) = Ok (v ∷ vs)
 before_others (ends v n) (Err f) = Err f

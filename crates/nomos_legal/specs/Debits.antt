@@ -31,6 +31,7 @@ abbrev pub lines_unless_refused : List Start → End → List Start
 lines_unless_refused lines (end.Refused line cause) = []
 lines_unless_refused lines _ = lines
 
+-- the lines that an item of a script starts, by the entry that a journal has of it
 abbrev pub lines_started : ScriptItem → Option Entry → List Start
 lines_started (item.Batch batch) (Some entry) = lines_unless_refused batch.starts entry.end
 lines_started _ _ = []

@@ -8,6 +8,7 @@ use Rattle.nomos_machine.specs.State.{State, empty}
 abbrev pub Contracts : Type 0
 Contracts = List (List ℕ × ℕ)
 
+-- A ledger: the state of the machine, with the names of its accounts and contracts, and what was deposited.
 pub record LedgerState : Type 0 where
   -- the names of the accounts, by number
   pub accounts : List (List ℕ)

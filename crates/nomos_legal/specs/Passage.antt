@@ -97,10 +97,12 @@ pub data IsPassage (a : Acceptance) (most : ℕ) : Passage → Type 0 where
 
 -- ---- what was deposited
 
+-- the units of a deposit that ended as one
 abbrev units_made : ScriptItem → End → ℕ
 units_made (item.Deposit line name units) end.Deposited = units
 units_made _ _ = 0
 
+-- the units of an item, by the entry that a journal has of it
 abbrev units_of : ScriptItem → Option Entry → ℕ
 units_of i (Some entry) = units_made i entry.end
 units_of i None = 0

@@ -25,6 +25,7 @@ has_mode named mode.S = named
 has_mode named mode.T = not named
 has_mode named _ = false
 
+-- whether a declaration is the one that a line wants: it has the name and the mode
 abbrev pub is_wanted : Start → ProcDecl → Bool
 is_wanted start d = bytes_eq d.name start.proc && has_mode (is_some start.contract) d.mode
 

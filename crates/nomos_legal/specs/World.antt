@@ -11,6 +11,7 @@ use Rattle.nomos_legal.specs.Batch.{after_starts}
 use Rattle.nomos_legal.specs.declared.journal.Firing.{Firing}
 use Rattle.nomos_legal.specs.declared.resolved.Resolved.{Resolved}
 
+-- A batch under way: what it began from, what was fired in it, and the state that it has come to.
 pub record WorldState : Type 0 where
   -- the ledger before the batch
   pub origin : LedgerState

@@ -36,20 +36,22 @@ abbrev pub put_all : List (ℕ × Option Object) → List Object → List Object
 put_all [] objects = objects
 put_all (e ∷ places) objects = put_all places (put_at e.0 e.1 objects)
 
--- an account has so much less, where it has so much; or so much more
+-- an account has so much less, where it has so much
 abbrev pub paid_out : Option (ℕ × ℕ) → List ℕ → List ℕ
 paid_out (Some e) balances = slice_set balances e.0 (slice_index balances e.0 - e.1)
 paid_out None balances = balances
 
+-- an account has so much more
 abbrev pub paid_in : Option (ℕ × ℕ) → List ℕ → List ℕ
 paid_in (Some e) balances = slice_set balances e.0 (slice_index balances e.0 + e.1)
 paid_in None balances = balances
 
--- the account is one, and has what it gives; the account is one
+-- the account that gives something is one, and has what it gives
 abbrev pub CanGive : Option (ℕ × ℕ) → List ℕ → Type 0
 CanGive (Some e) balances = (e.0 < length balances) × (e.1 ≤ slice_index balances e.0)
 CanGive None balances = Unit {0}
 
+-- the account that gets something is one
 abbrev pub CanGet : Option (ℕ × ℕ) → List ℕ → Type 0
 CanGet (Some e) balances = e.0 < length balances
 CanGet None balances = Unit {0}

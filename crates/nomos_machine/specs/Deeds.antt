@@ -43,22 +43,27 @@ pub data Deed : Type 0 where
 
 -- ---- what a message brings
 
+-- the label that it brings
 abbrev pub label_in : Payload → Option Label
 label_in (payload.Label l) = Some l
 label_in _ = None
 
+-- the value that it brings
 abbrev pub value_in : Payload → Option Value
 value_in (payload.Value x) = Some x
 value_in _ = None
 
+-- the name of the channel that it brings
 abbrev pub channel_in : Payload → Option ℕ
 channel_in (payload.Channel name) = Some name
 channel_in _ = None
 
+-- that it brings potential; how much of it, the type says
 abbrev pub potential_in : Payload → Option (Unit {0})
 potential_in payload.Pay = Some tt
 potential_in _ = None
 
+-- that the talk is closed with it
 abbrev pub close_in : Payload → Option (Unit {0})
 close_in payload.Close = Some tt
 close_in _ = None
@@ -74,6 +79,7 @@ abbrev pub one_of : List Value → Option Value
 one_of (x ∷ []) = Some x
 one_of _ = None
 
+-- a list without elements, of which each would carry this amount
 abbrev pub empty_list : ℕ → PotentialList
 empty_list amount = record { amount = amount; items = [] }
 
@@ -81,6 +87,7 @@ empty_list amount = record { amount = amount; items = [] }
 abbrev pub lengthened : Value → PotentialList → PotentialList
 lengthened x l = record l { items = x ∷ l.items }
 
+-- whether it is no heavier than any list may be
 abbrev pub is_light : PotentialList → Bool
 is_light l = nat_le (list_weight (value_list l.items)) max_weight
 

@@ -45,6 +45,7 @@ give_names p (v ∷ vs) (par ∷ pars) = do
   Some ((par.0, name) ∷ others)
 give_names p _ _ = None
 
+-- What a process hands over to the parameters of a declaration, or none where it has not what they want.
 abbrev pub given : Process → List Value → Args → ProcDecl → Option Given
 given p vs args d = do
   values ← give_values p vs args.values d.values

@@ -29,10 +29,12 @@ potential_of p = sum_by (λ e. e.1.amount * length e.1.items) p.lists
 abbrev pub free_purse : Process → ℕ
 free_purse p = p.purse - potential_of p
 
+-- the process, where the object is one
 abbrev pub process_of : Object → Option Process
 process_of (object.Process p) = Some p
 process_of (object.Message m) = None
 
+-- the message, where the object is one
 abbrev pub message_of : Object → Option Message
 message_of (object.Process p) = None
 message_of (object.Message m) = Some m
@@ -70,6 +72,7 @@ shared_of mode.S offers base = offers ∷ []
 shared_of mode.L offers base = option_to_list base
 shared_of _ offers base = []
 
+-- the shared name for which an object stands; a message stands for none
 abbrev pub shared_names : Object → List ℕ
 shared_names (object.Process p) = shared_of p.mode p.offers p.base
 shared_names (object.Message m) = []

@@ -1,7 +1,7 @@
 -- Going on with what is there.
 use Rattle.std.specs.Prelude.{Option, option_and_then}
 
--- with what is there, if it is there
 infixl 10 ◌>>=◌
+-- with what is there, if it is there
 abbrev pub ◌>>=◌ : {A B : Type 0} → Option A → (A → Option B) → Option B
 found >>= next = option_and_then next found

@@ -23,10 +23,11 @@ abbrev pub under_name : Chan → ℕ → Process → Process
 under_name chan.Own name p = record p { offers = name }
 under_name (chan.Var v) name p = record p { channels = bind v name p.channels }
 
--- a channel is bound, and one is gone
+-- a channel is bound
 abbrev pub with_channel : VarId → ℕ → Process → Process
 with_channel v name p = record p { channels = bind v name p.channels }
 
+-- a channel is gone
 abbrev pub without_channel : VarId → Process → Process
 without_channel v p = record p { channels = unbind v.0 p.channels }
 
@@ -34,25 +35,29 @@ without_channel v p = record p { channels = unbind v.0 p.channels }
 abbrev pub with_value : VarId → Value → Process → Process
 with_value v x p = record p { values = bind v x p.values }
 
--- a list is bound, and one is used up
+-- a list is bound
 abbrev pub with_list : VarId → PotentialList → Process → Process
 with_list v l p = record p { lists = bind v l p.lists }
 
+-- a list is used up
 abbrev pub list_used_up : VarId → Process → Process
 list_used_up w p = record p { lists = unbind w.0 p.lists }
 
--- its purse has so many Dths more, or less
+-- its purse has so many Dths more
 abbrev pub richer : ℕ → Process → Process
 richer gas p = record p { purse = p.purse + gas }
 
+-- its purse has so many Dths less
 abbrev pub poorer : ℕ → Process → Process
 poorer gas p = record p { purse = p.purse - gas }
 
 -- ---- one name instead of another
 
+-- the name, or the new one where it is the old one
 abbrev pub renamed : ℕ → ℕ → ℕ → ℕ
 renamed old new name = if name == old then new else name
 
+-- what a message brings, with the new name where it brings the old one
 abbrev pub renamed_payload : ℕ → ℕ → Payload → Payload
 renamed_payload old new (payload.Channel name) = payload.Channel (renamed old new name)
 renamed_payload old new brought = brought

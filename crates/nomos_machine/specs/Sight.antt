@@ -49,6 +49,7 @@ is_read_on to_client name (object.Message m) = same_way to_client m.to_client &&
 abbrev pub message_on : List Object → Bool → ℕ → Option Message
 message_on objects to_client name = find (is_read_on to_client name) objects >>= message_of
 
+-- whether an object is a process that offers this name
 abbrev pub is_offered : ℕ → Object → Bool
 is_offered name (object.Process p) = p.offers == name
 is_offered name (object.Message m) = false
@@ -82,26 +83,31 @@ abbrev pub shows_shared : ProgramLists → Option TypeId → Bool
 shows_shared lists (Some t) = is_shared_mode (parameter_mode lists t)
 shows_shared lists None = false
 
+-- whether a name is a shared one, by the type that the table has for it
 abbrev pub is_shared_name : ProgramLists → NameTypes → ℕ → Bool
 is_shared_name lists types name = shows_shared lists (type_of types name)
 
 -- ---- the type with which a channel goes on after a label, a channel, a value, and potential
 
+-- after a label, which the type has to offer
 abbrev pub after_label : Label → TypeNode → Option TypeId
 after_label l (node.Plus branches) = goes_by branches l
 after_label l (node.With branches) = goes_by branches l
 after_label l _ = None
 
+-- after a channel, whoever sends it
 abbrev pub after_channel : TypeNode → Option TypeId
 after_channel (node.Tensor a b) = Some b
 after_channel (node.Lolli a b) = Some b
 after_channel _ = None
 
+-- after a value, whoever sends it
 abbrev pub after_value : TypeNode → Option TypeId
 after_value (node.ValueOut kind t) = Some t
 after_value (node.ValueIn kind t) = Some t
 after_value _ = None
 
+-- after potential, whoever pays it
 abbrev pub after_potential : TypeNode → Option TypeId
 after_potential (node.PotOut r t) = Some t
 after_potential (node.PotIn r t) = Some t
@@ -112,11 +118,12 @@ abbrev pub after_acquire : TypeNode → Option TypeId
 after_acquire (node.Up t) = Some t
 after_acquire _ = None
 
--- where a process goes on that stands at `accept`, and one that stands at `detach`
+-- where a process goes on that stands at `accept`
 abbrev pub accept_next : CodeNode → Option CodeId
 accept_next (code.Accept at next) = Some next
 accept_next _ = None
 
+-- where a process goes on that stands at `detach`
 abbrev pub detach_next : CodeNode → Option CodeId
 detach_next (code.Detach at next) = Some next
 detach_next _ = None

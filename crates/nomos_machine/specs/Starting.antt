@@ -30,6 +30,7 @@ opened s gas = record s { balances = s.balances ++ gas ∷ [] }
 abbrev pub credits : State → ℕ → ℕ → Change
 credits s account gas = record (no_change s) { gets = Some (account, gas) }
 
+-- the state in which an account has so much more
 abbrev pub credited : State → ℕ → ℕ → State
 credited s account gas = made s (credits s account gas)
 
@@ -76,14 +77,17 @@ starts a s d values channels payer =
       gives = Some (payer, dths a.annotations d.amount);
     }
 
+-- the state in which that process has come
 abbrev pub started : Acceptance → State → ProcDecl → List (VarId × Value) → List (VarId × ℕ) → ℕ → State
 started a s d values channels payer = changed s (starts a s d values channels payer)
 
 -- ---- starts by number, with what the parameters are given in their order
 
+-- the values, each for the parameter of its place
 abbrev pub value_bindings : ProcDecl → List Value → List (VarId × Value)
 value_bindings d values = zip (map (λ par. par.var) d.values) values
 
+-- the names, each for the channel parameter of its place
 abbrev pub channel_bindings : ProcDecl → List ℕ → List (VarId × ℕ)
 channel_bindings d names = zip (map (λ par. par.0) d.channels) names
 

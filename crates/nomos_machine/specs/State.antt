@@ -14,6 +14,8 @@ use Rattle.nomos_machine.specs.declared.object.Process.{Process}
 abbrev pub NameTypes : Type 0
 NameTypes = List (ℕ × TypeId)
 
+-- A state of the machine: processes and messages, the names on which they talk, accounts, and what was spent and
+-- emitted.
 pub record State : Type 0 where
   -- in order of number
   pub objects : List Object

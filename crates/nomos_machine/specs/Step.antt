@@ -22,13 +22,16 @@ deed a s p = do
   n ← slice_get a.program.code p.code.0
   deed_by a s p n (terms_evaluation a.program p.values (code_terms n))
 
+-- what the process with this number does
 abbrev pub deed_of : Acceptance → State → ℕ → Option Deed
 deed_of a s pid = process_at s pid >>= deed a s
 
+-- the state behind what a process does; behind a fault there is none
 abbrev pub state_after : State → Deed → Option State
 state_after s (changes c) = Some (changed s c)
 state_after s (has_fault f) = None
 
+-- the fault that an instruction has, if it has one
 abbrev pub fault_in : Deed → Option Fault
 fault_in (changes c) = None
 fault_in (has_fault f) = Some f

@@ -30,10 +30,13 @@ pub record VariablesDiffer (p : Process) : Type 0 where
   pub apart : (v : ℕ)
       → count_one (bound_to v p.values) + count_one (bound_to v p.lists) + count_one (bound_to v p.channels) ≤ 1
 
+-- the variables of a process differ; a message has none
 abbrev pub HasVariables : Object → Type 0
 HasVariables (object.Process p) = VariablesDiffer p
 HasVariables (object.Message m) = Unit {0}
 
+-- Numbers and names are in order: each object and each name is there once, below the next one, and a name has a type
+-- exactly where an object mentions it.
 pub record Numbered (s : State) : Type 0 where
   -- objects stand in order of number, each number once, all from 1 to below the next one
   pub ascending : IsStrictlySortedBy nat_cmp (map object_number s.objects)
@@ -89,6 +92,9 @@ pub record InSection (a : Acceptance) (s : State) (name : ℕ) (t : TypeId) : Ty
 
 -- ---- the whole state
 
+-- A state is typed: its numbers and names are in order, each name has the provider and the users that its mode wants,
+-- an outside party has names of mode R alone, each object is typed by itself, and each talk on an acquired contract
+-- leads back to that contract.
 pub record IsTyped (a : Acceptance) (s : State) : Type 0 where
   pub numbered : Numbered s
   pub owned : (name : ℕ) (t : TypeId) (m : Mode) → type_of s.types name ≡ Some t → HasMode a.program t m

@@ -23,6 +23,8 @@ pub record ListType : Type 0 where
   pub kind : Kind
   pub amount : ℕ
 
+-- What is known of a process at an instruction: the mode at which it offers, what its variables stand for, how much
+-- potential it has, and the type that it is to provide.
 pub record Judgement : Type 0 where
   pub mode : Mode
   -- the kinds of values
@@ -113,11 +115,12 @@ abbrev pub payer_kinds : Option VarId → List (VarId × Kind)
 payer_kinds (Some v) = (v, int_kind) ∷ []
 payer_kinds None = []
 
--- a parameter that is a value, with its kind, and one that is a list, with its element kind and amount
+-- a parameter that is a value, with its kind
 abbrev pub value_par : VarId → Kind → Option Amount → List (VarId × Kind)
 value_par v kind None = (v, kind) ∷ []
 value_par v kind (Some amount) = []
 
+-- a parameter that is a list with potential, with the kind and the amount of its elements
 abbrev pub list_par : Annotations → VarId → Kind → Option Amount → List (VarId × ListType)
 list_par x v kind None = []
 list_par x v kind (Some amount) = (v, record { kind = kind; amount = dths x amount }) ∷ []
@@ -127,6 +130,7 @@ abbrev pub is_shared_mode : Mode → Bool
 is_shared_mode mode.S = true
 is_shared_mode _ = false
 
+-- whether a parameter is a reference to a shared channel
 abbrev pub is_shared : ProgramLists → VarId × TypeId → Bool
 is_shared lists par = is_shared_mode (parameter_mode lists par.1)
 

@@ -46,6 +46,7 @@ as_parameter (Some mode.S) = mode.S
 as_parameter (Some mode.L) = mode.L
 as_parameter _ = mode.R
 
+-- the mode at which a channel of this type is taken as a parameter
 abbrev pub parameter_mode : ProgramLists → TypeId → Mode
 parameter_mode lists t = as_parameter (head_mode lists (type_node lists t.0))
 

@@ -42,6 +42,8 @@ takes_parts j w head tail list next = binds_value (binds_list (without_list j w 
 abbrev pub gives_up : Judgement → VarId → Judgement
 gives_up j v = record j { linear = unbind v.0 j.linear }
 
+-- The typing rules, one for each instruction: the judgement before it, and those with which it goes on, of which there
+-- are several at a branch and none at an end.
 pub data TypingRule (lists : ProgramLists) (x : Annotations) : Judgement → List Judgement → Type 0 where
   label : {j : Judgement} {at : ℕ} {c : Chan} {l : Label} {next : CodeId}
       → StandsAtCode lists j (code.Label at c l next)
