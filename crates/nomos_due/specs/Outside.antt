@@ -7,6 +7,7 @@ pub record FaultCounts : Type 0 where
   pub before : ℕ
   pub after : ℕ
 
+-- The source or sink failed during the call: its count of faults rose, or stands at its last value.
 abbrev pub HaveRisen : FaultCounts → Type 0
 HaveRisen c = Rose c.before c.after
 
@@ -29,6 +30,7 @@ pub record SourceState : Type 0 where
 abbrev pub source_state : Option (List ℕ) → ℕ → ℕ → SourceState
 source_state left before after = record { left = left; counts = record { before = before; after = after } }
 
+-- The text that a source gives, with the counts of faults of that source.
 abbrev pub input_of : SourceState → List ℕ → Input
 input_of source text = record { text = text; counts = source.counts }
 

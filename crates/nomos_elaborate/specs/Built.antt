@@ -19,6 +19,7 @@ use Rattle.nomos_surface.specs.declared.potential.Quantity.{Quantity}
 use Rattle.nomos_surface.specs.declared.potential.Quantity.TheVariants as quantity
 use Rattle.nomos_surface.specs.declared.value_type.ValueType.{ValueType}
 
+-- What has been made of a text: nodes of types, terms and codes, labels and variables as first seen, and stars.
 pub record Built : Type 0 where
   pub types : List TypeAt
   pub terms : List TermNode
@@ -27,6 +28,7 @@ pub record Built : Type 0 where
   pub variables : Names
   pub stars : ℕ
 
+-- Before the first token nothing is made, no name is seen and no star is counted.
 abbrev pub nothing_built : Built
 nothing_built = record { types = []; terms = []; code = []; labels = []; variables = []; stars = 0 }
 
@@ -34,6 +36,7 @@ nothing_built = record { types = []; terms = []; code = []; labels = []; variabl
 abbrev pub with_label : Built → NameAt → Built
 with_label s l = record s { labels = seen s.labels l.name }
 
+-- A variable that is met takes its place behind those seen before, unless it is among them.
 abbrev pub with_variable : Built → NameAt → Built
 with_variable s v = record s { variables = seen s.variables v.name }
 
@@ -41,6 +44,7 @@ with_variable s v = record s { variables = seen s.variables v.name }
 abbrev pub label_id : Built → NameAt → Label
 label_id s l = record { 0 = number_of s.labels l.name }
 
+-- The number of a variable is its place among the variables that were seen.
 abbrev pub variable_id : Built → NameAt → VarId
 variable_id s v = record { 0 = number_of s.variables v.name }
 
@@ -49,6 +53,7 @@ abbrev pub put_type : Built → TypeNode → ℕ → Built × TypeId
 put_type s node at =
     (record s { types = s.types ++ record { node = node; at = at } ∷ [] }, record { 0 = length s.types })
 
+-- A term node is placed behind the others, and its number is how many stood before it.
 abbrev pub put_term : Built → TermNode → Built × TermId
 put_term s node = (record s { terms = s.terms ++ node ∷ [] }, record { 0 = length s.terms })
 
@@ -57,6 +62,7 @@ abbrev pub quantity_amount : Built → Quantity → Built × Amount
 quantity_amount s (quantity.Number units) = (s, amount.Written units)
 quantity_amount s quantity.Star = (record s { stars = s.stars + 1 }, amount.Star (s.stars + 1))
 
+-- The amount of a written potential `{q}` or `{*}` is that of the quantity in its braces.
 abbrev pub amount_of : Built → Potential → Built × Amount
 amount_of s q = quantity_amount s q.quantity
 

@@ -32,6 +32,7 @@ abbrev pub chan_of : Built → ChanAt → Chan
 chan_of s (chan.Own at) = own.Own
 chan_of s (chan.Variable n) = own.Var (variable_id s n)
 
+-- An instruction at a channel stands where its channel is written: at `self`, or at the name of the channel.
 abbrev pub chan_offset : ChanAt → ℕ
 chan_offset (chan.Own at) = at
 chan_offset (chan.Variable n) = n.at
@@ -48,10 +49,12 @@ build_value spaces s t = build_term spaces.functions s t
 abbrev pub a_term : Built × TermId → Built × ValueArg
 a_term built = (built.0, arg.Term built.1)
 
+-- An argument is the variable of the list that is handed over, or else its term is built.
 abbrev pub build_unless_list : Spaces → Built → Option NameAt → TermTree → Built × ValueArg
 build_unless_list spaces s None t = a_term (build_value spaces s t)
 build_unless_list spaces s (Some n) t = (s, arg.List (variable_id s n))
 
+-- An argument hands a list over where it is only the name of a bound list, and is a term otherwise.
 abbrev pub build_argument : Spaces → Scope → Built → TermTree → Built × ValueArg
 build_argument spaces scope s t = build_unless_list spaces s (list_argument scope t) t
 
@@ -59,12 +62,14 @@ build_argument spaces scope s t = build_unless_list spaces s (list_argument scop
 abbrev pub with_argument : ValueArg → Built × List ValueArg → Built × List ValueArg
 with_argument first built = (built.0, first ∷ built.1)
 
+-- The arguments that are no channels are built in order of text.
 abbrev pub build_values : Spaces → Scope → Built → List TermTree → Built × List ValueArg
 build_values spaces scope s [] = (s, [])
 build_values spaces scope s (t ∷ terms) =
     let built = build_argument spaces scope s t in
     with_argument built.1 (build_values spaces scope built.0 terms)
 
+-- The arguments of a call or a spawn: first its values and lists, then the channels that it hands over.
 abbrev pub build_arguments : Spaces → Scope → Built → ArgTrees → Built × Args
 build_arguments spaces scope s a =
     let built = build_values spaces scope s a.values in

@@ -26,13 +26,16 @@ abbrev pub unless_list : Option NameAt → List NameClaim → List NameClaim
 unless_list None claims = claims
 unless_list (Some n) claims = []
 
+-- An argument that hands a list over claims nothing here, and any other claims what its term claims.
 abbrev pub argument_claims : Place → Scope → TermTree → List NameClaim
 argument_claims place scope t = unless_list (list_argument scope t) (value_claims place scope t)
 
+-- Each value argument has its claims, and each channel that is handed over is bound as a channel.
 abbrev pub arguments_claims : Place → Scope → ArgTrees → List NameClaim
 arguments_claims place scope a =
     flat_map (argument_claims place scope) a.values ++ map (bound_channel scope) a.channels
 
+-- What a step uses is bound as what it wants there, and a name that it binds is new on the way.
 abbrev pub step_claims : Place → Scope → StepTree → List NameClaim
 step_claims place scope (label x l) = chan_claims scope x
 step_claims place scope (send at x y) = chan_claims scope x ++ bound_channel scope y ∷ []
@@ -76,10 +79,12 @@ scope_after scope (empty_list at v list_at q t) = bind scope v sort.List
 scope_after scope (longer_list at v e w) = bind scope v sort.List
 scope_after scope (emit at e) = scope
 
+-- Each step makes its claims in the scope that the steps before it leave.
 abbrev pub steps_claims : Place → Scope → List StepTree → List NameClaim
 steps_claims place scope [] = []
 steps_claims place scope (s ∷ steps) = step_claims place scope s ++ steps_claims place (scope_after scope s) steps
 
+-- What is bound behind several steps, each of which adds the name that it binds.
 abbrev pub scope_behind : Scope → List StepTree → Scope
 scope_behind scope [] = scope
 scope_behind scope (s ∷ steps) = scope_behind (scope_after scope s) steps

@@ -38,6 +38,7 @@ pub record Declared : Type 0 where
   pub procs : List ProcDecl
   pub built : Built
 
+-- Before the first declaration there are no definitions, no functions, no processes and no nodes.
 abbrev pub nothing_declared : Declared
 nothing_declared = record { defs = []; fns = []; procs = []; built = nothing_built }
 
@@ -56,6 +57,7 @@ build_value_pars s (p ∷ pars) =
 abbrev pub some_amount : Built × Amount → Built × Option Amount
 some_amount paid = (paid.0, Some paid.1)
 
+-- A list parameter with a written potential has its amount, and a parameter without one has none.
 abbrev pub par_amount : Built → Option ListPotential → Built × Option Amount
 par_amount s None = (s, None)
 par_amount s (Some q) = some_amount (amount_of s q.potential)
@@ -153,6 +155,7 @@ add_decl model all d (transaction at n pars potential body) =
       built = first.0;
     }
 
+-- The declarations are added one after the other, in order of text.
 abbrev pub add_decls : CostModel → Spaces → Declared → List DeclTree → Declared
 add_decls model all d [] = d
 add_decls model all d (decl ∷ decls) = add_decls model all (add_decl model all d decl) decls

@@ -30,11 +30,13 @@ abbrev pub par_sort : Option ListPotential → Sort
 par_sort None = sort.Value
 par_sort (Some q) = sort.List
 
+-- The values and lists among the parameters of a process have new names.
 abbrev pub process_pars_claims : Scope → List ProcessPar → List NameClaim
 process_pars_claims scope [] = []
 process_pars_claims scope (p ∷ pars) =
     new_on_way scope p.name ∷ process_pars_claims (bind scope p.name (par_sort p.list)) pars
 
+-- What is bound behind the values and lists among the parameters of a process.
 abbrev pub process_pars_scope : Scope → List ProcessPar → Scope
 process_pars_scope scope [] = scope
 process_pars_scope scope (p ∷ pars) = process_pars_scope (bind scope p.name (par_sort p.list)) pars
@@ -47,14 +49,17 @@ chan_pars_claims types scope (p ∷ pars) =
     ∷ type_claims types p.goes
     ++ chan_pars_claims types (bind scope p.name sort.Channel) pars
 
+-- What is bound behind the channel parameters, each of which is a channel that the process uses.
 abbrev pub chan_pars_scope : Scope → List ChanParTree → Scope
 chan_pars_scope scope [] = scope
 chan_pars_scope scope (p ∷ pars) = chan_pars_scope (bind scope p.name sort.Channel) pars
 
+-- The claims of a whole head: those of the values and lists, then those of the channels behind them.
 abbrev pub pars_claims : Names → ParTrees → List NameClaim
 pars_claims types pars =
     process_pars_claims [] pars.values ++ chan_pars_claims types (process_pars_scope [] pars.values) pars.channels
 
+-- What is bound at the first instruction of a process: all its parameters.
 abbrev pub pars_scope : ParTrees → Scope
 pars_scope pars = chan_pars_scope (process_pars_scope [] pars.values) pars.channels
 
@@ -75,6 +80,7 @@ decl_claims all before (transaction at n pars potential body) =
     ∷ pars_claims all.types pars
     ++ code_claims (record { spaces = all; inside = true }) (pars_scope pars) body
 
+-- Each declaration may use all declared names, and its own name is new among those declared before it.
 abbrev pub decls_claims : Spaces → Spaces → List DeclTree → List NameClaim
 decls_claims all before [] = []
 decls_claims all before (d ∷ decls) = decl_claims all before d ++ decls_claims all (declaring before d) decls

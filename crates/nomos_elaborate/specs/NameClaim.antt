@@ -6,6 +6,7 @@ use Rattle.nomos_surface.specs.declared.name_at.NameAt.{NameAt}
 use Rattle.nomos_surface.specs.declared.steps.ChanAt.{ChanAt}
 use Rattle.nomos_surface.specs.declared.steps.ChanAt.TheVariants as chan
 
+-- A claim about a name: the offset of its token in the text, and whether the claim holds.
 pub record NameClaim : Type 0 where
   pub at : ℕ
   pub holds : Bool
@@ -27,9 +28,11 @@ new_among names n = record { at = n.at; holds = not (is_among names n.name) }
 abbrev pub bound_value : Scope → NameAt → NameClaim
 bound_value scope n = record { at = n.at; holds = is_value (sort_of scope n.name) }
 
+-- A name that is used as a channel is bound on the way as one.
 abbrev pub bound_channel : Scope → NameAt → NameClaim
 bound_channel scope n = record { at = n.at; holds = is_channel (sort_of scope n.name) }
 
+-- A name that is used as a list with potential is bound on the way as one.
 abbrev pub bound_list : Scope → NameAt → NameClaim
 bound_list scope n = record { at = n.at; holds = is_list (sort_of scope n.name) }
 

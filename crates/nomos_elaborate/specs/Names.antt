@@ -3,6 +3,7 @@ use Rattle.std.specs.Prelude.{ℕ, Bool, not, List, [], ◌∷◌, ◌++◌, if�
 use Rattle.std.specs.List.{list_any, prefix_len}
 use Rattle.std.specs.Str.{bytes_eq}
 
+-- Names are byte strings, in the order in which they were first seen.
 abbrev pub Names : Type 0
 Names = List (List ℕ)
 

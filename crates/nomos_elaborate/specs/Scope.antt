@@ -6,6 +6,7 @@ use Rattle.nomos_elaborate.specs.declared.sort.Sort.{Sort}
 use Rattle.nomos_elaborate.specs.declared.sort.Sort.TheVariants as sort
 use Rattle.nomos_surface.specs.declared.name_at.NameAt.{NameAt}
 
+-- What is bound at a place of a code: names, each with its sort, in the order in which they were bound.
 abbrev pub Scope : Type 0
 Scope = List (List ℕ × Sort)
 
@@ -24,14 +25,17 @@ abbrev pub is_value : Option Sort → Bool
 is_value (Some sort.Value) = true
 is_value _ = false
 
+-- Whether a name that was looked up is bound as a channel.
 abbrev pub is_channel : Option Sort → Bool
 is_channel (Some sort.Channel) = true
 is_channel _ = false
 
+-- Whether a name that was looked up is bound as a list with potential.
 abbrev pub is_list : Option Sort → Bool
 is_list (Some sort.List) = true
 is_list _ = false
 
+-- Whether a name that was looked up is not bound, so that a binder may take it.
 abbrev pub is_unbound : Option Sort → Bool
 is_unbound None = true
 is_unbound (Some s) = false

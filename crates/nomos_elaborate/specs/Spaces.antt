@@ -4,6 +4,7 @@ use Rattle.nomos_elaborate.specs.Names.{seen}
 use Rattle.nomos_elaborate.specs.declared.spaces.Spaces.{Spaces}
 use Rattle.nomos_surface.specs.Tree.{DeclTree, definition, function, process, transaction}
 
+-- Before the first declaration no type, no function and no process has a name.
 abbrev pub no_names : Spaces
 no_names = record { types = []; functions = []; processes = [] }
 

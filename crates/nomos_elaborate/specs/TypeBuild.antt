@@ -18,14 +18,17 @@ abbrev pub choice_node : Sender → List Branch → TypeNode
 choice_node side.Provider branches = node.Plus branches
 choice_node side.Client branches = node.With branches
 
+-- A channel that the provider sends gives the tensor, and one that the client sends the linear implication.
 abbrev pub channel_node : Sender → TypeId → TypeId → TypeNode
 channel_node side.Provider carried goes = node.Tensor carried goes
 channel_node side.Client carried goes = node.Lolli carried goes
 
+-- A value that the provider sends is output, and one that the client sends is input, before the type goes on.
 abbrev pub value_node : Sender → Kind → TypeId → TypeNode
 value_node side.Provider kind goes = node.ValueOut kind goes
 value_node side.Client kind goes = node.ValueIn kind goes
 
+-- Potential that the provider pays goes out with the type, and potential that the client pays comes in.
 abbrev pub paying_node : Sender → Amount → TypeId → TypeNode
 paying_node side.Provider amount goes = node.PotOut amount goes
 paying_node side.Client amount goes = node.PotIn amount goes

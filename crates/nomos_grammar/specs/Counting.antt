@@ -4,6 +4,7 @@ use Rattle.nomos_grammar.specs.declared.part.Mark.{Mark}
 use Rattle.nomos_grammar.specs.declared.part.Mark.TheVariants as mark
 use Rattle.nomos_grammar.specs.Producing.{Event, token, mark as marked}
 
+-- What is open and what is counted behind some tokens: nesting, nodes and stars, which the limits bound.
 pub record Counts : Type 0 where
   -- how many productions `type`, `vtype` and `notx`, branches and braced codes are open
   pub parts : ℕ
@@ -39,6 +40,7 @@ abbrev pub outer_terms : List ℕ → List ℕ
 outer_terms [] = []
 outer_terms (n ∷ terms) = terms
 
+-- A mark of the grammar opens or closes a part or a term, or counts an operator, a node or a star.
 abbrev pub after_mark : Mark → Counts → Counts
 after_mark mark.OpenPart c = record c { parts = c.parts + 1 }
 after_mark mark.ClosePart c = record c { parts = c.parts - 1 }
@@ -49,6 +51,7 @@ after_mark mark.Node c = record c { nodes = c.nodes + 1 }
 after_mark mark.NodeBefore c = record c { nodes = c.nodes + 1; before = c.before + 1 }
 after_mark mark.Star c = record c { stars = c.stars + 1 }
 
+-- When a token has been read, the nodes counted with it are those up to it.
 abbrev pub after_token : Counts → Counts
 after_token c = record c { before = c.nodes }
 
@@ -58,5 +61,6 @@ counts_from c [] = c
 counts_from c (token x ∷ events) = counts_from (after_token c) events
 counts_from c (marked m ∷ events) = counts_from (after_mark m c) events
 
+-- What counts behind the events from the begin of a text.
 abbrev pub counts : List Event → Counts
 counts events = counts_from nothing_counted events

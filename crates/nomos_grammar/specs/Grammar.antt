@@ -76,15 +76,19 @@ use Rattle.nomos_grammar.specs.declared.part.Part.TheVariants as part
 abbrev pub NAME : Part
 NAME = part.Terminal terminal.Name
 
+-- A number, in decimal digits.
 abbrev pub NUMBER : Part
 NUMBER = part.Terminal terminal.Number
 
+-- The number `1` where it stands for the type of a channel that is closed.
 abbrev pub ONE : Part
 ONE = part.Terminal terminal.One
 
+-- A reserved word, which no name may be.
 abbrev pub keyword : Word → Part
 keyword w = part.Terminal (terminal.Reserved w)
 
+-- A symbol of punctuation or of an operator.
 abbrev pub sign : Symbol → Part
 sign s = part.Terminal (terminal.Symbol s)
 
@@ -96,27 +100,35 @@ the n = part.Nonterminal n
 abbrev pub OPEN : Part
 OPEN = part.Mark mark.OpenPart
 
+-- Here a part that was opened, and that counted for the nesting, ends.
 abbrev pub CLOSE : Part
 CLOSE = part.Mark mark.ClosePart
 
+-- Here a term begins, which counts for the nesting as long as it is open.
 abbrev pub OPEN_TERM : Part
 OPEN_TERM = part.Mark mark.OpenTerm
 
+-- Here the innermost open term ends, and with it what its operators counted.
 abbrev pub CLOSE_TERM : Part
 CLOSE_TERM = part.Mark mark.CloseTerm
 
+-- Here an infix operator of the innermost open term is read, which counts for the nesting.
 abbrev pub OPERATOR : Part
 OPERATOR = part.Mark mark.Operator
 
+-- Here the next token makes one node more.
 abbrev pub NODE : Part
 NODE = part.Mark mark.Node
 
+-- Here the token before turns out to have made one node more, as the word `list` does.
 abbrev pub NODE_BEFORE : Part
 NODE_BEFORE = part.Mark mark.NodeBefore
 
+-- Here the next token is a star, an amount that the checker is to find.
 abbrev pub STAR : Part
 STAR = part.Mark mark.Star
 
+-- A production derives any one of its alternatives, and an empty alternative derives nothing.
 abbrev pub alternatives : Nonterminal → List (List Part)
 -- file = [ "cost" ("ticks" | "sends" | "all") ";" ] { decl }
 alternatives File =

@@ -14,6 +14,7 @@ use Rattle.nomos_grammar.specs.Producing.{Event, token, tokens_in, Produces, fil
 abbrev pub star_limit : ℕ
 star_limit = 64
 
+-- The largest number that a text may write.
 abbrev pub number_limit : ℕ
 number_limit = 1000000000
 
@@ -58,6 +59,7 @@ Keeps front x (limit which.Nesting) = MayStand (λ c. depth c ≤ nesting_limit)
 Keeps front x (limit which.Nodes) = MayStand (λ c. c.nodes ≤ node_limit) front x
 Keeps front x (limit which.Stars) = MayStand (λ c. c.stars ≤ star_limit) front x
 
+-- The token that stands behind these keeps to each of the rules.
 abbrev pub KeepsAll : List Placed → Placed → List Rule → Type 0
 KeepsAll front x [] = Unit {0}
 KeepsAll front x (rule ∷ more) = Keeps front x rule × KeepsAll front x more
@@ -90,6 +92,7 @@ error_of front x nodes_before = Limit which.Nodes (last_offset front)
 error_of front x (limit which) = Limit which x.at
 error_of front x syntax = Syntax x.at
 
+-- Some token is the first that breaks a rule, and this is the error that is answered for it.
 abbrev pub Offends : List Placed → GrammarError → Type 0
 Offends tokens error =
     (front : List Placed) × (x : Placed) × (rule : Rule) ×

@@ -27,6 +27,7 @@ unfoldable mutual
   arm_works no_arms = []
   arm_works (arm l goes arms) = code_works goes ++ arm_works arms
 
+-- The offsets of written `work` in one declaration: only the codes of processes and transactions can have it.
 abbrev pub decl_works : DeclTree → List ℕ
 decl_works (definition at mode n body) = []
 decl_works (function at n pars gives body) = []
@@ -44,5 +45,6 @@ refused_work cost.Ticks decls = None
 refused_work cost.Sends decls = None
 refused_work cost.All decls = first_of_list (flat_map decl_works decls)
 
+-- Under `cost all`, the offset of the first `work` that a text writes by hand; otherwise none.
 abbrev pub written_work : FileTree → Option ℕ
 written_work tree = refused_work (model_of tree.cost) tree.decls

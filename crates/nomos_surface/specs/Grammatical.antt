@@ -89,9 +89,11 @@ mutual
     are_none : AreTerms no_terms
     are_more : {first : TermTree} {rest : TermTrees} → IsTerm Term first → AreTerms rest → AreTerms (term first rest)
 
+-- Each value argument of a call or a spawn is a whole term of the grammar.
 abbrev pub AreArguments : ArgTrees → Type 0
 AreArguments a = Each (IsTerm Term) a.values
 
+-- A step stands for a text where each term in it is a whole term of the grammar.
 abbrev pub IsStep : StepTree → Type 0
 IsStep (label x l) = Unit {0}
 IsStep (send at x y) = Unit {0}
@@ -133,12 +135,15 @@ abbrev mutual
   AreArms no_arms = Unit {0}
   AreArms (arm l goes arms) = IsCode goes × AreArms arms
 
+-- A channel parameter stands for a text where its session type is one of the grammar.
 abbrev pub IsChanPar : ChanParTree → Type 0
 IsChanPar p = IsType SessionType p.goes
 
+-- Parameters stand for a text where those that are channels do.
 abbrev pub ArePars : ParTrees → Type 0
 ArePars p = Each IsChanPar p.channels
 
+-- A declaration stands for a text where its types, terms and code are of the grammar.
 abbrev pub IsDecl : DeclTree → Type 0
 IsDecl (definition at m n body) = IsType SessionType body
 IsDecl (function at n pars gives body) = IsTerm Term body

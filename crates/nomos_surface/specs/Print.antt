@@ -31,20 +31,24 @@ use Rattle.nomos_surface.specs.Tree.{TypeTree, one, named, choice, channel, valu
 
 -- potentials
 
+-- A quantity of potential is written as its number, or as a star that the checker is to find.
 abbrev pub print_quantity : ℕ → Quantity → Shown
 print_quantity at (quantity.Number value) = number_at at value
 print_quantity at quantity.Star = sign_at at sym.Star
 
+-- A potential is written as its quantity in braces.
 abbrev pub print_potential : Potential → Printer
 print_potential q after =
     sign_at q.at sym.OpenBrace ∷ print_quantity q.quantity_at q.quantity ∷ sign sym.CloseBrace ∷ after
 
+-- A potential that may be left out is written only where it is there.
 abbrev pub print_optional : Option Potential → Printer
 print_optional None after = after
 print_optional (Some q) after = print_potential q after
 
 -- the types of values
 
+-- The word for the type of whole numbers, and the one for the type of truth values.
 abbrev pub base_word : Base → Word
 base_word base.Int = word.Int
 base_word base.Bool = word.Bool
@@ -54,19 +58,23 @@ abbrev pub print_lists : List ℕ → Shown → Printer
 print_lists [] inside after = inside ∷ after
 print_lists (at ∷ lists) inside after = keyword_at at word.List ∷ print_lists lists inside after
 
+-- A type of values is a word `list` for each level of lists, and then the word of what they hold.
 abbrev pub print_value_type : ValueType → Printer
 print_value_type t after = print_lists t.lists (keyword_at t.base_at (base_word t.base)) after
 
 -- types
 
+-- A choice is written `+` where the provider chooses, and `&` where the client does.
 abbrev pub choice_sign : Sender → Symbol
 choice_sign sender.Provider = sym.Plus
 choice_sign sender.Client = sym.Ampersand
 
+-- A channel is handed over under `*` where the provider sends it, and under `-o` where the client does.
 abbrev pub channel_sign : Sender → Symbol
 channel_sign sender.Provider = sym.Star
 channel_sign sender.Client = sym.Lollipop
 
+-- A value is handed over under `/\` where the provider sends it, and under `->` where the client does.
 abbrev pub value_sign : Sender → Symbol
 value_sign sender.Provider = sym.Wedge
 value_sign sender.Client = sym.Arrow
@@ -99,10 +107,12 @@ abbrev mutual
 
 -- terms
 
+-- A truth value is written as its word.
 abbrev pub truth_word : Bool → Word
 truth_word true = word.True
 truth_word false = word.False
 
+-- An infix operator is written as its word or its symbol, at the offset where it stands.
 abbrev pub print_operator : ℕ → Operator → Shown
 print_operator at operator.Or = keyword_at at word.Or
 print_operator at operator.And = keyword_at at word.And
@@ -146,6 +156,7 @@ abbrev mutual
 
 -- steps
 
+-- A channel is written `self` where it is the one that a process provides, and by its name otherwise.
 abbrev pub print_chan : ChanAt → Shown
 print_chan (chan.Own at) = keyword_at at word.SelfWord
 print_chan (chan.Variable n) = print_name n
@@ -154,11 +165,13 @@ print_chan (chan.Variable n) = print_name n
 abbrev pub print_named : NameAt → Printer
 print_named n after = print_name n ∷ after
 
+-- Arguments stand in parentheses: the values, a semicolon, and then the channels that are handed over.
 abbrev pub print_args : ArgTrees → Printer
 print_args a after =
     sign sym.OpenParen ∷ print_parted sym.Comma (map print_term a.values) (sign sym.Semicolon ∷
     print_parted sym.Comma (map print_named a.channels) (sign sym.CloseParen ∷ after))
 
+-- A step is written as its word, the channel at which it works, and what it sends, binds or pays.
 abbrev pub print_step : StepTree → Printer
 print_step (label x l) after = print_chan x ∷ sign sym.Dot ∷ print_name l ∷ after
 print_step (send at x y) after = keyword_at at word.Send ∷ print_chan x ∷ print_name y ∷ after
@@ -219,6 +232,7 @@ abbrev mutual
 
 -- declarations
 
+-- A value parameter is written as its name, a colon and its type.
 abbrev pub print_value_par : ValuePar → Printer
 print_value_par p after = print_name p.name ∷ sign sym.Colon ∷ print_value_type p.value after
 
@@ -227,18 +241,22 @@ abbrev pub print_list_potential : Option ListPotential → Printer
 print_list_potential None after = after
 print_list_potential (Some l) after = keyword_at l.list_at word.List ∷ print_potential l.potential after
 
+-- A process parameter is written like a value parameter, with the potential of a list before its type.
 abbrev pub print_par : ProcessPar → Printer
 print_par p after =
     print_name p.name ∷ sign sym.Colon ∷ print_list_potential p.«list» (print_value_type p.value after)
 
+-- A channel parameter is written as its name, a colon and its session type.
 abbrev pub print_chan_par : ChanParTree → Printer
 print_chan_par p after = print_name p.name ∷ sign sym.Colon ∷ print_type p.goes after
 
+-- Parameters stand in parentheses: the values and lists, a semicolon, and then the channels.
 abbrev pub print_pars : ParTrees → Printer
 print_pars p after =
     sign sym.OpenParen ∷ print_parted sym.Comma (map print_par p.values) (sign sym.Semicolon ∷
     print_parted sym.Comma (map print_chan_par p.channels) (sign sym.CloseParen ∷ after))
 
+-- The letter of a mode: `R` a linear asset, `S` a shared contract that waits, `L` one while a client holds it.
 abbrev pub mode_word : OfferedMode → Word
 mode_word mode.R = word.R
 mode_word mode.S = word.S
@@ -248,6 +266,7 @@ mode_word mode.L = word.L
 abbrev pub print_body : CodeTree → Printer
 print_body body after = sign sym.Equals ∷ print_code body (sign sym.Semicolon ∷ after)
 
+-- A declaration is written with its word, its mode and its name, and ends with a semicolon.
 abbrev pub print_decl : DeclTree → Printer
 print_decl (definition at m n body) after =
     keyword_at at word.«Type» ∷ keyword (mode_word m) ∷ print_name n ∷ sign sym.Equals ∷
@@ -262,20 +281,24 @@ print_decl (process at m n pars q offers body) after =
 print_decl (transaction at n pars q body) after =
     keyword_at at word.Proc ∷ keyword word.T ∷ print_name n ∷ print_pars pars (print_optional q (print_body body after))
 
+-- Declarations are written one behind the other.
 abbrev pub print_decls : List DeclTree → Printer
 print_decls [] after = after
 print_decls (d ∷ decls) after = print_decl d (print_decls decls after)
 
 -- files
 
+-- The word of a cost model: only written `work` costs, each send does, or each instruction does.
 abbrev pub cost_word : CostModel → Word
 cost_word cost.Ticks = word.Ticks
 cost_word cost.Sends = word.Sends
 cost_word cost.All = word.All
 
+-- The cost line of a text is written only where it is there, before all declarations.
 abbrev pub print_cost : Option CostLine → Printer
 print_cost None after = after
 print_cost (Some c) after = keyword_at c.at word.Cost ∷ keyword (cost_word c.model) ∷ sign sym.Semicolon ∷ after
 
+-- The tokens of a whole text: its cost line, and then its declarations.
 abbrev pub print_file : FileTree → List Shown
 print_file f = print_cost f.cost (print_decls f.decls [])

@@ -41,15 +41,19 @@ Printer = List Shown → List Shown
 abbrev pub sign : Symbol → Shown
 sign s = anywhere (symbol s)
 
+-- A symbol that stands at a known offset of the text.
 abbrev pub sign_at : ℕ → Symbol → Shown
 sign_at at s = at_offset at (symbol s)
 
+-- A reserved word, wherever it stands.
 abbrev pub keyword : Word → Shown
 keyword w = anywhere (reserved w)
 
+-- A reserved word that stands at a known offset of the text.
 abbrev pub keyword_at : ℕ → Word → Shown
 keyword_at at w = at_offset at (reserved w)
 
+-- A name, at the offset that the tree holds for it.
 abbrev pub print_name : NameAt → Shown
 print_name n = at_offset n.at (name n.name)
 

@@ -92,15 +92,18 @@ abbrev pub one_byte_piece : ℕ → Option Symbol → Piece
 one_byte_piece b (Some s) = record { lexeme = Some (symbol s); more = 0 }
 one_byte_piece b None = record { lexeme = Some (bad b); more = 0 }
 
+-- A symbol of two bytes takes the byte behind it too; where there is none, the shorter piece stands.
 abbrev pub two_byte_piece : Option Symbol → Piece → Piece
 two_byte_piece (Some s) shorter = record { lexeme = Some (symbol s); more = 1 }
 two_byte_piece None shorter = shorter
 
+-- The symbol of two bytes that begins here, if one does; `-o` is one only where the word ends with it.
 abbrev pub longest_symbol : ℕ → List ℕ → Option Symbol
 longest_symbol b [] = None
 longest_symbol b (c ∷ bytes) =
     if begins_lollipop b (c ∷ bytes) then Some sym.Lollipop else double_symbol b c
 
+-- The longest symbol that begins at the byte, or the bad byte that begins none.
 abbrev pub symbol_piece : ℕ → List ℕ → Piece
 symbol_piece b bytes = two_byte_piece (longest_symbol b bytes) (one_byte_piece b (single_symbol b))
 

@@ -55,13 +55,16 @@ bid seed k = bid_for (drawn_at seed k)
 abbrev pub gas_line : ℕ → List ℕ
 gas_line k = codes "deposit u" ++ decimal k ++ codes " 3\n"
 
+-- A bidder makes a wallet that holds nothing yet, paid from that bidder's account.
 abbrev pub wallet_line : ℕ → List ℕ
 wallet_line k = codes "let w" ++ decimal k ++ codes " = new u" ++ decimal k ++ codes " keep(0;)\n"
 
+-- A bidder places a bid of this amount at the auction, and names the wallet for coins that are given back.
 abbrev pub bid_line : ℕ → ℕ → List ℕ
 bid_line k amount =
     codes "exec u" ++ decimal k ++ codes " place(" ++ decimal amount ++ codes "; auc, w" ++ decimal k ++ codes ")\n"
 
+-- What one bidder does, line by line: deposit gas, make a wallet, place a bid.
 abbrev pub bidder_lines : ℕ → ℕ → List ℕ
 bidder_lines k amount = gas_line k ++ wallet_line k ++ bid_line k amount
 

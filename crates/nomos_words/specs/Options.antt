@@ -8,6 +8,7 @@ use Rattle.nomos_machine.specs.declared.policy.Policy.TheVariants.{First, Round}
 use Rattle.nomos_words.specs.declared.workers.Workers.{Workers}
 use Rattle.nomos_words.specs.declared.workers.Workers.TheVariants.{One, Many}
 
+-- The names that an option of `run` may have: workers, policy, steps and journal.
 abbrev pub option_names : List (List ℕ)
 option_names = codes "--workers" ∷ codes "--policy" ∷ codes "--steps" ∷ codes "--journal" ∷ []
 
