@@ -12,6 +12,7 @@ use nomos_ir::ids::{CodeId, Label, ProcId};
 use nomos_types::accepted::Accepted;
 
 /// The instruction of this number, if there is one. Its amounts are of the program.
+#[inline(always)]
 pub(crate) fn code_at(accepted: &Accepted, c: CodeId) -> Option<&CodeNode>
     ensures found { option_copied result ≡ slice_get accepted.now.program.code c.0 }
     ensures amounts { (n : Instruction) → option_copied result ≡ Some n

@@ -37,6 +37,7 @@ pub(crate) struct Decision {
 }
 
 // Where a process goes on at an `if` whose test is a small one.
+#[inline(always)]
 fn choice_at<S: Sight>(sight: &S, accepted: &Accepted, pid: u32, node: &CodeNode) -> Option<CodeId>
     ensures decides { IfSome result (λ next. (p : Process) → process_at (S.state sight.now) pid ≡ Some p
         → slice_get accepted.now.program.code p.code.0 ≡ Some node.now
@@ -55,6 +56,7 @@ fn choice_at<S: Sight>(sight: &S, accepted: &Accepted, pid: u32, node: &CodeNode
 
 // What a process does at an `if` whose test is a small one, and at an instruction that has no terms. It takes no
 // memory.
+#[inline(always)]
 fn decide_at_once<S: Sight>(sight: &S, accepted: &Accepted, pid: u32) -> Option<Decision>
     requires { IsStrictlySortedBy nat_cmp (map object_number (S.state sight.now).objects) }
     ensures decides { IfSome result (IsDeedOf accepted.now (S.state sight.now) pid) }
@@ -79,6 +81,7 @@ fn decide_at_once<S: Sight>(sight: &S, accepted: &Accepted, pid: u32) -> Option<
 }
 
 // What a process does whose instruction's terms come to this.
+#[inline(always)]
 fn decide_by<S: Sight>(sight: &S, accepted: &Accepted, pid: u32, outcome: Outcome) -> Decision
     requires ordered { IsStrictlySortedBy nat_cmp (map object_number (S.state sight.now).objects) }
     requires outcome { TermsComeTo accepted.now (S.state sight.now) pid (outcome_of outcome) }
@@ -107,6 +110,7 @@ pub(crate) fn fault_of(doing: Option<Doing>) -> Option<Fault>
 }
 
 /// What the process of this number does. It takes no memory at an instruction that needs a bounded room alone.
+#[inline(always)]
 pub(crate) fn decide<S: Sight>(
     sight: &S,
     alloc: Global,

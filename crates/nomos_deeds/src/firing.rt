@@ -15,6 +15,7 @@ use std::alloc::{AllocError, Global};
 
 /// Does what is decided of a ready process: its act is made, or it has its fault, and then nothing changes. Want of
 /// memory leaves the state as it was.
+#[inline(always)]
 pub(crate) fn act_on<M: Acting>(
     machine: &mut M,
     alloc: Global,

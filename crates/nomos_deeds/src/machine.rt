@@ -59,6 +59,7 @@ pub trait Machine: Acting {
     /// Fires a ready process. Its step is made, or its instruction has a fault, and then nothing changes. Want of
     /// memory leaves the state as it was; where there is room for a firing, it does not come at an instruction that
     /// takes none (docs/MACHINE.md, "Firings that take no memory").
+    #[inline(always)]
     fn fire(&mut self, alloc: Global, accepted: &Accepted, pid: u32) -> Result<Fire, AllocError>
         requires may { MayFire accepted.now (Self.state self.old) }
         requires ready { IsReady accepted.now (Self.state self.old) pid }

@@ -16,6 +16,7 @@ use std::alloc::{AllocError, Global};
 
 impl Inside {
     /// The process of this number has these plain fields, but for the number, which it has already. It takes no room.
+    #[inline(always)]
     pub fn set_fields(&mut self, fields: SeenProcess)
         ensures state { Becomes self.old.state fields.pid (with_fields fields) self.new.state }
         ensures room { self.new.room ≡ self.old.room }

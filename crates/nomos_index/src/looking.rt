@@ -8,6 +8,7 @@ use crate::inside::Columns;
 use crate::kept::{Kept, KeptMessage, KeptProcess};
 
 /// What is kept at a place, with its number.
+#[inline(always)]
 pub(crate) fn kept_at(contents: &Columns, place: usize) -> Option<(u32, Kept)>
     ensures { result ≡ kept_at contents.now.objects.now place }
 {
@@ -17,6 +18,7 @@ pub(crate) fn kept_at(contents: &Columns, place: usize) -> Option<(u32, Kept)>
 }
 
 /// Where the object of this number stands, and what is kept there.
+#[inline(always)]
 pub(crate) fn object_at(contents: &Columns, number: u32) -> Option<(usize, Kept)>
     requires { IsHolding (held_now contents.now) }
     ensures { IsObjectAt (held_now contents.now) number result }
@@ -27,6 +29,7 @@ pub(crate) fn object_at(contents: &Columns, number: u32) -> Option<(usize, Kept)
 }
 
 /// Where the process of this number stands, and what is kept there.
+#[inline(always)]
 pub(crate) fn process_at(contents: &Columns, pid: u32) -> Option<(usize, KeptProcess)>
     requires { IsHolding (held_now contents.now) }
     ensures { IsProcessAt (held_now contents.now) pid result }
@@ -38,6 +41,7 @@ pub(crate) fn process_at(contents: &Columns, pid: u32) -> Option<(usize, KeptPro
 }
 
 /// Where the message of this number stands, and what is kept there.
+#[inline(always)]
 pub(crate) fn message_at(contents: &Columns, number: u32) -> Option<(usize, KeptMessage)>
     requires { IsHolding (held_now contents.now) }
     ensures { IsMessageAt (held_now contents.now) number result }

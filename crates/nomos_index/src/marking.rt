@@ -78,6 +78,7 @@ pub(crate) fn forget_all(contents: &mut Columns)
 
 impl Inside {
     /// Whether there is room for so many small changes.
+    #[inline(always)]
     pub fn has_room(&self, changes: usize) -> bool
         ensures { IsTrue result ↔ (changes ≤ self.now.room) }
     {
@@ -85,6 +86,7 @@ impl Inside {
     }
 
     /// Makes room for so many small changes. Where there is room already, it cannot fail.
+    #[inline(always)]
     pub fn make_room(&mut self, changes: usize) -> Result<(), AllocError>
         ensures state { self.new.state ≡ self.old.state }
         ensures ok { OnOk result (changes ≤ self.new.room) }

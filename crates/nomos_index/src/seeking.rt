@@ -147,6 +147,7 @@ pub(crate) fn first(contents: &Columns, sought: Sought) -> Option<usize>
 }
 
 /// What is seen of a message.
+#[inline(always)]
 pub(crate) fn seen_message(number: u32, m: &KeptMessage) -> SeenMessage
     ensures { (values : ValueRow) → HasValue m.now.brings values
         → result ≡ seen_message (message_held number values m.now) }
@@ -159,6 +160,7 @@ pub(crate) fn seen_message(number: u32, m: &KeptMessage) -> SeenMessage
 }
 
 /// What is seen of a process.
+#[inline(always)]
 pub(crate) fn seen_process(pid: u32, p: &KeptProcess) -> SeenProcess
     ensures { (cells : List Cell) (values : ValueRow) (its_lists : ListRow)
         → result ≡ seen_process (process_held cells pid values its_lists p.now) }

@@ -25,11 +25,13 @@ fn seen_list(list: &PotentialList) -> SeenList
 impl Sight for Inside {
     ghost state = { λ s. s.state };
 
+    #[inline(always)]
     fn process(&self, pid: u32) -> Option<SeenProcess> {
         let (_, p) = process_at(&self.contents, pid)?;
         Some(seeking::seen_process(pid, &p))
     }
 
+    #[inline(always)]
     fn values(&self, pid: u32) -> &[(VarId, Value)] {
         match process_at(&self.contents, pid) {
             Some((place, _)) => self.contents.values.row(place),
@@ -76,6 +78,7 @@ impl Sight for Inside {
         seeking::user(&self.contents, name)
     }
 
+    #[inline(always)]
     fn type_of(&self, name: u32) -> Option<TypeId> {
         self.contents.names.get(name)
     }

@@ -114,6 +114,7 @@ impl<M: Undo> Books<M> {
     }
 
     /// The instruction at which the process of this number stands, if there is one.
+    #[inline(always)]
     pub(crate) fn place(&self, pid: u32) -> Option<CodeId>
         ensures { result ≡ option_map (λ p. p.code) (process_at self.now.now.state pid) }
     {
@@ -121,6 +122,7 @@ impl<M: Undo> Books<M> {
     }
 
     /// Fires a ready process, as the machine does.
+    #[inline(always)]
     pub(crate) fn fire(
         &mut self,
         alloc: Global,

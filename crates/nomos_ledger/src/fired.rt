@@ -26,6 +26,7 @@ impl Fired {
     }
 
     /// Makes room for one more firing.
+    #[inline(always)]
     pub(crate) fn reserve(&mut self) -> Result<(), AllocError>
         ensures ok { OnOk result (HasSpace self.new) }
         ensures firings { self.new.firings.items ≡ self.old.firings.items }
@@ -37,6 +38,7 @@ impl Fired {
     }
 
     /// Puts a firing and its instruction at the end, for which there is room.
+    #[inline(always)]
     pub(crate) fn note(&mut self, firing: Firing, place: CodeId)
         requires { HasSpace self.old }
         ensures firings { self.new.firings.items ≡ self.old.firings.items ++ firing ∷ [] }

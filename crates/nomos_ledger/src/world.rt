@@ -134,6 +134,7 @@ impl<M: Undo> World<M> {
     /// Fires a ready process, and keeps the firing and its instruction where the process took its step. Where its
     /// instruction has a fault, and where memory is wanting, the world is as it was. Under `cost all` the firings, a
     /// unit for each, come to at most twice the gas spent since the origin, and a unit for each process of the origin.
+    #[inline(always)]
     pub fn fire(
         &mut self,
         alloc: Global,

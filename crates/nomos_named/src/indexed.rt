@@ -44,42 +44,52 @@ impl Model for IndexedState {
 impl Sight for IndexedState {
     ghost state = { λ s. s.state };
 
+    #[inline(always)]
     fn process(&self, pid: u32) -> Option<SeenProcess> {
         self.tallied.process(pid)
     }
 
+    #[inline(always)]
     fn values(&self, pid: u32) -> &[(VarId, Value)] {
         self.tallied.values(pid)
     }
 
+    #[inline(always)]
     fn channel(&self, pid: u32, v: VarId) -> Option<u32> {
         self.tallied.channel(pid, v)
     }
 
+    #[inline(always)]
     fn list(&self, pid: u32, w: VarId) -> Option<SeenList> {
         self.tallied.list(pid, w)
     }
 
+    #[inline(always)]
     fn is_light_with(&self, pid: u32, w: VarId, first: &ValueNode) -> bool {
         self.tallied.is_light_with(pid, w, first)
     }
 
+    #[inline(always)]
     fn affords(&self, pid: u32, gas: u64) -> bool {
         self.tallied.affords(pid, gas)
     }
 
+    #[inline(always)]
     fn message_on(&self, to_client: bool, name: u32) -> Option<SeenMessage> {
         self.tallied.message_on(to_client, name)
     }
 
+    #[inline(always)]
     fn offering(&self, name: u32) -> Option<SeenProcess> {
         self.tallied.offering(name)
     }
 
+    #[inline(always)]
     fn user(&self, name: u32) -> Option<u32> {
         self.tallied.user(name)
     }
 
+    #[inline(always)]
     fn type_of(&self, name: u32) -> Option<TypeId> {
         self.tallied.type_of(name)
     }
@@ -100,6 +110,7 @@ impl Acting for IndexedState {
         Ok(())
     }
 
+    #[inline(always)]
     fn perform(
         &mut self,
         alloc: Global,
@@ -167,6 +178,7 @@ impl Machine for IndexedState {
         self.tallied.inside.results()
     }
 
+    #[inline(always)]
     fn next_object(&self) -> u32 {
         self.tallied.inside.next_number()
     }
@@ -179,6 +191,7 @@ impl Machine for IndexedState {
         self.tallied.inside.view(pid)
     }
 
+    #[inline(always)]
     fn waits(&self, accepted: &Accepted, pid: u32) -> Option<u32> {
         self.tallied.inside.waits(accepted, pid)
     }

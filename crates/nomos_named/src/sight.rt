@@ -9,10 +9,12 @@ use nomos_ir::value_node::ValueNode;
 impl Sight for Tallied {
     ghost state = { λ s. s.state };
 
+    #[inline(always)]
     fn process(&self, pid: u32) -> Option<SeenProcess> {
         self.inside.process(pid)
     }
 
+    #[inline(always)]
     fn values(&self, pid: u32) -> &[(VarId, Value)] {
         self.inside.values(pid)
     }
@@ -45,6 +47,7 @@ impl Sight for Tallied {
         self.user(name)
     }
 
+    #[inline(always)]
     fn type_of(&self, name: u32) -> Option<TypeId> {
         self.inside.type_of(name)
     }

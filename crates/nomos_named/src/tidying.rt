@@ -56,6 +56,7 @@ impl Tallied {
 
     /// Names that no object mentions have no type any more; gaps are closed then, where they are many. It takes no room.
     /// Only suspects are asked, where they are known.
+    #[inline(always)]
     pub(crate) fn tidy(&mut self)
         ensures state { self.new.state ≡ tidied self.old.state }
         ensures room { self.new.room ≡ self.old.room }

@@ -49,6 +49,7 @@ pub(crate) fn the_value(values: Values) -> Result<Option<Value>, AllocError>
 }
 
 /// What becomes of a process by an act by which nothing else changes, and where it goes on.
+#[inline(always)]
 pub(crate) fn revision_of(
     act: Act,
     values: Values,
@@ -90,6 +91,7 @@ pub(crate) fn revision_of(
 }
 
 /// An act of the process by itself, but for a `work` and an `emit`.
+#[inline(always)]
 pub(crate) fn act_revision<P: Parts>(
     parts: &mut P,
     alloc: Global,
@@ -113,6 +115,7 @@ pub(crate) fn act_revision<P: Parts>(
 }
 
 /// The process spends so many Dths.
+#[inline(always)]
 pub(crate) fn act_work<P: Parts>(parts: &mut P, pid: u32, gas: u64, next: CodeId)
     requires fits { (P.state parts.old).spent + gas < 2 ^ 128 }
     requires room { 8 ≤ P.room parts.old }

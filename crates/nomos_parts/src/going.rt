@@ -11,6 +11,7 @@ use nomos_ir::code_node::Chan;
 use nomos_ir::ids::CodeId;
 
 /// The process goes on at an instruction.
+#[inline(always)]
 pub(crate) fn go_on<P: Parts>(parts: &mut P, pid: u32, next: CodeId)
     requires room { 0 < P.room parts.old }
     ensures state { Becomes (P.state parts.old) pid (standing_at next) (P.state parts.new) }

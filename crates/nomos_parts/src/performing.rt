@@ -28,6 +28,7 @@ pub struct Intent {
 }
 
 // Makes the change of an act; names that nobody mentions any more may still have a type.
+#[inline(always)]
 fn make<P: Parts>(
     parts: &mut P,
     alloc: Global,
@@ -158,6 +159,7 @@ fn make<P: Parts>(
 
 /// Makes an act. It makes room for it first: want of memory leaves the state as it was, and where there is room already
 /// no frugal act comes to it.
+#[inline(always)]
 pub fn perform<P: Parts>(
     parts: &mut P,
     alloc: Global,

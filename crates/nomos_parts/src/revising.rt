@@ -50,6 +50,7 @@ fn take_apart<P: Parts>(
 }
 
 /// A process changes by itself, and goes on. Want of memory leaves the state as it was.
+#[inline(always)]
 pub(crate) fn revise<P: Parts>(
     parts: &mut P,
     alloc: Global,

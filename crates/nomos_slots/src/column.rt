@@ -141,6 +141,7 @@ impl<T: Copy> Column<T> {
     }
 
     /// The number of records.
+    #[inline(always)]
     pub fn len(&self) -> usize
         ensures { result ≡ length self.now.now }
     {
@@ -155,6 +156,7 @@ impl<T: Copy> Column<T> {
     }
 
     /// How many records are marked; 0 where nothing is.
+    #[inline(always)]
     pub fn marked_len(&self) -> usize
         ensures marked { IfSome self.now.marked (λ list. length list ≡ result) }
         ensures within { result ≤ length self.now.now }
@@ -163,6 +165,7 @@ impl<T: Copy> Column<T> {
     }
 
     /// The record at a place, if there are so many.
+    #[inline(always)]
     pub fn get(&self, place: usize) -> Option<T>
         ensures { result ≡ slice_get self.now.now place }
     {
@@ -182,6 +185,7 @@ impl<T: Copy> Column<T> {
     }
 
     // Puts a record in the place of another, where the log can have what stood there.
+    #[inline(always)]
     fn change(&mut self, place: usize, item: T)
         requires room { HasSeat self.old }
         requires within { place < length self.old.now }
@@ -214,6 +218,7 @@ impl<T: Copy> Column<T> {
 
     /// Puts a record in the place of another, where the log has a seat for each record. It takes no memory, and no room
     /// where there are as many seats beside those.
+    #[inline(always)]
     pub fn put(&mut self, place: usize, item: T)
         requires seats { length self.old.now ≤ self.old.seats }
         requires within { place < length self.old.now }

@@ -47,6 +47,7 @@ impl<T: Copy> Model for Numbered<T> {
 }
 
 // The place with the slot of this number, if it is this one.
+#[inline(always)]
 fn place_if<T: Copy>(slots: &Column<Slot<T>>, number: u32, place: usize) -> Option<usize>
     ensures { IfSome result (λ place. slice_get (numbers slots.now.now) place ≡ Some number) }
 {
@@ -60,6 +61,7 @@ fn place_if<T: Copy>(slots: &Column<Slot<T>>, number: u32, place: usize) -> Opti
 
 // The place of the slot of this number, where it stands as many places before the last as the number is below the last
 // number: so it is where no gap behind it was closed.
+#[inline(always)]
 fn guessed_from_last<T: Copy>(slots: &Column<Slot<T>>, number: u32) -> Option<usize>
     ensures { IfSome result (λ place. slice_get (numbers slots.now.now) place ≡ Some number) }
 {
@@ -71,6 +73,7 @@ fn guessed_from_last<T: Copy>(slots: &Column<Slot<T>>, number: u32) -> Option<us
 
 // The place of the slot of this number, where it stands as many places behind the first as the number is over the first
 // number: so it is where no gap before it was closed.
+#[inline(always)]
 fn guessed_from_first<T: Copy>(slots: &Column<Slot<T>>, number: u32) -> Option<usize>
     ensures { IfSome result (λ place. slice_get (numbers slots.now.now) place ≡ Some number) }
 {
@@ -80,6 +83,7 @@ fn guessed_from_first<T: Copy>(slots: &Column<Slot<T>>, number: u32) -> Option<u
 }
 
 // The place of the slot of this number, where it stands as it is remembered.
+#[inline(always)]
 fn remembered<T: Copy>(slots: &Column<Slot<T>>, seen: &[u32], number: u32) -> Option<usize>
     ensures { IfSome result (λ place. slice_get (numbers slots.now.now) place ≡ Some number) }
 {
@@ -89,6 +93,7 @@ fn remembered<T: Copy>(slots: &Column<Slot<T>>, seen: &[u32], number: u32) -> Op
 }
 
 // The place of the slot of this number, by halving.
+#[inline(never)]
 fn halved_place<T: Copy>(slots: &Column<Slot<T>>, number: u32) -> Option<usize>
     requires { IsAscending slots.now.now }
     ensures { IsPlaceOf number slots.now.now result }
@@ -111,6 +116,7 @@ fn halved_place<T: Copy>(slots: &Column<Slot<T>>, number: u32) -> Option<usize>
 }
 
 // The place of the slot of this number.
+#[inline(always)]
 fn place_in<T: Copy>(slots: &Column<Slot<T>>, seen: &[u32], number: u32) -> Option<usize>
     requires { IsAscending slots.now.now }
     ensures { IsPlaceOf number slots.now.now result }
@@ -209,6 +215,7 @@ impl<T: Copy> Numbered<T> {
     }
 
     /// The slot at a place, if there are so many.
+    #[inline(always)]
     pub fn slot(&self, place: usize) -> Option<Slot<T>>
         ensures { result ≡ slice_get self.now.now place }
     {
@@ -217,6 +224,7 @@ impl<T: Copy> Numbered<T> {
 
     /// The place of the slot of this number, if there is one: found at once where no gap behind it was closed, or none
     /// before it, and by halves elsewhere.
+    #[inline(always)]
     pub fn place_of(&self, number: u32) -> Option<usize>
         ensures { IsPlaceOf number self.now.now result }
     {
@@ -224,6 +232,7 @@ impl<T: Copy> Numbered<T> {
     }
 
     /// What stands under a number.
+    #[inline(always)]
     pub fn get(&self, number: u32) -> Option<T>
         ensures { result ≡ found self.now.now number }
     {
@@ -249,6 +258,7 @@ impl<T: Copy> Numbered<T> {
     }
 
     /// The slot at this place keeps its number and has this item, or is a gap. It takes no room and no memory.
+    #[inline(always)]
     pub fn put(&mut self, place: usize, item: Option<T>)
         requires { place < length self.old.now }
         ensures now { self.new.now ≡ put_at self.old.now place item }
@@ -269,6 +279,7 @@ impl<T: Copy> Numbered<T> {
     }
 
     // Counts the gap that may have come at a place.
+    #[inline(always)]
     fn count_gap(&mut self, place: usize, is_gap: bool)
         ensures { self.new ≡ self.old }
     {

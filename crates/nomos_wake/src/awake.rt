@@ -44,6 +44,7 @@ impl Awake {
     }
 
     /// A process may be ready.
+    #[inline(always)]
     pub(crate) fn wake(&mut self, pid: u32)
         ensures woken { MayBeReady self.new pid }
         ensures tells { Tells self.old self.new }
@@ -89,6 +90,7 @@ impl Awake {
     }
 
     /// A process waits for a shared name no more, if it did.
+    #[inline(always)]
     pub(crate) fn forget(&mut self, pid: u32, name: Option<u32>)
         ensures ready { (q : ℕ) → MayBeReady self.old q → MayBeReady self.new q }
         ensures noted { (n q : ℕ) → IsNoted self.old n q → IsNoted self.new n q ⊎ (q ≡ pid) }
@@ -140,6 +142,7 @@ impl Awake {
     }
 
     // Whether it is known of each process whether it waits for a shared name.
+    #[inline(always)]
     fn is_followed(&self, name: u32) -> bool
         ensures { IsTrue result ↔ IsFollowed self.now name }
     {
@@ -173,6 +176,7 @@ impl Awake {
     }
 
     /// Whether the lowest ready process over a number is found among those that are told.
+    #[inline(always)]
     pub(crate) fn knows_over(&self, after: u32) -> bool
         ensures known { IsTrue result → self.now.lost ≡ false }
         ensures from { IsTrue result → (after ≡ 0) ⊎ (after ≡ self.now.sought) }
@@ -181,6 +185,7 @@ impl Awake {
     }
 
     /// The next ready process is this one: the one after it will be sought behind it.
+    #[inline(always)]
     pub(crate) fn reach(&mut self, pid: u32)
         ensures sought { self.new.sought ≡ pid - 1 }
         ensures ready { (q : ℕ) → MayBeReady self.old q → MayBeReady self.new q }
@@ -191,6 +196,7 @@ impl Awake {
     }
 
     /// A process fires: where it was the next one that was sought, the one after it is sought now.
+    #[inline(always)]
     pub(crate) fn pass(&mut self, pid: u32)
         ensures sought { (self.new.sought ≡ self.old.sought)
             ⊎ ((self.new.sought ≡ pid) × (self.old.sought + 1 ≡ pid)) }

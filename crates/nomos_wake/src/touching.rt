@@ -15,6 +15,7 @@ use nomos_ir::ids::{CodeId, VarId};
 use nomos_types::accepted::Accepted;
 
 /// The instruction of this number, if there is one.
+#[inline(always)]
 pub(crate) fn node_at(accepted: &Accepted, code: CodeId) -> Option<&CodeNode>
     ensures { option_copied result ≡ slice_get accepted.now.program.code code.0 }
 {

@@ -55,6 +55,7 @@ fn wake_provider<M: Machine>(awake: &mut Awake, machine: &M, name: u32)
 }
 
 // Wakes who may read what is heard.
+#[inline(always)]
 fn wake_heard<M: Machine>(awake: &mut Awake, machine: &M, heard: Option<Incoming>)
     ensures woken { WakesHeard (M.state machine.now) heard awake.new }
     ensures tells { Tells awake.old awake.new }
@@ -68,6 +69,7 @@ fn wake_heard<M: Machine>(awake: &mut Awake, machine: &M, heard: Option<Incoming
 }
 
 // Wakes the process of a number, which changed, if there is one, and who meets it where it stands now.
+#[inline(always)]
 fn wake_changed<M: Machine>(awake: &mut Awake, machine: &M, accepted: &Accepted, number: u32)
     ensures { WakesBy accepted.now (M.state machine.now) number awake.old awake.new }
 {
@@ -127,6 +129,7 @@ fn waits_if<M: Machine>(machine: &M, accepted: &Accepted, number: Option<u32>) -
 
 /// What is known before a ready process fires of whom that may wake. It is told to `wake_after` once the process has
 /// fired.
+#[inline(always)]
 pub fn foresee<M: Machine>(
     awake: &mut Awake,
     machine: &M,
@@ -152,6 +155,7 @@ pub fn foresee<M: Machine>(
 }
 
 // The processes that a firing changes wait for no name any more, and the one after it is sought.
+#[inline(always)]
 fn leave(awake: &mut Awake, foreseen: Foreseen)
     ensures { Leaves foreseen awake.old awake.new }
 {
@@ -174,6 +178,7 @@ fn offer_if(awake: &mut Awake, name: Option<u32>)
 
 /// Wakes whom the firing of a process may have woken that was foreseen: if the set covered the state before, it covers
 /// the state after.
+#[inline(always)]
 pub fn wake_after<M: Machine>(
     awake: &mut Awake,
     machine: &M,

@@ -98,6 +98,7 @@ impl<M: Undo> Watched<M> {
 
     /// The lowest process over a number that is ready, or none where no process over it is ready. Want of memory
     /// costs speed alone.
+    #[inline(always)]
     pub fn next_ready(&mut self, accepted: &Accepted, after: u32) -> Option<u32>
         requires stands { WorldStandsFor accepted.now self.old.world }
         requires watched { IsWatched accepted.now self.old.world.state self.old.awake }
@@ -116,6 +117,7 @@ impl<M: Undo> Watched<M> {
 
     /// The lowest process that is ready, or none where no process is. Want of memory
     /// costs speed alone.
+    #[inline(always)]
     pub fn lowest(&mut self, accepted: &Accepted) -> Option<u32>
         requires stands { WorldStandsFor accepted.now self.old.world }
         requires watched { IsWatched accepted.now self.old.world.state self.old.awake }
@@ -196,6 +198,7 @@ impl<M: Undo> Watched<M> {
     }
 
     // What is known before a firing of whom it may wake.
+    #[inline(always)]
     fn foresee(&mut self, accepted: &Accepted, pid: u32) -> Option<Foreseen>
         requires stands { WorldStandsFor accepted.now self.old.world }
         requires ready { IsReady accepted.now self.old.world.state pid }
@@ -214,6 +217,7 @@ impl<M: Undo> Watched<M> {
     }
 
     // A process has fired, whom that may wake was foreseen.
+    #[inline(always)]
     fn wake(&mut self, accepted: &Accepted, foreseen: Option<Foreseen>)
         requires { WorldStandsFor accepted.now self.old.world }
         ensures world { self.new.world ≡ self.old.world }
@@ -233,6 +237,7 @@ impl<M: Undo> Watched<M> {
     }
 
     /// Fires a ready process, as [`World::fire`] does.
+    #[inline(always)]
     pub fn fire(
         &mut self,
         alloc: Global,
