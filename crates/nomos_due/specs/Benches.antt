@@ -59,7 +59,7 @@ pub data IsBenchDue (a : Acceptance) (orders : Orders) (load : Load) : ℕ → L
       → IsBenchDue a orders load (run_status journal.entries)
       (summary_text (figures_of load a journal last) (result_behind None ps)) journal
 
--- The journal that is known where memory was wanting: no item was carried out, or some first ones were.
+-- The journal that is known where memory was wanting: no item has passed, or some first ones have.
 pub data IsBenchPart (a : Acceptance) (orders : Orders) (load : Load) : Journal → Type 0 where
   not_run : IsBenchPart a orders load (no_entries orders.limit)
   ran_part : (items : List ScriptItem) (count : ℕ) (journal : Journal) (ps : List Passage) (last : LedgerState)

@@ -35,7 +35,7 @@ pub data IsRunDue (a : Acceptance) (orders : Orders) (script : Input)
       → IsRunDue a orders script (run_status journal.entries) (report_of a ps)
       (where_wanted orders.text (journal_text_of a orders.limit ps)) journal
 
--- The journal that is known where memory was wanting: no item was carried out, or some first ones were.
+-- The journal that is known where memory was wanting: no item has passed, or some first ones have.
 pub data IsRunPart (a : Acceptance) (orders : Orders) (script : Input) : Journal → Type 0 where
   not_run : IsRunPart a orders script (no_entries orders.limit)
   ran_part : (items : List ScriptItem) (count : ℕ) (journal : Journal) (ps : List Passage) (last : LedgerState)

@@ -26,7 +26,7 @@ use std::alloc::Global;
 use std::sync::Wait;
 use std::thread::Threads;
 
-// What is due of a run that carried out all items.
+// What is due of a run of which all items have passed.
 fn whole_due<M: Undo + Drop>(journal: Journal, whole: WholeRun<M>) -> Due
     ensures status { result.status ≡ run_status journal.entries }
     ensures out { result.out ≡ whole.report }

@@ -1,4 +1,4 @@
--- What is typed is accepted, and what behind it is as it should be is carried out.
+-- What is typed is accepted, and what behind it is as it should be is gone through to its end.
 use Rattle.std.specs.Prelude.{◌≢◌, List}
 use Rattle.nomos_accept.specs.AcceptedText.{PivotRunEndsWith}
 use Rattle.nomos_accept.specs.TypedText.{IsTypedAs}

@@ -35,7 +35,7 @@ pub record AcceptsTyped (c : Call) (t : Texts) : Type 0 where
 
 -- ---- what is kept
 
--- nothing was carried out
+-- nothing was kept
 abbrev pub HasNoEntry : Call → Type 0
 HasNoEntry c = c.journal.entries ≡ []
 
@@ -72,7 +72,7 @@ pub record GoesRightTo (a : Acceptance) (passages : List Passage) (last : Ledger
 
 -- Every journal that is kept is a run of the machine in which nothing goes wrong.
 pub record KeepsRuns (c : Call) (t : Texts) : Type 0 where
-  -- a call that was done has carried out its whole script, if it has one
+  -- a call that was done has gone through its whole script, if it has one
   pub done : IsDone c.status → AsksAlone c ⊎ Course c t
   -- with every status: an entry is never kept but of a course
   pub kept : HasNoEntry c ⊎ Course c t

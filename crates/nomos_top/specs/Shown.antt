@@ -21,7 +21,7 @@ use Rattle.nomos_types.specs.Acceptance.{Acceptance}
 use Rattle.nomos_words.specs.Summary.{summary_text}
 use Rattle.nomos_words.specs.Words.{Task, check, bench, least, Asks}
 
--- what tells of a script that was carried out: a report, or for `bench` a summary
+-- what tells of a script that was gone through: a report, or for `bench` a summary
 abbrev pub told_of : Task → Acceptance → Journal → List Passage → LedgerState → List ℕ
 told_of (bench seed bidders) a journal ps last =
     summary_text (figures_of (record { seed = seed; bidders = bidders }) a journal last) (result_behind None ps)
