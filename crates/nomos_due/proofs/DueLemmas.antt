@@ -16,7 +16,7 @@ use Rattle.nomos_report.specs.Reported.{run_status}
 use Rattle.nomos_replay.specs.Answers.{Answers, max_bytes}
 use Rattle.nomos_replay.specs.Refusal.{refusal_line}
 use Rattle.nomos_replay.specs.Replayed.{HasReplayed, IsRefusedSo}
-use Rattle.nomos_replay.specs.Written.{AreWritten}
+use Rattle.nomos_script.specs.WrittenItems.{AreWritten}
 use Rattle.nomos_replay.specs.declared.error.ReplayError.{ReplayError}
 use Rattle.nomos_replay.specs.declared.error.ReplayError.TheVariants as error
 use Rattle.nomos_replay.proofs.FormLaws.{journal-form}

@@ -1,5 +1,4 @@
 mod BenchLemmas
 mod DueLemmas
 pub mod SourceLemmas
-pub mod WrittenLaws
 pub mod ReplayLaws

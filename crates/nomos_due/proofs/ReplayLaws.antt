@@ -15,7 +15,7 @@ use Rattle.nomos_replay.proofs.FormLaws.{journal-form}
 use Rattle.nomos_replay.proofs.LengthLaws.{journal-within}
 use Rattle.nomos_replay.proofs.OneAnswerLaws.{answers-one}
 use Rattle.nomos_replay.proofs.RoundTripLaws.{legal-answer}
-use Rattle.nomos_due.proofs.WrittenLaws.{reads-written}
+use Rattle.nomos_script.proofs.WrittenLaws.{reads-written}
 
 -- what the text of a legal journal tells
 abbrev pub told_by : {v : Version} {a : Acceptance} {items : List ScriptItem} {journal : Journal} {text : List ℕ}

@@ -7,7 +7,7 @@ ghost use Rattle.nomos_legal.specs.declared.journal.Journal.{Journal};
 ghost use Rattle.nomos_journal.specs.JournalText.{IsTextOf};
 ghost use Rattle.nomos_journal.specs.declared.line.Version.{Version};
 ghost use Rattle.nomos_replay.specs.Refusal.{refusal_line};
-ghost use Rattle.nomos_replay.specs.Written.{AreWritten};
+ghost use Rattle.nomos_script.specs.WrittenItems.{AreWritten};
 ghost use Rattle.nomos_report.specs.Reported.{run_status};
 ghost use Rattle.nomos_due.specs.Finding.{IsBare};
 ghost use Rattle.nomos_due.specs.Outside.{FaultCounts, source_state};

@@ -60,7 +60,7 @@ use Rattle.nomos_journal.specs.declared.line.JournalLine.{JournalLine}
 use Rattle.nomos_journal.specs.declared.line.JournalLine.TheVariants as line
 use Rattle.nomos_journal.specs.declared.line.Version.{Version}
 use Rattle.nomos_journal.specs.declared.line.Version.TheVariants as version
-use Rattle.nomos_replay.specs.Written.{AreWritten, IsWritten, IsWrittenStart, line_bound}
+use Rattle.nomos_script.specs.WrittenItems.{AreWritten, IsWrittenItem, IsWrittenStart, line_bound}
 
 -- ---- amounts
 
@@ -267,11 +267,11 @@ module _ {a : Acceptance} (accepted : IsAccepted a) where
       (All-nil IsLine)
 
   passage-form : (v : Version) {most n : ℕ} {p : Passage} → IsPassage a most p → n + 2 ≤ 2 ^ 32 → most < 2 ^ 32
-      → Standing a p.before → PassageNumbers a n p → IsWritten p.item → All IsLine (passage_lines v a p)
+      → Standing a p.before → PassageNumbers a n p → IsWrittenItem p.item → All IsLine (passage_lines v a p)
   passage-form v (passage.deposit l at units name fits) few small standing numbers written =
-      two-forms at end.Deposited written tt
+      two-forms at end.Deposited written.0 tt
   passage-form v (passage.no_deposit l at units name never) few small standing numbers written =
-      two-forms at (end.Refused at refusal.TooMuchGas) written (omega (arith, written), tt)
+      two-forms at (end.Refused at refusal.TooMuchGas) written.0 (omega (arith, written.0), tt)
   passage-form v (passage.refused l b at cause refuses) few small standing numbers written =
       let is = refuses-form refuses written.1 in
       two-forms b.line (end.Refused at cause) written.0 (omega (arith, is.0), is.1)
@@ -285,15 +285,15 @@ module _ {a : Acceptance} (accepted : IsAccepted a) where
 
   leads-form : (v : Version) {limit made n : ℕ} {l last : LedgerState} {ps : List Passage} → Leads a limit made l ps last
       → n + 2 ≤ 2 ^ 32 → limit < 2 ^ 32 → Standing a l → All (PassageNumbers a n) ps
-      → All IsWritten (map (λ p. p.item) ps) → All IsLine (flat_map (passage_lines v a) ps)
+      → All IsWrittenItem (map (λ p. p.item) ps) → All IsLine (flat_map (passage_lines v a) ps)
   leads-form v (legal.done made l) few small standing numbers written = All-nil IsLine
   leads-form v {limit} {n = n} (legal.passes made p ps last is rest) few small standing numbers written =
       let item_of : Passage → ScriptItem = λ x. x.item in
       All-append IsLine (passage_lines v a p) (flat_map (passage_lines v a) ps)
       (passage-form v is few (omega (arith, small)) standing (All-head (PassageNumbers a n) p ps numbers)
-      (All-head IsWritten p.item (map item_of ps) written))
+      (All-head IsWrittenItem p.item (map item_of ps) written))
       (leads-form v rest few small (passage-standing accepted is standing) (All-tail (PassageNumbers a n) p ps numbers)
-      (All-tail IsWritten p.item (map item_of ps) written))
+      (All-tail IsWrittenItem p.item (map item_of ps) written))
 
   -- Each line of the text of a legal journal is a line, where the items are as a script has them, from any ledger that
   -- is not too far on.
@@ -303,7 +303,7 @@ module _ {a : Acceptance} (accepted : IsAccepted a) where
       → All IsLine (journal_lines v a journal.limit ps)
   journal-form-from standing numbers {items} {journal} {ps} v size written tells =
       let rest : List JournalLine = flat_map (passage_lines v a) ps in
-      let items_written = subst (All IsWritten) (sym tells.items_are) written in
+      let items_written = subst (All IsWrittenItem) (sym tells.items_are) written in
       let few = given-few accepted tells size in
       All-cons IsLine (line.Head v) (line.Steps journal.limit ∷ rest) tt
       (All-cons IsLine (line.Steps journal.limit) rest (omega (arith, tells.limit.few))

@@ -41,7 +41,7 @@ use Rattle.nomos_journal.specs.declared.line.Version.{Version}
 use Rattle.nomos_journal.specs.declared.line.Version.TheVariants as version
 use Rattle.nomos_journal.proofs.LineLaws.{length-fired_line, length-frame_line, length-worked_line}
 use Rattle.nomos_replay.specs.Answers.{max_bytes}
-use Rattle.nomos_replay.specs.Written.{AreWritten, IsWritten, line_bound}
+use Rattle.nomos_script.specs.WrittenItems.{AreWritten, IsWrittenItem, line_bound}
 use Rattle.nomos_replay.proofs.FormLaws.{refuses-form}
 
 -- the bytes of lines with their line feeds
@@ -141,13 +141,17 @@ allowed-below a s count most end.Deposited allowed = tt
 allowed-below a s count most (end.Refused n cause) allowed = absurd allowed
 
 module _ {a : Acceptance} (accepted : IsAccepted a) (v : Version) where
-  passage-bytes : {most : ℕ} {p : Passage} → IsPassage a most p → IsWritten p.item → All IsLine (passage_lines v a p)
+  passage-bytes : {most : ℕ} {p : Passage} → IsPassage a most p → IsWrittenItem p.item
+      → All IsLine (passage_lines v a p)
       → bytes_of a.annotations.unit (passage_lines v a p)
       ≤ 219 * entry_count (p.item ∷ []) + 37 * length (firings_in p.entry)
   passage-bytes (passage.deposit l at units name fits) written are =
-      omega (arith, entry-bytes a accepted at end.Deposited [] 0 written tt are (omega arith))
+      omega (arith, entry-bytes a accepted at end.Deposited [] 0 written.0 tt are (omega arith))
   passage-bytes (passage.no_deposit l at units name never) written are =
-      omega (arith, entry-bytes a accepted at (end.Refused at refusal.TooMuchGas) [] 0 written written are (omega arith))
+      omega (
+        arith,
+        entry-bytes a accepted at (end.Refused at refusal.TooMuchGas) [] 0 written.0 written.0 are (omega arith),
+      )
   passage-bytes (passage.refused l b at cause refuses) written are =
       omega (
         arith,
@@ -189,7 +193,7 @@ module _ {a : Acceptance} (accepted : IsAccepted a) (v : Version) where
   first-entries (item.Show at) items = omega arith
 
   leads-bytes : {limit made : ℕ} {l last : LedgerState} {ps : List Passage} → Leads a limit made l ps last
-      → All IsWritten (map (λ p. p.item) ps) → All IsLine (flat_map (passage_lines v a) ps)
+      → All IsWrittenItem (map (λ p. p.item) ps) → All IsLine (flat_map (passage_lines v a) ps)
       → bytes_of a.annotations.unit (flat_map (passage_lines v a) ps)
       ≤ 219 * entry_count (map (λ p. p.item) ps) + 37 * firings_made (entries_of ps)
   leads-bytes (legal.done made l) written are = omega arith
@@ -200,8 +204,8 @@ module _ {a : Acceptance} (accepted : IsAccepted a) (v : Version) where
       omega (
         arith,
         bytes-append a.annotations.unit first others,
-        passage-bytes is (All-head IsWritten p.item (map item_of ps) written) (all-first IsLine first others are),
-        leads-bytes rest (All-tail IsWritten p.item (map item_of ps) written) (all-last IsLine first others are),
+        passage-bytes is (All-head IsWrittenItem p.item (map item_of ps) written) (all-first IsLine first others are),
+        leads-bytes rest (All-tail IsWrittenItem p.item (map item_of ps) written) (all-last IsLine first others are),
         first-entries p.item (map item_of ps),
         first-made p ps,
       )
@@ -214,7 +218,7 @@ module _ {a : Acceptance} (accepted : IsAccepted a) (v : Version) where
   journal-within {first} {items} {journal} {ps} size written tells are =
       let unit : ℕ = a.annotations.unit in
       let rest : List JournalLine = flat_map (passage_lines v a) ps in
-      let items_written = subst (All IsWritten) (sym tells.items_are) written in
+      let items_written = subst (All IsWrittenItem) (sym tells.items_are) written in
       let tail = All-tail IsLine (line.Head v) (line.Steps journal.limit ∷ rest) are in
       let entries = ap entry_count tells.items_are in
       let firings = ap firings_made tells.entries_are in

@@ -28,7 +28,7 @@ use Rattle.nomos_replay.specs.Answers as answers
 use Rattle.nomos_replay.specs.Replayed.{HasReplayedFrom, IsRefusedFrom, IsTextFrom}
 use Rattle.nomos_replay.specs.Stand.{at_head, before}
 use Rattle.nomos_replay.specs.Told.{Told, journal_told, next_limit, nothing_told}
-use Rattle.nomos_replay.specs.Written.{AreWritten}
+use Rattle.nomos_script.specs.WrittenItems.{AreWritten}
 use Rattle.nomos_replay.specs.declared.error.ReplayError.{ReplayError}
 use Rattle.nomos_replay.specs.declared.error.ReplayError.TheVariants as error
 use Rattle.nomos_replay.specs.declared.item.Reading.{Reading}

@@ -4,5 +4,4 @@ pub mod Spoiled
 pub mod Answers
 pub mod Refusal
 pub mod Replayed
-pub mod Written
 pub mod mirror

@@ -16,7 +16,7 @@ ghost use Rattle.nomos_replay.specs.Answers.{Answers, AnswersFrom, max_bytes};
 ghost use Rattle.nomos_replay.specs.Replayed.{HasReplayed, HasReplayedFrom, IsRefusedFrom, IsRefusedSo, IsTextFrom};
 ghost use Rattle.nomos_replay.specs.Stand.{before};
 ghost use Rattle.nomos_replay.specs.Told.{nothing_told};
-ghost use Rattle.nomos_replay.specs.Written.{AreWritten};
+ghost use Rattle.nomos_script.specs.WrittenItems.{AreWritten};
 ghost use Rattle.nomos_replay.specs.declared.error.ReplayError.{ReplayError};
 ghost use Rattle.nomos_replay.specs.mirror.Items.{AllTold, IsAnswered, ToldUpTo, report_alone};
 ghost use Rattle.nomos_replay.specs.mirror.Reading.{IsCounted, Stops};

@@ -10,7 +10,7 @@ use Rattle.nomos_script.specs.Form.{Form, Invocation, blank, deposit, create, ex
 use Rattle.nomos_script.specs.Item.{start_at}
 use Rattle.nomos_script.specs.ScriptNames.{IsScriptName}
 use Rattle.nomos_script.specs.ScriptScan.{Token, word, number, mark}
-use Rattle.nomos_script.specs.Seen.{AreArguments, BeginsWithName, BeginsWithUnits, SaysLine, Starts}
+use Rattle.nomos_script.specs.mirror.Seen.{AreArguments, BeginsWithName, BeginsWithUnits, SaysLine, Starts}
 use Rattle.nomos_script.specs.ValueTree.{print_values, values_at}
 use Rattle.nomos_script.specs.mirror.Assembling.{line_said}
 use Rattle.nomos_script.proofs.NamesLemmas.{names_once}
@@ -201,14 +201,6 @@ create_read n contract tokens behind after rest start first named second third h
   },
   ap line.Start h.is,
 )
-
--- what stands behind `let`
-pub record Creates (tokens : List Token) : Type 0 where
-  pub contract : List ℕ
-  pub i : Invocation
-  pub is : tokens ≡ word contract ∷ mark (codes "=") ∷ word (codes "new") ∷ print_invocation i
-  pub named : IsScriptName contract
-  pub valid : IsValidInvocation i
 
 -- a line of one word says what its form says
 pub bare_read : (n : ℕ) (text : List ℕ) (tokens : List Token) (f : Form) (r : Result Line LineStop) → IsValid f

@@ -15,6 +15,9 @@ pub mod StandingLemmas
 pub mod ReadingLaws
 pub mod LoopLemmas
 pub mod SizeLemmas
+pub mod PartLaws
+pub mod WrittenLaws
+pub mod ScriptLaws
 pub mod TalkFormLemmas
 pub mod TalkLaws
 pub mod TalkLoopLemmas

@@ -23,20 +23,23 @@ pub data Form : Type 0 where
   end : Form
   show : Form
 
--- names before other tokens, with commas between them
+-- names before other tokens, with a comma before each one
 abbrev pub print_more_names : List (List ℕ) → List Token → List Token
 print_more_names [] after = after
 print_more_names (name ∷ names) after = mark (codes ",") ∷ word name ∷ print_more_names names after
 
+-- names before other tokens, with a comma before each but the first
 abbrev pub print_names : List (List ℕ) → List Token → List Token
 print_names [] after = after
 print_names (name ∷ names) after = word name ∷ print_more_names names after
 
+-- the account, the declaration and, in brackets, the values, `;` and the names
 abbrev pub print_invocation : Invocation → List Token
 print_invocation i =
     word i.sender ∷ word i.proc ∷ mark (codes "(") ∷
     print_values i.values (mark (codes ";") ∷ print_names i.names (mark (codes ")") ∷ []))
 
+-- the tokens of a line of this form
 abbrev pub print_form : Form → List Token
 print_form blank = []
 print_form (deposit name digits) = word (codes "deposit") ∷ word name ∷ number digits ∷ []

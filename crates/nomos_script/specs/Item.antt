@@ -25,6 +25,7 @@ start_of_line line (create contract i) = Some (start_at line (Some contract) i)
 start_of_line line (exec i) = Some (start_at line None i)
 start_of_line line _ = None
 
+-- what such lines start, one after the other
 abbrev pub starts_of : ℕ → List Form → List Start
 starts_of line [] = []
 starts_of line (form ∷ forms) = option_to_list (start_of_line line form) ++ starts_of (line + 1) forms

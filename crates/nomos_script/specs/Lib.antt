@@ -6,8 +6,8 @@ pub mod Form
 pub mod Paragraph
 pub mod Item
 pub mod Size
+pub mod WrittenItems
 pub mod ScriptReading
 pub mod TalkForm
 pub mod TalkReading
 pub mod mirror
-pub mod Seen

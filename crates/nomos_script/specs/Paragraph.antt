@@ -27,6 +27,7 @@ StandsInside (create contract i) = Unit {0}
 StandsInside (exec i) = Unit {0}
 StandsInside _ = ⊥
 
+-- a single line may stand alone, and each line of a batch may stand inside one
 abbrev pub IsParagraph : Paragraph → Type 0
 IsParagraph (single form) = StandsAlone form
 IsParagraph (several forms) = All StandsInside forms

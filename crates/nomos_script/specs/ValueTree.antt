@@ -17,26 +17,29 @@ mutual
     no_trees : ValueTrees
     tree : ValueTree → ValueTrees → ValueTrees
 
--- The tokens of a number before others, and so on.
+-- the tokens of a number before others
 abbrev pub print_number : Bool → List ℕ → List Token → List Token
 print_number true digits after = mark (codes "-") ∷ number digits ∷ after
 print_number false digits after = number digits ∷ after
 
+-- the token of a truth value before others
 abbrev pub print_truth : Bool → List Token → List Token
 print_truth true after = word (codes "true") ∷ after
 print_truth false after = word (codes "false") ∷ after
 
 abbrev mutual
+  -- the tokens of a value before others
   pub print_value : ValueTree → List Token → List Token
   print_value (written_number minus digits) after = print_number minus digits after
   print_value (written_truth b) after = print_truth b after
   print_value (written_list vs) after = mark (codes "[") ∷ print_values vs (mark (codes "]") ∷ after)
 
-  -- values, with commas between them
+  -- values, with a comma before each but the first
   pub print_values : ValueTrees → List Token → List Token
   print_values no_trees after = after
   print_values (tree v vs) after = print_value v (print_more_values vs after)
 
+  -- values, with a comma before each one
   pub print_more_values : ValueTrees → List Token → List Token
   print_more_values no_trees after = after
   print_more_values (tree v vs) after = mark (codes ",") ∷ print_value v (print_more_values vs after)
@@ -88,11 +91,13 @@ abbrev mutual
 abbrev pub max_nesting : ℕ
 max_nesting = 64
 
+-- each number fits, at most 64 lists stand in one another, and no list is too heavy
 pub record IsValidValue (v : ValueTree) : Type 0 where
   pub numbers : FitsNumbers v
   pub nested : nesting v ≤ max_nesting
   pub light : weight (value_at v) ≤ max_weight
 
+-- each of the values is valid
 abbrev pub AreValidValues : ValueTrees → Type 0
 AreValidValues no_trees = Unit {0}
 AreValidValues (tree v vs) = IsValidValue v × AreValidValues vs

@@ -4,7 +4,7 @@ ghost use Rattle.nomos_ir.specs.Value.{Value};
 ghost use Rattle.nomos_script.specs.Form.{print_more_names};
 ghost use Rattle.nomos_script.specs.ScriptNames.{IsScriptName};
 ghost use Rattle.nomos_script.specs.ScriptScan.{Token as Lexeme, word, mark};
-ghost use Rattle.nomos_script.specs.Seen.{AreNames, AreMoreNames, AreArguments};
+ghost use Rattle.nomos_script.specs.mirror.Seen.{AreNames, AreMoreNames, AreArguments};
 
 use crate::growing::put;
 use crate::name::{ScriptName, ScriptNames, is_script_name};

@@ -1,7 +1,7 @@
 -- What is read is a script; what is refused does not read, and is refused at its line.
 use Rattle.std.proofs.Common.{rules, inl, inr, ap, Err}
 use Rattle.nomos_script.proofs.ReadingLaws.{reads_once, syntax_answered, reads_answered, reads_without_syntax}
-use Rattle.nomos_script.proofs.SizeLemmas.{reads_within_size}
+use Rattle.nomos_script.proofs.ScriptLaws.{reads-script}
 use Rattle.nomos_script.proofs.parsing.parse_script.Goals as goal
 
 pub returns-in_err-read_items-clause-readable : goal.returns-in_err-read_items-clause-readable
@@ -17,7 +17,7 @@ returns-in_err-read_items-clause-syntax_refused c = λ k h.
     [ inl e ↦ inl (search rules) | inr e ↦ inr (search rules) ]
 
 pub of_items-requires : goal.of_items-requires
-of_items-requires c = reads_within_size c.args.bytes.now c.in_ok-read_items.field-0 c.in_ok-read_items.ensures.read
+of_items-requires c = reads-script c.args.bytes.now c.in_ok-read_items.field-0 c.in_ok-read_items.ensures.read
 
 pub returns-clause-syntax_refused : goal.returns-clause-syntax_refused
 returns-clause-syntax_refused c = λ k h.

@@ -1,4 +1,4 @@
--- What the code of the reader returns, against the definitions. Private clauses alone cite it.
+-- What the code of the reader returns, against the definitions: a mirror of the code, on which no promise stands.
 use Rattle.std.specs.Prelude.{◌≡◌, ℕ, ◌≤◌, ◌==◌, false, List, [], ◌∷◌, ◌++◌, All, Option, Some, codes, if◌then◌else◌}
 use Rattle.std.specs.Str.Parse.{IsNumeral}
 use Rattle.nomos_ir.specs.Value.{Value}
