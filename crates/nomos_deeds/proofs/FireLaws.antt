@@ -1,8 +1,10 @@
--- A process of a typed state is ready where one look says so, and what is decided of a ready one is its step.
-use Rattle.std.proofs.Common.{◌≡◌, ◌∙◌, ◌<◌, ◌↔◌, ◌^◌, ℕ, Bool, true, false, List, Option, Some, None, IsSome, IsTrue, refl, sym, subst, ap}
+-- A process of a typed state is ready where one look says so, what is decided of a ready one is its step, and each
+-- firing keeps gas, balances and owners.
+use Rattle.std.proofs.Common.{◌≡◌, ◌∙◌, ◌<◌, ◌↔◌, ◌^◌, ℕ, Bool, true, false, List, Option, Some, None, IsSome, IsTrue, refl, sym, subst, ap, arith}
 use Rattle.std.specs.Option.{option_map}
 use Rattle.nomos_ir.specs.Value.{Value}
 use Rattle.nomos_types.specs.Acceptance.{Acceptance, IsAccepted}
+use Rattle.nomos_machine.specs.Balances.{NoBalanceFalls}
 use Rattle.nomos_machine.specs.Change.{Change}
 use Rattle.nomos_machine.specs.Deeds.{Deed, changes, has_fault}
 use Rattle.nomos_machine.specs.Optional.{◌>>=◌}
@@ -14,10 +16,11 @@ use Rattle.nomos_machine.specs.declared.object.Process.{Process}
 use Rattle.nomos_machine.proofs.DeedLaws.{deed-goes}
 use Rattle.nomos_machine.proofs.GasLaws.{gas-changed}
 use Rattle.nomos_machine.proofs.GoesLaws.{Goes, acts, faulty, waits}
-use Rattle.nomos_machine.proofs.PreservationLaws.{process_at-there, step-keeps, ready-told, ready-none}
+use Rattle.nomos_machine.proofs.OwnerLaws.{name-has_owner}
+use Rattle.nomos_machine.proofs.PreservationLaws.{Keeps, process_at-there, step-keeps, ready-told, ready-none}
 use Rattle.nomos_deeds.specs.Acting.{CanAct, after_act, change_of, if_changed}
 use Rattle.nomos_deeds.specs.Acts.{act_change, doing_deed, if_some_ready, looks_ready_at}
-use Rattle.nomos_deeds.specs.Firings.{MayFire}
+use Rattle.nomos_deeds.specs.Firings.{HaveOneOwner, MayFire}
 use Rattle.nomos_deeds.specs.declared.act.Act.{Act}
 use Rattle.nomos_deeds.specs.declared.act.Doing.{Doing}
 use Rattle.nomos_deeds.specs.declared.act.Doing.TheVariants as doing
@@ -107,7 +110,22 @@ module _ {a : Acceptance} (accepted : IsAccepted a) {s : State} (may : MayFire a
       acted-by p found (looks_ready a s p) (deed a s p) (deed-goes accepted may.typed there)
       (ap (doing_deed a s p vs) (sym is) ∙ does) refl some
 
-  -- and that state is typed
-  pub acted-typed : (t : State) → t ≡ after_act a s pid vs what → Acted a s pid vs what → IsTyped a t
-  acted-typed t is done =
-      (step-keeps accepted may.typed pid t (done.steps ∙ ap (λ (u : State). Some u) (sym is))).typed
+  -- and that state is typed, has all gas, and no account has less in it
+  pub acted-keeps : (answer : Option Doing) → answer ≡ Some (doing.Acts what)
+      → ((p : Process) → process_at s pid ≡ Some p → doing_deed a s p vs answer ≡ deed a s p) → IsReady a s pid
+      → (t : State) → t ≡ after_act a s pid vs what → Keeps a s t
+  acted-keeps answer is decides ready t same =
+      let done = acted answer is decides ready in
+      step-keeps accepted may.typed pid t (done.steps ∙ ap (λ (u : State). Some u) (sym same))
+
+-- ---- what every firing keeps
+
+-- no account has less where nothing changed
+pub unchanged-balances : (s t : State) → t ≡ s → NoBalanceFalls s t
+unchanged-balances s t same = subst (NoBalanceFalls s) (sym same) (λ account. omega arith)
+
+-- in a typed state each name of mode R or L that is not outside has one owner
+pub typed-owners : (a : Acceptance) → IsAccepted a → (s : State) → IsTyped a s → HaveOneOwner a s
+typed-owners a accepted s typed name is inside =
+    let (m, has, linear) = is.linear in
+    name-has_owner accepted typed name is.own m is.found has linear inside

@@ -1,5 +1,7 @@
 //! What is decided of a ready process is done.
 ghost use Rattle.std.specs.Prelude.{◌≡◌, ◌≤◌, ◌<◌, ◌+◌, IsOk, IfOk, OnErr};
+ghost use Rattle.nomos_machine.specs.Balances.{NoBalanceFalls};
+ghost use Rattle.nomos_machine.specs.State.{gas_of};
 ghost use Rattle.nomos_machine.specs.Step.{IsReady};
 ghost use Rattle.nomos_machine.specs.TypedState.{IsTyped};
 ghost use Rattle.nomos_deeds.specs.Acting.{IsFrugalDoing};
@@ -29,6 +31,8 @@ pub(crate) fn act_on<M: Acting>(
     ensures ok { IfOk result (λ answer. Fires accepted.now (M.state machine.old) pid answer (M.state machine.new)) }
     ensures err { OnErr result (M.state machine.new ≡ M.state machine.old) }
     ensures typed { IsTyped accepted.now (M.state machine.new) }
+    ensures gas { gas_of (M.state machine.new) ≡ gas_of (M.state machine.old) }
+    ensures balances { NoBalanceFalls (M.state machine.old) (M.state machine.new) }
     ensures spare { M.spare machine.old ≤ M.spare machine.new + 1 }
     ensures frugal { 0 < M.spare machine.old → IsFrugalDoing decision.doing → IsOk result }
     ensures marked { M.marked machine.new ≡ M.marked machine.old }

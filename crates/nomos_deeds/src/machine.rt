@@ -3,6 +3,7 @@ ghost use Rattle.std.specs.Prelude.{◌≡◌, ◌≤◌, ◌<◌, ◌+◌, ◌-
 ghost use Rattle.std.specs.Option.{option_map};
 ghost use Rattle.nomos_ir.specs.TermsEvaluation.{instruction_evaluation};
 ghost use Rattle.nomos_eval.specs.Outcomes.{outcome_of};
+ghost use Rattle.nomos_machine.specs.Balances.{NoBalanceFalls};
 ghost use Rattle.nomos_machine.specs.Objects.{purse_of};
 ghost use Rattle.nomos_machine.specs.Run.{IsNextReady, NoneReady};
 ghost use Rattle.nomos_machine.specs.Sight.{owner};
@@ -11,7 +12,7 @@ ghost use Rattle.nomos_machine.specs.State.{gas_of, process_at, type_of};
 ghost use Rattle.nomos_machine.specs.Step.{IsReady, fault};
 ghost use Rattle.nomos_machine.specs.TypedState.{IsTyped, Numbered};
 ghost use Rattle.nomos_deeds.specs.Acting.{IsFrugal};
-ghost use Rattle.nomos_deeds.specs.Firings.{Fires, MayFire, Wants};
+ghost use Rattle.nomos_deeds.specs.Firings.{Fires, HaveOneOwner, MayFire, Wants};
 ghost use Rattle.nomos_deeds.specs.Lowest.{FindsNext};
 ghost use Rattle.nomos_deeds.specs.Readers.{IsLinearName, IsTransaction, IsWaiting, keeper, view_of, waits};
 
@@ -58,7 +59,8 @@ pub trait Machine: Acting {
 
     /// Fires a ready process. Its step is made, or its instruction has a fault, and then nothing changes. Want of
     /// memory leaves the state as it was; where there is room for a firing, it does not come at an instruction that
-    /// takes none (docs/MACHINE.md, "Firings that take no memory").
+    /// takes none (docs/MACHINE.md, "Firings that take no memory"). Whatever is answered, all gas is kept, no account
+    /// has less, and each channel of mode R or L has one owner as before, where no outside party has it.
     #[inline(always)]
     fn fire(&mut self, alloc: Global, accepted: &Accepted, pid: u32) -> Result<Fire, AllocError>
         requires may { MayFire accepted.now (Self.state self.old) }
@@ -66,10 +68,16 @@ pub trait Machine: Acting {
         ensures ok { IfOk result (λ answer. Fires accepted.now (Self.state self.old) pid answer (Self.state self.new)) }
         ensures err { OnErr result (Self.state self.new ≡ Self.state self.old) }
         ensures typed { IsTyped accepted.now (Self.state self.new) }
+        ensures gas { gas_of (Self.state self.new) ≡ gas_of (Self.state self.old) }
+        ensures balances { NoBalanceFalls (Self.state self.old) (Self.state self.new) }
+        ensures owners { HaveOneOwner accepted.now (Self.state self.old)
+            × HaveOneOwner accepted.now (Self.state self.new) }
         ensures spare { Self.spare self.old ≤ Self.spare self.new + 1 }
         ensures frugal { 0 < Self.spare self.old → IsFrugal accepted.now (Self.state self.old) pid → IsOk result }
         ensures marked { Self.marked self.new ≡ Self.marked self.old }
     {
+        // Where the program is read it is known to be accepted.
+        let _program = accepted.program();
         let decision = decide(&*self, alloc, accepted, pid)?;
         act_on(self, alloc, accepted, pid, decision)
     }
@@ -124,10 +132,16 @@ pub trait Machine: Acting {
         ensures ok { IfOk result (λ answer. Fires accepted.now (Self.state self.old) pid answer (Self.state self.new)) }
         ensures err { OnErr result (Self.state self.new ≡ Self.state self.old) }
         ensures typed { IsTyped accepted.now (Self.state self.new) }
+        ensures gas { gas_of (Self.state self.new) ≡ gas_of (Self.state self.old) }
+        ensures balances { NoBalanceFalls (Self.state self.old) (Self.state self.new) }
+        ensures owners { HaveOneOwner accepted.now (Self.state self.old)
+            × HaveOneOwner accepted.now (Self.state self.new) }
         ensures spare { Self.spare self.old ≤ Self.spare self.new + 1 }
         ensures frugal { 0 < Self.spare self.old → IsFrugal accepted.now (Self.state self.old) pid → IsOk result }
         ensures marked { Self.marked self.new ≡ Self.marked self.old }
     {
+        // Where the program is read it is known to be accepted.
+        let _program = accepted.program();
         let decision = decide_with(&*self, alloc, accepted, pid, known)?;
         act_on(self, alloc, accepted, pid, decision)
     }
@@ -217,7 +231,7 @@ pub trait Machine: Acting {
         ensures { result ≡ waits accepted.now (Self.state self.now).objects pid };
 
     /// The number of the process that stands for a shared name: it offers the name, or it is acquired and has the name
-    /// as base.
+    /// as base. It is asked of shared names alone: nobody stands for a name of another mode, though a process offers it.
     fn keeper(&self, shared: u32) -> Option<u32>
         ensures { result ≡ keeper (Self.state self.now).objects shared };
 
