@@ -5,4 +5,5 @@ pub mod HandLemmas
 pub mod GatheringLaws
 pub mod DealingLemmas
 pub mod WeighingLaws
+pub mod KeepingLaws
 pub mod PooledLaws

@@ -1,16 +1,19 @@
 -- What holds of what items come to: a refusal stands alone, and what is pooled weighs what was read.
 use Rattle.std.proofs.Common.{◌≡◌, ◌∙◌, ℕ, ◌+◌, ◌^◌, ◌<◌, ◌≤◌, List, [], ◌∷◌, ◌++◌, All, drop, length, map, slice_get, sum_by, take, Result, Ok, Err, Some, refl, sym, ap, subst, arith}
 use Rattle.std.proofs.lemmas.List.{length-map, length-take-le, take-append-drop}
-use Rattle.std.proofs.lemmas.List.Elements.{All-append, All-cons, All-head, All-map, All-tail}
+use Rattle.std.proofs.lemmas.List.Elements.{All-append, All-cons, All-head, All-map, All-nil, All-tail}
 use Rattle.std.proofs.lemmas.List.Sums.{sum_by-append, sum_by-cons}
 use Rattle.nomos_script.specs.Size.{IsScriptSize, entry_count, start_count}
+use Rattle.nomos_script.specs.WrittenItems.{IsScript, IsWrittenItem}
 use Rattle.nomos_script.specs.declared.item.Batch.{Batch}
 use Rattle.nomos_script.specs.declared.item.ScriptItem.{ScriptItem}
 use Rattle.nomos_script.specs.declared.item.ScriptItem.TheVariants as item
+use Rattle.nomos_script.proofs.PartLaws.{all-first, all-last}
 use Rattle.nomos_pool.specs.Dealing.{account_name, account_names, thread_of, threads_of}
 use Rattle.nomos_pool.specs.Pooled.{FirstOther, IsPooled, IsRefused, IsSingle, IsSingleBatch, NotSingle, PoolsTo, first_line}
 use Rattle.nomos_pool.specs.declared.pool.Submission.{Submission}
 use Rattle.nomos_pool.proofs.DealingLemmas.{threads-below}
+use Rattle.nomos_pool.proofs.KeepingLaws.{gathered-kept}
 use Rattle.nomos_pool.proofs.SenderLemmas.{seam}
 use Rattle.nomos_pool.proofs.WeighingLaws.{gathered-weighs}
 
@@ -138,6 +141,41 @@ pooled-size n items pooled some p size = record {
   starts = subst (λ (k : ℕ). k ≤ 2 ^ 20)
       (starts-weigh items
       ∙ (sym (pooled-weighs start_weight n items pooled some p) ∙ sym (starts-weigh pooled))) size.starts;
+}
+
+-- ---- what is pooled is as what was read
+
+-- what holds of each item that was read holds of each that is pooled
+pub pooled-kept : (P : ScriptItem → Type 0) (n : ℕ) (items pooled : List ScriptItem) → IsPooled n items pooled
+    → All P items → All P pooled
+pooled-kept P n items pooled p all =
+    let whole = subst (All P) p.read all in
+    let gathered = gathered-kept (λ batch. P (item.Batch batch)) n (threads_of n p.batches) p.batches p.gathered p.fair
+    (of_batches p.batches (all-last P p.first (map item.Batch p.batches) whole)) in
+    subst (All P) (sym p.taken)
+    (All-append P p.first (map (λ s. item.Batch s.item) p.gathered)
+    (all-first P p.first (map item.Batch p.batches) whole) (as_items p.gathered gathered))
+  where
+    of_batches : (bs : List Batch) → All P (map item.Batch bs) → All (λ batch. P (item.Batch batch)) bs
+    of_batches [] all = All-nil (λ (batch : Batch). P (item.Batch batch))
+    of_batches (b ∷ bs) all =
+        All-cons (λ (batch : Batch). P (item.Batch batch)) b bs (All-head P (item.Batch b) (map item.Batch bs) all)
+        (of_batches bs (All-tail P (item.Batch b) (map item.Batch bs) all))
+
+    as_items : (ss : List (Submission Batch)) → All (λ batch. P (item.Batch batch)) (map (λ s. s.item) ss)
+        → All P (map (λ s. item.Batch s.item) ss)
+    as_items [] all = All-nil P
+    as_items (s ∷ ss) all =
+        All-cons P (item.Batch s.item) (map (λ s. item.Batch s.item) ss)
+        (All-head (λ (batch : Batch). P (item.Batch batch)) s.item (map (λ s. s.item) ss) all)
+        (as_items ss (All-tail (λ (batch : Batch). P (item.Batch batch)) s.item (map (λ s. s.item) ss) all))
+
+-- what is pooled of a script is a script
+pub pooled-script : (n : ℕ) (items pooled : List ScriptItem) → 0 < n → IsPooled n items pooled → IsScript items
+    → IsScript pooled
+pooled-script n items pooled some p script = record {
+  size = pooled-size n items pooled some p script.size;
+  written = pooled-kept IsWrittenItem n items pooled p script.written;
 }
 
 -- ---- what the code finds
