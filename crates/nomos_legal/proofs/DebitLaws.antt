@@ -20,20 +20,20 @@ use Rattle.nomos_legal.specs.Ledger.{LedgerState, account_of, deposited, state_w
 use Rattle.nomos_legal.specs.Legal.{firings_in}
 use Rattle.nomos_legal.specs.Passage.{Passage, IsPassage, still}
 use Rattle.nomos_legal.specs.Passage as passage
-use Rattle.nomos_legal.specs.StandsFor.{IsSettled}
+use Rattle.nomos_legal.specs.StandsFor.{NamesBalances, IsSettled}
 use Rattle.nomos_legal.specs.Starting.{Resolves}
 use Rattle.nomos_legal.specs.declared.journal.End.{End}
 use Rattle.nomos_legal.specs.declared.journal.End.TheVariants as end
 use Rattle.nomos_legal.specs.declared.journal.Entry.{Entry}
 use Rattle.nomos_legal.specs.declared.resolved.Resolved.{Resolved}
 use Rattle.nomos_legal.proofs.ResolveLaws.{counted-can_start}
-use Rattle.nomos_legal.proofs.SettledLaws.{IsCounted, account-within}
+use Rattle.nomos_legal.proofs.SettledLaws.{account-within}
 use Rattle.nomos_legal.proofs.StartLaws.{start-started, started-state}
 
 -- ---- starts
 
 -- a start takes from its payer the bound of what it starts, and from nobody else anything
-pub start-paid : {a : Acceptance} {l : LedgerState} {start : Start} {r : Resolved} → IsSettled a l → IsCounted l
+pub start-paid : {a : Acceptance} {l : LedgerState} {start : Start} {r : Resolved} → IsSettled a l → NamesBalances l
     → Resolves a l start (Ok r) → HavePaid (payment_for a r ∷ []) l.state (after_start a l r).state
 start-paid {a} {l} {r = r} settled counted resolves =
     let can = counted-can_start settled counted resolves in
@@ -50,7 +50,7 @@ start-paid {a} {l} {r = r} settled counted resolves =
 
 -- so do the starts of all lines
 pub starts-paid : {a : Acceptance} → IsAccepted a → {l : LedgerState} {lines : List Start} {rs : List Resolved}
-    → IsSettled a l → IsCounted l → AllStart a l lines rs
+    → IsSettled a l → NamesBalances l → AllStart a l lines rs
     → HavePaid (map (payment_for a) rs) l.state (after_starts a l rs).state
 starts-paid accepted settled counted (batch.none l) = paid-nothing l.state
 starts-paid {a} accepted settled counted (batch.line l start r lines rs resolves others) =
@@ -86,7 +86,7 @@ fires-no_debit a start (pid ∷ pids) (suc k) s t one other =
 falls-nowhere : (s : State) → NoBalanceFalls s s
 falls-nowhere s account = omega arith
 
-deposit-raises : (l : LedgerState) → IsCounted l → (name : List ℕ) (gas : ℕ)
+deposit-raises : (l : LedgerState) → NamesBalances l → (name : List ℕ) (gas : ℕ)
     → NoBalanceFalls l.state (state_with l.state gas (account_of l.accounts name))
 deposit-raises l counted name gas = by (account_of l.accounts name) refl
   where
@@ -123,7 +123,7 @@ module _ {a : Acceptance} where
   }
 
   pub passage-debits : IsAccepted a → {most : ℕ} {p : Passage} → IsPassage a most p → IsSettled a p.before
-      → IsCounted p.before → DebitsOnce a p
+      → NamesBalances p.before → DebitsOnce a p
   passage-debits accepted (passage.deposit l line units name fits) settled counted =
       still-debits _ _ l (deposited a.annotations.unit l name units) refl
       (deposit-raises l counted name (units * a.annotations.unit))

@@ -15,9 +15,10 @@ use Rattle.nomos_legal.specs.Legal as legal
 use Rattle.nomos_legal.specs.Passage.{Passage, IsPassage}
 use Rattle.nomos_legal.specs.Passage as passage
 use Rattle.nomos_legal.specs.Right.{PassagePays, AllPay}
+use Rattle.nomos_legal.specs.StandsFor.{StandsNamed}
 use Rattle.nomos_legal.specs.declared.journal.Journal.{Journal}
 use Rattle.nomos_legal.specs.declared.resolved.Resolved.{Resolved}
-use Rattle.nomos_legal.proofs.RightLaws.{Standing, batch-started, empty-standing, passage-standing}
+use Rattle.nomos_legal.proofs.RightLaws.{batch-started, empty-standing, passage-standing}
 use Rattle.nomos_legal.proofs.WorldCostLaws.{begun-pays}
 
 -- without firings nothing is owed
@@ -26,12 +27,12 @@ pays-none a s = omega arith
 
 module _ {a : Acceptance} (accepted : IsAccepted a) (under : IsUnderCostAll a.program) where
   batch-pays : {l : LedgerState} {lines : List Start} {starts : List Resolved} (pids : List ℕ) {t : State}
-      → Standing a l → AllStart a l lines starts → run a (after_starts a l starts).state pids ≡ Some t
+      → StandsNamed a l → AllStart a l lines starts → run a (after_starts a l starts).state pids ≡ Some t
       → PaysFor a (length pids) l.state t
   batch-pays {l} {starts = starts} pids {t} standing begun reached =
       begun-pays under accepted l starts (batch-started accepted standing begun).settled.typed pids t reached
 
-  passage-pays : {most : ℕ} {p : Passage} → IsPassage a most p → Standing a p.before → PassagePays a p
+  passage-pays : {most : ℕ} {p : Passage} → IsPassage a most p → StandsNamed a p.before → PassagePays a p
   passage-pays (passage.deposit l line units name fits) standing = pays-none a l.state
   passage-pays (passage.no_deposit l line units name never) standing = pays-none a l.state
   passage-pays (passage.refused l batch line cause refuses) standing = pays-none a l.state
@@ -42,14 +43,14 @@ module _ {a : Acceptance} (accepted : IsAccepted a) (under : IsUnderCostAll a.pr
   passage-pays (passage.shown l line) standing = pays-none a l.state
 
   leads-pay : {limit made : ℕ} {l last : LedgerState} {ps : List Passage} → Leads a limit made l ps last
-      → Standing a l → AllPay a ps
+      → StandsNamed a l → AllPay a ps
   leads-pay (legal.done made l) standing = All-nil (PassagePays a)
   leads-pay (legal.passes made p ps last is rest) standing =
       All-cons (PassagePays a) p ps (passage-pays is standing) (leads-pay rest (passage-standing accepted is standing))
 
   -- From any ledger that stands all passages of a legal journal pay for their firings.
   pub legal-pays-from : {first : LedgerState} {items : List ScriptItem} {journal : Journal} {ps : List Passage}
-      {last : LedgerState} → Standing a first → TellsFrom a first items journal ps last → AllPay a ps
+      {last : LedgerState} → StandsNamed a first → TellsFrom a first items journal ps last → AllPay a ps
   legal-pays-from standing tells = leads-pay tells.leads standing
 
   pub legal-pays : {items : List ScriptItem} {journal : Journal} {ps : List Passage} {last : LedgerState}

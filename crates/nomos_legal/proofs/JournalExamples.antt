@@ -1,5 +1,5 @@
 -- The legal journal of a script of four items, computed, and journals that are nearly it and are not legal.
-use Rattle.std.proofs.Common.{◌≡◌, ◌∙◌, ℕ, zero, suc, ◌+◌, Bool, true, cond, List, [], ◌∷◌, ◌++◌, map, length, get_or, Option, Some, None, codes, is_some, refl, subst, ap, arith, ne_eqb}
+use Rattle.std.proofs.Common.{◌≡◌, ◌∙◌, ℕ, zero, suc, ◌+◌, Bool, true, cond, List, [], ◌∷◌, map, length, get_or, Option, Some, None, codes, is_some, refl, subst, ap, arith, ne_eqb}
 use Rattle.std.proofs.lemmas.Option.{none-some}
 use Rattle.nomos_ir.specs.Evaluation.{evaluation, term_evaluation}
 use Rattle.nomos_ir.specs.declared.fault.Fault.TheVariants as fault

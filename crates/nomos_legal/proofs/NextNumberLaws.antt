@@ -22,7 +22,7 @@ use Rattle.nomos_legal.specs.Legal as legal
 use Rattle.nomos_legal.specs.NextNumbers.{AllNumbered, HasNumbered, PassageNumbers, numbers_given}
 use Rattle.nomos_legal.specs.Passage.{Passage, IsPassage, runs, still}
 use Rattle.nomos_legal.specs.Passage as passage
-use Rattle.nomos_legal.specs.StandsFor.{WorldStandsFor}
+use Rattle.nomos_legal.specs.StandsFor.{StandsNamed, WorldStandsFor}
 use Rattle.nomos_legal.specs.World.{WorldState}
 use Rattle.nomos_legal.specs.declared.journal.End.{End}
 use Rattle.nomos_legal.specs.declared.journal.End.TheVariants as end
@@ -30,7 +30,7 @@ use Rattle.nomos_legal.specs.declared.journal.Entry.{Entry}
 use Rattle.nomos_legal.specs.declared.journal.Journal.{Journal}
 use Rattle.nomos_legal.specs.declared.resolved.Resolved.{Resolved}
 use Rattle.nomos_legal.proofs.LegalLaws.{first-made, tells-within}
-use Rattle.nomos_legal.proofs.RightLaws.{Standing, batch-started, empty-standing, passage-standing}
+use Rattle.nomos_legal.proofs.RightLaws.{batch-started, empty-standing, passage-standing}
 use Rattle.nomos_legal.proofs.StartLaws.{starts-length}
 use Rattle.nomos_legal.proofs.WorldLaws.{world-rises}
 
@@ -72,7 +72,7 @@ front-numbered accepted n start pids typed is k s reached =
 
 module _ {a : Acceptance} (accepted : IsAccepted a) where
   -- the start of a batch
-  begun-numbered : {n : ℕ} {l : LedgerState} {lines : List Start} {starts : List Resolved} → Standing a l
+  begun-numbered : {n : ℕ} {l : LedgerState} {lines : List Start} {starts : List Resolved} → StandsNamed a l
       → AllStart a l lines starts → HasNumbered n l.state
       → HasNumbered (n + length lines) (after_starts a l starts).state
   begun-numbered standing begun is =
@@ -85,7 +85,7 @@ module _ {a : Acceptance} (accepted : IsAccepted a) where
 
   -- an item without firings, after which both next numbers are as before
   still-numbered : {n : ℕ} (i : ScriptItem) (entry : Option Entry) {l m : LedgerState} → firings_in entry ≡ []
-      → Standing a l → HasNumbered n l.state → HasNumbered n m.state → PassageNumbers a n (still i entry l m)
+      → StandsNamed a l → HasNumbered n l.state → HasNumbered n m.state → PassageNumbers a n (still i entry l m)
   still-numbered {n} i entry {l} {m} none standing is after = record {
     before = is;
     firings = λ k s reached.
@@ -97,7 +97,7 @@ module _ {a : Acceptance} (accepted : IsAccepted a) where
 
   -- a batch whose lines started
   batch-numbered : {n : ℕ} {l : LedgerState} (batch : Batch) {starts : List Resolved} (pids : List ℕ) (answer : End)
-      {t : State} (after : LedgerState) → Standing a l → AllStart a l batch.starts starts
+      {t : State} (after : LedgerState) → StandsNamed a l → AllStart a l batch.starts starts
       → HasNumbered n l.state → HasNumbered (n + length batch.starts + length pids) after.state
       → PassageNumbers a (n + length batch.starts + length pids)
       (runs batch pids answer l (after_starts a l starts) t after)
@@ -112,7 +112,8 @@ module _ {a : Acceptance} (accepted : IsAccepted a) where
       }
 
   -- what becomes of an item raises the numbers by its starts and its firings at most
-  passage-numbers : {most n : ℕ} {p : Passage} → IsPassage a most p → Standing a p.before → HasNumbered n p.before.state
+  passage-numbers : {most n : ℕ} {p : Passage} → IsPassage a most p → StandsNamed a p.before
+      → HasNumbered n p.before.state
       → PassageNumbers a (n + start_count (p.item ∷ []) + length (firings_in p.entry)) p
   passage-numbers {n = n} (passage.deposit l line units name fits) standing is =
       passage-more n (n + 0 + 0) (omega arith)
@@ -155,7 +156,7 @@ record Rise (a : Acceptance) (n : ℕ) (ps : List Passage) (last : LedgerState) 
   after : HasNumbered (n + start_count (items_of ps) + firings_made (entries_of ps)) last.state
 
 leads-numbers : {a : Acceptance} → IsAccepted a → {limit made n : ℕ} {l last : LedgerState} {ps : List Passage}
-    → Leads a limit made l ps last → Standing a l → HasNumbered n l.state → Rise a n ps last
+    → Leads a limit made l ps last → StandsNamed a l → HasNumbered n l.state → Rise a n ps last
 leads-numbers {a} accepted {n = n} (legal.done made l) standing is = record {
   all = All-nil (PassageNumbers a (n + 0 + 0));
   after = numbered-more n (n + 0 + 0) (omega arith) l.state is;
@@ -186,18 +187,18 @@ module _ {a : Acceptance} (accepted : IsAccepted a) {first : LedgerState} {items
       let firings = ap firings_made tells.entries_are in
       omega (arith, starts, firings)
 
-  tells-rise-from : (n : ℕ) → Standing a first → HasNumbered n first.state → Rise a n ps last
+  tells-rise-from : (n : ℕ) → StandsNamed a first → HasNumbered n first.state → Rise a n ps last
   tells-rise-from n standing is = leads-numbers accepted tells.leads standing is
 
   -- At each point of a journal that is legal from a ledger whose next numbers are at most 1 and n, both are at most 1,
   -- n, and its starts and firings.
-  pub legal-numbers-from : (n : ℕ) → Standing a first → HasNumbered n first.state
+  pub legal-numbers-from : (n : ℕ) → StandsNamed a first → HasNumbered n first.state
       → AllNumbered a (n + numbers_given items journal) ps
   legal-numbers-from n standing is =
       subst (λ (k : ℕ). AllNumbered a k ps) (given-from n) (tells-rise-from n standing is).all
 
   -- so they are in the ledger to which it leads
-  pub last-numbers-from : (n : ℕ) → Standing a first → HasNumbered n first.state
+  pub last-numbers-from : (n : ℕ) → StandsNamed a first → HasNumbered n first.state
       → HasNumbered (n + numbers_given items journal) last.state
   last-numbers-from n standing is =
       subst (λ (k : ℕ). HasNumbered k last.state) (given-from n) (tells-rise-from n standing is).after

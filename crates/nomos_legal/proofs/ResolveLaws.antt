@@ -26,9 +26,9 @@ use Rattle.nomos_script.specs.declared.item.Start.{Start}
 use Rattle.nomos_legal.specs.Ledger.{Contracts, LedgerState, IsLedger, shared_name}
 use Rattle.nomos_legal.specs.Starting.{OneEach, ValueFits, ContractFits, ContractsFit, ArgumentsFit, IsPayer, IsDeclaration, NameIsFree, Resolves, started_by, has_mode, is_wanted}
 use Rattle.nomos_legal.specs.Starting as line
-use Rattle.nomos_legal.specs.StandsFor.{IsSettled}
+use Rattle.nomos_legal.specs.StandsFor.{NamesBalances, IsSettled}
 use Rattle.nomos_legal.specs.declared.resolved.Resolved.{Resolved}
-use Rattle.nomos_legal.proofs.SettledLaws.{IsCounted, account-within}
+use Rattle.nomos_legal.proofs.SettledLaws.{account-within}
 
 -- ---- what holds of a line that starts
 
@@ -142,7 +142,7 @@ fit-contracts {a} {l} contracts (line.one {name = name} {par = par} {shared = sh
 
 -- ---- the start
 
-module _ {a : Acceptance} {l : LedgerState} (settled : IsSettled a l) (counted : IsCounted l) {start : Start}
+module _ {a : Acceptance} {l : LedgerState} (settled : IsSettled a l) (counted : NamesBalances l) {start : Start}
     {r : Resolved} (by : ResolvedBy a l start r) where
   by-can : CanStart a l.state by.declaration (value_bindings by.declaration start.values)
       (channel_bindings by.declaration by.shared) by.payer
@@ -166,8 +166,8 @@ module _ {a : Acceptance} {l : LedgerState} (settled : IsSettled a l) (counted :
       })
 
 -- what a line of a settled ledger is resolved to can be started
-pub counted-can_start : {a : Acceptance} {l : LedgerState} {start : Start} {r : Resolved} → IsSettled a l → IsCounted l
-    → Resolves a l start (Ok r) → CanStartWith a l.state r.proc.0 r.values r.names r.payer
+pub counted-can_start : {a : Acceptance} {l : LedgerState} {start : Start} {r : Resolved} → IsSettled a l
+    → NamesBalances l → Resolves a l start (Ok r) → CanStartWith a l.state r.proc.0 r.values r.names r.payer
 counted-can_start settled counted resolves = by-can_start settled counted (resolved-by resolves)
 
 pub resolves-can_start : {a : Acceptance} {l : LedgerState} {start : Start} {r : Resolved} → IsSettled a l → IsLedger l

@@ -21,12 +21,12 @@ use Rattle.nomos_legal.specs.Legal as legal
 use Rattle.nomos_legal.specs.Passage.{Passage, IsPassage, still}
 use Rattle.nomos_legal.specs.Passage as passage
 use Rattle.nomos_legal.specs.Right.{IsRight, RunsRight, GoesRight, AllGoRight}
-use Rattle.nomos_legal.specs.StandsFor.{IsSettled, StandsFor}
+use Rattle.nomos_legal.specs.StandsFor.{IsSettled, StandsFor, StandsNamed}
 use Rattle.nomos_legal.specs.declared.journal.Entry.{Entry}
 use Rattle.nomos_legal.specs.declared.journal.Journal.{Journal}
 use Rattle.nomos_legal.specs.declared.resolved.Resolved.{Resolved}
 use Rattle.nomos_legal.proofs.DebitLaws.{passage-debits}
-use Rattle.nomos_legal.proofs.SettledLaws.{IsCounted, counted-stands, deposited-counted, empty-stands}
+use Rattle.nomos_legal.proofs.SettledLaws.{counted-stands, deposited-counted, empty-stands}
 use Rattle.nomos_legal.proofs.StartLaws.{Started, starts-started}
 use Rattle.nomos_legal.proofs.WorldLaws.{Reached, settled-reached, reached-stands}
 
@@ -64,42 +64,37 @@ runs-right {a} accepted {l} settled pids t is k =
 
 -- ---- passages
 
--- what holds of each ledger between passages
-pub record Standing (a : Acceptance) (l : LedgerState) : Type 0 where
-  pub stands : StandsFor a l
-  pub counted : IsCounted l
-
 -- what is proved of a passage, debits apart
 record Passes (a : Acceptance) (p : Passage) : Type 0 where
   before : IsRight a p.before.deposits p.before.state
   firings : RunsRight a p.before.deposits p.start.state (firings_in p.entry)
   after : IsRight a p.after.deposits p.after.state
-  standing : Standing a p.after
+  standing : StandsNamed a p.after
 
 module _ {a : Acceptance} (accepted : IsAccepted a) where
-  standing-right : {l : LedgerState} → Standing a l → IsRight a l.deposits l.state
+  standing-right : {l : LedgerState} → StandsNamed a l → IsRight a l.deposits l.state
   standing-right standing = settled-right accepted standing.stands.settled
 
   -- without firings
-  still-right : {l : LedgerState} → Standing a l → RunsRight a l.deposits l.state []
+  still-right : {l : LedgerState} → StandsNamed a l → RunsRight a l.deposits l.state []
   still-right {l} standing = runs-right accepted standing.stands.settled [] l.state refl
 
   -- a deposit that fits
-  deposited-standing : {l : LedgerState} (name : List ℕ) (units : ℕ) → FitsDeposits l units → Standing a l
-      → Standing a (deposited a.annotations.unit l name units)
+  deposited-standing : {l : LedgerState} (name : List ℕ) (units : ℕ) → FitsDeposits l units → StandsNamed a l
+      → StandsNamed a (deposited a.annotations.unit l name units)
   deposited-standing {l} name units fits standing = record {
     stands = counted-stands accepted l standing.counted name units fits standing.stands;
     counted = deposited-counted accepted l standing.counted name units fits;
   }
 
   -- the start of a batch
-  pub batch-started : {l : LedgerState} {lines : List Start} {starts : List Resolved} → Standing a l
+  pub batch-started : {l : LedgerState} {lines : List Start} {starts : List Resolved} → StandsNamed a l
       → AllStart a l lines starts → Started a (length starts) l (after_starts a l starts)
   batch-started standing begun = starts-started accepted standing.stands.settled standing.counted begun
 
   -- its firings
   batch-right : {l : LedgerState} {lines : List Start} {starts : List Resolved} (pids : List ℕ) {t : State}
-      → Standing a l → AllStart a l lines starts → run a (after_starts a l starts).state pids ≡ Some t
+      → StandsNamed a l → AllStart a l lines starts → run a (after_starts a l starts).state pids ≡ Some t
       → RunsRight a l.deposits (after_starts a l starts).state pids
   batch-right {l} {starts = starts} pids {t} standing begun reached =
       let start = batch-started standing begun in
@@ -108,8 +103,8 @@ module _ {a : Acceptance} (accepted : IsAccepted a) where
 
   -- what it leaves, where it stays
   kept-standing : {l : LedgerState} {lines : List Start} {starts : List Resolved} (pids : List ℕ) {t : State}
-      → Standing a l → AllStart a l lines starts → run a (after_starts a l starts).state pids ≡ Some t
-      → IsQuiet a t × ¬ (HasTransaction t) → Standing a (record (after_starts a l starts) { state = cleared t })
+      → StandsNamed a l → AllStart a l lines starts → run a (after_starts a l starts).state pids ≡ Some t
+      → IsQuiet a t × ¬ (HasTransaction t) → StandsNamed a (record (after_starts a l starts) { state = cleared t })
   kept-standing pids {t} standing begun reached ends =
       let start = batch-started standing begun in
       let there = settled-reached accepted start.settled pids t reached in
@@ -119,7 +114,7 @@ module _ {a : Acceptance} (accepted : IsAccepted a) where
       }
 
   -- an item without firings at which nothing changes
-  unchanged : (item : ScriptItem) (entry : Option Entry) → firings_in entry ≡ [] → {l : LedgerState} → Standing a l
+  unchanged : (item : ScriptItem) (entry : Option Entry) → firings_in entry ≡ [] → {l : LedgerState} → StandsNamed a l
       → Passes a (still item entry l l)
   unchanged item entry none {l} standing = record {
     before = standing-right standing;
@@ -128,7 +123,7 @@ module _ {a : Acceptance} (accepted : IsAccepted a) where
     standing = standing;
   }
 
-  passage-passes : {most : ℕ} {p : Passage} → IsPassage a most p → Standing a p.before → Passes a p
+  passage-passes : {most : ℕ} {p : Passage} → IsPassage a most p → StandsNamed a p.before → Passes a p
   passage-passes (passage.deposit l line units name fits) standing =
       let after = deposited-standing name units fits standing in
       record {
@@ -155,10 +150,10 @@ module _ {a : Acceptance} (accepted : IsAccepted a) where
   }
   passage-passes (passage.shown l line) standing = unchanged _ _ refl standing
 
-  pub passage-standing : {most : ℕ} {p : Passage} → IsPassage a most p → Standing a p.before → Standing a p.after
+  pub passage-standing : {most : ℕ} {p : Passage} → IsPassage a most p → StandsNamed a p.before → StandsNamed a p.after
   passage-standing is standing = (passage-passes is standing).standing
 
-  passage-right : {most : ℕ} {p : Passage} → IsPassage a most p → Standing a p.before → GoesRight a p
+  passage-right : {most : ℕ} {p : Passage} → IsPassage a most p → StandsNamed a p.before → GoesRight a p
   passage-right is standing =
       let passes = passage-passes is standing in
       record {
@@ -171,20 +166,20 @@ module _ {a : Acceptance} (accepted : IsAccepted a) where
 -- ---- journals
 
 leads-right : {a : Acceptance} → IsAccepted a → {limit made : ℕ} {l last : LedgerState} {ps : List Passage}
-    → Leads a limit made l ps last → Standing a l → AllGoRight a ps × Standing a last
+    → Leads a limit made l ps last → StandsNamed a l → AllGoRight a ps × StandsNamed a last
 leads-right {a} accepted (legal.done made l) standing = (All-nil (GoesRight a), standing)
 leads-right {a} accepted (legal.passes made p ps last is rest) standing =
     let (others, after) = leads-right accepted rest (passage-standing accepted is standing) in
     (All-cons (GoesRight a) p ps (passage-right accepted is standing) others, after)
 
-pub empty-standing : (a : Acceptance) → Standing a empty_ledger
+pub empty-standing : (a : Acceptance) → StandsNamed a empty_ledger
 empty-standing a = record { stands = empty-stands a; counted = refl }
 
 -- What a reader of a legal journal relies on: all its passages go right, those of batches that are undone too, and the
 -- ledger to which it leads stands for the program; from any ledger that stands.
-pub legal-right-from : {a : Acceptance} → IsAccepted a → {first : LedgerState} → Standing a first
+pub legal-right-from : {a : Acceptance} → IsAccepted a → {first : LedgerState} → StandsNamed a first
     → {items : List ScriptItem} {journal : Journal} {ps : List Passage} {last : LedgerState}
-    → TellsFrom a first items journal ps last → AllGoRight a ps × Standing a last
+    → TellsFrom a first items journal ps last → AllGoRight a ps × StandsNamed a last
 legal-right-from {a} accepted standing tells = leads-right accepted tells.leads standing
 
 pub legal-right : {a : Acceptance} → IsAccepted a → {items : List ScriptItem} {journal : Journal} {ps : List Passage}

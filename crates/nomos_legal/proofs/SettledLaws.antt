@@ -21,7 +21,7 @@ use Rattle.nomos_machine.proofs.PreservationLaws.{ready-told, ready-none}
 use Rattle.nomos_machine.proofs.StartingLaws.{credited-typed, opened-typed, empty-typed}
 use Rattle.nomos_legal.specs.Ending.{HasTransaction}
 use Rattle.nomos_legal.specs.Ledger.{Contracts, LedgerState, IsLedger, FitsDeposits, account_of, accounts_with, deposited, empty_ledger, state_with}
-use Rattle.nomos_legal.specs.StandsFor.{IsSettled, StandsFor}
+use Rattle.nomos_legal.specs.StandsFor.{IsSettled, NamesBalances, StandsFor}
 
 -- ---- gas
 
@@ -103,10 +103,6 @@ empty-stands a = record {
 
 -- ---- deposits
 
--- there is a name for each balance
-abbrev pub IsCounted : LedgerState → Type 0
-IsCounted l = length l.accounts ≡ length l.state.balances
-
 -- contracts are contracts where their names keep their types
 pub contracts-kept : {a : Acceptance} {s t : State} → KeepsContracts a s t → (contracts : Contracts)
     → All (λ c. IsContractName a s c.1) contracts → All (λ c. IsContractName a t c.1) contracts
@@ -158,7 +154,7 @@ with-objects s gas (Some n) = append-nil s.objects
 with-objects s gas None = refl
 
 -- and leaves a name for each balance
-with-counted : (l : LedgerState) (name : List ℕ) (gas : ℕ) (found : Option ℕ) → IsCounted l
+with-counted : (l : LedgerState) (name : List ℕ) (gas : ℕ) (found : Option ℕ) → NamesBalances l
     → length (accounts_with l.accounts name found) ≡ length (state_with l.state gas found).balances
 with-counted l name gas (Some n) counted =
     omega (arith, counted, paid_in-length (Some (n, gas)) l.state.balances)
@@ -166,9 +162,9 @@ with-counted l name gas None counted =
     omega (arith, counted, length-append l.accounts (name ∷ []), length-append l.state.balances (gas ∷ []))
 
 -- What a deposit that fits leaves, of a ledger with a name for each balance: it is settled or stands as the one before.
-module _ {a : Acceptance} (accepted : IsAccepted a) (l : LedgerState) (counted : IsCounted l) (name : List ℕ)
+module _ {a : Acceptance} (accepted : IsAccepted a) (l : LedgerState) (counted : NamesBalances l) (name : List ℕ)
     (units : ℕ) (fits : FitsDeposits l units) where
-  pub deposited-counted : IsCounted (deposited a.annotations.unit l name units)
+  pub deposited-counted : NamesBalances (deposited a.annotations.unit l name units)
   deposited-counted = with-counted l name (units * a.annotations.unit) (account_of l.accounts name) counted
 
   counted-settled : IsSettled a l → IsSettled a (deposited a.annotations.unit l name units)

@@ -27,12 +27,12 @@ use Rattle.nomos_legal.specs.Batch.{AllStart, OneRefuses, after_start, after_sta
 use Rattle.nomos_legal.specs.Batch as batch
 use Rattle.nomos_legal.specs.Ledger.{LedgerState, IsLedger}
 use Rattle.nomos_legal.specs.Starting.{NameIsFree, Resolves}
-use Rattle.nomos_legal.specs.StandsFor.{IsSettled}
+use Rattle.nomos_legal.specs.StandsFor.{NamesBalances, IsSettled}
 use Rattle.nomos_legal.specs.declared.refusal.Refusal.{Refusal}
 use Rattle.nomos_legal.specs.declared.resolved.Resolved.{Resolved}
 use Rattle.nomos_legal.proofs.NamedLaws.{contract-named}
 use Rattle.nomos_legal.proofs.ResolveLaws.{resolved-by, declared-s, counted-can_start}
-use Rattle.nomos_legal.proofs.SettledLaws.{IsCounted, contracts-kept}
+use Rattle.nomos_legal.proofs.SettledLaws.{contracts-kept}
 
 -- ---- the process that starts
 
@@ -83,11 +83,11 @@ pub record HasStarted (n : ℕ) (l m : LedgerState) : Type 0 where
 -- what so many starts leave
 pub record Started (a : Acceptance) (n : ℕ) (l m : LedgerState) : Type 0 where
   pub settled : IsSettled a m
-  pub counted : IsCounted m
+  pub counted : NamesBalances m
   pub counts : HasStarted n l m
 
-module _ {a : Acceptance} (accepted : IsAccepted a) {l : LedgerState} (settled : IsSettled a l) (counted : IsCounted l)
-    {start : Start} {r : Resolved} (resolves : Resolves a l start (Ok r)) where
+module _ {a : Acceptance} (accepted : IsAccepted a) {l : LedgerState} (settled : IsSettled a l)
+    (counted : NamesBalances l) {start : Start} {r : Resolved} (resolves : Resolves a l start (Ok r)) where
   can : CanStartWith a l.state r.proc.0 r.values r.names r.payer
   can = counted-can_start settled counted resolves
 
@@ -193,7 +193,7 @@ pub after_starts-push : (a : Acceptance) (l : LedgerState) (rs : List Resolved) 
     → after_starts a l (rs ++ r ∷ []) ≡ after_start a (after_starts a l rs) r
 after_starts-push a l rs r = after_starts-append a l rs (r ∷ [])
 
-started-none : {a : Acceptance} {l : LedgerState} → IsSettled a l → IsCounted l → Started a 0 l l
+started-none : {a : Acceptance} {l : LedgerState} → IsSettled a l → NamesBalances l → Started a 0 l l
 started-none settled counted = record {
   settled = settled;
   counted = counted;
@@ -215,7 +215,7 @@ started-more first others = record {
 
 -- after the starts of a settled ledger
 pub starts-started : {a : Acceptance} → IsAccepted a → {l : LedgerState} {starts : List Start} {rs : List Resolved}
-    → IsSettled a l → IsCounted l → AllStart a l starts rs → Started a (length rs) l (after_starts a l rs)
+    → IsSettled a l → NamesBalances l → AllStart a l starts rs → Started a (length rs) l (after_starts a l rs)
 starts-started accepted settled counted (batch.none l) = started-none settled counted
 starts-started accepted settled counted (batch.line l start r starts rs resolves others) =
     let first = start-started accepted settled counted resolves in

@@ -1,5 +1,5 @@
 -- Ledgers and worlds that stand for an accepted program, and what the calls on them answer.
-use Rattle.std.specs.Prelude.{◌≡◌, ℕ, ◌*◌, ◌<◌, ◌^◌, List, [], All}
+use Rattle.std.specs.Prelude.{◌≡◌, ℕ, ◌*◌, ◌<◌, ◌^◌, List, [], All, length}
 use Rattle.nomos_types.specs.Acceptance.{Acceptance}
 use Rattle.nomos_machine.specs.Run.{IsQuiet}
 use Rattle.nomos_machine.specs.State.{gas_of}
@@ -26,6 +26,15 @@ pub record StandsFor (a : Acceptance) (l : LedgerState) : Type 0 where
   pub settled : IsSettled a l
   pub quiet : IsQuiet a l.state
   pub no_transaction : ¬ (HasTransaction l.state)
+
+-- There is a name for each balance.
+abbrev pub NamesBalances : LedgerState → Type 0
+NamesBalances l = length l.accounts ≡ length l.state.balances
+
+-- What holds of each ledger between the items of a script: it stands, and there is a name for each balance.
+pub record StandsNamed (a : Acceptance) (l : LedgerState) : Type 0 where
+  pub stands : StandsFor a l
+  pub counted : NamesBalances l
 
 -- The world's origin stands for the program, its start is settled, its contracts are those of its start, and its state
 -- is the one that its firings reach from its start, each at its instruction.

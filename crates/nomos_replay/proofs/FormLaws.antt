@@ -42,6 +42,7 @@ use Rattle.nomos_legal.specs.Legal as legal
 use Rattle.nomos_legal.specs.NextNumbers.{HasNumbered, PassageNumbers}
 use Rattle.nomos_legal.specs.Passage.{IsPassage, Passage, RunsTo}
 use Rattle.nomos_legal.specs.Passage as passage
+use Rattle.nomos_legal.specs.StandsFor.{StandsNamed}
 use Rattle.nomos_legal.specs.Starting.{Resolves}
 use Rattle.nomos_legal.specs.Starting as starting
 use Rattle.nomos_legal.specs.declared.journal.End.{End}
@@ -51,7 +52,7 @@ use Rattle.nomos_legal.specs.declared.refusal.Refusal.{Refusal}
 use Rattle.nomos_legal.specs.declared.refusal.Refusal.TheVariants as refusal
 use Rattle.nomos_legal.specs.declared.resolved.Resolved.{Resolved}
 use Rattle.nomos_legal.proofs.NextNumberLaws.{given-few, legal-numbers-from}
-use Rattle.nomos_legal.proofs.RightLaws.{Standing, batch-started, empty-standing, passage-standing}
+use Rattle.nomos_legal.proofs.RightLaws.{batch-started, empty-standing, passage-standing}
 use Rattle.nomos_texts.specs.Cause.{IsCause}
 use Rattle.nomos_texts.specs.End.{IsEnd}
 use Rattle.nomos_journal.specs.JournalText.{fired_line, firing_line, firing_lines, journal_lines, passage_lines, placed_line}
@@ -245,7 +246,8 @@ module _ {a : Acceptance} (accepted : IsAccepted a) where
       (All-cons IsLine (line.End e) [] is (All-nil IsLine))
 
   run-form : (v : Version) (b : Batch) (starts : List Resolved) (pids : List ℕ) (last : State) (e : End)
-      {l : LedgerState} {n : ℕ} (most : ℕ) → n + 2 ≤ 2 ^ 32 → most < 2 ^ 32 → Standing a l → AllStart a l b.starts starts
+      {l : LedgerState} {n : ℕ} (most : ℕ) → n + 2 ≤ 2 ^ 32 → most < 2 ^ 32 → StandsNamed a l
+      → AllStart a l b.starts starts
       → RunsTo a most (after_starts a l starts).state pids last e
       → ((k : ℕ) (u : State) → run a (after_starts a l starts).state (take k pids) ≡ Some u → HasNumbered n u)
       → b.line < line_bound
@@ -267,7 +269,7 @@ module _ {a : Acceptance} (accepted : IsAccepted a) where
       (All-nil IsLine)
 
   passage-form : (v : Version) {most n : ℕ} {p : Passage} → IsPassage a most p → n + 2 ≤ 2 ^ 32 → most < 2 ^ 32
-      → Standing a p.before → PassageNumbers a n p → IsWrittenItem p.item → All IsLine (passage_lines v a p)
+      → StandsNamed a p.before → PassageNumbers a n p → IsWrittenItem p.item → All IsLine (passage_lines v a p)
   passage-form v (passage.deposit l at units name fits) few small standing numbers written =
       two-forms at end.Deposited written.0 tt
   passage-form v (passage.no_deposit l at units name never) few small standing numbers written =
@@ -284,7 +286,7 @@ module _ {a : Acceptance} (accepted : IsAccepted a) where
   -- ---- journals
 
   leads-form : (v : Version) {limit made n : ℕ} {l last : LedgerState} {ps : List Passage} → Leads a limit made l ps last
-      → n + 2 ≤ 2 ^ 32 → limit < 2 ^ 32 → Standing a l → All (PassageNumbers a n) ps
+      → n + 2 ≤ 2 ^ 32 → limit < 2 ^ 32 → StandsNamed a l → All (PassageNumbers a n) ps
       → All IsWrittenItem (map (λ p. p.item) ps) → All IsLine (flat_map (passage_lines v a) ps)
   leads-form v (legal.done made l) few small standing numbers written = All-nil IsLine
   leads-form v {limit} {n = n} (legal.passes made p ps last is rest) few small standing numbers written =
@@ -297,7 +299,7 @@ module _ {a : Acceptance} (accepted : IsAccepted a) where
 
   -- Each line of the text of a legal journal is a line, where the items are as a script has them, from any ledger that
   -- is not too far on.
-  pub journal-form-from : {first : LedgerState} → Standing a first → HasNumbered (2 ^ 31) first.state
+  pub journal-form-from : {first : LedgerState} → StandsNamed a first → HasNumbered (2 ^ 31) first.state
       → {items : List ScriptItem} {journal : Journal} {ps : List Passage} {last : LedgerState} (v : Version)
       → IsScriptSize items → AreWritten items → TellsFrom a first items journal ps last
       → All IsLine (journal_lines v a journal.limit ps)

@@ -10,10 +10,10 @@ use Rattle.nomos_script.specs.Size.{IsScriptSize}
 use Rattle.nomos_legal.specs.Ledger.{IsLedger, LedgerState, empty_ledger}
 use Rattle.nomos_legal.specs.Legal.{IsLimit, TellsFrom, batch_limit, max_firings}
 use Rattle.nomos_legal.specs.NextNumbers.{HasNumbered}
-use Rattle.nomos_legal.specs.StandsFor.{StandsFor}
+use Rattle.nomos_legal.specs.StandsFor.{StandsNamed, StandsFor}
 use Rattle.nomos_legal.specs.declared.journal.Entry.{Entry}
 use Rattle.nomos_legal.specs.declared.journal.Journal.{Journal}
-use Rattle.nomos_legal.proofs.RightLaws.{Standing, legal-right-from}
+use Rattle.nomos_legal.proofs.RightLaws.{legal-right-from}
 use Rattle.nomos_journal.specs.JournalText.{journal_lines}
 use Rattle.nomos_journal.specs.Text.{lines_text}
 use Rattle.nomos_journal.specs.declared.line.Version.{Version}
@@ -43,7 +43,7 @@ use Rattle.nomos_replay.proofs.ReadingLemmas.{carries-on, carries-same, stops-la
 use Rattle.nomos_replay.proofs.RoundTripLaws.{legal-answer}
 
 -- a ledger that stands has a name for each balance
-pub ledger-standing : {a : Acceptance} {l : LedgerState} → StandsFor a l → IsLedger l → Standing a l
+pub ledger-standing : {a : Acceptance} {l : LedgerState} → StandsFor a l → IsLedger l → StandsNamed a l
 ledger-standing stands ledger = record { stands = stands; counted = ledger.each_account }
 
 module _ (a : Acceptance) (v : Version) (first : LedgerState) (limit : ℕ) where
@@ -67,7 +67,7 @@ module _ (a : Acceptance) (v : Version) (first : LedgerState) (limit : ℕ) wher
     told-accepted = come-accepted so.come
 
     -- the ledger stands for it
-    pub told-stands : IsAccepted a → Standing a first → StandsFor a l
+    pub told-stands : IsAccepted a → StandsNamed a first → StandsFor a l
     told-stands accepted standing = (legal-right-from accepted standing so.come.tells).1.stands
 
     -- a batch may make firings still
@@ -85,7 +85,7 @@ module _ (a : Acceptance) (v : Version) (first : LedgerState) (limit : ℕ) wher
   -- there is room for the next item
   pub told-room : {source : Source} (items : List ScriptItem) (n : ℕ) {left : List ScriptItem} {later : Reading}
       {l : LedgerState} {w : WalkState} → ToldUpTo a v first limit source items (take n items) left later l w
-      → IsAccepted a → Standing a first → HasNumbered (2 ^ 31) first.state → length first.accounts < 2 ^ 31
+      → IsAccepted a → StandsNamed a first → HasNumbered (2 ^ 31) first.state → length first.accounts < 2 ^ 31
       → (i : ScriptItem) → IsScriptSize items → take (n + 1) items ≡ take n items ++ i ∷ [] → HasRoomFor w l i
   told-room items n so accepted standing numbers few i size more =
       come-room items n so.come accepted standing numbers few i size more
@@ -258,7 +258,7 @@ module _ (a : Acceptance) (first : LedgerState) (items : List ScriptItem) (text 
     pub all-refused : IfErr r (IsRefusedFrom a first items text)
     all-refused = MatchResult-weaker r answer (λ x _. tt) (λ e refused. refused)
 
-    pub all-stand : IsAccepted a → Standing a first → IfOk r (λ x. StandsFor a (ledger_in x))
+    pub all-stand : IsAccepted a → StandsNamed a first → IfOk r (λ x. StandsFor a (ledger_in x))
     all-stand accepted standing =
         MatchResult-weaker r answer
         (λ x is. (legal-right-from accepted standing
@@ -309,7 +309,7 @@ module _ (a : Acceptance) (first : LedgerState) (items : List ScriptItem) (text 
       (λ e stops. refused-so a first items text within e (stops-later a first items carries e (stops items)))
 
 -- the text of a legal journal has lines, and is short enough to be read
-pub text-legal : {a : Acceptance} → IsAccepted a → {first : LedgerState} → Standing a first
+pub text-legal : {a : Acceptance} → IsAccepted a → {first : LedgerState} → StandsNamed a first
     → HasNumbered (2 ^ 31) first.state → {items : List ScriptItem} → IsScriptSize items → AreWritten items
     → (v : Version) (journal : Journal) {text : List ℕ} → IsTextFrom v a first items journal text
     → IsLegalText a first items journal text

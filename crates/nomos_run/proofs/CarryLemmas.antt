@@ -12,14 +12,14 @@ use Rattle.nomos_script.specs.declared.item.Batch.{Batch}
 use Rattle.nomos_script.specs.declared.item.ScriptItem.{ScriptItem}
 use Rattle.nomos_legal.proofs.FollowLaws.{follow-more, follow-none}
 use Rattle.nomos_legal.proofs.LegalLaws.{tells-none-from}
-use Rattle.nomos_legal.proofs.RightLaws.{Standing, legal-right-from}
+use Rattle.nomos_legal.proofs.RightLaws.{legal-right-from}
 use Rattle.nomos_legal.specs.Ending.{IsAllowed}
 use Rattle.nomos_legal.specs.Leaving.{left_by, passage_of}
 use Rattle.nomos_legal.specs.Ledger.{IsLedger, LedgerState, empty_ledger}
 use Rattle.nomos_legal.specs.Legal.{IsLimit, TellsFrom, batch_limit, max_firings}
 use Rattle.nomos_legal.specs.NextNumbers.{HasNumbered}
 use Rattle.nomos_legal.specs.Passage.{Passage}
-use Rattle.nomos_legal.specs.StandsFor.{StandsFor}
+use Rattle.nomos_legal.specs.StandsFor.{StandsNamed, StandsFor}
 use Rattle.nomos_legal.specs.World.{WorldState}
 use Rattle.nomos_legal.specs.declared.journal.End.{End}
 use Rattle.nomos_legal.specs.declared.journal.Entry.{Entry}
@@ -155,18 +155,18 @@ gone-more {a = a} {first} {orders} {items} {entries} {l = l} {w = w} {v = v} {i 
     }
 
 -- a ledger that stands has a name for each balance
-pub ledger-standing : {a : Acceptance} {l : LedgerState} → StandsFor a l → IsLedger l → Standing a l
+pub ledger-standing : {a : Acceptance} {l : LedgerState} → StandsFor a l → IsLedger l → StandsNamed a l
 ledger-standing stands ledger = record { stands = stands; counted = ledger.each_account }
 
 module _ {a : Acceptance} {first : LedgerState} {orders : Orders} (items : List ScriptItem) (n : ℕ)
     {entries : List Entry} {l : LedgerState} {w : WalkState}
     (gone : HasGone a first orders (take n items) entries l w) where
   -- the ledger stands for the program
-  pub gone-stands : IsAccepted a → Standing a first → StandsFor w.accepted l
+  pub gone-stands : IsAccepted a → StandsNamed a first → StandsFor w.accepted l
   gone-stands accepted standing = come-stands gone.come accepted standing
 
   -- there is room for the next item
-  pub gone-room : IsAccepted a → Standing a first → HasNumbered (2 ^ 31) first.state
+  pub gone-room : IsAccepted a → StandsNamed a first → HasNumbered (2 ^ 31) first.state
       → length first.accounts < 2 ^ 31 → (i : ScriptItem) → IsScriptSize items
       → take (n + 1) items ≡ take n items ++ i ∷ [] → HasRoomFor w l i
   gone-room accepted standing numbers few i size more =
@@ -231,7 +231,7 @@ run-so_far {a = a} {first} {items} {orders} run is journal none = record {
 
 -- what is given of a run that carried out all items
 pub run-whole : {M : Type 0} {a : Acceptance} {first : LedgerState} {items : List ScriptItem} {orders : Orders}
-    {entries : List Entry} {l : LedgerState} {w : WalkState} (run : ScriptRun M) → IsAccepted a → Standing a first
+    {entries : List Entry} {l : LedgerState} {w : WalkState} (run : ScriptRun M) → IsAccepted a → StandsNamed a first
     → HasGone a first orders items entries l w → run.journal ≡ journal_of orders.limit entries
     → IfSome run.finished (IsWholeOf w l) → RunsScriptFrom a first items orders run
 run-whole {M} {a} {first} {items} {orders} {entries} {l} {w} run accepted standing gone journal whole = record {
@@ -274,7 +274,7 @@ run-whole {M} {a} {first} {items} {orders} {entries} {l} {w} run accepted standi
 -- what is given of a run, whole or not
 run-given : {M E : Type 0} {a : Acceptance} {first : LedgerState} {items : List ScriptItem} {orders : Orders}
     {entries : List Entry} (w : WalkState) (run : ScriptRun M) (last : Result LedgerState E) → IsAccepted a
-    → Standing a first → IfOk last (λ l. HasGone a first orders items entries l w)
+    → StandsNamed a first → IfOk last (λ l. HasGone a first orders items entries l w)
     → OnErr last (RunsSoFar a first items orders entries) → run.journal ≡ journal_of orders.limit entries
     → IfSome run.finished (λ f. IfOk last (λ l. IsWholeOf w l f)) → OnErr last (run.finished ≡ None)
     → RunsScriptFrom a first items orders run
@@ -285,7 +285,7 @@ run-given w run (Err e) accepted standing gone so_far journal whole none = run-s
 -- the same, where the program is that of the walk
 pub script-run : {M E : Type 0} {a b : Acceptance} {first : LedgerState} {items script : List ScriptItem}
     {orders : Orders} {entries : List Entry} (w : WalkState) (run : ScriptRun M) (last : Result LedgerState E) → b ≡ a
-    → items ≡ script → IsAccepted a → Standing a first → IfOk last (λ l. HasGone b first orders items entries l w)
+    → items ≡ script → IsAccepted a → StandsNamed a first → IfOk last (λ l. HasGone b first orders items entries l w)
     → OnErr last (RunsSoFar b first items orders entries) → run.journal ≡ journal_of orders.limit entries
     → IfSome run.finished (λ f. IfOk last (λ l. IsWholeOf w l f)) → OnErr last (run.finished ≡ None)
     → RunsScriptFrom a first script orders run
@@ -293,8 +293,8 @@ script-run {a = a} {b} {first} {items} {script} {orders} w run last same items_a
     whole none =
     subst (λ (is : List ScriptItem). RunsScriptFrom a first is orders run) items_are
     (subst (λ (x : Acceptance). RunsScriptFrom x first items orders run) same
-    (run-given w run last (subst IsAccepted (sym same) accepted) (subst (λ (x : Acceptance). Standing x first) (sym same)
-    standing) gone so_far journal whole none))
+    (run-given w run last (subst IsAccepted (sym same) accepted)
+    (subst (λ (x : Acceptance). StandsNamed x first) (sym same) standing) gone so_far journal whole none))
 
 -- the empty ledger is at the very beginning
 pub empty-numbers : (l : LedgerState) → l ≡ empty_ledger → HasNumbered (2 ^ 31) l.state

@@ -6,13 +6,12 @@ use Rattle.nomos_types.specs.Acceptance.{Acceptance, IsAccepted}
 use Rattle.nomos_script.specs.Size.{IsScriptSize}
 use Rattle.nomos_script.specs.declared.item.Batch.{Batch}
 use Rattle.nomos_script.specs.declared.item.ScriptItem.{ScriptItem}
-use Rattle.nomos_legal.proofs.RightLaws.{Standing}
 use Rattle.nomos_legal.specs.Ending.{IsAllowed}
 use Rattle.nomos_legal.specs.Leaving.{left_by, passage_of}
 use Rattle.nomos_legal.specs.Ledger.{IsLedger, LedgerState, empty_ledger}
 use Rattle.nomos_legal.specs.Legal.{IsLimit, batch_limit, max_firings}
 use Rattle.nomos_legal.specs.NextNumbers.{HasNumbered}
-use Rattle.nomos_legal.specs.StandsFor.{StandsFor}
+use Rattle.nomos_legal.specs.StandsFor.{StandsNamed, StandsFor}
 use Rattle.nomos_legal.specs.World.{WorldState}
 use Rattle.nomos_legal.specs.declared.journal.End.{End}
 use Rattle.nomos_ledger.specs.Running.{RunsOn}
@@ -79,7 +78,7 @@ told-more passed told item = record {
 }
 
 -- the empty ledger stands, and is at the very beginning
-pub empty-standing : (a : Acceptance) → StandsFor a empty_ledger → Standing a empty_ledger
+pub empty-standing : (a : Acceptance) → StandsFor a empty_ledger → StandsNamed a empty_ledger
 empty-standing a stands = record { stands = stands; counted = refl }
 
 pub empty-numbers : HasNumbered (2 ^ 31) empty_ledger.state

@@ -10,7 +10,7 @@ use Rattle.nomos_script.specs.declared.item.ScriptItem.{ScriptItem}
 use Rattle.nomos_script.specs.declared.item.ScriptItem.TheVariants as item
 use Rattle.nomos_legal.proofs.FollowLaws.{still-follows}
 use Rattle.nomos_legal.proofs.LegalLaws.{tells-none-from}
-use Rattle.nomos_legal.proofs.RightLaws.{Standing, legal-right-from}
+use Rattle.nomos_legal.proofs.RightLaws.{legal-right-from}
 use Rattle.nomos_legal.specs.Ending.{IsAllowed}
 use Rattle.nomos_legal.specs.Leaving.{left_by, passage_of}
 use Rattle.nomos_legal.specs.Ledger.{LedgerState, deposited}
@@ -18,7 +18,7 @@ use Rattle.nomos_legal.specs.Legal.{IsLimit, PassesBy, TellsFrom, batch_limit, m
 use Rattle.nomos_legal.specs.NextNumbers.{HasNumbered}
 use Rattle.nomos_legal.specs.Passage.{IsPassage, Passage}
 use Rattle.nomos_legal.specs.Passage as passage
-use Rattle.nomos_legal.specs.StandsFor.{StandsFor, WorldStandsFor}
+use Rattle.nomos_legal.specs.StandsFor.{StandsNamed, StandsFor, WorldStandsFor}
 use Rattle.nomos_legal.specs.World.{WorldState}
 use Rattle.nomos_legal.specs.declared.journal.End.{End}
 use Rattle.nomos_legal.specs.declared.journal.End.TheVariants as end
@@ -132,7 +132,7 @@ module _ {a : Acceptance} {first : LedgerState} {limit : ℕ} {wanted : WantedTe
   come-accepted = ap (λ (x : WalkState). x.accepted) come.walk
 
   -- its ledger stands for the program
-  pub come-stands : IsAccepted a → Standing a first → StandsFor w.accepted l
+  pub come-stands : IsAccepted a → StandsNamed a first → StandsFor w.accepted l
   come-stands accepted standing =
       subst (λ (b : Acceptance). StandsFor b l) (sym come-accepted)
       (legal-right-from accepted standing come.tells).1.stands
@@ -144,7 +144,7 @@ module _ {a : Acceptance} {first : LedgerState} {limit : ℕ} {wanted : WantedTe
 -- Where the first ledger is not too far on, there is room for the next item.
 pub come-room : {a : Acceptance} {first : LedgerState} {limit : ℕ} {wanted : WantedTexts} (items : List ScriptItem)
     (n : ℕ) {entries : List Entry} {ps : List Passage} {l : LedgerState} {w : WalkState}
-    → HasCome a first limit wanted (take n items) entries ps l w → IsAccepted a → Standing a first
+    → HasCome a first limit wanted (take n items) entries ps l w → IsAccepted a → StandsNamed a first
     → HasNumbered (2 ^ 31) first.state → length first.accounts < 2 ^ 31 → (i : ScriptItem) → IsScriptSize items
     → take (n + 1) items ≡ take n items ++ i ∷ [] → HasRoomFor w l i
 come-room {wanted = wanted} items n {l = l} come accepted standing numbers few i size more =

@@ -7,7 +7,6 @@ use Rattle.nomos_script.specs.declared.item.ScriptItem.{ScriptItem}
 use Rattle.nomos_script.specs.declared.item.ScriptItem.TheVariants as item
 use Rattle.nomos_legal.proofs.LegalLaws.{tells-within}
 use Rattle.nomos_legal.proofs.NextNumberLaws.{last-numbers-from}
-use Rattle.nomos_legal.proofs.RightLaws.{Standing}
 use Rattle.nomos_legal.proofs.StartLaws.{starts-same}
 use Rattle.nomos_legal.specs.Ledger.{LedgerState, account_of, accounts_with}
 use Rattle.nomos_legal.specs.Legal.{Leads, TellsFrom, batch_limit, entries_of, firings_made, max_firings}
@@ -15,7 +14,7 @@ use Rattle.nomos_legal.specs.Legal as legal
 use Rattle.nomos_legal.specs.NextNumbers.{HasNumbered, numbers_given}
 use Rattle.nomos_legal.specs.Passage.{IsPassage, Passage}
 use Rattle.nomos_legal.specs.Passage as passage
-use Rattle.nomos_legal.specs.StandsFor.{WorldStandsFor}
+use Rattle.nomos_legal.specs.StandsFor.{StandsNamed, WorldStandsFor}
 use Rattle.nomos_legal.specs.World.{WorldState}
 use Rattle.nomos_legal.specs.declared.journal.Entry.{Entry}
 use Rattle.nomos_ledger.specs.Beginning.{HasBegun}
@@ -103,7 +102,7 @@ front-counts (suc n) (item.Show line ∷ items) =
 -- ---- room
 
 -- behind the first items of a script there is room for the next one
-pub walk-room : {a : Acceptance} → IsAccepted a → {first : LedgerState} → Standing a first
+pub walk-room : {a : Acceptance} → IsAccepted a → {first : LedgerState} → StandsNamed a first
     → HasNumbered (2 ^ 31) first.state → length first.accounts < 2 ^ 31 → {items : List ScriptItem} {limit : ℕ}
     {entries : List Entry} {ps : List Passage} {l : LedgerState} (wanted : WantedTexts) (n : ℕ) (i : ScriptItem)
     → IsScriptSize items → take (n + 1) items ≡ take n items ++ i ∷ []
