@@ -8,6 +8,7 @@ use crate::gathering::gather;
 use crate::pool::Submission;
 use nomos_ir::items::Items;
 use nomos_script::item::{Batch, ScriptItem, ScriptItems};
+use nomos_script::script::Script;
 use std::alloc::{AllocError, Global};
 use std::sync::Wait;
 use std::thread::Threads;
@@ -136,4 +137,23 @@ pub fn pool_items<R: Threads + Wait + Sync>(
     let mut items = items.into_vec();
     gather_from(rt, alloc, &mut items, place, threads)?;
     Ok(Ok(Items::of_vec(items)))
+}
+
+/// What a script comes to where so many threads submit its single lines `exec`: `pool_items` of its items, which make a
+/// script again, or the line that is refused. Lines are counted from 1.
+pub fn pool_script<R: Threads + Wait + Sync>(
+    rt: &R,
+    alloc: Global,
+    script: Script,
+    threads: u32,
+) -> Result<Result<Script, u32>, AllocError>
+    requires some { 0 < threads }
+    ensures pools { IfOk result (PoolsTo threads script) }
+    ensures alone { (line : ℕ) → result ≡ Ok (Err line)
+        → (other : Result (List Said) ℕ) → PoolsTo threads script other → other ≡ Err line }
+{
+    match pool_items(rt, alloc, script.into_items(), threads)? {
+        Ok(items) => Ok(Ok(Script::of_items(items))),
+        Err(line) => Ok(Err(line)),
+    }
 }

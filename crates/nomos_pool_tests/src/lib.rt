@@ -1,9 +1,12 @@
-//! Tests: a pool with room for one item, threads that submit, and scripts whose single lines threads submit.
+//! Tests: a pool with room for one item, threads that submit, and scripts whose single lines threads submit,
+//! run on a ledger too.
 #![tactic(auto)]
 
 #[cfg(test)]
 mod gates;
 #[cfg(test)]
 mod pool_tests;
+#[cfg(test)]
+mod running_tests;
 #[cfg(test)]
 mod script_tests;

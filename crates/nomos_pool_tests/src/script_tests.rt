@@ -62,8 +62,8 @@ fn line_of<R: Abort + AllocGlobal>(rt: &R, line: u32, sender: &str) -> ScriptIte
     })
 }
 
-// Those who send, one after the other.
-const SENDERS: [&str; 11] = ["a", "b", "c", "d", "e", "f", "g", "h", "i", "j", "k"];
+/// Those who send, one after the other.
+pub(crate) const SENDERS: [&str; 11] = ["a", "b", "c", "d", "e", "f", "g", "h", "i", "j", "k"];
 
 // So many lines, from the first line on, of eleven senders.
 fn lines_of<R: Abort + AllocGlobal>(rt: &R, count: u32) -> Vec<ScriptItem> {
@@ -98,8 +98,8 @@ fn text_line(item: &ScriptItem) -> Option<u32> {
     }
 }
 
-// Whether the lines of an account are every eleventh one from the first on, in order, up to a count.
-fn keeps_order(items: &[ScriptItem], sender: &str, first: u32, count: u32) -> bool {
+/// Whether the lines of an account are every eleventh one from the first on, in order, up to a count.
+pub(crate) fn keeps_order(items: &[ScriptItem], sender: &str, first: u32, count: u32) -> bool {
     let mut next = first;
     for item in items {
         if is_of(item, sender) {
