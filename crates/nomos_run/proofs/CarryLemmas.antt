@@ -33,7 +33,7 @@ use Rattle.nomos_walk.specs.Walks.{HasBegunBatch, HasRoomFor, PassesAs, PassesSt
 use Rattle.nomos_walk.specs.Papers.{kept_result}
 use Rattle.nomos_walk.specs.declared.started.PassedItem.{PassedItem}
 use Rattle.nomos_workers.proofs.BatchLaws.{ran-follows}
-use Rattle.nomos_workers.specs.OneWorker.{AbortsBy, EndsBy, RunsBy}
+use Rattle.nomos_workers.specs.OneWorker.{EndsBy, RunsBy}
 use Rattle.nomos_workers.specs.Shops.{MayEnd}
 use Rattle.nomos_workers.specs.declared.batch.BatchEnd.{BatchEnd}
 use Rattle.nomos_workers.specs.declared.batch.BatchEnd.TheVariants as batch_end
@@ -99,9 +99,7 @@ batch-carried crew {before} {w = w} {v = v} ended passed under runs one finishes
           ran-passes finishes.answer passed under runs finishes.allowed finishes.ledger finishes.entry finishes.walk;
       by = λ policy is.
           let both = one policy is in
-          let aborts : AbortsBy policy a v finishes.answer =
-          (subst (λ (e : BatchEnd). EndsBy policy a most v e) finishes.ended_is both.1).1
-          in
+          let aborts = (subst (λ (e : BatchEnd). EndsBy policy a most v e) finishes.ended_is both.1).1 in
           ran-follows policy a most under.batch w v finishes.answer both.0 aborts;
     }
 

@@ -8,22 +8,12 @@ use Rattle.nomos_legal.specs.Leaving.{passage_of}
 use Rattle.nomos_legal.specs.Legal.{Aborts, PassesBy}
 use Rattle.nomos_legal.specs.World.{WorldState, pids_of, ledger_begun}
 use Rattle.nomos_legal.specs.declared.journal.End.{End}
-use Rattle.nomos_legal.specs.declared.journal.End.TheVariants as end
-use Rattle.nomos_workers.specs.OneWorker.{AbortsBy, RunsBy}
+use Rattle.nomos_workers.specs.OneWorker.{RunsBy}
 
 module _ (policy : Policy) (a : Acceptance) where
-  -- the process that an end of one worker names is the policy's
-  end-named : (w : WorldState) (e : End) → AbortsBy policy a w e
-      → Aborts (IsChosenAfter policy a (ledger_begun a w).state (pids_of w.firings) w.state) e
-  end-named w (end.Aborted pid f) aborts = aborts
-  end-named w end.Committed aborts = tt
-  end-named w end.Blocked aborts = tt
-  end-named w end.Deposited aborts = tt
-  end-named w (end.Steps n) aborts = tt
-  end-named w (end.Refused line cause) aborts = tt
-
   -- the passage of a batch that one worker ran follows the policy
   pub ran-follows : (limit : ℕ) (batch : Batch) (before after : WorldState) (e : End)
-      → RunsBy policy a limit before after → AbortsBy policy a after e
+      → RunsBy policy a limit before after
+      → Aborts (IsChosenAfter policy a (ledger_begun a after).state (pids_of after.firings) after.state) e
       → PassesBy policy a (passage_of a batch after e) (passage_of a batch after e).entry
-  ran-follows limit batch before after e ran aborts = (ran.chosen, end-named after e aborts)
+  ran-follows limit batch before after e ran aborts = (ran.chosen, aborts)

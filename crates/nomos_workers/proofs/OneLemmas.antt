@@ -3,12 +3,13 @@ use Rattle.std.proofs.Common.{◌≡◌, ◌∙◌, ℕ, ◌+◌, ◌<◌, List,
 use Rattle.std.proofs.lemmas.List.{map-append}
 use Rattle.std.proofs.lemmas.List.Elements.{All-nil, All-push}
 use Rattle.nomos_types.specs.Acceptance.{Acceptance, IsAccepted}
-use Rattle.nomos_machine.specs.Policies.{FollowsPolicy, IsChosen}
+use Rattle.nomos_machine.specs.Policies.{FollowsPolicy, IsChosen, IsChosenAfter}
 use Rattle.nomos_machine.specs.Policies as policies
 use Rattle.nomos_machine.specs.State.{State}
 use Rattle.nomos_machine.specs.declared.policy.Policy.{Policy}
 use Rattle.nomos_deeds.specs.Acting.{HasNumbers}
 use Rattle.nomos_legal.specs.Ending.{EndsAs, IsAllowed}
+use Rattle.nomos_legal.specs.Legal.{Aborts}
 use Rattle.nomos_legal.specs.StandsFor.{WorldStandsFor}
 use Rattle.nomos_legal.specs.World.{WorldState, pids_of, ledger_begun}
 use Rattle.nomos_legal.specs.declared.journal.End.{End}
@@ -18,8 +19,7 @@ use Rattle.nomos_legal.proofs.WorldLaws.{world-rises}
 use Rattle.nomos_ledger.specs.Calls.{HasFired}
 use Rattle.nomos_watch.proofs.StartLaws.{fresh-start}
 use Rattle.nomos_ledger.specs.Running.{MayRun}
-use Rattle.nomos_workers.specs.OneWorker.{AbortsBy}
-use Rattle.nomos_workers.specs.mirror.Steps.{AbortsAt, HasMade, firing_of}
+use Rattle.nomos_workers.specs.mirror.Steps.{HasMade, firing_of}
 use Rattle.nomos_workers.proofs.PolicyLaws.{follows-push}
 
 -- worlds with one origin and the same starts have one start
@@ -91,7 +91,8 @@ module _ (p : Policy) (a : Acceptance) where
 
   -- an abort there is the policy's
   pub made-aborts : (made last : ℕ) (before w : WorldState) (e : End) → HasMade p a made last before w
-      → AbortsAt p a last w e → AbortsBy p a w e
+      → Aborts (IsChosen p a w.state last) e
+      → Aborts (IsChosenAfter p a (ledger_begun a w).state (pids_of w.firings) w.state) e
   made-aborts made last before w (end.Aborted pid f) has chosen =
       record { last = last; follows = has.follows; chosen = chosen }
   made-aborts made last before w end.Committed has chosen = tt
@@ -102,7 +103,7 @@ module _ (p : Policy) (a : Acceptance) where
 
   -- an end that a state gives is no abort
   pub ends-no_abort : (s : State) (count limit last : ℕ) (w : WorldState) (e : End) → EndsAs a s count limit e
-      → IsAllowed a s count limit e × AbortsAt p a last w e
+      → IsAllowed a s count limit e × Aborts (IsChosen p a w.state last) e
   ends-no_abort s count limit last w end.Committed ends = (ends, tt)
   ends-no_abort s count limit last w end.Blocked ends = (ends, tt)
   ends-no_abort s count limit last w (end.Steps n) ends = (ends, tt)
@@ -112,7 +113,8 @@ module _ (p : Policy) (a : Acceptance) where
 
   -- what the policy fired, and an end there
   pub made-ends : (limit made last : ℕ) (before w u : WorldState) (e : End) → HasMade p a made last before w → u ≡ w
-      → IsAllowed a w.state (length w.firings) limit e → AbortsAt p a last w e
-      → IsAllowed a u.state (length u.firings) limit e × AbortsBy p a u e
+      → IsAllowed a w.state (length w.firings) limit e → Aborts (IsChosen p a w.state last) e
+      → IsAllowed a u.state (length u.firings) limit e
+      × Aborts (IsChosenAfter p a (ledger_begun a u).state (pids_of u.firings) u.state) e
   made-ends limit made last before w u e has same allowed aborts =
       rw same (allowed, made-aborts made last before w e has aborts)
