@@ -7,3 +7,4 @@ mod ContractLemmas
 mod LeftLemmas
 pub mod SpentLaws
 pub mod PassageLaws
+pub mod NothingLeftOutLaws

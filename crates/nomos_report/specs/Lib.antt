@@ -2,4 +2,5 @@ pub mod Lines
 pub mod Block
 pub mod Shown
 pub mod Reported
+pub mod NothingLeftOut
 pub mod mirror
