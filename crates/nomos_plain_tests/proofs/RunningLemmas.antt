@@ -1,10 +1,12 @@
 -- What a run keeps at each of its calls.
-use Rattle.std.proofs.Common.{◌≡◌, ◌<◌, ◌≤◌, ◌+◌, ◌-◌, ◌^◌, inl, inr, ℕ, List, [], map, length, All, Option, Some, IfSome, slice_get, slice_index, refl, sym, subst, arith}
+use Rattle.std.proofs.Common.{◌≡◌, ◌∙◌, ◌<◌, ◌≤◌, ◌+◌, ◌-◌, ◌^◌, inl, inr, ℕ, List, [], map, length, All, Option, Some, None, IfSome, slice_get, slice_index, refl, sym, ap, subst, arith}
 use Rattle.std.specs.List.{zip}
+use Rattle.std.specs.Option.{option_map}
 use Rattle.std.proofs.lemmas.List.Elements.{All-nil}
 use Rattle.std.proofs.lemmas.Option.{slice_get_cases, slice_get_within, get_or_from_slice_get}
 use Rattle.nomos_ir.specs.Value.{Value}
 use Rattle.nomos_ir.specs.Paired.{PairedInOrder, none as no_pair}
+use Rattle.nomos_ir.specs.declared.code_node.CodeNode.{CodeNode}
 use Rattle.nomos_ir.specs.declared.declaration.Par.{Par}
 use Rattle.nomos_ir.specs.declared.declaration.ProcDecl.{ProcDecl}
 use Rattle.nomos_ir.specs.declared.ids.TypeId.{TypeId}
@@ -13,14 +15,18 @@ use Rattle.nomos_types.specs.Acceptance.{Acceptance, IsAccepted}
 use Rattle.nomos_types.specs.Amount.{dths}
 use Rattle.nomos_machine.specs.Matching.{NameHasType}
 use Rattle.nomos_machine.specs.Starting.{CanStartWith, FitValues, none as no_value, opened, cleared, started_with}
-use Rattle.nomos_machine.specs.State.{State, empty, gas_of}
+use Rattle.nomos_machine.specs.State.{State, empty, gas_of, process_at}
 use Rattle.nomos_machine.specs.TypedState.{IsTyped, IsContractName}
+use Rattle.nomos_machine.specs.declared.object.Process.{Process}
 use Rattle.nomos_machine.proofs.GasLaws.{gas-opened, gas-cleared}
 use Rattle.nomos_machine.proofs.PreservationLaws.{step-keeps}
 use Rattle.nomos_machine.proofs.StartingLaws.{after_start, starts-with, started_with-typed, gas-started_with, opened-typed, cleared-typed, empty-typed}
+use Rattle.nomos_deeds.specs.Acting.{IsFrugal, IsFrugalNode}
 use Rattle.nomos_deeds.specs.Firings.{Fires}
+use Rattle.nomos_deeds.specs.Readers.{view_of}
 use Rattle.nomos_deeds.specs.declared.fire.Fire.{Fire}
 use Rattle.nomos_deeds.specs.declared.fire.Fire.TheVariants as fire
+use Rattle.nomos_deeds.specs.declared.machine.View.{View}
 use Rattle.nomos_plain_tests.specs.Running.{Running, GoesOn, TakesNothing}
 
 -- the run where its state is this one, and one call less is left
@@ -92,6 +98,26 @@ cleared-goes_on r t on is = subst (λ (u : State). GoesOn (record r { state = u 
   objects = on.objects;
   names = on.names;
 })
+
+-- ---- instructions that take no memory
+
+-- the process of a number stands at one, by what is shown of it and what stands there
+pub frugal-told : (a : Acceptance) (s : State) (pid : ℕ) (view : View) (node : CodeNode)
+    → Some view ≡ option_map view_of (process_at s pid) → Some node ≡ slice_get a.program.code view.code.0
+    → IsFrugalNode a.program node → IsFrugal a s pid
+frugal-told a s pid view node shown stands frugal = at (process_at s pid) refl shown
+  where
+    at : (o : Option Process) → process_at s pid ≡ o → Some view ≡ option_map view_of o → IsFrugal a s pid
+    at (Some p) there is =
+        let own : view ≡ view_of p = cc in
+        record {
+          process = p;
+          there = there;
+          node = node;
+          stands = ap (λ (v : View). slice_get a.program.code v.code.0) (sym own) ∙ sym stands;
+          frugal = frugal;
+        }
+    at None there is = absurd cc
 
 -- ---- starts without arguments
 

@@ -1,15 +1,23 @@
 //! How a run is made in the tests, and what is wanted of it.
+ghost use Rattle.std.specs.Prelude.{◌≡◌, None};
+ghost use Rattle.nomos_machine.specs.State.{empty};
+
 use crate::runner::Runner;
 use nomos_accept::accepting::accept;
 use nomos_deeds::fire::Fire;
+use nomos_deeds::machine::Machine;
 use nomos_ir::fault::Fault;
+use nomos_plain::plain::PlainState;
 use std::process::Abort;
 use std::test::Fail;
 
+// A run on the plain form.
+pub(crate) type PlainRunner = Runner<PlainState>;
+
 // Opens an account with so many Dths, which starts the transaction of a name.
-fn begin(
+fn begin<M: Machine>(
     rt: &(impl Abort + AllocGlobal),
-    runner: &mut Runner,
+    runner: &mut Runner<M>,
     dths: u64,
     name: &str,
 ) -> Result<(), Fail> {
@@ -20,14 +28,20 @@ fn begin(
     Ok(())
 }
 
-// A run of a contract text, in which an account with so many Dths has started the transaction of a name.
-pub(crate) fn begun(
+// A run of a contract text on a machine with nothing in it, in which an account with so many Dths has started the
+// transaction of a name.
+pub(crate) fn begun_on<M: Machine + Drop>(
     rt: &(impl Abort + AllocGlobal),
+    machine: M,
     text: &str,
     dths: u64,
     name: &str,
-) -> Result<Runner, Fail> {
-    let mut runner = Runner::new(rt.alloc(), accept(rt.alloc(), text.as_bytes())?);
+) -> Result<Runner<M>, Fail>
+    requires state { M.state machine ≡ empty }
+    requires marked { M.marked machine ≡ None }
+{
+    let accepted = accept(rt.alloc(), text.as_bytes())?;
+    let mut runner = Runner::new(accepted, machine);
     match begin(rt, &mut runner, dths, name) {
         Ok(()) => Ok(runner),
         Err(fail) => {
@@ -37,10 +51,20 @@ pub(crate) fn begun(
     }
 }
 
-// Fails unless the lowest ready process is this one, and it makes its step.
-pub(crate) fn expect_lowest(
+// The same on the plain form.
+pub(crate) fn begun(
     rt: &(impl Abort + AllocGlobal),
-    runner: &mut Runner,
+    text: &str,
+    dths: u64,
+    name: &str,
+) -> Result<PlainRunner, Fail> {
+    begun_on(rt, PlainState::empty(rt.alloc()), text, dths, name)
+}
+
+// Fails unless the lowest ready process is this one, and it makes its step.
+pub(crate) fn expect_lowest<M: Machine>(
+    rt: &(impl Abort + AllocGlobal),
+    runner: &mut Runner<M>,
     pid: u32,
 ) -> Result<(), Fail> {
     match runner.fire_lowest(rt.alloc())? {
@@ -54,7 +78,7 @@ pub(crate) fn expect_lowest(
 // Fails unless the lowest ready process is this one, and it has this fault.
 pub(crate) fn expect_fault(
     rt: &(impl Abort + AllocGlobal),
-    runner: &mut Runner,
+    runner: &mut PlainRunner,
     pid: u32,
     wanted: Fault,
 ) -> Result<(), Fail> {
@@ -70,7 +94,7 @@ pub(crate) fn expect_fault(
 }
 
 // Fails unless these numbers were emitted, each by the process of its number.
-pub(crate) fn expect_results(rt: &impl Abort, runner: &Runner, wanted: &[(u32, i64)]) {
+pub(crate) fn expect_results(rt: &impl Abort, runner: &PlainRunner, wanted: &[(u32, i64)]) {
     for (place, result) in wanted.iter().enumerate() {
         assert_eq!(rt; runner.result(place), Some(*result));
     }
@@ -78,7 +102,12 @@ pub(crate) fn expect_results(rt: &impl Abort, runner: &Runner, wanted: &[(u32, i
 }
 
 // Fails unless no process is ready, so many Dths are spent, and these numbers were emitted.
-pub(crate) fn expect_end(rt: &impl Abort, runner: &Runner, spent: u128, results: &[(u32, i64)]) {
+pub(crate) fn expect_end(
+    rt: &impl Abort,
+    runner: &PlainRunner,
+    spent: u128,
+    results: &[(u32, i64)],
+) {
     assert!(rt; runner.lowest().is_none());
     assert_eq!(rt; runner.spent(), spent);
     expect_results(rt, runner, results);

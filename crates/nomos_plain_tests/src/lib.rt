@@ -1,13 +1,18 @@
-//! Runs of contracts on the plain state, one firing after another, and tests of them.
+//! Runs of contracts on forms of the state, one firing after another, and tests of them.
 #![tactic(auto)]
 
 #[cfg(test)]
 mod expecting;
 #[cfg(test)]
+mod form_tests;
+#[cfg(test)]
 mod outcome_tests;
+#[cfg(test)]
+mod room_tests;
 #[cfg(test)]
 mod run_tests;
 pub mod runner;
+pub mod seen;
 #[cfg(test)]
 mod sharing_tests;
 pub mod starts;

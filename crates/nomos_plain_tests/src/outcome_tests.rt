@@ -3,8 +3,8 @@ ghost use Rattle.std.specs.Prelude.{◌≡◌};
 ghost use Rattle.nomos_ir.specs.TermsEvaluation.{instruction_evaluation};
 ghost use Rattle.nomos_eval.specs.Outcomes.{outcome_of};
 
-use crate::expecting::{begun, expect_end, expect_lowest};
-use crate::runner::{Known, Runner};
+use crate::expecting::{PlainRunner, begun, expect_end, expect_lowest};
+use crate::runner::Known;
 use nomos_deeds::fire::Fire;
 use std::process::Abort;
 use std::test::Fail;
@@ -24,10 +24,17 @@ fn room_is_made_for_firings(rt: HostRuntime) -> Result<(), Fail> {
     Ok(reserved?)
 }
 
+// Goes on with a copy of the state.
+fn go_on_with_copy(rt: &(impl Abort + AllocGlobal), runner: &mut PlainRunner) -> Result<(), Fail> {
+    let copy = runner.machine().copy(rt.alloc())?;
+    runner.go_on_with(copy);
+    Ok(())
+}
+
 // Fails unless the run goes on as it does, with a copy of the state before each firing.
-fn expect_copies(rt: &(impl Abort + AllocGlobal), runner: &mut Runner) -> Result<(), Fail> {
+fn expect_copies(rt: &(impl Abort + AllocGlobal), runner: &mut PlainRunner) -> Result<(), Fail> {
     for pid in SUM_PIDS {
-        runner.go_on_with_copy(rt.alloc())?;
+        go_on_with_copy(rt, runner)?;
         expect_lowest(rt, runner, pid)?;
     }
     expect_end(rt, runner, 0, &[(1, 4)]);
@@ -45,7 +52,7 @@ fn copies_go_on_as_the_state_does(rt: HostRuntime) -> Result<(), Fail> {
 // Fails unless this process is ready, and makes its step with what was known.
 fn expect_known_step(
     rt: &(impl Abort + AllocGlobal),
-    runner: &mut Runner,
+    runner: &mut PlainRunner,
     pid: u32,
     known: &Known,
 ) -> Result<(), Fail>
@@ -61,7 +68,7 @@ fn expect_known_step(
 // The same with what is wanted of it now, if that is something.
 fn expect_asked_step(
     rt: &(impl Abort + AllocGlobal),
-    runner: &mut Runner,
+    runner: &mut PlainRunner,
     pid: u32,
 ) -> Result<(), Fail> {
     match runner.ask(rt.alloc(), pid)? {
@@ -71,7 +78,7 @@ fn expect_asked_step(
 }
 
 // Fails unless the run goes on as it does, with what is wanted before each firing.
-fn expect_asked(rt: &(impl Abort + AllocGlobal), runner: &mut Runner) -> Result<(), Fail> {
+fn expect_asked(rt: &(impl Abort + AllocGlobal), runner: &mut PlainRunner) -> Result<(), Fail> {
     for pid in SUM_PIDS {
         expect_asked_step(rt, runner, pid)?;
     }
@@ -90,7 +97,7 @@ fn firings_with_outcomes_that_were_asked_for(rt: HostRuntime) -> Result<(), Fail
 // Fails unless the rest of the run goes on as it does, with what was known for each firing.
 fn expect_known(
     rt: &(impl Abort + AllocGlobal),
-    runner: &mut Runner,
+    runner: &mut PlainRunner,
     known: &Known,
 ) -> Result<(), Fail>
     requires { outcome_of known.now.outcome
@@ -104,7 +111,7 @@ fn expect_known(
 }
 
 // What was wanted of process 2 at its first instruction is used for all that fires after.
-fn expect_stale(rt: &(impl Abort + AllocGlobal), runner: &mut Runner) -> Result<(), Fail> {
+fn expect_stale(rt: &(impl Abort + AllocGlobal), runner: &mut PlainRunner) -> Result<(), Fail> {
     expect_lowest(rt, runner, 1)?;
     expect_lowest(rt, runner, 1)?;
     let known = runner.ask(rt.alloc(), 2)?.ok_or("it wants nothing")?;

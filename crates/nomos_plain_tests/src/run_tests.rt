@@ -1,6 +1,7 @@
 //! Whole runs, in which the lowest ready process fires each time.
-use crate::expecting::{begun, expect_end, expect_fault, expect_lowest, expect_results};
-use crate::runner::Runner;
+use crate::expecting::{
+    PlainRunner, begun, expect_end, expect_fault, expect_lowest, expect_results,
+};
 use nomos_accept::accepting::accept;
 use nomos_accept::refusal::{AcceptError, Why};
 use nomos_ir::code_form::CodeForm;
@@ -14,7 +15,7 @@ type Course<'a> = (&'a [u32], u128, &'a [(u32, i64)]);
 // Fails unless the run goes on so; before each firing, each name that has to have an owner has one.
 fn expect_course(
     rt: &(impl Abort + AllocGlobal),
-    runner: &mut Runner,
+    runner: &mut PlainRunner,
     course: Course,
 ) -> Result<(), Fail> {
     let (pids, spent, results) = course;
@@ -40,7 +41,7 @@ fn expect_run(
     went
 }
 
-const FORWARD: &str = "type R one = +{ b : 1 };
+pub(crate) const FORWARD: &str = "type R one = +{ b : 1 };
 type R two = +{ a : one };
 proc R n(;) : 1 = close;
 proc R m(;) : 1 = spawn u = n(;); wait u; close;
@@ -134,7 +135,7 @@ proc T nought(;) = emit 10 / 0; close;
 // The second transaction has a fault, and the first one fires before.
 fn expect_division_by_zero(
     rt: &(impl Abort + AllocGlobal),
-    runner: &mut Runner,
+    runner: &mut PlainRunner,
 ) -> Result<(), Fail> {
     assert_eq!(rt; runner.exec(rt.alloc(), "nought", 0)?, Some(2));
     expect_lowest(rt, runner, 1)?;

@@ -1,7 +1,11 @@
-//! Runs of an accepted program on the plain state.
-ghost use Rattle.std.specs.Prelude.{◌≡◌, ◌<◌, ◌≤◌, ◌+◌, ◌^◌, IfOk, IfSome, MatchOption};
+//! Runs of an accepted program on any form of the state.
+ghost use Rattle.std.specs.Prelude.{◌≡◌, ◌<◌, ◌^◌, IfOk, IfSome, IsTrue, None};
 ghost use Rattle.nomos_ir.specs.TermsEvaluation.{instruction_evaluation};
+ghost use Rattle.nomos_ir.specs.declared.lists.ProgramLists.{ProgramLists};
 ghost use Rattle.nomos_eval.specs.Outcomes.{outcome_of};
+ghost use Rattle.nomos_machine.specs.State.{empty, gas_of};
+ghost use Rattle.nomos_machine.specs.TypedState.{IsTyped};
+ghost use Rattle.nomos_deeds.specs.Acting.{IsFrugal, IsFrugalNode};
 ghost use Rattle.nomos_deeds.specs.Firings.{Fires};
 
 use crate::starts::transaction_named;
@@ -9,24 +13,25 @@ use nomos_deeds::acting::Acting;
 use nomos_deeds::fire::Fire;
 use nomos_deeds::machine::Machine;
 use nomos_eval::wanted::{Outcome, Wanted, evaluate};
+use nomos_ir::code_node::CodeNode;
 use nomos_ir::fault::Fault;
-use nomos_ir::ids::ProcId;
+use nomos_ir::find::find_code;
 use nomos_ir::value::Values;
 use nomos_ir::value_node::ValueNode;
-use nomos_plain::plain::PlainState;
 use nomos_types::accepted::Accepted;
 use std::alloc::{AllocError, Global};
 use std::marker::Model;
 
-/// A run of an accepted program, which a count of calls keeps far from the greatest numbers.
+/// A run of an accepted program on a form of the state, which a count of calls keeps far from the greatest numbers.
 #[derive(Drop, Debug)]
-pub struct Runner {
+pub struct Runner<M: Machine> {
     accepted: Accepted,
-    machine: PlainState,
+    machine: M,
     left: u32,
 }
 
-impl Model for Runner {
+impl<M: Machine> Model for Runner<M> {
+    ghost use Rattle.std.specs.Prelude.{◌≡◌, None};
     ghost use Rattle.std.specs.Coded.{codes};
     ghost use Rattle.nomos_ir.specs.ValueCode.{value_code};
     ghost use Rattle.nomos_plain_tests.specs.Running.{Running, GoesOn};
@@ -35,9 +40,10 @@ impl Model for Runner {
 
     ghost coded = { Prim.hlevel (codes, value_code) };
 
-    ghost view = { λ r. record { accepted = r.accepted; state = r.machine.state; left = r.left } };
+    ghost view = { λ r. record { accepted = r.accepted; state = M.state r.machine; left = r.left } };
 
-    ghost invariant = { λ r. GoesOn (record { accepted = r.accepted; state = r.machine.state; left = r.left }) };
+    ghost invariant = { λ r. GoesOn (record { accepted = r.accepted; state = M.state r.machine; left = r.left })
+        × (M.marked r.machine ≡ None) };
 }
 
 /// What was wanted of a process, and what it came to.
@@ -56,17 +62,53 @@ const CALLS: u32 = 1_000_000;
 // The number of the last account that there can be.
 const LAST_ACCOUNT: u32 = u32::MAX - 1;
 
-impl Runner {
+// Whether an instruction takes no memory where there is room for a firing; of those that test a term none is told.
+fn is_frugal_node(node: &CodeNode) -> bool
+    ensures { (lists : ProgramLists) → IsTrue result → IsFrugalNode lists node.now }
+{
+    matches!(
+        node,
+        CodeNode::Work(_, _, _)
+            | CodeNode::Get(_, _, _, _)
+            | CodeNode::Wait(_, _, _)
+            | CodeNode::Case(_, _, _)
+            | CodeNode::Recv(_, _, _, _)
+            | CodeNode::Acquire(_, _, _, _)
+            | CodeNode::Release(_, _, _, _)
+            | CodeNode::Close(_)
+            | CodeNode::Fwd(_, _)
+    )
+}
+
+impl<M: Machine> Runner<M> {
     /// A run that begins with nothing.
-    pub fn new(alloc: Global, accepted: Accepted) -> Runner
+    pub fn new(accepted: Accepted, machine: M) -> Runner<M>
+        requires state { M.state machine ≡ empty }
+        requires marked { M.marked machine ≡ None }
         ensures { result.accepted ≡ accepted }
     {
         let _program = accepted.program();
         Runner {
             accepted,
-            machine: PlainState::empty(alloc),
+            machine,
             left: CALLS,
         }
+    }
+
+    /// The program.
+    pub fn accepted(&self) -> &Accepted
+        ensures { result.now ≡ self.now.accepted }
+    {
+        &self.accepted
+    }
+
+    /// The machine in its present state.
+    pub fn machine(&self) -> &M
+        ensures state { M.state result.now ≡ self.now.state }
+        ensures typed { IsTyped self.now.accepted (M.state result.now) }
+        ensures gas { gas_of (M.state result.now) < 2 ^ 96 }
+    {
+        &self.machine
     }
 
     /// Makes room for so many firings.
@@ -129,6 +171,44 @@ impl Runner {
             return Ok(None);
         }
         let answer = self.machine.fire(alloc, &self.accepted, pid)?;
+        self.left -= 1;
+        Ok(Some(answer))
+    }
+
+    /// Whether the process of this number stands at an instruction that takes no memory where there is room for a
+    /// firing.
+    pub fn is_frugal(&self, pid: u32) -> bool
+        ensures { IsTrue result → IsFrugal self.now.accepted self.now.state pid }
+    {
+        let Some(view) = self.machine.view(pid) else {
+            return false;
+        };
+        match find_code(self.accepted.program().lists(), view.code) {
+            Some(node) => is_frugal_node(node),
+            None => false,
+        }
+    }
+
+    /// Fires the process of this number, where it is ready and stands at an instruction that takes no memory where there
+    /// is room for a firing. Memory may be wanting for the room, and then nothing is fired; behind it none is wanting.
+    pub fn fire_in_room(&mut self, alloc: Global, pid: u32) -> Result<Option<Fire>, AllocError>
+        ensures accepted { self.new.accepted ≡ self.old.accepted }
+        ensures fires { IfOk result (λ fired. IfSome fired (λ answer.
+            Fires self.old.accepted self.old.state pid answer self.new.state)) }
+    {
+        if self.left == 0 {
+            return Ok(None);
+        }
+        if !self.is_frugal(pid) {
+            return Ok(None);
+        }
+        if !self.machine.ready(&self.accepted, pid) {
+            return Ok(None);
+        }
+        self.machine.reserve(1)?;
+        let Ok(answer) = self.machine.fire(alloc, &self.accepted, pid) else {
+            unreachable!()
+        };
         self.left -= 1;
         Ok(Some(answer))
     }
@@ -249,14 +329,15 @@ impl Runner {
         }
         Some(count)
     }
+}
 
-    /// Goes on with a copy of the state.
-    pub fn go_on_with_copy(&mut self, alloc: Global) -> Result<(), AllocError>
-        ensures accepted { self.new.accepted ≡ self.old.accepted }
-        ensures state { self.new.state ≡ self.old.state }
+impl<M: Machine + Drop> Runner<M> {
+    /// Goes on with another machine in the same state.
+    pub fn go_on_with(&mut self, machine: M)
+        requires state { M.state machine ≡ self.old.state }
+        requires marked { M.marked machine ≡ None }
+        ensures { self.new ≡ self.old }
     {
-        let copy = self.machine.copy(alloc)?;
-        self.machine = copy;
-        Ok(())
+        self.machine = machine;
     }
 }

@@ -1,12 +1,12 @@
 //! Shared contracts, which are acquired and released, and processes that wait for one another.
-use crate::expecting::{begun, expect_end, expect_lowest};
-use crate::runner::{Runner, Waiting};
+use crate::expecting::{PlainRunner, begun, expect_end, expect_lowest};
+use crate::runner::Waiting;
 use nomos_deeds::fire::Fire;
 use std::process::Abort;
 use std::test::Fail;
 
 // Fails unless these processes wait, in order of number, and none is ready.
-fn expect_blocked(rt: &impl Abort, runner: &Runner, wanted: &[Waiting]) {
+fn expect_blocked(rt: &impl Abort, runner: &PlainRunner, wanted: &[Waiting]) {
     assert!(rt; runner.lowest().is_none());
     let mut after = 0;
     for waiting in wanted {
@@ -19,13 +19,17 @@ fn expect_blocked(rt: &impl Abort, runner: &Runner, wanted: &[Waiting]) {
 }
 
 // Fails unless this process is ready, and makes its step.
-fn expect_step(rt: &(impl Abort + AllocGlobal), runner: &mut Runner, pid: u32) -> Result<(), Fail> {
+fn expect_step(
+    rt: &(impl Abort + AllocGlobal),
+    runner: &mut PlainRunner,
+    pid: u32,
+) -> Result<(), Fail> {
     let answer = runner.fire(rt.alloc(), pid)?;
     assert!(rt; matches!(&answer, Some(Fire::Fired)), "{pid} makes no step");
     Ok(())
 }
 
-const ONCE: &str = "type S cell = up down cell;
+pub(crate) const ONCE: &str = "type S cell = up down cell;
 proc S c(;) : cell = accept; detach; call c(;);
 proc T t(;) = spawn s = c(;); acquire s as x; release x as s2; close;
 ";
@@ -35,7 +39,7 @@ proc S c(;) : cell = accept; detach; call c(;);
 proc T t(;) = spawn s = c(;); acquire s as x; acquire s as y; release x as s2; release y as s3; close;
 ";
 
-const OPPOSITE: &str = "type S cell = up down cell;
+pub(crate) const OPPOSITE: &str = "type S cell = up down cell;
 proc S c(;) : cell = accept; detach; call c(;);
 proc S two(; a: cell, b: cell) : cell =
   accept; acquire a as x; acquire b as y; release x as a2; release y as b2; detach; call c(;);
@@ -46,7 +50,7 @@ proc T t(;) = spawn p = c(;); spawn q = c(;); spawn u = two(; p, q); spawn v = t
 // Fails unless these processes fire, each the lowest that is ready, and then none is left.
 fn expect_lowest_of(
     rt: &(impl Abort + AllocGlobal),
-    runner: &mut Runner,
+    runner: &mut PlainRunner,
     pids: &[u32],
 ) -> Result<(), Fail> {
     for pid in pids {
@@ -67,7 +71,7 @@ fn expect_acquired(rt: &(impl Abort + AllocGlobal), text: &str, pids: &[u32]) ->
 // Fails unless these processes make their steps, and then those wait.
 fn expect_steps(
     rt: &(impl Abort + AllocGlobal),
-    runner: &mut Runner,
+    runner: &mut PlainRunner,
     pids: &[u32],
     wanted: &[Waiting],
 ) -> Result<(), Fail> {

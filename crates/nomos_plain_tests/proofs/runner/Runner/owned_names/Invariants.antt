@@ -2,4 +2,4 @@ use Rattle.std.proofs.Common.{◌-◌, ◌^◌}
 use Rattle.nomos_plain_tests.proofs.runner.Runner.owned_names.Given as goal
 
 abbrev pub decreases-loop-name : goal.decreases-loop-name
-decreases-loop-name l = 2 ^ 32 - l.after
+decreases-loop-name g l = 2 ^ 32 - l.after
