@@ -1,5 +1,5 @@
 -- Firings that stay, and what is due of a load from its parts.
-use Rattle.std.proofs.Common.{◌≡◌, ◌∙◌, ◌+◌, ◌<◌, ◌≤◌, ℕ, Bool, true, List, length, take, get_or, Option, Some, None, inl, inr, ap, sym, subst, arith}
+use Rattle.std.proofs.Common.{◌≡◌, ◌∙◌, ◌+◌, ◌<◌, ◌≤◌, ℕ, Bool, true, List, length, take, get_or, Option, Some, None, inl, inr, refl, ap, sym, subst, arith}
 use Rattle.std.specs.Prelude.{IfSome}
 use Rattle.std.proofs.Math.Seq.{take-length}
 use Rattle.std.proofs.lemmas.List.Sums.{sum_by_more, sum_by-le-sum_by, sum_by-take-le}
@@ -7,6 +7,7 @@ use Rattle.std.proofs.lemmas.Bool.{cases_Bool}
 use Rattle.nomos_types.specs.Acceptance.{Acceptance}
 use Rattle.nomos_script.specs.ScriptReading.{ReadsAs}
 use Rattle.nomos_script.specs.declared.item.ScriptItem.{ScriptItem}
+use Rattle.nomos_script.proofs.ReadingLaws.{reads_without_syntax}
 use Rattle.nomos_ir.specs.Value.{Value}
 use Rattle.nomos_legal.specs.Ledger.{LedgerState}
 use Rattle.nomos_legal.specs.Legal.{Tells, firings_made}
@@ -22,10 +23,14 @@ use Rattle.nomos_run.specs.declared.orders.WholeRun.{WholeRun}
 use Rattle.nomos_words.specs.Summary.{summary_text}
 use Rattle.nomos_due.specs.Benches as benches
 use Rattle.nomos_due.specs.Benches.{IsBenchDue, IsBenchPart, all_lasting, figures_of, lasting_firings, load_text, stays}
-use Rattle.nomos_due.specs.Finding.{HasRunLoad, HasRunPart}
+use Rattle.nomos_due.specs.Finding.{HasRunLoad, HasRunPart, IsMissing}
+use Rattle.nomos_due.specs.Outside.{FaultCounts}
 use Rattle.nomos_due.specs.Sources.{kept_text}
 use Rattle.nomos_due.specs.declared.benches.Load.{Load}
 use Rattle.nomos_due.specs.declared.due.Due.{Due}
+use Rattle.nomos_due.specs.declared.script.NoScript.{NoScript}
+use Rattle.nomos_due.specs.declared.script.NoScript.TheVariants as none
+use Rattle.nomos_due.proofs.LoadReadsLaws.{load-reads, load_items}
 
 -- the firings of an entry that stay are firings of it
 lasting-few : (e : Entry) → lasting_firings e ≤ length e.firings
@@ -94,3 +99,23 @@ load-run a items orders load run whole due wanted ran finished journal status ou
           ∙ ap (λ (v : Option Value). summary_text (figures_of load a due.journal ran.last) v) result;
       nothing_kept = none;
     }
+
+-- no read of a made script fails
+abbrev pub no_faults : FaultCounts
+no_faults = record { before = 0; after = 0 }
+
+-- no script of a load is missing but for want of memory
+pub load-not_missing : (load : Load) → load.bidders ≤ 10000 → (why : NoScript)
+    → IsMissing (record { text = load_text load; counts = no_faults }) why → why ≡ none.NoMemory
+load-not_missing load few none.TooLong over =
+    absurd (omega (arith, over, (load-reads load.seed load.bidders few).limit))
+load-not_missing load few (none.Syntax k) bad =
+    absurd
+    (reads_without_syntax (load_text load) k (load_items load.seed load.bidders)
+    (load-reads load.seed load.bidders few) bad)
+load-not_missing load few none.ReadFault rose =
+    elim rose [
+      | inl below ↦ absurd (omega (arith, below))
+      | inr last ↦ absurd (omega (arith, last))
+    ]
+load-not_missing load few none.NoMemory is = refl

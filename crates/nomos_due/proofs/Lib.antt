@@ -2,3 +2,4 @@ mod BenchLemmas
 mod DueLemmas
 pub mod SourceLemmas
 pub mod ReplayLaws
+pub mod LoadReadsLaws

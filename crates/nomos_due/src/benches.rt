@@ -1,6 +1,7 @@
 //! What is due where the load of `bench` is run.
 
 ghost use Rattle.std.specs.Prelude.{◌≡◌, ◌≤◌, true, None, IfOk, IfErr};
+ghost use Rattle.nomos_script.specs.ScriptReading.{ReadsAs};
 ghost use Rattle.nomos_machine.specs.declared.policy.Policy.{Policy};
 ghost use Rattle.nomos_legal.specs.Legal.{IsLimit, firings_made, max_firings};
 ghost use Rattle.nomos_words.specs.Summary.{summary_text};
@@ -9,7 +10,7 @@ ghost use Rattle.nomos_due.specs.Finding.{HasRunLoad, HasRunPart};
 ghost use Rattle.nomos_due.specs.Sources.{kept_text};
 
 use crate::due::{Due, no_entries};
-use crate::script::script_of;
+use crate::script::{NoScript, script_of};
 use nomos_deeds::machine::Machine;
 use nomos_deeds::undo::Undo;
 use nomos_legal::journal::{End, Entry, Journal};
@@ -99,6 +100,28 @@ fn summary<M: Undo + Drop>(
     Ok(text)
 }
 
+// Want of memory, where it is the one cause that may come.
+fn no_memory(why: NoScript) -> AllocError
+    requires { why ≡ NoScript.NoMemory }
+{
+    match why {
+        NoScript::NoMemory => AllocError,
+        _ => unreachable!(),
+    }
+}
+
+// The script of a load, which always reads: nothing but memory may be wanting.
+fn load_script(alloc: Global, load: Load) -> Result<Script, AllocError>
+    requires { load.bidders ≤ 10000 }
+    ensures { IfOk result (ReadsAs (load_text load)) }
+{
+    let text = load_text(alloc, load)?;
+    match script_of(alloc, &text) {
+        Ok(script) => Ok(script),
+        Err(why) => Err(no_memory(why)),
+    }
+}
+
 // What is due of a load whose script reads.
 fn ran_load_due<M: Undo + Drop>(
     orders: Orders,
@@ -129,8 +152,8 @@ fn ran_load_due<M: Undo + Drop>(
 }
 
 /// What is due where a load is run on the accepted auction, by one worker, by orders that ask for the last result: the
-/// status, and the summary. Want of memory gives the journal of some first items. See docs/TEXTS.md, "The load of
-/// `bench`".
+/// status, and the summary. The script of a load reads, so that nothing but memory may be wanting; then the journal of
+/// some first items is given. See docs/TEXTS.md, "The load of `bench`".
 pub fn bench_due<M: Undo + Drop>(
     orders: Orders,
     alloc: Global,
@@ -140,17 +163,14 @@ pub fn bench_due<M: Undo + Drop>(
     requires one { (policy : Policy) × (orders.crew ≡ Crew.One policy) }
     requires limit { IsLimit orders.limit }
     requires result { orders.result ≡ true }
+    requires few { load.bidders ≤ 10000 }
     ensures ok { IfOk result (λ due.
         IsBenchDue accepted.now orders load due.status due.out.items due.journal) }
     ensures kept { IfOk result (λ due. kept_text due ≡ None) }
     ensures err { IfErr result (IsBenchPart accepted.now orders load) }
 {
-    let limit = orders.limit;
-    let Ok(text) = load_text(alloc, load) else {
-        return Err(no_entries(alloc, limit));
-    };
-    match script_of(alloc, &text) {
+    match load_script(alloc, load) {
         Ok(script) => ran_load_due::<M>(orders, alloc, accepted, load, &script),
-        Err(_) => Err(no_entries(alloc, limit)),
+        Err(_) => Err(no_entries(alloc, orders.limit)),
     }
 }

@@ -7,7 +7,6 @@ ghost use Rattle.nomos_legal.specs.declared.journal.Journal.{Journal};
 ghost use Rattle.nomos_journal.specs.JournalText.{IsTextOf};
 ghost use Rattle.nomos_journal.specs.declared.line.Version.{Version};
 ghost use Rattle.nomos_replay.specs.Refusal.{refusal_line};
-ghost use Rattle.nomos_script.specs.WrittenItems.{AreWritten};
 ghost use Rattle.nomos_report.specs.Reported.{run_status};
 ghost use Rattle.nomos_due.specs.Finding.{IsBare};
 ghost use Rattle.nomos_due.specs.Outside.{FaultCounts, source_state};
@@ -88,7 +87,6 @@ fn text_due<M: Undo + Drop>(
     script: &Script,
     bytes: &[u8],
 ) -> Result<Due, Journal>
-    requires written { AreWritten script.now }
     ensures ok { (counts : FaultCounts) → IfOk result (IsJournalDueFor accepted.now script.now
         (record { left = Some bytes.now; counts = counts })) }
     ensures legal { (v : Version) (kept : Journal) → IsTextOf v accepted.now script.now kept bytes.now
@@ -108,7 +106,6 @@ fn journal_due<M: Undo + Drop, S: Source>(
     script: &Script,
     journal: &mut S,
 ) -> Result<Due, Journal>
-    requires written { AreWritten script.now }
     ensures ok { IfOk result (IsJournalDueFor accepted.now script.now
         (source_state (S.left journal.old) (S.faults journal.old) (S.faults journal.new))) }
     ensures legal { (v : Version) (kept : Journal) (text : List ℕ) → S.left journal.old ≡ Some text
@@ -116,7 +113,8 @@ fn journal_due<M: Undo + Drop, S: Source>(
         → IfOk result (λ due. GivesJournal kept due.status due.journal) }
     ensures err { IfErr result (λ journal. journal ≡ no_journal) }
 {
-    // Where the program is read it is known to be accepted, and where the items are, how many they are.
+    // Where the program is read it is known to be accepted, and where the items are, how many they are and how they are
+    // written.
     let _program = accepted.program();
     let _items = script.items();
     match read_all(alloc, journal, MAX_BYTES) {

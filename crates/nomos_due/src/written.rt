@@ -4,7 +4,7 @@ ghost use Rattle.std.specs.Prelude.{◌≡◌, ◌⊎◌, ℕ, List, Some, None}
 ghost use Rattle.nomos_base.specs.Sink.{with_end};
 ghost use Rattle.nomos_due.specs.Outside.{SinkState, sink_state};
 ghost use Rattle.nomos_due.specs.Sources.{kept_text};
-ghost use Rattle.nomos_due.specs.Written.{IsWritten};
+ghost use Rattle.nomos_due.specs.Written.{HasWrittenOut};
 
 use crate::due::Due;
 use nomos_base::{Sink, write_all};
@@ -12,7 +12,7 @@ use nomos_base::{Sink, write_all};
 // Writes the text of a journal, behind the output.
 fn write_text<K: Sink>(status: u8, text: &[u8], journal_out: &mut K) -> u8
     ensures { (bytes : List ℕ) (out : SinkState) → out.after ≡ with_end out.before bytes
-        → IsWritten status bytes (Some text.now) out
+        → HasWrittenOut status bytes (Some text.now) out
         (sink_state (K.written journal_out.old) (K.written journal_out.new) (K.faults journal_out.old) (K.faults journal_out.new))
         result }
 {
@@ -25,7 +25,7 @@ fn write_text<K: Sink>(status: u8, text: &[u8], journal_out: &mut K) -> u8
 // Writes the text of a journal, if there is one, behind the output.
 fn write_kept<K: Sink>(due: &Due, journal_out: &mut K) -> u8
     ensures written { (bytes : List ℕ) (out : SinkState) → out.after ≡ with_end out.before bytes
-        → IsWritten due.now.status bytes (kept_text due.now) out
+        → HasWrittenOut due.now.status bytes (kept_text due.now) out
         (sink_state (K.written journal_out.old) (K.written journal_out.new) (K.faults journal_out.old) (K.faults journal_out.new))
         result }
     ensures none { kept_text due.now ≡ None → journal_out.new ≡ journal_out.old }
@@ -39,7 +39,7 @@ fn write_kept<K: Sink>(due: &Due, journal_out: &mut K) -> u8
 /// Writes what is due: the output, and behind it the text of the journal, if there is one to be written. The status that
 /// stands then is that of what is due, or 6 where a sink failed.
 pub fn write_due<K: Sink>(due: &Due, out: &mut K, journal_out: &mut K) -> u8
-    ensures written { IsWritten due.now.status due.now.out.items (kept_text due.now)
+    ensures written { HasWrittenOut due.now.status due.now.out.items (kept_text due.now)
         (sink_state (K.written out.old) (K.written out.new) (K.faults out.old) (K.faults out.new))
         (sink_state (K.written journal_out.old) (K.written journal_out.new) (K.faults journal_out.old) (K.faults journal_out.new))
         result }

@@ -7,6 +7,7 @@ mod LineLemmas
 mod OnwardLemmas
 mod ReadingLemmas
 mod RefusalLemmas
+mod VersionOneLemmas
 mod WalkLemmas
 pub mod FormLaws
 pub mod LegalTextLaws

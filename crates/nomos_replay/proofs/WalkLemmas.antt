@@ -1,5 +1,5 @@
 -- The walk over the items of a script, and what is answered at its end.
-use Rattle.std.proofs.Common.{◌≡◌, ◌≢◌, ◌∙◌, ◌+◌, ◌<◌, ◌≤◌, ◌^◌, inl, inr, ℕ, List, [], ◌∷◌, ◌++◌, length, take, Some, Result, Ok, Err, IfOk, IfErr, IsSome, MatchResult, refl, sym, subst, ap, arith}
+use Rattle.std.proofs.Common.{◌≡◌, ◌≢◌, ◌∙◌, ◌+◌, ◌<◌, ◌≤◌, ◌^◌, inl, inr, ℕ, List, [], ◌∷◌, ◌++◌, length, take, Some, Result, Ok, Err, IsSome, MatchResult, refl, sym, subst, ap}
 use Rattle.std.specs.Option.{option_to_list}
 use Rattle.std.specs.Prelude.{◌⊎◌}
 use Rattle.std.proofs.lemmas.Option.{same_Some}
@@ -7,7 +7,7 @@ use Rattle.std.proofs.lemmas.Result.{MatchResult-weaker}
 use Rattle.nomos_types.specs.Acceptance.{Acceptance, IsAccepted}
 use Rattle.nomos_script.specs.declared.item.ScriptItem.{ScriptItem}
 use Rattle.nomos_script.specs.Size.{IsScriptSize}
-use Rattle.nomos_legal.specs.Ledger.{IsLedger, LedgerState, empty_ledger}
+use Rattle.nomos_legal.specs.Ledger.{IsLedger, LedgerState}
 use Rattle.nomos_legal.specs.Legal.{IsLimit, TellsFrom, batch_limit, max_firings}
 use Rattle.nomos_legal.specs.NextNumbers.{HasNumbered}
 use Rattle.nomos_legal.specs.StandsFor.{StandsNamed, StandsFor}
@@ -19,8 +19,11 @@ use Rattle.nomos_journal.specs.Text.{lines_text}
 use Rattle.nomos_journal.specs.declared.line.Version.{Version}
 use Rattle.nomos_report.specs.Reported.{report_of}
 use Rattle.nomos_walk.specs.Coming.{HasCome, journal_of}
+use Rattle.nomos_walk.specs.Papers.{papers_of}
 use Rattle.nomos_walk.specs.WalkState.{WalkState}
 use Rattle.nomos_walk.specs.Walks.{HasRoomFor, walk_of}
+use Rattle.nomos_walk.specs.declared.papers.Papers.{Papers}
+use Rattle.nomos_walk.specs.declared.papers.WantedTexts.{WantedTexts}
 use Rattle.nomos_walk.specs.declared.started.PassedItem.{PassedItem}
 use Rattle.nomos_walk.proofs.ComeLaws.{come-accepted, come-made, come-more, come-none, come-room}
 use Rattle.nomos_replay.specs.Answers.{AnswersFrom, BeginsWith, HasNoForm, Reads, max_bytes}
@@ -29,11 +32,12 @@ use Rattle.nomos_replay.specs.Replayed.{HasReplayedFrom, IsRefusedFrom, IsTextFr
 use Rattle.nomos_replay.specs.Stand.{at_head, before}
 use Rattle.nomos_replay.specs.Told.{Told, journal_told, next_limit, nothing_told}
 use Rattle.nomos_script.specs.WrittenItems.{AreWritten}
+use Rattle.nomos_replay.specs.declared.answering.ToldText.{ToldText}
 use Rattle.nomos_replay.specs.declared.error.ReplayError.{ReplayError}
 use Rattle.nomos_replay.specs.declared.error.ReplayError.TheVariants as error
 use Rattle.nomos_replay.specs.declared.item.Reading.{Reading}
 use Rattle.nomos_replay.specs.declared.source.Source.{Source}
-use Rattle.nomos_replay.specs.mirror.Items.{AllTold, IsAnswered, IsLegalText, PassesOn, ToldUpTo, report_alone, told_of}
+use Rattle.nomos_replay.specs.mirror.Items.{AllTold, ArePapersOf, IsAnswered, IsLegalText, PassesOn, ToldUpTo, report_alone, told_of}
 use Rattle.nomos_replay.specs.mirror.Reading.{Carries, Stops}
 use Rattle.nomos_replay.proofs.FormLaws.{journal-form-from}
 use Rattle.nomos_replay.proofs.LegalTextLaws.{answer-legal}
@@ -46,22 +50,22 @@ use Rattle.nomos_replay.proofs.RoundTripLaws.{legal-answer}
 pub ledger-standing : {a : Acceptance} {l : LedgerState} → StandsFor a l → IsLedger l → StandsNamed a l
 ledger-standing stands ledger = record { stands = stands; counted = ledger.each_account }
 
-module _ (a : Acceptance) (v : Version) (first : LedgerState) (limit : ℕ) where
+module _ (a : Acceptance) (v : Version) (first : LedgerState) (limit : ℕ) (wanted : WantedTexts) where
   -- before the first item
   pub told-none : (items : List ScriptItem) (reading : Reading) (w : WalkState) → IsLimit limit
-      → w ≡ walk_of a limit report_alone [] → reading.entries.items ≡ []
-      → ToldUpTo a v first limit reading.source items [] items reading first w
+      → w ≡ walk_of a limit wanted [] → reading.entries.items ≡ []
+      → ToldUpTo a v first limit wanted reading.source items [] items reading first w
   told-none items reading w is walk none = record {
     passages = [];
     come =
-        subst (λ (es : List Entry). HasCome a first limit report_alone [] es [] first w) (sym none)
-        (subst (λ (x : WalkState). HasCome a first limit report_alone [] [] [] first x) (sym walk)
-        (come-none a first limit report_alone is));
+        subst (λ (es : List Entry). HasCome a first limit wanted [] es [] first w) (sym none)
+        (subst (λ (x : WalkState). HasCome a first limit wanted [] [] [] first x) (sym walk)
+        (come-none a first limit wanted is));
     carries = λ all. carries-same a first all reading.source (before v (nothing_told first limit) items);
   }
 
   module _ {source : Source} {items done left : List ScriptItem} {later : Reading} {l : LedgerState} {w : WalkState}
-      (so : ToldUpTo a v first limit source items done left later l w) where
+      (so : ToldUpTo a v first limit wanted source items done left later l w) where
     -- the program is that of the walk
     pub told-accepted : w.accepted ≡ a
     told-accepted = come-accepted so.come
@@ -78,31 +82,27 @@ module _ (a : Acceptance) (v : Version) (first : LedgerState) (limit : ℕ) wher
     pub told-limit : next_limit (told_of limit so.passages l) ≡ batch_limit w.limit w.made
     told-limit = sym (ap (λ (x : WalkState). batch_limit x.limit x.made) so.come.walk)
 
-    -- a report is made
-    pub told-report : IsSome w.papers.report
-    told-report = subst (λ (x : WalkState). IsSome x.papers.report) (sym so.come.walk) refl
-
   -- there is room for the next item
   pub told-room : {source : Source} (items : List ScriptItem) (n : ℕ) {left : List ScriptItem} {later : Reading}
-      {l : LedgerState} {w : WalkState} → ToldUpTo a v first limit source items (take n items) left later l w
+      {l : LedgerState} {w : WalkState} → ToldUpTo a v first limit wanted source items (take n items) left later l w
       → IsAccepted a → StandsNamed a first → HasNumbered (2 ^ 31) first.state → length first.accounts < 2 ^ 31
       → (i : ScriptItem) → IsScriptSize items → take (n + 1) items ≡ take n items ++ i ∷ [] → HasRoomFor w l i
   told-room items n so accepted standing numbers few i size more =
       come-room items n so.come accepted standing numbers few i size more
 
   module _ {source : Source} {items done : List ScriptItem} (i : ScriptItem) {rest : List ScriptItem} {later : Reading}
-      {l : LedgerState} {w : WalkState} (so : ToldUpTo a v first limit source items done (i ∷ rest) later l w) where
+      {l : LedgerState} {w : WalkState} (so : ToldUpTo a v first limit wanted source items done (i ∷ rest) later l w) where
     -- one item more
     pub told-next : {M : Type 0} (passed : PassedItem M) (next : Reading) {x : WalkState} {more : List ScriptItem}
         → more ≡ done ++ i ∷ []
         → PassesOn a v (told_of limit so.passages l) w
         (λ is. before v (told_of limit so.passages l) (i ∷ is)) later.source i passed next.source x
         → next.entries.items ≡ later.entries.items ++ option_to_list passed.entry
-        → ToldUpTo a v first limit source items more rest next passed.ledger x
+        → ToldUpTo a v first limit wanted source items more rest next passed.ledger x
     told-next passed next {x} {more} front on kept = record {
       passages = so.passages ++ on.passage ∷ [];
       come =
-          subst (λ (is : List ScriptItem). HasCome a first limit report_alone is next.entries.items
+          subst (λ (is : List ScriptItem). HasCome a first limit wanted is next.entries.items
           (so.passages ++ on.passage ∷ []) passed.ledger x) (sym front)
           (come-more on.passage passed so.come on.passes kept);
       carries = λ all.
@@ -121,20 +121,20 @@ module _ (a : Acceptance) (v : Version) (first : LedgerState) (limit : ℕ) wher
     told-stops e stops all = stops-later a first all (so.carries all) e (stops first all rest)
 
   module _ {source : Source} {items : List ScriptItem} {later : Reading} {l : LedgerState} {w : WalkState}
-      (so : ToldUpTo a v first limit source items items [] later l w) where
+      (so : ToldUpTo a v first limit wanted source items items [] later l w) where
     -- all is told where the text ends there
-    pub told-all : (journal : Journal) (printed : List ℕ) → later.source.lines ≡ []
-        → journal ≡ journal_of limit later.entries.items → Some printed ≡ w.papers.report
-        → AllTold a v first limit source items journal l printed
-    told-all journal printed over is printed_is =
+    pub told-all : {M : Type 0} (whole : ToldText M) → later.source.lines ≡ []
+        → whole.journal ≡ journal_of limit later.entries.items → whole.ledger ≡ l → whole.papers ≡ w.papers
+        → AllTold a v first limit wanted source items whole
+    told-all whole over journal ledger papers =
         let told : Told = told_of limit so.passages l in
-        let reports : Some printed ≡ Some (report_of a so.passages) =
-        printed_is ∙ ap (λ (x : WalkState). x.papers.report) so.come.walk in
         record {
           told = told;
-          ledger = refl;
-          journal_is = (λ i. record { limit = limit; entries = so.come.tells.entries_are i }) ∙ sym is;
-          report = sym (same_Some printed (report_of a so.passages) reports);
+          is = record {
+            journal = journal ∙ sym (λ i. record { limit = limit; entries = so.come.tells.entries_are i });
+            ledger = ledger;
+            papers = papers ∙ ap (λ (x : WalkState). x.papers) so.come.walk;
+          };
           reads = λ all.
               (so.carries all).answers (Ok told)
               (subst (λ (text : List ℕ). Reads a first all (later.source.at + 1) (before v told []) text (Ok told))
@@ -165,53 +165,88 @@ module _ (a : Acceptance) (first : LedgerState) (items : List ScriptItem) (text 
       answers.reads (Err (error.WrongEnd at kept found)) within stops
 
   -- what is told to the end of the text is answered
-  pub answered : length text ≤ max_bytes → (v : Version) (limit : ℕ) (source : Source) (journal : Journal)
-      (l : LedgerState) (printed : List ℕ)
+  pub answered : {M : Type 0} → length text ≤ max_bytes → (v : Version) (limit : ℕ) (wanted : WantedTexts)
+      (source : Source) (whole : ToldText M)
       → Carries a first items (record { lines = text; at = 0 }) at_head source
       (before v (nothing_told first limit) items)
-      → AllTold a v first limit source items journal l printed → IsAnswered a first items text journal l printed
-  answered within v limit source journal l printed carries all = record {
+      → AllTold a v first limit wanted source items whole → IsAnswered a first items text wanted whole
+  answered within v limit wanted source whole carries all = record {
     told = all.told;
+    is = all.is;
     answers = answers.reads (Ok all.told) within (carries.answers (Ok all.told) (all.reads items));
-    ledger = all.ledger;
-    journal_is = all.journal_is;
-    report = all.report;
   }
 
-  -- so it is the text of a legal journal
-  pub answered-legal : (journal : Journal) (l : LedgerState) (printed : List ℕ)
-      → IsAnswered a first items text journal l printed → HasReplayedFrom a first items text journal l printed
-  answered-legal journal l printed answer =
+  module _ {M : Type 0} {wanted : WantedTexts} {whole : ToldText M} (answer : IsAnswered a first items text wanted whole) where
+    -- so it tells what became of the items by the journal that is given
+    answered-tells : TellsFrom a first items whole.journal answer.told.passages whole.ledger
+    answered-tells =
+        subst (λ (j : Journal). TellsFrom a first items j answer.told.passages whole.ledger) (sym answer.is.journal)
+        (subst (λ (k : LedgerState). TellsFrom a first items (journal_told answer.told) answer.told.passages k)
+        (sym answer.is.ledger) (answer-legal answer.answers).tells)
+
+    -- the ledger to which it leads stands for the program
+    pub answered-stands : IsAccepted a → StandsNamed a first → StandsFor a whole.ledger
+    answered-stands accepted standing = (legal-right-from accepted standing answered-tells).1.stands
+
+    -- the text of a legal journal gives that journal
+    pub legal-told : IsAccepted a → (journal : Journal) → IsLegalText a first items journal text
+        → whole.journal ≡ journal
+    legal-told accepted journal legal =
+        let given = legal-answer legal.version legal.tells legal.forms text legal.lines legal.within in
+        let same = answers-one accepted answer.answers given in
+        let told : answer.told ≡ record { limit = journal.limit; passages = legal.passages; ledger = legal.last } = cc same in
+        answer.is.journal ∙ ap journal_told told
+        ∙ (λ i. record { limit = journal.limit; entries = legal.tells.entries_are i })
+
+    -- with what is wanted of it
+    pub legal-papers : IsAccepted a → (journal : Journal) → IsLegalText a first items journal text
+        → ArePapersOf a first items journal wanted whole.papers
+    legal-papers accepted journal legal =
+        let same = legal-told accepted journal legal in
+        record {
+          passages = answer.told.passages;
+          last = whole.ledger;
+          tells =
+              subst (λ (j : Journal). TellsFrom a first items j answer.told.passages whole.ledger) same answered-tells;
+          papers_are =
+              answer.is.papers
+              ∙ ap (λ (j : Journal). papers_of a j.limit wanted answer.told.passages) (sym answer.is.journal ∙ same);
+        }
+
+    -- it is not refused
+    pub answered-once : IsAccepted a → (why : ReplayError) → AnswersFrom a first items text (Err why) → ⊥
+    answered-once accepted why given = let same = answers-one accepted answer.answers given in cc
+
+  -- where a report alone is wanted, one is written
+  pub answered-written : {M : Type 0} {whole : ToldText M} → IsAnswered a first items text report_alone whole
+      → IsSome whole.papers.report
+  answered-written answer = subst (λ (p : Papers). IsSome p.report) (sym answer.is.papers) refl
+
+  -- it is the text of the journal that is given, with its report
+  pub answered-legal : {M : Type 0} {whole : ToldText M} → IsAnswered a first items text report_alone whole
+      → (journal : Journal) (l : LedgerState) (printed : List ℕ) → journal ≡ whole.journal → l ≡ whole.ledger
+      → Some printed ≡ whole.papers.report → HasReplayedFrom a first items text journal l printed
+  answered-legal {whole = whole} answer journal l printed journal_is ledger_is printed_is =
       let legal = answer-legal answer.answers in
-      let told : TellsFrom a first items journal answer.told.passages l =
-      subst (λ (j : Journal). TellsFrom a first items j answer.told.passages l) answer.journal_is
-      (subst (λ (k : LedgerState). TellsFrom a first items (journal_told answer.told) answer.told.passages k)
-      answer.ledger legal.tells)
-      in
+      let told = answered-tells answer in
       record {
         version = legal.version;
         passages = answer.told.passages;
-        tells = told;
+        tells =
+            subst (λ (j : Journal). TellsFrom a first items j answer.told.passages l) (sym journal_is)
+            (subst (λ (k : LedgerState). TellsFrom a first items whole.journal answer.told.passages k) (sym ledger_is)
+            told);
         lines =
             legal.lines
             ∙ ap (λ (j : Journal). lines_text a.annotations.unit
-            (journal_lines legal.version a j.limit answer.told.passages)) answer.journal_is;
-        printed = sym answer.report;
+            (journal_lines legal.version a j.limit answer.told.passages)) (sym (journal_is ∙ answer.is.journal));
+        printed =
+            same_Some printed (report_of a answer.told.passages)
+            (printed_is ∙ ap (λ (p : Papers). p.report) answer.is.papers);
       }
 
-  -- the text of a legal journal gives that journal
-  legal-told : IsAccepted a → (journal other : Journal) (l : LedgerState) (printed : List ℕ)
-      → IsLegalText a first items journal text → IsAnswered a first items text other l printed → other ≡ journal
-  legal-told accepted journal other l printed legal answer =
-      let given = legal-answer legal.version legal.tells legal.forms text legal.lines legal.within in
-      let same = answers-one accepted answer.answers given in
-      let told : answer.told ≡ record { limit = journal.limit; passages = legal.passages; ledger = legal.last } = cc same in
-      let entries : journal_told answer.told ≡ journal =
-      ap journal_told told ∙ (λ i. record { limit = journal.limit; entries = legal.tells.entries_are i }) in
-      sym answer.journal_is ∙ entries
-
   -- what is refused otherwise is not answered
-  one-refusal : IsAccepted a → (why : ReplayError) → AnswersFrom a first items text (Err why) → (e : ReplayError)
+  pub one-refusal : IsAccepted a → (why : ReplayError) → AnswersFrom a first items text (Err why) → (e : ReplayError)
       → IsRefusedFrom a first items text e → (e ≡ why) ⊎ (e ≡ error.NoMemory)
   one-refusal accepted why given e refused = by e refused
     where
@@ -227,7 +262,7 @@ module _ (a : Acceptance) (first : LedgerState) (items : List ScriptItem) (text 
       by (error.WrongEnd at kept found) is = inl (same (error.WrongEnd at kept found) is)
 
   -- and the text of a legal journal is not refused
-  legal-refused : IsAccepted a → (journal : Journal) → IsLegalText a first items journal text → (e : ReplayError)
+  pub legal-refused : IsAccepted a → (journal : Journal) → IsLegalText a first items journal text → (e : ReplayError)
       → IsRefusedFrom a first items text e → e ≡ error.NoMemory
   legal-refused accepted journal legal e refused = by e refused
     where
@@ -246,66 +281,17 @@ module _ (a : Acceptance) (first : LedgerState) (items : List ScriptItem) (text 
       by (error.WrongFiring at pid) is = absurd (never (error.WrongFiring at pid) is)
       by (error.WrongEnd at kept found) is = absurd (never (error.WrongEnd at kept found) is)
 
-  -- whatever is answered
-  module _ {X : Type 0} (journal_in : X → Journal) (ledger_in : X → LedgerState) (printed_in : X → List ℕ)
-      (r : Result X ReplayError)
-      (answer : MatchResult r (λ x. IsAnswered a first items text (journal_in x) (ledger_in x) (printed_in x))
-      (IsRefusedFrom a first items text)) where
-    pub all-legal : IfOk r (λ x. HasReplayedFrom a first items text (journal_in x) (ledger_in x) (printed_in x))
-    all-legal =
-        MatchResult-weaker r answer (λ x. answered-legal (journal_in x) (ledger_in x) (printed_in x)) (λ e _. tt)
-
-    pub all-refused : IfErr r (IsRefusedFrom a first items text)
-    all-refused = MatchResult-weaker r answer (λ x _. tt) (λ e refused. refused)
-
-    pub all-stand : IsAccepted a → StandsNamed a first → IfOk r (λ x. StandsFor a (ledger_in x))
-    all-stand accepted standing =
-        MatchResult-weaker r answer
-        (λ x is. (legal-right-from accepted standing
-        (answered-legal (journal_in x) (ledger_in x) (printed_in x) is).tells).1.stands)
-        (λ e _. tt)
-
-    pub legal-answered : IsAccepted a → (journal : Journal) → IsLegalText a first items journal text
-        → MatchResult r (λ x. journal_in x ≡ journal) (λ e. e ≡ error.NoMemory)
-    legal-answered accepted journal legal =
-        MatchResult-weaker r answer
-        (λ x is. legal-told accepted journal (journal_in x) (ledger_in x) (printed_in x) legal is)
-        (λ e refused. legal-refused accepted journal legal e refused)
-
-    pub refusal-answered : IsAccepted a → (why : ReplayError) → AnswersFrom a first items text (Err why)
-        → MatchResult r (λ _. ⊥) (λ e. (e ≡ why) ⊎ (e ≡ error.NoMemory))
-    refusal-answered accepted why given =
-        MatchResult-weaker r answer
-        (λ x is. let same = answers-one accepted is.answers given in cc)
-        (λ e refused. one-refusal accepted why given e refused)
-
-  -- a text that is too long is refused so alone
-  pub long-refused : IsAccepted a → max_bytes < length text → (why : ReplayError)
-      → AnswersFrom a first items text (Err why) → (error.TooLong ≡ why) ⊎ (error.TooLong ≡ error.NoMemory)
-  long-refused accepted long why given = one-refusal accepted why given error.TooLong (answers.too_long long)
-
--- the ledger with nothing in it has small numbers, and no account
-pub empty-numbered : (n : ℕ) (l : LedgerState) → l ≡ empty_ledger → HasNumbered n l.state
-empty-numbered n l empty =
-    subst (λ (m : LedgerState). HasNumbered n m.state) (sym empty) (record { objects = omega arith; names = omega arith })
-
-pub empty-accounts : (l : LedgerState) → l ≡ empty_ledger → length l.accounts < 2 ^ 31
-empty-accounts l empty = subst (λ (m : LedgerState). length m.accounts < 2 ^ 31) (sym empty) (omega arith)
-
 -- what is answered of the items is answered of the text
 module _ (a : Acceptance) (first : LedgerState) (items : List ScriptItem) (text : List ℕ)
-    (within : length text ≤ max_bytes) (v : Version) (limit : ℕ) (source : Source)
+    (within : length text ≤ max_bytes) (v : Version) (limit : ℕ) (wanted : WantedTexts) (source : Source)
     (carries : Carries a first items (record { lines = text; at = 0 }) at_head source
     (before v (nothing_told first limit) items)) where
-  pub answer-all : {X : Type 0} (journal_in : X → Journal) (ledger_in : X → LedgerState) (printed_in : X → List ℕ)
-      (r : Result X ReplayError)
-      → MatchResult r (λ x. AllTold a v first limit source items (journal_in x) (ledger_in x) (printed_in x))
+  pub answer-all : {M : Type 0} (r : Result (ToldText M) ReplayError)
+      → MatchResult r (AllTold a v first limit wanted source items)
       (λ e. (all : List ScriptItem) → Stops a first all source (before v (nothing_told first limit) items) e)
-      → MatchResult r (λ x. IsAnswered a first items text (journal_in x) (ledger_in x) (printed_in x))
-      (IsRefusedFrom a first items text)
-  answer-all journal_in ledger_in printed_in r answer =
-      MatchResult-weaker r answer
-      (λ x all. answered a first items text within v limit source (journal_in x) (ledger_in x) (printed_in x) carries all)
+      → MatchResult r (IsAnswered a first items text wanted) (IsRefusedFrom a first items text)
+  answer-all r answer =
+      MatchResult-weaker r answer (λ whole all. answered a first items text within v limit wanted source whole carries all)
       (λ e stops. refused-so a first items text within e (stops-later a first items carries e (stops items)))
 
 -- the text of a legal journal has lines, and is short enough to be read

@@ -1,6 +1,8 @@
-//! Journals that are read and run: what their texts tell, or the first line that spoils one.
+//! Journals that are read and run: what their texts tell, or the first line that spoils one; and legal journals that are
+//! told again.
 #![tactic(auto)]
 
+mod answering;
 mod batch;
 mod ends;
 pub mod error;
@@ -10,6 +12,8 @@ mod item;
 mod kinds;
 pub mod refused;
 pub mod replay;
+pub mod retelling;
 mod same;
 mod source;
 mod trial;
+mod version_one;

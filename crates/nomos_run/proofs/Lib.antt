@@ -1,3 +1,2 @@
 mod CarryLemmas
-mod RetellLemmas
 pub mod CarriedLaws

@@ -3,7 +3,6 @@
 
 pub mod crew;
 pub mod orders;
-pub mod retelling;
 pub mod running;
 pub mod status;
 mod way;

@@ -14,7 +14,7 @@ use Rattle.nomos_due.specs.Replays.{IsJournalDue, IsReplayDue}
 use Rattle.nomos_due.specs.Runs as runs
 use Rattle.nomos_due.specs.Runs.{IsRunDue, IsRunPart}
 use Rattle.nomos_due.specs.Written as writing
-use Rattle.nomos_due.specs.Written.{IsWritten, with_text}
+use Rattle.nomos_due.specs.Written.{HasWrittenOut, with_text}
 use Rattle.nomos_least.specs.LeastBounds.{IsLeastAs}
 use Rattle.nomos_least.specs.declared.least.LeastBounds.{LeastBounds}
 use Rattle.nomos_legal.specs.Ledger.{LedgerState}
@@ -264,7 +264,7 @@ pub data WrittenView (status : ℕ) (out : List ℕ) (kept : Option (List ℕ)) 
       → HaveRisen jo.counts → AppendsSome text jo.before jo.after → WrittenView status out kept so jo ended
 
 pub written-view : (status : ℕ) (out : List ℕ) (kept : Option (List ℕ)) (so jo : SinkState) (ended : ℕ)
-    → IsWritten status out kept so jo ended → WrittenView status out kept so jo ended
+    → HasWrittenOut status out kept so jo ended → WrittenView status out kept so jo ended
 written-view status out kept so jo ended (writing.whole wrote keeps) = whole refl wrote keeps
 written-view status out kept so jo ended (writing.out_fault rose front none) = out_failed refl rose front none
 written-view status out kept so jo ended (writing.journal_fault text is wrote rose front) =

@@ -1,7 +1,7 @@
 -- How one call of `nomos` ends.
 use Rattle.std.specs.Prelude.{◌≡◌, ◌⊎◌, ℕ, List, Option, Some}
 use Rattle.nomos_due.specs.Outside.{input_of}
-use Rattle.nomos_due.specs.Written.{IsWritten}
+use Rattle.nomos_due.specs.Written.{HasWrittenOut}
 use Rattle.nomos_top.specs.Outcome.{Inputs, Outcome, IsDue, IsPart}
 use Rattle.nomos_top.specs.Seen.{Call, Texts, AreTold}
 use Rattle.nomos_types.specs.Acceptance.{Acceptance, IsAccepted}
@@ -28,7 +28,7 @@ pub record EndsWritten (c : Call) (i : Inputs) : Type 0 where
   pub out : List ℕ
   pub kept : Option (List ℕ)
   pub due : IsDueOf c i status out kept
-  pub written : IsWritten status out kept c.out c.journal_out c.status
+  pub written : HasWrittenOut status out kept c.out c.journal_out c.status
 
 -- Memory was wanting, and nothing was written.
 pub record EndsWithoutMemory (c : Call) (i : Inputs) : Type 0 where

@@ -1,6 +1,6 @@
 //! What is due where one worker runs a script, or a journal is replayed. No thread is made.
 
-ghost use Rattle.std.specs.Prelude.{◌≡◌, ℕ, List, Option, Some, None, IfOk, IfErr, true};
+ghost use Rattle.std.specs.Prelude.{◌≡◌, ◌≤◌, ℕ, List, Option, Some, None, IfOk, IfErr, true};
 ghost use Rattle.nomos_due.specs.Benches.{IsBenchDue, IsBenchPart};
 ghost use Rattle.nomos_due.specs.Outside.{SourceState, source_state};
 ghost use Rattle.nomos_due.specs.Replays.{no_journal};
@@ -127,6 +127,7 @@ fn accepted_replay_due<S: Source>(
 
 /// What is due for the load of `bench`.
 pub(crate) fn bench_due(alloc: Global, load: Load) -> Result<CallDue, DoneSoFar>
+    requires { load.bidders ≤ 10000 }
     ensures ok { (contract script journal : SourceState) → IfOk result (IsTaskDueOn
         (record { contract = contract; script = script; journal = journal }) (bench load.seed load.bidders)) }
     ensures err { (contract script journal : SourceState) → IfErr result (IsTaskPartOn
@@ -160,6 +161,7 @@ fn indexed_bench_due(
     requires one { (policy : Policy) × (orders.crew ≡ Crew.One policy) }
     requires limit { IsLimit orders.limit }
     requires result { orders.result ≡ true }
+    requires few { load.bidders ≤ 10000 }
     ensures ok { IfOk result (λ due.
         IsBenchDue accepted.now orders load due.status due.out.items due.journal) }
     ensures kept { IfOk result (λ due. kept_text due ≡ None) }
@@ -170,6 +172,7 @@ fn indexed_bench_due(
 
 // What is due for the load of `bench` on the accepted auction.
 fn accepted_bench_due(alloc: Global, load: Load, accepted: Accepted) -> Result<CallDue, DoneSoFar>
+    requires { load.bidders ≤ 10000 }
     ensures ok { IfOk result (λ d.
         IsBenchDue accepted bench_orders load d.due.status d.due.out.items d.due.journal) }
     ensures kept { IfOk result (λ d. kept_text d.due ≡ None) }

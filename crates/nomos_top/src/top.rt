@@ -4,7 +4,7 @@ ghost use Rattle.std.specs.Prelude.{◌≡◌, ◌⊎◌, ◌↔◌, ℕ, List, 
 ghost use Rattle.std.specs.Option.{option_map};
 ghost use Rattle.nomos_due.specs.Outside.{SourceState, sink_state, source_state};
 ghost use Rattle.nomos_due.specs.Sources.{kept_text};
-ghost use Rattle.nomos_due.specs.Written.{IsWritten};
+ghost use Rattle.nomos_due.specs.Written.{HasWrittenOut};
 ghost use Rattle.nomos_script.specs.ScriptReading.{ReadsAs};
 ghost use Rattle.nomos_script.specs.declared.item.ScriptItem.{ScriptItem};
 ghost use Rattle.nomos_top.specs.Claims.{Claims};
@@ -249,7 +249,7 @@ fn end_call<K: Sink>(due: Result<CallDue, DoneSoFar>, out: &mut K, journal_out: 
 
 // Writes what is due.
 fn write_call<K: Sink>(due: CallDue, out: &mut K, journal_out: &mut K) -> Ended
-    ensures written { IsWritten due.due.status due.due.out.items (kept_text due.due)
+    ensures written { HasWrittenOut due.due.status due.due.out.items (kept_text due.due)
         (sink_state (K.written out.old) (K.written out.new) (K.faults out.old) (K.faults out.new))
         (sink_state (K.written journal_out.old) (K.written journal_out.new)
         (K.faults journal_out.old) (K.faults journal_out.new))

@@ -7,7 +7,7 @@ use Rattle.nomos_accept.specs.declared.refusal.AcceptError.TheVariants as error
 use Rattle.nomos_due.specs.Lines.{no_entries, read_fault_line}
 use Rattle.nomos_due.specs.Outside.{HasText, HaveRisen, SourceState, input_of}
 use Rattle.nomos_due.specs.Sources.{kept_text}
-use Rattle.nomos_due.specs.Written.{IsWritten}
+use Rattle.nomos_due.specs.Written.{HasWrittenOut}
 use Rattle.nomos_due.specs.declared.due.Due.{Due}
 use Rattle.nomos_least.specs.LeastBounds.{IsLeastAs}
 use Rattle.nomos_least.specs.declared.least.LeastBounds.{LeastBounds}
@@ -137,7 +137,7 @@ given_of (Err part) = part.accepted
 
 -- the call has written what is due, or a sink failed, and gives what is due
 pub record EndsDue (c : Call) (d : CallDue) : Type 0 where
-  pub written : IsWritten d.due.status d.due.out.items (kept_text d.due) c.out c.journal_out c.status
+  pub written : HasWrittenOut d.due.status d.due.out.items (kept_text d.due) c.out c.journal_out c.status
   pub accepted : c.accepted ≡ d.accepted
   pub journal : c.journal ≡ d.due.journal
 

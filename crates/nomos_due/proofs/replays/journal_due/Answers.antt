@@ -35,7 +35,7 @@ pub returns-in-Err-TooLong-clause-legal : goal.returns-in-Err-TooLong-clause-leg
 returns-in-Err-TooLong-clause-legal g c = λ v kept text e is.
     let over = taken-within max_bytes text _ _ (c.in-Err-TooLong.ensures.too_long (cc)) e in
     let within = text-within c.program-program.ensures.accepted c.items-items.ensures.size
-    c.requires.written v kept text is in
+    c.items-items.ensures.written v kept text is in
     absurd (omega (arith, over, within))
 
 pub returns-in-Err-ReadFault-clause-ok : goal.returns-in-Err-ReadFault-clause-ok

@@ -1,12 +1,7 @@
 use Rattle.nomos_due.specs.Outside.{input_of, source_state}
 use Rattle.nomos_due.proofs.DueLemmas.{no_script-fault, replay-answered, replay-no_script, same-items}
 use Rattle.nomos_due.proofs.SourceLemmas.{if_ok-map}
-use Rattle.nomos_script.proofs.WrittenLaws.{reads-written}
 use Rattle.nomos_due.proofs.replays.replay_due.Goals as goal
-
-pub journal_due-requires : goal.journal_due-requires
-journal_due-requires g c =
-    let f = c.in-Ok.ensures in record { written = reads-written f.0 c.in-Ok.script f.2 }
 
 pub returns-in-Ok-clause-ok : goal.returns-in-Ok-clause-ok
 returns-in-Ok-clause-ok g c =

@@ -12,7 +12,7 @@ returns-in-Ok-clause-ok g c = λ counts.
 
 pub returns-in-Ok-clause-legal : goal.returns-in-Ok-clause-legal
 returns-in-Ok-clause-legal g c = λ v kept is.
-    let same = c.in-Ok.ensures.legal c.requires.written v kept is in
+    let same = c.in-Ok.ensures.legal v kept is in
     let made = c.replayed_due.ensures in
     inr (rw same at made.journal, rw same at made.status)
 
@@ -26,6 +26,6 @@ returns-in-Err g c =
           refused.known;
       legal = λ v kept is.
           if_ok-map c.refused_due.result _ _
-          (λ due known. absurd (known (c.in-Err.ensures.legal c.requires.written v kept is))) refused.known;
+          (λ due known. absurd (known (c.in-Err.ensures.legal v kept is))) refused.known;
       err = refused.err;
     }

@@ -7,8 +7,8 @@ pub replay_from-requires-clause-stands : goal.replay_from-requires-clause-stands
 replay_from-requires-clause-stands g c = c.empty.ensures.stands c.args.accepted.now
 
 pub returns-clause-legal : goal.returns-clause-legal
-returns-clause-legal g c = λ written v journal is.
-    c.replay_from.ensures.legal written v journal
+returns-clause-legal g c = λ v journal is.
+    c.replay_from.ensures.legal v journal
     (record {
       passages = is.passages;
       last = is.last;

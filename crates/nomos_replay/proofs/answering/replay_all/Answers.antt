@@ -1,10 +1,8 @@
-use Rattle.std.proofs.Common.{◌≡◌, ◌∙◌, subst, sym}
+use Rattle.std.proofs.Common.{◌≡◌, ◌∙◌, sym}
 use Rattle.std.proofs.lemmas.Bool.{false≢true}
 use Rattle.std.proofs.lemmas.Result.{err_from_is_err_and}
-use Rattle.nomos_legal.specs.Ledger.{LedgerState}
-use Rattle.nomos_replay.specs.mirror.Items.{AllTold}
 use Rattle.nomos_replay.proofs.WalkLemmas.{told-all, told-too_many}
-use Rattle.nomos_replay.proofs.replay.replay_all.Goals as goal
+use Rattle.nomos_replay.proofs.answering.replay_all.Goals as goal
 
 pub returns-in_err-ledger : goal.returns-in_err-ledger
 returns-in_err-ledger g c =
@@ -17,16 +15,13 @@ returns-then-not-over g c = λ all.
     let same : c.as_slice-items.result.now ≡ c.args.script.now = c.as_slice-items.ensures ∙ c.items.ensures.items in
     let so = rw (c.in_ok-walk.ensures, same) at c.in_ok-ledger.ensures.tells in
     rw c.is_over-over.ensures.at
-    (told-too_many c.args.trial.now.accepted.now c.args.trial.now.version c.args.from c.args.limit so
-    (λ is. false≢true (sym c.if-not-over.true ∙ c.is_over-over.ensures.over.1 is)) all)
+    (told-too_many c.args.trial.now.accepted.now c.args.trial.now.version c.args.from c.args.limit
+    c.args.trial.now.wanted so (λ is. false≢true (sym c.if-not-over.true ∙ c.is_over-over.ensures.over.1 is)) all)
 
 pub returns : goal.returns
 returns g c =
-    let a = c.args.trial.now.accepted.now in
-    let v = c.args.trial.now.version in
     let same : c.as_slice-items.result.now ≡ c.args.script.now = c.as_slice-items.ensures ∙ c.items.ensures.items in
     let so = rw (c.in_ok-walk.ensures, same) at c.in_ok-ledger.ensures.tells in
-    subst (λ (l : LedgerState). AllTold a v c.args.from c.args.limit c.args.source c.args.script.now
-    c.whole.result.journal l c.whole.result.report.items) (sym c.whole.ensures.ledger)
-    (told-all a v c.args.from c.args.limit so c.whole.result.journal c.whole.result.report.items
-    (c.is_over-over.ensures.over.0 c.if-not-over.false) c.whole.ensures.journal c.whole.ensures.report)
+    told-all c.args.trial.now.accepted.now c.args.trial.now.version c.args.from c.args.limit c.args.trial.now.wanted so
+    c.whole.result (c.is_over-over.ensures.over.0 c.if-not-over.false) c.whole.ensures.journal c.whole.ensures.ledger
+    c.whole.ensures.papers
