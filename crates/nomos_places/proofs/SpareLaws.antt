@@ -133,7 +133,7 @@ module _ {lists : ProgramLists} {x : Annotations} (j : Judgement) (m : ℕ) wher
   left-affords after (code.Match at w empty_next head tail full_next) stands says each calls = tt
 
   -- at a call what is called has to be there
-  call-afforded : (n : CodeNode) → StandsAtCode lists j n → Affords lists x j n m → (needs : ℕ)
+  pub call-afforded : (n : CodeNode) → StandsAtCode lists j n → Affords lists x j n m → (needs : ℕ)
       → CallNeeds lists x j needs → needs ≤ m
   call-afforded n stands afford _ (needing.call {at} {f} {args} {d} there found) =
       let same : n ≡ code.Call at f args = cc in

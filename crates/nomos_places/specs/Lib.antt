@@ -1,3 +1,3 @@
 pub mod LeastPotential
-pub mod Places
+pub mod WantedPlaces
 pub mod mirror

@@ -1,5 +1,8 @@
-//! What typing says at the instructions of an accepted program.
+//! What typing says at the instructions of an accepted program, and how much potential it asks for there.
 #![tactic(auto)]
 
-pub mod declared;
+mod along;
+pub mod found_places;
 pub mod place;
+mod potentials;
+mod spares;

@@ -1,6 +1,6 @@
 //! What typing says at an instruction.
-ghost use Rattle.std.specs.Prelude.{◌≡◌, All, IfOk};
-ghost use Rattle.nomos_ir.specs.Bindings.{each_bound};
+ghost use Rattle.std.specs.Prelude.{◌≡◌, ◌↔◌, All, IfOk, IsSome, IsTrue};
+ghost use Rattle.nomos_ir.specs.Bindings.{IsAscending, bound_to, each_bound};
 ghost use Rattle.nomos_types.specs.Acceptance.{IsAmountOf};
 ghost use Rattle.nomos_places.specs.mirror.Making.{held, place_under, HasProgramAmounts};
 
@@ -21,7 +21,7 @@ pub struct HeldList {
 
 /// What a process has at an instruction of an accepted program, as typing says it: its mode, the type that it offers,
 /// the kinds of its values, its lists, and the types of its references and of its other channels, each by variable in
-/// order of number.
+/// order of number. And the least potential that it needs there beside that of its lists, in Dths.
 #[derive(Drop)]
 pub struct Place {
     pub code: CodeId,
@@ -31,6 +31,28 @@ pub struct Place {
     pub lists: Items<(VarId, HeldList)>,
     pub shared: Items<(VarId, TypeId)>,
     pub linear: Items<(VarId, TypeId)>,
+    pub least: u128,
+}
+
+/// Whether the variable is bound among these, which are in order.
+fn is_bound(entries: &[(VarId, TypeId)], v: VarId) -> bool
+    requires { IsAscending entries.now }
+    ensures { IsTrue result ↔ IsSome (bound_to v.0 entries.now) }
+{
+    match entries.binary_search_by_key(&v.0, |entry| entry.0.0) {
+        Ok(_) => true,
+        Err(_) => false,
+    }
+}
+
+impl Place {
+    /// Whether the variable is a reference, where these are in order.
+    pub fn has_reference(&self, v: VarId) -> bool
+        requires { IsAscending self.now.shared }
+        ensures { IsTrue result ↔ IsSome (bound_to v.0 self.now.shared) }
+    {
+        is_bound(self.shared.as_slice(), v)
+    }
 }
 
 /// The lists, with what their amounts are worth.
@@ -53,14 +75,15 @@ fn held_lists(
     Ok(made)
 }
 
-/// The place where this is in hand.
+/// The place where this is in hand, and so much potential is needed.
 pub(crate) fn place_under(
     alloc: Global,
     accepted: &Accepted,
     standing: &Standing,
+    least: u128,
 ) -> Result<Place, AllocError>
     requires { HasProgramAmounts accepted.now.program standing.now }
-    ensures { IfOk result (λ place. place ≡ place_under accepted.now.annotations standing.now) }
+    ensures { IfOk result (λ place. place ≡ place_under accepted.now.annotations standing.now least) }
 {
     let lists = held_lists(alloc, accepted, standing.lists.pairs().as_slice())?;
     let kinds = Vec::from_slice(alloc, standing.kinds.pairs().as_slice())?;
@@ -74,5 +97,6 @@ pub(crate) fn place_under(
         lists: Items::of_vec(lists),
         shared: Items::of_vec(shared),
         linear: Items::of_vec(linear),
+        least,
     })
 }

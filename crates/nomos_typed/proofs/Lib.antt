@@ -6,6 +6,7 @@ pub mod HeadLemmas
 pub mod LeadingLemmas
 pub mod NameLemmas
 pub mod PartLemmas
+pub mod PlacingLemmas
 pub mod PurseLemmas
 pub mod SectionLemmas
 pub mod TalkLemmas

@@ -2,6 +2,7 @@
 pub mod Told
 pub mod Heads
 pub mod Leading
+pub mod AtPlaces
 pub mod Purses
 pub mod Talks
 pub mod Ties

@@ -41,7 +41,7 @@ pub(crate) fn has_kind(node: &ValueNode, kind: Kind) -> bool
 
 /// Whether all values have a kind.
 #[cycle(kinds)]
-fn all_have_kind(items: &Values, kind: Kind) -> bool
+pub(crate) fn all_have_kind(items: &Values, kind: Kind) -> bool
     ensures { IsTrue result ↔ AllHaveKind (value_list items.now) kind }
 {
     let mut left = items;

@@ -12,6 +12,7 @@ pub mod messages;
 mod naming;
 mod once;
 pub mod owning;
+pub mod placing;
 pub mod purses;
 pub mod sections;
 mod tie;

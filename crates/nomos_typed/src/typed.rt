@@ -1,4 +1,4 @@
-//! Whether plain data are those of a typed state, where its processes stand at their places.
+//! Whether plain data are those of a typed state.
 ghost use Rattle.std.specs.Prelude.{◌↔◌, IsTrue, IfOk};
 ghost use Rattle.nomos_contents.specs.Data.{IsOrdered, state_of};
 ghost use Rattle.nomos_machine.specs.TypedState.{IsTyped};
@@ -8,6 +8,7 @@ use crate::both::{all_three, both};
 use crate::founded::are_objects_founded;
 use crate::messages::are_messages_typed;
 use crate::owning::{are_names_mentioned, are_names_owned};
+use crate::placing::are_processes_placed;
 use crate::sections::are_in_sections;
 use nomos_contents::data::StateData;
 use nomos_types::accepted::Accepted;
@@ -37,4 +38,17 @@ pub fn is_typed_if_placed(
     }
     let sections = are_in_sections(alloc, accepted, state)?;
     Ok(sections)
+}
+
+/// Whether plain data are those of a typed state: `docs/MACHINE.md`, "Typed states", has what that is. Any numbers may
+/// stand in the data, also of instructions, types and names that there are not. Nothing is made that is as large as a
+/// number of the data.
+pub fn is_typed(alloc: Global, accepted: &Accepted, state: &StateData) -> Result<bool, AllocError>
+    requires { IsOrdered state.now }
+    ensures { IfOk result (λ yes. IsTrue yes ↔ IsTyped accepted.now (state_of state.now)) }
+{
+    if !are_processes_placed(alloc, accepted, state)? {
+        return Ok(false);
+    }
+    is_typed_if_placed(alloc, accepted, state)
 }

@@ -1,0 +1,15 @@
+use Rattle.std.proofs.Common.{true, take, All}
+use Rattle.nomos_equality.specs.Comparing.{HasCompared}
+use Rattle.nomos_typed.specs.Typed.{ObjectPlaced}
+use Rattle.nomos_typed.specs.Telling.{Tells}
+use Rattle.nomos_typed.specs.mirror.Told.{acceptance_of, program_of, amounts_in}
+use Rattle.nomos_typed.proofs.placing.all_placed.Given as goal
+
+-- the processes so far stand at their places where the amounts are worth the same
+abbrev pub invariant-loop-object : goal.invariant-loop-object
+invariant-loop-object l =
+    record {
+      compared : HasCompared (program_of l.told) l.equalities;
+      tells : Tells (amounts_in l.told) l.fn.equalities.amounts l.equalities.amounts
+          (All (ObjectPlaced (acceptance_of l.told) l.told.types.now) (take l.object-index l.objects)) true;
+    }
