@@ -1,4 +1,6 @@
 """Which argument of a line of a script does not fit the parameter of the process that the line starts."""
+from typing import NamedTuple
+
 from .amounts import closing
 from .mends import Mend, mend
 from .syntax import distance, nearest
@@ -43,6 +45,13 @@ def taken(wanted, given, what):
     rows = "".join(f", `{it.name}: {it.type}`" for it in wanted)
     stands = "stand" if given > 1 else "stands"
     return f"it takes {counted(len(wanted), what)}{rows}; here {stands} {counted(given, what)}"
+
+
+class Made(NamedTuple):
+    """A line of a script that makes a contract: as it is said, and as it is tried."""
+
+    said: str
+    tried: str
 
 
 class Arguments:
@@ -159,8 +168,19 @@ class Arguments:
         if len(self.names) >= len(self.wanted_names):
             return []
         lacking = [it for it in self.wanted_names if not self.suiting(it)]
-        return [mend(f"write `{it}` on a line before, and `{wanted.name}` behind the `;` here")
+        return [mend(f"write `{it.said}` on a line before, and `{wanted.name}` behind the `;` here",
+                     self.before(it), self.named_in(wanted))
                 for wanted in lacking[:1] for it in self.makers(wanted) if wanted.name not in self.known]
+
+    def named_in(self, wanted):
+        """Gives the edit that writes the name of a parameter among the names of contracts, where it stands in the row
+        of these."""
+        place = self.wanted_names.index(wanted)
+        if place < len(self.names):
+            at = self.names[place].tokens[0].at
+            return at, at, f"{wanted.name}, "
+        last = self.line.tokens[-1].at
+        return last, last, f", {wanted.name}" if self.names else f" {wanted.name}"
 
     def makers(self, wanted):
         """Gives lines of a script that make a contract for a parameter, three at most."""
@@ -171,9 +191,16 @@ class Arguments:
             names = [self.suiting(one)[:1] for one in shared]
             if (it.mode, it.offers) == ("S", wanted.type) and is_free and all(names):
                 values = ".." if it.of_kind("value") else ""
+                tried = ", ".join({"int": "0", "bool": "true"}.get(one.type, "[]") for one in it.of_kind("value"))
                 behind = f"{' ' if names else ''}{', '.join(name for row in names for name in row)}"
-                found.append(f"let {wanted.name} = new {self.line.sender.text} {it.name}({values};{behind})")
+                head = f"let {wanted.name} = new {self.line.sender.text} {it.name}("
+                found.append(Made(f"{head}{values};{behind})", f"{head}{tried};{behind})"))
         return found[:3]
+
+    def before(self, made):
+        """Gives the edit that writes the line which makes a contract before the batch of this one."""
+        at = self.run.script.row(self.refused.number).at
+        return at, at, f"{made.tried}\n"
 
     def enlisted(self):
         """Gives a line for the values that are those of the one list that is wanted."""
@@ -220,9 +247,17 @@ class Arguments:
                 see = f"see: {self.declared()}, and `{wanted.name}` is of the kind `{wanted.type}`"
                 is_near = wanted.type.startswith("list") and isinstance(it.value, list)
                 what = "a list of other elements" if is_near else kind_of(it.value)
-                lines = [*(self.sorted() or self.turned(it, wanted.type.split())), f"{see}; `{it.text}` is {what}"]
+                mends = self.sorted() or self.turned(it, wanted.type.split()) or self.other(it, wanted.type.split())
+                lines = [*mends, f"{see}; `{it.text}` is {what}"]
                 return it.tokens[0].at, "BadArguments kind", lines
         return None
+
+    def other(self, argument, kind):
+        """Gives a line for another value, of the kind that is wanted."""
+        said, new = {"int": ("a number", "0"), "bool": ("`true` or `false`", "true")}.get(kind[0], ("a list", "[]"))
+        edit = (argument.tokens[0].at, argument.tokens[-1].end, new)
+        words = f"write {said} in place of `{argument.text}`"
+        return [mend(words, edit)] if self.refused.goes_on(edit) else []
 
     def valued(self, names):
         """Gives a line on the values that are left out, with the names of contracts behind them."""
@@ -278,7 +313,7 @@ class Arguments:
                 see = self.made(suits) if suits else f"see: no contract of the type `{wanted.type}` is made so far"
                 is_named = it.text.isidentifier() and not suits
                 makes = self.makers(wanted._replace(name=it.text)) if is_named and not self.of_account(it.text) else []
-                makes = [mend(f"write `{line}` on a line before") for line in makes]
+                makes = [mend(f"write `{made.said}` on a line before", self.before(made)) for made in makes]
                 meant = self.refused.meant(it.tokens[0], nearest(it.text, suits)) or self.of_one(it.tokens[0], suits)
                 others = meant or self.of_type_name(it, wanted, suits)
                 lines = self.made_elsewhere(it.text) or others or [*makes, *self.of_account(it.text), see]
@@ -367,7 +402,8 @@ class Arguments:
         where = f"in place of `{argument.text}`"
         mends = [mend(f"write `{name}` {where}", (token.at, token.end, name)) for name in does] or self.changed(token)
         if not mends and not others and wanted.name not in self.known:
-            mends = [mend(f"write `{it}` on a line before, and `{wanted.name}` in place of `{argument.text}`")
+            mends = [mend(f"write `{it.said}` on a line before, and `{wanted.name}` in place of `{argument.text}`",
+                          self.before(it), (token.at, token.end, wanted.name))
                      for it in self.makers(wanted)]
         return token.at, "BadArguments type", [*mends, see, *([self.made(others)] if others and not mends else [])]
 

@@ -37,6 +37,34 @@ def written(tokens, at, sign, count, begins_term):
     return WRITTEN[sign].format(joined(tokens[start:at]), joined(tokens[at + count : end])), start, end
 
 
+def chained(tokens, at, begins_term):
+    """Gives two comparisons joined by an `and` in place of a chain of two, of which one sign begins at a token, and the
+    tokens from which to which that stands; nothing where it is no chain."""
+    signs = {**WRITTEN, "<": "{0} < {1}", "=": "{0} = {1}", "==": "{0} = {1}"}
+    found = sides(tokens, at, 1, begins_term)
+    start, end = found or (at, at)
+    rows, depth, place = [], 0, start
+    while place < end:
+        sign = sign_at(tokens, place, signs) if depth == 0 else ""
+        depth += (tokens[place].text == "(") - (tokens[place].text == ")")
+        rows += [(place, sign)] if sign else []
+        place += len(sign) or 1
+    if len(rows) != 2:
+        return None
+    (one, first), (two, second) = rows
+    parts = [joined(it) for it in (tokens[start:one], tokens[one + len(first) : two], tokens[two + len(second) : end])]
+    if not all(parts):
+        return None
+    return f"{signs[first].format(*parts[:2])} and {signs[second].format(*parts[1:])}", start, end
+
+
+def sign_at(tokens, at, signs):
+    """Gives the sign of a comparison that begins at a token, of two signs or of one, or nothing."""
+    it, behind = tokens[at], tokens[at + 1] if at + 1 < len(tokens) else tokens[at]
+    two = it.text + behind.text if it.end == behind.at else ""
+    return two if two in signs else it.text if it.text in signs else ""
+
+
 def translated(text):
     """Gives a test in signs and words of this language."""
     for old, new in SIGNS:

@@ -1,6 +1,6 @@
 """Arguments of a `spawn` or a `call` that are left out, or too many, and terms in other words than a function's."""
 from .mends import mend
-from .texts import joined, listed
+from .texts import joined, listed, tokens_of
 
 TRIED = {"int": "0", "bool": "true"}
 MOST_TRIED = 8
@@ -30,6 +30,7 @@ def completed(it):
         return []
     known = known_here(it, "value")
     place = left_out(it, values, known) if len(missing) == 1 and not lacking else None
+    place = by_names(it, values, known) if place is None and len(missing) == 1 and not lacking else place
     if place is not None:
         values.insert(place, it.wanted_values[place].name)
         missing = []
@@ -60,6 +61,18 @@ def left_out(it, values, known):
     found = [at for at, one in enumerate(it.wanted_values)
              if one.name in known and one.name not in used and one.name not in values]
     return found[0] if len(found) == 1 else None
+
+
+def by_names(it, values, known):
+    """Gives which one value is left out, where the others name the parameters that they stand for, and one place alone
+    lets the most of them do so."""
+    names, words = [one.name for one in it.wanted_values], [{token.text for token in tokens_of(one)} for one in values]
+    counts = []
+    for at in range(len(names)):
+        rest = names[:at] + names[at + 1 :]
+        counts.append(sum(name in said for name, said in zip(rest, words)) if names[at] in known else -1)
+    most = max(counts, default=0)
+    return counts.index(most) if most > 0 and counts.count(most) == 1 else None
 
 
 def shortened(it):

@@ -37,6 +37,11 @@ SMALL = ("as", "by", "from", "for", "with", "account", "contract", "on", "to")
 # The brackets that others have around a list, and how many numbers are written out.
 BRACKETS = {"{": "}", "(": ")", "<": ">", "[": "]"}
 MOST_ROW, MOST_TIMES = 50, 20
+# The truth values by the words that others have for them.
+TRUTHS = {
+    **dict.fromkeys(("yes", "y", "on", "t", "true", "ok"), "true"),
+    **dict.fromkeys(("no", "n", "off", "f", "false", "not"), "false"),
+}
 ADDED = {"+": int.__add__, "-": int.__sub__, "*": int.__mul__}
 
 
@@ -51,11 +56,28 @@ class Forms:
     """What is found of the tokens around the marked one, by the class that is made of this one."""
 
     def of_forms(self):
-        ways = (self.of_case, self.of_accounts, self.of_several, self.of_rows, self.of_left_out, self.of_dots)
+        ways = (self.of_ends, self.of_small_letters, self.of_case, self.of_accounts, self.of_several, self.of_rows)
+        ways = (*ways, self.of_left_out, self.of_dots)
         ways = (self.of_deposits, self.of_amounts, self.of_names, self.of_inner, self.of_first_words, *ways)
-        ways = (*ways, self.of_words, self.of_makes, self.of_payers, self.of_calls, self.of_brackets)
-        for way in (*ways, self.of_tails, self.of_lists, self.of_numbers, self.of_terms):
+        ways = (*ways, self.of_words, self.of_given_behind, self.of_makes, self.of_payers, self.of_calls)
+        for way in (*ways, self.of_brackets, self.of_tails, self.of_lists, self.of_numbers, self.of_terms):
             yield from way()
+
+    def of_small_letters(self):
+        """Words of the language in great letters, in this line and in others."""
+        rows = [it for it in self.script.rows[self.row.number - 1 :] if it.word.lower() in STARTS]
+        rows = [it for it in rows if it.word not in STARTS]
+        if self.count or len(rows) < 2 or rows[0] is not self.row:
+            return
+        new, done = "", self.row.at
+        for it in rows:
+            line = self.script.text[it.at : it.end]
+            for token in (token for token in it.tokens[::-1] if token.text.lower() in RESERVED):
+                line = line[: token.at - it.at] + token.text.lower() + line[token.end - it.at :]
+            new += self.script.text[done : it.at] + line
+            done = it.end
+        words = f"write the words of the language in {len(rows)} lines in small letters"
+        yield Slip((self.row.at, done, new), words)
 
     def of_case(self):
         """Words of the language in great letters."""
@@ -66,6 +88,18 @@ class Forms:
                 new = new[: it.at - self.row.at] + it.text.lower() + new[it.end - self.row.at :]
             said = " and ".join(f"`{it.text.lower()}` in place of `{it.text}`" for it in great)
             yield Slip((self.row.at, self.row.end, new), f"write {said}")
+
+    def of_ends(self):
+        """A sign at the end of this line, and of others."""
+        mark, last = self.marked, self.tokens[-1]
+        rows = [it for it in self.script.rows[self.row.number - 1 :] if it.tokens and it.tokens[-1].text == mark.text]
+        if mark is last and mark.text in (";", ",", ".") and len(rows) > 1 and self.may_end:
+            new, done = "", mark.at
+            for it in rows:
+                new += self.script.text[done : it.tokens[-1].at]
+                done = it.tokens[-1].end
+            words = f"take the `{mark.text}` at the end of {len(rows)} lines out"
+            yield Slip((mark.at, done, new), words)
 
     def of_rows(self):
         """A line that goes on in the next one, and two lines in one."""
@@ -83,7 +117,8 @@ class Forms:
             rows = [joined(self.tokens[at:end]).rstrip(";") for at, end in zip(starts, [*starts[1:], len(texts)])]
             said = ", ".join(f"`{it}`" for it in rows)
             yield Slip((row.at, row.end, "\n".join(rows)), f"write {said}, each on a line of its own")
-        if self.count and self.may_end and mark.text in self.words:
+        words = ("begin", "let", "exec", "deposit", "show") if texts[:1] == ["end"] else self.words
+        if self.count and self.may_end and mark.text in words:
             yield Slip((mark.at, mark.at, "\n"), f"write this `{mark.text}` and what stands behind it on another line")
 
     def instead(self):
@@ -156,6 +191,7 @@ class Forms:
         is_before = not self.count and texts[1:2] and texts[1] in self.words and mark.text not in self.accounts()
         if is_before and (mark.kind == "number" or texts[1] != "exec"):
             yield Slip((mark.at, self.tokens[1].at, ""), f"take `{mark.text}` out")
+        yield from self.of_unpaid()
         other = WORDS.get(mark.text.lower()) if not self.count else None
         if other in self.words and texts[1:2] in (["exec"], ["let"], ["begin"]):
             yield Slip((mark.at, self.tokens[1].at, ""), f"take `{mark.text}` out")
@@ -165,6 +201,18 @@ class Forms:
         if not self.count and texts[1:2] == ["="] and texts[2:3] == ["exec"]:
             said = joined(self.tokens[:2])
             yield Slip((mark.at, self.tokens[2].at, ""), f"take `{said}` out, since results stand in the report alone")
+
+    def of_unpaid(self):
+        """A transaction behind another word than `exec`, or behind none, without the account that pays."""
+        texts, processes = [it.text for it in self.tokens], self.codes.processes if self.codes else {}
+        at = next((at for at in (0, 1) if texts[at + 1 : at + 2] == ["("] and texts[at] in processes), None)
+        if self.count or at is None or processes[texts[at]].mode != "T" or texts[0] in (*STARTS, *self.accounts()):
+            return
+        one, known = self.one_account(), self.script.accounts(self.row.number)
+        old = f" in place of `{texts[0]}`" if at else f" before `{texts[0]}`"
+        said = f"write `exec {one}`{old}" if one else f"write `exec ..`{old}, with the account that pays"
+        new = f"exec {one or (known[0] if known else 'x')} "
+        yield Slip((self.tokens[0].at, self.tokens[at].at, new), said)
 
     def of_names(self):
         """A name with a hyphen in it, or with a number before it."""
@@ -317,13 +365,31 @@ class Forms:
         said = [joined(it) for it in parts]
         return said if len(said) == count else [joined(self.tokens[start:])] * count
 
+    def of_given_behind(self):
+        """The contracts behind the parentheses, as in `f(7) on c`."""
+        texts = [it.text for it in self.tokens]
+        closing = texts.index(")") if ")" in texts else len(texts)
+        names = [it for it in texts[closing + 2 :] if it not in (",", "and", ")")]
+        signs = (*SMALL, "at", "in", "using", "of", "over", ";", ",", "(")
+        is_given = texts[closing + 1 : closing + 2] and texts[closing + 1] in signs
+        opening = texts.index("(") if "(" in texts[:closing] else len(texts)
+        if is_given and names and set(names) <= self.made() and self.count >= opening:
+            inside = joined(self.tokens[opening + 1 : closing]).strip("; ")
+            new = f"({inside}; {', '.join(names)})"
+            said = joined(self.tokens[closing + 1 :])
+            edit = (self.tokens[opening].at, self.row.end, new)
+            yield Slip(edit, f"write `{new}`, with what `{said}` names behind the `;`")
+
     def of_makes(self):
         """A contract that is made by other words than `let .. = new ..`, or has its type before its name."""
         mark, before, behind = self.marked, self.at(-1), self.at(1)
         texts = [it.text for it in self.tokens]
         if not self.count and mark.text == "new" and texts[2:3] == ["("]:
-            said = "`let .. = new ..` in place of `new`, with a name for the contract, and the account that pays"
-            yield Slip((mark.at, mark.end, "let x = new x"), f"write {said}")
+            one, name = self.one_account(), self.script.unmade(self.row.number)
+            said = f"`let {name or '..'} = new {one or '..'}` in place of `new`"
+            said += "" if name else ", with a name for the contract"
+            said += "" if one else ", and the account that pays"
+            yield Slip((mark.at, mark.end, f"let {name or 'x'} = new {one or 'x'}"), f"write {said}")
         if self.wanted == {"new"} and mark.text in self.accounts():
             yield Slip((mark.at, mark.at, "new "), f"write `new` before `{mark.text}`")
         if self.wanted == {"new"} and mark.text != "exec" and behind.kind == "word" and texts[5:6]:
@@ -402,6 +468,12 @@ class Forms:
         if not self.count and mark.kind == "word" and texts[1:2] and distance(texts[1], "deposit") < 3:
             new = f"deposit {mark.text} {joined(self.tokens[2:])}".strip()
             yield Slip((self.row.at, self.row.end, new), f"write `{new}`")
+        processes = self.codes.processes if self.codes else {}
+        is_turned = mark.text in processes and texts[1:2] and texts[1] in self.accounts() and texts[2:3] == ["("]
+        if not self.count and is_turned and processes[mark.text].mode == "T":
+            new = f"exec {texts[1]} {mark.text}"
+            said = f"write `{new}` in place of `{mark.text} {texts[1]}`"
+            yield Slip((mark.at, self.tokens[1].end, new), said)
         payers = self.script.accounts(self.row.number)
         if not self.count and texts[1:2] == ["."] and mark.text in self.made() and texts[3:4] == ["("] and payers:
             inside = joined(self.tokens[4 : self.closing(3)]).rstrip("; ")
@@ -433,7 +505,9 @@ class Forms:
             slip = self.of_no_arguments()
             yield slip._replace(edit=(slip.edit[0], self.row.end, slip.edit[2]))
         yield from self.of_names_given()
+        yield from self.of_repeated()
         yield from self.of_signs_twice()
+        yield from self.of_unparted()
 
     def of_names_given(self):
         """The names of contracts with something around them, or a number in the place of one."""
@@ -445,6 +519,7 @@ class Forms:
         is_name = self.wanted <= {"NAME", ")"} and ";" in texts[: self.count]
         process = self.codes.processes.get(texts[texts.index("(") - 1]) if self.codes and "(" in texts else None
         is_name = is_name and process is not None and process.of_kind("channel")
+        is_name = is_name and (not process.of_kind("value") or texts[texts.index("(") + 1] != ";")
         if mark.kind == "number" and is_name and len(self.made()) == 1:
             one = next(iter(self.made()))
             yield Slip((mark.at, mark.end, one), f"write `{one}`, the name of the contract, in place of `{mark.text}`")
@@ -456,6 +531,44 @@ class Forms:
             inside = self.script.text[mark.end : end.at].strip()
             old = self.script.text[mark.at : end.end]
             yield Slip((mark.at, end.end, inside), f"write `{inside}` in place of `{old}`")
+
+    def of_unparted(self):
+        """Values, or names of contracts, with nothing but blanks between them."""
+        texts = [it.text for it in self.tokens]
+        is_one = texts.count("(") == texts.count(")") == 1 and not set(texts) & {"[", "]", "-"}
+        if not is_one or self.count < texts.index("("):
+            return
+        opening, closing = texts.index("("), texts.index(")")
+        inside = texts[opening + 1 : closing]
+        sides = " ".join(inside).split(";")
+        parts = [it.replace(",", " ").split() for it in sides]
+        if len(sides) < 3 and all(it.isalnum() or it.isidentifier() for row in parts for it in row):
+            new = f"({'; '.join(', '.join(row) for row in parts)})".replace("; )", ";)")
+            edit = (self.tokens[opening].at, self.tokens[closing].end, new)
+            yield Slip(edit, f"write `{new}` in place of `{self.script.text[edit[0] : edit[1]]}`")
+
+    def of_repeated(self):
+        """A line that is to be run so many times, or once for each number of a row."""
+        texts = [it.text for it in self.tokens]
+        at = texts.index("exec") if "exec" in texts else 0
+        head, line = texts[:at], joined(self.tokens[at:]).rstrip("; }")
+        numbers = [int(it) for it in head if it.isdecimal() and len(it) < 4]
+        if self.count or not at or texts[0] not in ("repeat", "for", "loop", "times", "do"):
+            return
+        rows = []
+        if len(numbers) == 1 and set(head) <= {*head[:1], str(numbers[0]), "times", ":", "{", "x", "do", "*"}:
+            rows = [line] * numbers[0]
+        elif len(numbers) == 2 and head[0] == "for" and head[2:3] in (["in"], ["="], ["from"]):
+            last = numbers[1] + (".." not in "".join(head) and "to" not in head and "-" not in head)
+            last -= head[3:5] == ["range", "("]
+            places = [at + place for place, it in enumerate(texts[at:]) if it == head[1]]
+            for number in range(numbers[0], min(last, numbers[0] + MOST_TIMES) + 1):
+                tokens = [it._replace(text=str(number)) if place in places else it
+                          for place, it in enumerate(self.tokens)]
+                rows.append(joined(tokens[at:]).rstrip("; }"))
+        if rows and len(rows) <= MOST_TIMES:
+            said = f"`{rows[0]}` to `{rows[-1]}`" if rows[0] != rows[-1] else f"`{rows[0]}` {len(rows)} times"
+            yield Slip((self.row.at, self.row.end, "\n".join(rows)), f"write {said}, each on a line of its own")
 
     def of_signs_twice(self):
         """Signs that stand twice, or at an end, and lists in other brackets or without commas."""
@@ -561,13 +674,27 @@ class Forms:
         behind = [it for it in self.tokens if it.at > mark.at]
         names = {it.text for it in behind if it.kind == "word"}
         is_value = "NUMBER" in self.wanted and mark.kind == "word" and ";" in [it.text for it in behind]
+        said, new = KINDS.get(self.kind(), ("a number, `true` or `false`, or a list,", "0"))
+        turned = {"true": "false", "false": "true"}.get(self.at(1).text)
+        if mark.text in ("!", "~", "not") and turned and "NUMBER" in self.wanted:
+            old = joined(self.tokens[self.count : self.count + 2])
+            yield Slip((mark.at, self.at(1).end, turned), f"write `{turned}` in place of `{old}`")
+        truth = TRUTHS.get(mark.text.lower())
+        if is_value and truth and self.kind() in ("bool", "") and mark.text not in made:
+            yield Slip((mark.at, mark.end, truth), f"write `{truth}` in place of `{mark.text}`")
         if is_value and made and mark.text not in made and names <= made:
-            said, new = KINDS.get(self.kind(), ("a number, `true` or `false`, or a list,", "0"))
             yield Slip((mark.at, mark.end, new), f"write {said} in place of `{mark.text}`, which is no contract")
+        end = self.script.text.find(mark.text, mark.end, self.row.end) if mark.text in ("\"", "'") else -1
+        if end >= 0 and "NUMBER" in self.wanted:
+            old = self.script.text[mark.at : end + 1]
+            words = f"write {said} in place of `{old}`, since there are no texts"
+            yield Slip((mark.at, end + 1, new), words)
 
     def kind(self):
         """Gives the first word of the kind of the value that is wanted at the marked token, where it is known."""
         texts = [it.text for it in self.tokens[: self.count]]
+        if "(" not in texts:
+            return ""
         opening = texts.index("(")
         process = self.codes.processes.get(texts[opening - 1]) if self.codes else None
         kinds = [it.type.split()[0] for it in process.parameters if it.kind == "value"] if process else []

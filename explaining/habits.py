@@ -1,7 +1,7 @@
 """Slips of those who write other languages, or who have not met yet how a thing is written in this one."""
 from .comparisons import translated
 from .numbers import WRITTEN, in_digits
-from .renamed import fresh, is_known, renaming
+from .renamed import fresh, is_known, places, renaming, uses
 from .shapes import ELSEWHERE, HEADS, KINDS, Slip
 from .texts import joined
 from .wordings import WRITING, Wordings
@@ -26,7 +26,7 @@ INSTRUCTIONS = {
     **dict.fromkeys(("var", "val", "set", "def", "const"), "let"),
     **dict.fromkeys(("forward", "redirect", "become"), "fwd"),
     **dict.fromkeys(("drop", "delete", "destroy", "await", "join"), "wait"),
-    **dict.fromkeys(WRITING, "emit"),
+    **dict.fromkeys((*WRITING, "result", "answer", "yield", "reply", "returns"), "emit"),
 }
 # the instructions that bind a name, and what stands before it
 COMING = {"recv": "", "take": "", "acquire": "as ", "release": "as "}
@@ -39,7 +39,7 @@ class Habits(Wordings):
         ways = (self.of_order, self.of_returns, self.of_terms, self.of_cases, self.of_kinds, self.of_calls)
         ways = (*ways, self.of_loops, self.of_braces, self.of_heard, self.of_tried, self.of_other_words,
                 self.of_bare, self.of_arrows, self.of_steps)
-        for way in (self.of_wordings, self.of_shapes, *ways):
+        for way in (self.of_wordings, self.of_chained, self.of_assigned, self.of_shapes, *ways):
             yield from way()
 
     def of_order(self):
@@ -49,9 +49,19 @@ class Habits(Wordings):
             word = self.token(-2).text
             edit = (before.at, mark.end, f"self {before.text}")
             yield Slip("Syntax", f"write `{word} self {before.text}` in place of `{word} {before.text} self`", edit)
+        last = self.token(2)
+        if mark.text in ("\"", "'") and self.wanted == {"NAME"} and behind.kind == "word" and last.text == mark.text:
+            yield Slip("Syntax", f"take the quotes around `{behind.text}` out", (mark.at, last.end, behind.text))
+        if self.wanted == {":"} and mark.kind == "word" and self.is_declared(before.text, "type"):
+            new = f"{mark.text}: {before.text}"
+            yield Slip("Syntax", f"write `{new}` in place of `{before.text} {mark.text}`", (before.at, mark.end, new))
         if mark.text in KINDS and "NAME" in self.wanted and behind.kind == "word":
             new = f"{behind.text}: {mark.text}"
             yield Slip("Syntax", f"write `{new}` in place of `{mark.text} {behind.text}`", (mark.at, behind.end, new))
+        if mark.text == "list" and "NAME" in self.wanted and behind.text in KINDS and self.token(2).kind == "word":
+            new = f"{self.token(2).text}: list {behind.text}"
+            old = joined(self.tokens[self.index : self.index + 3])
+            yield Slip("Syntax", f"write `{new}` in place of `{old}`", (mark.at, self.token(2).end, new))
         if before.text == "mut" and self.token(-2).text == "let":
             yield Slip("Syntax", "take `mut` out, since a name never changes its value", (before.at, mark.at, ""))
         is_modified = before.text in MODIFIERS and mark.kind == "word" and "NAME" not in self.wanted
@@ -65,6 +75,10 @@ class Habits(Wordings):
         """Slips with a `return`, which no word of the language is."""
         mark, before = self.marked, self.token(-1)
         if before.text != "return":
+            return
+        if self.wanted == {"."} and mark.text in (";", "}", "|") and self.tokens[0].text == "proc":
+            new = self.last_one()
+            yield Slip("Syntax instruction", f"write `{new}` in place of `return`", (before.at, before.end, new))
             return
         if self.wanted == {"."}:
             end = next((it for it in self.tokens[self.index :] if it.text in (";", "}", "|")), mark)
@@ -280,11 +294,58 @@ class Habits(Wordings):
         if "else" in self.wanted:
             yield from self.of_else()
         if mark.text == "{" and "then" in self.wanted:
+            new, end = self.as_term(self.index)
+            if new:
+                edit = (before.end, self.tokens[end].end, new)
+                yield Slip("Syntax else", f"write `{new.strip()}` in place of the braces, since it is a term", edit)
             mend = "write `then .. else ..` in place of `{ .. } else { .. }`, since it is a term"
             yield Slip("Syntax else", mend, (mark.at, mark.end, " then "))
         if mark.text == "then" and "{" in self.wanted:
+            yield from self.of_codes()
             mend = "write `{ .. } else { .. }` in place of `then .. else ..`, since these are instructions"
             yield Slip("Syntax else", mend, (mark.at, mark.end, " { "))
+
+    def of_codes(self):
+        """Two codes behind a `then` and an `else`, which stand in braces."""
+        open_ones, depth, other = 0, 0, None
+        for at in range(self.index + 1, len(self.tokens)):
+            text = self.tokens[at].text
+            depth += (text in ("(", "{")) - (text in (")", "}"))
+            if depth < 0 or depth == 0 and text == "|":
+                break
+            if depth == 0 and text == "else" and not open_ones:
+                other = at
+                break
+            open_ones += (text == "then") - (text == "else")
+        if other is None:
+            return
+        end = self.apart(other + 1, ("}", "|", *HEADS))
+        end -= self.tokens[end - 1].text == ";"
+        rows = [joined(it).strip("; ") for it in (self.tokens[self.index + 1 : other], self.tokens[other + 1 : end])]
+        if all(rows) and not rows[1].startswith("{"):
+            new = f"{{ {rows[0]} }} else {{ {rows[1]} }}"
+            edit = (self.marked.at, self.tokens[end - 1].end, new)
+            words = f"write `{new}` in place of `then` and `else`, since these are instructions"
+            yield Slip("Syntax else", words, edit)
+
+    def as_term(self, at):
+        """Gives what stands in the braces that open at a token, and in those behind an `else`, as parts of a term, and
+        the last token of that; nothing where there is no `else`."""
+        end = self.tokens.index(self.closing(at - self.index, "{", "}"))
+        inside = joined(self.tokens[at + 1 : end]).removeprefix("return ").rstrip(" ;")
+        if self.text_at(end + 1) != "else" or not inside:
+            return "", end
+        start = end + 2
+        opening = self.apart(start, ("{",))
+        if self.text_at(start) == "{":
+            last = self.tokens.index(self.closing(start - self.index, "{", "}"))
+            other = joined(self.tokens[start + 1 : last]).removeprefix("return ").rstrip(" ;")
+            return f" then {inside} else {other}", last
+        if self.text_at(start) == "if" and self.text_at(opening) == "{":
+            further, last = self.as_term(opening)
+            test = joined(self.tokens[start:opening])
+            return (f" then {inside} else {test}{further}" if further else ""), last
+        return "", end
 
     def of_first_branch(self):
         """The two branches of a `match` the other way round."""
@@ -329,6 +390,8 @@ class Habits(Wordings):
             yield Slip("Syntax spelling", mend, (mark.at, mark.end, ELSEWHERE[mark.text]))
         if self.wants("vtype") and self.tokens[0].text == "proc" and self.is_declared(mark.text, "type"):
             yield from self.of_parameters()
+        if self.wanted == {":"} and before.kind == "word" and mark.text == ",":
+            yield from self.of_shared_kind()
         if self.wanted == {":"} and before.kind == "word" and self.tokens[0].text in ("fn", "proc"):
             is_value = self.tokens[0].text == "fn" or ";" not in [it.text for it in self.tokens[: self.index]]
             kind, what = (": int", "another kind of values") if is_value else (": 1", "another type")
@@ -345,6 +408,21 @@ class Habits(Wordings):
         if mark.text in ("|", "}") and self.wanted == {":"} and before.kind == "word":
             mend = f"write `: 1`, or how else the talk goes on, behind `{before.text}`"
             yield Slip("Syntax label", mend, (before.end, before.end, " : 1"))
+
+    def of_shared_kind(self):
+        """Several parameters with one kind or type behind the last of them."""
+        behind = range(self.index, len(self.tokens))
+        colon = next((at for at in behind if self.text_at(at) in (":", ";", ")", "=")), 0)
+        if not colon or self.text_at(colon) != ":":
+            return
+        end = self.apart(colon + 1, (",", ";", ")"))
+        kind = joined(self.tokens[colon + 1 : end])
+        rows = [at for at in range(self.index, colon) if self.text_at(at) == ","]
+        before = self.token(-1)
+        edits = [(self.tokens[at].at, self.tokens[at].at, f": {kind}") for at in rows]
+        words = f"write `: {kind}` behind `{before.text}`, since each parameter has its own"
+        if kind:
+            yield Slip("Syntax", words, edits[0], tuple(edits[1:]))
 
     def one_offered(self):
         """Gives the one definition of the mode of this process, if there is one alone."""
@@ -462,6 +540,21 @@ class Habits(Wordings):
         mend = f"write `{new}` in place of `{self.text.text[name.at : end]}`"
         return Slip("Syntax word", mend, (name.at, end, new))
 
+    def of_chained(self):
+        """An instruction on a channel behind a label of the same channel, as if the label were one."""
+        via, word, opening = self.token(-3).text, self.token(1), self.token(2)
+        if self.marked.text != "." or self.token(-2).text != "." or ";" not in self.wanted or word.kind != "word":
+            return
+        new, end = f"; {via}.", self.marked.end
+        if word.text in WORDS:
+            end = self.closing(2, "(", ")").end if opening.text == "(" else word.end
+            inside = self.text.text[opening.end : end - 1].strip() if opening.text == "(" else ""
+            new = f"; {word.text} {via} {inside}".rstrip()
+        start = self.token(-3).at
+        said, old = self.text.text[start : self.marked.at] + new, self.text.text[start : max(end, word.end)]
+        said += "" if word.text in WORDS else word.text
+        yield Slip("Syntax instruction", f"write `{said}` in place of `{old}`", (self.marked.at, end, new))
+
     def of_braces(self):
         """Slips with braces around the body of a declaration."""
         mark, before = self.marked, self.token(-1)
@@ -498,9 +591,23 @@ class Habits(Wordings):
         end = self.closing(0, "[", "]")
         parts = [it.strip() for it in self.text.text[self.marked.end : end.at].split(",")]
         kinds = {"int" if it.isdecimal() else "bool" if it in ("true", "false") else "" for it in parts if it} - {""}
-        kind = kinds.pop() if len(kinds) == 1 else ""
+        kind = kinds.pop() if len(kinds) == 1 else "" if any(parts) else self.kind_of_list()
         new = " :: ".join([it for it in parts if it] + [f"nil {kind or 'int'}"])
         yield Slip("Syntax list", f"write `{new}`" if kind else "", (self.marked.at, end.end, new))
+
+    def kind_of_list(self):
+        """Gives the kind of the elements of the list that is wanted at the offence, where that is a value of a call."""
+        opening, tokens = self.opened(), self.text.tokens
+        name = self.text_at(opening - 1) if opening else ""
+        at = next((at for at, it in enumerate(tokens) if it.text == name and tokens[at + 1].text == "("
+                   and (tokens[at - 1].text == "fn" or tokens[at - 2].text == "proc")), None)
+        if at is None:
+            return ""
+        place = sum(it.text == "," for it in self.tokens[opening : self.index])
+        end = next(it for it in range(at, len(tokens)) if tokens[it].text in (";", ")"))
+        parts = joined(tokens[at + 2 : end]).split(",")
+        words = parts[place].partition(":")[2].split() if place < len(parts) else []
+        return " ".join(words[1:]) if words[:1] == ["list"] else ""
 
     def of_sides(self):
         """Values behind the `;` of arguments, and channels before it."""
@@ -561,6 +668,53 @@ class Habits(Wordings):
         if mark.text in (";", "}", "|") and self.is_label(before.text):
             mend = f"write the channel that it is sent on, and a `.`, before `{before.text}`"
             yield Slip(row, mend, (before.at, before.at, "x."))
+
+    def of_assigned(self):
+        """Branches of an `if` in which nothing is done but to write names anew: each is one term, before what stands
+        behind them."""
+        opening = self.opening(self.index)
+        if self.wanted != {"."} or not opening or self.tokens[0].text != "proc":
+            return
+        start = next((at for at in range(opening - 1, 0, -1) if self.text_at(at) in ("if", ";", "{", "}")), 0)
+        first, end = self.assigned(opening)
+        other = {}
+        if self.text_at(end + 1) == "else":
+            other, end = self.assigned(end + 2) if self.text_at(end + 2) == "{" else (None, end)
+        if self.text_at(start) != "if" or not first or other is None or self.text_at(end + 1) == "else":
+            return
+        end += self.text_at(end + 1) == ";"
+        test, code, edits, said = joined(self.tokens[start + 1 : opening]), [], [], []
+        for name in dict.fromkeys([*first, *other]):
+            new = fresh(self.text, name)
+            code.append(f"let {new} = if {test} then {first.get(name, name)} else {other.get(name, name)};")
+            rows = uses(self.text.tokens, self.text.index_at(self.tokens[end].at) + 1, name)
+            edits += [(it.at, it.end, new) for it in rows]
+            said += [f"`{new}` in place of `{name}` at {places(self.text, rows)}"] if rows else []
+        words = f"write `{' '.join(code)}` in place of this `if`"
+        words = f"{words}, and {', and '.join(said)}" if said else words
+        see = "see: a name never changes its value"
+        edit = (self.tokens[start].at, self.tokens[end].end, " ".join(code))
+        yield Slip("Syntax instruction", words, edit, tuple(edits), (see,))
+
+    def assigned(self, opening):
+        """Gives the terms by the names that are written anew in the braces that open at a token, and the token that
+        closes these; none where something else is done there."""
+        end, at, found = self.tokens.index(self.closing(opening - self.index, "{", "}")), opening + 1, {}
+        while at < end:
+            name, signs = self.text_at(at), (self.text_at(at + 1), self.text_at(at + 2))
+            stop = min(self.apart(at, (";",)), end)
+            if not name.isidentifier() or name in found:
+                return None, end
+            if signs[0] in ("+", "-") and signs[1] == signs[0] and stop == at + 3:
+                found[name] = f"{name} {signs[0]} 1"
+            elif signs[0] == "=":
+                found[name] = joined(self.tokens[at + 2 : stop])
+            elif signs[0] in ("+", "-", "*", "/") and signs[1] == "=":
+                found[name] = f"{name} {signs[0]} {joined(self.tokens[at + 3 : stop])}"
+            else:
+                return None, end
+            at = stop + 1
+        return found, end
 
     def of_written(self, word, part=""):
         """A name that is written anew, as if it could change its value. What is computed of it stands first."""

@@ -12,7 +12,7 @@ KINDS = ("int", "bool", "list int", "list bool")
 MOST_PARTS = 20
 # The rules of what stands before a term in its instruction.
 HEADING = ("step", "last", "code", "chan", "bound", "branch")
-MOST_FUNCTIONS = 4
+MOST_FUNCTIONS, MOST_PAIRS = 4, 6
 # What stands before a truth value that is compared with one of these.
 TRUTHS = {"1": "", "true": "", "0": "not ", "false": "not "}
 
@@ -64,10 +64,71 @@ def functions(names, start, end):
                 yield edit, f"write `{new}` in place of `{tokens[at].text}` at {names.text.place(tokens[at].at)}"
 
 
-def other_parts(names, start, end, goes_on):
-    """Gives lines on the parts of the terms between two tokens of which a term of another kind lets the check go on."""
-    tries = [*truths(names, start, end), *functions(names, start, end)]
+def nils(names, start, end):
+    """Gives what a list is compared with between two tokens as if it were a number: `nil`, as a `match` on it."""
+    tokens, taken = names.tokens, {it.text for it in names.tokens}
+    first, rest = (next(it for it in (name, *(f"{name}{count}" for count in range(2, 99))) if it not in taken)
+                   for name in ("first", "rest"))
+    for at in range(start + 1, end - 1):
+        if tokens[at].text != "=" or names.leaves[at].rule != "cmp" or tokens[at + 1].text != "nil":
+            continue
+        last = at + 2
+        while last < end and tokens[last].text == "list":
+            last += 1
+        new = f"(match {tokens[at - 1].text} {{ nil => true | {first} :: {rest} => false }})"
+        edit = (tokens[at - 1].at, tokens[last].end, new)
+        yield edit, f"write `{new}` in place of `{joined(tokens[at - 1 : last + 1])}`"
+
+
+def heads(names, start, end):
+    """Gives other kinds for the parameters whose values stand between two tokens: an edit of the head, and what it is
+    in words."""
+    tokens = names.tokens
+    used = {tokens[at].text for at in range(start, end) if names.used(at) == "value"}
+    head = next((at for at in range(start, -1, -1) if tokens[at].text in ("proc", "fn")), 0)
+    for at in (at for at in range(head, start) if tokens[at].text in used and names.key(at) == ("vpar", 0)):
+        stop = next(it for it in range(at, start) if tokens[it].text in (",", ";", ")"))
+        declared = joined(tokens[at + 2 : stop])
+        for kind in (it for it in KINDS if it != declared):
+            edit = (tokens[at + 2].at, tokens[stop - 1].end, kind)
+            yield edit, f"write `{kind}` in place of `{declared}` at {names.text.place(edit[0])}"
+
+
+def turned(names, start, end):
+    """Gives the calls of functions between two tokens with two of their values in each other's place: an edit, and what
+    it is in words."""
+    for at in range(start, end):
+        rows = inside(names, at + 1) if names.used(at) == "function" else []
+        said = [joined([names.tokens[it] for it in row]) for row in rows]
+        pairs = [(one, two) for one in range(len(said)) for two in range(one + 1, len(said)) if said[one] != said[two]]
+        for one, two in pairs[:MOST_PAIRS]:
+            row = list(said)
+            row[one], row[two] = row[two], row[one]
+            close = closing(names.tokens, at + 1)
+            edit = (names.tokens[at].at, names.tokens[close].end, f"{names.tokens[at].text}({', '.join(row)})")
+            yield edit, f"write `{edit[2]}` in place of `{' '.join(names.text.text[edit[0] : edit[1]].split())}`"
+
+
+def numbers(names, start, end):
+    """Gives a comparison in place of each variable between two tokens, as if a number were a truth value: an edit, and
+    what it is in words."""
+    for it in parts(names, start, end):
+        if it.kind == "word" and it.text not in ("true", "false"):
+            new = f"not {it.text} = 0"
+            where = names.text.place(it.at)
+            yield (it.at, it.end, new), f"write `{new}` in place of `{it.text}` at {where}, since a number is no test"
+
+
+def other_parts(names, start, end, goes_on, is_whole=None):
+    """Gives lines on the parts of the terms between two tokens of which a term of another kind lets the check go on.
+    Another kind of a parameter has to let all of it be accepted, where that is told."""
+    tries = [*nils(names, start, end), *truths(names, start, end), *turned(names, start, end)]
+    tries += functions(names, start, end)
     found = [mend(words, edit) for edit, words in tries if goes_on(edit)]
+    if found:
+        return found[:3]
+    found = [mend(words, edit) for edit, words in heads(names, start, end) if (is_whole or goes_on)(edit)]
+    found = found or [mend(words, edit) for edit, words in numbers(names, start, end) if goes_on(edit)]
     if found:
         return found[:3]
     for it in operands(names, start, end):

@@ -1,5 +1,6 @@
 """Slips with lists: their kinds, their elements and loops over them, as other languages have them."""
 from .order import HEADS
+from .renamed import fresh, renaming
 from .texts import joined
 
 BASES = {"int": "int", "bool": "bool"}
@@ -9,6 +10,8 @@ BRACKETS = {"[": "]", "<": ">", "(": ")"}
 PUTS = ("push", "append", "add", "cons", "prepend", "insert", "push_front", "push_back", "concat")
 OPERATORS = {"mod": "%", "rem": "%", "div": "/", "plus": "+", "minus": "-", "times": "*", "is": "=", "eq": "=",
              "equals": "=", "lt": "<"}
+# What others write before the first element and the rest of a list.
+MAKERS = ("cons", "list", "node", "some", "let", "const", "var", "head", "mut", "ref")
 LOOPED = ("for", "while", "loop", "foreach", "repeat")
 AT = "fn {}(l: list int, n: int): int = match l {{ nil => 0 | h :: t => if n = 0 then h else {}(t, n - 1) }};\n"
 
@@ -17,7 +20,9 @@ class Lists:
     """What is found of the tokens around an offence, by the class that is made of this one."""
 
     def of_all_lists(self):
-        for way in (self.of_list_kinds, self.of_puts, self.of_operators, self.of_elements, self.of_goings):
+        ways = (self.of_list_kinds, self.of_puts, self.of_put_into, self.of_patterns, self.of_operators)
+        ways = (*ways, self.of_elements)
+        for way in (*ways, self.of_goings):
             yield from way()
 
     def of_list_kinds(self):
@@ -53,7 +58,46 @@ class Lists:
             end = self.closing(2, "(", ")")
             inside = self.text.text[self.token(2).end : end.at].strip()
             old, new = self.text.text[via.at : end.end], f"{inside} :: {via.text}"
+            if self.is_number(via.text) and word.text == "add":
+                new = f"{via.text} + {inside}"
             yield self.slip(f"write `{new}` in place of `{old}`", (via.at, end.end, new), "Syntax list")
+
+    def is_number(self, name):
+        """Whether a name is that of a parameter which is a number."""
+        words = [it.text for it in self.tokens[: self.index]]
+        return any(words[at : at + 3] == [name, ":", "int"] for at in range(len(words)))
+
+    def of_put_into(self):
+        """The same as an instruction, as if the list could change: a new one is bound, which later code uses."""
+        mark, word, dot, name = self.marked, self.token(-1), self.token(-2), self.token(-3)
+        if mark.text != "(" or word.text not in PUTS or dot.text != "." or name.kind != "word" or name.text == "self":
+            return
+        if self.is_channel(name.text) or self.token(-4).text not in (";", "{", "=>", "="):
+            return
+        end = self.closing(0, "(", ")")
+        inside = self.text.text[mark.end : end.at].strip()
+        new, at = fresh(self.text, name.text), self.text.index_at(name.at)
+        edits, where = renaming(self.text, at, new)
+        said = f"let {new} = {inside} :: {name.text}"
+        words = f"write `{said}` in place of `{self.text.text[name.at : end.end]}`"
+        words += f", and `{new}` in place of `{name.text}` at {where}" if edits else ""
+        slip = self.slip(words, (name.at, end.end, said), "Syntax list")
+        see = f"see: `{name.text}` itself stays what it was, since a name never changes its value"
+        yield slip._replace(more=edits, see=(see,))
+
+    def of_patterns(self):
+        """The first element and the rest of a list in the branch of a `match`, as others have them."""
+        mark, before = self.marked, self.token(-1)
+        start = self.index if before.text == "|" else self.index - 1
+        arrow = self.apart(start, ("=>", ";"))
+        inside = [it.text for it in self.tokens[start:arrow]]
+        names = [it for it in inside if it.isidentifier() and it.lower() not in MAKERS]
+        is_branch = self.text_at(start - 1) == "|" and self.text_at(arrow) == "=>"
+        if not is_branch or self.wanted not in ({"NAME"}, {"::"}) or len(names) != 2 or len(set(names)) != 2:
+            return
+        first = self.tokens[start]
+        edit = (first.at, self.tokens[arrow - 1].end, " :: ".join(names))
+        yield self.slip(f"write `{edit[2]}` between the `|` and the `=>`", edit, "Syntax match")
 
     def of_operators(self):
         """An operator that is a word in other languages."""

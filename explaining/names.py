@@ -2,11 +2,13 @@
 import contextlib
 
 from .amounts import closing
+from .headed import missing
+from .known import written
 from .mends import mend, says
 from .renamed import fresh, renaming
 from .syntax import distance, nearest
 from .wordings import NOTHINGS
-from .texts import joined, listed
+from .texts import joined, listed, tokens_of
 
 # What a leaf NAME of the grammar is, by its rule and by which NAME of that rule it is.
 DECLARED = {
@@ -172,8 +174,18 @@ def others(names, at, other):
         said = f"write `spawn {words[1]} = {call}` in place of `let {words[1]} = {joined(tokens[at : end + 1])}`"
         yield (tokens[at - 3].at, tokens[end].end, f"spawn {words[1]} = {call}"), said
     if other == "function" and names.used(at) == "value":
-        yield (token.at, token.end, f"{token.text}()"), f"write `{token.text}()` in place of `{token.text}`"
+        yield from given(names, at)
     yield from sent(names, at, other)
+
+
+def given(names, at):
+    """Gives edits for a function that stands without its parentheses: with none of the values that are known here, or
+    with one, the last ones first."""
+    token, tokens = names.tokens[at], names.tokens
+    known = [tokens[it].text for it in range(at) if names.declared(it) == "value" and names.leads(it, at)]
+    for it in ["", *list(dict.fromkeys(known[::-1]))[:MOST_BOUND]]:
+        new = f"{token.text}({it})"
+        yield (token.at, token.end, new), f"write `{new}` in place of `{token.text}`"
 
 
 def moved(names, at):
@@ -185,8 +197,9 @@ def moved(names, at):
     end = closing(tokens, opening)
     sides = names.text.text[tokens[opening].end : tokens[end].at].split(";")
     parts = [it.strip() for it in sides[0].split(",") if it.strip()]
-    found = [it for it in parts if it == tokens[at].text]
-    values = [it for it in parts if it != tokens[at].text]
+    known = {tokens[it].text for it in range(at) if names.declared(it) == "channel" and names.leads(it, at)}
+    found = [it for it in parts if it == tokens[at].text or it in known]
+    values = [it for it in parts if it not in found]
     channels = [it.strip() for it in sides[-1].split(",") if it.strip()] if len(sides) == 2 else []
     if found and "(" not in sides[0]:
         new = f"({', '.join(values)}; {', '.join([*found, *channels])})"
@@ -379,8 +392,34 @@ def payer(text, at, program, grammar):
     own = [names.tokens[place].text for place in taken if names.tokens[place - 1].text == "self"]
     found = same_kind(names, at, own, program)
     lines = [mend(f"write `{name}`, which the client put, in place of `me`", edit) for name, edit in found]
+    if len(lines) != 1 and not found:
+        lines = put_by_client(names, at, program, grammar)
     asked = "see: a contract does not know who pays: the type has `int -> ..`, the contract `take self ..`, and the "
     return lines if len(lines) == 1 else [f"{asked}transaction `put x me`"]
+
+
+def put_by_client(names, at, program, grammar):
+    """Gives a line for the number that the client puts next, by the type that `self` is at here: it is taken first, and
+    stands in place of each `me` behind that."""
+    types, steps = way(names, at, grammar)
+    if not steps or "self" not in steps[-1][1]:
+        return []
+    step, held = steps[-1]
+    whole = types.unfolded(held["self"].type)
+    if whole.sign != "->" or names.tokens[whole.at].text != "int":
+        return []
+    new, token = unused(names.text), names.tokens[step.at]
+    known = {it.text for it in names.tokens}
+    new = next((it for it in ("who", "account", "client") if it not in known), new)
+    rows = [it for place, it in enumerate(names.tokens) if it.text == "me" and names.leads(step.at, place)]
+    edits = [(token.at, token.at, f"take self {new}; "), *((it.at, it.end, new) for it in rows)]
+    after = program.check(names.text.edited(*edits))
+    is_past = (after.is_cause("Name") or after.is_cause("ProcType")) and after.offset > names.tokens[at].end
+    if not (after.is_accepted or after.is_cause("NoPotential") or is_past):
+        return []
+    where = ", ".join(names.text.place(it.at) for it in rows[:8])
+    words = f"write `take self {new};` before `{token.text}` at {names.text.place(token.at)}, and `{new}` in place of"
+    return [mend(f"{words} `me` at {where}", *edits)]
 
 
 def same_kind(names, at, known, program):
@@ -404,30 +443,89 @@ def coming(names, at, program, grammar):
     asked = 0
     for step, held in steps[::-1]:
         start = names.tokens[step.at].at
-        for new in received(types, held, names.tokens[at].text, signs):
+        for via, new in received(types, held, names.tokens[at].text, signs):
             asked += 1
             if asked > MOST_TRIED:
                 return []
             edit = (start, start, f"{new} ")
             after = program.check(names.text.edited(edit))
-            is_past = after.is_cause("Name") and after.offset > names.tokens[at].at + len(edit[2])
-            is_past = is_past or after.is_cause("ProcType") and not start <= after.offset < start + len(new)
+            use = names.tokens[at].at + len(edit[2])
+            is_past = after.is_cause("Name") and after.offset > use
+            is_here = after.is_cause("ProcType") and start <= after.offset <= use
+            is_past = is_past or after.is_cause("ProcType") and not is_here
+            is_past = is_past or is_here and not is_on(names.text.edited(edit), after.offset, via)
             if after.is_accepted or after.is_cause("NoPotential") or is_past:
                 said = f"`{names.tokens[step.at].text}` at {names.text.place(start)}"
                 return [mend(f"write `{new}` before {said}", edit)]
     return []
 
 
+def is_on(data, offset, channel):
+    """Whether the instruction at an offset is on this channel."""
+    words = [it.text for it in tokens_of(data[offset : offset + 200].decode("latin-1"))[:2]]
+    return channel in (words if words[1:] == ["."] else words[1:])
+
+
 def received(types, held, name, signs):
-    """Gives the instructions by which something of this name is received on what is held."""
+    """Gives the instructions by which something of this name is received on what is held, each with its channel."""
     for via, it in held.items():
         whole = types.unfolded(it.type)
         if whole.sign == signs[0 if via == "self" else 1]:
-            yield f"{signs[2]} {via} {name};"
+            yield via, f"{signs[2]} {via} {name};"
         for label, behind in whole.parts if whole.sign == "&" and via != "self" else ():
             further = types.unfolded(behind)
             if further.sign == signs[1] and types.said(*further.parts[-1][:2]) == types.said(*it.type[:2]):
-                yield f"{via}.{label}; {signs[2]} {via} {name};"
+                yield via, f"{via}.{label}; {signs[2]} {via} {name};"
+
+
+def compared(names, at):
+    """Gives a line for a `case` of two branches on a value, of which the first names another value: an `if`."""
+    tokens, rows = names.tokens, []
+    if tokens[at - 1].text != "case" or names.used(at) != "channel" or tokens[at + 1].text != "{":
+        return []
+    depth, start, end = 0, at + 2, at + 1
+    for end in range(at + 1, len(tokens)):
+        depth += (tokens[end].text == "{") - (tokens[end].text == "}")
+        if depth == 0 or depth == 1 and tokens[end].text == "|":
+            rows.append((start, end))
+            start = end + 1
+        if depth == 0:
+            break
+    known = {tokens[it].text for it in range(at) if names.declared(it) == "value" and names.leads(it, at)}
+    if len(rows) != 2 or tokens[rows[0][0]].text not in known:
+        return []
+    test = f"{tokens[at].text} = {tokens[rows[0][0]].text}"
+    codes = [names.text.text[tokens[one + 2].at : tokens[other - 1].end] for one, other in rows]
+    new = f"if {test} {{ {codes[0]} }} else {{ {codes[1]} }}"
+    words = f"write an `if {test}` in place of this `case`, which is on a channel, with the same two branches"
+    return [mend(words, (tokens[at - 1].at, tokens[end].end, new))]
+
+
+def worth(names, at, program, grammar):
+    """Gives a line where a channel stands for a value that it tells: it is asked before, and the value stands in its
+    place, here and behind."""
+    tokens, token = names.tokens, names.tokens[at]
+    types, steps = way(names, at, grammar) if names.used(at) == "value" else (None, [])
+    if not steps or token.text not in steps[-1][1]:
+        return []
+    step, held = steps[-1]
+    it = held[token.text].type
+    rows = [one for place, one in enumerate(tokens) if one.text == token.text and place >= step.at
+            and names.used(place) == "value" and names.leads(step.at, place)]
+    start, new = tokens[step.at], fresh(names.text, token.text)
+    for label, behind in types.unfolded(it).parts if types.unfolded(it).sign == "&" else ():
+        further = types.unfolded(behind)
+        if further.sign != "/\\" or types.said(*further.parts[-1][:2]) != types.said(*it[:2]):
+            continue
+        code = f"{token.text}.{label}; take {token.text} {new};"
+        edits = [(start.at, start.at, f"{code} "), *((one.at, one.end, new) for one in rows)]
+        after = program.check(names.text.edited(*edits))
+        is_past = (after.is_cause("Name") or after.is_cause("ProcType")) and after.offset > token.at + len(code)
+        if after.is_accepted or after.is_cause("NoPotential") or is_past:
+            where = ", ".join(names.text.place(one.at) for one in rows[:8])
+            words = f"write `{code}` before `{start.text}` at {names.text.place(start.at)}, and `{new}` in place of"
+            return [mend(f"{words} `{token.text}` at {where}", *edits)]
+    return []
 
 
 def made(names, at, program, grammar):
@@ -483,7 +581,7 @@ def way(names, at, grammar):
         while not step.at <= at < step.end:
             steps.append((step, dict(held)))
             label, further = next(it for it in step.behind[::-1] if it[1].at <= at)
-            with contextlib.suppress(KeyError):
+            with contextlib.suppress(KeyError, ValueError, IndexError, TypeError):
                 types.behind(held, step, label)
             step = further
     except (StopIteration, IndexError):
@@ -491,15 +589,23 @@ def way(names, at, grammar):
     return types, [*steps, (step, held)]
 
 
+def unused_values(names, at, keys, last=None):
+    """Gives the values that are bound so on the way to a token, and used nowhere behind that, or nowhere up to a
+    token."""
+    tokens = names.tokens
+    end = len(tokens) if last is None else last
+    return [it.text for place, it in enumerate(tokens[:at]) if names.key(place) in keys and names.leads(place, at)
+            and not any(it.text == other.text and names.used(further) for further, other in enumerate(tokens[:end])
+                        if further > place and names.leads(place, further) and names.leads(further, at))]
+
+
 def valued(names, at, program):
-    """Gives a line for the one value that was received or computed on the way here and is used nowhere, in place of
-    what stands where a value is wanted."""
+    """Gives a line for the one value that was received or computed on the way here, or else is a parameter, and is used
+    nowhere, in place of what stands where a value is wanted."""
     if names.used(at) != "value":
         return []
-    known = [it.text for place, it in enumerate(names.tokens[:at])
-             if names.key(place) in (("step", 3), ("step", 11)) and names.leads(place, at)
-             and not any(it.text == other.text and names.used(further) for further, other in enumerate(names.tokens)
-                         if further > place and names.leads(place, further))]
+    known = unused_values(names, at, (("step", 3), ("step", 11)))
+    known = known or unused_values(names, at, (("vpar", 0),), at)
     found = same_kind(names, at, known[::-1], program) if len(set(known)) <= MOST_BOUND else []
     if len(found) != 1:
         return []
@@ -535,10 +641,10 @@ def explained(text, answer, program, grammar):
     wanted, other = names.used(at), names.known_otherwise(at)
     if wanted is None:
         return "Name", []
-    early = bound_later(names, at, program)
-    is_known = any(map(moves_on, names.near(at))) or bound_here(names, at, program, is_sure=True)
-    if not early and not is_known and not valued(names, at, program):
-        early = coming(names, at, program, grammar)
+    lacking = missing(names, at, program)
+    if lacking:
+        return ("Name scope" if other else "Name unknown"), lacking
+    early = bound_before(names, at, other, program, grammar, moves_on)
     if early and not (other and other[1] not in (wanted, None) and names.leads(other[0], at)):
         return "Name scope", early
     mends = mended(names, at, other and other[1], program)
@@ -553,17 +659,31 @@ def explained(text, answer, program, grammar):
     return unknown(names, at, does, program, grammar)
 
 
+def bound_before(names, at, other, program, grammar, moves_on):
+    """Gives lines for an instruction that binds the name: one that stands behind it, or one that receives it, where
+    nothing else is likelier."""
+    early = bound_later(names, at, program)
+    is_known = any(map(moves_on, names.near(at))) or bound_here(names, at, program, is_sure=True)
+    is_known = is_known or names.used(at) == "value" and other is not None and other[1] == "function"
+    if early or is_known or valued(names, at, program):
+        return early
+    return coming(names, at, program, grammar)
+
+
 def otherwise(names, at, other, program, grammar):
     """Gives the row and the lines for a name that is known as something else, or elsewhere."""
     text, token, wanted = names.text, names.tokens[at], names.used(at)
     place, kind = text.place(text.tokens[other[0]].at), other[1]
     if kind == wanted:
         found = [*bound_here(names, at, program), *valued(names, at, program)]
+        found = found or made(names, at, program, grammar)
         return "Name scope", [*found, f"see: `{token.text}` is bound at {place}"]
     see = f"see: `{token.text}` is {said(kind)}, by {place}, and {said(wanted)} is wanted here"
     found = declared_ones(names, at, wanted, program) if wanted == "function" else []
     found = found or (applied(names, at, program) if wanted == "function" else [])
-    mends = found or made(names, at, program, grammar) or bound_here(names, at, program)
+    found = found or compared(names, at)
+    mends = found or worth(names, at, program, grammar) or made(names, at, program, grammar)
+    mends = mends or bound_here(names, at, program)
     mends = mends or valued(names, at, program)
     return "Name other", [*mends, see]
 
@@ -576,7 +696,7 @@ def unknown(names, at, does, program, grammar):
         words = f"write a number that says that there is nothing, as `0 - 1`, in place of `{token.text}`"
         lines = [mend(words, (token.at, token.end, "(0 - 1)")), *lines]
     if wanted in SPACES:
-        lines = [*declared_ones(names, at, wanted, program), *lines]
+        lines = [*(written(names, at, program) or declared_ones(names, at, wanted, program)), *lines]
     known = [it.text for place, it in enumerate(names.tokens[:at])
              if names.declared(place) == wanted == "value" and names.leads(place, at)]
     lines += [f"see: the values that are known here are {listed(known)}"] if known else []

@@ -41,6 +41,21 @@ class Passed:
             if len(given) != len(wanted):
                 yield f"see: {taken(wanted, len(given), what)}"
 
+    def of_named(self):
+        """A line for the same values without the names of the parameters, in the order of these."""
+        tokens, known = self.types.tokens, {}
+        names = [it.name for it in self.wanted_values]
+        for start, end in self.values:
+            is_named = tokens[start].text in names and tokens[start + 1].text == "=" and start + 2 < end
+            if not is_named or tokens[start].text in known:
+                return
+            known[tokens[start].text] = self.types.said(start + 2, end)
+        if set(known) == set(names) and known:
+            new = ", ".join(known[name] for name in names)
+            edit = (tokens[self.values[0][0]].at, tokens[self.values[-1][1] - 1].end, new)
+            if self.goes_past(self.types.text.edited(edit)):
+                yield mend(f"write the values alone, in the order of the parameters: `{new}`", edit)
+
     def of_lists(self):
         """Lines on lists that carry potential in the place of values, and the other way round."""
         for (start, end), wanted in zip(self.values, self.wanted_values):
@@ -130,4 +145,5 @@ class Passed:
 def passed(types, step, held, program):
     """Gives lines on the arguments that do not fit."""
     it = Passed(types, step, held, program)
-    return list(it.of_count()) or [*it.of_lists(), *it.of_kinds(), *(list(it.of_twice()) or it.of_types())]
+    found = list(it.of_named()) or list(it.of_count())
+    return found or [*it.of_lists(), *it.of_kinds(), *(list(it.of_twice()) or it.of_types())]

@@ -141,7 +141,9 @@ class Line(Forms):
         if not self.count and behind.kind == "word" and mark.text in self.accounts():
             yield Slip((mark.at, mark.at, "exec "), f"write `exec` before `{mark.text}`")
         if not self.count and mark.text == "new":
-            yield Slip((mark.at, mark.at, "let x = "), "write `let .. =` before `new`, with a name for the contract")
+            name = self.script.unmade(self.row.number)
+            said = f"write `let {name or '..'} =` before `new`{'' if name else ', with a name for the contract'}"
+            yield Slip((mark.at, mark.at, f"let {name or 'x'} = "), said)
         if self.wanted == {"new"} and behind.text == "(":
             new, why = self.paying()
             edit = (mark.at, mark.at, f"{new.replace('..', 'x')} ")
@@ -158,7 +160,7 @@ class Line(Forms):
             return
         at, end = found[0], self.closing(found[0])
         parts = re.split(r"[,;](?![^\[]*\])", joined(tokens[self.opening(at) + 1 : end]))
-        parts = [it.strip() for it in parts if it.strip() and it.strip() not in self.accounts()]
+        parts = self.numbered([it.strip() for it in parts if it.strip()], processes[tokens[at].text])
         named = [it for it in parts if it[0].isalpha() and it not in ("true", "false")]
         values = ", ".join(it for it in parts if it not in named)
         call = f"{tokens[at].text}({values}; {', '.join(named)})".replace("; )", ";)")
@@ -174,6 +176,15 @@ class Line(Forms):
         is_whole = said <= {*FILLING, *re.findall(r"\w+", new), *(it.offers for it in processes.values())}
         if new and mode in "ST" and is_whole:
             yield Slip((self.row.at, self.row.end, new), f"write `{new}`")
+
+    def numbered(self, parts, process):
+        """Gives arguments without the accounts among them, or with the numbers of these where so many values are
+        wanted."""
+        known = self.script.accounts(self.row.number)
+        values = [it for it in parts if not it[0].isalpha() or it in ("true", "false") or it in known]
+        if len(values) == len([it for it in process.parameters if it.kind == "value"]):
+            return [str(known.index(it)) if it in known else it for it in parts]
+        return [it for it in parts if it not in self.accounts()]
 
     def opening(self, at):
         """Gives the number of the parenthesis behind the name of a process, with a word of making between them or

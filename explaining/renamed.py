@@ -1,5 +1,5 @@
 """Names that are bound or written anew: the uses behind that, which a mend renames too, and a name for them."""
-from .shapes import HEADS
+from .order import HEADS
 
 # The signs behind which an instruction begins, and the words that bind the name behind them, with how far behind.
 STARTS = (";", "{", "=>", "=")
@@ -22,7 +22,7 @@ def is_name(tokens, at):
 def binds(tokens, at):
     """Whether a token is the name that an instruction binds, or writes anew as other languages do."""
     for word, far in BINDING.items():
-        if at >= far and tokens[at - far].text == word:
+        if at >= far and tokens[at - far].text == word and (far < 3 or tokens[at - 1].text == "as"):
             return True
     is_part = "::" in (tokens[at - 1].text, tokens[at + 1].text if at + 1 < len(tokens) else "")
     end = next((it.text for it in tokens[at : at + 4] if it.text in ("=>", ";", ",", ")")), "")
@@ -34,12 +34,13 @@ def is_written(tokens, at):
     return tokens[at - 1].text in STARTS and at + 1 < len(tokens) and tokens[at + 1].text == "="
 
 
-def uses(tokens, at):
-    """Gives the uses of the name at a token behind its instruction, on each way on which it is not bound anew before.
-    What is bound anew counts behind the end of that instruction."""
-    name, depth, found = tokens[at].text, 0, []
+def uses(tokens, at, name=""):
+    """Gives the uses of the name at a token behind its instruction, or of another one from the token on, on each way on
+    which it is not bound anew before. What is bound anew counts behind the end of that instruction."""
+    depth, found = 0, []
     coming = hidden = None
-    start = next((it for it in range(at, len(tokens)) if tokens[it].text in (";", "{")), len(tokens))
+    start = at if name else next((it for it in range(at, len(tokens)) if tokens[it].text in (";", "{")), len(tokens))
+    name = name or tokens[at].text
     for it in range(start, len(tokens)):
         text = tokens[it].text
         depth += (text == "{") - (text == "}")

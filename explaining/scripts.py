@@ -112,6 +112,19 @@ class Script(Text):
         rows = self.rows[: number - 1]
         return list(dict.fromkeys(it.tokens[1].text for it in rows if it.word == "deposit" and len(it.tokens) > 1))
 
+    def unmade(self, number):
+        """Gives the first name that lines behind a line give as that of a contract, and that no line makes, or
+        nothing."""
+        made = {it.tokens[1].text for it in self.rows if it.word == "let" and len(it.tokens) > 1}
+        accounts = self.accounts(len(self.rows) + 1)
+        for row in (it for it in self.rows[number:] if it.is_start):
+            texts = [it.text for it in row.tokens]
+            behind = texts[len(texts) - texts[::-1].index(";") :] if ";" in texts else []
+            for it in behind:
+                if it.isidentifier() and it not in (*made, *accounts):
+                    return it
+        return ""
+
     def batch(self, number):
         """Gives the lines that start a process of the batch that begins at a line, and the line that it ends at."""
         if self.row(number).word != "begin":

@@ -122,6 +122,7 @@ class Shapes(Order, Lists, Parting):
         if mark.text == "(" and third.text == "send" and self.is_declared(before.text, "proc"):
             end = self.closing(0, "(", ")")
             call = self.text.text[before.at : end.end]
+            call = call if ";" in call else f"{call[:-1].rstrip()};)"
             mend = f"write `spawn .. = {call};` before `send`, with a new name, and this name in place of `{call}`"
             new = f"spawn x = {call}; send {self.token(-2).text} x"
             yield Slip("Syntax", mend, (third.at, end.end, new))
@@ -197,13 +198,11 @@ class Shapes(Order, Lists, Parting):
         if start < stop and stop < len(self.tokens):
             place = self.text.place(self.tokens[last].at)
             mend = f"write what stands behind the `}}` at {place} at the end of each branch before it instead"
-            new, at = "", self.tokens[opening].end
-            for end in ends:
-                new += self.text.text[at : self.tokens[end - 1].end] + self.parting(end)
-                new += joined(self.tokens[start:stop])
-                at = self.tokens[end].at
-            new += self.text.text[at : self.tokens[last].end]
-            yield Slip("Syntax branch", mend, (self.tokens[opening].end, self.tokens[stop - 1].end, new))
+            code = joined(self.tokens[start:stop])
+            rows = [self.tokens[end - 1].end for end in ends], [self.parting(end) for end in ends]
+            edits = [(at, at, f"{sign}{code}") for at, sign in zip(*rows)]
+            taken_out = (self.tokens[last].end, self.tokens[stop - 1].end, "")
+            yield Slip("Syntax branch", mend, edits[0], (*edits[1:], taken_out))
         ending = "close" if self.tokens[1].text in ("R", "T") else f"call {self.tokens[2].text}(..)"
         new = f"{self.parting(self.index)}{ending}".strip()
         mend = f"write `{new}`, or how else this branch ends, behind `{before.text}`"

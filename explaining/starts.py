@@ -79,13 +79,13 @@ class Refused:
             return []
         return [mend(f"let `{first.text}` and `{second.text}` change places", *edits)]
 
-    def one_that_does(self, known):
-        """Gives a line for the one process with which the line is carried out."""
+    def those_that_do(self, known):
+        """Gives lines for the processes with which the line is carried out, where these are few."""
         token = self.line.process
         ends = [(it, self.run.end(self.number, (token.at, token.end, it))) for it in known[:MOST_TRIED]]
         does = [it for it, end in ends if end[0] == "committed"]
-        edit = (token.at, token.end, does[0] if does else "")
-        return [mend(f"write `{edit[2]}` in place of `{token.text}`", edit)] if len(does) == 1 else []
+        edits = [(token.at, token.end, it) for it in does]
+        return [mend(f"write `{it[2]}` in place of `{token.text}`", it) for it in edits] if len(does) <= 3 else []
 
     def no_process(self):
         token, codes = self.line.process, self.run.codes
@@ -104,7 +104,7 @@ class Refused:
         lines = self.meant(token, known)
         see = f"see: the text declares no process of mode {mode}"
         see = f"see: the {WHAT[mode]} are {listed(known)}" if known else see
-        lines = lines or self.offering(token.text, known) or [*self.one_that_does(known), see]
+        lines = lines or self.offering(token.text, known) or [*self.those_that_do(known), see]
         return token.at, "NoProcess", lines
 
     def made_inside(self, process):
@@ -140,7 +140,9 @@ class Refused:
         if self.line.word == "let" and process.mode == "T":
             new, said = "exec ", f"`exec` in place of `let {self.line.contract.text} = new`"
         elif self.line.word == "exec" and process.mode == "S":
-            new, said = f"let {unused(self.run.script)} = new ", "`let .. = new` in place of `exec`"
+            name = self.run.script.unmade(self.line.number)
+            new = f"let {name or unused(self.run.script)} = new "
+            said = f"`let {name or '..'} = new` in place of `exec`"
         else:
             return []
         edit = (first.at, sender.at, new)

@@ -2,13 +2,15 @@
 import itertools
 from typing import NamedTuple
 
+from . import headed
 from .amounts import closing
 from .held import PROVIDED, now, reached
 from .kinds import miscounted, other_parts
-from .losing import Keeping, values_of, warned
+from .losing import Keeping, further, values_of, warned
 from .mends import DATA, Mend, filled, mend, says
 from .names import Names, unused
 from .passing import passed
+from .renamed import fresh
 from .retyped import retyped
 from .shapes import LASTS
 from .swapped import acquired_later, acquired_of, ended_otherwise, made_here, other_channel, other_spawned, put_instead
@@ -18,7 +20,7 @@ from .texts import LONGEST, joined
 # How often the program is asked at most, how many instructions are put before a stuck one, and behind how many it is
 # tried.
 ASKED, DEEP = DATA["asked"], DATA["deep"]
-MOST_BEHIND = 4
+MOST_BEHIND, MOST_BRANCHES = 4, 4
 # The modes that a process of each mode may spawn.
 SPAWNED = {"R": "R", "S": "RS", "L": "RS", "T": "RS"}
 # The leaves as which a channel is passed on or ended: by send, wait and release, and as an argument.
@@ -137,7 +139,8 @@ class Stuck:
                     if words == "accept;" and (said.endswith("detach; ") or self.is_dead_end()):
                         continue
                     edit = f"{code}{more} "
-                    tried = Try((self.at, self.at, edit), says("before", code=said + words))
+                    tried = self.put_early(name, more, words) if not code and words.startswith("get ") else None
+                    tried = tried or Try((self.at, self.at, edit), says("before", code=said + words))
                     reached = self.reach(tried)
                     if reached is None:
                         return
@@ -146,6 +149,23 @@ class Stuck:
                     elif reached == self.at and behind is not None:
                         further.append((name, behind, edit, f"{said}{words} "))
             waiting = further
+
+    def put_early(self, name, code, words):
+        """Gives a `get` where the channel comes to the type that it is at here, so that what comes can be spent on the
+        way here; nothing where that is here."""
+        types, step, held = self.reached
+        start = step
+        for before, known in list(Keeping(types, step, held, []).way(self.process()))[::-1]:
+            if name not in known or known[name].type != held[name].type:
+                break
+            start = before
+        token = self.tokens[start.at]
+        words = f"write `{words}` before `{token.text}` at {self.text.place(token.at)}"
+        return Try((token.at, token.at, f"{code} "), words) if start.at != step.at else None
+
+    def process(self):
+        """Gives the process that the stuck instruction stands in."""
+        return next(it for it in self.reached[0].processes.values() if it.at == self.head + 2)
 
     def end(self, index=None):
         """Gives where the stuck instruction, or the one at a token, ends, if it is one that others follow: before its
@@ -174,6 +194,8 @@ class Stuck:
         """Gives what may stand in the place of the stuck instruction."""
         token = self.tokens[self.index]
         yield from self.elsewhere()
+        for edit, words in headed.retyped(self) if self.form in TALKING else ():
+            yield Try(edit, words)
         yield from self.swapped()
         ways = [put_instead(self)] if self.form in ("detach", "call", "close") else []
         ways += [other_channel(self), ended_otherwise(self), acquired_of(self)] if self.form in TALKING else []
@@ -190,6 +212,17 @@ class Stuck:
             yield from self.branches()
         if self.form in DUAL:
             yield from self.dual()
+        if self.form in ("put", "send", "take", "recv"):
+            yield from self.paid_instead()
+        if self.form == "put":
+            yield from self.made_of()
+        if self.form in TALKING:
+            yield from self.put_back()
+            yield from self.heard_first()
+        if self.form == "wait":
+            yield from self.waited_early()
+        if self.form == "call":
+            yield from self.accepted_early()
         if self.form == "send":
             via, sent = self.tokens[self.index + 1 : self.index + 3]
             it = f"{sent.text} {via.text}"
@@ -197,6 +230,116 @@ class Stuck:
         if self.form == "close" and self.tokens[self.index - 1].text != "=":
             call = self.call_again()
             yield Try((token.at, token.end, call), f"write `{call}` in place of `close`")
+
+    def made_of(self):
+        """Gives a process that is made of the value which is put here, and sent where a channel is due."""
+        types, _, held = self.reached
+        via = self.tokens[self.index + 1].text
+        whole = types.unfolded(held[via].type) if via in held else None
+        if whole is None or whole.sign != ("*" if via == "self" else "-o"):
+            return
+        wanted, value = types.said(*whole.parts[0][:2]), self.text.text[self.tokens[self.index + 2].at : self.end()]
+        for it in types.processes.values():
+            if it.offers == wanted and it.mode == "R" and [one.kind for one in it.parameters] == ["value"]:
+                name = fresh(self.text, it.name)
+                new = f"spawn {name} = {it.name}({value};); send {via} {name}"
+                old = joined(self.tokens[self.index : self.text.index_at(self.end())])
+                yield Try((self.at, self.end(), new), says("instead", new=new, old=old))
+
+    def paid_instead(self):
+        """Gives the instruction that pays what the type says, or gets it, in place of one that is on a value or a
+        channel."""
+        types, _, held = self.reached
+        name = self.tokens[self.index + 1].text
+        whole = types.unfolded(held[name].type) if name in held else None
+        if whole is not None and whole.sign in ("|", "<"):
+            word = "pay" if (whole.sign == "|") == (name == "self") else "get"
+            new = f"{word} {name} {{{types.amount(whole)}}}"
+            old = joined(self.tokens[self.index : self.text.index_at(self.end())])
+            yield Try((self.at, self.end(), new), says("instead", new=new, old=old))
+
+    def heard_first(self):
+        """Gives what stands from here on in each branch of a `case` on a channel of this instruction, whose label comes
+        first."""
+        types, _, held = self.reached
+        names = [it.text for it in self.tokens[self.index : self.text.index_at(self.end() or self.at) + 1]]
+        depth, end = 0, self.index
+        stops = ("|", "proc", "fn", "type")
+        while end < len(self.tokens) and depth >= 0 and not (depth == 0 and self.tokens[end].text in stops):
+            depth += (self.tokens[end].text == "{") - (self.tokens[end].text == "}")
+            end += 1
+        end -= (depth < 0) + (self.tokens[end - 1].text == ";")
+        code = self.text.text[self.at : self.tokens[end - 1].end]
+        for name in (name for name in dict.fromkeys(names) if name in held):
+            whole = types.unfolded(held[name].type)
+            if whole.sign == ("&" if name == "self" else "+") and len(whole.parts) <= MOST_BRANCHES:
+                rows = [f"{label} => {code}" for label, _ in whole.parts]
+                said = " and ".join(f"`{label}`" for label, _ in whole.parts)
+                words = f"write a `case {name}` here, with what stands from here on in each of the branches {said}"
+                yield Try((self.at, self.tokens[end - 1].end, f"case {name} {{ {' | '.join(rows)} }}"), words)
+
+    def waited_early(self):
+        """Gives a `wait` for a channel behind what is done on this directly behind it, with what ends its talk before
+        that; and no `wait`, where the channel is passed on behind it."""
+        types, _, held = self.reached
+        name, end = self.tokens[self.index + 1].text, self.end()
+        later = [at for at in range(self.index + 2, len(self.tokens)) if self.tokens[at].text == name
+                 and self.is_ending(at) and self.names.leads(self.index, at)]
+        if name in held and types.unfolded(held[name].type).sign != "1" and later:
+            yield Try((self.at, end + 1, ""), "take it out")
+        last = self.text.index_at(end) + 1
+        it, stop = held[name].type if name in held else None, None
+        while it is not None and self.end(last) is not None and self.channel_at(last) == name:
+            stop = self.end(last)
+            it = further(types, it, [token.text for token in self.tokens[last : self.text.index_at(stop)]])
+            last = self.text.index_at(stop) + 1
+        code = self.to_end(name, it, DEEP) if stop is not None and it is not None else None
+        if code:
+            run = self.text.text[self.text.tokens[self.text.index_at(end) + 1].at : stop]
+            new, old = f"{run}; {code}".strip(), " ".join(self.text.text[self.at : stop + 1].split())
+            yield Try((self.at, stop + 1, new), f"write `{new}` in place of `{old}`{says('lost', channel=name)}")
+
+    def put_back(self):
+        """Gives the instructions on a channel that was given away before, before the one that gives it away."""
+        name = self.channel_at(self.index)
+        given = [at for at in range(self.head, self.index) if self.tokens[at].text == name and self.is_ending(at)
+                 and self.names.leads(at, self.index)]
+        last, end = self.index, self.end()
+        while end is not None and self.channel_at(last) == name:
+            stop, last = end, self.text.index_at(end) + 1
+            end = self.end(last)
+        if name in self.reached[2] or not given or last == self.index:
+            return
+        code, start = joined(self.tokens[self.index : self.text.index_at(stop)]), given[-1]
+        for _ in range(MOST_BEHIND):
+            before = [at for at in range(self.head, start) if self.tokens[at].text in (";", "{", "=>", "=")]
+            start = before[-1] + 1 if before else start
+            token = self.tokens[start]
+            words = f"write `{code};` before `{token.text}` at {self.text.place(token.at)}, and not here"
+            yield Try((token.at, token.at, f"{code}; "), words, ((self.at, self.tokens[last].at, ""),))
+            start -= 1
+            if not before or self.tokens[start].text != ";" or self.channel_at_end(start) != name:
+                return
+
+    def channel_at_end(self, end):
+        """Gives the name that the instruction which ends before a token is on."""
+        before = [at for at in range(self.head, end) if self.tokens[at].text in (";", "{", "=>", "=")]
+        return self.channel_at(before[-1] + 1) if before else ""
+
+    def accepted_early(self):
+        """Gives the text without an `accept` behind which `self` says and hears nothing up to a call, since the process
+        that is called begins with one."""
+        types, _, held = self.reached
+        own, rows = held.get("self"), list(Keeping(types, self.reached[1], held, []).way(self.process()))
+        for step, known in rows[::-1]:
+            at = known.get("self")
+            if step.form == "accept" and at is not None and types.unfolded(at.type).parts[-1] == own.type:
+                token = self.tokens[step.at]
+                edit = (token.at, self.tokens[step.end].end, "")
+                other = self.tokens[self.index + 1].text
+                where = self.text.place(token.at)
+                yield Try(edit, f"take `accept;` at {where} out, since `{other}` begins with one")
+                return
 
     def elsewhere(self):
         """Gives another channel in the place of `self`, on which nobody hears a transaction, or of a contract: the name
@@ -213,9 +356,26 @@ class Stuck:
         for name in names:
             yield Try((it.at, it.end, name), f"write `{name}` in place of `{it.text}`")
         if it.text != "self" and not names:
-            new = f"acquire {it.text} as {self.new}; {self.text.text[self.at : it.at]}{self.new}"
-            mend = f"write `acquire {it.text} as ..;` before it, with a new name, and this name in place of `{it.text}`"
-            yield Try((self.at, it.end, new), mend)
+            name = fresh(self.text, it.text)
+            new = f"acquire {it.text} as {name}; {self.text.text[self.at : it.at]}{name}"
+            rows = self.talk_behind(at)
+            where = f", here and at {', '.join(self.text.place(row.at) for row in rows)}" if rows else ""
+            words = f"write `acquire {it.text} as {name};` before it, and `{name}` in place of `{it.text}`{where}"
+            yield Try((self.at, it.end, new), words, tuple((row.at, row.end, name) for row in rows))
+
+    def talk_behind(self, at):
+        """Gives the tokens behind one by which instructions are on the same channel, up to its release."""
+        name, rows = self.tokens[at].text, []
+        for place in range(at + 1, len(self.tokens)):
+            before, behind = self.tokens[place - 1].text, self.tokens[place + 1 : place + 2]
+            if self.tokens[place].text != name or not self.names.leads(self.index, place):
+                continue
+            if before in ("put", "take", "send", "recv", "pay", "get", "case", "release", "wait") or \
+                    behind and behind[0].text == ".":
+                rows.append(self.tokens[place])
+            if before == "release":
+                break
+        return rows
 
     def swapped(self):
         """Gives the stuck instruction and the one behind it the other way round, or it behind more of them."""
@@ -275,8 +435,46 @@ class Stuck:
             said = " and ".join(f"`{new}` in place of `{old}` at {self.text.place(at)}" for old, at, _, new in pairs)
             yield Try(edits[0], f"write {said}", tuple(edits[1:]))
 
+    def typed_branches(self, opening, has, close):
+        """Gives the branches that the type has and the case has not, each with what ends its talk, where labels alone
+        do."""
+        types, step, held = self.reached
+        name = self.tokens[self.index + 1].text
+        whole = types.unfolded(held[name].type) if name in held else None
+        if whole is None or whole.sign != ("&" if name == "self" else "+"):
+            return
+        codes = [(label, self.talked(name, it, DEEP)) for label, it in whole.parts if label not in has]
+        if codes and all(code for _, code in codes):
+            rows = [f"{label} => {code}" for label, code in codes]
+            what = "a branch" if len(rows) == 1 else "branches"
+            words = f"write {what} {' and '.join(f'`{it}`' for it in rows)} too"
+            is_lost = any(f" wait {name};" in it and f"{name}." in it for it in rows)
+            words += says("lost", channel=name) if is_lost else ""
+            yield Try((close, close, "".join(f" | {it}" for it in rows)), words)
+
+    def talked(self, name, it, deep):
+        """Gives the instructions by which the talk on a channel comes to its end by labels alone, with those that the
+        process ends with; nothing where it does not."""
+        last = self.call_again() if self.tokens[self.head + 1].text in ("S", "L") else "close"
+        code = self.to_end(name, it, deep)
+        return None if code is None else f"{code}{last}"
+
+    def to_end(self, name, it, deep):
+        """Gives the instructions by which the talk on a channel at a type comes to its end by labels alone, or none."""
+        whole = self.reached[0].unfolded(it)
+        if whole.sign in ("down", "1"):
+            words = {("down", True): "detach; ", ("down", False): f"release {name} as {self.new}; ",
+                     ("1", True): "", ("1", False): f"wait {name}; "}
+            return words[whole.sign, name == "self"]
+        is_sent = (whole.sign in PROVIDED) == (name == "self")
+        for label, behind in whole.parts if whole.sign in ("+", "&") and is_sent and deep else ():
+            code = self.to_end(name, behind, deep - 1)
+            if code is not None:
+                return f"{name}.{label}; {code}"
+        return None
+
     def branches(self):
-        """Gives further branches of a case, one or two, each of which closes."""
+        """Gives further branches of a case: by its type, or one or two, each of which closes."""
         opening = self.index + 2
         depth, has, close = 0, [], None
         for at in range(opening, len(self.tokens)):
@@ -286,7 +484,9 @@ class Stuck:
             if depth == 0:
                 close = self.tokens[at].at
                 break
-        lacking = [it for it in self.labels() if it not in has]
+        typed = [it for it in self.typed_branches(opening, has, close) if (self.reach(it) or 0) > self.at]
+        yield from typed
+        lacking = [it for it in self.labels() if it not in has and not typed]
         sets = [[it] for it in lacking] + [[it, other] for at, it in enumerate(lacking) for other in lacking[at + 1 :]]
         for labels in sets:
             new = "".join(f" | {it} => close" for it in labels)
@@ -364,14 +564,16 @@ class Stuck:
         given = [self.tokens[at].text for at in range(self.index, self.behind()) if self.names.used(at) == "channel"]
         if not it.assets and (self.form != "call" or set(given) <= held.keys()):
             return
-        process = next(other for other in types.processes.values() if other.at == self.head + 2)
-        if self.form == "detach":
+        process = self.process()
+        if self.form == "detach" or self.form == "call" and self.are_passed(types, held, it, given):
             return
         token, end = self.tokens[self.index], self.tokens[self.behind() - 1].end
         old = self.text.text[token.at : end]
         found = [new for new in (*it.forwards(process), *it.calls(process)) if new != old]
+        found.sort(key=lambda new: new.startswith("call ") and not self.accepts_first(new[5 : new.index("(")]))
         for new in found:
             yield Try((token.at, end, new), says("instead", new=new, old=old))
+        yield from self.sent_instead(it, given)
         if self.form == "call" and not found:
             for said, new in it.open_calls(process):
                 yield Try((token.at, end, new), says("instead", new=said, old=old))
@@ -380,6 +582,45 @@ class Stuck:
             yield Try((token.at, token.at, f"{new} "), said)
         for asset, words, edits in it.returned(process):
             yield Try(edits[0], f"{words}, so that the client gets `{asset}` back", edits[1:])
+
+    def are_passed(self, types, held, keeping, given):
+        """Whether the channels of a call are those that its process takes, and all that are left, so that it is stuck
+        for its values."""
+        other = types.processes.get(self.tokens[self.index + 1].text)
+        wanted = [it.type for it in other.of_kind("channel")] if other else None
+        has = [types.said(*held[name].type[:2]) for name in given if name in held]
+        return has == wanted and len(has) == len(given) and set(keeping.left) <= set(given)
+
+    def kept_instead(self):
+        """Gives an asset that is due here, and was brought to its end on the way here, sent in place of that."""
+        types, _, held = self.reached
+        own = types.unfolded(held["self"].type) if "self" in held else None
+        if self.form not in ("detach", "close") or own is None or own.sign != "*":
+            return
+        rows = list(Keeping(types, self.reached[1], held, []).way(self.process()))
+        for at, (step, known) in enumerate(rows):
+            name = self.tokens[step.at + 1].text
+            if step.form != "wait" or types.said(*known[name].first[:2]) != types.said(*own.parts[0][:2]):
+                continue
+            first = at
+            while first and self.channel_at(rows[first - 1][0].at) == name and rows[first - 1][0].form == "label":
+                first -= 1
+            start, end = self.tokens[rows[first][0].at].at, self.tokens[step.end].end
+            said = " ".join(self.text.text[start:end].split())
+            words = f"take `{said}` at {self.text.place(start)} out, and write `send self {name};` before it"
+            yield Try((self.at, self.at, f"send self {name}; "), words, ((start, end, ""),))
+
+    def sent_instead(self, keeping, given):
+        """Gives another asset that is held in place of one that was sent away before, and is passed on here."""
+        types, _, held = self.reached
+        for name in given:
+            sent = [at for at in range(self.head, self.index) if self.tokens[at].text == name
+                    and self.names.key(at) == ("step", 1) and self.names.leads(at, self.index)]
+            others = [it for it in keeping.assets if it not in given]
+            for other in others if name not in held and sent else ():
+                token = self.tokens[sent[-1]]
+                words = f"write `{other}` in place of `{name}` at {self.text.place(token.at)}, and leave this as it is"
+                yield Try((token.at, token.end, other), words)
 
     def find(self):
         """Gives what lets the check go on past the stuck instruction: first what keeps all that is held, then the
@@ -390,7 +631,8 @@ class Stuck:
             lines = [] if found else self.parts()
             if lines:
                 return lines
-        kept = [it for it in self.keeping(types, step, held) if (self.reach(it) or 0) > self.at]
+        instead = [it for it in self.kept_instead() if (self.reach(it) or 0) > self.at]
+        kept = [*instead, *(it for it in self.keeping(types, step, held) if (self.reach(it) or 0) > self.at)]
         lines = [mend(it.mend, *it.edits) for it in kept]
         edits = [it.edit for it in kept]
         for it in (other for other in self.others_found() if other.edit not in edits):
@@ -401,6 +643,8 @@ class Stuck:
         lines = [it for it in lines if it not in moved[1:]]
         if all("nobody gets it" in it for it in lines):
             lines = [*self.by_label(types, step, held), *lines]
+        elif instead:
+            lines += self.by_label(types, step, held)
         lines = lines or [mend(it.mend, *it.edits) for _, it in self.made()]
         return list(dict.fromkeys(lines))[:3] or self.parts()
 
@@ -416,7 +660,7 @@ class Stuck:
         if self.form not in ("close", "detach", "call"):
             return []
         it = Keeping(types, step, held, values_of(self.names, self.head, self.index))
-        process = next(other for other in types.processes.values() if other.at == self.head + 2)
+        process = self.process()
         tries = [Try(edits[0], words, edits[1:]) for words, edits in it.relabelled(process)]
         return [mend(other.mend, *other.edits) for other in tries if (self.reach(other) or 0) > self.at]
 
@@ -472,7 +716,10 @@ class Stuck:
             reached = self.reach(Try(edit, ""))
             return reached is not None and reached > self.at
 
-        return other_parts(self.names, self.index, self.behind(), goes_on) if self.form in TERMS else []
+        def is_whole(edit):
+            return (self.reach(Try(edit, "")) or 0) > self.text.size
+
+        return other_parts(self.names, self.index, self.behind(), goes_on, is_whole) if self.form in TERMS else []
 
     def declaration(self):
         """Gives the place and the head of the process that a spawn or a call names."""

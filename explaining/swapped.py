@@ -3,6 +3,8 @@ or what a value is sent by."""
 from .texts import joined
 
 MOST_TRIED, MOST_BEHIND = 6, 3
+# The sign of a type at which the client has an instruction.
+CLIENT = {"take": "/\\", "recv": "*", "put": "->", "send": "-o", "get": "|", "pay": "<", "case": "+"}
 
 
 def held_names(stuck):
@@ -12,14 +14,22 @@ def held_names(stuck):
 
 
 def other_channel(stuck):
-    """Gives edits for another channel that is held, where the one of the instruction is not."""
+    """Gives edits for another channel that is held, in place of the one of the instruction: the last ones first."""
     types, step, held = stuck.reached
     at = stuck.index if stuck.form == "label" else stuck.index + 1
     it = stuck.tokens[at]
-    if it.text in held or it.text == "self":
-        return
-    for name in held_names(stuck)[:MOST_TRIED]:
+    names = [name for name in held_names(stuck) if name != it.text and (it.text != "self" or goes_on(stuck, name))]
+    for name in names[:MOST_TRIED]:
         yield (it.at, it.end, name), f"write `{name}` in place of `{it.text}`"
+
+
+def goes_on(stuck, name):
+    """Whether the talk on a channel that the process is the client of goes on by an instruction like the stuck one."""
+    types, _, held = stuck.reached
+    whole = types.unfolded(held[name].type)
+    if stuck.form == "label":
+        return whole.sign == "&" and stuck.tokens[stuck.index + 2].text in dict(whole.parts)
+    return whole.sign == CLIENT.get(stuck.form)
 
 
 def acquired_of(stuck):

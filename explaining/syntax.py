@@ -1,10 +1,10 @@
 """What is wrong where no contract goes on: the slip that was made, and an edit with which the text is read further."""
 import re
 
-from .comparisons import written
+from .comparisons import chained, written
 from .habits import Habits
 from .mends import mend, says
-from .renamed import fresh
+from .renamed import fresh, places, uses
 from .shapes import HEADS, KINDS, Slip
 from .texts import Token, tokens_of
 
@@ -122,8 +122,9 @@ class Slips(Habits):
                 yield from self.of_comparison({"<>": "!=", "=<": "<="}.get(signs, signs), at)
             if signs in ("/*", "--") and not self.is_counted(at):
                 yield from self.of_comment(signs, at)
-        if mark.text == ">":
-            yield from self.of_comparison(">", mark.at)
+        if mark.text == ">" or mark.text in ("<", "=") and "and" in self.wanted and chained(
+                self.tokens, self.index, self.begins_term):
+            yield from self.of_comparison(mark.text, mark.at)
         if mark.text == "!":
             yield Slip("Syntax logic", "write `not` in place of `!`", (mark.at, mark.end, " not "))
         if mark.text == "#":
@@ -138,7 +139,8 @@ class Slips(Habits):
     def of_comparison(self, sign, at):
         """A comparison by a sign of other languages, which begins at an offset."""
         first = next(it for it, token in enumerate(self.tokens) if token.at == at)
-        found = written(self.tokens, first, sign, len(sign), self.begins_term)
+        found = chained(self.tokens, first, self.begins_term)
+        found = found or written(self.tokens, first, sign, len(sign), self.begins_term)
         if found:
             new, start, end = found
             edit = (self.tokens[start].at, self.tokens[end - 1].end, new)
@@ -149,7 +151,9 @@ class Slips(Habits):
     def of_comment(self, sign, at):
         end = self.text.text.find("*/" if sign == "/*" else "\n", at + len(sign))
         end = self.text.size if end < 0 else end + 2 if sign == "/*" else end
-        yield Slip("Syntax comment", f"begin each line of it with `//` in place of `{sign}`", (at, end, " "))
+        inside = self.text.text[at + len(sign) : end].removesuffix("*/")
+        new = "\n".join(f"// {it.strip(' *#-')}" for it in inside.split("\n")) + ("\n" if sign == "/*" else "")
+        yield Slip("Syntax comment", f"begin each line of it with `//` in place of `{sign}`", (at, end, new))
 
     def wants(self, group):
         """Whether a text of this rule may begin at the offence."""
@@ -193,11 +197,26 @@ class Slips(Habits):
         if mark.text in AT_THE_HEAD and not is_label:
             behind = range(at + 1, self.text.index_at(self.end_of_declaration()))
             rows, is_label = [tokens[place].at for place in behind if tokens[place].text == mark.text], True
+        elif mark.text in INSTRUCTIONS and not is_label:
+            rows, is_label = [tokens[place].at for place in self.named_so(at)], True
         edits = tuple((it, it + len(mark.text), new) for it in rows) if is_label else ()
         where = f", here and at {', '.join(self.text.place(it) for it in rows[:8])}" if edits else ""
         words = f"take another name than `{mark.text}`"
         words = f"write `{new}` in place of `{mark.text}`{where}" if is_label else words
         return Slip("Syntax word", words, (mark.at, mark.end, new), edits)
+
+    def named_so(self, at):
+        """Gives the other tokens of the name at a token that are names, and begin no instruction: where it is that of a
+        process, those by which it is called, and else those behind it in the same declaration."""
+        tokens, is_process = self.text.tokens, self.token(-2).text == "proc"
+        end = len(tokens) if is_process else self.text.index_at(self.end_of_declaration())
+        for place in range(0 if is_process else at + 1, end - 1):
+            before, behind = tokens[place - 1].text, tokens[place + 1].text
+            if tokens[place].text != self.marked.text or place == at:
+                continue
+            is_called = behind == "(" and before in ("call", "=")
+            if is_called if is_process else before not in (";", "{", "=>", "|", "."):
+                yield place
 
     def end_of_declaration(self):
         heads = [it.at for it in self.text.tokens if it.at > self.marked.at and it.text in HEADS]
@@ -251,17 +270,36 @@ class Slips(Habits):
             mend = f"write `spawn {first} =` in place of `let {first} = spawn`"
             yield Slip("Syntax", mend, (third.at, mark.end, f"spawn {first} ="))
         if mark.text == "." and self.token(-4).text == "let" and first == "=":
-            asked = f"{before.text}.{self.token(1).text}"
-            mend = f"write `{asked}; take {before.text} {third.text}` in place of `let {third.text} = {asked}`"
-            last = self.token(3 if [self.token(2).text, self.token(3).text] == ["(", ")"] else 1)
-            edit = (self.token(-4).at, last.end, f"{asked}; take {before.text} {third.text}")
-            yield Slip("Syntax", mend, edit)
+            yield self.of_asked_in_let(third.text, before.text)
         if mark.text == "(" and first == "spawn":
             mend = "write `.. =` behind `spawn`, with a new name for its channel"
             yield Slip("Syntax", mend, (before.at, before.at, "x = "))
         if self.wanted == {"as"}:
-            mend = f"write `as ..` behind `{before.text}`, with a new name"
-            yield Slip("Syntax", mend, (before.end, before.end, " as x"))
+            new, at = fresh(self.text, before.text), self.text.index_at(mark.at)
+            rows = uses(self.text.tokens, at, before.text)
+            where = f", and `{new}` in place of `{before.text}` at {places(self.text, rows)}" if rows else ""
+            edits = tuple((it.at, it.end, new) for it in rows)
+            words = f"write `as {new}` behind `{before.text}`{where}"
+            yield Slip("Syntax", words, (before.end, before.end, f" as {new}"), edits)
+
+    def of_asked_in_let(self, name, via):
+        """A value that is asked for by a label of a channel and bound by `let`: it is taken. A contract is acquired for
+        that before, and released behind it."""
+        asked = f"{via}.{self.token(1).text}"
+        last = self.token(3 if [self.token(2).text, self.token(3).text] == ["(", ")"] else 1)
+        new, other = f"{asked}; take {via} {name}", fresh(self.text, via)
+        if self.is_contract(via):
+            talk = f"{other}.{self.token(1).text}; take {other} {name}"
+            new = f"acquire {via} as {other}; {talk}; release {other} as {other}x"
+        words = f"write `{new}` in place of `let {name} = {asked}`"
+        return Slip("Syntax", words, (self.token(-4).at, last.end, new))
+
+    def is_contract(self, name):
+        """Whether a name is that of a parameter which is a shared contract."""
+        words = [it.text for it in self.tokens]
+        body = words.index("=") if "=" in words else len(words)
+        found = [at for at in range(3, body - 2) if words[at : at + 2] == [name, ":"] and ";" in words[:at]]
+        return bool(found) and (words[found[0] + 2] == "up" or self.mode_of(words[found[0] + 2]) == "S")
 
     def mode_by_head(self):
         """Gives the mode of a declaration that has none: of a definition by how its type begins, and whether it comes
@@ -322,6 +360,8 @@ class Slips(Habits):
 
 # Reserved words that stand at the head of a text alone.
 AT_THE_HEAD = ("all", "ticks", "sends", "cost")
+# Reserved words by which instructions begin.
+INSTRUCTIONS = tuple("send recv put take pay get work wait accept detach acquire release spawn emit close fwd".split())
 # The rows of slips whose edits have so much that something else may be wrong in it.
 WIDE = ("Syntax braces",)
 

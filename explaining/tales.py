@@ -45,12 +45,14 @@ class Firing(NamedTuple):
 
 
 class Batch(NamedTuple):
-    """What is told of a deposit or a batch: the line of the script, who was started, the firings, and the end."""
+    """What is told of a deposit or a batch: the line of the script, who was started, the firings, the end, and how many
+    further firings are not told."""
 
     line: int
     starts: list
     firings: list
     end: list
+    further: int = 0
 
     @property
     def is_kept(self):

@@ -1,5 +1,5 @@
 """Steps as a chart of text: a column for each process, `#` while it is acquired, `x` where it ends."""
-from .shown import ended, waits
+from .shown import ended, further, waits
 
 # How wide a column is at least, and how much wider than its text an arrow is at least.
 LEAST, AROUND = 13, 8
@@ -127,9 +127,9 @@ def lanes(run, scenes):
     for scene in scenes:
         if not scene.steps:
             continue
-        line, count = scene.batch.line, len(scene.batch.firings)
+        line, count = scene.batch.line, len(scene.batch.firings) + scene.batch.further
         yield f"line {line}  {script.row(line).text}   {ended(scene)}, {count} firing{'' if count == 1 else 's'}"
         yield ""
         yield from Chart(scene).lines()
-        yield from waits(scene, run.answer)
+        yield from (*further(scene), *waits(scene, run.answer))
         yield ""

@@ -1,5 +1,5 @@
 """Steps as sequence charts of Mermaid, each in a block that code hosts draw on a page of Markdown."""
-from .shown import ended
+from .shown import ended, further
 
 # What a chart reads otherwise, each with how it is written there.
 ESCAPED = {"#": "#35;", ";": "#59;"}
@@ -47,4 +47,6 @@ def mermaid(script, scenes):
             yield f"  participant p{pid} as {scene.cast.name(pid)}"
         for step in scene.steps:
             yield from drawn(step, held)
+        for it in further(scene):
+            yield f"  Note over p{scene.steps[0].who}: {escaped(it)}"
         yield "```"

@@ -11,6 +11,8 @@ from .told import unit_of
 from .waiting import waits_of
 
 SEEDS = 50
+# The most firings of a batch where nothing else is said: many orders of a batch that does not end take long.
+STEPS = 5_000
 OTHERS = (("--policy", "first"), ("--policy", "round"), ("--workers", "2"), ("--workers", "4"))
 
 
@@ -42,15 +44,16 @@ class Orders:
         seeded = [("--seed", str(it)) for it in range(seeds)]
         self.all = [*seeded, *OTHERS]
         self.reports, self.lines, self.count = {}, {}, 0
+        self.steps = run.steps() or ["--steps", str(STEPS)]
 
     def ask(self, order):
         """Gives the journal of an order, or where the program runs it itself nothing, and then the answer."""
         run = self.run
         if order[0] != "--seed":
             kept = run.program.kept(f"journal-{name_of(order).replace(' ', '-')}", b"")
-            answer = run.program.call("run", *run.files, *order, *run.steps(), "--journal", kept)
+            answer = run.program.call("run", *run.files, *order, *self.steps, "--journal", kept)
             return kept, run.has_run(answer)
-        journal = journal_of(run.teller.tale(*run.files, *order, *run.steps()))
+        journal = journal_of(run.teller.tale(*run.files, *order, *self.steps))
         kept = run.program.kept(f"journal-{order[1]}", journal)
         if journal not in self.reports:
             self.reports[journal] = run.replayed_as(kept)
@@ -59,7 +62,7 @@ class Orders:
     def compare(self):
         """Runs each order, and gathers what became of each line. The program's own run comes first, so that what is
         refused is said before anything else is asked."""
-        self.run.has_run(self.run.program.call("run", *self.run.files, *self.run.steps()))
+        self.run.has_run(self.run.program.call("run", *self.run.files, *self.steps))
         with concurrent.futures.ThreadPoolExecutor(os.cpu_count() or 1) as several:
             waiting = [several.submit(self.ask, it) for it in self.all]
             try:
@@ -83,6 +86,11 @@ class Orders:
         """Gives the lines that end in several ways, each with these, the most frequent first."""
         found = {line: sorted(it.values(), key=lambda way: -len(way.orders)) for line, it in self.lines.items()}
         return {line: it for line, it in found.items() if len(it) > 1}
+
+    def cut(self):
+        """Gives the lines of batches that ran into the limit in some order."""
+        rows = self.lines.items()
+        return [line for line, ways in rows if any(way.entry[1][0][2] == "steps" for way in ways.values())]
 
     def waits(self, way):
         """Gives lines on who is left and who waits for whom, by name, in the first order in which a line is blocked."""

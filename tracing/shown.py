@@ -33,6 +33,12 @@ def ended(scene):
     return " ".join(words)
 
 
+def further(scene):
+    """Gives a line on the firings of a batch that are not shown, if there are such."""
+    count = scene.batch.further
+    return [f".. and {count} more firings, which are undone too"] if count else []
+
+
 def waits(scene, answer):
     """Gives lines on who waits for whom at the end of a batch."""
     if scene.batch.end[0] != "blocked":
@@ -48,7 +54,7 @@ def steps(run, story, scenes, has_colour):
         for it in scene.steps:
             place = "" if it.at is None else "{}:{}".format(*story.text.where(it.at))
             yield f"  {place:7} {said(it, scene.cast)}"
-        yield from (f"          {it}" for it in waits(scene, run.answer))
+        yield from (f"          {it}" for it in (*further(scene), *waits(scene, run.answer)))
 
 
 def records(run, story, scenes):
@@ -63,5 +69,5 @@ def records(run, story, scenes):
             rows.append({"verb": it.verb, **names, "what": it.what, "line": line, "column": column})
         line = scene.batch.line
         found.append({"line": line, "text": read(run.script.row(line).text), "end": ended(scene), "steps": rows,
-                      "waits": waits(scene, run.answer)})
+                      "further": scene.batch.further, "waits": waits(scene, run.answer)})
     return found

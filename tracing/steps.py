@@ -70,7 +70,8 @@ class Story:
         payers = {it.pid: self.payer(it) for it in batch.starts}
         if batch.is_kept:
             return Scene(batch, self.steps, self.cast, {}, payers)
-        self.unheard(before)
+        if not batch.further:
+            self.unheard(before)
         scene = Scene(batch, self.steps, self.cast, self.lent, payers)
         self.cast, self.lent = before, lent
         return scene

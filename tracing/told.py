@@ -1,4 +1,6 @@
 """A script that is run and told: the program's report, and the tale of the journal behind it."""
+import re
+
 from explaining.scripts import Script
 from explaining.tales import batches_of
 from explaining.teller import Teller, Untold, journal_of
@@ -6,6 +8,7 @@ from explaining.texts import LIMIT, Text
 from testing.finding import read
 from testing.tests import REFUSED_SCRIPT, ended, named
 
+from . import shortened
 from .calling import OtherWords, Refused
 from .steps import Story
 
@@ -66,39 +69,58 @@ class Told:
             raise Refused(why_not(answer, *self.names))
         return answer
 
-    def replayed(self, journal):
-        """Gives the program's answer to a journal that the teller told."""
-        return self.replayed_as(self.program.kept("told", journal))
-
     def replayed_as(self, kept):
-        """Does so with the file of the journal."""
+        """Gives the program's answer to the file of a journal that the teller told."""
         answer = self.program.call("replay", *self.files, kept)
         if answer.words[:2] == ["journal", "refused"]:
             raise Untold(f"the program refuses the order that the teller told: {' '.join(answer.words)}")
         return self.has_run(answer)
 
     def ran(self):
-        """Gives the answer to a run, and the bytes of its tale."""
+        """Gives the answer to a run, its journal, and the tale of this where it is there already."""
         word, value = self.order()
         if word == "--seed":
             self.has_run(self.program.call("run", *self.files, *self.steps()))
             tale = self.teller.tale(*self.files, word, value, *self.steps())
-            return self.replayed(journal_of(tale)), tale
+            journal = journal_of(tale)
+            return self.replayed_as(self.program.kept("told", journal)), journal, tale
         if word == "--journal":
-            tale = self.teller.tale(*self.files, word, self.program.kept("journal", read(value)))
-            return self.replayed(journal_of(tale)), tale
-        return self.kept_by_run(word, value)
-
-    def kept_by_run(self, word, value):
-        """Gives the answer to a run by a policy or by workers, and the tale of the journal that it kept."""
+            kept = self.program.kept("journal", read(value))
+            answer = self.program.call("replay", *self.files, kept)
+            if answer.words[:2] == ["journal", "refused"]:
+                raise Refused(f"{value}: {' '.join(answer.words)}")
+            return self.has_run(answer), read(kept), None
         kept = self.program.kept("journal", b"")
         answer = self.has_run(self.program.call("run", *self.files, word, value, *self.steps(), "--journal", kept))
-        tale = self.teller.tale(*self.files, "--journal", kept)
-        if journal_of(tale) != read(kept):
-            raise Untold("the teller tells another run than the journal has")
-        return answer, tale
+        return answer, read(kept), None
 
-    def story(self):
-        """Runs the script, keeps the answer, and gives what happens."""
-        self.answer, tale = self.ran()
-        return Story(batches_of(tale), self.text, self.script, unit_of(self.answer))
+    def tale(self, journal, script):
+        """Gives the tale of a journal of a script, which has to be that of this journal."""
+        files = self.files[0], self.program.kept("told.script", script.data)
+        tale = self.teller.tale(*files, "--journal", self.program.kept("told", journal))
+        if not is_of(journal, tale):
+            raise Untold("the teller tells another run than the journal has")
+        return tale
+
+    def story(self, is_of_kept=False):
+        """Runs the script, keeps the answer, and gives what happens; of batches that are kept alone, where only these
+        are asked for. Of a batch that ran into its limit the first firings are told."""
+        self.answer, journal, tale = self.ran()
+        if is_of_kept:
+            (script, short), further = shortened.without_undone(self.script, journal), {}
+        else:
+            script, (short, further) = self.script, shortened.cut(journal)
+        if tale is None or short != journal:
+            tale = self.tale(short, script)
+        ends = {int(it[0][1]): it[0][2:] for it in self.answer.entries}
+        batches = [it._replace(further=further[it.line], end=ends[it.line]) if it.line in further else it
+                   for it in batches_of(tale)]
+        return Story(batches, self.text, self.script, unit_of(self.answer))
+
+
+def is_of(journal, tale):
+    """Whether a tale is that of a journal, of either version."""
+    told = journal_of(tale)
+    if journal.startswith(b"nomos-journal 1"):
+        told = re.sub(rb"(?m)^(\d+) .*", rb"\1", told.replace(b"nomos-journal 2", b"nomos-journal 1", 1))
+    return told == journal
