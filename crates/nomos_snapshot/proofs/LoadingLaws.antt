@@ -1,14 +1,13 @@
 -- A text is loaded as one ledger at most, which stands for the program; one that does is loaded from its snapshot.
-use Rattle.std.proofs.Common.{◌≡◌, ℕ, zero, suc, ◌+◌, ◌<◌, ◌≤◌, ◌*◌, ◌/◌, List, [], ◌∷◌, length, All, Option, Some, None, Result, Ok, Err, refl, ap, sym, subst, ◌∙◌, inl, inr, arith, length-append}
+use Rattle.std.proofs.Common.{◌≡◌, ℕ, zero, suc, ◌+◌, ◌<◌, ◌≤◌, ◌/◌, List, [], ◌∷◌, length, All, Option, Some, None, Result, Ok, Err, refl, ap, sym, subst, ◌∙◌, inl, inr, arith, length-append}
 use Rattle.std.proofs.Math.Nat.{mul-div_cancel}
 use Rattle.std.proofs.lemmas.Bool.{cases_lt}
 use Rattle.std.proofs.lemmas.List.Elements.{All-cons, All-contains, All-head, All-nil, All-tail}
-use Rattle.nomos_ir.specs.Naming.{NamesAreShort, NamesDiffer}
 use Rattle.nomos_legal.specs.Ledger.{IsLedger, LedgerState}
 use Rattle.nomos_legal.specs.StandsFor.{StandsFor}
 use Rattle.nomos_machine.specs.Objects.{object_number}
 use Rattle.nomos_machine.specs.Run.{IsNextReady, IsQuiet, NoneReady}
-use Rattle.nomos_machine.specs.State.{State, gas_of, process_at}
+use Rattle.nomos_machine.specs.State.{State, process_at}
 use Rattle.nomos_machine.specs.TypedState.{IsTyped, Numbered}
 use Rattle.nomos_machine.specs.declared.object.Object.{Object}
 use Rattle.nomos_machine.specs.declared.object.Object.TheVariants as object

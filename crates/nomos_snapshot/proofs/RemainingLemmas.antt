@@ -1,5 +1,5 @@
 -- The lowest variable of a process comes off what is left of its variables.
-use Rattle.std.proofs.Common.{◌≡◌, ℕ, ◌<◌, List, [], ◌∷◌, map, length, All, refl, ap, subst, sym, ◌∙◌, arith}
+use Rattle.std.proofs.Common.{◌≡◌, ℕ, ◌<◌, List, [], ◌∷◌, map, length, refl, ap, subst, ◌∙◌, arith}
 use Rattle.std.proofs.lemmas.List.Elements.{All-head, All-nil}
 use Rattle.nomos_ir.specs.Bindings.{IsAscending}
 use Rattle.nomos_ir.specs.Value.{Value}

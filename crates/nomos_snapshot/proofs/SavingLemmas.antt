@@ -1,7 +1,6 @@
 -- Lines are written one behind another.
-use Rattle.std.proofs.Common.{◌≡◌, ◌≢◌, ℕ, ◌+◌, ◌<◌, ◌≤◌, ◌^◌, List, [], ◌∷◌, ◌++◌, length, map, zip, drop, get_or, All, Option, Some, None, Result, Ok, Err, slice_get, refl, sym, ◌∙◌, ap, subst, arith, append_assoc}
+use Rattle.std.proofs.Common.{◌≡◌, ℕ, ◌+◌, ◌<◌, ◌≤◌, ◌^◌, List, [], ◌∷◌, ◌++◌, length, map, zip, drop, get_or, Some, Ok, Err, slice_get, refl, sym, ◌∙◌, ap, subst, append_assoc}
 use Rattle.std.specs.List.{flat_map}
-use Rattle.std.specs.Option.{option_map}
 use Rattle.std.proofs.lemmas.List.{append-nil, at_drop_all, drop_more}
 use Rattle.std.proofs.lemmas.List.Concat.{flat_map-append}
 use Rattle.std.proofs.lemmas.List.Elements.{All-append, All-cons, All-nil}
@@ -24,7 +23,7 @@ use Rattle.nomos_snapshot.specs.declared.error.SaveError.TheVariants as error
 use Rattle.nomos_snapshot.specs.declared.line.SnapshotLine.TheVariants as line
 use Rattle.nomos_snapshot.specs.Loading.{Loads, longest_snapshot}
 use Rattle.nomos_snapshot.specs.Saving.{HasLowNumbers, Saves, numbers, saved, too_long}
-use Rattle.nomos_snapshot.specs.Text.{ledger_lines, object_lines, snapshot_text, variable_lines}
+use Rattle.nomos_snapshot.specs.Text.{ledger_lines, object_lines, variable_lines}
 use Rattle.nomos_snapshot.specs.mirror.Remaining.{WritesLines}
 use Rattle.nomos_snapshot.proofs.LoadingLaws.{stands-loads}
 

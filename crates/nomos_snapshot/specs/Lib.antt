@@ -7,6 +7,7 @@ pub mod Text
 pub mod Leading
 pub mod Loading
 pub mod Saving
+pub mod Snapshotted
 pub mod Orderly
 pub mod Told
 pub mod mirror

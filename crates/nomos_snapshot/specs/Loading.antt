@@ -26,6 +26,10 @@ pub record IsWorth (a : Acceptance) (gas units : ℕ) : Type 0 where
   pub few : units < 2 ^ 64
   pub is : gas ≡ units * a.annotations.unit
 
+-- the ledger that is loaded, or why none is
+abbrev pub LoadAnswer : Type 0
+LoadAnswer = Result LedgerState LoadError
+
 -- What is answered of the ledger that a text tells, in the order of these rows.
 pub data Admits (a : Acceptance) (l : LedgerState) : Result LedgerState LoadError → Type 0 where
   not_typed : ¬ (IsSoundLedger a l) → Admits a l (Err error.NotTyped)

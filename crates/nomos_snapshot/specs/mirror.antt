@@ -1,5 +1,6 @@
 -- Mirrors of the code, on which no promise stands.
 pub mod Kinds
+pub mod Loaded
 pub mod Remaining
 pub mod Stands
 pub mod ValueReading

@@ -6,7 +6,7 @@ ghost use Rattle.nomos_machine.specs.Objects.{object_number, purse_of};
 ghost use Rattle.nomos_machine.specs.State.{gas_of};
 ghost use Rattle.nomos_snapshot.specs.Gathering.{ledger_of};
 ghost use Rattle.nomos_snapshot.specs.Loading.{TellsLedger, IsWorth, Loads};
-ghost use Rattle.nomos_snapshot.specs.Told.{told};
+ghost use Rattle.nomos_snapshot.specs.Told.{IsKept, told};
 ghost use Rattle.nomos_snapshot.specs.mirror.Remaining.{IsTransactionObject};
 
 use crate::error::LoadError;
@@ -23,6 +23,7 @@ use std::alloc::{AllocError, Global};
 /// `TooLong`, `BadLine` and `NoMemory` alone.
 pub fn read_told(alloc: Global, accepted: &Accepted, text: &[u8]) -> Result<Gathering, LoadError>
     ensures ok { IfOk result (λ g. TellsLedger accepted.now text.now (ledger_of (told g))) }
+    ensures kept { IfOk result IsKept }
     ensures err { IfErr result (λ why. why ≢ LoadError.NoMemory → Loads accepted.now text.now (Err why)) }
 {
     if text.len() > MAX_SNAPSHOT {

@@ -24,6 +24,7 @@ use crate::writing::{
     push_account, push_channel_line, push_contract, push_head, push_list_line, push_message,
     push_next, push_process, push_spent, push_typed_name, push_unit, push_value_line,
 };
+use nomos_contents::contents::Contents;
 use nomos_contents::data::StateData;
 use nomos_deeds::sight::SeenProcess;
 use nomos_deeds::undo::Undo;
@@ -328,4 +329,19 @@ pub fn save_data<M: Undo>(
         return Err(SaveError::TooLong);
     }
     Ok(text)
+}
+
+/// The snapshot of a ledger (docs/TEXTS.md, "Snapshots"), which is loaded as that ledger.
+pub fn save<M: Contents>(
+    alloc: Global,
+    accepted: &Accepted,
+    ledger: &Ledger<M>,
+) -> Result<Vec<u8>, SaveError>
+    requires { StandsFor accepted.now ledger.now }
+    ensures ok { IfOk result (λ text. Saves accepted.now ledger.now (Ok text.items)) }
+    ensures loads { IfOk result (λ text. Loads accepted.now text.items (Ok ledger.now)) }
+    ensures err { IfErr result (λ why. why ≢ SaveError.NoMemory → Saves accepted.now ledger.now (Err why)) }
+{
+    let contents = ledger.state().data(alloc)?;
+    save_data(alloc, accepted, ledger, &contents)
 }

@@ -1,10 +1,10 @@
 //! How the text of a snapshot is read, line by line.
-ghost use Rattle.std.specs.Prelude.{◌≡◌, IfOk, MatchResult, Ok, Err};
+ghost use Rattle.std.specs.Prelude.{◌≡◌, IfOk, IfSome, MatchResult, Ok, Err};
 ghost use Rattle.nomos_ir.specs.Naming.{NamesAreShort, NamesDiffer};
 ghost use Rattle.nomos_snapshot.specs.Gathering.{at_head, ledger_of};
 ghost use Rattle.nomos_snapshot.specs.Reading.{Reads};
 ghost use Rattle.nomos_snapshot.specs.mirror.Stands.{HasEnded, IsLedBy, IsStandKept};
-ghost use Rattle.nomos_snapshot.specs.Told.{told};
+ghost use Rattle.nomos_snapshot.specs.Told.{IsKept, told};
 
 use crate::gathered::Gathering;
 use crate::reading::LineReader;
@@ -15,7 +15,9 @@ use std::alloc::{AllocError, Global};
 
 // What was gathered, where a text may end.
 fn ended(stand: TextStand) -> Option<Gathering>
-    ensures { HasEnded stand result }
+    requires { IsStandKept stand }
+    ensures ended { HasEnded stand result }
+    ensures kept { IfSome result IsKept }
 {
     match stand {
         TextStand::Behind(gathering) => Some(gathering),
@@ -49,9 +51,10 @@ pub fn gather(
     accepted: &Accepted,
     text: &[u8],
 ) -> Result<Result<Gathering, usize>, AllocError>
-    ensures { IfOk result (λ answer. MatchResult answer
+    ensures told { IfOk result (λ answer. MatchResult answer
         (λ g. Reads accepted.now 1 at_head text.now (Ok (ledger_of (told g))))
         (λ at. Reads accepted.now 1 at_head text.now (Err at))) }
+    ensures kept { IfOk result (λ answer. IfOk answer IsKept) }
 {
     let program = accepted.program();
     let _lists = program.lists();

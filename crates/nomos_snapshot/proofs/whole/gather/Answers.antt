@@ -7,8 +7,8 @@ use Rattle.nomos_snapshot.specs.Told.{told}
 use Rattle.nomos_snapshot.proofs.TextReadingLemmas.{bad-read, empty-text, line-read, short-read, unended-read, whole-read}
 use Rattle.nomos_snapshot.proofs.whole.gather.Goals as goal
 
-pub returns-in-None : goal.returns-in-None
-returns-in-None c =
+pub returns-in-None-clause-told : goal.returns-in-None-clause-told
+returns-in-None-clause-told c =
     let none = rw c.in-None.is at c.in_ok-next.ensures in
     bad-read c.args.accepted.now c.args.text.now c.loop-line.left.now c.in-Some.line.now c.in-Some.rest.now c.loop-line.at
     c.loop-line.stand
@@ -28,18 +28,18 @@ loop-line-preserved c =
       ),
     )
 
-pub returns-then-not-is_empty : goal.returns-then-not-is_empty
-returns-then-not-is_empty c =
+pub returns-then-not-is_empty-clause-told : goal.returns-then-not-is_empty-clause-told
+returns-then-not-is_empty-clause-told c =
     unended-read c.args.accepted.now c.args.text.now c.loop-line.left.now c.loop-line.at c.loop-line.stand
     c.loop-line.invariant.0 c.in_default.ensures (search rules)
 
-pub returns-in-Some-ended : goal.returns-in-Some-ended
-returns-in-Some-ended c =
+pub returns-in-Some-ended-clause-told : goal.returns-in-Some-ended-clause-told
+returns-in-Some-ended-clause-told c =
     whole-read c.args.accepted.now c.args.text.now c.loop-line.left.now c.loop-line.at c.loop-line.stand
     (told c.in-Some-ended.gathering) c.loop-line.invariant.0
-    (empty-text c.loop-line.left.now c.is_empty.result c.is_empty.ensures c.if-not-is_empty.false) c.in-Some-ended.ensures
+    (empty-text c.loop-line.left.now c.is_empty.result c.is_empty.ensures c.if-not-is_empty.false) c.in-Some-ended.ensures.ended
 
-pub returns : goal.returns
-returns c =
+pub returns-clause-told : goal.returns-clause-told
+returns-clause-told c =
     short-read c.args.accepted.now c.args.text.now c.loop-line.left.now c.loop-line.at c.loop-line.stand
-    c.loop-line.invariant.0 c.in_default.ensures c.in-None-ended.ensures
+    c.loop-line.invariant.0 c.in_default.ensures c.in-None-ended.ensures.ended
