@@ -542,7 +542,8 @@ class Forms:
         inside = texts[opening + 1 : closing]
         sides = " ".join(inside).split(";")
         parts = [it.replace(",", " ").split() for it in sides]
-        if len(sides) < 3 and all(it.isalnum() or it.isidentifier() for row in parts for it in row):
+        lacking = sum(len(row) - 1 for row in parts if row) - inside.count(",")
+        if len(sides) < 3 and lacking > 1 and all(it.isalnum() or it.isidentifier() for row in parts for it in row):
             new = f"({'; '.join(', '.join(row) for row in parts)})".replace("; )", ";)")
             edit = (self.tokens[opening].at, self.tokens[closing].end, new)
             yield Slip(edit, f"write `{new}` in place of `{self.script.text[edit[0] : edit[1]]}`")

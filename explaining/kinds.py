@@ -112,8 +112,10 @@ def turned(names, start, end):
 def numbers(names, start, end):
     """Gives a comparison in place of each variable between two tokens, as if a number were a truth value: an edit, and
     what it is in words."""
-    for it in parts(names, start, end):
-        if it.kind == "word" and it.text not in ("true", "false"):
+    for at in range(start + 1, end + 1):
+        it, around = names.tokens[at - 1], (names.tokens[at - 2].text, names.tokens[at].text)
+        is_alone = around[0] in ("if", "and", "or", "not", "(") and around[1] in ("{", "then", "and", "or", ")")
+        if is_alone and names.used(at - 1) == "value" and names.leaves[at - 1].rule == "prim":
             new = f"not {it.text} = 0"
             where = names.text.place(it.at)
             yield (it.at, it.end, new), f"write `{new}` in place of `{it.text}` at {where}, since a number is no test"

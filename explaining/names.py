@@ -661,13 +661,15 @@ def explained(text, answer, program, grammar):
 
 def bound_before(names, at, other, program, grammar, moves_on):
     """Gives lines for an instruction that binds the name: one that stands behind it, or one that receives it, where
-    nothing else is likelier."""
+    nothing else is likelier. A parameter that is used nowhere is likelier than what has to be asked for first."""
     early = bound_later(names, at, program)
     is_known = any(map(moves_on, names.near(at))) or bound_here(names, at, program, is_sure=True)
     is_known = is_known or names.used(at) == "value" and other is not None and other[1] == "function"
-    if early or is_known or valued(names, at, program):
+    does = valued(names, at, program)
+    if early or is_known or does and unused_values(names, at, (("step", 3), ("step", 11))):
         return early
-    return coming(names, at, program, grammar)
+    found = coming(names, at, program, grammar)
+    return [] if does and found and "." in found[0].split("`")[1] else found
 
 
 def otherwise(names, at, other, program, grammar):

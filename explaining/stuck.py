@@ -597,7 +597,10 @@ class Stuck:
         own = types.unfolded(held["self"].type) if "self" in held else None
         if self.form not in ("detach", "close") or own is None or own.sign != "*":
             return
-        rows = list(Keeping(types, self.reached[1], held, []).way(self.process()))
+        it = Keeping(types, self.reached[1], held, [])
+        if any(it.said(held[name].type) == it.said(own.parts[0]) for name in it.left):
+            return
+        rows = list(it.way(self.process()))
         for at, (step, known) in enumerate(rows):
             name = self.tokens[step.at + 1].text
             if step.form != "wait" or types.said(*known[name].first[:2]) != types.said(*own.parts[0][:2]):
@@ -631,8 +634,7 @@ class Stuck:
             lines = [] if found else self.parts()
             if lines:
                 return lines
-        instead = [it for it in self.kept_instead() if (self.reach(it) or 0) > self.at]
-        kept = [*instead, *(it for it in self.keeping(types, step, held) if (self.reach(it) or 0) > self.at)]
+        kept = [it for it in self.keeping(types, step, held) if (self.reach(it) or 0) > self.at]
         lines = [mend(it.mend, *it.edits) for it in kept]
         edits = [it.edit for it in kept]
         for it in (other for other in self.others_found() if other.edit not in edits):
@@ -643,9 +645,9 @@ class Stuck:
         lines = [it for it in lines if it not in moved[1:]]
         if all("nobody gets it" in it for it in lines):
             lines = [*self.by_label(types, step, held), *lines]
-        elif instead:
-            lines += self.by_label(types, step, held)
-        lines = lines or [mend(it.mend, *it.edits) for _, it in self.made()]
+        if not lines:
+            instead = [it for it in self.kept_instead() if (self.reach(it) or 0) > self.at]
+            lines = [mend(it.mend, *it.edits) for it in (*(it for _, it in self.made()), *instead)]
         return list(dict.fromkeys(lines))[:3] or self.parts()
 
     def is_of_kind(self, types, held):
@@ -661,7 +663,10 @@ class Stuck:
             return []
         it = Keeping(types, step, held, values_of(self.names, self.head, self.index))
         process = self.process()
-        tries = [Try(edits[0], words, edits[1:]) for words, edits in it.relabelled(process)]
+        later = {self.tokens[at].text for at in range(self.index, len(self.tokens)) if self.is_ending(at)
+                 and self.names.leads(self.index, at)} if self.form == "detach" else set()
+        rows = [it for it in it.relabelled(process) if not any(f"send self {name};" in it[0] for name in later)]
+        tries = [Try(edits[0], words, edits[1:]) for words, edits in rows]
         return [mend(other.mend, *other.edits) for other in tries if (self.reach(other) or 0) > self.at]
 
     def code_of(self, edit):
