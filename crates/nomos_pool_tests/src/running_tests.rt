@@ -122,7 +122,7 @@ fn thousand_lines(alloc: Global) -> Result<String, AllocError> {
         let line = format!(in alloc; "deposit {sender} 0\n")?;
         text.push_str(&line)?;
     }
-    for number in 0..1000 {
+    for number in 0..1000u32 {
         let sender = SENDERS[number as usize % 11];
         let line = format!(in alloc; "exec {sender} say({number};)\n")?;
         text.push_str(&line)?;
