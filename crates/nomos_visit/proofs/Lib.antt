@@ -1,0 +1,6 @@
+mod LabelLemmas
+mod NumberLemmas
+mod CourseLemmas
+mod TurnLemmas
+mod OpeningLemmas
+mod ToldLemmas

@@ -1,0 +1,4 @@
+pub mod TalkText
+pub mod Visits
+pub mod TalkHeld
+pub mod mirror

@@ -1,0 +1,2 @@
+-- What follows the code step by step.
+pub mod Holding

@@ -1,0 +1,6 @@
+//! Talks of an outside party in a ledger, held line by line and printed.
+#![tactic(auto)]
+
+pub mod held;
+mod labels;
+mod replies;
